@@ -1,0 +1,34 @@
+-- The store of a new instance, before its start function (WebAssembly Core 1.0, 4.5.4).
+use Rattle.std.specs.Prelude.{◌≡◌, ℕ, ◌+◌, ◌*◌, List, [], ◌∷◌, ◌++◌, length, map, take, drop, replicate, Option, Some, None}
+use Rattle.syntax.specs.declared.module.Contents.{Contents}
+use Rattle.syntax.specs.declared.module.Element.{Element}
+use Rattle.syntax.specs.declared.module.Data.{Data}
+use Rattle.validate.specs.Segments.{SegmentsFit, constant_in, offset_in, minimum}
+use Rattle.instance.specs.Store.{Store, page}
+
+-- the list with these in place of what stood from a place on
+abbrev pub overwritten : {X : Type 0} → ℕ → List X → List X → List X
+overwritten at xs old = take at old ++ (xs ++ drop (at + length xs) old)
+
+abbrev pub with_element : List (Option ℕ) → Element → List (Option ℕ)
+with_element table e = overwritten (offset_in e.offset) (map (λ f. Some f) e.functions) table
+
+abbrev pub with_data : List ℕ → Data → List ℕ
+with_data memory d = overwritten (offset_in d.offset) d.bytes memory
+
+-- the segments are written one after another
+abbrev pub all_written : {S X : Type 0} → (S → X → S) → S → List X → S
+all_written write s [] = s
+all_written write s (x ∷ xs) = all_written write (write s x) xs
+
+abbrev pub fresh_store : Contents → Store
+fresh_store m = record {
+  globals = map (λ g. constant_in g.init) m.globals;
+  table = all_written with_element (replicate (minimum m.table) None) m.elements;
+  memory = all_written with_data (replicate (minimum m.memory * page) 0) m.data;
+}
+
+-- each segment fits, and the store is that of a new instance
+pub record IsFresh (m : Contents) (s : Store) : Type 0 where
+  pub segments : SegmentsFit m
+  pub store : s ≡ fresh_store m

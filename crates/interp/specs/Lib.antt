@@ -1,0 +1,16 @@
+pub mod Operators
+pub mod Configuration
+pub mod Step
+pub mod Run
+pub mod Typed
+pub mod Traps
+pub mod Turning
+pub mod Frames
+pub mod Search
+pub mod Plainly
+pub mod Shapes
+pub mod Running
+pub mod Hosting
+pub mod Invoking
+pub mod Moving
+pub mod Tie

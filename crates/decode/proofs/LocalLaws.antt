@@ -36,15 +36,6 @@ pub record Grouped (count : ℕ) (types : List ValType) (bytes rest : List ℕ) 
   pub all : types ≡ ungrouped groups
   pub few : length types ≤ 256
 
-pub no_groups : (bytes : List ℕ) → Grouped 0 [] bytes bytes
-no_groups bytes = record {
-  groups = [];
-  as_many = refl;
-  spelled = record { front = []; spelled = refl; split = refl };
-  all = refl;
-  few = omega arith;
-}
-
 pub group_more : {count : ℕ} {types more : List ValType} {bytes mid rest : List ℕ} (g : ℕ × ValType) → Grouped count types bytes mid → Leaves (group g) mid rest → more ≡ types ++ replicate g.0 g.1 → g.0 + length types ≤ 256 → Grouped (count + 1) more bytes rest
 group_more {count} {types} {more} {bytes} {mid} {rest} g h k e few =
     let old = h.as_many in
@@ -55,13 +46,6 @@ group_more {count} {types} {more} {bytes} {mid} {rest} g h k e few =
       all = e ∙ ap (λ ts. ts ++ replicate g.0 g.1) h.all ∙ sym (ungrouped_push h.groups g);
       few = omega (arith, few, ap length e, length-append types (replicate g.0 g.1), length-replicate g.0 g.1);
     }
-
-pub grouped_locals : {count : ℕ} {types : List ValType} {bytes rest : List ℕ} → Grouped count types bytes rest → Leaves (LocalsOf count types) bytes rest
-grouped_locals h = record {
-  front = h.spelled.front;
-  spelled = record { groups = h.groups; as_many = h.as_many; spelled = h.spelled.spelled; all = h.all; few = h.few };
-  split = h.spelled.split;
-}
 
 -- where no further group stands
 pub no_group : {count read : ℕ} {types : List ValType} {bytes mid : List ℕ} → read < count → Grouped read types bytes mid → NoneLeaves group mid → NoneLeaves (LocalsOf count) bytes

@@ -1,0 +1,139 @@
+use crate::modules::{module_of, verdict};
+use decode::decode;
+use imports::{Call, Entry, link};
+use std::test::Fail;
+use syntax::types::ValType::{self, I32, I64};
+use validate::validate;
+
+/// The functions of "uv", by name, parameters and result.
+const TABLE: [(&[u8], &[ValType], ValType); 21] = [
+    (b"now", &[], I64),
+    (b"timer_init", &[], I32),
+    (b"idle_init", &[], I32),
+    (b"check_init", &[], I32),
+    (b"timer_start", &[I32, I32, I64, I64], I32),
+    (b"timer_stop", &[I32], I32),
+    (b"idle_stop", &[I32], I32),
+    (b"check_stop", &[I32], I32),
+    (b"timer_again", &[I32], I32),
+    (b"idle_start", &[I32, I32], I32),
+    (b"check_start", &[I32, I32], I32),
+    (b"async_init", &[I32], I32),
+    (b"async_send", &[I32], I32),
+    (b"is_active", &[I32], I32),
+    (b"close", &[I32, I32], I32),
+    (b"queue_work", &[I32, I32, I32], I32),
+    (b"cancel", &[I32], I32),
+    (b"in_len", &[], I32),
+    (b"in_copy", &[I32, I32, I32], I32),
+    (b"out_set", &[I32, I32], I32),
+    (b"emit", &[I64], I32),
+];
+
+#[test]
+fn knows_the_functions_of_the_host(rt: HostRuntime) -> Result<(), Fail> {
+    for (name, params, answer) in TABLE {
+        let call = Call::from_name(name).ok_or("a name of the table is unknown")?;
+        assert!(rt; call.name().as_bytes() == name);
+        assert_eq!(rt; call.signature().params, params, "of {call:?}");
+        assert_eq!(rt; call.signature().results, [answer].as_slice(), "of {call:?}");
+    }
+    Ok(())
+}
+
+/// Imports three functions, and exports all that the host calls.
+const GUEST: &str = "011b0560037f7f7f017f60017e017f60000060017f017f60037f7f7f00
+    021b020275760a71756575655f776f726b000002757604656d69740001 030403020304
+    0725030775765f6d61696e00020775765f776f726b00030d75765f61667465725f776f726b0004
+    0a1e030b0041054100410010001a0b0700200041016a0b08002002ac10011a0b";
+
+#[test]
+fn finds_calls_and_entries(rt: HostRuntime) -> Result<(), Fail> {
+    let alloc = rt.alloc();
+    let bytes = module_of(alloc, GUEST)?;
+    let kept = bytes.clone()?;
+    let linked = link(validate(alloc, decode(alloc, bytes)?)?)?;
+    assert!(rt; linked.valid().module().bytes() == kept.as_slice());
+    assert!(rt; linked.call(0) == Some(Call::QueueWork));
+    assert!(rt; linked.call(1) == Some(Call::Emit));
+    assert!(rt; linked.call(2).is_none());
+    assert_eq!(rt; linked.entry(Entry::Main), Some(2));
+    assert_eq!(rt; linked.entry(Entry::Work), Some(3));
+    assert_eq!(rt; linked.entry(Entry::AfterWork), Some(4));
+    Ok(())
+}
+
+#[test]
+fn judges_imports_exports_and_segments(rt: HostRuntime) -> Result<(), Fail> {
+    let alloc = rt.alloc();
+    for (sections, wanted) in [
+        // now
+        ("0105016000017e 020a01 027576 036e6f77 0000", "accepted"),
+        (
+            "0105016000017e 020a01 027577 036e6f77 0000",
+            "link 1 Module",
+        ),
+        ("0105016000017e 020901 0175 036e6f77 0000", "link 1 Module"),
+        ("0105016000017e 020a01 027576 036e6f70 0000", "link 2 Name"),
+        ("0105016000017e 020901 027576 026e6f 0000", "link 2 Name"),
+        (
+            "0105016000017e 020b01 027576 046e6f7773 0000",
+            "link 2 Name",
+        ),
+        ("0105016000017f 020a01 027576 036e6f77 0000", "link 3 Type"),
+        ("010401600000 020a01 027576 036e6f77 0000", "link 3 Type"),
+        // the first wrong import, and an import before an export
+        (
+            "0105016000017f 021302 027576 036e6f77 0000 027577 036e6f77 0000",
+            "link 3 Type",
+        ),
+        (
+            "0105016000017f 020a01 027576 036e6f77 0000 070b01 0775765f6d61696e 0000",
+            "link 3 Type",
+        ),
+        // uv_work of type [] to [], uv_main as a memory, and uv_works
+        (
+            "010401600000 03020100 070b01 0775765f776f726b 0000 0a040102000b",
+            "link 4 Kind",
+        ),
+        ("0503010001 070b01 0775765f6d61696e 0200", "link 4 Kind"),
+        (
+            "010401600000 03020100 070b01 0775765f6d61696e 0000 0a040102000b",
+            "accepted",
+        ),
+        (
+            "010401600000 03020100 070c01 0875765f776f726b73 0000 0a040102000b",
+            "accepted",
+        ),
+        // an export before a segment
+        (
+            "0503010000 070b01 0775765f6d61696e 0200 0b07010041000b0101",
+            "link 4 Kind",
+        ),
+        // elements in a table of two
+        (
+            "010401600000 03020100 0404017000 02 0908010041000b020000 0a040102000b",
+            "accepted",
+        ),
+        (
+            "010401600000 03020100 0404017000 02 0908010041010b020000 0a040102000b",
+            "link 5 Segments",
+        ),
+        ("0404017000 02 0906010041020b00", "accepted"),
+        ("0404017000 02 0906010041030b00", "link 5 Segments"),
+        // bytes in a memory of one page
+        ("0503010001 0b090100 41ffff03 0b 0101", "accepted"),
+        ("0503010001 0b0a0100 41ffff03 0b 020101", "link 5 Segments"),
+        ("0503010001 0b080100 41808004 0b 00", "accepted"),
+        ("0503010001 0b080100 41818004 0b 00", "link 5 Segments"),
+        ("0503010001 0b070100 417f 0b 0101", "link 5 Segments"),
+    ] {
+        let bytes = module_of(alloc, sections)?;
+        assert_eq!(rt;
+            verdict(alloc, bytes)?.as_str(),
+            wanted,
+            "of the sections {sections}"
+        );
+    }
+    Ok(())
+}

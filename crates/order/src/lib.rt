@@ -1,0 +1,8 @@
+//! One work request of a loop: the order, what becomes of it, and the reply.
+#![tactic(auto)]
+
+mod reply;
+mod request;
+
+pub use reply::Reply;
+pub use request::{Order, Outcome};

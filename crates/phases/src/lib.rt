@@ -1,0 +1,6 @@
+//! One event loop.
+#![tactic(auto)]
+
+mod shared;
+
+pub use shared::{Beside, Shared};

@@ -1,0 +1,4 @@
+pub mod Accepted
+pub mod Numbers
+pub mod Performing
+pub mod Statuses

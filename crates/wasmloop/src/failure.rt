@@ -1,0 +1,103 @@
+// Why a command has no result.
+
+ghost use Rattle.std.specs.Prelude.{◌≡◌};
+
+use crate::file::ReadFault;
+use crate::status::Status;
+use decode::DecodeFault;
+use imports::LinkFault;
+use std::{fmt, io};
+use validate::ValidFault;
+
+/// Why a command has no result.
+#[derive(Clone, Copy, Debug, PartialEq, Eq)]
+pub enum Failure {
+    /// The file can't be read.
+    File,
+    /// There is not enough memory.
+    Memory,
+    /// The result can't be written.
+    Output,
+    /// The file's bytes are no module.
+    Decode(DecodeFault),
+    /// The module is not valid.
+    Validate(ValidFault),
+    /// The module doesn't fit the host.
+    Link(LinkFault),
+}
+
+impl Failure {
+    ghost use Rattle.wasmloop.specs.Statuses.{status_of_failure};
+
+    /// What the program ends with.
+    pub fn status(self) -> Status
+        ensures { result ≡ status_of_failure self }
+    {
+        match self {
+            Failure::File | Failure::Memory | Failure::Output => Status::Failed,
+            Failure::Decode(_) | Failure::Validate(_) | Failure::Link(_) => Status::Refused,
+        }
+    }
+}
+
+impl fmt::Display for Failure {
+    fn fmt<W: fmt::Write>(&self, f: &mut fmt::Formatter<W>) -> fmt::Result {
+        match self {
+            Failure::File => f.write_str("file"),
+            Failure::Memory => f.write_str("memory"),
+            Failure::Output => f.write_str("output"),
+            Failure::Decode(fault) => refusal(f, "decode", fault.code(), fault),
+            Failure::Validate(fault) => refusal(f, "validate", fault.code(), fault),
+            Failure::Link(fault) => refusal(f, "link", fault.code(), fault),
+        }
+    }
+}
+
+/// The line of a refused module: what refused it, and the fault's number and word.
+fn refusal<W: fmt::Write>(
+    f: &mut fmt::Formatter<W>,
+    step: &str,
+    number: u32,
+    word: &impl fmt::Display,
+) -> fmt::Result {
+    write!(f, "{step} {number} {word}")
+}
+
+impl From<ReadFault> for Failure {
+    fn from(fault: ReadFault) -> Failure {
+        match fault {
+            ReadFault::File => Failure::File,
+            ReadFault::Memory => Failure::Memory,
+        }
+    }
+}
+
+impl From<DecodeFault> for Failure {
+    fn from(fault: DecodeFault) -> Failure {
+        match fault {
+            DecodeFault::Memory => Failure::Memory,
+            _ => Failure::Decode(fault),
+        }
+    }
+}
+
+impl From<ValidFault> for Failure {
+    fn from(fault: ValidFault) -> Failure {
+        match fault {
+            ValidFault::Memory => Failure::Memory,
+            _ => Failure::Validate(fault),
+        }
+    }
+}
+
+impl From<LinkFault> for Failure {
+    fn from(fault: LinkFault) -> Failure {
+        Failure::Link(fault)
+    }
+}
+
+impl From<io::Error> for Failure {
+    fn from(_error: io::Error) -> Failure {
+        Failure::Output
+    }
+}

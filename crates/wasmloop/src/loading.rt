@@ -1,0 +1,25 @@
+// From a file to a module that the host can run.
+
+ghost use Rattle.std.specs.Prelude.{◌≡◌, IfOk};
+ghost use Rattle.wasmloop.specs.Accepted.{IsAccepted, enough};
+
+use crate::failure::Failure;
+use crate::file::Reader;
+use decode::decode;
+use imports::{Linked, link};
+use std::alloc::Global;
+use validate::validate;
+
+/// One byte more than a module may have: whatever comes behind it changes no answer.
+const ENOUGH: usize = 1_048_577;
+
+/// The module of the file, read, validated and linked.
+pub fn load<R: Reader>(alloc: Global, reader: &R, file: &str) -> Result<Linked, Failure>
+    ensures read { IfOk result (λ linked. R.gives reader.now file.now enough linked.bytes) }
+    ensures accepted { IfOk result (λ linked. IsAccepted linked.bytes) }
+{
+    let bytes = reader.read(alloc, file, ENOUGH)?;
+    let module = decode(alloc, bytes)?;
+    let valid = validate(alloc, module)?;
+    Ok(link(valid)?)
+}

@@ -1,3 +1,4 @@
 pub mod Store
 pub mod Reads
 pub mod Fresh
+pub mod Lending

@@ -14,3 +14,5 @@ pub mod Hosting
 pub mod Invoking
 pub mod Moving
 pub mod Tie
+pub mod Heights
+pub mod HeightsOfRuns

@@ -56,7 +56,7 @@ with_locals-code locals (Label arity next values code ∷ below) = refl
 with_locals-code locals (Frame own arity values code ∷ below) = refl
 
 -- the innermost call's operands are those of its innermost context and those beneath
-height-parts : (contexts : List Context) → height_of contexts ≡ length (operands_of contexts) + base_of contexts
+pub height-parts : (contexts : List Context) → height_of contexts ≡ length (operands_of contexts) + base_of contexts
 height-parts [] = refl
 height-parts (Label arity next values code ∷ below) = refl
 height-parts (Frame locals arity values code ∷ below) = omega arith

@@ -1,5 +1,5 @@
 -- A typed sequence within the limits of height and nesting takes so many operands to so many.
-use Rattle.std.proofs.Common.{◌≡◌, ℕ, ◌+◌, ◌-◌, ◌≤◌, List, [], ◌∷◌, ◌++◌, length, map, Option, Some, None, refl, sym, ap, ◌∙◌, subst, max, arith, length-append}
+use Rattle.std.proofs.Common.{◌≡◌, ℕ, ◌+◌, ◌-◌, ◌≤◌, List, [], ◌∷◌, ◌++◌, length, map, Some, refl, ap, ◌∙◌, subst, max, arith, length-append}
 use Rattle.std.specs.Option.{option_map}
 use Rattle.std.specs.Prelude.{slice_get}
 use Rattle.std.proofs.lemmas.Option.{slice_get-map}
@@ -7,8 +7,6 @@ use Rattle.std.proofs.lemmas.List.{length-map}
 use Rattle.std.proofs.Math.Nat.{le-max_left, le-max_right}
 use Rattle.syntax.specs.declared.types.ValType.{ValType}
 use Rattle.syntax.specs.declared.types.ValType.TheVariants as type
-use Rattle.syntax.specs.declared.types.Value.{Value}
-use Rattle.syntax.specs.declared.types.BlockType.{BlockType}
 use Rattle.syntax.specs.declared.operator.Conversion.{Conversion}
 use Rattle.syntax.specs.declared.operator.Conversion.TheVariants.{I32WrapI64, I64ExtendI32S, I64ExtendI32U}
 use Rattle.syntax.specs.declared.instruction.Instr.{Instr}
@@ -17,7 +15,7 @@ use Rattle.syntax.specs.declared.module.Contents.{Contents}
 use Rattle.syntax.specs.declared.module.FuncType.{FuncType}
 use Rattle.syntax.specs.Code.{Code, Done, Plain, Block, Loop, If}
 use Rattle.validate.specs.Stack.{pushed}
-use Rattle.validate.specs.Typing.{Context, inside, type_of, Turns, ConversionTurns, HasFunctionType, InstrTyped, Typed, function_types, block_type}
+use Rattle.validate.specs.Typing.{Context, inside, type_of, Turns, ConversionTurns, HasFunctionType, InstrTyped, Typed}
 use Rattle.validate.specs.Height.{Effect, Changes, Ends, effect_of, after_effect, function_type, greatest_height, nesting}
 use Rattle.interp.specs.Step.{type_of_function}
 use Rattle.interp.specs.Heights.{Fits, counts, Follows, Counted}
@@ -178,7 +176,7 @@ counted c base (Plain i rest) before after (mid, ti, tr) h n =
     let next = greatest_height c base (after_effect base height (effect_of c i)) rest in (
       fits c base before rest (left_within height next 256 h) n,
       follows c base i before mid rest (length after) (effect_of c i) (agrees c i before mid ti) (right_within height next 256 h)
-      (λ (k : greatest_height c base (base + length mid) rest ≤ 256). counted c base rest mid after tr k n),
+          (λ (k : greatest_height c base (base + length mid) rest ≤ 256). counted c base rest mid after tr k n),
     )
 counted c base (Block type body rest) before after (t, at, below, e, tb, tr) h n =
     let size : length before ≡ length t.params + length below = ap (λ (ts : List ValType). length ts) e ∙ length-pushed t.params below in
@@ -196,11 +194,11 @@ counted c base (Block type body rest) before after (t, at, below, e, tb, tr) h n
       length below,
       size,
       body_counted base (length t.params) before below size d t.params t.results body
-      (λ (q : greatest_height d (base + length below) (base + length below + length (pushed t.params [])) body ≤ 256). counted d (base + length below) body (pushed t.params []) (pushed t.results []) tb q nb)
-      (left_within first last 256 high),
+          (λ (q : greatest_height d (base + length below) (base + length below + length (pushed t.params [])) body ≤ 256). counted d (base + length below) body (pushed t.params []) (pushed t.results []) tb q nb)
+          (left_within first last 256 high),
       rest_counted base (length t.params) before below size c t.results rest (length after)
-      (λ (q : greatest_height c base (base + length (pushed t.results below)) rest ≤ 256). counted c base rest (pushed t.results below) after tr q nr)
-      (right_within first last 256 high),
+          (λ (q : greatest_height c base (base + length (pushed t.results below)) rest ≤ 256). counted c base rest (pushed t.results below) after tr q nr)
+          (right_within first last 256 high),
     )
 counted c base (Loop type body rest) before after (t, at, below, e, tb, tr) h n =
     let size : length before ≡ length t.params + length below = ap (λ (ts : List ValType). length ts) e ∙ length-pushed t.params below in
@@ -218,11 +216,11 @@ counted c base (Loop type body rest) before after (t, at, below, e, tb, tr) h n 
       length below,
       size,
       body_counted base (length t.params) before below size d t.params t.results body
-      (λ (q : greatest_height d (base + length below) (base + length below + length (pushed t.params [])) body ≤ 256). counted d (base + length below) body (pushed t.params []) (pushed t.results []) tb q nb)
-      (left_within first last 256 high),
+          (λ (q : greatest_height d (base + length below) (base + length below + length (pushed t.params [])) body ≤ 256). counted d (base + length below) body (pushed t.params []) (pushed t.results []) tb q nb)
+          (left_within first last 256 high),
       rest_counted base (length t.params) before below size c t.results rest (length after)
-      (λ (q : greatest_height c base (base + length (pushed t.results below)) rest ≤ 256). counted c base rest (pushed t.results below) after tr q nr)
-      (right_within first last 256 high),
+          (λ (q : greatest_height c base (base + length (pushed t.results below)) rest ≤ 256). counted c base rest (pushed t.results below) after tr q nr)
+          (right_within first last 256 high),
     )
 counted c base (If type first second rest) before after (t, at, below, e, tf, ts, tr) h n =
     let size : length before ≡ length t.params + 1 + length below = omega (arith, ap (λ (ts : List ValType). length ts) e, length-pushed t.params below) in
@@ -244,12 +242,12 @@ counted c base (If type first second rest) before after (t, at, below, e, tf, ts
       length below,
       size,
       body_counted base taken before below size d t.params t.results first
-      (λ (q : greatest_height d (base + length below) (base + length below + length (pushed t.params [])) first ≤ 256). counted d (base + length below) first (pushed t.params []) (pushed t.results []) tf q na)
-      (left_within a (max b last) 256 high),
+          (λ (q : greatest_height d (base + length below) (base + length below + length (pushed t.params [])) first ≤ 256). counted d (base + length below) first (pushed t.params []) (pushed t.results []) tf q na)
+          (left_within a (max b last) 256 high),
       body_counted base taken before below size d t.params t.results second
-      (λ (q : greatest_height d (base + length below) (base + length below + length (pushed t.params [])) second ≤ 256). counted d (base + length below) second (pushed t.params []) (pushed t.results []) ts q nb)
-      (left_within b last 256 higher),
+          (λ (q : greatest_height d (base + length below) (base + length below + length (pushed t.params [])) second ≤ 256). counted d (base + length below) second (pushed t.params []) (pushed t.results []) ts q nb)
+          (left_within b last 256 higher),
       rest_counted base taken before below size c t.results rest (length after)
-      (λ (q : greatest_height c base (base + length (pushed t.results below)) rest ≤ 256). counted c base rest (pushed t.results below) after tr q nr)
-      (right_within b last 256 higher),
+          (λ (q : greatest_height c base (base + length (pushed t.results below)) rest ≤ 256). counted c base rest (pushed t.results below) after tr q nr)
+          (right_within b last 256 higher),
     )

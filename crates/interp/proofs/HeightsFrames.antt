@@ -1,5 +1,5 @@
 -- No step opens a call by itself.
-use Rattle.std.proofs.Common.{◌≡◌, ℕ, zero, suc, ◌+◌, ◌<◌, ◌≤◌, List, [], ◌∷◌, ◌++◌, length, take, drop, Option, Some, None, refl, sym, ap, ◌∙◌, subst, true, false, Bool, nat_le, arith}
+use Rattle.std.proofs.Common.{◌≡◌, ℕ, zero, suc, ◌<◌, ◌≤◌, List, [], ◌∷◌, length, take, drop, Option, Some, None, refl, subst, true, false, Bool, nat_le, arith}
 use Rattle.std.specs.Prelude.{slice_get, if◌then◌else◌}
 use Rattle.syntax.specs.declared.types.Value.{Value}
 use Rattle.syntax.specs.declared.types.Value.TheVariants.{I32, I64}
@@ -7,13 +7,12 @@ use Rattle.syntax.specs.declared.instruction.Instr.{Instr}
 use Rattle.syntax.specs.declared.instruction.Instr.TheVariants.{Br, BrIf, BrTable, Return, Call, CallIndirect}
 use Rattle.syntax.specs.declared.module.Contents.{Contents}
 use Rattle.syntax.specs.declared.module.FuncType.{FuncType}
-use Rattle.syntax.specs.declared.module.Func.{Func}
 use Rattle.syntax.specs.Code.{Code, Done, Plain, Block, Loop, If}
 use Rattle.validate.specs.Typing.{block_type}
 use Rattle.instance.specs.Store.{Store as Memory_and_globals}
-use Rattle.interp.specs.Configuration.{Context, Label, Frame, frames, locals_of, with_locals, going_on, receiving, continuing, branched, returned, entered, topmost}
+use Rattle.interp.specs.Configuration.{Context, Label, Frame, frames, locals_of, with_locals, going_on, receiving, continuing, branched, returned}
 use Rattle.interp.specs.Step.{Move, Goes, Traps, Calls, Stuck, Turn, Leaves, Fails, Lacks, turn, turned, plain, at_code, next, on_contexts, label_for, call_typed, call_element, type_of_function, same_type, entering, block, loop, chosen}
-use Rattle.interp.specs.Run.{HostCall, as_operands}
+use Rattle.interp.specs.Run.{as_operands}
 use Rattle.interp.specs.HeightsOfRuns.{Arrives, here, goes, calls, asks, IsReached}
 
 -- a step leads to so many calls at most

@@ -11,14 +11,13 @@ use Rattle.syntax.specs.declared.instruction.Instr.TheVariants.{Br, BrIf, BrTabl
 use Rattle.syntax.specs.declared.module.Contents.{Contents}
 use Rattle.syntax.specs.declared.module.FuncType.{FuncType}
 use Rattle.syntax.specs.Code.{Code, Done, Plain, Block, Loop, If}
-use Rattle.validate.specs.Typing.{block_type}
 use Rattle.validate.specs.Height.{Effect, Changes, Ends, named, calls}
 use Rattle.instance.specs.Store.{Store as Memory_and_globals}
 use Rattle.interp.specs.Configuration.{Context, Label, Frame, locals_of, with_locals, going_on, receiving, continuing, branched, returned}
-use Rattle.interp.specs.Step.{Move, Goes, Traps, Calls, Stuck, Turn, Leaves, Fails, Lacks, turn, turned, plain, at_code, next, on_contexts, label_for, call_typed, call_element, type_of_function, same_valtype, same_valtypes, same_type, entering, block, loop, chosen}
+use Rattle.interp.specs.Step.{Move, Goes, Traps, Calls, Turn, Leaves, Fails, Lacks, turn, turned, plain, at_code, next, on_contexts, label_for, call_typed, call_element, type_of_function, same_valtype, same_valtypes, same_type, entering, chosen}
 use Rattle.interp.specs.Typed.{code_of, operands_of}
-use Rattle.interp.specs.Heights.{Fits, tests, counts, Follows, Counted, labels_of, height_of, base_of, GoesOn, Beneath, IsWithin}
-use Rattle.interp.proofs.HeightsOfTurns.{Adds, Counts, turn_counts}
+use Rattle.interp.specs.Heights.{Fits, tests, counts, Follows, Counted, labels_of, height_of, base_of, Beneath, IsWithin}
+use Rattle.interp.proofs.HeightsOfTurns.{Counts, turn_counts}
 
 -- what a step leads to is within the limits
 abbrev pub Kept : Contents → Move → Type 0

@@ -1,5 +1,5 @@
 -- A call of a function of a valid module begins within the limits, and its run stays within them.
-use Rattle.std.proofs.Common.{◌≡◌, ℕ, suc, ◌+◌, ◌*◌, ◌<◌, ◌≤◌, List, [], ◌∷◌, ◌++◌, length, map, Option, Some, None, refl, sym, ap, ◌∙◌, subst, arith, length-append}
+use Rattle.std.proofs.Common.{◌≡◌, ℕ, ◌+◌, ◌≤◌, List, [], ◌∷◌, ◌++◌, length, map, Option, Some, None, refl, sym, ap, ◌∙◌, subst, arith, length-append}
 use Rattle.std.specs.Prelude.{slice_get}
 use Rattle.std.proofs.lemmas.List.{length-map}
 use Rattle.std.proofs.lemmas.Option.{slice_get_within, get_or_from_slice_get}
@@ -13,12 +13,12 @@ use Rattle.validate.specs.Stack.{pushed}
 use Rattle.validate.specs.Typing.{type_of, HasFunctionType, function_types}
 use Rattle.validate.specs.Valid.{ValidModule, ValidFunc, body_context}
 use Rattle.instance.specs.Store.{Store, value_of}
-use Rattle.interp.specs.Configuration.{Context, Label, Frame, entered, frames, receiving}
-use Rattle.interp.specs.Step.{Move, Goes, Calls, next, type_of_function, type_with}
-use Rattle.interp.specs.Run.{HostCall, as_operands, IsDefined}
+use Rattle.interp.specs.Configuration.{Context, Frame, entered, receiving}
+use Rattle.interp.specs.Step.{Move, Calls, next, type_of_function, type_with}
+use Rattle.interp.specs.Run.{as_operands, IsDefined}
 use Rattle.interp.specs.Hosting.{Answers}
-use Rattle.interp.specs.Typed.{types_of, code_of, operands_of}
-use Rattle.interp.specs.Heights.{Counted, GoesOn, Beneath, IsWithin}
+use Rattle.interp.specs.Typed.{types_of}
+use Rattle.interp.specs.Heights.{Counted, Beneath, IsWithin}
 use Rattle.interp.specs.HeightsOfRuns.{Arrives, here, goes, calls, asks, IsReached}
 use Rattle.interp.proofs.Lists.{length-pushed}
 use Rattle.interp.proofs.Entering.{valid_function, defined_type}

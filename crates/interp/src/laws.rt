@@ -6,10 +6,11 @@ ghost use Rattle.validate.specs.Valid.{ValidModule};
 ghost use Rattle.interp.specs.Configuration.{Context, frames};
 ghost use Rattle.interp.specs.HeightsOfRuns.{IsReached, all_operands, all_locals};
 
-/// A law, with nothing to run. In whatever a call of a function of a valid module comes to, where the host answers
-/// with the types of its imports, each open call has 256 operands at most, all its blocks' together, 257 labels,
-/// that of its body among them, beside its frame, and 256 locals, its parameters among them. At most `depth` calls
-/// are open.
+/// A law, with nothing to run: how much can stand open at once. Whatever a call of a function of a valid module comes
+/// to, where the host answers with values of its imports' types, at most `depth` calls are open, and for each of them
+/// at most 256 operands, 258 contexts (its frame, the label of its body and those of 256 blocks in one another) and
+/// 256 locals, its parameters among them. These are the limits on the height, the nesting and the locals of one body;
+/// the operands, contexts and locals of all calls are counted together.
 pub fn reached_contexts_are_bounded()
     ensures calls { (m : Contents) (depth : ℕ) (contexts : List Context) → 0 < depth → IsReached m depth contexts → frames contexts ≤ depth }
     ensures operands { (m : Contents) (depth : ℕ) (contexts : List Context) → ValidModule m → IsReached m depth contexts → length (all_operands contexts) ≤ 256 * frames contexts }

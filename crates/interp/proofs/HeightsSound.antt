@@ -1,5 +1,5 @@
 -- Soundness with the limits: a step of typed contexts within them leads to such contexts.
-use Rattle.std.proofs.Common.{◌≡◌, ℕ, suc, ◌+◌, ◌<◌, ◌≤◌, List, [], ◌∷◌, length, map, Option, Some, refl, sym, ap, ◌∙◌, subst, arith}
+use Rattle.std.proofs.Common.{◌≡◌, ℕ, ◌<◌, ◌≤◌, List, [], ◌∷◌, length, Some, sym, ap, ◌∙◌, subst, arith}
 use Rattle.std.proofs.lemmas.List.{length-map}
 use Rattle.syntax.specs.declared.types.ValType.{ValType}
 use Rattle.syntax.specs.declared.types.Value.{Value}
@@ -13,7 +13,7 @@ use Rattle.instance.specs.Store.{Store}
 use Rattle.interp.specs.Configuration.{Context, entered, frames, receiving}
 use Rattle.interp.specs.Step.{Move, Goes, Traps, Calls, Ends, Stuck, next, type_of_function}
 use Rattle.interp.specs.Run.{IsDefined}
-use Rattle.interp.specs.Typed.{types_of, GlobalsFit, Awaits, Configured, Sound}
+use Rattle.interp.specs.Typed.{types_of, GlobalsFit, Sound}
 use Rattle.interp.specs.Heights.{IsWithin}
 use Rattle.interp.specs.HeightsTyped.{Bounded, AwaitsWithin, SoundWithin}
 use Rattle.interp.proofs.Lists.{length-pushed}

@@ -3,6 +3,9 @@ pub mod Configuration
 pub mod Step
 pub mod Run
 pub mod Typed
+pub mod Heights
+pub mod HeightsOfRuns
+pub mod HeightsTyped
 pub mod Traps
 pub mod Turning
 pub mod Frames

@@ -1,0 +1,12 @@
+use Rattle.interp.proofs.HeightsFrames.{reached_open}
+use Rattle.interp.proofs.HeightsOfRuns.{reached_within}
+use Rattle.interp.proofs.HeightsSummed.{operands_within, contexts_within, locals_within}
+use Rattle.interp.proofs.laws.reached_contexts_are_bounded.Goals as goal
+
+pub returns : goal.returns
+returns c = record {
+  calls = reached_open;
+  operands = λ m depth contexts valid reached. operands_within m contexts (reached_within m valid depth contexts reached);
+  contexts = λ m depth contexts valid reached. contexts_within m contexts (reached_within m valid depth contexts reached);
+  locals = λ m depth contexts valid reached. locals_within m contexts (reached_within m valid depth contexts reached);
+}

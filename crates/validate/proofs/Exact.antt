@@ -1,0 +1,135 @@
+-- A valid module keeps every rule that a refusal may name.
+use Rattle.std.proofs.Common.{◌≡◌, ◌≤◌, ◌+◌, ℕ, List, [], ◌∷◌, length, Option, Some, None, All, IsSome, IfSome, slice_get, ◌⊎◌, inl, inr, refl, sym, ap, subst}
+use Rattle.syntax.specs.declared.types.ValType.{ValType}
+use Rattle.syntax.specs.declared.types.BlockType.{BlockType}
+use Rattle.syntax.specs.declared.instruction.Instr.{Instr}
+use Rattle.syntax.specs.declared.instruction.Instr.TheVariants.{Br, BrIf, BrTable, Call, CallIndirect, LocalGet, LocalSet, LocalTee, GlobalGet, GlobalSet, Load, LoadNarrow, Store, StoreNarrow, MemorySize, MemoryGrow}
+use Rattle.syntax.specs.declared.module.Contents.{Contents}
+use Rattle.syntax.specs.declared.module.FuncType.{FuncType}
+use Rattle.syntax.specs.declared.module.Func.{Func}
+use Rattle.syntax.specs.declared.module.Import.{Import}
+use Rattle.syntax.specs.declared.module.Global.{Global}
+use Rattle.syntax.specs.declared.module.Mutability.TheVariants.{Var}
+use Rattle.syntax.specs.Code.{Code, Done, Plain, Block, Loop, If}
+use Rattle.validate.specs.declared.fault.ValidFault.{ValidFault}
+use Rattle.validate.specs.declared.fault.ValidFault.TheVariants as fault
+use Rattle.validate.specs.Typing.{Context, InstrTyped, Typed, inside, block_type, HasFunctionType}
+use Rattle.validate.specs.Height.{function_type, shape_of, type_or_none, greatest_height}
+use Rattle.validate.specs.Rules.{Rule, Indexes, Labels, Alignments, Mutabilities, NamesAll, NamesLabels, IsAligned, SetsVariables, Keeps, KeepsType, Kept}
+use Rattle.validate.specs.Valid.{ValidFunc, ValidImport, ValidModule, ValidElement, ValidData, IsConstant, body_context}
+use Rattle.validate.specs.Refusals.{HasFew, IsNamed, KeptIn, NamesIn, IsLow, Refutes}
+
+names_all : (c : Context) (i : Instr) (before after : List ValType) → InstrTyped c i before after → NamesAll c i
+names_all c (Call f) before after t = rw t.1.1 (rw t.1.2 refl)
+names_all c (CallIndirect f) before after t = (t.0, rw t.2 refl)
+names_all c (LocalGet x) before after t = rw t.1 refl
+names_all c (LocalSet x) before after t = rw t.1 refl
+names_all c (LocalTee x) before after t = rw t.1 refl
+names_all c (GlobalGet x) before after t = rw t.1 refl
+names_all c (GlobalSet x) before after t = rw t.1 refl
+names_all c (Load v at) before after t = t.0.0
+names_all c (LoadNarrow v width extension at) before after t = t.0.0
+names_all c (Store v at) before after t = t.0.0
+names_all c (StoreNarrow v width at) before after t = t.0.0
+names_all c MemorySize before after t = t.0
+names_all c MemoryGrow before after t = t.0
+names_all c _ before after t = tt
+
+names_labels : (c : Context) (i : Instr) (before after : List ValType) → InstrTyped c i before after → NamesLabels c i
+names_labels c (Br label) before after t = rw t.1.0 refl
+names_labels c (BrIf label) before after t = rw t.1 refl
+names_labels c (BrTable labels default) before after t = (λ i d lt. rw (t.1 i d lt) refl, rw t.2 refl)
+names_labels c _ before after t = tt
+
+is_aligned : (c : Context) (i : Instr) (before after : List ValType) → InstrTyped c i before after → IsAligned i
+is_aligned c (Load v at) before after t = t.0.1
+is_aligned c (LoadNarrow v width extension at) before after t = t.0.1
+is_aligned c (Store v at) before after t = t.0.1
+is_aligned c (StoreNarrow v width at) before after t = t.0.1
+is_aligned c _ before after t = tt
+
+same_some : {A : Type 0} (a b : A) (o : Option A) → o ≡ Some a → o ≡ Some b → a ≡ b
+same_some a b o p q = cc
+
+sets_variables : (c : Context) (i : Instr) (before after : List ValType) → InstrTyped c i before after → SetsVariables c i
+sets_variables c (GlobalSet x) before after t =
+    λ g e. subst (λ (k : Global). k.mutability ≡ Var) (same_some t.0 g (slice_get c.module_contents.globals x) t.1 e) t.2
+sets_variables c _ before after t = tt
+
+keeps : (r : Rule) (c : Context) (i : Instr) (before after : List ValType) → InstrTyped c i before after → Keeps r c i
+keeps Indexes = names_all
+keeps Labels = names_labels
+keeps Alignments = is_aligned
+keeps Mutabilities = sets_variables
+
+keeps_type : (r : Rule) (c : Context) (b : BlockType) (t : FuncType) → block_type c.module_contents b ≡ Some t → KeepsType r c b
+keeps_type Indexes c b t e = rw e refl
+keeps_type Labels c b t e = tt
+keeps_type Alignments c b t e = tt
+keeps_type Mutabilities c b t e = tt
+
+shape_is : (c : Context) (b : BlockType) (t : FuncType) → block_type c.module_contents b ≡ Some t → t ≡ shape_of c.module_contents b
+shape_is c b t e = sym (ap type_or_none e)
+
+-- what is typed keeps each rule
+kept : (r : Rule) (c : Context) (code : Code) (before after : List ValType) → Typed c code before after → Kept r c code
+kept r c Done before after t = tt
+kept r c (Plain i rest) before after t = (keeps r c i before t.0 t.1, kept r c rest t.0 after t.2)
+kept r c (Block b body rest) before after t = (
+  keeps_type r c b t.0 t.1,
+  subst (λ (s : FuncType). Kept r (inside s.results c) body) (shape_is c b t.0 t.1) (kept r (inside t.0.results c) body _ _ t.4),
+  kept r c rest _ after t.5,
+)
+kept r c (Loop b body rest) before after t = (
+  keeps_type r c b t.0 t.1,
+  subst (λ (s : FuncType). Kept r (inside s.params c) body) (shape_is c b t.0 t.1) (kept r (inside t.0.params c) body _ _ t.4),
+  kept r c rest _ after t.5,
+)
+kept r c (If b first second rest) before after t = (
+  keeps_type r c b t.0 t.1,
+  subst (λ (s : FuncType). Kept r (inside s.results c) first) (shape_is c b t.0 t.1) (kept r (inside t.0.results c) first _ _ t.4),
+  subst (λ (s : FuncType). Kept r (inside s.results c) second) (shape_is c b t.0 t.1) (kept r (inside t.0.results c) second _ _ t.5),
+  kept r c rest _ after t.6,
+)
+
+kept_in : (r : Rule) (m : Contents) (f : Func) → ValidFunc m f → KeptIn r m f
+kept_in r m f v type e =
+    let same : v.type ≡ type = same_some v.type type (slice_get m.types f.type_index) v.known e in
+    subst (λ (t : FuncType). Kept r (body_context m t f) f.body) same (kept r (body_context m v.type f) f.body _ _ v.body)
+
+is_low : (m : Contents) (f : Func) → ValidFunc m f → IsLow m f
+is_low m f v type e =
+    let same : v.type ≡ type = same_some v.type type (slice_get m.types f.type_index) v.known e in
+    subst (λ (t : FuncType). (length t.params + length f.locals ≤ 256) × (greatest_height (body_context m t f) 0 0 f.body ≤ 256)) same (v.few_locals, v.height)
+
+has_few : (m : Contents) (i : Import) → ValidImport m i → HasFew m i
+has_few m i v type e = subst (λ (t : FuncType). length t.results ≤ 1) (same_some v.type type (slice_get m.types i.type_index) v.known e) v.few_results
+
+starts : (m : Contents) (s : Option ℕ) → IfSome s (λ f. HasFunctionType m f (record { params = []; results = [] })) → IfSome s (λ f. IsSome (function_type m f))
+starts m None h = tt
+starts m (Some f) h = rw h.1 (rw h.2 refl)
+
+is_named : (m : Contents) → ValidModule m → IsNamed m
+is_named m v = record {
+  imports = λ i d lt. rw (v.imports i d lt).known refl;
+  functions = λ i d lt. let f = v.functions i d lt in (rw f.known refl, kept_in Indexes m _ f);
+  exports = v.exports;
+  start = starts m m.start v.start;
+  elements = λ i d lt. let e = v.elements i d lt in (e.table.0, e.table.1, e.functions);
+  data_segments = λ i d lt. (v.data_segments i d lt).memory;
+}
+
+-- a refusal that names a rule is of no valid module
+pub refuted : (m : Contents) (e : ValidFault) → Refutes m e → (e ≡ fault.BadType) ⊎ (e ≡ fault.Memory) ⊎ (ValidModule m → ⊥)
+refuted m fault.BadType r = inl refl
+refuted m fault.Memory r = inr (inl refl)
+refuted m fault.Index r = inr (inr (λ v. r (is_named m v)))
+refuted m fault.Label r = inr (inr (λ v. r (λ i d lt. kept_in Labels m _ (v.functions i d lt))))
+refuted m fault.Align r = inr (inr (λ v. r (λ i d lt. kept_in Alignments m _ (v.functions i d lt))))
+refuted m fault.Mutability r = inr (inr (λ v. r (λ i d lt. kept_in Mutabilities m _ (v.functions i d lt))))
+refuted m fault.Result r = inr (inr (λ v. r (v.types, λ i d lt. has_few m _ (v.imports i d lt))))
+refuted m fault.Export r = inr (inr (λ v. r v.distinct))
+refuted m fault.Start r = inr (inr (λ v. r v.start))
+refuted m fault.Constant r = inr (inr (λ v. r (v.globals, λ i d lt. (v.elements i d lt).offset, λ i d lt. (v.data_segments i d lt).offset)))
+refuted m fault.Height r = inr (inr (λ v. r (λ i d lt. is_low m _ (v.functions i d lt))))
+refuted m fault.Nesting r = inr (inr (λ v. r (λ i d lt. (v.functions i d lt).nested)))

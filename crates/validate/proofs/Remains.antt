@@ -1,0 +1,103 @@
+-- What the rest of a body keeps where the whole does: the rules of what is named, the height and the nesting.
+use Rattle.std.proofs.Common.{◌≡◌, ℕ, ◌+◌, ◌-◌, ◌≤◌, ◌<◌, max, List, [], ◌∷◌, ◌++◌, length, Option, Some, None, All, sym, subst, arith}
+use Rattle.syntax.specs.declared.types.ValType.{ValType}
+use Rattle.syntax.specs.declared.instruction.Op.{Op}
+use Rattle.syntax.specs.declared.instruction.Op.TheVariants as op
+use Rattle.syntax.specs.declared.module.FuncType.{FuncType}
+use Rattle.syntax.specs.Code.{Code, Done, Plain, Block, Loop, If}
+use Rattle.validate.specs.declared.operands.Operand.{Operand}
+use Rattle.validate.specs.declared.frames.Frame.{Frame}
+use Rattle.validate.specs.declared.scope.Scope.{Scope}
+use Rattle.validate.specs.Typing.{Context, inside}
+use Rattle.validate.specs.Height.{greatest_height, nesting, shape_of, effect_of, after_effect}
+use Rattle.validate.specs.Rules.{Rule, Keeps, KeepsType, Kept}
+use Rattle.validate.specs.Operands.{Held}
+use Rattle.validate.specs.Checking.{context_in, height_of}
+use Rattle.validate.specs.Rejecting.{Obeys, IsOpening}
+use Rattle.validate.proofs.Opens.{Open, open_of, flat_of, shape_in, returned}
+
+-- ---- the rules of what is named
+
+abbrev pub IfKept : Rule → Context → Option Code → Type 0
+IfKept r c None = Unit {0}
+IfKept r c (Some code) = Kept r c code
+
+abbrev pub KeptOpens : Rule → Scope → List Frame → List Open → Type 0
+KeptOpens r scope [] os = Unit {0}
+KeptOpens r scope (f ∷ fs) [] = Unit {0}
+KeptOpens r scope (f ∷ fs) (o ∷ os) =
+    Kept r (context_in scope (f ∷ fs)) o.code × IfKept r (context_in scope (f ∷ fs)) o.other × KeptOpens r scope fs os
+
+-- ---- the height
+
+abbrev pub IfLow : Context → FuncType → ℕ → Option Code → Type 0
+IfLow c type base None = Unit {0}
+IfLow c type base (Some code) = greatest_height c base (length type.params + base) code ≤ 256
+
+abbrev pub LowOpens : Scope → List Frame → Held → List Open → Type 0
+LowOpens scope [] h os = height_of h ≤ 256
+LowOpens scope (f ∷ fs) h [] = height_of h ≤ 256
+LowOpens scope (f ∷ fs) h (o ∷ os) =
+    (greatest_height (context_in scope (f ∷ fs)) (length h.below) (height_of h) o.code ≤ 256)
+    × IfLow (context_in scope (f ∷ fs)) (shape_in scope f) (length h.below) o.other
+    × LowOpens scope fs (returned scope f h.below) os
+
+-- ---- the nesting
+
+abbrev pub IfNested : ℕ → Option Code → Type 0
+IfNested depth None = Unit {0}
+IfNested depth (Some code) = nesting code + depth ≤ 256
+
+abbrev pub NestedOpens : List Frame → List Open → Type 0
+NestedOpens [] os = Unit {0}
+NestedOpens (f ∷ fs) [] = Unit {0}
+NestedOpens (f ∷ fs) (o ∷ os) = (nesting o.code + length fs ≤ 256) × IfNested (length fs) o.other × NestedOpens fs os
+
+-- ---- what follows for the next operation
+
+-- a sequence's height is at least that at its begin
+reaches : (c : Context) (base height : ℕ) (code : Code) → height ≤ greatest_height c base height code
+reaches c base height Done = omega arith
+reaches c base height (Plain i rest) = omega arith
+reaches c base height (Block type body rest) = omega arith
+reaches c base height (Loop type body rest) = omega arith
+reaches c base height (If type first second rest) = omega arith
+
+pub now_low : (scope : Scope) (frames : List Frame) (h : Held) (os : List Open) → LowOpens scope frames h os → height_of h ≤ 256
+now_low scope [] h os low = low
+now_low scope (f ∷ fs) h [] low = low
+now_low scope (f ∷ fs) h (o ∷ os) low =
+    let r : height_of h ≤ greatest_height (context_in scope (f ∷ fs)) (length h.below) (height_of h) o.code = reaches _ _ _ o.code in
+    let l : greatest_height (context_in scope (f ∷ fs)) (length h.below) (height_of h) o.code ≤ 256 = low.0 in
+    omega arith
+
+obeyed_first : (r : Rule) (c : Context) (o : Op) (rest : List Op) (code : Code) (other : Option Code) (os : List Open)
+    → o ∷ rest ≡ flat_of (open_of code other ∷ os) → Kept r c code → Obeys r c o
+obeyed_first r c o rest Done None os flat k = let e : op.End ≡ o = cc in subst (λ (x : Op). Obeys r c x) e tt
+obeyed_first r c o rest Done (Some second) os flat k = let e : op.Else ≡ o = cc in subst (λ (x : Op). Obeys r c x) e tt
+obeyed_first r c o rest (Plain i code) other os flat k = let e : op.Plain i ≡ o = cc in subst (λ (x : Op). Obeys r c x) e k.0
+obeyed_first r c o rest (Block type body code) other os flat k = let e : op.Block type ≡ o = cc in subst (λ (x : Op). Obeys r c x) e k.0
+obeyed_first r c o rest (Loop type body code) other os flat k = let e : op.Loop type ≡ o = cc in subst (λ (x : Op). Obeys r c x) e k.0
+obeyed_first r c o rest (If type first second code) other os flat k = let e : op.If type ≡ o = cc in subst (λ (x : Op). Obeys r c x) e k.0
+
+pub obeyed : (r : Rule) (scope : Scope) (frames : List Frame) (o : Op) (rest : List Op) (opens : List Open)
+    → o ∷ rest ≡ flat_of opens → length frames ≡ length opens → KeptOpens r scope frames opens → Obeys r (context_in scope frames) o
+obeyed r scope frames o rest [] flat same k = absurd cc
+obeyed r scope [] o rest (x ∷ os) flat same k = absurd (omega arith)
+obeyed r scope (f ∷ fs) o rest (x ∷ os) flat same k = obeyed_first r (context_in scope (f ∷ fs)) o rest x.code x.other os flat k.0
+
+shallow_first : (depth : ℕ) (o : Op) (rest : List Op) (code : Code) (other : Option Code) (os : List Open)
+    → o ∷ rest ≡ flat_of (open_of code other ∷ os) → IsOpening o → nesting code + depth ≤ 256 → depth < 256
+shallow_first depth o rest Done None os flat opening n = let e : o ≡ op.End = cc in absurd (subst IsOpening e opening)
+shallow_first depth o rest Done (Some second) os flat opening n = let e : o ≡ op.Else = cc in absurd (subst IsOpening e opening)
+shallow_first depth o rest (Plain i code) other os flat opening n = let e : o ≡ op.Plain i = cc in absurd (subst IsOpening e opening)
+shallow_first depth o rest (Block type body code) other os flat opening n = omega arith
+shallow_first depth o rest (Loop type body code) other os flat opening n = omega arith
+shallow_first depth o rest (If type first second code) other os flat opening n = omega arith
+
+pub shallow_now : (frames : List Frame) (o : Op) (rest : List Op) (opens : List Open)
+    → o ∷ rest ≡ flat_of opens → length frames ≡ length opens → IsOpening o → NestedOpens frames opens → length frames ≤ 256
+shallow_now frames o rest [] flat same opening n = absurd cc
+shallow_now [] o rest (x ∷ os) flat same opening n = omega arith
+shallow_now (f ∷ fs) o rest (x ∷ os) flat same opening n =
+    let d : length fs < 256 = shallow_first (length fs) o rest x.code x.other os flat opening n.0 in omega arith

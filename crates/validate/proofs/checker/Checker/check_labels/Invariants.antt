@@ -1,0 +1,6 @@
+use Rattle.std.proofs.Common.{take, All, IsSome, slice_get}
+use Rattle.validate.specs.Checking.{context_at}
+use Rattle.validate.proofs.checker.Checker.check_labels.Given as goal
+
+abbrev pub invariant-loop-label : goal.invariant-loop-label
+invariant-loop-label l = All (λ t. IsSome (slice_get (context_at l.self).labels t)) (take l.label-index l.labels)

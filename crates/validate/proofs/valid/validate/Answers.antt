@@ -1,0 +1,12 @@
+use Rattle.std.proofs.lemmas.Result.{err_from_is_err_and}
+use Rattle.validate.specs.Refusals.{Refutes}
+use Rattle.validate.proofs.Exact.{refuted}
+use Rattle.validate.proofs.valid.validate.Goals as goal
+
+pub returns-in_err-check_contents-clause-invalid : goal.returns-in_err-check_contents-clause-invalid
+returns-in_err-check_contents-clause-invalid c =
+    let m = c.args.module.contents in
+    let e = c.in_err-check_contents.field-0.0 in
+    let p = err_from_is_err_and c.from_residual.result c.from_residual.ensures.1 in
+    let refutes : Refutes m e = rw (← c.contents.ensures.value) c.in_err-check_contents.ensures.refused in
+    rw (p.1, p.2) (refuted m e refutes)

@@ -2,5 +2,6 @@ pub mod Store
 pub mod Room
 pub mod Reads
 pub mod Faults
+pub mod Typed
 pub mod Fresh
 pub mod Lending

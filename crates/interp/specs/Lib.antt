@@ -3,6 +3,8 @@ pub mod Configuration
 pub mod Step
 pub mod Run
 pub mod Typed
+pub mod Heights
+pub mod HeightsOfRuns
 pub mod Traps
 pub mod Turning
 pub mod Frames
@@ -15,5 +17,3 @@ pub mod Hosting
 pub mod Invoking
 pub mod Moving
 pub mod Tie
-pub mod Heights
-pub mod HeightsOfRuns

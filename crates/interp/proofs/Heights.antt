@@ -164,8 +164,20 @@ module _ (base taken : ℕ) (before below : List ValType) (e : length before ≡
   rest_counted c results rest after go h =
       behind c base rest below results after (go (at_height c base base _ _ rest h refl (omega (arith, is_inner, length-pushed results below))))
 
-  begins : (c : Context) → base + length before ≤ 256 → 1 + length c.labels ≤ 257 → Fits (arities c) base (length before)
-  begins c h n = fits c base before Done h (omega (arith, n))
+  -- a body and what follows it, within the limits
+  both_counted : (c d : Context) (params results : List ValType) (body rest : Code) (after : ℕ)
+      → (greatest_height d (base + length below) (base + length below + length (pushed params [])) body ≤ 256
+      → Counted d.module_contents (arities d) (base + length below) (length (pushed params [])) (length (pushed results [])) body)
+      → (greatest_height c base (base + length (pushed results below)) rest ≤ 256 → Counted c.module_contents (arities c) base (length (pushed results below)) after rest)
+      → max (greatest_height d inner (inner + length params) body) (greatest_height c base (inner + length results) rest) ≤ 256
+      → Counted d.module_contents (arities d) (base + length below) (length params) (length results) body
+      × Counted c.module_contents (arities c) base (length results + length below) after rest
+  both_counted c d params results body rest after go_in go_on h =
+      let first = greatest_height d inner (inner + length params) body in
+      let last = greatest_height c base (inner + length results) rest in (
+        body_counted d params results body go_in (left_within first last 256 h),
+        rest_counted c results rest after go_on (right_within first last 256 h),
+      )
 
 pub counted : (c : Context) (base : ℕ) (code : Code) (before after : List ValType) → Typed c code before after
     → greatest_height c base (base + length before) code ≤ 256 → nesting code + length c.labels ≤ 257
@@ -180,74 +192,46 @@ counted c base (Plain i rest) before after (mid, ti, tr) h n =
     )
 counted c base (Block type body rest) before after (t, at, below, e, tb, tr) h n =
     let size : length before ≡ length t.params + length below = ap (λ (ts : List ValType). length ts) e ∙ length-pushed t.params below in
-    let k = rw at at h in
     let d = inside t.results c in
-    let start = inner base (length t.params) before below size in
-    let first = greatest_height d start (start + length t.params) body in
-    let last = greatest_height c base (start + length t.results) rest in
-    let high = right_within (base + length before) (max first last) 256 k in
+    let k = rw at at h in
+    let low : base + length before ≤ 256 = left_within (base + length before) _ 256 k in
     let nb : nesting body + length d.labels ≤ 257 = omega (arith, n) in
-    let nr : nesting rest + length c.labels ≤ 257 = omega (arith, n) in (
-      begins base (length t.params) before below size c (left_within (base + length before) (max first last) 256 k) (omega (arith, n)),
-      t,
-      at,
-      length below,
-      size,
-      body_counted base (length t.params) before below size d t.params t.results body
-          (λ (q : greatest_height d (base + length below) (base + length below + length (pushed t.params [])) body ≤ 256). counted d (base + length below) body (pushed t.params []) (pushed t.results []) tb q nb)
-          (left_within first last 256 high),
-      rest_counted base (length t.params) before below size c t.results rest (length after)
-          (λ (q : greatest_height c base (base + length (pushed t.results below)) rest ≤ 256). counted c base rest (pushed t.results below) after tr q nr)
-          (right_within first last 256 high),
-    )
+    let nr : nesting rest + length c.labels ≤ 257 = omega (arith, n) in
+    let both = both_counted base (length t.params) before below size c d t.params t.results body rest (length after)
+    (λ (q : greatest_height d (base + length below) (base + length below + length (pushed t.params [])) body ≤ 256). counted d (base + length below) body (pushed t.params []) (pushed t.results []) tb q nb)
+    (λ (q : greatest_height c base (base + length (pushed t.results below)) rest ≤ 256). counted c base rest (pushed t.results below) after tr q nr)
+    (right_within (base + length before) _ 256 k) in
+    (fits c base before rest low nr, t, at, length below, size, both.0, both.1)
 counted c base (Loop type body rest) before after (t, at, below, e, tb, tr) h n =
     let size : length before ≡ length t.params + length below = ap (λ (ts : List ValType). length ts) e ∙ length-pushed t.params below in
-    let k = rw at at h in
     let d = inside t.params c in
-    let start = inner base (length t.params) before below size in
-    let first = greatest_height d start (start + length t.params) body in
-    let last = greatest_height c base (start + length t.results) rest in
-    let high = right_within (base + length before) (max first last) 256 k in
-    let nb : nesting body + length d.labels ≤ 257 = omega (arith, n) in
-    let nr : nesting rest + length c.labels ≤ 257 = omega (arith, n) in (
-      begins base (length t.params) before below size c (left_within (base + length before) (max first last) 256 k) (omega (arith, n)),
-      t,
-      at,
-      length below,
-      size,
-      body_counted base (length t.params) before below size d t.params t.results body
-          (λ (q : greatest_height d (base + length below) (base + length below + length (pushed t.params [])) body ≤ 256). counted d (base + length below) body (pushed t.params []) (pushed t.results []) tb q nb)
-          (left_within first last 256 high),
-      rest_counted base (length t.params) before below size c t.results rest (length after)
-          (λ (q : greatest_height c base (base + length (pushed t.results below)) rest ≤ 256). counted c base rest (pushed t.results below) after tr q nr)
-          (right_within first last 256 high),
-    )
-counted c base (If type first second rest) before after (t, at, below, e, tf, ts, tr) h n =
-    let size : length before ≡ length t.params + 1 + length below = omega (arith, ap (λ (ts : List ValType). length ts) e, length-pushed t.params below) in
     let k = rw at at h in
-    let d = inside t.results c in
+    let low : base + length before ≤ 256 = left_within (base + length before) _ 256 k in
+    let nb : nesting body + length d.labels ≤ 257 = omega (arith, n) in
+    let nr : nesting rest + length c.labels ≤ 257 = omega (arith, n) in
+    let both = both_counted base (length t.params) before below size c d t.params t.results body rest (length after)
+    (λ (q : greatest_height d (base + length below) (base + length below + length (pushed t.params [])) body ≤ 256). counted d (base + length below) body (pushed t.params []) (pushed t.results []) tb q nb)
+    (λ (q : greatest_height c base (base + length (pushed t.results below)) rest ≤ 256). counted c base rest (pushed t.results below) after tr q nr)
+    (right_within (base + length before) _ 256 k) in
+    (fits c base before rest low nr, t, at, length below, size, both.0, both.1)
+counted c base (If type first second rest) before after (t, at, below, e, tf, ts, tr) h n =
     let taken = length t.params + 1 in
-    let start = inner base taken before below size in
-    let a = greatest_height d start (start + length t.params) first in
-    let b = greatest_height d start (start + length t.params) second in
-    let last = greatest_height c base (start + length t.results) rest in
-    let high = right_within (base + length before) (max a (max b last)) 256 k in
-    let higher = right_within a (max b last) 256 high in
+    let size : length before ≡ taken + length below = omega (arith, ap (λ (ts : List ValType). length ts) e, length-pushed t.params below) in
+    let d = inside t.results c in
+    let k = rw at at h in
+    let low : base + length before ≤ 256 = left_within (base + length before) _ 256 k in
     let na : nesting first + length d.labels ≤ 257 = omega (arith, n) in
     let nb : nesting second + length d.labels ≤ 257 = omega (arith, n) in
-    let nr : nesting rest + length c.labels ≤ 257 = omega (arith, n) in (
-      begins base taken before below size c (left_within (base + length before) (max a (max b last)) 256 k) (omega (arith, n)),
-      t,
-      at,
-      length below,
-      size,
-      body_counted base taken before below size d t.params t.results first
-          (λ (q : greatest_height d (base + length below) (base + length below + length (pushed t.params [])) first ≤ 256). counted d (base + length below) first (pushed t.params []) (pushed t.results []) tf q na)
-          (left_within a (max b last) 256 high),
-      body_counted base taken before below size d t.params t.results second
-          (λ (q : greatest_height d (base + length below) (base + length below + length (pushed t.params [])) second ≤ 256). counted d (base + length below) second (pushed t.params []) (pushed t.results []) ts q nb)
-          (left_within b last 256 higher),
-      rest_counted base taken before below size c t.results rest (length after)
-          (λ (q : greatest_height c base (base + length (pushed t.results below)) rest ≤ 256). counted c base rest (pushed t.results below) after tr q nr)
-          (right_within b last 256 higher),
-    )
+    let nr : nesting rest + length c.labels ≤ 257 = omega (arith, n) in
+    let start = inner base taken before below size in
+    let one = greatest_height d start (start + length t.params) first in
+    let others = max (greatest_height d start (start + length t.params) second) (greatest_height c base (start + length t.results) rest) in
+    let high : max one others ≤ 256 = right_within (base + length before) _ 256 k in
+    let branch = body_counted base taken before below size d t.params t.results first
+    (λ (q : greatest_height d (base + length below) (base + length below + length (pushed t.params [])) first ≤ 256). counted d (base + length below) first (pushed t.params []) (pushed t.results []) tf q na)
+    (left_within one others 256 high) in
+    let both = both_counted base taken before below size c d t.params t.results second rest (length after)
+    (λ (q : greatest_height d (base + length below) (base + length below + length (pushed t.params [])) second ≤ 256). counted d (base + length below) second (pushed t.params []) (pushed t.results []) ts q nb)
+    (λ (q : greatest_height c base (base + length (pushed t.results below)) rest ≤ 256). counted c base rest (pushed t.results below) after tr q nr)
+    (right_within one others 256 high) in
+    (fits c base before rest low nr, t, at, length below, size, branch, both.0, both.1)

@@ -31,7 +31,7 @@ frames-locals locals [] = refl
 frames-locals locals (Label arity next own rest ∷ below) = frames-locals locals below
 frames-locals locals (Frame own arity values rest ∷ below) = refl
 
-frames-receiving : (values : List Value) (contexts : List Context) → frames (receiving values contexts) ≡ frames contexts
+pub frames-receiving : (values : List Value) (contexts : List Context) → frames (receiving values contexts) ≡ frames contexts
 frames-receiving values [] = refl
 frames-receiving values (Label arity next own rest ∷ below) = refl
 frames-receiving values (Frame locals arity own rest ∷ below) = refl

@@ -5,7 +5,7 @@ pub mod Run
 pub mod Typed
 pub mod Heights
 pub mod HeightsOfRuns
-pub mod HeightsOfMachine
+pub mod HeightsTyped
 pub mod Traps
 pub mod Turning
 pub mod Frames

@@ -18,3 +18,4 @@ pub mod Hosting
 pub mod Invoking
 pub mod Moving
 pub mod Tie
+pub mod Jumping

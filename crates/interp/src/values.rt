@@ -38,18 +38,24 @@ impl Values {
         Values { items, count }
     }
 
+    /// The values, the first first.
+    pub fn as_slice(&self) -> &[Value]
+        ensures { result.now ≡ self.now }
+    {
+        &self.items[..self.count]
+    }
+
     /// How many values there are.
     pub fn len(&self) -> usize
         ensures { result ≡ length self.now }
     {
-        self.count
+        self.as_slice().len()
     }
 
     /// The value at an index.
     pub fn get(&self, index: usize) -> Option<Value>
         ensures { result ≡ slice_get self.now index }
     {
-        let values = &self.items[..self.count];
-        values.get(index).copied()
+        self.as_slice().get(index).copied()
     }
 }

@@ -1,4 +1,4 @@
-use Rattle.std.proofs.Common.{◌≡◌, ◌+◌, ◌-◌, ◌<◌, length, refl, arith}
+use Rattle.std.proofs.Common.{◌≡◌, ◌+◌, ◌-◌, length, refl, arith}
 use Rattle.interp.proofs.CallsMade.{can_enter, is_at_import, over_limit, made_entered, made_asked}
 use Rattle.interp.proofs.calls.call.Goals as goal
 
@@ -11,9 +11,13 @@ returns-then-index-imports-clause-done g c = λ answers args below at.
     c.ask_host.new.instance c.ask_host.new.host at (omega arith) c.in_ok-ask_host.ensures.asked
 
 pub returns-then-depth-clause-done : goal.returns-then-depth-clause-done
-returns-then-depth-clause-done g c = (refl, refl, λ answers args below at.
-  let e : c.args.function ≡ length c.args.contents.now.imports + (c.args.function - c.len-imports.result) = omega arith in
-  over_limit c.args.contents.now answers c.args.instance.now c.args.function (c.args.function - c.len-imports.result) c.args.depth args below c.args.machine.now at e (omega arith))
+returns-then-depth-clause-done g c = (
+  refl,
+  refl,
+  λ answers args below at.
+      let e : c.args.function ≡ length c.args.contents.now.imports + (c.args.function - c.len-imports.result) = omega arith in
+      over_limit c.args.contents.now answers c.args.instance.now c.args.function (c.args.function - c.len-imports.result) c.args.depth args below c.args.machine.now at e (omega arith),
+)
 
 pub enter_function-requires : goal.enter_function-requires
 enter_function-requires g c = can_enter c.args.contents.now c.args.instance.now c.args.function (c.args.function - c.len-imports.result) c.args.depth c.args.machine.now c.requires.at (omega arith) (omega arith) (omega arith)

@@ -1,6 +1,6 @@
 -- Calls of functions from outside.
 use Rattle.std.proofs.Common.{◌≡◌, ℕ, zero, suc, ◌+◌, ◌≤◌, List, [], ◌∷◌, ◌++◌, length, reverse, Some, None, refl, sym, ap, ◌∙◌, subst, arith}
-use Rattle.std.specs.Prelude.{slice_get, Result, Ok, Err, IfOk, Option}
+use Rattle.std.specs.Prelude.{slice_get, Option}
 use Rattle.std.proofs.lemmas.Option.{slice_get_within, get_or_from_slice_get}
 use Rattle.syntax.specs.declared.types.Value.{Value}
 use Rattle.syntax.specs.declared.module.Contents.{Contents}

@@ -22,11 +22,7 @@ pub enum Stepped {
 }
 
 /// Enters a defined function whose arguments are the topmost operands.
-pub fn enter_function(
-    contents: &Contents,
-    machine: &mut Machine,
-    index: usize,
-)
+pub fn enter_function(contents: &Contents, machine: &mut Machine, index: usize)
     requires { CanEnter contents.now index machine.old }
     ensures { Entered contents.now index machine.old machine.new }
 {

@@ -9,11 +9,7 @@ use crate::turned::Turned;
 use instance::state::Instance;
 
 /// Pushes a global.
-pub fn global_get(
-    instance: &Instance,
-    operands: &mut Operands,
-    index: u32,
-) -> Turned
+pub fn global_get(instance: &Instance, operands: &mut Operands, index: u32) -> Turned
     requires { length operands.old ≤ 32768 }
     ensures { DoesInStore (instr.GlobalGet index) result instance.now instance.now operands.old operands.new }
 {

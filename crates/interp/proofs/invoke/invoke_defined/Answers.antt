@@ -1,7 +1,5 @@
-use Rattle.std.proofs.Common.{◌≡◌, ◌+◌, ◌-◌, ◌≤◌, length, arith}
+use Rattle.std.proofs.Common.{◌≡◌, ◌+◌, ◌-◌, length, arith}
 use Rattle.interp.specs.Calling.{Entered}
-use Rattle.interp.specs.Running.{EndsSo}
-use Rattle.interp.specs.Invoking.{IsStoreOf, Invoked, ReturnsTyped}
 use Rattle.interp.proofs.Outside.{waiting, few_args, can_start, is_typed, invoked, used_within, returns_typed, store_kept}
 use Rattle.interp.proofs.invoke.invoke_defined.Goals as goal
 

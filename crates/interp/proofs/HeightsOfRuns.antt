@@ -75,6 +75,12 @@ module _ (m : Contents) where
         subst (λ (t : FuncType). length t.results ≤ 16) (get_or_from_slice_get m.types index type type known)
         (valid.types index type (slice_get_within m.types index type known))
 
+    pub few_locals_of : (type : FuncType) (f : Func) (index : ℕ) → slice_get m.functions index ≡ Some f → slice_get m.types f.type_index ≡ Some type
+        → length type.params + length f.locals ≤ 256
+    few_locals_of type f index at known =
+        let w = valid_function m valid index f at in
+        subst (λ (t : FuncType). length t.params + length f.locals ≤ 256) (its_type f w type known) w.few_locals
+
     -- a call of a defined function
     pub entered_within : (function : ℕ) (type : FuncType) (f : Func) (args : List Value) (below : List Context) → IsDefined m function type f
         → length args ≡ length type.params → Awaited below (length type.results) → IsWithin m (entered type f args below) 0

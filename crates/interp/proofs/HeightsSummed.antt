@@ -40,14 +40,14 @@ module _ (m : Contents) where
       let fits = fits_once inner after later k in
       omega (arith, contexts_below later (top ∷ below) h, fits.nesting)
 
-  pub operands_within : (contexts : List Context) → IsWithin m contexts 0 → length (all_operands contexts) ≤ 256 * frames contexts
-  operands_within contexts w =
-      let fits = fits_once contexts 0 w.after w.code in
+  pub operands_within : (more : ℕ) (contexts : List Context) → IsWithin m contexts more → length (all_operands contexts) ≤ 256 * frames contexts
+  operands_within more contexts w =
+      let fits = fits_once contexts more w.after w.code in
       omega (arith, operands_below w.after contexts w.beneath, fits.height, height-parts contexts)
 
-  pub contexts_within : (contexts : List Context) → IsWithin m contexts 0 → length contexts ≤ 258 * frames contexts
-  contexts_within contexts w =
-      let fits = fits_once contexts 0 w.after w.code in
+  pub contexts_within : (more : ℕ) (contexts : List Context) → IsWithin m contexts more → length contexts ≤ 258 * frames contexts
+  contexts_within more contexts w =
+      let fits = fits_once contexts more w.after w.code in
       omega (arith, contexts_below w.after contexts w.beneath, fits.nesting)
 
   locals_beneath : (after : ℕ) (contexts : List Context) → Beneath m after contexts → length (all_locals contexts) ≤ 256 * frames contexts
@@ -57,5 +57,5 @@ module _ (m : Contents) where
   locals_beneath after (Frame locals arity values code ∷ top ∷ below) (few, small, same, later, h, k) =
       omega (arith, few, locals_beneath later (top ∷ below) h, length-append locals (all_locals (top ∷ below)))
 
-  pub locals_within : (contexts : List Context) → IsWithin m contexts 0 → length (all_locals contexts) ≤ 256 * frames contexts
-  locals_within contexts w = locals_beneath w.after contexts w.beneath
+  pub locals_within : (more : ℕ) (contexts : List Context) → IsWithin m contexts more → length (all_locals contexts) ≤ 256 * frames contexts
+  locals_within more contexts w = locals_beneath w.after contexts w.beneath

@@ -1,12 +1,12 @@
 -- Calls of functions from outside.
 use Rattle.std.proofs.Common.{◌≡◌, ℕ, zero, suc, ◌+◌, ◌≤◌, List, [], ◌∷◌, ◌++◌, length, reverse, Some, None, refl, sym, ap, ◌∙◌, subst, arith}
-use Rattle.std.specs.Prelude.{slice_get, Result, Ok, Err, IfOk, Option}
+use Rattle.std.specs.Prelude.{slice_get, Option}
 use Rattle.std.proofs.lemmas.Option.{slice_get_within, get_or_from_slice_get}
 use Rattle.syntax.specs.declared.types.Value.{Value}
 use Rattle.syntax.specs.declared.module.Contents.{Contents}
 use Rattle.syntax.specs.declared.module.FuncType.{FuncType}
 use Rattle.syntax.specs.declared.module.Func.{Func}
-use Rattle.validate.specs.Typing.{HasFunctionType}
+use Rattle.validate.specs.Typing.{HasFunctionType, type_of}
 use Rattle.validate.specs.Valid.{ValidModule}
 use Rattle.instance.specs.Store.{Store}
 use Rattle.interp.specs.declared.ended.Ended.{Ended}
@@ -25,24 +25,30 @@ use Rattle.interp.specs.Moving.{Stands}
 use Rattle.interp.specs.Running.{IsTypedIn, EndsSo, EndSo, AreResults}
 use Rattle.interp.specs.Calling.{CanEnter, Entered, in_function}
 use Rattle.interp.specs.Invoking.{defined, imported, IsStoreOf, TakesArguments, Invoked, ReturnsTyped}
-use Rattle.interp.proofs.Entering.{starts_call, defined_type}
+use Rattle.interp.proofs.Entering.{defined_type}
+use Rattle.interp.proofs.HeightsSound.{starts_within}
+use Rattle.interp.proofs.HeightsOfRuns.{few_locals_of}
+use Rattle.std.proofs.lemmas.List.{length-map}
+use Rattle.syntax.specs.declared.types.ValType.{ValType}
 use Rattle.interp.proofs.Ties.{enters_first}
 use Rattle.interp.proofs.CallsMade.{is_defined, arguments}
-
-pub if_ok : {T E : Type 0} (P Q : T → Type 0) (r : Result T E) → ((x : T) → P x → Q x) → IfOk r P → IfOk r Q
-if_ok P Q (Ok x) k h = k x h
-if_ok P Q (Err e) k h = tt
 
 -- a machine at no operation, with these arguments
 abbrev pub waiting : List Value → Machine
 waiting args = record { function = 0; pc = 0; locals = held [] (under [] 0); operands = reverse args ++ []; controls = [] }
 
 module _ (m : Contents) (function index : ℕ) (args : List Value) (e : function ≡ length m.imports + index) (takes : TakesArguments m function args) where
-  pub can_start : CanEnter m index (waiting args)
-  can_start =
+  pub few_args : ValidModule m → length args ≤ 256
+  few_args v =
+      let d = is_defined m function index takes.type takes.known e in
+      let few = few_locals_of m v takes.type d.0 index d.1 d.2 in
+      omega (arith, few, length-map args type_of, ap (λ (ts : List ValType). length ts) takes.fit)
+
+  pub can_start : ValidModule m → CanEnter m index (waiting args)
+  can_start v =
       let d = is_defined m function index takes.type takes.known e in
       let a = arguments m args [] (reverse args ++ []) takes.type.params takes.fit refl in
-      record { type = takes.type; func = d.0; found = d.1; known = d.2; enough = a.2; below_limit = omega arith }
+      record { type = takes.type; func = d.0; found = d.1; known = d.2; enough = a.2; below_limit = omega arith; few_locals = few_locals_of m v takes.type d.0 index d.1 d.2; controls = omega arith; locals = omega arith }
 
   module _ (v : ValidModule m) (new : Machine) (en : Entered m index (waiting args) new) where
     func : Func
@@ -78,12 +84,12 @@ module _ (m : Contents) (function index : ℕ) (args : List Value) (e : function
       contexts = entered takes.type func args [];
       fit = fit.globals;
       stands = stands;
-      typed = starts_call m function takes.type func args v is_there takes.fit;
+      typed = starts_within m 128 function takes.type func args v is_there takes.fit (omega arith);
     }
 
     module _ {H : Type 0} (depth fuel : ℕ) (moves : H → HostCall → H → Type 0) (s t : Store) (before after : H) (ended : Ended) (fit : IsStoreOf m s) (ends : EndsSo m depth moves fuel s before new ended t after) where
       end : EndSo m depth moves takes.type.results fuel s before (entered takes.type func args []) ended t after
-      end = ends takes.type.results (entered takes.type func args []) fit.globals stands (starts_call m function takes.type func args v is_there takes.fit)
+      end = ends takes.type.results (entered takes.type func args []) fit.globals stands (starts_within m 128 function takes.type func args v is_there takes.fit (omega arith))
 
       pub invoked : Invoked m depth fuel moves s before function args ended t after
       invoked = record { trace = end.trace; invokes = defined takes.type func is_there end.runs; lawful = end.lawful }

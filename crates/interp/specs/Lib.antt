@@ -6,6 +6,7 @@ pub mod Typed
 pub mod Heights
 pub mod HeightsOfRuns
 pub mod HeightsTyped
+pub mod Room
 pub mod Traps
 pub mod Turning
 pub mod Frames

@@ -1,6 +1,6 @@
 // Calls of functions (WebAssembly Core 1.0, 4.4.7 and 4.4.8).
 
-ghost use Rattle.std.specs.Prelude.{◌≡◌, ◌<◌, length, IfOk};
+ghost use Rattle.std.specs.Prelude.{◌≡◌, ◌<◌, ◌≤◌, length};
 ghost use Rattle.validate.specs.Valid.{ValidModule};
 ghost use Rattle.interp.specs.Calling.{CanEnter, Entered, IsAtCall, CallDone, IsAtImport, Asks};
 ghost use Rattle.interp.specs.Hosting.{Names};
@@ -10,7 +10,6 @@ use crate::host::{Args, Host};
 use crate::machine::Machine;
 use crate::trap::TrapCode;
 use instance::state::Instance;
-use std::alloc::AllocError;
 use syntax::module::Contents;
 use validate::type_of_function;
 
@@ -23,13 +22,9 @@ pub enum Stepped {
 }
 
 /// Enters a defined function whose arguments are the topmost operands.
-pub fn enter_function(
-    contents: &Contents,
-    machine: &mut Machine,
-    index: usize,
-) -> Result<(), AllocError>
+pub fn enter_function(contents: &Contents, machine: &mut Machine, index: usize)
     requires { CanEnter contents.now index machine.old }
-    ensures { IfOk result (λ _. Entered contents.now index machine.old machine.new) }
+    ensures { Entered contents.now index machine.old machine.new }
 {
     let Some(func) = contents.functions.get(index) else {
         unreachable!()
@@ -41,7 +36,7 @@ pub fn enter_function(
     let arity = func_type.results.len();
     let base = machine.locals.base();
     let args = machine.operands.topmost(params);
-    machine.locals.enter(args, func.locals.as_slice())?;
+    machine.locals.enter(args, func.locals.as_slice());
     machine.operands.discard(params);
     let height = machine.operands.len();
     machine.controls.push(Control::Call(OpenCall {
@@ -50,15 +45,14 @@ pub fn enter_function(
         function: machine.function,
         pc: machine.pc,
         base,
-    }))?;
+    }));
     machine.controls.push(Control::Block(OpenBlock {
         resume: Resume::At(func.body.as_slice().len()),
         arity,
         height,
-    }))?;
+    }));
     machine.function = index;
     machine.pc = 0;
-    Ok(())
 }
 
 /// Asks the host for an import whose arguments are the topmost operands.
@@ -68,10 +62,10 @@ pub fn ask_host<H: Host>(
     host: &mut H,
     machine: &mut Machine,
     import: u32,
-) -> Result<(), AllocError>
+)
     requires at { IsAtImport contents.now import machine.old }
     requires names { Names contents.now (H.types host.old) }
-    ensures asked { IfOk result (λ _. Asks contents.now H.moves import instance.old host.old machine.old instance.new host.new machine.new) }
+    ensures asked { Asks contents.now H.moves import instance.old host.old machine.old instance.new host.new machine.new }
     ensures types { H.types host.new ≡ H.types host.old }
 {
     let Some(import_type) = type_of_function(contents, import) else {
@@ -82,9 +76,8 @@ pub fn ask_host<H: Host>(
     let answer = host.call(import, &args, instance.memory_mut());
     machine.operands.discard(params);
     if let Some(value) = answer {
-        machine.operands.push(value)?;
+        machine.operands.push(value);
     }
-    Ok(())
 }
 
 /// Calls a function whose arguments are the topmost operands: an imported one is asked of the host, and a defined one is
@@ -96,22 +89,23 @@ pub fn call<H: Host>(
     machine: &mut Machine,
     function: u32,
     depth: u32,
-) -> Result<Stepped, AllocError>
+) -> Stepped
     requires valid { ValidModule contents.now }
     requires names { Names contents.now (H.types host.old) }
     requires at { IsAtCall contents.now instance.old function machine.old }
-    ensures done { IfOk result (λ stepped. CallDone contents.now depth H.moves instance.old host.old function machine.old stepped instance.new host.new machine.new) }
+    requires deep { depth ≤ 128 }
+    ensures done { CallDone contents.now depth H.moves instance.old host.old function machine.old result instance.new host.new machine.new }
     ensures types { H.types host.new ≡ H.types host.old }
 {
     let imports = contents.imports.len();
     let index = function as usize;
     if index < imports {
-        ask_host(contents, instance, host, machine, function)?;
-        return Ok(Stepped::On);
+        ask_host(contents, instance, host, machine, function);
+        return Stepped::On;
     }
     if machine.locals.depth() >= depth {
-        return Ok(Stepped::TooDeep);
+        return Stepped::TooDeep;
     }
-    enter_function(contents, machine, index - imports)?;
-    Ok(Stepped::On)
+    enter_function(contents, machine, index - imports);
+    Stepped::On
 }

@@ -71,17 +71,18 @@ fn invoke_defined<H: Host>(
     requires names { Names contents.now (H.types host.old) }
     requires typed { TakesArguments contents.now function args.now }
     requires defined { length contents.now.imports ≤ function }
+    requires deep { depth ≤ 128 }
     ensures runs { IfOk result (λ ended. Invoked contents.now depth fuel H.moves instance.old host.old function args.now ended instance.new host.new) }
     ensures within { IfOk result (λ ended. ended.used ≤ fuel) }
     ensures results { IfOk result (λ ended. ReturnsTyped contents.now function ended.ending) }
     ensures kept { IfOk result (λ _. IsStoreOf contents.now instance.new) }
     ensures types { H.types host.new ≡ H.types host.old }
 {
-    let mut machine = Machine::new(alloc);
-    machine.operands.push_all(args)?;
+    let mut machine = Machine::new(alloc)?;
+    machine.operands.push_all(args);
     let index = function as usize - contents.imports.len();
-    enter_function(contents, &mut machine, index)?;
-    run(contents, instance, host, &mut machine, fuel, depth)
+    enter_function(contents, &mut machine, index);
+    Ok(run(contents, instance, host, &mut machine, fuel, depth))
 }
 
 /// Calls a function of a module on one of its instances, with these arguments and so much fuel. At most `depth`

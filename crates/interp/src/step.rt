@@ -1,6 +1,6 @@
 // One step of a run that costs fuel.
 
-ghost use Rattle.std.specs.Prelude.{◌≡◌, IfOk, slice_get};
+ghost use Rattle.std.specs.Prelude.{◌≡◌, ◌≤◌, slice_get};
 ghost use Rattle.validate.specs.Valid.{ValidModule};
 ghost use Rattle.interp.specs.Tie.{body_at};
 ghost use Rattle.interp.specs.Moving.{Costs};
@@ -13,7 +13,6 @@ use crate::calls::{Stepped, call};
 use crate::host::Host;
 use crate::machine::{Machine, Moved};
 use instance::state::Instance;
-use std::alloc::AllocError;
 use syntax::module::Contents;
 
 /// Does the next operation, which costs fuel.
@@ -23,18 +22,19 @@ pub fn step<H: Host>(
     host: &mut H,
     machine: &mut Machine,
     depth: u32,
-) -> Result<Stepped, AllocError>
+) -> Stepped
     requires valid { ValidModule contents.now }
     requires names { Names contents.now (H.types host.old) }
     requires typed { IsTypedIn contents.now instance.old machine.old }
+    requires deep { depth ≤ 128 }
     requires costs { Costs (slice_get (body_at contents.now machine.old.function) machine.old.pc) }
-    ensures done { IfOk result (λ stepped. StepDone contents.now depth H.moves instance.old host.old machine.old stepped instance.new host.new machine.new) }
+    ensures done { StepDone contents.now depth H.moves instance.old host.old machine.old result instance.new host.new machine.new }
     ensures types { H.types host.new ≡ H.types host.old }
 {
-    match act(contents, instance, machine)? {
-        Moved::On => Ok(Stepped::On),
-        Moved::Trapped(trap) => Ok(Stepped::Trapped(trap)),
-        Moved::Call(function) => Ok(call(contents, instance, host, machine, function, depth)?),
+    match act(contents, instance, machine) {
+        Moved::On => Stepped::On,
+        Moved::Trapped(trap) => Stepped::Trapped(trap),
+        Moved::Call(function) => call(contents, instance, host, machine, function, depth),
         Moved::End => unreachable!(),
         Moved::Stuck => unreachable!(),
     }

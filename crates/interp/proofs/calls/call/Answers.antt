@@ -8,7 +8,7 @@ ask_host-requires-clause-at g c = is_at_import c.args.contents.now c.args.instan
 pub returns-then-index-imports-clause-done : goal.returns-then-index-imports-clause-done
 returns-then-index-imports-clause-done g c = λ answers args below at.
     made_asked c.args.contents.now c.args.depth g.H.Host.moves answers c.args.instance.now c.args.host.now c.args.function args below c.args.machine.now c.ask_host.new.machine
-    c.ask_host.new.instance c.ask_host.new.host at (omega arith) c.in_ok-ask_host.ensures.asked
+    c.ask_host.new.instance c.ask_host.new.host at (omega arith) c.ask_host.ensures.asked
 
 pub returns-then-depth-clause-done : goal.returns-then-depth-clause-done
 returns-then-depth-clause-done g c = (
@@ -20,9 +20,9 @@ returns-then-depth-clause-done g c = (
 )
 
 pub enter_function-requires : goal.enter_function-requires
-enter_function-requires g c = can_enter c.args.contents.now c.args.instance.now c.args.function (c.args.function - c.len-imports.result) c.args.depth c.args.machine.now c.requires.at (omega arith) (omega arith) (omega arith)
+enter_function-requires g c = can_enter c.args.contents.now c.args.instance.now c.args.function (c.args.function - c.len-imports.result) c.args.depth c.args.machine.now c.requires.valid c.requires.at (omega arith) (omega arith) (omega arith)
 
 pub returns-clause-done : goal.returns-clause-done
 returns-clause-done g c = λ answers args below at.
     made_entered c.args.contents.now c.args.depth g.H.Host.moves answers c.args.instance.now c.args.host.now c.args.function args below c.args.machine.now c.enter_function.new.machine
-    (c.args.function - c.len-imports.result) at c.requires.valid (omega arith) (omega arith) c.in_ok-enter_function.ensures
+    (c.args.function - c.len-imports.result) c.requires.deep at c.requires.valid (omega arith) (omega arith) c.enter_function.ensures

@@ -1,5 +1,5 @@
 -- A valid module keeps every rule that a refusal may name.
-use Rattle.std.proofs.Common.{◌≡◌, ◌≤◌, ◌+◌, ℕ, List, [], ◌∷◌, length, Option, Some, None, All, IsSome, IfSome, slice_get, ◌⊎◌, inl, inr, refl, sym, ap, subst}
+use Rattle.std.proofs.Common.{◌≡◌, ◌≤◌, ◌+◌, ℕ, List, [], length, Option, Some, None, IsSome, IfSome, slice_get, ◌⊎◌, inl, inr, refl, sym, ap, subst}
 use Rattle.syntax.specs.declared.types.ValType.{ValType}
 use Rattle.syntax.specs.declared.types.BlockType.{BlockType}
 use Rattle.syntax.specs.declared.instruction.Instr.{Instr}
@@ -16,8 +16,8 @@ use Rattle.validate.specs.declared.fault.ValidFault.TheVariants as fault
 use Rattle.validate.specs.Typing.{Context, InstrTyped, Typed, inside, block_type, HasFunctionType}
 use Rattle.validate.specs.Height.{function_type, shape_of, type_or_none, greatest_height}
 use Rattle.validate.specs.Rules.{Rule, Indexes, Labels, Alignments, Mutabilities, NamesAll, NamesLabels, IsAligned, SetsVariables, Keeps, KeepsType, Kept}
-use Rattle.validate.specs.Valid.{ValidFunc, ValidImport, ValidModule, ValidElement, ValidData, IsConstant, body_context}
-use Rattle.validate.specs.Refusals.{HasFew, IsNamed, KeptIn, NamesIn, IsLow, Refutes}
+use Rattle.validate.specs.Valid.{ValidFunc, ValidImport, ValidModule, body_context}
+use Rattle.validate.specs.Refusals.{HasFew, IsNamed, KeptIn, IsLow, Refutes}
 
 names_all : (c : Context) (i : Instr) (before after : List ValType) → InstrTyped c i before after → NamesAll c i
 names_all c (Call f) before after t = rw t.1.1 (rw t.1.2 refl)

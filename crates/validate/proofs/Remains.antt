@@ -1,16 +1,14 @@
 -- What the rest of a body keeps where the whole does: the rules of what is named, the height and the nesting.
-use Rattle.std.proofs.Common.{◌≡◌, ℕ, ◌+◌, ◌-◌, ◌≤◌, ◌<◌, max, List, [], ◌∷◌, ◌++◌, length, Option, Some, None, All, sym, subst, arith}
-use Rattle.syntax.specs.declared.types.ValType.{ValType}
+use Rattle.std.proofs.Common.{◌≡◌, ℕ, ◌+◌, ◌≤◌, ◌<◌, List, [], ◌∷◌, length, Option, Some, None, subst, arith}
 use Rattle.syntax.specs.declared.instruction.Op.{Op}
 use Rattle.syntax.specs.declared.instruction.Op.TheVariants as op
 use Rattle.syntax.specs.declared.module.FuncType.{FuncType}
 use Rattle.syntax.specs.Code.{Code, Done, Plain, Block, Loop, If}
-use Rattle.validate.specs.declared.operands.Operand.{Operand}
 use Rattle.validate.specs.declared.frames.Frame.{Frame}
 use Rattle.validate.specs.declared.scope.Scope.{Scope}
-use Rattle.validate.specs.Typing.{Context, inside}
-use Rattle.validate.specs.Height.{greatest_height, nesting, shape_of, effect_of, after_effect}
-use Rattle.validate.specs.Rules.{Rule, Keeps, KeepsType, Kept}
+use Rattle.validate.specs.Typing.{Context}
+use Rattle.validate.specs.Height.{greatest_height, nesting}
+use Rattle.validate.specs.Rules.{Rule, Kept}
 use Rattle.validate.specs.Operands.{Held}
 use Rattle.validate.specs.Checking.{context_in, height_of}
 use Rattle.validate.specs.Rejecting.{Obeys, IsOpening}

@@ -1,5 +1,5 @@
 -- Rules of an instruction that don't speak of operands: what it names, where a memory is reached, and what it sets.
-use Rattle.std.specs.Prelude.{◌≡◌, ℕ, ◌^◌, ◌≤◌, All, Some, IsSome, slice_get}
+use Rattle.std.specs.Prelude.{◌≡◌, ◌^◌, ◌≤◌, All, Some, IsSome, slice_get}
 use Rattle.syntax.specs.declared.types.BlockType.{BlockType}
 use Rattle.syntax.specs.declared.instruction.Instr.{Instr}
 use Rattle.syntax.specs.declared.instruction.Instr.TheVariants.{Br, BrIf, BrTable, Call, CallIndirect, LocalGet, LocalSet, LocalTee, GlobalGet, GlobalSet, Load, LoadNarrow, Store, StoreNarrow, MemorySize, MemoryGrow}

@@ -13,7 +13,6 @@ loop-label-preserved c =
     subst (λ (ls : List ℕ). All P ls) (sym (take_more labels c.loop-label.label-index 0 lt))
     (All-push P (take c.loop-label.label-index labels) (get_or labels c.loop-label.label-index 0) c.loop-label.invariant here)
 
-
 pub returns-clause-same : goal.returns-clause-same
 returns-clause-same c =
     let P : ℕ → Type 0 = λ l. slice_get (context_at c.args.self.now).labels l ≡ Some c.args.types.now in

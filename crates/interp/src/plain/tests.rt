@@ -1,3 +1,5 @@
+ghost use Rattle.interp.specs.Plainly.{StaysInBlock};
+
 use super::*;
 use decode::decode;
 use std::process::Abort;
@@ -38,6 +40,41 @@ fn type_of(value: Value) -> ValType {
     }
 }
 
+/// The number of the trap after an instruction, 0 where it goes on, 8 where no rule applies.
+fn trap_after(
+    valid: &Valid,
+    instance: &mut Instance,
+    machine: &mut Machine,
+    instr: &Instr,
+) -> Result<u32, AllocError>
+    requires { StaysInBlock instr.now }
+{
+    Ok(
+        match do_plain(valid.contents(), instance, machine, instr)? {
+            Turned::On => 0,
+            Turned::Trapped(trap) => trap.code(),
+            Turned::Lacking => 8,
+        },
+    )
+}
+
+/// The operand on top after an instruction, which stays there.
+fn top_after(
+    valid: &Valid,
+    instance: &mut Instance,
+    machine: &mut Machine,
+    instr: &Instr,
+) -> Result<Option<Value>, AllocError>
+    requires { StaysInBlock instr.now }
+{
+    do_plain(valid.contents(), instance, machine, instr)?;
+    let top = machine.operands.pop();
+    if let Some(value) = top {
+        machine.operands.push(value)?;
+    }
+    Ok(top)
+}
+
 #[test]
 fn narrow_loads_are_widened(rt: HostRuntime) -> Result<(), Fail> {
     let valid = valid_module(&rt)?;
@@ -55,9 +92,11 @@ fn narrow_loads_are_widened(rt: HostRuntime) -> Result<(), Fail> {
     ];
     for (width, extension, value) in rows {
         let mut machine = machine_with(&rt, &[Value::I32(0)])?;
-        let instr = Instr::LoadNarrow(type_of(value), width, extension, at(0));
-        do_plain(valid.contents(), &mut instance, &mut machine, &instr).expect(&rt, "done");
-        assert_eq!(rt; machine.operands.pop(), Some(value));
+        let load = Instr::LoadNarrow(type_of(value), width, extension, at(0));
+        assert_eq!(rt;
+            top_after(&valid, &mut instance, &mut machine, &load)?,
+            Some(value)
+        );
     }
     Ok(())
 }
@@ -67,21 +106,18 @@ fn accesses_past_the_end_trap(rt: HostRuntime) -> Result<(), Fail> {
     let valid = valid_module(&rt)?;
     let mut instance = Instance::new(rt.alloc(), &valid).expect(&rt, "an instance");
     for (address, offset, code) in [(65532, 0, 0), (65533, 0, 4), (4294967295, 1, 4)] {
+        let mut machine = machine_with(&rt, &[Value::I32(address)])?;
         let load = Instr::Load(ValType::I32, at(offset));
-        let store = Instr::Store(ValType::I32, at(offset));
+        assert_eq!(rt;
+            trap_after(&valid, &mut instance, &mut machine, &load)?,
+            code
+        );
         let mut machine = machine_with(&rt, &[Value::I32(address), Value::I32(7)])?;
-        for instr in [store, load] {
-            let turned = do_plain(valid.contents(), &mut instance, &mut machine, &instr).expect(
-                &rt, "done",
-            );
-            let told = match turned {
-                Turned::On => 0,
-                Turned::Trapped(trap) => trap.code(),
-                Turned::Lacking => 8,
-            };
-            assert_eq!(rt; told, code);
-            machine.operands.push(Value::I32(address))?;
-        }
+        let store = Instr::Store(ValType::I32, at(offset));
+        assert_eq!(rt;
+            trap_after(&valid, &mut instance, &mut machine, &store)?,
+            code
+        );
     }
     Ok(())
 }
@@ -91,25 +127,16 @@ fn stores_are_loaded_again(rt: HostRuntime) -> Result<(), Fail> {
     let valid = valid_module(&rt)?;
     let mut instance = Instance::new(rt.alloc(), &valid).expect(&rt, "an instance");
     let number = Value::I64(0x8877_6655_4433_2211);
-    let rows = [
-        (Value::I32(8), number, Instr::Store(ValType::I64, at(8))),
-        (
-            Value::I32(16),
-            Value::I64(0xabcd),
-            Instr::StoreNarrow(ValType::I64, Width::One, at(1)),
-        ),
-    ];
-    for (address, value, instr) in rows {
-        let mut machine = machine_with(&rt, &[address, value])?;
-        do_plain(valid.contents(), &mut instance, &mut machine, &instr).expect(&rt, "done");
-    }
+    let mut machine = machine_with(&rt, &[Value::I32(8), number])?;
+    let store = Instr::Store(ValType::I64, at(8));
+    assert_eq!(rt; trap_after(&valid, &mut instance, &mut machine, &store)?, 0);
+    let mut machine = machine_with(&rt, &[Value::I32(16), Value::I64(0xabcd)])?;
+    let store = Instr::StoreNarrow(ValType::I64, Width::One, at(1));
+    assert_eq!(rt; trap_after(&valid, &mut instance, &mut machine, &store)?, 0);
     let mut machine = machine_with(&rt, &[Value::I32(16)])?;
-    let instr = Instr::Load(ValType::I64, at(0));
-    do_plain(valid.contents(), &mut instance, &mut machine, &instr).expect(&rt, "done");
-    assert_eq!(rt;
-        machine.operands.pop(),
-        Some(Value::I64(0x8877_6655_4433_cd11))
-    );
+    let load = Instr::Load(ValType::I64, at(0));
+    let value = top_after(&valid, &mut instance, &mut machine, &load)?;
+    assert_eq!(rt; value, Some(Value::I64(0x8877_6655_4433_cd11)));
     Ok(())
 }
 
@@ -118,23 +145,21 @@ fn memory_grows_and_variables_are_set(rt: HostRuntime) -> Result<(), Fail> {
     let valid = valid_module(&rt)?;
     let mut instance = Instance::new(rt.alloc(), &valid).expect(&rt, "an instance");
     let mut machine = machine_with(&rt, &[Value::I32(2)])?;
-    let rows = [
-        (Instr::MemoryGrow, 1),
-        (Instr::MemorySize, 3),
-        (Instr::GlobalGet(0), 42),
-        (Instr::LocalGet(0), 5),
-        (Instr::Const(Value::I32(6)), 6),
-        (Instr::LocalTee(0), 6),
-        (Instr::GlobalSet(0), 5),
-        (Instr::GlobalGet(0), 6),
-        (Instr::LocalSet(0), 5),
-        (Instr::LocalGet(0), 6),
-    ];
-    for (instr, top) in rows {
-        do_plain(valid.contents(), &mut instance, &mut machine, &instr).expect(&rt, "done");
-        let value = machine.operands.pop().expect(&rt, "an operand");
-        assert_eq!(rt; value, Value::I32(top));
-        machine.operands.push(value)?;
-    }
+    let answer = top_after(&valid, &mut instance, &mut machine, &Instr::MemoryGrow)?;
+    assert_eq!(rt; answer, Some(Value::I32(1)));
+    let pages = top_after(&valid, &mut instance, &mut machine, &Instr::MemorySize)?;
+    assert_eq!(rt; pages, Some(Value::I32(3)));
+    let global = top_after(&valid, &mut instance, &mut machine, &Instr::GlobalGet(0))?;
+    assert_eq!(rt; global, Some(Value::I32(42)));
+    let kept = top_after(&valid, &mut instance, &mut machine, &Instr::LocalTee(0))?;
+    assert_eq!(rt; kept, Some(Value::I32(42)));
+    let below = top_after(&valid, &mut instance, &mut machine, &Instr::Drop)?;
+    assert_eq!(rt; below, Some(Value::I32(3)));
+    let local = top_after(&valid, &mut instance, &mut machine, &Instr::LocalGet(0))?;
+    assert_eq!(rt; local, Some(Value::I32(42)));
+    machine.operands.push(Value::I32(7))?;
+    let below = top_after(&valid, &mut instance, &mut machine, &Instr::GlobalSet(0))?;
+    assert_eq!(rt; below, Some(Value::I32(42)));
+    assert_eq!(rt; instance.global(0), Some(Value::I32(7)));
     Ok(())
 }

@@ -2,7 +2,7 @@
 use Rattle.std.specs.Prelude.{◌≡◌, ◌≢◌, ℕ, ◌-◌, ◌^◌, List, [], ◌∷◌, Some, None, Option, codes}
 use Rattle.syntax.specs.declared.types.Value.{Value}
 use Rattle.syntax.specs.declared.types.Value.TheVariants.{I32, I64}
-use Rattle.syntax.specs.declared.module.Contents.{Contents}
+use Rattle.syntax.specs.Loaded.{Loaded}
 use Rattle.instance.specs.Store.{Store}
 use Rattle.instance.specs.Fresh.{IsFresh}
 use Rattle.interp.specs.Run.{HostCall, Outcome, Returned, Trapped, TooDeep, OutOfFuel}
@@ -19,7 +19,7 @@ pub record WorkOrder : Type 0 where
   pub loop_no : ℕ
   pub request : ℕ
   pub slot : ℕ
-  pub contents : Contents
+  pub loaded : Loaded
   pub op : ℕ
   pub bytes : List ℕ
   pub fuel : ℕ
@@ -62,12 +62,12 @@ WorkAnswers bytes reply call reply' _ args = Gives call reply' not_here call.bef
 
 -- one call of the host of a work function
 abbrev pub WorkCall : WorkOrder → List ℕ → HostCall → List ℕ → Type 0
-WorkCall o reply call reply' = (f : Call) × Imports o.contents call.function f × WorkAnswers o.bytes reply call reply' f call.args
+WorkCall o reply call reply' = (f : Call) × Imports o.loaded.contents call.function f × WorkAnswers o.bytes reply call reply' f call.args
 
 -- a function of the order's module runs so, on this store and with these bytes of the reply
 pub record WorkRun (o : WorkOrder) (fuel : ℕ) (s : Store) (reply : List ℕ) (function : ℕ) (args : List Value) (outcome : Outcome) (used : ℕ) (t : Store) (reply' : List ℕ) : Type 0 where
   pub trace : List HostCall
-  pub run : Invokes o.contents o.depth fuel s function args trace outcome used t
+  pub run : Invokes o.loaded.contents o.depth fuel s function args trace outcome used t
   pub answers : Lawful (WorkCall o) trace reply reply'
 
 -- the start function, where there is one, runs so on a new instance
@@ -79,13 +79,13 @@ StartRun o (Some function) s outcome used t reply = WorkRun o o.fuel s [] functi
 -- the fuel that is left.
 pub data Works (o : WorkOrder) : WorkEnd → Type 0 where
   -- the start function does not return
-  stops : (s t : Store) (outcome : Outcome) (used : ℕ) (reply : List ℕ) → IsFresh o.contents s
-      → StartRun o o.contents.start s outcome used t reply
+  stops : (s t : Store) (outcome : Outcome) (used : ℕ) (reply : List ℕ) → IsFresh o.loaded.contents s
+      → StartRun o o.loaded.contents.start s outcome used t reply
       → ((results : List Value) → outcome ≢ Returned results)
       → Works o (work_end outcome reply)
-  works : (s t u : Store) (results : List Value) (outcome : Outcome) (used more : ℕ) (reply reply' : List ℕ) (function : ℕ) → IsFresh o.contents s
-      → StartRun o o.contents.start s (Returned results) used t reply
-      → ExportsFunction o.contents (codes "uv_work") function
+  works : (s t u : Store) (results : List Value) (outcome : Outcome) (used more : ℕ) (reply reply' : List ℕ) (function : ℕ) → IsFresh o.loaded.contents s
+      → StartRun o o.loaded.contents.start s (Returned results) used t reply
+      → ExportsFunction o.loaded.contents (codes "uv_work") function
       → WorkRun o (o.fuel - used) t reply function (I32 o.op ∷ []) outcome more u reply'
       → Works o (work_end outcome reply')
 

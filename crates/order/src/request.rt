@@ -1,9 +1,13 @@
 // A work request as it is handed out.
 
+ghost use Rattle.std.specs.Prelude.{◌≡◌, ◌↔◌, IsTrue};
+ghost use Rattle.order.specs.Orders.{order_of};
+
 use imports::Linked;
 use interp::trap::TrapCode;
 use std::alloc::Global;
 use std::sync::Arc;
+use syntax::laws::one_module;
 
 /// A work request of a loop: whose it is, the operation and the bytes, the module that computes it, and what it may
 /// use.
@@ -40,4 +44,37 @@ pub enum Outcome {
     Spent,
     /// There was no memory for the instance or the reply.
     NoMemory,
+}
+
+fn are_same(bytes: &[u8], others: &[u8]) -> bool
+    ensures { IsTrue result ↔ (bytes.now ≡ others.now) }
+{
+    bytes == others
+}
+
+/// Whether two modules have the same bytes, and so are the same.
+fn is_same_module(linked: &Linked, other: &Linked) -> bool
+    ensures { IsTrue result ↔ (linked.now ≡ other.now) }
+{
+    one_module();
+    let module = linked.valid().module();
+    let other = other.valid().module();
+    let (_contents, _others) = (module.contents().start, other.contents().start);
+    are_same(module.bytes(), other.bytes())
+}
+
+impl Order {
+    /// Whether two orders are equal in every field, the bytes of their modules included.
+    pub fn is_same(&self, other: &Order) -> bool
+        ensures { IsTrue result ↔ (order_of self.now ≡ order_of other.now) }
+    {
+        self.loop_no == other.loop_no
+            && self.request == other.request
+            && self.slot == other.slot
+            && self.op == other.op
+            && self.fuel == other.fuel
+            && self.depth == other.depth
+            && are_same(self.bytes.as_slice(), other.bytes.as_slice())
+            && is_same_module(&self.module, &other.module)
+    }
 }

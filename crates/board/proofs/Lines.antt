@@ -1,0 +1,51 @@
+-- A step on one of the lines of replies.
+use Rattle.std.proofs.Common.{◌≡◌, ℕ, zero, suc, ◌<◌, List, [], ◌∷◌, length, set, map, Option, Some, None, IfSome, IfNone, Result, Ok, Err, OnOk, refl, sym, ap, ◌∙◌, arith}
+use Rattle.std.specs.List.{slice_get}
+use Rattle.std.proofs.lemmas.List.{length-map}
+use Rattle.std.proofs.lemmas.Option.{same_Some}
+use Rattle.order.specs.declared.reply.Reply.{Reply}
+use Rattle.board.specs.Views.{HandView}
+use Rattle.board.specs.Boards.{BoardView, PassView, IsPassOf, OnReplies}
+
+pub some_then : {A : Type 0} (P Q : A → Type 0) (o : Option A) → ((x : A) → P x → Q x) → IfSome o P → IfSome o Q
+some_then P Q None f h = tt
+some_then P Q (Some x) f h = f x h
+
+pub none_then : {A : Type 0} (P Q : Type 0) (o : Option A) → (P → Q) → IfNone o P → IfNone o Q
+none_then P Q None f h = f h
+none_then P Q (Some x) f h = tt
+
+pub ok_then : {A B : Type 0} (P Q : Type 0) (o : Result A B) → (P → Q) → OnOk o P → OnOk o Q
+ok_then P Q (Ok x) f h = f h
+ok_then P Q (Err x) f h = tt
+
+lines_set : (hands : List (HandView Reply)) (k : ℕ) (a b : HandView Reply) → slice_get hands k ≡ Some a → b.line ≡ a.line → map (λ h. h.line) (set hands k b) ≡ map (λ h. h.line) hands
+lines_set [] k a b e same = refl
+lines_set (x ∷ xs) zero a b e same = ap (λ l. l ∷ map (λ h. h.line) xs) (same ∙ sym (ap (λ (h : HandView Reply). h.line) (same_Some x a e)))
+lines_set (x ∷ xs) (suc k) a b e same = ap (λ ls. x.line ∷ ls) (lines_set xs k a b e same)
+
+pub there : {J : Type 0} (old : PassView J) (jobs : HandView J) (replies : List (HandView Reply)) → record { jobs = jobs; replies = replies } ≡ old → (board : BoardView) → IsPassOf board old → (k : ℕ)
+    → k < length board.replies → k < length replies
+there old jobs replies was board own k below =
+    let same : length board.replies ≡ length (map (λ (h : HandView Reply). h.line) replies) = ap length (sym own.replies) ∙ ap (λ (p : PassView _). length (map (λ (h : HandView Reply). h.line) p.replies)) (sym was) in
+    let size = length-map replies (λ (h : HandView Reply). h.line) in
+    omega arith
+
+module _ {J : Type 0} (old : PassView J) (jobs : HandView J) (replies : List (HandView Reply)) (was : record { jobs = jobs; replies = replies } ≡ old) (k : ℕ) (a b : HandView Reply) (at : slice_get replies k ≡ Some a) where
+  pub still_own : (board : BoardView) → IsPassOf board old → b.line ≡ a.line → IsPassOf board (record { jobs = jobs; replies = set replies k b })
+  still_own board own same =
+      record {
+        jobs = ap (λ (p : PassView J). p.jobs.line) was ∙ own.jobs;
+        replies = lines_set replies k a b at same ∙ ap (λ (p : PassView J). map (λ h. h.line) p.replies) was ∙ own.replies;
+      }
+
+  pub on_replies : (P : HandView Reply → HandView Reply → Type 0) → P a b → OnReplies P old (record { jobs = jobs; replies = set replies k b }) k
+  on_replies P did =
+      record {
+        before = a;
+        after = b;
+        was = ap (λ (p : PassView J). slice_get p.replies k) (sym was) ∙ at;
+        did = did;
+        replies = ap (λ (p : PassView J). set p.replies k b) was;
+        jobs = ap (λ (p : PassView J). p.jobs) was;
+      }

@@ -1,0 +1,187 @@
+// The board that loops and workers share, and the passes with which they step.
+ghost use Rattle.std.specs.Prelude.{◌≡◌, ◌<◌, ◌≤◌, ◌∷◌, ◌++◌, ℕ, length, map, All, IfOk, OnOk, IfErr, IfSome, IfNone};
+ghost use Rattle.board.specs.Views.{IsIdle, IsNewHand};
+ghost use Rattle.board.specs.Boards.{IsPassOf, IsNewPass, Posts, TakesJob, FindsNoJob, Puts, Collects, FindsNoReply};
+
+use crate::job::JobBox;
+use crate::line::{Hand, Line, Maker};
+use order::Reply;
+use std::alloc::{AllocError, Global};
+use std::marker::Model;
+use std::sync::Wait;
+use std::sync::atomic::{AtomicBool, Ordering};
+
+/// How many jobs may be queued on a board.
+pub const JOBS: usize = 256;
+
+/// How many replies may be queued for one loop.
+pub const REPLIES: usize = 64;
+
+/// A board: a bounded queue of jobs, one of replies for each loop, and whether it was closed.
+///
+/// To a contract it is a `BoardView`: its lines.
+#[derive(Drop)]
+pub struct Board<J = JobBox> {
+    jobs: Line<J>,
+    replies: Vec<Line<Reply>>,
+    closed: AtomicBool,
+}
+
+impl<J> Model for Board<J> {
+    ghost use Rattle.std.specs.Prelude.{◌≤◌, length};
+    ghost use Rattle.board.specs.Boards.{BoardView};
+
+    ghost Value = { BoardView };
+
+    ghost view = { λ b. record { jobs = b.jobs; replies = b.replies.items } };
+
+    ghost invariant = { λ b. length b.replies.items ≤ 8 };
+}
+
+/// With which one thread steps on a board. To a contract it is a `PassView`: what was done with it on each line.
+#[derive(Drop)]
+pub struct Pass<J = JobBox> {
+    jobs: Hand<J>,
+    replies: Vec<Hand<Reply>>,
+}
+
+impl<J> Model for Pass<J> {
+    ghost use Rattle.board.specs.Boards.{PassView};
+
+    ghost Value = { PassView J };
+
+    ghost use Rattle.order.specs.contracts.reply.Reply as reply;
+    ghost use Rattle.std.specs.Coded.{codes};
+
+    ghost coded = { Prim.hlevel (codes, reply.the_row.coded) };
+
+    ghost view = { λ p. record { jobs = p.jobs; replies = p.replies.items } };
+}
+
+impl<J: Drop> Board<J> {
+    /// A board for 1 to 8 loops, with all its lines empty, and passes that have done nothing. There is at least one.
+    ///
+    /// The only error is that memory ran out; no later call takes any.
+    pub fn new(
+        alloc: Global,
+        loops: u32,
+        passes: usize,
+    ) -> Result<(Board<J>, Vec<Pass<J>>), AllocError>
+        requires loops { (0 < loops) × (loops ≤ 8) }
+        requires passes { 0 < passes }
+        ensures board { IfOk result (λ b. length b.0.replies ≡ loops) }
+        ensures count { IfOk result (λ b. length b.1.items ≡ passes) }
+        ensures passes { IfOk result (λ b. All (IsNewPass b.0) b.1.items) }
+    {
+        let (jobs, mut jobs_maker) = Line::new(alloc, JOBS)?;
+        let (replies, mut makers) = reply_lines(alloc, loops)?;
+        let mut passes_made = Vec::with_capacity(alloc, passes)?;
+        for _ in 0..passes {
+            passes_made.push(Pass {
+                replies: hands_of(alloc, replies.as_slice(), &mut makers)?,
+                jobs: jobs.hand(&mut jobs_maker),
+            })?;
+        }
+        let board = Board {
+            jobs,
+            replies,
+            closed: AtomicBool::new(false),
+        };
+        Ok((board, passes_made))
+    }
+
+    /// Posts a job, by one push. It comes back where the line was full at some moment.
+    pub fn post<R: Wait>(&self, rt: &R, pass: &mut Pass<J>, job: J) -> Result<(), J>
+        requires { IsPassOf self.now pass.old }
+        ensures own { IsPassOf self.now pass.new }
+        ensures posted { OnOk result (Posts pass.old pass.new job) }
+        ensures refused { IfErr result (λ x. (x ≡ job) × (pass.new ≡ pass.old)) }
+    {
+        self.jobs.give(rt, &mut pass.jobs, job)
+    }
+
+    /// Takes the front job, by one pop.
+    pub fn take<R: Wait>(&self, rt: &R, pass: &mut Pass<J>) -> Option<J>
+        requires { IsPassOf self.now pass.old }
+        ensures own { IsPassOf self.now pass.new }
+        ensures taken { IfSome result (λ job. TakesJob pass.old pass.new job) }
+        ensures none { IfNone result (FindsNoJob pass.old pass.new) }
+    {
+        self.jobs.take(rt, &mut pass.jobs)
+    }
+
+    /// Puts a reply into the line of its order's loop, by one push. It comes back where that line was full at some moment.
+    pub fn put_reply<R: Wait>(&self, rt: &R, pass: &mut Pass<J>, reply: Reply) -> Result<(), Reply>
+        requires own { IsPassOf self.now pass.old }
+        requires there { reply.order.loop_no < length self.now.replies }
+        ensures own { IsPassOf self.now pass.new }
+        ensures put { OnOk result (Puts pass.old pass.new reply) }
+        ensures refused { IfErr result (λ x. (x ≡ reply) × (pass.new ≡ pass.old)) }
+    {
+        let loop_no = reply.order.loop_no as usize;
+        self.replies[loop_no].give(rt, &mut pass.replies[loop_no], reply)
+    }
+
+    /// Takes the front reply of a loop, by one pop.
+    pub fn collect<R: Wait>(&self, rt: &R, pass: &mut Pass<J>, loop_no: u32) -> Option<Reply>
+        requires own { IsPassOf self.now pass.old }
+        requires there { loop_no < length self.now.replies }
+        ensures own { IsPassOf self.now pass.new }
+        ensures collected { IfSome result (λ r. Collects pass.old pass.new loop_no r) }
+        ensures none { IfNone result (FindsNoReply pass.old pass.new loop_no) }
+    {
+        let loop_no = loop_no as usize;
+        self.replies[loop_no].take(rt, &mut pass.replies[loop_no])
+    }
+
+    /// Tells workers to end. The other calls go on as before.
+    pub fn close(&self) {
+        self.closed.store(true, Ordering::SeqCst);
+    }
+
+    /// Whether it was closed.
+    pub fn is_closed(&self) -> bool {
+        self.closed.load(Ordering::SeqCst)
+    }
+
+    /// For how many loops it is.
+    pub fn loops(&self) -> u32
+        ensures { result ≡ length self.now.replies }
+    {
+        self.replies.len() as u32
+    }
+}
+
+// An empty line of replies for each loop, and the makers of the lines.
+fn reply_lines(
+    alloc: Global,
+    loops: u32,
+) -> Result<(Vec<Line<Reply>>, Vec<Maker<Reply>>), AllocError>
+    ensures { IfOk result (λ r. (length r.0.items ≡ loops) × (r.1.items ≡ r.0.items)) }
+{
+    let mut lines = Vec::with_capacity(alloc, loops as usize)?;
+    let mut makers = Vec::with_capacity(alloc, loops as usize)?;
+    for _ in 0..loops {
+        let (line, maker) = Line::new(alloc, REPLIES)?;
+        lines.push(line)?;
+        makers.push(maker)?;
+    }
+    Ok((lines, makers))
+}
+
+// A new hand on each of the lines.
+fn hands_of(
+    alloc: Global,
+    lines: &[Line<Reply>],
+    makers: &mut Vec<Maker<Reply>>,
+) -> Result<Vec<Hand<Reply>>, AllocError>
+    requires { makers.old.items ≡ lines.now }
+    ensures makers { makers.new.items ≡ makers.old.items }
+    ensures hands { IfOk result (λ hands. (map (λ h. h.line) hands.items ≡ lines.now) × All IsIdle hands.items) }
+{
+    let mut hands = Vec::with_capacity(alloc, lines.len())?;
+    for i in 0..lines.len() {
+        hands.push(lines[i].hand(&mut makers[i]))?;
+    }
+    Ok(hands)
+}

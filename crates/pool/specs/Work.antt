@@ -1,0 +1,43 @@
+-- What one turn of a worker did.
+use Rattle.std.specs.Prelude.{◌≡◌, ◌≢◌, ℕ, ◌<◌, length}
+use Rattle.claims.specs.declared.seats.Ticket.{Ticket}
+use Rattle.claims.specs.Views.{WorkerView, Starts, Notes, open_word}
+use Rattle.order.specs.declared.reply.Reply.{Reply}
+use Rattle.board.specs.Jobs.{ticket_of}
+use Rattle.board.specs.Boards.{BoardView, PassView, TakesJob, FindsNoJob, Puts}
+use Rattle.pool.specs.declared.work.Did.{Did}
+use Rattle.pool.specs.declared.work.Did.TheVariants.{Nothing, Dropped, Replied, Stuck}
+
+-- the ticket's loop and slot are there
+abbrev pub IsThere : ℕ → Ticket → Type 0
+IsThere loops t = (t.loop_no < loops) × (t.slot < 32)
+
+-- the word of the ticket was found not to be open, and is noted
+pub record FindsNotOpen (old new : WorkerView) (t : Ticket) : Type 0 where
+  pub word : ℕ
+  pub not_open : word ≢ open_word t.request
+  pub noted : Notes old new t word
+
+module _ {J : Type 0} (ticket : J → Ticket) where
+  -- a job of this ticket is taken
+  pub record Takes (old new : PassView J) (t : Ticket) : Type 0 where
+    pub job : J
+    pub of_ticket : ticket job ≡ t
+    pub taken : TakesJob old new job
+
+  -- a job is taken, and then a reply of its ticket is put
+  pub record TakesAndPuts (old new : PassView J) (t : Ticket) : Type 0 where
+    pub between : PassView J
+    pub reply : Reply
+    pub taken : Takes old between t
+    pub of_ticket : ticket_of reply.order ≡ t
+    pub put : Puts between new reply
+
+  -- Nothing: no job was there. Dropped: one was taken, and not started. Replied: it was taken and started, and its reply was put.
+  -- Stuck: it was taken and started, and its reply is given back
+  abbrev pub Outcome : BoardView → (old new : PassView J) → (before after : WorkerView) → Did → Type 0
+  Outcome board old new before after Nothing = FindsNoJob old new × (after ≡ before)
+  Outcome board old new before after (Dropped t) =
+      Takes old new t × (after.started ≡ before.started) × (IsThere (length board.replies) t → FindsNotOpen before after t)
+  Outcome board old new before after (Replied t) = TakesAndPuts old new t × Starts before after t
+  Outcome board old new before after (Stuck reply) = Takes old new (ticket_of reply.order) × Starts before after (ticket_of reply.order) × (reply.order.loop_no < length board.replies)

@@ -1,0 +1,127 @@
+// One job's way, and a worker's.
+ghost use Rattle.std.specs.Prelude.{◌≡◌, ◌<◌, length, IsTrue, IsFalse};
+ghost use Rattle.board.specs.Boards.{IsPassOf};
+ghost use Rattle.claims.specs.Views.{Starts};
+ghost use Rattle.pool.specs.Work.{Outcome, IsThere, FindsNotOpen};
+
+use crate::gate::{Gate, Point};
+use board::{Board, Pass};
+use claims::{Claims, SLOTS, Ticket, WorkerSeat};
+use order::Reply;
+use std::sync::Wait;
+use std::thread;
+
+/// What became of a job.
+#[derive(Drop)]
+pub enum Did {
+    /// No job was there.
+    Nothing,
+    /// Its request could not be started, and it was dropped uncalled.
+    Dropped(Ticket),
+    /// It was called, and its reply was put.
+    Replied(Ticket),
+    /// It was called, and this is its reply, which the board refused.
+    Stuck(Reply),
+}
+
+/// Takes one job at most: starts its ticket, calls it and puts its reply, or drops it uncalled.
+pub fn work_one<G: Gate, R: Wait>(
+    rt: &R,
+    board: &Board,
+    pass: &mut Pass,
+    claims: &Claims,
+    seat: &mut WorkerSeat,
+    gate: &G,
+) -> Did
+    requires own { IsPassOf board.now pass.old × (seat.old.claims ≡ claims.now.id) }
+    requires loops { length board.now.replies ≡ claims.now.loops }
+    ensures own { IsPassOf board.now pass.new × (seat.new.claims ≡ seat.old.claims) }
+    ensures did { Outcome (λ job. job.ticket) board.now pass.old pass.new seat.old seat.new result }
+{
+    let Some(job) = board.take(rt, pass) else {
+        return Did::Nothing;
+    };
+    let ticket = job.ticket;
+    gate.at(Point::Taken, ticket);
+    if !start(claims, seat, ticket) {
+        return Did::Dropped(ticket);
+    }
+    gate.at(Point::Started, ticket);
+    let reply = job.call(seat);
+    gate.at(Point::Finished, ticket);
+    match board.put_reply(rt, pass, reply) {
+        Ok(()) => {
+            gate.at(Point::Replied, ticket);
+            Did::Replied(ticket)
+        }
+        Err(reply) => Did::Stuck(reply),
+    }
+}
+
+// Starts the ticket. One that is not there can't be started.
+fn start(claims: &Claims, seat: &mut WorkerSeat, ticket: Ticket) -> bool
+    requires { seat.old.claims ≡ claims.now.id }
+    ensures own { seat.new.claims ≡ seat.old.claims }
+    ensures started { IsTrue result → Starts seat.old seat.new ticket × IsThere claims.now.loops ticket }
+    ensures dropped { IsFalse result → (seat.new.started ≡ seat.old.started) × (IsThere claims.now.loops ticket → FindsNotOpen seat.old seat.new ticket) }
+{
+    let is_there = ticket.loop_no < claims.loops() && ticket.slot < SLOTS;
+    is_there && claims.start(seat, ticket)
+}
+
+/// Works until the board is found closed, with no job in hand. A reply that the board refuses is put again until that
+/// works or the board is closed.
+pub fn work_until_closed<G: Gate, R: Wait>(
+    rt: &R,
+    board: &Board,
+    pass: &mut Pass,
+    claims: &Claims,
+    seat: &mut WorkerSeat,
+    gate: &G,
+)
+    requires own { IsPassOf board.now pass.old × (seat.old.claims ≡ claims.now.id) }
+    requires loops { length board.now.replies ≡ claims.now.loops }
+{
+    for _ in rt.forever() {
+        if board.is_closed() {
+            return;
+        }
+        match work_one(rt, board, pass, claims, seat, gate) {
+            Did::Nothing => thread::yield_now(),
+            Did::Stuck(reply) => put_until_closed(rt, board, pass, gate, reply),
+            Did::Dropped(_) | Did::Replied(_) => {}
+        }
+    }
+}
+
+// Puts the reply, or gives it up where the board is closed.
+fn put_until_closed<G: Gate, R: Wait>(
+    rt: &R,
+    board: &Board,
+    pass: &mut Pass,
+    gate: &G,
+    mut reply: Reply,
+)
+    requires own { IsPassOf board.now pass.old }
+    requires there { reply.order.loop_no < length board.now.replies }
+    ensures own { IsPassOf board.now pass.new }
+{
+    let ticket = Ticket {
+        loop_no: reply.order.loop_no,
+        slot: reply.order.slot,
+        request: reply.order.request,
+    };
+    for _ in rt.forever() {
+        match board.put_reply(rt, pass, reply) {
+            Ok(()) => {
+                gate.at(Point::Replied, ticket);
+                return;
+            }
+            Err(back) => reply = back,
+        }
+        if board.is_closed() {
+            return;
+        }
+        thread::yield_now();
+    }
+}

@@ -1,6 +1,6 @@
 // Numbers as bytes, the lowest byte first (WebAssembly Core 1.0, 4.3.1).
 
-ghost use Rattle.std.specs.Prelude.{◌≡◌, length};
+ghost use Rattle.std.specs.Prelude.{◌≡◌, ◌*◌, ◌^◌, ◌<◌, length};
 ghost use Rattle.instance.specs.Store.{number_of, bytes_of, byte_count};
 
 use crate::access::AccessSize;
@@ -9,7 +9,8 @@ use crate::access::AccessSize;
 #[inline]
 pub fn number(bytes: &[u8], size: AccessSize) -> u64
     requires { length bytes.now ≡ byte_count size }
-    ensures { result ≡ number_of bytes.now }
+    ensures value { result ≡ number_of bytes.now }
+    ensures fits { result < 2 ^ (8 * byte_count size) }
 {
     let b = bytes;
     match size {

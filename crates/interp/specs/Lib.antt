@@ -15,3 +15,4 @@ pub mod Hosting
 pub mod Invoking
 pub mod Moving
 pub mod Tie
+pub mod Jumping

@@ -10,11 +10,10 @@ use crate::calls::enter_function;
 use crate::ended::{Ended, Ending};
 use crate::host::{Args, Host};
 use crate::machine::Machine;
-use crate::plain::RunFault;
 use crate::run::run;
 use crate::values::Values;
 use instance::state::Instance;
-use std::alloc::Global;
+use std::alloc::{AllocError, Global};
 use syntax::module::Contents;
 use syntax::types::Value;
 use validate::Valid;
@@ -66,7 +65,7 @@ fn invoke_defined<H: Host>(
     args: &[Value],
     fuel: u64,
     depth: u32,
-) -> Result<Ended, RunFault>
+) -> Result<Ended, AllocError>
     requires valid { ValidModule contents.now }
     requires store { IsStoreOf contents.now instance.old }
     requires names { Names contents.now (H.types host.old) }
@@ -97,7 +96,7 @@ pub fn invoke<H: Host>(
     args: &[Value],
     fuel: u64,
     depth: u32,
-) -> Result<Ended, RunFault>
+) -> Result<Ended, AllocError>
     requires store { IsStoreOf valid.now.contents instance.old }
     requires names { Names valid.now.contents (H.types host.old) }
     requires typed { TakesArguments valid.now.contents function args.now }

@@ -12,8 +12,8 @@ use crate::act::act;
 use crate::calls::{Stepped, call};
 use crate::host::Host;
 use crate::machine::{Machine, Moved};
-use crate::plain::RunFault;
 use instance::state::Instance;
+use std::alloc::AllocError;
 use syntax::module::Contents;
 
 /// Does the next operation, which costs fuel.
@@ -23,7 +23,7 @@ pub fn step<H: Host>(
     host: &mut H,
     machine: &mut Machine,
     depth: u32,
-) -> Result<Stepped, RunFault>
+) -> Result<Stepped, AllocError>
     requires valid { ValidModule contents.now }
     requires names { Names contents.now (H.types host.old) }
     requires typed { IsTypedIn contents.now instance.old machine.old }

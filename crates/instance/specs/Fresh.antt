@@ -1,10 +1,11 @@
 -- The store of a new instance, before its start function (WebAssembly Core 1.0, 4.5.4).
 use Rattle.std.specs.Prelude.{◌≡◌, ℕ, ◌+◌, ◌*◌, List, [], ◌∷◌, ◌++◌, length, map, take, drop, replicate, Option, Some, None}
 use Rattle.syntax.specs.declared.module.Contents.{Contents}
+use Rattle.syntax.specs.declared.types.Value.{Value}
 use Rattle.syntax.specs.declared.module.Element.{Element}
 use Rattle.syntax.specs.declared.module.Data.{Data}
 use Rattle.validate.specs.Segments.{SegmentsFit, constant_in, offset_in, minimum}
-use Rattle.instance.specs.Store.{Store, page}
+use Rattle.instance.specs.Store.{Store, page, page_limit}
 
 -- the list with these in place of what stood from a place on
 abbrev pub overwritten : {X : Type 0} → ℕ → List X → List X → List X
@@ -21,11 +22,21 @@ abbrev pub all_written : {S X : Type 0} → (S → X → S) → S → List X →
 all_written write s [] = s
 all_written write s (x ∷ xs) = all_written write (write s x) xs
 
+abbrev pub fresh_globals : Contents → List Value
+fresh_globals m = map (λ g. constant_in g.init) m.globals
+
+abbrev pub fresh_table : Contents → List (Option ℕ)
+fresh_table m = all_written with_element (replicate (minimum m.table) None) m.elements
+
+abbrev pub fresh_bytes : Contents → List ℕ
+fresh_bytes m = all_written with_data (replicate (minimum m.memory * page) 0) m.«data»
+
 abbrev pub fresh_store : Contents → Store
 fresh_store m = record {
-  globals = map (λ g. constant_in g.init) m.globals;
-  table = all_written with_element (replicate (minimum m.table) None) m.elements;
-  memory = all_written with_data (replicate (minimum m.memory * page) 0) m.data;
+  globals = fresh_globals m;
+  table = fresh_table m;
+  memory = fresh_bytes m;
+  limit = page_limit m.memory;
 }
 
 -- each segment fits, and the store is that of a new instance

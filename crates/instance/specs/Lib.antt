@@ -1,3 +1,6 @@
 pub mod Store
+pub mod Room
 pub mod Reads
+pub mod Faults
 pub mod Fresh
+pub mod Lending

@@ -10,7 +10,9 @@ pub mod Search
 pub mod Plainly
 pub mod Shapes
 pub mod Running
+pub mod Calling
 pub mod Hosting
 pub mod Invoking
 pub mod Moving
 pub mod Tie
+pub mod Jumping

@@ -1,0 +1,18 @@
+-- Why there is no instance of a module.
+use Rattle.std.specs.Prelude.{ℕ, All}
+use Rattle.syntax.specs.declared.module.Contents.{Contents}
+use Rattle.validate.specs.Segments.{ElementFits, DataFits, SegmentsFit}
+use Rattle.instance.specs.declared.fault.InstFault.{InstFault}
+use Rattle.instance.specs.declared.fault.InstFault.TheVariants.{ElementRange, DataRange, Memory}
+
+abbrev pub number_of_fault : InstFault → ℕ
+number_of_fault ElementRange = 1
+number_of_fault DataRange = 2
+number_of_fault Memory = 3
+
+-- An element segment doesn't fit; or all of them do, and a data segment doesn't; or all segments fit, and memory
+-- was refused.
+abbrev pub Explains : Contents → InstFault → Type 0
+Explains m ElementRange = ¬ (All (ElementFits m) m.elements)
+Explains m DataRange = All (ElementFits m) m.elements × ¬ (All (DataFits m) m.«data»)
+Explains m Memory = SegmentsFit m

@@ -1,0 +1,36 @@
+-- Equal lists of types.
+use Rattle.std.proofs.Common.{◌≡◌, List, [], ◌∷◌, Bool, true, false, ◌&&◌, refl, sym, subst, ◌↔◌, IsTrue}
+use Rattle.syntax.specs.declared.types.ValType.{ValType}
+use Rattle.syntax.specs.declared.types.ValType.TheVariants.{I32, I64}
+use Rattle.interp.specs.Step.{same_valtype, same_valtypes}
+
+same_valtype-is : (t u : ValType) → same_valtype t u ≡ true → t ≡ u
+same_valtype-is I32 I32 e = refl
+same_valtype-is I32 I64 e = absurd (cc)
+same_valtype-is I64 I32 e = absurd (cc)
+same_valtype-is I64 I64 e = refl
+
+pub both : (a b : Bool) → (a && b) ≡ true → (a ≡ true) × (b ≡ true)
+both true true e = (refl, refl)
+both true false e = absurd (cc)
+both false b e = absurd (cc)
+
+pub same_valtypes-is : (ts us : List ValType) → same_valtypes ts us ≡ true → ts ≡ us
+same_valtypes-is [] [] e = refl
+same_valtypes-is [] (u ∷ us) e = absurd (cc)
+same_valtypes-is (t ∷ ts) [] e = absurd (cc)
+same_valtypes-is (t ∷ ts) (u ∷ us) e =
+    let b = both (same_valtype t u) (same_valtypes ts us) e in
+    let h = same_valtype-is t u b.0 in let k = same_valtypes-is ts us b.1 in cc
+
+same_itself : (types : List ValType) → same_valtypes types types ≡ true
+same_itself [] = refl
+same_itself (I32 ∷ types) = same_itself types
+same_itself (I64 ∷ types) = same_itself types
+
+pub same_when : (types others : List ValType) (answer : Bool) → IsTrue answer ↔ (types ≡ others) → answer ≡ same_valtypes types others
+same_when types others true k = let e : types ≡ others = k.0 refl in subst (λ (ts : List ValType). true ≡ same_valtypes types ts) e (sym (same_itself types))
+same_when types others false k = by_answer (same_valtypes types others) refl where
+  by_answer : (b : Bool) → same_valtypes types others ≡ b → false ≡ b
+  by_answer false e = refl
+  by_answer true e = k.1 (same_valtypes-is types others e)

@@ -1,0 +1,98 @@
+// Which function a call is of (WebAssembly Core 1.0, 4.4.7).
+
+ghost use Rattle.std.specs.Prelude.{◌≡◌, ◌+◌, Some, slice_get};
+ghost use Rattle.std.specs.Option.{option_copied};
+ghost use Rattle.syntax.specs.declared.instruction.Op.TheVariants as op;
+ghost use Rattle.syntax.specs.declared.instruction.Instr.TheVariants as instr;
+ghost use Rattle.instance.specs.Store.{Store};
+ghost use Rattle.interp.specs.Step.{same_valtypes, same_type};
+ghost use Rattle.interp.specs.Tie.{body_at};
+ghost use Rattle.interp.specs.Moving.{Does};
+ghost use Rattle.interp.specs.Jumping.{Chooses};
+
+use crate::blocks::body;
+use crate::machine::{Machine, Moved};
+use crate::trap::TrapCode;
+use instance::state::Instance;
+use syntax::module::{Contents, FuncType};
+use syntax::types::ValType;
+use validate::{type_at, type_of_function};
+
+/// Whether two lists of types are the same.
+fn are_same(types: &[ValType], others: &[ValType]) -> bool
+    ensures { result ≡ same_valtypes types.now others.now }
+{
+    types == others
+}
+
+/// Whether both types are there and the same.
+fn is_same_type(found: Option<&FuncType>, wanted: Option<&FuncType>) -> bool
+    ensures { result ≡ same_type (option_copied found.entry) (option_copied wanted.entry) }
+{
+    match (found, wanted) {
+        (Some(found), Some(wanted)) => {
+            are_same(found.params.as_slice(), wanted.params.as_slice())
+                && are_same(found.results.as_slice(), wanted.results.as_slice())
+        }
+        _ => false,
+    }
+}
+
+/// The function that the table has at an index, where it is of this type.
+fn function_at(
+    contents: &Contents,
+    instance: &Instance,
+    type_index: u32,
+    index: u32,
+) -> Result<u32, TrapCode>
+    ensures { Chooses contents.now type_index (slice_get instance.now.table index) result }
+{
+    let function = match instance.element(index) {
+        Some(Some(function)) => function,
+        Some(None) => return Err(TrapCode::EmptyElement),
+        None => return Err(TrapCode::Table),
+    };
+    let found = type_of_function(contents, function);
+    if !is_same_type(found, type_at(contents, type_index)) {
+        return Err(TrapCode::OtherType);
+    }
+    Ok(function)
+}
+
+/// Calls a function: its caller goes on behind the call.
+pub fn call_direct(contents: &Contents, machine: &mut Machine, function: u32) -> Moved
+    requires { slice_get (body_at contents.now machine.old.function) machine.old.pc ≡ Some (op.Plain (instr.Call function)) }
+    ensures { (s : Store) → Does contents.now 1 result machine.old machine.new s s }
+{
+    let ops = body(contents, machine.function);
+    let at = machine.pc;
+    let _op = ops.get(at);
+    machine.pc = at + 1;
+    Moved::Call(function)
+}
+
+/// Calls the function that the operand on top names in the table.
+pub fn call_indirect(
+    contents: &Contents,
+    instance: &Instance,
+    machine: &mut Machine,
+    type_index: u32,
+) -> Moved
+    requires { slice_get (body_at contents.now machine.old.function) machine.old.pc ≡ Some (op.Plain (instr.CallIndirect type_index)) }
+    ensures { Does contents.now 1 result machine.old machine.new instance.now instance.now }
+{
+    let ops = body(contents, machine.function);
+    let at = machine.pc;
+    let _op = ops.get(at);
+    let behind = at + 1;
+    let Some(index) = machine.operands.pop_i32() else {
+        return Moved::Stuck;
+    };
+    match function_at(contents, instance, type_index, index) {
+        Ok(function) => {
+            machine.pc = behind;
+            Moved::Call(function)
+        }
+        Err(trap) => Moved::Trapped(trap),
+    }
+}

@@ -7,10 +7,10 @@ use Rattle.handles.specs.declared.handle.Kind.{Kind}
 use Rattle.handles.specs.declared.handle.Kind.TheVariants as handle_kind
 use Rattle.handles.specs.Table.{record_of, same_kind, after_again}
 use Rattle.instance.specs.Store.{Store}
-use Rattle.interp.specs.Run.{HostCall, Outcome, Returned, Trapped, TooDeep, OutOfFuel}
+use Rattle.interp.specs.Run.{HostCall}
+use Rattle.interp.specs.Running.{outcome_of}
 use Rattle.interp.specs.Hosting.{Lawful}
 use Rattle.interp.specs.Invoking.{Invokes}
-use Rattle.interp.specs.Traps.{trap_number}
 use Rattle.interp.specs.declared.ended.Ending.{Ending}
 use Rattle.interp.specs.declared.ended.Ending.TheVariants as ending
 use Rattle.interp.specs.declared.ended.Ended.{Ended}
@@ -33,15 +33,8 @@ use Rattle.phases.specs.PhaseList.{phase_list, next_phase, may_end, is_alive, is
 use Rattle.phases.specs.Calls.{Calls}
 use Rattle.phases.specs.Host.{HostStep, with_roster, with_requests}
 
--- how a callback's ending reads
-abbrev pub EndsBy : Ending → Outcome → Type 0
-EndsBy ending.Return outcome = (results : List Value) × (outcome ≡ Returned results)
-EndsBy (ending.Trap trap) outcome = outcome ≡ Trapped (trap_number trap)
-EndsBy ending.Depth outcome = outcome ≡ TooDeep
-EndsBy ending.Spent outcome = outcome ≡ OutOfFuel
-
 abbrev pub returns : Ending → Bool
-returns ending.Return = true
+returns (ending.Return results) = true
 returns _ = false
 
 -- the loop as a callback begins, and as it has ended
@@ -96,10 +89,8 @@ module _ {S : Type 0} (calls : Calls S) (g : Setting) where
     pub trace : List HostCall
     pub ended : Ended
     pub state : State
-    pub outcome : Outcome
-    pub run : Invokes g.loaded.contents g.depth g.fuel old.store function args trace outcome ended.used new.store
+    pub run : Invokes g.loaded.contents g.depth g.fuel old.store function args trace (outcome_of ended.ending) ended.used new.store
     pub answers : Lawful (HostStep calls g) trace (begun old.state reply, old.shared) (state, new.shared)
-    pub ending : EndsBy ended.ending outcome
     pub told : did ≡ Ran kind number ended
     pub finished : new.state ≡ finished state ended
 

@@ -4,7 +4,7 @@ use crate::entry::{EntryKind, Phase};
 use interp::ended::Ended;
 
 /// What one step of a loop did.
-#[derive(Clone, Copy, Debug)]
+#[derive(Debug, Drop)]
 pub enum StepDid {
     /// A phase was entered, at this moment.
     Entered {

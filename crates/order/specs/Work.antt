@@ -1,0 +1,95 @@
+-- What one work request is, and what becomes of it.
+use Rattle.std.specs.Prelude.{◌≡◌, ◌≢◌, ℕ, ◌-◌, ◌^◌, List, [], ◌∷◌, Some, None, Option, codes}
+use Rattle.syntax.specs.declared.types.Value.{Value}
+use Rattle.syntax.specs.declared.types.Value.TheVariants.{I32, I64}
+use Rattle.syntax.specs.Loaded.{Loaded}
+use Rattle.instance.specs.Store.{Store}
+use Rattle.instance.specs.Fresh.{IsFresh}
+use Rattle.interp.specs.Run.{HostCall, Outcome, Returned, Trapped, TooDeep, OutOfFuel}
+use Rattle.interp.specs.Hosting.{Lawful}
+use Rattle.interp.specs.Invoking.{Invokes}
+use Rattle.imports.specs.declared.call.Call.{Call}
+use Rattle.imports.specs.declared.call.Call.TheVariants.{Now, InLen, InCopy, OutSet}
+use Rattle.imports.specs.Linking.{Imports, ExportsFunction}
+use Rattle.order.specs.Numbers.{not_here}
+use Rattle.order.specs.Bytes.{input_length, copied_in, set_out}
+
+-- A request as it is handed out: whose it is, the module, the operation, the bytes, and what it may use.
+pub record WorkOrder : Type 0 where
+  pub loop_no : ℕ
+  pub request : ℕ
+  pub slot : ℕ
+  pub loaded : Loaded
+  pub op : ℕ
+  pub bytes : List ℕ
+  pub fuel : ℕ
+  pub depth : ℕ
+
+-- what becomes of a request
+pub data WorkEnd : Type 0 where
+  Done : (value : ℕ) → (bytes : List ℕ) → WorkEnd
+  Trap : (code : ℕ) → WorkEnd
+  Depth : WorkEnd
+  Spent : WorkEnd
+  NoMemory : WorkEnd
+
+-- how a function's ending reads as a request's, with the bytes that were set last
+abbrev pub work_end : Outcome → List ℕ → WorkEnd
+work_end (Returned (I32 value ∷ _)) reply = Done value reply
+work_end (Returned _) reply = Done 0 reply
+work_end (Trapped code) reply = Trap code
+work_end TooDeep reply = Depth
+work_end OutOfFuel reply = Spent
+
+-- an answer of a number
+abbrev pub Says : HostCall → ℕ → Type 0
+Says call answer = call.answer ≡ Some (I32 answer)
+
+-- the call answers this, and leaves the memory and the bytes of the reply so
+abbrev pub Gives : HostCall → List ℕ → (answer : ℕ) → (memory reply : List ℕ) → Type 0
+Gives call reply' answer memory reply = Says call answer × (call.after ≡ memory) × (reply' ≡ reply)
+
+-- what the host of a work function answers to a function of "uv", of these arguments
+abbrev pub WorkAnswers : (bytes reply : List ℕ) → HostCall → (reply' : List ℕ) → Call → List Value → Type 0
+WorkAnswers bytes reply call reply' InLen [] = Gives call reply' (input_length (Some bytes)) call.before reply
+WorkAnswers bytes reply call reply' InCopy (I32 to ∷ I32 from ∷ I32 count ∷ []) =
+    let copied = copied_in (Some bytes) to from count call.before in Gives call reply' copied.0 copied.1 reply
+WorkAnswers bytes reply call reply' OutSet (I32 place ∷ I32 count ∷ []) =
+    let set = set_out place count call.before reply in Gives call reply' set.0 call.before set.1
+-- every other call is not here, `now` by its own type
+WorkAnswers bytes reply call reply' Now args = (call.answer ≡ Some (I64 (2 ^ 64 - 1))) × (call.after ≡ call.before) × (reply' ≡ reply)
+WorkAnswers bytes reply call reply' _ args = Gives call reply' not_here call.before reply
+
+-- one call of the host of a work function
+abbrev pub WorkCall : WorkOrder → List ℕ → HostCall → List ℕ → Type 0
+WorkCall o reply call reply' = (f : Call) × Imports o.loaded.contents call.function f × WorkAnswers o.bytes reply call reply' f call.args
+
+-- a function of the order's module runs so, on this store and with these bytes of the reply
+pub record WorkRun (o : WorkOrder) (fuel : ℕ) (s : Store) (reply : List ℕ) (function : ℕ) (args : List Value) (outcome : Outcome) (used : ℕ) (t : Store) (reply' : List ℕ) : Type 0 where
+  pub trace : List HostCall
+  pub run : Invokes o.loaded.contents o.depth fuel s function args trace outcome used t
+  pub answers : Lawful (WorkCall o) trace reply reply'
+
+-- the start function, where there is one, runs so on a new instance
+abbrev pub StartRun : WorkOrder → Option ℕ → Store → Outcome → (used : ℕ) → Store → List ℕ → Type 0
+StartRun o None s outcome used t reply = (outcome ≡ Returned []) × (used ≡ 0) × (t ≡ s) × (reply ≡ [])
+StartRun o (Some function) s outcome used t reply = WorkRun o o.fuel s [] function [] outcome used t reply
+
+-- What one thread computes from the order alone: the start function and then `uv_work`, on a new instance, with
+-- the fuel that is left.
+pub data Works (o : WorkOrder) : WorkEnd → Type 0 where
+  -- the start function does not return
+  stops : (s t : Store) (outcome : Outcome) (used : ℕ) (reply : List ℕ) → IsFresh o.loaded.contents s
+      → StartRun o o.loaded.contents.start s outcome used t reply
+      → ((results : List Value) → outcome ≢ Returned results)
+      → Works o (work_end outcome reply)
+  works : (s t u : Store) (results : List Value) (outcome : Outcome) (used more : ℕ) (reply reply' : List ℕ) (function : ℕ) → IsFresh o.loaded.contents s
+      → StartRun o o.loaded.contents.start s (Returned results) used t reply
+      → ExportsFunction o.loaded.contents (codes "uv_work") function
+      → WorkRun o (o.fuel - used) t reply function (I32 o.op ∷ []) outcome more u reply'
+      → Works o (work_end outcome reply')
+
+-- what a reply to the order may say: this, or that there was no memory
+abbrev pub IsEndOf : WorkOrder → WorkEnd → Type 0
+IsEndOf o NoMemory = Unit {0}
+IsEndOf o end = Works o end

@@ -1,1 +1,4 @@
 pub mod Modules
+pub mod Naming
+pub mod Starting
+pub mod Serving

@@ -1,4 +1,7 @@
 pub mod Bytes
+pub mod Hosting
 pub mod Numbers
 pub mod Orders
+pub mod Serving
 pub mod Work
+pub mod WorkHosting

@@ -1,8 +1,13 @@
-//! One work request of a loop: the order, what becomes of it, and the reply.
+//! One work request of a loop: the order, what becomes of it, and the reply; and what a guest is answered who reads
+//! its input or sets its reply.
 #![tactic(auto)]
 
+pub mod answers;
+pub mod calls;
+pub mod host;
 mod reply;
 mod request;
+mod run;
 
 pub use reply::Reply;
-pub use request::{Order, Outcome};
+pub use request::{MAX_BYTES, Order, Outcome};

@@ -1,2 +1,12 @@
 pub mod Calls
+pub mod Codes
+pub mod Fitting
+pub mod Host
+pub mod Outside
+pub mod PhaseList
+pub mod Progress
+pub mod Requests
+pub mod Roster
+pub mod State
+pub mod Step
 pub mod View

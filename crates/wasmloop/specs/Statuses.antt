@@ -14,6 +14,8 @@ status_of_failure failure.Output = status.Failed
 status_of_failure (failure.Decode _) = status.Refused
 status_of_failure (failure.Validate _) = status.Refused
 status_of_failure (failure.Link _) = status.Refused
+status_of_failure (failure.NoFunction _) = status.Usage
+status_of_failure failure.Arguments = status.Usage
 
 abbrev pub number_of : Status → ℕ
 number_of status.Done = 0

@@ -1,8 +1,35 @@
 // What the program is asked to do.
 
+ghost use Rattle.std.specs.Prelude.{◌≤◌};
+
+/// How far a call may go.
+#[derive(Clone, Copy, Debug, PartialEq, Eq)]
+pub struct Budget {
+    /// How many instructions may be paid for.
+    pub fuel: u64,
+    /// How many calls may stand open, 1 to 128.
+    pub depth: u32,
+    pub ghost in_range: { (1 ≤ depth) × (depth ≤ 128) },
+}
+
+/// A function of a module and the words that spell its arguments.
+#[derive(Drop)]
+pub struct Invocation {
+    /// The file of the module.
+    pub file: String,
+    /// The name that the function is exported under.
+    pub name: String,
+    /// The arguments, as unsigned decimal numbers.
+    pub arguments: Vec<String>,
+    /// What the start function and the function may use together.
+    pub budget: Budget,
+}
+
 /// A command with its words.
 #[derive(Drop)]
 pub enum Command {
     /// Tells whether the module in the file is accepted.
     Check { file: String },
+    /// Calls an exported function of a module.
+    Invoke(Invocation),
 }

@@ -6,12 +6,14 @@ use crate::file::ReadFault;
 use crate::status::Status;
 use decode::DecodeFault;
 use imports::LinkFault;
+use instance::fault::InstFault;
+use std::alloc::{AllocError, AllocFailed};
 use std::{fmt, io};
 use validate::ValidFault;
 
 /// Why a command has no result.
 #[derive(Clone, Copy, Debug, PartialEq, Eq)]
-pub enum Failure {
+pub enum Failure<'a> {
     /// The file can't be read.
     File,
     /// There is not enough memory.
@@ -24,23 +26,28 @@ pub enum Failure {
     Validate(ValidFault),
     /// The module doesn't fit the host.
     Link(LinkFault),
+    /// The module exports no function of this name.
+    NoFunction(&'a str),
+    /// The words are not the arguments that the function takes.
+    Arguments,
 }
 
-impl Failure {
+impl Failure<'_> {
     ghost use Rattle.wasmloop.specs.Statuses.{status_of_failure};
 
     /// What the program ends with.
     pub fn status(self) -> Status
-        ensures { result ≡ status_of_failure self }
+        ensures { result ≡ status_of_failure self.entry }
     {
         match self {
             Failure::File | Failure::Memory | Failure::Output => Status::Failed,
             Failure::Decode(_) | Failure::Validate(_) | Failure::Link(_) => Status::Refused,
+            Failure::NoFunction(_) | Failure::Arguments => Status::Usage,
         }
     }
 }
 
-impl fmt::Display for Failure {
+impl fmt::Display for Failure<'_> {
     fn fmt<W: fmt::Write>(&self, f: &mut fmt::Formatter<W>) -> fmt::Result {
         match self {
             Failure::File => f.write_str("file"),
@@ -49,6 +56,8 @@ impl fmt::Display for Failure {
             Failure::Decode(fault) => refusal(f, "decode", fault.code(), fault),
             Failure::Validate(fault) => refusal(f, "validate", fault.code(), fault),
             Failure::Link(fault) => refusal(f, "link", fault.code(), fault),
+            Failure::NoFunction(name) => write!(f, "no function {name}"),
+            Failure::Arguments => f.write_str("arguments"),
         }
     }
 }
@@ -63,8 +72,8 @@ fn refusal<W: fmt::Write>(
     write!(f, "{step} {number} {word}")
 }
 
-impl From<ReadFault> for Failure {
-    fn from(fault: ReadFault) -> Failure {
+impl From<ReadFault> for Failure<'_> {
+    fn from(fault: ReadFault) -> Self {
         match fault {
             ReadFault::File => Failure::File,
             ReadFault::Memory => Failure::Memory,
@@ -72,8 +81,8 @@ impl From<ReadFault> for Failure {
     }
 }
 
-impl From<DecodeFault> for Failure {
-    fn from(fault: DecodeFault) -> Failure {
+impl From<DecodeFault> for Failure<'_> {
+    fn from(fault: DecodeFault) -> Self {
         match fault {
             DecodeFault::Memory => Failure::Memory,
             _ => Failure::Decode(fault),
@@ -81,8 +90,8 @@ impl From<DecodeFault> for Failure {
     }
 }
 
-impl From<ValidFault> for Failure {
-    fn from(fault: ValidFault) -> Failure {
+impl From<ValidFault> for Failure<'_> {
+    fn from(fault: ValidFault) -> Self {
         match fault {
             ValidFault::Memory => Failure::Memory,
             _ => Failure::Validate(fault),
@@ -90,14 +99,33 @@ impl From<ValidFault> for Failure {
     }
 }
 
-impl From<LinkFault> for Failure {
-    fn from(fault: LinkFault) -> Failure {
+impl From<LinkFault> for Failure<'_> {
+    fn from(fault: LinkFault) -> Self {
         Failure::Link(fault)
     }
 }
 
-impl From<io::Error> for Failure {
-    fn from(_error: io::Error) -> Failure {
+/// A linked module's segments fit, so that its instance fails for want of memory alone.
+impl From<InstFault> for Failure<'_> {
+    fn from(_fault: InstFault) -> Self {
+        Failure::Memory
+    }
+}
+
+impl From<AllocError> for Failure<'_> {
+    fn from(_error: AllocError) -> Self {
+        Failure::Memory
+    }
+}
+
+impl<T: Drop> From<AllocFailed<T>> for Failure<'_> {
+    fn from(_error: AllocFailed<T>) -> Self {
+        Failure::Memory
+    }
+}
+
+impl From<io::Error> for Failure<'_> {
+    fn from(_error: io::Error) -> Self {
         Failure::Output
     }
 }

@@ -14,9 +14,9 @@ use validate::validate;
 const ENOUGH: usize = 1_048_577;
 
 /// The module of the file, read, validated and linked.
-pub fn load<R: Reader>(alloc: Global, reader: &R, file: &str) -> Result<Linked, Failure>
+pub fn load<R: Reader>(alloc: Global, reader: &R, file: &str) -> Result<Linked, Failure<'static>>
     ensures read { IfOk result (λ linked. R.gives reader.now file.now enough linked.bytes) }
-    ensures accepted { IfOk result (λ linked. IsAccepted linked.bytes) }
+    ensures accepted { IfOk result (λ linked. IsAccepted linked.bytes linked.contents) }
 {
     let bytes = reader.read(alloc, file, ENOUGH)?;
     let module = decode(alloc, bytes)?;

@@ -1,13 +1,17 @@
 //! The program: checks WebAssembly modules of strangers and runs their functions.
 #![tactic(auto)]
 
+mod arguments;
+mod calling;
 mod command;
 mod failure;
 mod file;
+mod line;
 mod loading;
 mod number;
 mod perform;
 mod refused;
+mod refusing;
 mod status;
 mod words;
 

@@ -2,16 +2,21 @@
 
 ghost use Rattle.std.specs.Prelude.{◌≡◌, ◌≢◌, ◌≤◌, ◌⊎◌, OnOk, IfOk, codes};
 ghost use Rattle.std.specs.Io.KnownBytes.{Appends};
-ghost use Rattle.wasmloop.specs.Accepted.{HoldsAccepted};
-ghost use Rattle.wasmloop.specs.Performing.{IsDone};
+ghost use Rattle.syntax.specs.declared.module.Contents.{Contents};
+ghost use Rattle.wasmloop.specs.Accepted.{Holds};
+ghost use Rattle.wasmloop.specs.Calling.{HasFunctionReturned};
+ghost use Rattle.wasmloop.specs.Performing.{HasInvoked, IsDone};
 
-use crate::command::Command;
+use crate::arguments::values;
+use crate::calling::{Called, call, exported_function, has_returned};
+use crate::command::{Command, Invocation};
 use crate::failure::Failure;
 use crate::file::Reader;
+use crate::line::EndedLine;
 use crate::loading::load;
 use crate::status::Status;
 use std::alloc::Global;
-use std::io::Write;
+use std::io::{self, Write};
 
 /// Tells whether the module of the file is accepted.
 fn check<R: Reader, O: Write>(
@@ -19,8 +24,8 @@ fn check<R: Reader, O: Write>(
     file: &str,
     reader: &R,
     out: &mut O,
-) -> Result<Status, Failure>
-    ensures accepted { OnOk result (HoldsAccepted (R.gives reader.now) file.now) }
+) -> Result<Status, Failure<'static>>
+    ensures accepted { OnOk result ((contents : Contents) × Holds (R.gives reader.now) file.now contents) }
     ensures told { OnOk result (Appends (O.contents out.old) (O.contents out.new) (codes "accepted\n")) }
 {
     load(alloc, reader, file)?;
@@ -28,8 +33,56 @@ fn check<R: Reader, O: Write>(
     Ok(Status::Done)
 }
 
+/// Calls an exported function of the module, and tells how it ended.
+fn invoke<'a, R: Reader, O: Write>(
+    alloc: Global,
+    invocation: &'a Invocation,
+    reader: &R,
+    out: &mut O,
+) -> Result<Status, Failure<'a>>
+    ensures { IfOk result (λ status. status ≡ Status.Done → HasInvoked (R.gives reader.now) invocation.entry.now) }
+{
+    let linked = load(alloc, reader, invocation.file.as_str())?;
+    let valid = linked.valid();
+    let name = invocation.name.as_str();
+    let Some((function, func_type)) = exported_function(valid, name) else {
+        return Err(Failure::NoFunction(name));
+    };
+    let args = values(
+        alloc,
+        func_type.params.as_slice(),
+        invocation.arguments.as_slice(),
+    )?;
+    let called = call(alloc, valid, function, args.as_slice(), invocation.budget)?;
+    tell_called(&called, out)?;
+    Ok(status_of(&called))
+}
+
+fn tell_called<O: Write>(called: &Called, out: &mut O) -> io::Result<()> {
+    match called {
+        Called::Start(ended) => {
+            let line = EndedLine(ended);
+            writeln!(out, "start {line}")
+        }
+        Called::Function(ended) => {
+            let line = EndedLine(ended);
+            writeln!(out, "{line}")
+        }
+    }
+}
+
+/// Done, where the function was called and returned.
+fn status_of(called: &Called) -> Status
+    ensures { result ≡ Status.Done → HasFunctionReturned called.now }
+{
+    match called {
+        Called::Function(ended) if has_returned(&ended.ending) => Status::Done,
+        _ => Status::Ended,
+    }
+}
+
 /// Tells why there is no result: a refused module to `out`, everything else to `err`.
-fn tell<O: Write, E: Write>(failure: Failure, out: &mut O, err: &mut E) -> Status
+fn tell<O: Write, E: Write>(failure: Failure<'_>, out: &mut O, err: &mut E) -> Status
     ensures { result ≢ Status.Done }
 {
     let status = failure.status();
@@ -59,6 +112,7 @@ pub fn perform<R: Reader, O: Write, E: Write>(
 {
     let result = match command {
         Command::Check { file } => check(alloc, file.as_str(), reader, out),
+        Command::Invoke(invocation) => invoke(alloc, invocation, reader, out),
     };
     let status = match result {
         Ok(status) => status,

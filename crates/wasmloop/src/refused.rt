@@ -2,7 +2,7 @@
 
 ghost use Rattle.std.specs.Prelude.{◌≡◌, ◌⊎◌};
 
-use std::alloc::AllocError;
+use std::alloc::{AllocError, AllocFailed};
 use std::io::Write;
 
 /// Why the words are no command.
@@ -61,6 +61,12 @@ impl Refused {
 
 impl From<AllocError> for Refused {
     fn from(_error: AllocError) -> Refused {
+        Refused::Memory
+    }
+}
+
+impl<T: Drop> From<AllocFailed<T>> for Refused {
+    fn from(_error: AllocFailed<T>) -> Refused {
         Refused::Memory
     }
 }

@@ -1,4 +1,5 @@
 mod check;
+mod invoke;
 mod words;
 
 use crate::file::{ReadFault, Reader};

@@ -1,18 +1,38 @@
 // The words of the command line.
 
-ghost use Rattle.std.specs.Prelude.{◌≡◌, ◌≤◌, IfOk};
+ghost use Rattle.std.specs.Prelude.{◌≤◌, IfOk};
 
-use crate::command::Command;
+use crate::command::{Budget, Command, Invocation};
+use crate::number::decimal;
 use crate::refused::Refused;
 use clap::error::ErrorKind;
-use clap::{Arg, ArgMatches};
+use clap::{Arg, ArgAction, ArgMatches};
 use std::alloc::{AllocError, Global};
+
+/// How many calls may stand open at most.
+const MOST_DEPTH: u64 = 128;
 
 fn file_word<'a>(alloc: Global) -> Arg<'a> {
     Arg::new(alloc, "file")
         .required(true)
         .value_name("FILE")
         .help("The module, in the binary format")
+}
+
+fn fuel_option<'a>(alloc: Global) -> Arg<'a> {
+    Arg::new(alloc, "fuel")
+        .long("fuel")
+        .value_name("N")
+        .default_value("1000000")
+        .help("How many instructions may be run")
+}
+
+fn depth_option<'a>(alloc: Global) -> Arg<'a> {
+    Arg::new(alloc, "depth")
+        .long("depth")
+        .value_name("N")
+        .default_value("64")
+        .help("How many calls may stand open, 1 to 128")
 }
 
 fn check_words<'a>(alloc: Global) -> Result<clap::Command<'a>, AllocError> {
@@ -22,12 +42,35 @@ fn check_words<'a>(alloc: Global) -> Result<clap::Command<'a>, AllocError> {
         .arg(file_word(alloc))
 }
 
+fn invoke_words<'a>(alloc: Global) -> Result<clap::Command<'a>, AllocError> {
+    let name = Arg::new(alloc, "name")
+        .required(true)
+        .value_name("NAME")
+        .help("The function's name among the exports");
+    let arguments = Arg::new(alloc, "arguments")
+        .value_name("ARGS")
+        .num_args(..)
+        .action(ArgAction::Append)
+        .allow_negative_numbers(true)
+        .help("Its arguments, as unsigned decimal numbers");
+    clap::Command::new(alloc, "invoke")
+        .about("Calls an exported function; every import answers -1")
+        .after_help("Example:\n  wasmloop invoke examples/m8.wasm f 0")
+        .arg(file_word(alloc))?
+        .arg(name)?
+        .arg(arguments)?
+        .arg(fuel_option(alloc))?
+        .arg(depth_option(alloc))
+}
+
 fn program_words<'a>(alloc: Global) -> Result<clap::Command<'a>, AllocError> {
     clap::Command::new(alloc, "wasmloop")
         .version("0.1.0")
+        .override_usage("wasmloop <COMMAND>")
         .about("Runs WebAssembly modules of strangers on event loops")
-        .after_help("Example:\n  wasmloop check examples/m1.wasm")
-        .subcommand(check_words(alloc)?)
+        .after_help("Example:\n  wasmloop invoke examples/m8.wasm f 0")
+        .subcommand(check_words(alloc)?)?
+        .subcommand(invoke_words(alloc)?)
 }
 
 fn refused(alloc: Global, error: clap::Error) -> Refused {
@@ -39,26 +82,76 @@ fn refused(alloc: Global, error: clap::Error) -> Refused {
     }
 }
 
-/// A word that the parse asks for, so it is there.
+/// A word that the parse asks for, so that it is there.
 fn word<'a>(matches: &ArgMatches<'a>, id: &str) -> Result<&'a str, Refused> {
     matches.get_str(id).ok_or(Refused::Arguments)
 }
 
+fn text(alloc: Global, matches: &ArgMatches<'_>, id: &str) -> Result<String, Refused> {
+    Ok(String::from_str(alloc, word(matches, id)?)?)
+}
+
+/// The number of an option, which lies between two bounds.
+fn option(
+    alloc: Global,
+    matches: &ArgMatches<'_>,
+    name: &str,
+    least: u64,
+    most: u64,
+) -> Result<u64, Refused>
+    ensures { IfOk result (λ number. (least ≤ number) × (number ≤ most)) }
+{
+    let value = word(matches, name)?;
+    match decimal(value) {
+        Some(number) if least <= number && number <= most => Ok(number),
+        _ => Err(Refused::Usage(format!(in alloc;
+            "error: invalid value '{value}' for '--{name} <N>': no whole number from {least} to {most}\n\n\
+             For more information, try '--help'."
+        )?)),
+    }
+}
+
+fn budget(alloc: Global, matches: &ArgMatches<'_>) -> Result<Budget, Refused> {
+    let fuel = option(alloc, matches, "fuel", 0, u64::MAX)?;
+    let depth = option(alloc, matches, "depth", 1, MOST_DEPTH)? as u32;
+    Ok(Budget { fuel, depth })
+}
+
 fn check(alloc: Global, matches: &ArgMatches<'_>) -> Result<Command, Refused> {
-    let file = String::from_str(alloc, word(matches, "file")?)?;
+    let file = text(alloc, matches, "file")?;
     Ok(Command::Check { file })
 }
 
-/// The command that the words ask for. The first is the program's name.
+fn arguments(alloc: Global, matches: &ArgMatches<'_>) -> Result<Vec<String>, Refused> {
+    let mut found = Vec::new(alloc);
+    for argument in matches.get_strs("arguments").unwrap_or(&[]) {
+        found.push(String::from_str(alloc, argument)?)?;
+    }
+    Ok(found)
+}
+
+fn invoke(alloc: Global, matches: &ArgMatches<'_>) -> Result<Command, Refused> {
+    Ok(Command::Invoke(Invocation {
+        file: text(alloc, matches, "file")?,
+        name: text(alloc, matches, "name")?,
+        arguments: arguments(alloc, matches)?,
+        budget: budget(alloc, matches)?,
+    }))
+}
+
+/// The command that the words ask for. The first of them is the program's name.
 pub fn parse(alloc: Global, words: &[String]) -> Result<Command, Refused> {
     let mut program = program_words(alloc)?;
     let matches = match program.try_get_matches_from_mut(words) {
         Ok(matches) => matches,
         Err(error) => return Err(refused(alloc, error)),
     };
-    if let Some(found) = matches.subcommand_matches("check") {
-        return check(alloc, found);
+    match matches.subcommand() {
+        Some(("check", found)) => check(alloc, found),
+        Some(("invoke", found)) => invoke(alloc, found),
+        _ => Err(refused(
+            alloc,
+            program.error(ErrorKind::MissingSubcommand, "a command is missing")?,
+        )),
     }
-    let error = program.error(ErrorKind::MissingSubcommand, "a command is missing")?;
-    Err(refused(alloc, error))
 }

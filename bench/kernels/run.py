@@ -1,0 +1,80 @@
+#!/usr/bin/env python3
+"""Runs the kernels by the program and by wabt's wasm-interp, side by side.
+
+    python3 bench/kernels/run.py [KERNEL..]
+
+Each KERNEL.c of this folder is compiled by clang, to WebAssembly and natively. A line a kernel: the seconds of both
+interpreters (the best of three runs), and how many times as fast the program is. What the program gives is compared
+with the native run. Without wasm-interp (Debian's package wabt) its column stays empty.
+"""
+import math
+import pathlib
+import re
+import shutil
+import subprocess
+import sys
+import tempfile
+import time
+
+FOLDER = pathlib.Path(__file__).resolve().parent
+PROGRAM = FOLDER.parent.parent / "wasmloop"
+WASM = ["--target=wasm32", "-mno-bulk-memory", "-nostdlib", "-ffreestanding", "-fno-builtin",
+        "-Wl,--no-entry", "-Wl,--export=run", "-Wl,--strip-all", "-Wl,-z,stack-size=16384"]
+ALL_FUEL = str(2**64 - 1)
+RUNS = 3
+
+
+def compiled(kernel, folder):
+    source = str(FOLDER / (kernel + ".c"))
+    module, native = folder / (kernel + ".wasm"), folder / kernel
+    flags = ["clang", "-std=c11", "-O2", "-fno-vectorize", "-fno-slp-vectorize"]
+    subprocess.run(flags + WASM + ["-o", module, source], check=True)
+    subprocess.run(flags + ["-o", native, source, str(FOLDER / "native.c")], check=True)
+    return module, native
+
+
+def timed(command):
+    """The least time of some runs in seconds, and what the last one printed."""
+    least, shown = math.inf, ""
+    for _ in range(RUNS):
+        begin = time.monotonic()
+        shown = subprocess.run(command, capture_output=True, text=True).stdout
+        least = min(least, time.monotonic() - begin)
+    return least, shown
+
+
+def value_in(pattern, shown):
+    found = re.search(pattern, shown)
+    return int(found.group(1)) % 2**32 if found else None
+
+
+def measure(kernel, folder):
+    module, native = compiled(kernel, folder)
+    wanted = int(subprocess.run([native], capture_output=True, text=True, check=True).stdout)
+    ours, shown = timed([PROGRAM, "invoke", module, "run", "--fuel", ALL_FUEL, "--depth", "128"])
+    verdict = "right" if value_in(r"^return (-?\d+) ", shown) == wanted else "WRONG: " + shown.strip()
+    if not shutil.which("wasm-interp"):
+        return ours, None, verdict
+    theirs, shown = timed(["wasm-interp", module, "--run-all-exports"])
+    if value_in(r"run\(\) => i32:(\d+)", shown) != wanted:
+        verdict += ", wasm-interp: " + shown.strip()
+    return ours, theirs, verdict
+
+
+def main(words):
+    kernels = words or sorted(path.stem for path in FOLDER.glob("*.c") if path.stem != "native")
+    subprocess.run([PROGRAM, "--version"], check=True, stdout=subprocess.DEVNULL)
+    ratios = []
+    print("%-8s %10s %12s %7s" % ("kernel", "wasmloop s", "wasm-interp s", "times"))
+    with tempfile.TemporaryDirectory() as folder:
+        for kernel in kernels:
+            ours, theirs, verdict = measure(kernel, pathlib.Path(folder))
+            other = "%13.3f %7.2f" % (theirs, theirs / ours) if theirs else "%21s" % ""
+            print("%-8s %10.3f %s  %s" % (kernel, ours, other, verdict), flush=True)
+            if theirs:
+                ratios.append(theirs / ours)
+    if ratios:
+        print("geometric mean of the times: %.2f" % math.exp(sum(map(math.log, ratios)) / len(ratios)))
+
+
+main(sys.argv[1:])

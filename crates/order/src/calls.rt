@@ -1,0 +1,83 @@
+// The calls of a guest's imports, and their arguments.
+
+ghost use Rattle.std.specs.Prelude.{◌≡◌, [], ◌∷◌, Some, map, slice_get, length};
+ghost use Rattle.syntax.specs.declared.types.ValType.TheVariants as valtype;
+ghost use Rattle.syntax.specs.declared.types.Value.TheVariants as value;
+ghost use Rattle.validate.specs.Typing.{type_of};
+ghost use Rattle.interp.specs.Hosting.{Takes};
+ghost use Rattle.imports.specs.Linking.{Imports};
+ghost use Rattle.imports.specs.Uv.{type_of_call};
+ghost use Rattle.instance.specs.Reads.{with_bytes};
+ghost use Rattle.order.specs.Bytes.{copied_in};
+ghost use Rattle.order.specs.Hosting.{import_types};
+
+use crate::answers::{INVALID, OUTSIDE_MEMORY};
+use imports::{Call, Linked};
+use instance::memory::Memory;
+use interp::host::Args;
+use syntax::types::Value;
+
+/// The function of "uv" that a linked module imports under this number, which is called with these arguments.
+pub fn called(linked: &Linked, import: u32, args: &Args) -> Call
+    requires { Takes (slice_get (import_types linked.now.contents) import) args.now }
+    ensures imported { Imports linked.now.contents import result }
+    ensures typed { map type_of args.now ≡ (type_of_call result).params }
+    ensures answers { slice_get (import_types linked.now.contents) import ≡ Some (type_of_call result) }
+{
+    let Some(call) = linked.call(import) else {
+        unreachable!();
+    };
+    call
+}
+
+fn number_at(args: &Args, index: usize) -> u32
+    requires { slice_get (map type_of args.now) index ≡ Some valtype.I32 }
+    ensures { slice_get args.now index ≡ Some (value.I32 result) }
+{
+    match args.get(index) {
+        Some(Value::I32(number)) => number,
+        _ => unreachable!(),
+    }
+}
+
+/// The argument of a call that takes one i32.
+pub fn one(args: &Args) -> u32
+    requires { map type_of args.now ≡ valtype.I32 ∷ [] }
+    ensures { args.now ≡ value.I32 result ∷ [] }
+{
+    number_at(args, 0)
+}
+
+/// The arguments of a call that takes two i32.
+pub fn two(args: &Args) -> (u32, u32)
+    requires { map type_of args.now ≡ valtype.I32 ∷ valtype.I32 ∷ [] }
+    ensures { args.now ≡ value.I32 result.0 ∷ value.I32 result.1 ∷ [] }
+{
+    (number_at(args, 0), number_at(args, 1))
+}
+
+/// The arguments of a call that takes three i32.
+pub fn three(args: &Args) -> (u32, u32, u32)
+    requires { map type_of args.now ≡ valtype.I32 ∷ valtype.I32 ∷ valtype.I32 ∷ [] }
+    ensures { args.now ≡ value.I32 result.0 ∷ value.I32 result.1 ∷ value.I32 result.2 ∷ [] }
+{
+    (number_at(args, 0), number_at(args, 1), number_at(args, 2))
+}
+
+/// Copies bytes of the input into the guest's memory: -22 where they are not all there, -14 where they don't fit the
+/// memory.
+pub fn copy_in(input: &[u8], to: u32, from: u32, count: u32, memory: &mut Memory) -> u32
+    ensures answer { result ≡ (copied_in (Some input.now) to from count memory.old.bytes).0 }
+    ensures memory { memory.new ≡ with_bytes (copied_in (Some input.now) to from count memory.old.bytes).1 memory.old }
+{
+    let start = from as usize;
+    let end = start + count as usize;
+    if end > input.len() {
+        return INVALID;
+    }
+    if to as usize + count as usize > memory.len() {
+        return OUTSIDE_MEMORY;
+    }
+    memory.write(to as usize, &input[start..end]);
+    0
+}

@@ -1,0 +1,92 @@
+// The host of a work function.
+
+ghost use Rattle.std.specs.Prelude.{◌≡◌, ◌≤◌, [], IfOk, length, vec_capacity};
+ghost use Rattle.std.specs.Arc.{arc_value};
+ghost use Rattle.order.specs.Bytes.{set_out};
+
+use crate::answers::{INVALID, NOT_HERE, OUTSIDE_MEMORY};
+use crate::calls::{called, copy_in, three, two};
+use crate::request::MAX_BYTES;
+use imports::{Call, Linked};
+use instance::memory::Memory;
+use interp::host::{Args, Host};
+use std::alloc::{AllocError, Global};
+use std::sync::Arc;
+use syntax::types::Value;
+
+/// The host of a work function: it has the module, the bytes that there are to read, and the bytes of the reply as
+/// they were set last.
+#[derive(Drop)]
+pub struct WorkHost {
+    pub linked: Arc<Linked, Global>,
+    pub bytes: Arc<Vec<u8>, Global>,
+    pub reply: Vec<u8>,
+    pub ghost few: { length (arc_value bytes).items ≤ 65536 },
+    pub ghost room: { 65536 ≤ vec_capacity reply },
+}
+
+impl WorkHost {
+    /// A host that has set no bytes, with room for all that may be set.
+    pub fn new(
+        alloc: Global,
+        linked: &Arc<Linked, Global>,
+        bytes: &Arc<Vec<u8>, Global>,
+    ) -> Result<WorkHost, AllocError>
+        requires { length (arc_value bytes.now).items ≤ 65536 }
+        ensures linked { IfOk result (λ h. arc_value h.linked ≡ arc_value linked.now) }
+        ensures bytes { IfOk result (λ h. arc_value h.bytes ≡ arc_value bytes.now) }
+        ensures reply { IfOk result (λ h. h.reply.items ≡ []) }
+    {
+        let reply = Vec::with_capacity(alloc, MAX_BYTES)?;
+        Ok(WorkHost {
+            linked: Arc::try_clone(linked)?,
+            bytes: Arc::try_clone(bytes)?,
+            reply,
+        })
+    }
+
+    fn set_out(&mut self, place: u32, count: u32, memory: &Memory) -> u32
+        ensures answer { result ≡ (set_out place count memory.now.bytes self.old.reply.items).0 }
+        ensures reply { self.new.reply.items ≡ (set_out place count memory.now.bytes self.old.reply.items).1 }
+        ensures linked { arc_value self.new.linked ≡ arc_value self.old.linked }
+        ensures bytes { arc_value self.new.bytes ≡ arc_value self.old.bytes }
+    {
+        if count as usize > MAX_BYTES {
+            return INVALID;
+        }
+        let Some(bytes) = memory.read(place as usize, count as usize) else {
+            return OUTSIDE_MEMORY;
+        };
+        self.reply.clear();
+        let Ok(()) = self.reply.extend_from_slice(bytes) else {
+            unreachable!();
+        };
+        0
+    }
+}
+
+impl Host for WorkHost {
+    ghost use Rattle.order.specs.WorkHosting.{types_of_host, Answered};
+
+    ghost types = { types_of_host };
+
+    ghost moves = { Answered };
+
+    fn call(&mut self, import: u32, args: &Args, memory: &mut Memory) -> Option<Value> {
+        let call = called(&self.linked, import, args);
+        let answer = match call {
+            Call::Now => Value::I64(u64::MAX),
+            Call::InLen => Value::I32(self.bytes.len() as u32),
+            Call::InCopy => {
+                let (to, from, count) = three(args);
+                Value::I32(copy_in(self.bytes.as_slice(), to, from, count, memory))
+            }
+            Call::OutSet => {
+                let (place, count) = two(args);
+                Value::I32(self.set_out(place, count, memory))
+            }
+            _ => Value::I32(NOT_HERE),
+        };
+        Some(answer)
+    }
+}

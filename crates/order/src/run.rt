@@ -1,0 +1,160 @@
+// What one thread computes from an order.
+
+ghost use Rattle.std.specs.Prelude.{◌≡◌, ◌≤◌, ℕ, [], ◌∷◌, Some, length, codes, IfOk};
+ghost use Rattle.std.specs.Arc.{arc_value};
+ghost use Rattle.syntax.specs.declared.types.ValType.TheVariants as valtype;
+ghost use Rattle.instance.specs.Fresh.{IsFresh};
+ghost use Rattle.interp.specs.Invoking.{IsStoreOf, TakesArguments, ReturnsTyped};
+ghost use Rattle.interp.specs.Running.{outcome_of, AreResults};
+ghost use Rattle.imports.specs.Linking.{ExportsFunction};
+ghost use Rattle.order.specs.Orders.{order_of, end_of};
+ghost use Rattle.order.specs.Serving.{Serves};
+ghost use Rattle.order.specs.Work.{WorkRun, StartRun, IsEndOf, work_end};
+
+use crate::host::WorkHost;
+use crate::reply::Reply;
+use crate::request::{Order, Outcome};
+use imports::Entry;
+use instance::state::Instance;
+use interp::ended::{Ended, Ending};
+use interp::invoke::invoke;
+use interp::values::Values;
+use std::alloc::{AllocError, Global};
+use syntax::types::Value;
+
+/// How `uv_work`, or the start function where that did not return, reads as an outcome.
+fn outcome_from(ending: Ending, reply: Vec<u8>) -> Outcome
+    requires { AreResults ending (valtype.I32 ∷ []) }
+    ensures { end_of result ≡ work_end (outcome_of ending) reply.items }
+{
+    match ending {
+        Ending::Return(values) => match values.get(0) {
+            Some(Value::I32(value)) => Outcome::Done(value, reply),
+            _ => unreachable!(),
+        },
+        Ending::Trap(trap) => Outcome::Trap(trap),
+        Ending::Depth => Outcome::Depth,
+        Ending::Spent => Outcome::Spent,
+    }
+}
+
+impl Order {
+    /// Runs the order: the start function and then `uv_work` on a new instance, with the fuel that is left. The
+    /// instance and the bytes of the reply are reserved first; where memory is refused there, the reply says so.
+    pub fn run(self, alloc: Global) -> Reply
+        requires work { (f : ℕ) × ExportsFunction (arc_value self.module).contents (codes "uv_work") f }
+        requires bytes { length (arc_value self.bytes).items ≤ 65536 }
+        requires depth { (1 ≤ self.depth) × (self.depth ≤ 128) }
+        ensures { result.order ≡ self }
+    {
+        let outcome = match self.compute(alloc) {
+            Ok(outcome) => outcome,
+            Err(AllocError) => Outcome::NoMemory,
+        };
+        Reply {
+            order: self,
+            outcome,
+        }
+    }
+
+    fn compute(&self, alloc: Global) -> Result<Outcome, AllocError>
+        requires work { (f : ℕ) × ExportsFunction (arc_value self.now.module).contents (codes "uv_work") f }
+        requires bytes { length (arc_value self.now.bytes).items ≤ 65536 }
+        requires depth { (1 ≤ self.now.depth) × (self.now.depth ≤ 128) }
+        ensures { IfOk result (λ outcome. IsEndOf (order_of self.now) (end_of outcome)) }
+    {
+        let mut instance = self.new_instance(alloc)?;
+        let mut host = WorkHost::new(alloc, &self.module, &self.bytes)?;
+        let started = self.start(alloc, &mut instance, &mut host)?;
+        let Ending::Return(_) = started.ending else {
+            return Ok(outcome_from(started.ending, host.reply));
+        };
+        let fuel = self.fuel - started.used;
+        let ended = self.work(alloc, &mut instance, &mut host, fuel)?;
+        Ok(outcome_from(ended.ending, host.reply))
+    }
+
+    fn new_instance(&self, alloc: Global) -> Result<Instance, AllocError>
+        ensures fresh { IfOk result (λ i. IsFresh (arc_value self.now.module).contents i) }
+        ensures store { IfOk result (λ i. IsStoreOf (arc_value self.now.module).contents i) }
+    {
+        let valid = self.module.valid();
+        let _contents = valid.contents();
+        match Instance::new(alloc, valid) {
+            Ok(instance) => Ok(instance),
+            Err(_) => Err(AllocError),
+        }
+    }
+
+    /// The start function, where there is one.
+    fn start(
+        &self,
+        alloc: Global,
+        instance: &mut Instance,
+        host: &mut WorkHost,
+    ) -> Result<Ended, AllocError>
+        requires store { IsStoreOf (arc_value self.now.module).contents instance.old }
+        requires serves { Serves host.old (order_of self.now) }
+        requires empty { host.old.reply.items ≡ [] }
+        requires depth { (1 ≤ self.now.depth) × (self.now.depth ≤ 128) }
+        ensures run { IfOk result (λ ended. StartRun (order_of self.now) (arc_value self.now.module).contents.start instance.old (outcome_of ended.ending) ended.used instance.new host.new.reply.items) }
+        ensures within { IfOk result (λ ended. ended.used ≤ self.now.fuel) }
+        ensures results { IfOk result (λ ended. AreResults ended.ending []) }
+        ensures store { IfOk result (λ _. IsStoreOf (arc_value self.now.module).contents instance.new) }
+        ensures serves { IfOk result (λ _. Serves host.new (order_of self.now)) }
+    {
+        match self.module.valid().contents().start {
+            Some(function) => self.call(alloc, instance, host, function, &[], self.fuel),
+            None => Ok(Ended {
+                ending: Ending::Return(Values::from_slice(&[])),
+                used: 0,
+            }),
+        }
+    }
+
+    /// `uv_work`, with the fuel that is left.
+    fn work(
+        &self,
+        alloc: Global,
+        instance: &mut Instance,
+        host: &mut WorkHost,
+        fuel: u64,
+    ) -> Result<Ended, AllocError>
+        requires work { (f : ℕ) × ExportsFunction (arc_value self.now.module).contents (codes "uv_work") f }
+        requires store { IsStoreOf (arc_value self.now.module).contents instance.old }
+        requires serves { Serves host.old (order_of self.now) }
+        requires depth { (1 ≤ self.now.depth) × (self.now.depth ≤ 128) }
+        ensures run { IfOk result (λ ended. (f : ℕ) × ExportsFunction (arc_value self.now.module).contents (codes "uv_work") f
+            × WorkRun (order_of self.now) fuel instance.old host.old.reply.items f (Value.I32 self.now.op ∷ []) (outcome_of ended.ending) ended.used instance.new host.new.reply.items) }
+        ensures results { IfOk result (λ ended. AreResults ended.ending (valtype.I32 ∷ [])) }
+    {
+        let Some(function) = self.module.entry(Entry::Work) else {
+            unreachable!();
+        };
+        self.call(alloc, instance, host, function, &[Value::I32(self.op)], fuel)
+    }
+
+    /// A function of the order's module.
+    fn call(
+        &self,
+        alloc: Global,
+        instance: &mut Instance,
+        host: &mut WorkHost,
+        function: u32,
+        args: &[Value],
+        fuel: u64,
+    ) -> Result<Ended, AllocError>
+        requires takes { TakesArguments (arc_value self.now.module).contents function args.now }
+        requires store { IsStoreOf (arc_value self.now.module).contents instance.old }
+        requires serves { Serves host.old (order_of self.now) }
+        requires depth { (1 ≤ self.now.depth) × (self.now.depth ≤ 128) }
+        ensures run { IfOk result (λ ended. WorkRun (order_of self.now) fuel instance.old host.old.reply.items function args.now (outcome_of ended.ending) ended.used instance.new host.new.reply.items) }
+        ensures within { IfOk result (λ ended. ended.used ≤ fuel) }
+        ensures results { IfOk result (λ ended. ReturnsTyped (arc_value self.now.module).contents function ended.ending) }
+        ensures store { IfOk result (λ _. IsStoreOf (arc_value self.now.module).contents instance.new) }
+        ensures serves { IfOk result (λ _. Serves host.new (order_of self.now)) }
+    {
+        let valid = self.module.valid();
+        invoke(alloc, valid, instance, host, function, args, fuel, self.depth)
+    }
+}

@@ -1,0 +1,5 @@
+pub mod Booking
+pub mod Finding
+pub mod Rostering
+pub mod Lists
+pub mod Listing

@@ -1,0 +1,35 @@
+-- The asyncs that are active, found from the front.
+use Rattle.std.proofs.Common.{◌≡◌, ℕ, ◌+◌, ◌<◌, Bool, true, false, cond, List, [], ◌∷◌, ◌++◌, length, map, take, get_or, Option, refl, sym, ap, ◌∙◌, append_assoc, append-nil, arith}
+use Rattle.std.proofs.lemmas.List.{take_more, take-append-drop}
+use Rattle.handles.specs.Table.{Table}
+use Rattle.phases.specs.declared.entry.Entry.{Entry}
+use Rattle.phases.specs.declared.entry.Entry.TheVariants.{Async}
+use Rattle.phases.specs.PhaseList.{active_from, is_active_handle}
+
+active_push : (t : Table) (n m : ℕ) (xs : List (Option ℕ)) (x : Option ℕ) → m ≡ n + length xs
+    → active_from t n (xs ++ x ∷ []) ≡ active_from t n xs ++ cond (is_active_handle t x) (m ∷ []) []
+active_push t n m [] x is =
+    let same : n ≡ m = omega arith in
+    append-nil (cond (is_active_handle t x) (n ∷ []) []) ∙ ap (λ k. cond (is_active_handle t x) (k ∷ []) []) same
+active_push t n m (y ∷ ys) x is =
+    ap (λ zs. cond (is_active_handle t y) (n ∷ []) [] ++ zs) (active_push t (n + 1) m ys x (omega arith))
+    ∙ sym (append_assoc (cond (is_active_handle t y) (n ∷ []) []) (active_from t (n + 1) ys) (cond (is_active_handle t x) (m ∷ []) []))
+
+entries_append : (xs ys : List ℕ) → map (λ a. Async a) (xs ++ ys) ≡ map (λ a. Async a) xs ++ map (λ a. Async a) ys
+entries_append [] ys = refl
+entries_append (x ∷ xs) ys = ap (λ es. Async x ∷ es) (entries_append xs ys)
+
+one_entry : (b : Bool) (m : ℕ) → map (λ a. Async a) (cond b (m ∷ []) []) ≡ cond b (Async m ∷ []) []
+one_entry b m = elim b as (λ v. map (λ a. Async a) (cond v (m ∷ []) []) ≡ cond v (Async m ∷ []) []) [ true ↦ refl | false ↦ refl ]
+
+-- one more of them
+pub active_more : (t : Table) (xs : List (Option ℕ)) (i : ℕ) (x d : Option ℕ) → i < length xs → x ≡ get_or xs i d → length (take i xs) ≡ i
+    → map (λ a. Async a) (active_from t 0 (take (i + 1) xs)) ≡ map (λ a. Async a) (active_from t 0 (take i xs)) ++ cond (is_active_handle t x) (Async i ∷ []) []
+active_more t xs i x d within is len =
+    ap (λ ys. map (λ a. Async a) (active_from t 0 ys)) (take_more xs i d within ∙ ap (λ y. take i xs ++ y ∷ []) (sym is))
+    ∙ ap (λ ns. map (λ a. Async a) ns) (active_push t 0 i (take i xs) x (omega arith))
+    ∙ entries_append (active_from t 0 (take i xs)) (cond (is_active_handle t x) (i ∷ []) [])
+    ∙ ap (λ es. map (λ a. Async a) (active_from t 0 (take i xs)) ++ es) (one_entry (is_active_handle t x) i)
+
+pub joined : {X : Type 0} (old mid last items new all : List X) → new ≡ items ++ last → items ≡ old ++ mid → all ≡ mid ++ last → new ≡ old ++ all
+joined old mid last items new all h k l = h ∙ ap (λ ys. ys ++ last) k ∙ append_assoc old mid last ∙ ap (λ ys. old ++ ys) (sym l)

@@ -1,0 +1,17 @@
+use Rattle.std.proofs.Common.{◌≡◌, ◌++◌, ◌+◌, ◌≤◌, ℕ, None, refl, sym, ap, ◌∙◌, append_assoc, arith, length, take, length-take-le, get_or}
+use Rattle.std.proofs.Common.{map, cond, [], ◌∷◌}
+use Rattle.phases.specs.declared.entry.Entry.TheVariants.{Async}
+use Rattle.phases.specs.PhaseList.{active_from, is_active_handle}
+use Rattle.phases.proofs.Listing.{active_more, joined}
+use Rattle.phases.proofs.entries.push_asyncs.Goals as goal
+
+pub loop-async_no-preserved : goal.loop-async_no-preserved
+loop-async_no-preserved c =
+    let xs = c.asyncs-asyncs.result.now in
+    let i = c.loop-async_no.async_no in
+    let within = c.loop-async_no-test.true in
+    let more = active_more c.args.roster.now.handles xs i (get_or xs i None) None within refl (length-take-le i xs (omega arith)) in
+    let t = c.args.roster.now.handles in
+    (joined c.args.items.now.items (map (λ a. Async a) (active_from t 0 (take i xs))) (cond (is_active_handle t (get_or xs i None)) (Async i ∷ []) []) c.loop-async_no.items.items c.push_if_active.new.items.items
+    (map (λ a. Async a) (active_from t 0 (take (i + 1) xs))) c.push_if_active.ensures.entries c.loop-async_no.invariant.0 more,
+     (let few = c.push_if_active.ensures.few in let before = c.loop-async_no.invariant.1 in omega arith))

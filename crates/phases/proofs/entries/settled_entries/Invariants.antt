@@ -1,0 +1,8 @@
+use Rattle.std.proofs.Common.{◌≡◌, ◌≤◌, map, filter, take, length}
+use Rattle.phases.specs.declared.entry.Entry.TheVariants.{After}
+use Rattle.phases.specs.Requests.{is_settled}
+use Rattle.phases.proofs.entries.settled_entries.Given as goal
+
+abbrev pub invariant-loop-request : goal.invariant-loop-request
+invariant-loop-request l =
+    (l.items.items ≡ map (λ r. After r.order.request) (filter (λ r. is_settled r.stage) (take l.request-index l.requests))) × (length l.items.items ≤ l.request-index)

@@ -1,0 +1,29 @@
+use Rattle.std.proofs.Common.{◌≡◌, ◌==◌, ◌<◌, ◌≤◌, Bool, ℕ, sym, ap, ◌∙◌, refl, true, false, Some, None, Option, length, map, filter, set, List}
+use Rattle.std.specs.List.{find, list_any, slice_get}
+use Rattle.std.proofs.lemmas.Bool.{eq-eqb, ne_eqb, eqb-true}
+use Rattle.phases.specs.Requests.{Request, Requests, has_number, is_open_stage, Stage, Open, HandedOut, Cancelled, Answered}
+use Rattle.phases.specs.Fitting.{AreKept, IsTrueTo}
+use Rattle.phases.proofs.Booking.{Staged, Removed, staged_there, removed_there, same_item, set_stage, kept_stage, kept_open, kept_filter, remove_is, found_passes, enough, staged, number_of}
+use Rattle.phases.proofs.requests.Requests.cancel.Goals as goal
+use Rattle.phases.specs.Requests.{in_stage}
+use Rattle.phases.proofs.Booking.{untouched_all}
+
+pub returns-in_default : goal.returns-in_default
+returns-in_default c =
+    rw (← c.self.view_is)
+    (ap (λ (ys : List Request). let rs : Requests = record { outstanding = ys; last = c.self.inside.last } in rs)
+    (sym (untouched_all Cancelled c.args.number c.self.inside.items.items (rw c.as_slice.ensures.value at c.in_default.ensures.none))))
+
+there : (c : goal.After-self-1) → Staged c.self.inside.items.items c.self.inside.last (has_number c.args.number) c.in-Some.at c.index_mut-item.result.now c.cancel.new.self Cancelled
+there c =
+    staged_there c.self.inside.items.items c.self.inside.last c.self.invariant.0 (has_number c.args.number) c.as_slice.result.now c.in-Some.at c.index_mut-item.result.now c.cancel.new.self Cancelled
+    c.as_slice.ensures.value c.in-Some.ensures.some c.index_mut-item.ensures.value c.cancel.ensures tt
+
+pub invariant_of-self : goal.invariant_of-self
+invariant_of-self c = ((there c).kept, c.self.invariant.1)
+
+pub returns : goal.returns
+returns c =
+    rw (← c.self.view_is)
+    (ap (λ (ys : List Request). let rs : Requests = record { outstanding = ys; last = c.self.inside.last } in rs)
+    ((there c).changed ∙ ap (λ n. map (in_stage n Cancelled) c.self.inside.items.items) (eqb-true _ _ (there c).passes)))

@@ -1,0 +1,43 @@
+use Rattle.std.proofs.Common.{◌≡◌, ◌==◌, ◌<◌, ◌≤◌, Bool, ℕ, sym, ap, ◌∙◌, refl, true, false, Some, None, Option, length, map, filter, set, List}
+use Rattle.std.specs.List.{find, list_any, slice_get}
+use Rattle.std.proofs.lemmas.Bool.{eq-eqb, ne_eqb, eqb-true}
+use Rattle.phases.specs.Requests.{Request, Requests, has_number, is_open_stage, Stage, Open, HandedOut, Cancelled, Answered}
+use Rattle.phases.specs.Fitting.{AreKept, IsTrueTo}
+use Rattle.phases.proofs.Booking.{Staged, Removed, staged_there, removed_there, same_item, set_stage, kept_stage, kept_open, kept_filter, remove_is, found_passes, enough, staged, number_of}
+use Rattle.phases.proofs.requests.Requests.next.Goals as goal
+use Rattle.std.proofs.Common.{MatchOption}
+use Rattle.std.specs.Option.{option_map}
+use Rattle.order.specs.declared.request.Order.{Order}
+use Rattle.order.specs.Work.{WorkOrder}
+use Rattle.order.specs.Orders.{order_of}
+
+test : Request → Bool
+test r = is_open_stage r.stage
+
+found_at : (c : goal.After-index_mut-item) → (slice_get c.self.inside.items.items c.in_ok-at.at ≡ Some c.index_mut-item.result.now) × (find (λ r. is_open_stage r.stage) c.self.inside.items.items ≡ Some c.index_mut-item.result.now)
+found_at c =
+    same_item (λ r. is_open_stage r.stage) c.self.inside.items.items c.as_slice.result.now c.in_ok-at.at c.index_mut-item.result.now c.as_slice.ensures.value c.in_ok-at.ensures.some c.index_mut-item.ensures.value
+
+pub hand_out-requires : goal.hand_out-requires
+hand_out-requires c = found_passes (λ r. is_open_stage r.stage) c.self.inside.items.items c.index_mut-item.result.now (found_at c).1
+
+there : (c : goal.After-self-1) → Staged c.self.inside.items.items c.self.inside.last (λ r. is_open_stage r.stage) c.in_ok-at.at c.index_mut-item.result.now c.hand_out.new.self HandedOut
+there c =
+    staged_there c.self.inside.items.items c.self.inside.last c.self.invariant.0 (λ r. is_open_stage r.stage) c.as_slice.result.now c.in_ok-at.at c.index_mut-item.result.now c.hand_out.new.self HandedOut
+    c.as_slice.ensures.value c.in_ok-at.ensures.some c.index_mut-item.ensures.value c.hand_out.ensures.request tt
+
+pub invariant_of-self : goal.invariant_of-self
+invariant_of-self c = ((there c).kept, c.self.invariant.1)
+
+matched : (o : Option Order) (w : WorkOrder) → MatchOption o ⊥ (λ x. order_of x ≡ w) → option_map order_of o ≡ Some w
+matched None w h = absurd h
+matched (Some x) w h = ap Some h
+
+pub returns-clause-order : goal.returns-clause-order
+returns-clause-order c =
+    rw (← c.self.view_is, (there c).there) (matched c.hand_out.result c.index_mut-item.result.now.order c.hand_out.ensures.order)
+
+pub returns-clause-requests : goal.returns-clause-requests
+returns-clause-requests c =
+    rw (← c.self.view_is, (there c).there)
+    (ap (λ (ys : List Request). let rs : Requests = record { outstanding = ys; last = c.self.inside.last } in rs) (there c).changed)

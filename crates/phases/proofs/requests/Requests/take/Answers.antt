@@ -1,0 +1,26 @@
+use Rattle.std.proofs.Common.{◌≡◌, ◌==◌, ◌<◌, ◌≤◌, Bool, ℕ, sym, ap, ◌∙◌, refl, true, false, Some, None, Option, length, map, filter, set, List}
+use Rattle.std.specs.List.{find, list_any, slice_get}
+use Rattle.std.proofs.lemmas.Bool.{eq-eqb, ne_eqb, eqb-true}
+use Rattle.phases.specs.Requests.{Request, Requests, has_number, is_open_stage, Stage, Open, HandedOut, Cancelled, Answered}
+use Rattle.phases.specs.Fitting.{AreKept, IsTrueTo}
+use Rattle.phases.proofs.Booking.{Staged, Removed, staged_there, removed_there, same_item, set_stage, kept_stage, kept_open, kept_filter, remove_is, found_passes, enough, staged, number_of}
+use Rattle.phases.proofs.requests.Requests.take.Goals as goal
+use Rattle.std.proofs.Common.{arith, not}
+
+there : (c : goal.After-into_tidings) → Removed c.self.inside.items.items c.self.inside.last (has_number c.args.number) c.in-Some.at c.remove.result
+there c =
+    removed_there c.self.inside.items.items c.self.inside.last c.self.invariant.0 (has_number c.args.number) c.as_slice.result.now c.in-Some.at c.remove.result
+    c.as_slice.ensures.value c.in-Some.ensures.some c.remove.ensures.value
+
+pub invariant_of-self : goal.invariant_of-self
+invariant_of-self c =
+    (rw c.remove.ensures.items (there c).kept, (let before = c.self.invariant.1 in let same = c.remove.ensures.capacity in omega arith))
+
+pub returns-clause-tidings : goal.returns-clause-tidings
+returns-clause-tidings c = rw (← c.self.view_is, (there c).there) c.into_tidings.ensures
+
+pub returns-clause-removed : goal.returns-clause-removed
+returns-clause-removed c =
+    rw (← c.self.view_is, c.remove.ensures.items)
+    (ap (λ (ys : List Request). let rs : Requests = record { outstanding = ys; last = c.self.inside.last } in rs)
+    ((there c).removed ∙ ap (λ n. filter (λ r. not (has_number n r)) c.self.inside.items.items) (eqb-true _ _ (there c).passes)))

@@ -1,0 +1,7 @@
+use Rattle.std.proofs.Common.{◌≡◌, None, take}
+use Rattle.std.specs.List.{find}
+use Rattle.phases.specs.Requests.{is_open_stage}
+use Rattle.phases.proofs.requests.lowest_open.Given as goal
+
+abbrev pub invariant-loop-at : goal.invariant-loop-at
+invariant-loop-at l = find (λ r. is_open_stage r.stage) (take l.at l.items) ≡ None

@@ -1,0 +1,19 @@
+use Rattle.std.proofs.Common.{◌≡◌, ◌==◌, ◌<◌, ◌≤◌, Bool, ℕ, sym, ap, ◌∙◌, refl, true, false, Some, None, Option, length, map, filter, set, List}
+use Rattle.std.specs.List.{find, list_any, slice_get}
+use Rattle.std.proofs.lemmas.Bool.{eq-eqb, ne_eqb, eqb-true}
+use Rattle.phases.specs.Requests.{Request, Requests, has_number, is_open_stage, Stage, Open, HandedOut, Cancelled, Answered}
+use Rattle.phases.specs.Fitting.{AreKept, IsTrueTo}
+use Rattle.phases.proofs.Booking.{set_stage, kept_stage, kept_open, kept_filter, remove_is, found_passes, enough, staged, number_of}
+use Rattle.phases.proofs.requests.uses_slot.Goals as goal
+use Rattle.phases.proofs.Finding.{any_here, any_passed}
+
+abbrev uses : ℕ → Request → Bool
+uses slot r = r.order.slot == slot
+
+pub loop-item-preserved : goal.loop-item-preserved
+loop-item-preserved c =
+    any_passed (uses c.args.slot) c.args.items.now c.loop-item.item-index c.item-item.result c.loop-item-test.true c.item-item.is c.loop-item.invariant (ne_eqb _ _ (λ same. c.if-slot.false (c.slot.ensures ∙ same)))
+
+pub returns-then-slot : goal.returns-then-slot
+returns-then-slot c =
+    sym (any_here (uses c.args.slot) c.args.items.now c.loop-item.item-index c.item-item.result c.loop-item-test.true c.item-item.is c.loop-item.invariant (eq-eqb _ _ (sym c.slot.ensures ∙ c.if-slot.true)))

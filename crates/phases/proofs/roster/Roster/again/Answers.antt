@@ -1,0 +1,10 @@
+use Rattle.std.proofs.Common.{◌≡◌, ◌≢◌, ◌<◌, ℕ, sym, ap, subst, ◌∙◌, refl, true, arith}
+use Rattle.std.specs.FinMap as finite
+use Rattle.handles.specs.Table.{IsOpen}
+use Rattle.phases.specs.Roster.{Roster, is_callback}
+use Rattle.phases.specs.contracts.roster.Roster.{the_view}
+use Rattle.phases.proofs.Rostering.{kept_again}
+use Rattle.phases.proofs.roster.Roster.again.Goals as goal
+
+pub invariant_of-self-2 : goal.invariant_of-self-2
+invariant_of-self-2 c = rw c.again.ensures.table (kept_again (the_view c.self.inside) c.args.handle c.args.now c.self.invariant (subst (λ (r : Roster). IsOpen r.handles c.args.handle) (sym c.self.view_is) (c.is_open_of.ensures.«open» c.if-not-is_open_of.false).0))

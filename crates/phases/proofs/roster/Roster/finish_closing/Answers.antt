@@ -1,0 +1,11 @@
+use Rattle.std.proofs.Common.{◌≡◌, ◌≢◌, ◌<◌, ℕ, sym, ap, subst, ◌∙◌, refl, true, arith}
+use Rattle.handles.specs.Table.{IsOpen}
+use Rattle.phases.specs.Roster.{Roster, is_callback}
+use Rattle.phases.specs.contracts.roster.Roster.{the_view}
+use Rattle.phases.proofs.Rostering.{kept_remove}
+use Rattle.phases.proofs.roster.Roster.finish_closing.Goals as goal
+
+pub invariant_of-self : goal.invariant_of-self
+invariant_of-self c =
+    rw (c.without_async-self-inside.ensures, c.others_of-self-inside.ensures, c.as_slice-2.ensures.value, c.as_slice.ensures.value, c.remove.ensures)
+    (kept_remove (the_view c.self.inside) c.args.handle c.self.invariant)

@@ -1,0 +1,12 @@
+use Rattle.std.proofs.Common.{◌≡◌, ◌≢◌, ◌<◌, ℕ, sym, ap, subst, ◌∙◌, refl, true, arith}
+use Rattle.handles.specs.Table.{IsOpen}
+use Rattle.phases.specs.Roster.{Roster, is_callback}
+use Rattle.phases.specs.contracts.roster.Roster.{the_view}
+use Rattle.phases.proofs.Rostering.{kept_again}
+use Rattle.phases.proofs.roster.Roster.fire.Goals as goal
+
+pub invariant_of-self : goal.invariant_of-self
+invariant_of-self c =
+    rw c.again.ensures.table
+    (kept_again (the_view c.self.inside) c.args.handle c.args.now c.self.invariant
+    (subst (λ (r : Roster). IsOpen r.handles c.args.handle) (sym c.self.view_is) c.in_ok-function.ensures.there.0))

@@ -1,0 +1,16 @@
+use Rattle.std.proofs.Common.{◌≡◌, ◌≢◌, ◌<◌, ℕ, sym, ap, subst, ◌∙◌, refl, true, arith}
+use Rattle.std.specs.FinMap as finite
+use Rattle.handles.specs.Table.{IsOpen}
+use Rattle.phases.specs.Roster.{Roster, is_callback}
+use Rattle.phases.specs.contracts.roster.Roster.{the_view}
+use Rattle.phases.proofs.Rostering.{kept_async, made_async_open}
+use Rattle.phases.proofs.roster.Roster.init_async.Goals as goal
+
+pub start-requires : goal.start-requires
+start-requires c = rw c.in-Some.ensures.added (made_async_open c.self.inside.handles c.in-Some.handle)
+
+pub invariant_of-self-2 : goal.invariant_of-self-2
+invariant_of-self-2 c =
+    rw (c.start.ensures, c.push.ensures.items, c.in-Some.ensures.added)
+    (kept_async (the_view c.self.inside) c.in-Some.handle c.args.callback c.self.invariant c.in-Some.ensures.free (λ (full : finite.len c.self.inside.handles.records ≡ 64). let bad = c.in-Some.ensures.full.1 full in cc)
+    (subst (λ (r : Roster). is_callback r c.args.callback ≡ true) (sym c.self.view_is) (sym c.is_callback.ensures ∙ c.if-not-is_callback.false)))

@@ -1,0 +1,6 @@
+use Rattle.std.proofs.Common.{◌≡◌, ◌≢◌, ◌<◌, ℕ, sym, ap, ◌∙◌, refl, true, arith}
+use Rattle.phases.proofs.Rostering.{kept_empty}
+use Rattle.phases.proofs.roster.Roster.new.Goals as goal
+
+pub invariant_of-result : goal.invariant_of-result
+invariant_of-result c = rw (c.in_ok-new.ensures, c.new-2.ensures, c.new-3.ensures) (kept_empty c.args.callbacks.items)

@@ -1,0 +1,10 @@
+use Rattle.std.proofs.Common.{◌≡◌, ◌≢◌, ◌<◌, ℕ, sym, ap, subst, ◌∙◌, refl, true, arith}
+use Rattle.std.specs.FinMap as finite
+use Rattle.handles.specs.Table.{IsOpen}
+use Rattle.phases.specs.Roster.{Roster, is_callback}
+use Rattle.phases.specs.contracts.roster.Roster.{the_view}
+use Rattle.phases.proofs.Rostering.{kept_stop}
+use Rattle.phases.proofs.roster.Roster.stop.Goals as goal
+
+pub invariant_of-self : goal.invariant_of-self
+invariant_of-self c = rw c.stop.ensures (kept_stop (the_view c.self.inside) c.args.handle c.self.invariant (subst (λ (r : Roster). IsOpen r.handles c.args.handle) (sym c.self.view_is) (c.is_open_of.ensures.«open» c.if-not-is_open_of.false).0))

@@ -1,0 +1,160 @@
+-- What a loop answers to a guest in a callback: each function of "uv".
+use Rattle.std.specs.Prelude.{◌≡◌, ℕ, ◌+◌, ◌<◌, ◌==◌, Bool, true, false, ◌&&◌, not, MatchBool, MatchOption, ◌⊎◌, List, [], ◌∷◌, ◌++◌, length, nat_le, nat_lt, Option, Some, None, codes, if◌then◌else◌}
+use Rattle.syntax.specs.declared.types.Value.{Value}
+use Rattle.syntax.specs.declared.types.Value.TheVariants.{I32, I64}
+use Rattle.handles.specs.declared.handle.Kind.TheVariants as kind
+use Rattle.handles.specs.Table.{saturated}
+use Rattle.interp.specs.Run.{HostCall}
+use Rattle.imports.specs.declared.call.Call.{Call}
+use Rattle.imports.specs.declared.call.Call.TheVariants.{Now, TimerInit, IdleInit, CheckInit, TimerStart, TimerStop, IdleStop, CheckStop, TimerAgain, IdleStart, CheckStart, AsyncInit, AsyncSend, IsActive, Close, QueueWork, Cancel, InLen, InCopy, OutSet, Emit}
+use Rattle.imports.specs.Linking.{Imports}
+use Rattle.order.specs.Numbers.{not_here, no_room, no_memory, outside_memory, busy, invalid, none_left, no_such_export}
+use Rattle.order.specs.Bytes.{input_length, copied_in, taken_out}
+use Rattle.order.specs.Work.{WorkOrder}
+use Rattle.phases.specs.declared.progress.Standing.{Standing}
+use Rattle.phases.specs.declared.progress.Standing.TheVariants.{Unknown, Pending}
+use Rattle.phases.specs.declared.progress.Standing.TheVariants as standing
+use Rattle.phases.specs.Roster.{Roster, is_open_of, async_number, with_made, Makes, MakesAsync, stopped_in, started_in, again_in, closed_in, active_answer}
+use Rattle.phases.specs.Requests.{Requests, Request, Stage, Open, HandedOut, Answered, Cancelled, request_of, with_stage, with_work, is_free_slot}
+use Rattle.phases.specs.PhaseList.{exports}
+use Rattle.phases.specs.State.{Setting, State}
+use Rattle.phases.specs.Calls.{Calls}
+
+abbrev pub with_roster : State → Roster → State
+with_roster s roster = record s { roster = roster }
+
+abbrev pub with_requests : State → Requests → State
+with_requests s requests = record s { requests = requests }
+
+-- a number is emitted, of which a callback has 64
+abbrev pub emitted_in : (value : ℕ) → State → ℕ × State
+emitted_in value s = if nat_le 64 (length s.emits) then (none_left, s) else (0, record s { emits = s.emits ++ value ∷ [] })
+
+-- the order that a loop makes of a guest's operation and bytes
+abbrev pub next_work : Setting → Requests → (slot op : ℕ) → List ℕ → WorkOrder
+next_work g rs slot op bytes = record {
+  loop_no = g.loop_no;
+  request = rs.last + 1;
+  slot = slot;
+  loaded = g.loaded;
+  op = op;
+  bytes = bytes;
+  fuel = g.work_fuel;
+  depth = g.depth;
+}
+
+-- whether a request can be cancelled
+abbrev pub stage_standing : (slot : ℕ) → Stage → Standing
+stage_standing slot Open = Pending slot
+stage_standing slot HandedOut = Pending slot
+stage_standing slot (Answered end) = standing.Answered
+stage_standing slot Cancelled = Unknown
+
+-- a request that is not outstanding or is cancelled already is unknown
+abbrev pub request_standing : Option Request → Standing
+request_standing None = Unknown
+request_standing (Some r) = stage_standing r.order.slot r.stage
+
+abbrev pub standing_of : Requests → ℕ → Standing
+standing_of rs number = request_standing (request_of rs number)
+
+module _ {S : Type 0} (calls : Calls S) where
+  -- A pending request is cancelled where the shared object says so; else a worker has started it.
+  abbrev pub CancelsAt : Standing → Requests × S → (number answer : ℕ) → Requests × S → Type 0
+  CancelsAt Unknown old number answer new = (answer ≡ invalid) × (new ≡ old)
+  CancelsAt standing.Answered old number answer new = (answer ≡ busy) × (new ≡ old)
+  CancelsAt (Pending slot) old number answer new =
+      (won : Bool) × calls.cancels old.1 slot number won new.1
+      × (answer ≡ (if won then 0 else busy))
+      × (new.0 ≡ (if won then with_stage old.0 number Cancelled else old.0))
+
+  abbrev pub Cancels : Requests × S → (number answer : ℕ) → Requests × S → Type 0
+  Cancels old number answer new = CancelsAt (standing_of old.0 number) old number answer new
+
+  -- the request is opened in any free slot
+  pub record Opens (g : Setting) (old : Requests × S) (op : ℕ) (bytes : List ℕ) (answer : ℕ) (new : Requests × S) : Type 0 where
+    pub slot : ℕ
+    pub below : slot < 32
+    pub free : is_free_slot old.0 slot ≡ true
+    pub opened : calls.opens old.1 slot (old.0.last + 1) new.1
+    pub answered : answer ≡ old.0.last + 1
+    pub kept : new.0 ≡ with_work old.0 (next_work g old.0 slot op bytes)
+
+  -- Asks for work on the bytes at a place of the memory. Where memory is refused, nothing changes.
+  abbrev pub QueuesWork : Setting → (memory : List ℕ) → Requests × S → (op place count answer : ℕ) → Requests × S → Type 0
+  QueuesWork g memory old op place count answer new =
+      MatchBool (not (exports g.loaded.contents (codes "uv_work") && exports g.loaded.contents (codes "uv_after_work")))
+      ((answer ≡ no_such_export) × (new ≡ old))
+      (MatchBool (nat_lt 65536 count)
+      ((answer ≡ invalid) × (new ≡ old))
+      (MatchBool (nat_lt (length memory) (place + count))
+      ((answer ≡ outside_memory) × (new ≡ old))
+      (MatchBool (length old.0.outstanding == 32)
+      ((answer ≡ no_room) × (new ≡ old))
+      (MatchBool (old.0.last == 2147483647)
+      ((answer ≡ none_left) × (new ≡ old))
+      (((answer ≡ no_memory) × (new ≡ old)) ⊎ Opens g old op (taken_out place count memory) answer new)))))
+
+  -- a send to an async of the loop goes to the shared object
+  abbrev pub Sends : Roster → S → (handle answer : ℕ) → S → Type 0
+  Sends r old handle answer new =
+      MatchBool (not (is_open_of kind.Async r handle))
+      ((answer ≡ invalid) × (new ≡ old))
+      ((sent : Bool) × calls.sends old (async_number r handle) sent new × (answer ≡ (if sent then 0 else none_left)))
+
+module _ {S : Type 0} (calls : Calls S) (g : Setting) (old : State × S) (call : HostCall) (new : State × S) where
+  -- this number is answered, and the memory stays
+  abbrev pub Says : ℕ → Type 0
+  Says answer = (call.answer ≡ Some (I32 answer)) × (call.after ≡ call.before)
+
+  -- an answer that is determined, with what it makes of the state
+  abbrev pub Does : ℕ × State → Type 0
+  Does done = Says done.0 × (new ≡ (done.1, old.1))
+
+  abbrev pub DoesTo : ℕ × Roster → Type 0
+  DoesTo done = Does (done.0, with_roster old.0 done.1)
+
+  -- some answer in a relation to the handles after it
+  abbrev pub Relates : ((answer : ℕ) → Roster → Type 0) → Type 0
+  Relates R = (answer : ℕ) × (roster : Roster) × R answer roster × Says answer × (new ≡ (with_roster old.0 roster, old.1))
+
+  -- the same of the requests and the shared object
+  abbrev pub RelatesWork : ((answer : ℕ) → Requests × S → Type 0) → Type 0
+  RelatesWork R = (answer : ℕ) × (requests : Requests) × R answer (requests, new.1) × Says answer × (new.0 ≡ with_requests old.0 requests)
+
+  abbrev pub CopiesIn : (to from count : ℕ) → Type 0
+  CopiesIn to from count =
+      let copied = copied_in old.0.reply to from count call.before in
+      (call.answer ≡ Some (I32 copied.0)) × (new ≡ old) × (call.after ≡ copied.1)
+
+  -- Numbers are read as unsigned. No other arguments come.
+  abbrev pub CallStep : Call → List Value → Type 0
+  CallStep Now [] = (call.answer ≡ Some (I64 old.0.now)) × (call.after ≡ call.before) × (new ≡ old)
+  CallStep TimerInit [] = Relates (Makes (with_made kind.Timer) old.0.roster)
+  CallStep IdleInit [] = Relates (Makes (with_made kind.Idle) old.0.roster)
+  CallStep CheckInit [] = Relates (Makes (with_made kind.Check) old.0.roster)
+  CallStep TimerStart (I32 handle ∷ I32 callback ∷ I64 timeout ∷ I64 repeat ∷ []) =
+      DoesTo (started_in kind.Timer handle callback (saturated (old.0.now + timeout)) repeat old.0.roster)
+  CallStep TimerStop (I32 handle ∷ []) = DoesTo (stopped_in kind.Timer handle old.0.roster)
+  CallStep IdleStop (I32 handle ∷ []) = DoesTo (stopped_in kind.Idle handle old.0.roster)
+  CallStep CheckStop (I32 handle ∷ []) = DoesTo (stopped_in kind.Check handle old.0.roster)
+  CallStep TimerAgain (I32 handle ∷ []) = DoesTo (again_in handle old.0.now old.0.roster)
+  CallStep IdleStart (I32 handle ∷ I32 callback ∷ []) = DoesTo (started_in kind.Idle handle callback 0 0 old.0.roster)
+  CallStep CheckStart (I32 handle ∷ I32 callback ∷ []) = DoesTo (started_in kind.Check handle callback 0 0 old.0.roster)
+  CallStep AsyncInit (I32 callback ∷ []) = Relates (MakesAsync callback old.0.roster)
+  CallStep AsyncSend (I32 handle ∷ []) =
+      (answer : ℕ) × Sends calls old.0.roster old.1 handle answer new.1 × Says answer × (new.0 ≡ old.0)
+  CallStep IsActive (I32 handle ∷ []) = Does (active_answer old.0.roster handle, old.0)
+  CallStep Close (I32 handle ∷ I32 callback ∷ []) = DoesTo (closed_in handle callback old.0.roster)
+  CallStep QueueWork (I32 op ∷ I32 place ∷ I32 count ∷ []) =
+      RelatesWork (λ answer after. QueuesWork calls g call.before (old.0.requests, old.1) op place count answer after)
+  CallStep Cancel (I32 number ∷ []) = RelatesWork (λ answer after. Cancels calls (old.0.requests, old.1) number answer after)
+  CallStep InLen [] = Does (input_length old.0.reply, old.0)
+  CallStep InCopy (I32 to ∷ I32 from ∷ I32 count ∷ []) = CopiesIn to from count
+  CallStep OutSet (I32 place ∷ I32 count ∷ []) = Does (not_here, old.0)
+  CallStep Emit (I64 value ∷ []) = Does (emitted_in value old.0)
+  CallStep _ _ = ⊥
+
+  -- one call of a guest
+  abbrev pub HostStep : Type 0
+  HostStep = (f : Call) × Imports g.loaded.contents call.function f × CallStep f call.args

@@ -1,0 +1,72 @@
+-- The calls of a loop's owner, other than its step.
+use Rattle.std.specs.Prelude.{◌≡◌, ℕ, Bool, true, false, max, Option, Some, None, ◌==◌}
+use Rattle.order.specs.Numbers.{not_here}
+use Rattle.order.specs.Work.{WorkOrder, WorkEnd}
+use Rattle.phases.specs.Calls.{Calls, OtherCalls}
+use Rattle.phases.specs.declared.entry.Status.{Status}
+use Rattle.phases.specs.declared.entry.Status.TheVariants.{Failed}
+use Rattle.phases.specs.Requests.{Requests, Request, Stage, Open, HandedOut, Answered, Cancelled, request_of, lowest_open, with_stage, is_settled}
+use Rattle.phases.specs.State.{Loop, State}
+use Rattle.phases.specs.Host.{Cancels, with_requests}
+
+abbrev pub is_failed : Status → Bool
+is_failed Failed = true
+is_failed _ = false
+
+-- the clock is raised to a moment, unless the loop has failed
+abbrev pub clock_in : Status → (clock ms : ℕ) → ℕ
+clock_in Failed clock ms = clock
+clock_in _ clock ms = max clock ms
+
+abbrev pub after_clock : State → (ms : ℕ) → State
+after_clock s ms = record s { clock = clock_in s.status s.clock ms }
+
+-- the lowest open request's order is handed out, if there is one
+abbrev pub handing : Requests → Option Request → Option WorkOrder × Requests
+handing rs None = (None, rs)
+handing rs (Some r) = (Some r.order, with_stage rs r.order.request HandedOut)
+
+abbrev pub next_of : Requests → Option WorkOrder × Requests
+next_of rs = handing rs (lowest_open rs)
+
+-- a failed loop hands out nothing
+abbrev pub next_in : Status → State → Option WorkOrder × State
+next_in Failed s = (None, s)
+next_in _ s = ((next_of s.requests).0, with_requests s (next_of s.requests).1)
+
+abbrev pub next_order_of : State → Option WorkOrder × State
+next_order_of s = next_in s.status s
+
+-- The order is that of an outstanding request, in every field, and that request is neither answered nor cancelled.
+pub record IsOneOf (o : WorkOrder) (rs : Requests) : Type 0 where
+  pub request : Request
+  pub outstanding : request_of rs o.request ≡ Some request
+  pub order : request.order ≡ o
+  pub unsettled : is_settled request.stage ≡ false
+
+-- a reply is taken by a loop that has not failed, if its order is one of the loop's
+pub record Takes (o : WorkOrder) (s : State) : Type 0 where
+  pub goes_on : is_failed s.status ≡ false
+  pub one : IsOneOf o s.requests
+
+-- the requests after a reply is taken
+abbrev pub answered : Requests → WorkOrder → WorkEnd → Requests
+answered rs o end = with_stage rs o.request (Answered end)
+
+module _ {S : Type 0} (calls : Calls S) where
+  -- the owner's cancel answers as a guest's, and -1 on a failed loop
+  abbrev pub CancelIn : Status → State × S → (number answer : ℕ) → State × S → Type 0
+  CancelIn Failed old number answer new = (answer ≡ not_here) × (new ≡ old)
+  CancelIn _ old number answer new =
+      (requests : Requests) × Cancels calls (old.0.requests, old.1) number answer (requests, new.1)
+      × (new.0 ≡ with_requests old.0 requests)
+
+-- a worker's start, and another's send: the shared object moves, and all else stays
+module _ {S : Type 0} (others : OtherCalls S) where
+  abbrev pub StartsBeside : Loop S → (slot request : ℕ) → Bool → Loop S → Type 0
+  StartsBeside old slot request answer new =
+      others.starts old.shared slot request answer new.shared × (new.state ≡ old.state) × (new.store ≡ old.store)
+
+  abbrev pub SendsBeside : Loop S → (async_no : ℕ) → Bool → Loop S → Type 0
+  SendsBeside old async_no answer new =
+      others.gets old.shared async_no answer new.shared × (new.state ≡ old.state) × (new.store ≡ old.store)

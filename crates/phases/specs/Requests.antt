@@ -1,0 +1,87 @@
+-- The outstanding requests of a loop.
+use Rattle.std.specs.Prelude.{◌≡◌, ℕ, ◌==◌, Bool, true, false, not, List, [], ◌∷◌, ◌++◌, length, map, filter, find, Option, Some, None, if◌then◌else◌}
+use Rattle.std.specs.List.{list_any}
+use Rattle.order.specs.Numbers.{no_memory, cancelled_code}
+use Rattle.order.specs.Work.{WorkOrder, WorkEnd, Done, Trap, Depth, Spent, NoMemory}
+
+-- how far a request has come: not handed out, handed out, answered by a reply, or cancelled
+pub data Stage : Type 0 where
+  Open : Stage
+  HandedOut : Stage
+  Answered : (end : WorkEnd) → Stage
+  Cancelled : Stage
+
+pub record Request : Type 0 where
+  pub order : WorkOrder
+  pub stage : Stage
+
+-- the outstanding requests by their numbers, which rise, and the last number that was given, 0 where none was
+pub record Requests : Type 0 where
+  pub outstanding : List Request
+  pub last : ℕ
+
+abbrev pub no_requests : Requests
+no_requests = record { outstanding = []; last = 0 }
+
+abbrev pub has_number : ℕ → Request → Bool
+has_number number r = r.order.request == number
+
+-- the outstanding request of a number
+abbrev pub request_of : Requests → ℕ → Option Request
+request_of rs number = find (has_number number) rs.outstanding
+
+-- the request of a number in another stage
+abbrev pub in_stage : ℕ → Stage → Request → Request
+in_stage number stage r = if has_number number r then record r { stage = stage } else r
+
+abbrev pub with_stage : Requests → ℕ → Stage → Requests
+with_stage rs number stage = record rs { outstanding = map (in_stage number stage) rs.outstanding }
+
+abbrev pub without_request : Requests → ℕ → Requests
+without_request rs number = record rs { outstanding = filter (λ r. not (has_number number r)) rs.outstanding }
+
+-- a request more, which is not handed out yet
+abbrev pub with_work : Requests → WorkOrder → Requests
+with_work rs o = record { outstanding = rs.outstanding ++ record { order = o; stage = Open } ∷ []; last = o.request }
+
+-- no outstanding request has this slot
+abbrev pub is_free_slot : Requests → ℕ → Bool
+is_free_slot rs slot = not (list_any (λ r. r.order.slot == slot) rs.outstanding)
+
+-- answered or cancelled
+abbrev pub is_settled : Stage → Bool
+is_settled Open = false
+is_settled HandedOut = false
+is_settled (Answered end) = true
+is_settled Cancelled = true
+
+abbrev pub settled : Requests → List Request
+settled rs = filter (λ r. is_settled r.stage) rs.outstanding
+
+abbrev pub is_open_stage : Stage → Bool
+is_open_stage Open = true
+is_open_stage _ = false
+
+-- the lowest request that is not handed out
+abbrev pub lowest_open : Requests → Option Request
+lowest_open rs = find (λ r. is_open_stage r.stage) rs.outstanding
+
+-- kind and code that an after-work callback is given, and the bytes that it may read
+pub record Tidings : Type 0 where
+  pub kind : ℕ
+  pub code : ℕ
+  pub bytes : List ℕ
+
+abbrev pub end_tidings : WorkEnd → Tidings
+end_tidings (Done value bytes) = record { kind = 0; code = value; bytes = bytes }
+end_tidings (Trap code) = record { kind = 1; code = code; bytes = [] }
+end_tidings Depth = record { kind = 2; code = 0; bytes = [] }
+end_tidings Spent = record { kind = 3; code = 0; bytes = [] }
+end_tidings NoMemory = record { kind = 4; code = no_memory; bytes = [] }
+
+-- as much as an after-work callback is told of a settled request
+abbrev pub tidings_of : Stage → Option Tidings
+tidings_of Open = None
+tidings_of HandedOut = None
+tidings_of (Answered end) = Some (end_tidings end)
+tidings_of Cancelled = Some (record { kind = 5; code = cancelled_code; bytes = [] })

@@ -1,0 +1,167 @@
+-- One step of a loop.
+use Rattle.std.specs.Prelude.{◌≡◌, ℕ, ◌==◌, Bool, true, false, ◌&&◌, not, MatchBool, MatchOption, List, [], ◌∷◌, Option, Some, None, codes, if◌then◌else◌}
+use Rattle.std.specs.Option.{option_map_or, option_and_then}
+use Rattle.syntax.specs.declared.types.Value.{Value}
+use Rattle.syntax.specs.declared.types.Value.TheVariants.{I32}
+use Rattle.handles.specs.declared.handle.Kind.{Kind}
+use Rattle.handles.specs.declared.handle.Kind.TheVariants as handle_kind
+use Rattle.handles.specs.Table.{record_of, same_kind, after_again}
+use Rattle.instance.specs.Store.{Store}
+use Rattle.interp.specs.Run.{HostCall}
+use Rattle.interp.specs.Running.{outcome_of}
+use Rattle.interp.specs.Hosting.{Lawful}
+use Rattle.interp.specs.Invoking.{Invokes}
+use Rattle.interp.specs.declared.ended.Ending.{Ending}
+use Rattle.interp.specs.declared.ended.Ending.TheVariants as ending
+use Rattle.interp.specs.declared.ended.Ended.{Ended}
+use Rattle.imports.specs.Linking.{ExportsFunction}
+use Rattle.phases.specs.declared.did.StepDid.{StepDid}
+use Rattle.phases.specs.declared.did.StepDid.TheVariants.{Entered, Ran, Skipped}
+use Rattle.phases.specs.declared.did.StepDid.TheVariants as step
+use Rattle.phases.specs.declared.entry.EntryKind.{EntryKind}
+use Rattle.phases.specs.declared.entry.EntryKind.TheVariants as kind
+use Rattle.phases.specs.declared.entry.Phase.{Phase}
+use Rattle.phases.specs.declared.entry.Phase.TheVariants.{Timers}
+use Rattle.phases.specs.declared.entry.Entry.{Entry}
+use Rattle.phases.specs.declared.entry.Entry.TheVariants as entry
+use Rattle.phases.specs.declared.entry.Status.{Status}
+use Rattle.phases.specs.declared.entry.Status.TheVariants.{Running, Over, Failed}
+use Rattle.phases.specs.Roster.{Roster, callback_function, async_handle, with_handles, without_handle}
+use Rattle.phases.specs.Requests.{Requests, Request, Tidings, request_of, without_request, tidings_of}
+use Rattle.phases.specs.State.{Setting, Loop, State}
+use Rattle.phases.specs.PhaseList.{phase_list, next_phase, may_end, is_alive, is_active_handle}
+use Rattle.phases.specs.Calls.{Calls}
+use Rattle.phases.specs.Host.{HostStep, with_roster, with_requests}
+
+abbrev pub returns : Ending → Bool
+returns (ending.Return results) = true
+returns _ = false
+
+-- the loop as a callback begins, and as it has ended
+abbrev pub begun : State → Option (List ℕ) → State
+begun s reply = record s { reply = reply; emits = [] }
+
+abbrev pub finished : State → Ended → State
+finished s ended = record s { reply = None; status = (if returns ended.ending then s.status else Failed) }
+
+-- the handle is still one of this kind, active under the start number with which it was listed
+abbrev pub is_as_listed : Kind → Roster → (handle start : ℕ) → Bool
+is_as_listed k r handle start =
+    option_map_or (λ it. same_kind it.kind k && (it.active && (it.start == start))) (record_of r.handles handle) false
+
+-- the function of a handle's callback
+abbrev pub handle_function : Roster → ℕ → Option ℕ
+handle_function r handle = option_and_then (λ it. callback_function r.callbacks it.callback) (record_of r.handles handle)
+
+-- the moment of a loop that enters a phase
+abbrev pub moment_in : Phase → (clock now : ℕ) → ℕ
+moment_in Timers clock now = clock
+moment_in _ clock now = now
+
+abbrev pub now_in : State → Phase → ℕ
+now_in s phase = moment_in phase s.clock s.now
+
+-- the loop in a phase, with the phase's list
+abbrev pub in_phase : State → Phase → State
+in_phase s phase = record s { now = now_in s phase; phase = phase }
+
+abbrev pub entered : State → Phase → State
+entered s phase = record (in_phase s phase) { list = phase_list (in_phase s phase) phase }
+
+-- A list is used up: the loop is over, or the next phase is entered.
+abbrev pub turn : State → StepDid × State
+turn s =
+    if may_end s.phase && not (is_alive s)
+    then (step.Over, record s { status = Over })
+    else (Entered (next_phase s.phase) (now_in s (next_phase s.phase)), entered s (next_phase s.phase))
+
+module _ {S : Type 0} where
+  -- the loop in another state
+  abbrev pub in_state : Loop S → State → Loop S
+  in_state l s = record { state = s; store = l.store; shared = l.shared }
+
+  abbrev pub sharing : Loop S → S → Loop S
+  sharing l shared = record { state = l.state; store = l.store; shared = shared }
+
+module _ {S : Type 0} (calls : Calls S) (g : Setting) where
+  -- From this loop a callback runs, which may read these bytes. Where it does not return, the loop has failed.
+  pub record RunsFrom (old : Loop S) (kind : EntryKind) (number function : ℕ) (args : List Value) (reply : Option (List ℕ)) (did : StepDid) (new : Loop S) : Type 0 where
+    pub trace : List HostCall
+    pub ended : Ended
+    pub state : State
+    pub run : Invokes g.loaded.contents g.depth g.fuel old.store function args trace (outcome_of ended.ending) ended.used new.store
+    pub answers : Lawful (HostStep calls g) trace (begun old.state reply, old.shared) (state, new.shared)
+    pub told : did ≡ Ran kind number ended
+    pub finished : new.state ≡ finished state ended
+
+  -- the same of a function that may be known
+  abbrev pub CallsBack : Loop S → EntryKind → ℕ → Option ℕ → List Value → StepDid → Loop S → Type 0
+  CallsBack old kind number function args did new =
+      MatchOption function ⊥ (λ f. RunsFrom old kind number f args None did new)
+
+  -- the callback that a handle has in a state: it is given the handle's number
+  abbrev pub CallsHandle : Loop S → Roster → EntryKind → (handle : ℕ) → StepDid → Loop S → Type 0
+  CallsHandle old r kind handle did new = CallsBack old kind handle (handle_function r handle) (I32 handle ∷ []) did new
+
+  abbrev pub Skips : Loop S → EntryKind → ℕ → StepDid → Loop S → Type 0
+  Skips old kind number did new = (did ≡ Skipped kind number) × (new ≡ old)
+
+  -- an active async: the count is taken first, and where it is 0 nothing runs
+  abbrev pub TakesFirst : Loop S → (async_no handle : ℕ) → StepDid → Loop S → Type 0
+  TakesFirst old async_no handle did new =
+      (count : ℕ) × (shared : S) × calls.takes old.shared async_no count shared
+      × MatchBool (count == 0)
+      (Skips (sharing old shared) kind.Async handle did new)
+      (CallsHandle (sharing old shared) old.state.roster kind.Async handle did new)
+
+  abbrev pub AfterWork : Loop S → ℕ → Option Tidings → StepDid → Loop S → Type 0
+  AfterWork old number None did new = ⊥
+  AfterWork old number (Some tidings) did new =
+      (f : ℕ) × ExportsFunction g.loaded.contents (codes "uv_after_work") f
+      × RunsFrom (in_state old (with_requests old.state (without_request old.state.requests number))) kind.After number f
+      (I32 number ∷ I32 tidings.kind ∷ I32 tidings.code ∷ []) (Some tidings.bytes) did new
+
+  -- What an entry of a list does, which is taken off the list before.
+  abbrev pub EntryStep : Loop S → Entry → StepDid → Loop S → Type 0
+  EntryStep old entry.Start did new = CallsBack old kind.Start 0 g.loaded.contents.start [] did new
+  EntryStep old entry.Main did new =
+      (f : ℕ) × ExportsFunction g.loaded.contents (codes "uv_main") f × RunsFrom old kind.Main 0 f [] None did new
+  -- a timer is first made inactive, or started again where it repeats
+  EntryStep old (entry.Timer handle start) did new =
+      MatchBool (is_as_listed handle_kind.Timer old.state.roster handle start)
+      (CallsHandle (in_state old (with_roster old.state (with_handles old.state.roster (after_again old.state.roster.handles handle old.state.now)))) old.state.roster kind.Timer handle did new)
+      (Skips old kind.Timer handle did new)
+  EntryStep old (entry.Idle handle start) did new =
+      MatchBool (is_as_listed handle_kind.Idle old.state.roster handle start)
+      (CallsHandle old old.state.roster kind.Idle handle did new)
+      (Skips old kind.Idle handle did new)
+  EntryStep old (entry.Check handle start) did new =
+      MatchBool (is_as_listed handle_kind.Check old.state.roster handle start)
+      (CallsHandle old old.state.roster kind.Check handle did new)
+      (Skips old kind.Check handle did new)
+  -- the request is removed, and its slot is free, before the callback
+  EntryStep old (entry.After number) did new =
+      MatchOption (request_of old.state.requests number) ⊥ (λ r. AfterWork old number (tidings_of r.stage) did new)
+  EntryStep old (entry.Async async_no) did new =
+      MatchOption (async_handle old.state.roster async_no)
+      ⊥
+      (λ handle. MatchBool (is_active_handle old.state.roster.handles (Some handle)) (TakesFirst old async_no handle did new) (Skips old kind.Async handle did new))
+  -- the handle is removed before the callback of its close
+  EntryStep old (entry.Close handle) did new =
+      CallsHandle (in_state old (with_roster old.state (without_handle old.state.roster handle))) old.state.roster kind.Close handle did new
+
+  abbrev pub NextPhase : Loop S → StepDid → Loop S → Type 0
+  NextPhase old did new = let turned = turn old.state in (did ≡ turned.0) × (new ≡ in_state old turned.1)
+
+  abbrev pub ListStep : Loop S → List Entry → StepDid → Loop S → Type 0
+  ListStep old [] did new = NextPhase old did new
+  ListStep old (e ∷ rest) did new = EntryStep (in_state old (record old.state { list = rest })) e did new
+
+  abbrev pub StepIn : Status → Loop S → StepDid → Loop S → Type 0
+  StepIn Running old did new = ListStep old old.state.list did new
+  StepIn Over old did new = (did ≡ step.Over) × (new ≡ old)
+  StepIn Failed old did new = (did ≡ step.Failed) × (new ≡ old)
+
+  -- one step, and what it tells
+  abbrev pub LoopStep : Loop S → StepDid → Loop S → Type 0
+  LoopStep old did new = StepIn old.state.status old did new

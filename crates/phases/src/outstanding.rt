@@ -1,0 +1,164 @@
+// One outstanding request.
+
+ghost use Rattle.std.specs.Prelude.{◌≡◌, ◌↔◌, [], Some, None, true, false, IsTrue, MatchOption};
+ghost use Rattle.phases.specs.Progress.{tidings_in};
+ghost use Rattle.order.specs.Orders.{order_of, end_of};
+ghost use Rattle.phases.specs.Host.{stage_standing};
+ghost use Rattle.phases.specs.Requests.{Stage, HandedOut, Answered, Cancelled, is_open_stage, is_settled, tidings_of, end_tidings};
+
+use crate::progress::{Progress, Standing, Tidings};
+use order::answers::{CANCELLED_CODE, NO_MEMORY};
+use order::{Order, Outcome};
+use std::alloc::Global;
+use std::marker::Model;
+use std::mem;
+
+/// An outstanding request: its order, and how far it has come.
+#[derive(Drop)]
+pub struct Outstanding {
+    order: Order,
+    progress: Progress,
+}
+
+impl Model for Outstanding {
+    ghost use Rattle.order.specs.Orders.{order_of};
+    ghost use Rattle.phases.specs.Requests.{Request};
+    ghost use Rattle.phases.specs.Codes.{request_code};
+    ghost use Rattle.phases.specs.Progress.{stage_of, IsCopyOf};
+
+    ghost Value = { Request };
+
+    ghost coded = { request_code };
+
+    ghost view = { λ a. record { order = order_of a.order; stage = stage_of a.progress } };
+
+    ghost invariant = { λ a. IsCopyOf (order_of a.order) a.progress };
+}
+
+impl Outstanding {
+    /// A request that is not handed out, with the copy of its order that will be.
+    pub fn new(order: Order, copy: Order) -> Self
+        requires { order_of copy ≡ order_of order }
+        ensures { result ≡ record { order = order_of order; stage = Stage.Open } }
+    {
+        Outstanding {
+            order,
+            progress: Progress::Open(copy),
+        }
+    }
+
+    /// Its number.
+    pub fn number(&self) -> u32
+        ensures { result ≡ self.now.order.request }
+    {
+        self.order.request
+    }
+
+    /// Its slot.
+    pub fn slot(&self) -> u32
+        ensures { result ≡ self.now.order.slot }
+    {
+        self.order.slot
+    }
+
+    /// Whether it is not handed out yet.
+    pub fn is_open(&self) -> bool
+        ensures { result ≡ is_open_stage self.now.stage }
+    {
+        matches!(self.progress, Progress::Open(_))
+    }
+
+    /// Whether it is answered or cancelled.
+    pub fn is_settled(&self) -> bool
+        ensures { result ≡ is_settled self.now.stage }
+    {
+        matches!(self.progress, Progress::Answered(_) | Progress::Cancelled)
+    }
+
+    /// Whether it can be cancelled.
+    pub fn standing(&self) -> Standing
+        ensures { result ≡ stage_standing self.now.order.slot self.now.stage }
+    {
+        match self.progress {
+            Progress::Open(_) | Progress::HandedOut => Standing::Pending {
+                slot: self.order.slot,
+            },
+            Progress::Answered(_) => Standing::Answered,
+            Progress::Cancelled => Standing::Unknown,
+        }
+    }
+
+    /// Whether the order is this request's, in every field.
+    pub fn is_for(&self, order: &Order) -> bool
+        ensures { IsTrue result ↔ (self.now.order ≡ order_of order.now) }
+    {
+        self.order.is_same(order)
+    }
+
+    /// Hands its order out.
+    pub fn hand_out(&mut self) -> Option<Order>
+        requires { is_open_stage self.old.stage ≡ true }
+        ensures order { MatchOption result ⊥ (λ order. order_of order ≡ self.old.order) }
+        ensures request { self.new ≡ record self.old { stage = HandedOut } }
+    {
+        match mem::replace(&mut self.progress, Progress::HandedOut) {
+            Progress::Open(order) => Some(order),
+            _ => unreachable!(),
+        }
+    }
+
+    /// A worker's answer was taken.
+    pub fn answer(&mut self, outcome: Outcome)
+        ensures { self.new ≡ record self.old { stage = Answered (end_of outcome) } }
+    {
+        self.progress = Progress::Answered(outcome);
+    }
+
+    /// It was cancelled.
+    pub fn cancel(&mut self)
+        ensures { self.new ≡ record self.old { stage = Cancelled } }
+    {
+        self.progress = Progress::Cancelled;
+    }
+
+    /// What its after-work callback is told.
+    pub fn into_tidings(self, alloc: Global) -> Tidings
+        requires { is_settled self.stage ≡ true }
+        ensures { tidings_of self.stage ≡ Some (tidings_in result) }
+    {
+        let Outstanding { order: _, progress } = self;
+        match progress {
+            Progress::Answered(outcome) => outcome_tidings(alloc, outcome),
+            Progress::Cancelled => Tidings::without_bytes(alloc, 5, CANCELLED_CODE),
+            Progress::Open(_) | Progress::HandedOut => unreachable!(),
+        }
+    }
+}
+
+fn outcome_tidings(alloc: Global, outcome: Outcome) -> Tidings
+    ensures { tidings_in result ≡ end_tidings (end_of outcome) }
+{
+    match outcome {
+        Outcome::Done(value, bytes) => Tidings {
+            kind: 0,
+            code: value,
+            bytes,
+        },
+        Outcome::Trap(trap) => Tidings::without_bytes(alloc, 1, trap.code()),
+        Outcome::Depth => Tidings::without_bytes(alloc, 2, 0),
+        Outcome::Spent => Tidings::without_bytes(alloc, 3, 0),
+        Outcome::NoMemory => Tidings::without_bytes(alloc, 4, NO_MEMORY),
+    }
+}
+
+impl Tidings {
+    fn without_bytes(alloc: Global, kind: u32, code: u32) -> Tidings
+        ensures { tidings_in result ≡ record { kind = kind; code = code; bytes = [] } }
+    {
+        Tidings {
+            kind,
+            code,
+            bytes: Vec::new(alloc),
+        }
+    }
+}

@@ -1,0 +1,38 @@
+// How far a request has come.
+
+use order::{Order, Outcome};
+
+/// How far an outstanding request has come.
+#[derive(Drop)]
+pub enum Progress {
+    /// It is not handed out yet: its order, to be handed out.
+    Open(Order),
+    /// A worker may have it.
+    HandedOut,
+    /// A reply was taken.
+    Answered(Outcome),
+    /// It was cancelled before a worker started it.
+    Cancelled,
+}
+
+/// Whether a request can be cancelled.
+#[derive(Clone, Copy, Debug, PartialEq, Eq)]
+pub enum Standing {
+    /// It is not outstanding, or cancelled already.
+    Unknown,
+    /// It is answered.
+    Answered,
+    /// It is neither, in this slot.
+    Pending { slot: u32 },
+}
+
+/// What an after-work callback is told of a request.
+#[derive(Drop)]
+pub struct Tidings {
+    /// 0 done, 1 a trap, 2 too many calls, 3 fuel spent, 4 no memory, 5 cancelled.
+    pub kind: u32,
+    /// The result, the trap's number, or why it was not done.
+    pub code: u32,
+    /// The bytes that the callback may read.
+    pub bytes: Vec<u8>,
+}

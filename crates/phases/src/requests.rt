@@ -1,0 +1,225 @@
+// The outstanding requests of a loop.
+
+ghost use Rattle.std.specs.Prelude.{◌≡◌, ◌≢◌, ◌+◌, ◌<◌, ◌≤◌, ◌^◌, ◌==◌, ◌↔◌, [], Some, None, true, false, length, find, slice_get, not, IfOk, IfErr, OnOk, IfSome, IfNone, MatchOption, MatchResult, option_map};
+ghost use Rattle.std.specs.List.{list_any};
+ghost use Rattle.order.specs.Orders.{order_of, end_of};
+ghost use Rattle.phases.specs.Host.{standing_of};
+ghost use Rattle.phases.specs.Outside.{IsOneOf, next_of, answered};
+ghost use Rattle.phases.specs.Progress.{tidings_in};
+ghost use Rattle.phases.specs.Requests.{Request, Cancelled, no_requests, has_number, request_of, with_stage, with_work, without_request, is_free_slot, is_settled, is_open_stage, settled, tidings_of};
+ghost use Rattle.phases.specs.PhaseList.{is_empty};
+
+use crate::outstanding::Outstanding;
+use crate::progress::{Standing, Tidings};
+use order::{Order, Reply};
+use std::alloc::{AllocError, Global};
+use std::marker::Model;
+
+/// How many requests of a loop may be outstanding.
+pub const MAX_REQUESTS: usize = 32;
+
+/// The greatest number of a request.
+pub const LAST_REQUEST: u32 = 2_147_483_647;
+
+/// The outstanding requests of a loop by their numbers, which rise, and the last number that was given.
+#[derive(Drop)]
+pub struct Requests {
+    items: Vec<Outstanding>,
+    last: u32,
+}
+
+impl Model for Requests {
+    ghost use Rattle.std.specs.Prelude.{◌≤◌, vec_capacity};
+    ghost use Rattle.phases.specs.Requests.{Requests as Value_of};
+    ghost use Rattle.phases.specs.Codes.{requests_code};
+    ghost use Rattle.phases.specs.Fitting.{AreKept};
+
+    ghost Value = { Value_of };
+
+    ghost coded = { requests_code };
+
+    ghost view = { λ a. record { outstanding = a.items.items; last = a.last } };
+
+    ghost invariant = { λ a. AreKept (record { outstanding = a.items.items; last = a.last }) × (32 ≤ vec_capacity a.items) };
+}
+
+/// Where the request of a number stands.
+fn position_of(items: &[Outstanding], number: u32) -> Option<usize>
+    ensures none { IfNone result (find (has_number number) items.now ≡ None) }
+    ensures some { IfSome result (λ at. (r : Request) × (slice_get items.now at ≡ Some r) × (find (has_number number) items.now ≡ Some r)) }
+    ensures within { IfSome result (λ at. at < length items.now) }
+{
+    for (at, item) in items.iter().enumerate() {
+        if item.number() == number {
+            return Some(at);
+        }
+    }
+    None
+}
+
+/// Where the lowest request stands that is not handed out.
+fn lowest_open(items: &[Outstanding]) -> Option<usize>
+    ensures none { IfNone result (find (λ r. is_open_stage r.stage) items.now ≡ None) }
+    ensures some { IfSome result (λ at. (r : Request) × (slice_get items.now at ≡ Some r) × (find (λ r. is_open_stage r.stage) items.now ≡ Some r)) }
+    ensures within { IfSome result (λ at. at < length items.now) }
+{
+    for (at, item) in items.iter().enumerate() {
+        if item.is_open() {
+            return Some(at);
+        }
+    }
+    None
+}
+
+fn uses_slot(items: &[Outstanding], slot: u32) -> bool
+    ensures { result ≡ list_any (λ r. r.order.slot == slot) items.now }
+{
+    for item in items {
+        if item.slot() == slot {
+            return true;
+        }
+    }
+    false
+}
+
+/// A slot that no request uses.
+fn free_slot(items: &[Outstanding]) -> u32
+    requires { length items.now < 32 }
+    ensures below { result < 32 }
+    ensures free { list_any (λ r. r.order.slot == result) items.now ≡ false }
+{
+    for slot in 0..32 {
+        if !uses_slot(items, slot) {
+            return slot;
+        }
+    }
+    unreachable!()
+}
+
+impl Requests {
+    /// No request, with room for 32.
+    pub fn new(alloc: Global) -> Result<Self, AllocError>
+        ensures { IfOk result (λ rs. rs ≡ no_requests) }
+    {
+        Ok(Requests {
+            items: Vec::with_capacity(alloc, MAX_REQUESTS)?,
+            last: 0,
+        })
+    }
+
+    /// How many requests are outstanding.
+    pub fn len(&self) -> usize
+        ensures value { result ≡ length self.now.outstanding }
+        ensures most { result ≤ 32 }
+    {
+        self.items.len()
+    }
+
+    /// Whether no request is outstanding.
+    pub fn is_empty(&self) -> bool
+        ensures { result ≡ is_empty self.now.outstanding }
+    {
+        self.items.is_empty()
+    }
+
+    /// The last number that was given, 0 where none was.
+    pub fn last(&self) -> u32
+        ensures value { result ≡ self.now.last }
+        ensures most { result < 2 ^ 31 }
+    {
+        self.last
+    }
+
+    /// The requests.
+    pub fn as_slice(&self) -> &[Outstanding]
+        ensures value { result.now ≡ self.now.outstanding }
+    {
+        self.items.as_slice()
+    }
+
+    /// A slot that no request uses.
+    pub fn free_slot(&self) -> u32
+        requires { length self.now.outstanding < 32 }
+        ensures below { result < 32 }
+        ensures free { is_free_slot self.now result ≡ true }
+    {
+        free_slot(self.items.as_slice())
+    }
+
+    /// Opens a request under the next number, with the copy of its order that will be handed out.
+    pub fn open(&mut self, order: Order, copy: Order)
+        requires room { length self.old.outstanding < 32 }
+        requires number { order.request ≡ self.old.last + 1 }
+        requires slot { order.slot < 32 }
+        requires last { self.old.last + 1 < 2 ^ 31 }
+        requires same { order_of copy ≡ order_of order }
+        ensures { self.new ≡ with_work self.old (order_of order) }
+    {
+        self.last = order.request;
+        let Ok(()) = self.items.push(Outstanding::new(order, copy)) else {
+            unreachable!();
+        };
+    }
+
+    /// Whether a request can be cancelled.
+    pub fn standing(&self, number: u32) -> Standing
+        ensures { result ≡ standing_of self.now number }
+    {
+        let items = self.items.as_slice();
+        match position_of(items, number) {
+            Some(at) => items[at].standing(),
+            None => Standing::Unknown,
+        }
+    }
+
+    /// Hands out the order of the lowest request that is not handed out.
+    pub fn next(&mut self) -> Option<Order>
+        ensures order { option_map order_of result ≡ (next_of self.old).0 }
+        ensures requests { self.new ≡ (next_of self.old).1 }
+    {
+        let at = lowest_open(self.items.as_slice())?;
+        let item = &mut self.items[at];
+        item.hand_out()
+    }
+
+    /// The request of this number was cancelled.
+    pub fn cancel(&mut self, number: u32)
+        ensures { self.new ≡ with_stage self.old number Cancelled }
+    {
+        let Some(at) = position_of(self.items.as_slice(), number) else {
+            return;
+        };
+        let item = &mut self.items[at];
+        item.cancel();
+    }
+
+    /// Takes the answer to a request that is neither answered nor cancelled, if the reply's order is the request's
+    /// in every field. Else the reply comes back.
+    pub fn answer(&mut self, reply: Reply) -> Result<(), Reply>
+        ensures taken { OnOk result (IsOneOf (order_of reply.order) self.old) }
+        ensures answered { OnOk result (self.new ≡ answered self.old (order_of reply.order) (end_of reply.outcome)) }
+        ensures refused { IfErr result (λ other. (other ≡ reply) × (self.new ≡ self.old) × (IsOneOf (order_of reply.order) self.old → ⊥)) }
+    {
+        let Some(at) = position_of(self.items.as_slice(), reply.order.request) else {
+            return Err(reply);
+        };
+        let item = &mut self.items[at];
+        if item.is_settled() || !item.is_for(&reply.order) {
+            return Err(reply);
+        }
+        item.answer(reply.outcome);
+        Ok(())
+    }
+
+    /// Removes a request that is answered or cancelled, and tells what came of it.
+    pub fn take(&mut self, alloc: Global, number: u32) -> Tidings
+        requires { MatchOption (request_of self.old number) ⊥ (λ r. is_settled r.stage ≡ true) }
+        ensures tidings { MatchOption (request_of self.old number) ⊥ (λ r. tidings_of r.stage ≡ Some (tidings_in result)) }
+        ensures removed { self.new ≡ without_request self.old number }
+    {
+        let Some(at) = position_of(self.items.as_slice(), number) else {
+            unreachable!();
+        };
+        self.items.remove(at).into_tidings(alloc)
+    }
+}

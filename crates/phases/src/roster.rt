@@ -1,0 +1,365 @@
+// The handles of a loop.
+
+ghost use Rattle.std.specs.Prelude.{◌≡◌, ◌≢◌, ◌<◌, ◌≤◌, [], Some, None, true, false, length, map, slice_get, IfOk, IfSome, IfNone, MatchOption, IsSomeAnd, ◌⊎◌, ◌==◌, filter, not};
+ghost use Rattle.std.specs.List.{list_any, position_or_len};
+ghost use Rattle.handles.specs.Table.{empty_table, record_of, IsOpen, IsClosing, after_again, due_list, kind_list, nearest_due};
+ghost use Rattle.phases.specs.Roster.{callback_function, is_callback, is_open, is_open_of, async_number, async_handle, with_handles, with_made, without_handle, is_handle, unless_handle, stopped_in, started_in, again_in, closed_in, active_answer, Makes, MakesAsync};
+ghost use Rattle.phases.specs.PhaseList.{is_empty, has_active, is_active_handle};
+ghost use Rattle.phases.specs.Fitting.{has_duty};
+ghost use Rattle.phases.specs.Step.{is_as_listed, handle_function};
+
+use arrayvec::ArrayVec;
+use handles::{Handles, Kind, List, MAX_HANDLES, Record};
+use order::answers::{INVALID, NONE_LEFT, NO_ROOM};
+use std::alloc::{AllocError, Global};
+use std::marker::Model;
+
+/// How many asyncs a loop makes over its life.
+pub const MAX_ASYNCS: usize = 16;
+
+/// The handles of a loop: the table, the asyncs by number, the closing handles in the order of their closing, and the
+/// functions that callbacks name.
+#[derive(Drop)]
+pub struct Roster {
+    handles: Handles,
+    asyncs: ArrayVec<Option<u32>, MAX_ASYNCS>,
+    closing: ArrayVec<u32, MAX_HANDLES>,
+    callbacks: Vec<Option<u32>>,
+}
+
+impl Model for Roster {
+    ghost use Rattle.phases.specs.Roster.{Roster as Value_of};
+    ghost use Rattle.phases.specs.Codes.{roster_code};
+    ghost use Rattle.phases.specs.Fitting.{IsKept};
+
+    ghost Value = { Value_of };
+
+    ghost coded = { roster_code };
+
+    ghost view = { λ a. record { handles = a.handles; asyncs = a.asyncs.items; closing = a.closing.items; callbacks = a.callbacks.items } };
+
+    ghost invariant = { λ a. IsKept (record { handles = a.handles; asyncs = a.asyncs.items; closing = a.closing.items; callbacks = a.callbacks.items }) };
+}
+
+impl Roster {
+    /// No handle, over the functions that callbacks name.
+    pub fn new(alloc: Global, callbacks: Vec<Option<u32>>) -> Result<Self, AllocError>
+        ensures { IfOk result (λ r. r ≡ record { handles = empty_table; asyncs = []; closing = []; callbacks = callbacks.items }) }
+    {
+        Ok(Roster {
+            handles: Handles::new(alloc)?,
+            asyncs: ArrayVec::new(),
+            closing: ArrayVec::new(),
+            callbacks,
+        })
+    }
+
+    fn callback_at(&self, index: u32) -> Option<u32>
+        ensures { result ≡ callback_function self.now.callbacks index }
+    {
+        function_at(self.callbacks.as_slice(), index)
+    }
+
+    /// The callback of a handle that was started or is closing.
+    fn duty_function(&self, handle: u32, record: &Record) -> u32
+        requires there { record_of self.now.handles handle ≡ Some record.now }
+        requires duty { has_duty record.now ≡ true }
+        ensures { handle_function self.now handle ≡ Some result }
+    {
+        let Some(function) = function_at(self.callbacks.as_slice(), record.callback) else {
+            unreachable!();
+        };
+        function
+    }
+
+    fn is_callback(&self, index: u32) -> bool
+        ensures { result ≡ is_callback self.now index }
+    {
+        self.callback_at(index).is_some()
+    }
+
+    fn is_open(&self, handle: u32) -> bool
+        ensures value { result ≡ is_open self.now handle }
+        ensures open { result ≡ true → IsOpen self.now.handles handle }
+    {
+        match self.handles.get(handle) {
+            Some(record) => !record.closing,
+            None => false,
+        }
+    }
+
+    fn is_open_of(&self, kind: Kind, handle: u32) -> bool
+        ensures value { result ≡ is_open_of kind self.now handle }
+        ensures open { result ≡ true → IsOpen self.now.handles handle × IsSomeAnd (record_of self.now.handles handle) (λ r. r.kind ≡ kind) }
+    {
+        match self.handles.get(handle) {
+            Some(record) => record.kind == kind && !record.closing,
+            None => false,
+        }
+    }
+
+    /// Makes a handle that is inactive, under a free number, and answers the number.
+    pub fn init(&mut self, kind: Kind) -> u32
+        requires { kind ≢ Kind.Async }
+        ensures { Makes (with_made kind) self.old result self.new }
+    {
+        let Some(handle) = self.handles.init(kind) else {
+            return NO_ROOM;
+        };
+        handle
+    }
+
+    /// Makes an async that is active, under a free number, and answers the number.
+    pub fn init_async(&mut self, callback: u32) -> u32
+        ensures { MakesAsync callback self.old result self.new }
+    {
+        if !self.is_callback(callback) {
+            return INVALID;
+        }
+        if self.asyncs.is_full() {
+            return NONE_LEFT;
+        }
+        let Some(handle) = self.handles.init(Kind::Async) else {
+            return NO_ROOM;
+        };
+        self.asyncs.push(Some(handle));
+        self.handles.start(handle, callback, 0, 0);
+        handle
+    }
+
+    /// Starts a handle.
+    pub fn start(&mut self, kind: Kind, handle: u32, callback: u32, due: u64, repeat: u64) -> u32
+        ensures answer { result ≡ (started_in kind handle callback due repeat self.old).0 }
+        ensures roster { self.new ≡ (started_in kind handle callback due repeat self.old).1 }
+    {
+        if !self.is_open_of(kind, handle) {
+            return INVALID;
+        }
+        if !self.is_callback(callback) {
+            return INVALID;
+        }
+        self.handles.start(handle, callback, due, repeat);
+        0
+    }
+
+    /// Stops a handle.
+    pub fn stop(&mut self, kind: Kind, handle: u32) -> u32
+        ensures answer { result ≡ (stopped_in kind handle self.old).0 }
+        ensures roster { self.new ≡ (stopped_in kind handle self.old).1 }
+    {
+        if !self.is_open_of(kind, handle) {
+            return INVALID;
+        }
+        self.handles.stop(handle);
+        0
+    }
+
+    /// Starts a timer again by its repeat.
+    pub fn again(&mut self, handle: u32, now: u64) -> u32
+        ensures answer { result ≡ (again_in handle now self.old).0 }
+        ensures roster { self.new ≡ (again_in handle now self.old).1 }
+    {
+        if !self.is_open_of(Kind::Timer, handle) {
+            return INVALID;
+        }
+        if !self.handles.again(handle, now) {
+            return INVALID;
+        }
+        0
+    }
+
+    /// Closes a handle.
+    pub fn close(&mut self, handle: u32, callback: u32) -> u32
+        ensures answer { result ≡ (closed_in handle callback self.old).0 }
+        ensures roster { self.new ≡ (closed_in handle callback self.old).1 }
+    {
+        if !self.is_open(handle) {
+            return INVALID;
+        }
+        if !self.is_callback(callback) {
+            return INVALID;
+        }
+        self.handles.close(handle, callback);
+        self.closing.push(handle);
+        0
+    }
+
+    /// 1 for an active handle, 0 for another.
+    pub fn active_answer(&self, handle: u32) -> u32
+        ensures { result ≡ active_answer self.now handle }
+    {
+        match self.handles.get(handle) {
+            Some(record) => u32::from(record.active),
+            None => INVALID,
+        }
+    }
+
+    /// The number of an async that is there and not closing.
+    pub fn async_number(&self, handle: u32) -> Option<u32>
+        ensures none { IfNone result (is_open_of Kind.Async self.now handle ≡ false) }
+        ensures some { IfSome result (λ number. (is_open_of Kind.Async self.now handle ≡ true) × (number ≡ async_number self.now handle)) }
+        ensures below { IfSome result (λ number. number < 16) }
+    {
+        if !self.is_open_of(Kind::Async, handle) {
+            return None;
+        }
+        Some(position_of(self.asyncs.as_slice(), handle))
+    }
+
+    /// The callback of a handle that is still as it was listed.
+    pub fn listed_function(&self, kind: Kind, handle: u32, start: u64) -> Option<u32>
+        ensures some { IfSome result (λ f. (is_as_listed kind self.now handle start ≡ true) × (handle_function self.now handle ≡ Some f)) }
+        ensures none { IfNone result (is_as_listed kind self.now handle start ≡ false) }
+        ensures there { IfSome result (λ _. IsOpen self.now.handles handle × IsSomeAnd (record_of self.now.handles handle) (λ r. r.kind ≡ kind)) }
+    {
+        let record = self.handles.get(handle)?;
+        if record.kind != kind || !record.active || record.start != start {
+            return None;
+        }
+        Some(self.duty_function(handle, &record))
+    }
+
+    /// The callback of a timer that is still as it was listed. The timer is then inactive, or started again where
+    /// it repeats.
+    pub fn fire(&mut self, handle: u32, start: u64, now: u64) -> Option<u32>
+        ensures some { IfSome result (λ f. (is_as_listed Kind.Timer self.old handle start ≡ true) × (handle_function self.old handle ≡ Some f)) }
+        ensures none { IfNone result (is_as_listed Kind.Timer self.old handle start ≡ false) }
+        ensures fired { IfSome result (λ _. self.new ≡ with_handles self.old (after_again self.old.handles handle now)) }
+        ensures skipped { IfNone result (self.new ≡ self.old) }
+    {
+        let function = self.listed_function(Kind::Timer, handle, start)?;
+        self.handles.again(handle, now);
+        Some(function)
+    }
+
+    /// Removes a closing handle, and answers the callback of its close.
+    pub fn finish_closing(&mut self, handle: u32) -> u32
+        requires { IsClosing self.old.handles handle }
+        ensures function { handle_function self.old handle ≡ Some result }
+        ensures removed { self.new ≡ without_handle self.old handle }
+    {
+        let Some(record) = self.handles.get(handle) else {
+            unreachable!();
+        };
+        let function = self.duty_function(handle, &record);
+        self.handles.remove(handle);
+        self.closing = others_of(self.closing.as_slice(), handle);
+        self.asyncs = without_async(self.asyncs.as_slice(), handle);
+        function
+    }
+
+    /// The handle of an async, if it is active, and its callback.
+    pub fn active_async(&self, async_no: u32) -> Option<(u32, u32)>
+        ensures none { IfNone result (is_active_handle self.now.handles (async_handle self.now async_no) ≡ false) }
+        ensures some { IfSome result (λ found. (is_active_handle self.now.handles (Some found.0) ≡ true) × (async_handle self.now async_no ≡ Some found.0) × (handle_function self.now found.0 ≡ Some found.1)) }
+    {
+        let handle = self.async_at(async_no)?;
+        let record = self.handles.get(handle)?;
+        if !record.active {
+            return None;
+        }
+        Some((handle, self.duty_function(handle, &record)))
+    }
+
+    /// The handle of an async, until that is removed.
+    pub fn async_at(&self, async_no: u32) -> Option<u32>
+        ensures { result ≡ async_handle self.now async_no }
+    {
+        self.asyncs.as_slice().get(async_no as usize).copied().flatten()
+    }
+
+    /// The active timers that are due by `now`.
+    pub fn due(&self, now: u64) -> List
+        ensures { result ≡ due_list self.now.handles now }
+    {
+        self.handles.due(now)
+    }
+
+    /// The active idle or check handles.
+    pub fn of_kind(&self, kind: Kind) -> List
+        requires { (kind ≡ Kind.Idle) ⊎ (kind ≡ Kind.Check) }
+        ensures { result ≡ kind_list kind self.now.handles }
+    {
+        self.handles.of_kind(kind)
+    }
+
+    /// The moment at which the first active timer is due.
+    pub fn nearest(&self) -> Option<u64>
+        ensures { result ≡ nearest_due self.now.handles }
+    {
+        self.handles.nearest()
+    }
+
+    /// The closing handles, in the order of their closing.
+    pub fn closing(&self) -> &[u32]
+        ensures value { result.now ≡ self.now.closing }
+        ensures few { length result.now ≤ 64 }
+    {
+        self.closing.as_slice()
+    }
+
+    /// The asyncs' handles by number.
+    pub fn asyncs(&self) -> &[Option<u32>]
+        ensures value { result.now ≡ self.now.asyncs }
+        ensures few { length result.now ≤ 16 }
+    {
+        self.asyncs.as_slice()
+    }
+
+    /// Whether a handle is active.
+    pub fn is_active(&self, handle: Option<u32>) -> bool
+        ensures { result ≡ is_active_handle self.now.handles handle }
+    {
+        match handle {
+            Some(handle) => match self.handles.get(handle) {
+                Some(record) => record.active,
+                None => false,
+            },
+            None => false,
+        }
+    }
+}
+
+fn function_at(callbacks: &[Option<u32>], index: u32) -> Option<u32>
+    ensures { result ≡ callback_function callbacks.now index }
+{
+    callbacks.get(index as usize).copied().flatten()
+}
+
+fn position_of(asyncs: &[Option<u32>], handle: u32) -> u32
+    requires few { length asyncs.now ≤ 16 }
+    requires there { list_any (is_handle handle) asyncs.now ≡ true }
+    ensures value { result ≡ position_or_len (is_handle handle) asyncs.now }
+    ensures below { result < 16 }
+{
+    for number in 0..asyncs.len() {
+        if asyncs[number] == Some(handle) {
+            return number as u32;
+        }
+    }
+    unreachable!()
+}
+
+fn others_of(closing: &[u32], handle: u32) -> ArrayVec<u32, MAX_HANDLES>
+    requires { length closing.now ≤ MAX_HANDLES }
+    ensures { result.items ≡ filter (λ other. not (other == handle)) closing.now }
+{
+    let mut others = ArrayVec::new();
+    for other in closing {
+        if *other != handle {
+            others.push(*other);
+        }
+    }
+    others
+}
+
+fn without_async(asyncs: &[Option<u32>], handle: u32) -> ArrayVec<Option<u32>, MAX_ASYNCS>
+    requires { length asyncs.now ≤ MAX_ASYNCS }
+    ensures { result.items ≡ map (unless_handle handle) asyncs.now }
+{
+    let mut others = ArrayVec::new();
+    for other in asyncs {
+        others.push(if *other == Some(handle) { None } else { *other });
+    }
+    others
+}

@@ -3,6 +3,7 @@ pub mod Configuration
 pub mod Step
 pub mod Run
 pub mod Typed
+pub mod Storing
 pub mod Traps
 pub mod Turning
 pub mod Frames

@@ -1,7 +1,8 @@
 use Rattle.std.proofs.Common.{◌≡◌, ◌+◌, ◌-◌, ◌≤◌, length, arith}
 use Rattle.interp.specs.Calling.{Entered}
 use Rattle.interp.specs.Running.{EndsSo}
-use Rattle.interp.specs.Invoking.{IsStoreOf, Invoked, ReturnsTyped}
+use Rattle.interp.specs.Storing.{IsStoreOf}
+use Rattle.interp.specs.Invoking.{Invoked, ReturnsTyped}
 use Rattle.interp.proofs.Outside.{if_ok, waiting, can_start, is_typed, invoked, used_within, returns_typed, store_kept}
 use Rattle.interp.proofs.invoke.invoke_defined.Goals as goal
 

@@ -4,7 +4,8 @@ ghost use Rattle.std.specs.Prelude.{◌≡◌, ◌≤◌, ℕ, [], ◌∷◌, So
 ghost use Rattle.std.specs.Arc.{arc_value};
 ghost use Rattle.syntax.specs.declared.types.ValType.TheVariants as valtype;
 ghost use Rattle.instance.specs.Fresh.{IsFresh};
-ghost use Rattle.interp.specs.Invoking.{IsStoreOf, TakesArguments, ReturnsTyped};
+ghost use Rattle.interp.specs.Storing.{IsStoreOf};
+ghost use Rattle.interp.specs.Invoking.{TakesArguments, ReturnsTyped};
 ghost use Rattle.interp.specs.Running.{outcome_of, AreResults};
 ghost use Rattle.imports.specs.Linking.{ExportsFunction};
 ghost use Rattle.order.specs.Orders.{order_of, end_of};
@@ -16,6 +17,7 @@ use crate::reply::Reply;
 use crate::request::{Order, Outcome};
 use imports::Entry;
 use instance::state::Instance;
+use interp::conditions::fresh_is_store_of;
 use interp::ended::{Ended, Ending};
 use interp::invoke::invoke;
 use interp::values::Values;
@@ -81,7 +83,10 @@ impl Order {
         let valid = self.module.valid();
         let _contents = valid.contents();
         match Instance::new(alloc, valid) {
-            Ok(instance) => Ok(instance),
+            Ok(instance) => {
+                fresh_is_store_of(valid, &instance);
+                Ok(instance)
+            }
             Err(_) => Err(AllocError),
         }
     }

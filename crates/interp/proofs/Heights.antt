@@ -194,39 +194,43 @@ counted c base (Block type body rest) before after (t, at, below, e, tb, tr) h n
     let size : length before ≡ length t.params + length below = ap (λ (ts : List ValType). length ts) e ∙ length-pushed t.params below in
     let d = inside t.results c in
     let k = rw at at h in
-    let low : base + length before ≤ 256 = left_within (base + length before) _ 256 k in
+    let start = inner base (length t.params) before below size in
+    let parts = max (greatest_height d start (start + length t.params) body) (greatest_height c base (start + length t.results) rest) in
+    let low : base + length before ≤ 256 = left_within (base + length before) parts 256 k in
     let nb : nesting body + length d.labels ≤ 257 = omega (arith, n) in
     let nr : nesting rest + length c.labels ≤ 257 = omega (arith, n) in
     let both = both_counted base (length t.params) before below size c d t.params t.results body rest (length after)
     (λ (q : greatest_height d (base + length below) (base + length below + length (pushed t.params [])) body ≤ 256). counted d (base + length below) body (pushed t.params []) (pushed t.results []) tb q nb)
     (λ (q : greatest_height c base (base + length (pushed t.results below)) rest ≤ 256). counted c base rest (pushed t.results below) after tr q nr)
-    (right_within (base + length before) _ 256 k) in
+    (right_within (base + length before) parts 256 k) in
     (fits c base before rest low nr, t, at, length below, size, both.0, both.1)
 counted c base (Loop type body rest) before after (t, at, below, e, tb, tr) h n =
     let size : length before ≡ length t.params + length below = ap (λ (ts : List ValType). length ts) e ∙ length-pushed t.params below in
     let d = inside t.params c in
     let k = rw at at h in
-    let low : base + length before ≤ 256 = left_within (base + length before) _ 256 k in
+    let start = inner base (length t.params) before below size in
+    let parts = max (greatest_height d start (start + length t.params) body) (greatest_height c base (start + length t.results) rest) in
+    let low : base + length before ≤ 256 = left_within (base + length before) parts 256 k in
     let nb : nesting body + length d.labels ≤ 257 = omega (arith, n) in
     let nr : nesting rest + length c.labels ≤ 257 = omega (arith, n) in
     let both = both_counted base (length t.params) before below size c d t.params t.results body rest (length after)
     (λ (q : greatest_height d (base + length below) (base + length below + length (pushed t.params [])) body ≤ 256). counted d (base + length below) body (pushed t.params []) (pushed t.results []) tb q nb)
     (λ (q : greatest_height c base (base + length (pushed t.results below)) rest ≤ 256). counted c base rest (pushed t.results below) after tr q nr)
-    (right_within (base + length before) _ 256 k) in
+    (right_within (base + length before) parts 256 k) in
     (fits c base before rest low nr, t, at, length below, size, both.0, both.1)
 counted c base (If type first second rest) before after (t, at, below, e, tf, ts, tr) h n =
     let taken = length t.params + 1 in
     let size : length before ≡ taken + length below = omega (arith, ap (λ (ts : List ValType). length ts) e, length-pushed t.params below) in
     let d = inside t.results c in
     let k = rw at at h in
-    let low : base + length before ≤ 256 = left_within (base + length before) _ 256 k in
     let na : nesting first + length d.labels ≤ 257 = omega (arith, n) in
     let nb : nesting second + length d.labels ≤ 257 = omega (arith, n) in
     let nr : nesting rest + length c.labels ≤ 257 = omega (arith, n) in
     let start = inner base taken before below size in
     let one = greatest_height d start (start + length t.params) first in
     let others = max (greatest_height d start (start + length t.params) second) (greatest_height c base (start + length t.results) rest) in
-    let high : max one others ≤ 256 = right_within (base + length before) _ 256 k in
+    let low : base + length before ≤ 256 = left_within (base + length before) (max one others) 256 k in
+    let high : max one others ≤ 256 = right_within (base + length before) (max one others) 256 k in
     let branch = body_counted base taken before below size d t.params t.results first
     (λ (q : greatest_height d (base + length below) (base + length below + length (pushed t.params [])) first ≤ 256). counted d (base + length below) first (pushed t.params []) (pushed t.results []) tf q na)
     (left_within one others 256 high) in

@@ -9,7 +9,6 @@ pub mod HeightsTyped
 pub mod Room
 pub mod Traps
 pub mod Turning
-pub mod Frames
 pub mod Search
 pub mod Plainly
 pub mod Shapes

@@ -11,9 +11,10 @@ ghost use Rattle.interp.specs.Moving.{Does};
 ghost use Rattle.interp.specs.Jumping.{Chooses};
 
 use crate::blocks::body;
-use crate::machine::{Machine, Moved};
+use crate::moved::Moved;
 use crate::trap::TrapCode;
-use instance::state::Instance;
+use instance::machine::Machine;
+use instance::state::State;
 use syntax::module::{Contents, FuncType};
 use syntax::types::ValType;
 use validate::{type_at, type_of_function};
@@ -41,7 +42,7 @@ fn is_same_type(found: Option<&FuncType>, wanted: Option<&FuncType>) -> bool
 /// The function that the table has at an index, where it is of this type.
 fn function_at(
     contents: &Contents,
-    instance: &Instance,
+    instance: &State,
     type_index: u32,
     index: u32,
 ) -> Result<u32, TrapCode>
@@ -74,7 +75,7 @@ pub fn call_direct(contents: &Contents, machine: &mut Machine, function: u32) ->
 /// Calls the function that the operand on top names in the table.
 pub fn call_indirect(
     contents: &Contents,
-    instance: &Instance,
+    instance: &State,
     machine: &mut Machine,
     type_index: u32,
 ) -> Moved

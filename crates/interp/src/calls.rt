@@ -5,11 +5,11 @@ ghost use Rattle.validate.specs.Valid.{ValidModule};
 ghost use Rattle.interp.specs.Calling.{CanEnter, Entered, IsAtCall, CallDone, IsAtImport, Asks};
 ghost use Rattle.interp.specs.Hosting.{Names};
 
-use crate::controls::{Control, OpenBlock, OpenCall, Resume};
+use instance::controls::{Control, OpenBlock, OpenCall, Resume};
 use crate::host::{Args, Host};
-use crate::machine::Machine;
+use instance::machine::Machine;
 use crate::trap::TrapCode;
-use instance::state::Instance;
+use instance::state::State;
 use syntax::module::Contents;
 use validate::type_of_function;
 
@@ -58,7 +58,7 @@ pub fn enter_function(contents: &Contents, machine: &mut Machine, index: usize)
 /// Asks the host for an import whose arguments are the topmost operands.
 pub fn ask_host<H: Host>(
     contents: &Contents,
-    instance: &mut Instance,
+    instance: &mut State,
     host: &mut H,
     machine: &mut Machine,
     import: u32,
@@ -84,7 +84,7 @@ pub fn ask_host<H: Host>(
 /// entered where fewer calls than the limit stand open.
 pub fn call<H: Host>(
     contents: &Contents,
-    instance: &mut Instance,
+    instance: &mut State,
     host: &mut H,
     machine: &mut Machine,
     function: u32,

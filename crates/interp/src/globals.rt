@@ -4,12 +4,12 @@ ghost use Rattle.std.specs.Prelude.{◌≡◌, ◌≤◌, length};
 ghost use Rattle.syntax.specs.declared.instruction.Instr.TheVariants as instr;
 ghost use Rattle.interp.specs.Turning.{DoesInStore};
 
-use crate::operands::Operands;
+use instance::operands::Operands;
 use crate::turned::Turned;
-use instance::state::Instance;
+use instance::state::State;
 
 /// Pushes a global.
-pub fn global_get(instance: &Instance, operands: &mut Operands, index: u32) -> Turned
+pub fn global_get(instance: &State, operands: &mut Operands, index: u32) -> Turned
     requires { length operands.old ≤ 32768 }
     ensures { DoesInStore (instr.GlobalGet index) result instance.now instance.now operands.old operands.new }
 {
@@ -21,7 +21,7 @@ pub fn global_get(instance: &Instance, operands: &mut Operands, index: u32) -> T
 }
 
 /// Sets a global to the operand on top.
-pub fn global_set(instance: &mut Instance, operands: &mut Operands, index: u32) -> Turned
+pub fn global_set(instance: &mut State, operands: &mut Operands, index: u32) -> Turned
     ensures { DoesInStore (instr.GlobalSet index) result instance.old instance.new operands.old operands.new }
 {
     let Some(value) = operands.pop() else {

@@ -11,14 +11,15 @@ ghost use Rattle.interp.specs.Hosting.{Names};
 use crate::act::act;
 use crate::calls::{Stepped, call};
 use crate::host::Host;
-use crate::machine::{Machine, Moved};
-use instance::state::Instance;
+use crate::moved::Moved;
+use instance::machine::Machine;
+use instance::state::State;
 use syntax::module::Contents;
 
 /// Does the next operation, which costs fuel.
 pub fn step<H: Host>(
     contents: &Contents,
-    instance: &mut Instance,
+    instance: &mut State,
     host: &mut H,
     machine: &mut Machine,
     depth: u32,

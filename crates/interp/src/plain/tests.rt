@@ -43,7 +43,7 @@ fn type_of(value: Value) -> ValType {
 /// The number of the trap after an instruction, 0 where it goes on, 8 where no rule applies.
 fn trap_after(
     valid: &Valid,
-    instance: &mut Instance,
+    instance: &mut State,
     machine: &mut Machine,
     instr: &Instr,
 ) -> Result<u32, AllocError>
@@ -61,7 +61,7 @@ fn trap_after(
 /// The operand on top after an instruction, which stays there.
 fn top_after(
     valid: &Valid,
-    instance: &mut Instance,
+    instance: &mut State,
     machine: &mut Machine,
     instr: &Instr,
 ) -> Result<Option<Value>, AllocError>

@@ -1,4 +1,4 @@
-use Rattle.interp.specs.declared.machine.Moved.TheVariants as moved
+use Rattle.interp.specs.declared.moved.Moved.TheVariants as moved
 use Rattle.interp.proofs.Branching.{indirect_untested, did_indirect, trapped_indirect}
 use Rattle.interp.proofs.callees.call_indirect.Goals as goal
 

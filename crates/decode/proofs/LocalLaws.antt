@@ -3,12 +3,12 @@ use Rattle.std.proofs.Common.{◌≡◌, ◌≤◌, ◌<◌, ◌+◌, ◌-◌, L
 use Rattle.std.proofs.lemmas.List.{take_all, length-replicate}
 use Rattle.std.specs.Borrow.{Bor}
 use Rattle.syntax.specs.declared.types.ValType.{ValType}
-use Rattle.syntax.specs.Language.{Language, items, vec, u32, Leaves, IsPrefixFree}
+use Rattle.syntax.specs.Language.{Language, items, u32, Leaves, IsPrefixFree}
 use Rattle.syntax.specs.Binary.{Locals, group, ungrouped}
 use Rattle.syntax.proofs.Joins.{joined, apart, items_none, free_u32, items_few}
 use Rattle.syntax.proofs.ModuleLaws.{free_group, leaves_locals}
 use Rattle.decode.specs.declared.fault.DecodeFault.{DecodeFault}
-use Rattle.decode.specs.Reading.{NoneLeaves, Reads, items_of}
+use Rattle.decode.specs.Reading.{NoneLeaves, Reads}
 use Rattle.decode.specs.Locals.{LocalsOf}
 use Rattle.decode.proofs.Exits.{past}
 use Rattle.decode.proofs.ItemLaws.{items_push, none_beyond}

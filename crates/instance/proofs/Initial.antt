@@ -1,5 +1,5 @@
 -- The initial values of globals have the globals' types.
-use Rattle.std.proofs.Common.{◌≡◌, ℕ, suc, List, [], ◌∷◌, map, All, refl, ap, ◌∙◌, arith}
+use Rattle.std.proofs.Common.{◌≡◌, suc, List, [], ◌∷◌, map, All, refl, ap, ◌∙◌, arith}
 use Rattle.syntax.specs.declared.types.ValType.{ValType}
 use Rattle.syntax.specs.declared.module.Global.{Global}
 use Rattle.syntax.specs.Code.{Code}

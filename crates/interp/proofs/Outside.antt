@@ -24,7 +24,9 @@ use Rattle.instance.specs.Store.{with_memory_instance, MemoryInstance}
 use Rattle.interp.specs.Moving.{Stands}
 use Rattle.interp.specs.Running.{IsTypedIn, EndsSo, EndSo, AreResults}
 use Rattle.interp.specs.Calling.{CanEnter, Entered, in_function}
-use Rattle.interp.specs.Invoking.{defined, imported, IsStoreOf, TakesArguments, Invoked, ReturnsTyped}
+use Rattle.interp.specs.Storing.{IsStoreOf}
+use Rattle.interp.specs.Invoking.{defined, imported, TakesArguments, Invoked, ReturnsTyped}
+use Rattle.interp.proofs.Stores.{with_memory_of}
 use Rattle.interp.proofs.Entering.{defined_type}
 use Rattle.interp.proofs.HeightsSound.{starts_within}
 use Rattle.interp.proofs.HeightsOfRuns.{few_locals_of}
@@ -82,14 +84,14 @@ module _ (m : Contents) (function index : ℕ) (args : List Value) (e : function
       answers = takes.type.results;
       few = few;
       contexts = entered takes.type func args [];
-      fit = fit.globals;
+      fit = fit;
       stands = stands;
       typed = starts_within m 128 function takes.type func args v is_there takes.fit (omega arith);
     }
 
     module _ {H : Type 0} (depth fuel : ℕ) (moves : H → HostCall → H → Type 0) (s t : Store) (before after : H) (ended : Ended) (fit : IsStoreOf m s) (ends : EndsSo m depth moves fuel s before new ended t after) where
       end : EndSo m depth moves takes.type.results fuel s before (entered takes.type func args []) ended t after
-      end = ends takes.type.results (entered takes.type func args []) fit.globals stands (starts_within m 128 function takes.type func args v is_there takes.fit (omega arith))
+      end = ends takes.type.results (entered takes.type func args []) fit stands (starts_within m 128 function takes.type func args v is_there takes.fit (omega arith))
 
       pub invoked : Invoked m depth fuel moves s before function args ended t after
       invoked = record { trace = end.trace; invokes = defined takes.type func is_there end.runs; lawful = end.lawful }
@@ -103,7 +105,7 @@ module _ (m : Contents) (function index : ℕ) (args : List Value) (e : function
           subst (λ (x : FuncType). AreResults ended.ending x.results) q end.typed
 
       pub store_kept : IsStoreOf m t
-      store_kept = record { globals = end.fit }
+      store_kept = end.fit
 
 module _ (m : Contents) (function : ℕ) (args : List Value) (takes : TakesArguments m function args) where
   type_known : type_of_function m function ≡ Some takes.type
@@ -136,3 +138,6 @@ module _ (m : Contents) (function : ℕ) (args : List Value) (takes : TakesArgum
         let call : HostCall = record { function = function; args = args; before = s.memory; answer = answer; after = memory.bytes } in
         let r : reverse values ≡ as_operands answer = ap (λ (vs : List Value). reverse vs) e ∙ one_or_none answer in
         record { trace = call ∷ []; invokes = rw (r, el) (imported call i refl refl refl); lawful = (after, k, refl) }
+
+    pub memory_kept : (s : Store) (memory : MemoryInstance) → memory.limit ≡ s.limit → length memory.bytes ≡ length s.memory → IsStoreOf m s → IsStoreOf m (with_memory_instance memory s)
+    memory_kept s memory el en fit = rw el (with_memory_of m s memory.bytes en fit)

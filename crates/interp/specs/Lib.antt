@@ -7,6 +7,7 @@ pub mod Heights
 pub mod HeightsOfRuns
 pub mod HeightsTyped
 pub mod Room
+pub mod Storing
 pub mod Traps
 pub mod Turning
 pub mod Search

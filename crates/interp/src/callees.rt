@@ -20,7 +20,7 @@ use syntax::types::ValType;
 use validate::{type_at, type_of_function};
 
 /// Whether two lists of types are the same.
-fn are_same(types: &[ValType], others: &[ValType]) -> bool
+pub fn are_same(types: &[ValType], others: &[ValType]) -> bool
     ensures { result ≡ same_valtypes types.now others.now }
 {
     types == others

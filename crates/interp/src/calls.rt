@@ -5,10 +5,10 @@ ghost use Rattle.validate.specs.Valid.{ValidModule};
 ghost use Rattle.interp.specs.Calling.{CanEnter, Entered, IsAtCall, CallDone, IsAtImport, Asks};
 ghost use Rattle.interp.specs.Hosting.{Names};
 
-use instance::controls::{Control, OpenBlock, OpenCall, Resume};
 use crate::host::{Args, Host};
-use instance::machine::Machine;
 use crate::trap::TrapCode;
+use instance::controls::{Control, OpenBlock, OpenCall, Resume};
+use instance::machine::Machine;
 use instance::state::State;
 use syntax::module::Contents;
 use validate::type_of_function;

@@ -4,8 +4,8 @@ ghost use Rattle.std.specs.Prelude.{◌≡◌, ◌≤◌, length};
 ghost use Rattle.syntax.specs.declared.instruction.Instr.TheVariants as instr;
 ghost use Rattle.interp.specs.Turning.{DoesInStore};
 
-use instance::operands::Operands;
 use crate::turned::Turned;
+use instance::operands::Operands;
 use instance::state::State;
 
 /// Pushes a global.

@@ -4,7 +4,8 @@ ghost use Rattle.std.specs.Prelude.{◌≡◌, ◌≤◌, ◌<◌, length};
 ghost use Rattle.validate.specs.Valid.{ValidModule};
 ghost use Rattle.interp.specs.Hosting.{Names};
 ghost use Rattle.interp.specs.Run.{as_operands};
-ghost use Rattle.interp.specs.Invoking.{IsStoreOf, TakesArguments, Invoked, ReturnsTyped};
+ghost use Rattle.interp.specs.Storing.{IsStoreOf};
+ghost use Rattle.interp.specs.Invoking.{TakesArguments, Invoked, ReturnsTyped};
 
 use crate::calls::enter_function;
 use crate::ended::{Ended, Ending};
@@ -111,7 +112,5 @@ pub fn invoke<H: Host>(
     if (function as usize) < contents.imports.len() {
         return invoke_import(contents, state, host, function, args, fuel, depth);
     }
-    invoke_defined(
-        contents, state, host, machine, function, args, fuel, depth,
-    )
+    invoke_defined(contents, state, host, machine, function, args, fuel, depth)
 }

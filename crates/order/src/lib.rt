@@ -11,3 +11,6 @@ mod run;
 
 pub use reply::Reply;
 pub use request::{MAX_BYTES, Order, Outcome};
+
+#[cfg(test)]
+mod tests;

@@ -131,7 +131,14 @@ impl Order {
         let Some(function) = self.module.entry(Entry::Work) else {
             unreachable!();
         };
-        self.call(alloc, instance, host, function, &[Value::I32(self.op)], fuel)
+        self.call(
+            alloc,
+            instance,
+            host,
+            function,
+            &[Value::I32(self.op)],
+            fuel,
+        )
     }
 
     /// A function of the order's module.
@@ -155,6 +162,8 @@ impl Order {
         ensures serves { IfOk result (λ _. Serves host.new (order_of self.now)) }
     {
         let valid = self.module.valid();
-        invoke(alloc, valid, instance, host, function, args, fuel, self.depth)
+        invoke(
+            alloc, valid, instance, host, function, args, fuel, self.depth,
+        )
     }
 }

@@ -6,6 +6,8 @@ use Rattle.std.proofs.lemmas.List.Elements.{All-filter, All-push, All-set}
 use Rattle.std.proofs.lemmas.Option.{get_or_from_slice_get, slice_get_within}
 use Rattle.order.specs.Work.{WorkOrder}
 use Rattle.phases.specs.Requests.{Requests, Request, Stage, Open, has_number, in_stage}
+use Rattle.std.proofs.Common.{eqb}
+use Rattle.phases.specs.PhaseList.{is_empty}
 use Rattle.phases.specs.Fitting.{AreRising, IsRight, IsTrueTo, AreKept}
 
 abbrev pub number_of : Request → ℕ
@@ -221,3 +223,15 @@ untouched_all stage n (x ∷ xs) none =
       | true ↦ λ e. absurd (cc)
       | false ↦ λ e. ap (λ ys. x ∷ ys) (untouched_all stage n xs e)
     ] none
+
+-- a filter leaves something exactly where something passes
+not_none : (n : ℕ) → eqb (suc n) 0 ≡ false
+not_none n = ne_eqb (suc n) 0 (λ same. omega arith)
+
+pub any_filtered : {X : Type 0} (p : X → Bool) (xs : List X) → not (is_empty (filter p xs)) ≡ list_any p xs
+any_filtered p [] = refl
+any_filtered p (x ∷ xs) =
+    elim (p x) as (λ b. not (is_empty (cond b (x ∷ filter p xs) (filter p xs))) ≡ (b || list_any p xs)) [
+      | true ↦ ap not (not_none (length (filter p xs)))
+      | false ↦ any_filtered p xs
+    ]

@@ -1,16 +1,15 @@
 -- What the parts of a loop keep.
 use Rattle.std.specs.Prelude.{◌≡◌, ◌≢◌, ℕ, ◌<◌, ◌≤◌, ◌^◌, ◌==◌, Bool, true, false, ◌||◌, not, List, [], ◌∷◌, length, map, All, Option, Some, None}
-use Rattle.std.specs.Option.{option_map_or, is_some}
-use Rattle.std.specs.List.{list_any, list_all}
+use Rattle.std.specs.List.{list_any}
 use Rattle.std.specs.FinMap as finite
 use Rattle.handles.specs.declared.handle.Record.{Record}
 use Rattle.handles.specs.declared.handle.Kind.TheVariants as kind
 use Rattle.handles.specs.Table.{Table, record_of, IsClosing}
 use Rattle.order.specs.Work.{WorkOrder, IsEndOf}
-use Rattle.phases.specs.declared.entry.Entry.{Entry}
-use Rattle.phases.specs.declared.entry.Entry.TheVariants.{Start, Main, Timer, Idle, Check, Close, After, Async}
-use Rattle.phases.specs.Roster.{Roster, is_handle, is_callback, async_handle}
-use Rattle.phases.specs.Requests.{Requests, Request, Stage, Answered, request_of, is_settled}
+use Rattle.phases.specs.declared.progress.Standing.{Standing}
+use Rattle.phases.specs.declared.progress.Standing.TheVariants.{Pending}
+use Rattle.phases.specs.Roster.{Roster, is_handle, is_callback}
+use Rattle.phases.specs.Requests.{Requests, Request, Stage, Answered}
 
 -- the handle was started or is closing, so that its callback may be called
 abbrev pub has_duty : Record → Bool
@@ -51,24 +50,16 @@ pub record AreKept (rs : Requests) : Type 0 where
   pub numbers : rs.last < 2 ^ 31
   pub right : All IsRight rs.outstanding
 
--- what an entry names is as it was when it was listed: a request is settled, an async has a handle, a handle is closing
-abbrev pub is_ready : Roster → Requests → Entry → Bool
-is_ready r rs (After request) = option_map_or (λ q. is_settled q.stage) (request_of rs request) false
-is_ready r rs (Async async_no) = is_some (async_handle r async_no)
-is_ready r rs (Close handle) = option_map_or (λ it. it.closing) (record_of r.handles handle) false
-is_ready r rs _ = true
+-- the outcome of each answered request is what its own order gives, or that there was no memory
+abbrev pub AllRight : Requests → Type 0
+AllRight rs = All IsRight rs.outstanding
 
--- both entries remove the same
-abbrev pub is_same_removal : Entry → Entry → Bool
-is_same_removal (After n) (After m) = n == m
-is_same_removal (Close n) (Close m) = n == m
-is_same_removal _ _ = false
+-- a slot in which a request may be cancelled is one of 32
+abbrev pub IsSlotBelow : Standing → Type 0
+IsSlotBelow (Pending slot) = slot < 32
+IsSlotBelow _ = Unit {0}
 
--- what an entry removes no other one does
-abbrev pub AreApart : List Entry → Type 0
-AreApart [] = Unit {0}
-AreApart (e ∷ es) = (list_any (is_same_removal e) es ≡ false) × AreApart es
-
-pub record AreReady (r : Roster) (rs : Requests) (list : List Entry) : Type 0 where
-  pub ready : list_all (is_ready r rs) list ≡ true
-  pub apart : AreApart list
+-- what an after-work callback may read is no longer than a reply
+abbrev pub IsShort : Option (List ℕ) → Type 0
+IsShort None = Unit {0}
+IsShort (Some bytes) = length bytes ≤ 65536

@@ -7,6 +7,7 @@ pub mod PhaseList
 pub mod Progress
 pub mod Requests
 pub mod Roster
+pub mod Setting
 pub mod State
 pub mod Step
 pub mod View

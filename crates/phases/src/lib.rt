@@ -4,7 +4,6 @@
 ghost use Rattle.phases.specs.PhaseList.{hint_of};
 ghost use Rattle.phases.specs.Step.{LoopStep};
 ghost use Rattle.phases.specs.Outside.{IsOneOf};
-ghost use Rattle.phases.specs.Fitting.{AreReady};
 ghost use Rattle.phases.specs.Codes.{requests_code};
 
 mod did;
@@ -20,3 +19,6 @@ mod outstanding;
 mod requests;
 mod roster;
 mod entries;
+mod machine;
+mod setting;
+mod work;

@@ -1,12 +1,13 @@
 // The outstanding requests of a loop.
 
-ghost use Rattle.std.specs.Prelude.{◌≡◌, ◌≢◌, ◌+◌, ◌<◌, ◌≤◌, ◌^◌, ◌==◌, ◌↔◌, [], Some, None, true, false, length, find, slice_get, not, IfOk, IfErr, OnOk, IfSome, IfNone, MatchOption, MatchResult, option_map};
+ghost use Rattle.std.specs.Prelude.{◌≡◌, ◌≢◌, ◌+◌, ◌<◌, ◌≤◌, ◌^◌, ◌==◌, ◌↔◌, [], Some, None, true, false, length, find, filter, slice_get, not, IfOk, IfErr, OnOk, IfSome, IfNone, MatchOption, MatchResult, option_map};
 ghost use Rattle.std.specs.List.{list_any};
 ghost use Rattle.order.specs.Orders.{order_of, end_of};
 ghost use Rattle.phases.specs.Host.{standing_of};
 ghost use Rattle.phases.specs.Outside.{IsOneOf, next_of, answered};
 ghost use Rattle.phases.specs.Progress.{tidings_in};
 ghost use Rattle.phases.specs.Requests.{Request, Cancelled, no_requests, has_number, request_of, with_stage, with_work, without_request, is_free_slot, is_settled, is_open_stage, settled, tidings_of};
+ghost use Rattle.phases.specs.Fitting.{AllRight, IsSlotBelow};
 ghost use Rattle.phases.specs.PhaseList.{is_empty};
 
 use crate::outstanding::Outstanding;
@@ -82,6 +83,17 @@ fn uses_slot(items: &[Outstanding], slot: u32) -> bool
     false
 }
 
+fn any_settled(items: &[Outstanding]) -> bool
+    ensures { result ≡ not (is_empty (filter (λ r. is_settled r.stage) items.now)) }
+{
+    for item in items {
+        if item.is_settled() {
+            return true;
+        }
+    }
+    false
+}
+
 /// A slot that no request uses.
 fn free_slot(items: &[Outstanding]) -> u32
     requires { length items.now < 32 }
@@ -111,6 +123,7 @@ impl Requests {
     pub fn len(&self) -> usize
         ensures value { result ≡ length self.now.outstanding }
         ensures most { result ≤ 32 }
+        ensures right { AllRight self.now }
     {
         self.items.len()
     }
@@ -135,6 +148,13 @@ impl Requests {
         ensures value { result.now ≡ self.now.outstanding }
     {
         self.items.as_slice()
+    }
+
+    /// Whether a request is answered or cancelled.
+    pub fn has_settled(&self) -> bool
+        ensures { result ≡ not (is_empty (settled self.now)) }
+    {
+        any_settled(self.items.as_slice())
     }
 
     /// A slot that no request uses.
@@ -163,7 +183,8 @@ impl Requests {
 
     /// Whether a request can be cancelled.
     pub fn standing(&self, number: u32) -> Standing
-        ensures { result ≡ standing_of self.now number }
+        ensures value { result ≡ standing_of self.now number }
+        ensures below { IsSlotBelow result }
     {
         let items = self.items.as_slice();
         match position_of(items, number) {

@@ -4,7 +4,7 @@ ghost use Rattle.std.specs.Prelude.{◌≡◌, ◌≢◌, ◌<◌, ◌≤◌, []
 ghost use Rattle.std.specs.List.{list_any, position_or_len};
 ghost use Rattle.handles.specs.Table.{empty_table, record_of, IsOpen, IsClosing, after_again, due_list, kind_list, nearest_due};
 ghost use Rattle.phases.specs.Roster.{callback_function, is_callback, is_open, is_open_of, async_number, async_handle, with_handles, with_made, without_handle, is_handle, unless_handle, stopped_in, started_in, again_in, closed_in, active_answer, Makes, MakesAsync};
-ghost use Rattle.phases.specs.PhaseList.{is_empty, has_active, is_active_handle};
+ghost use Rattle.phases.specs.PhaseList.{is_empty, has_active, active_asyncs, is_active_handle};
 ghost use Rattle.phases.specs.Fitting.{has_duty};
 ghost use Rattle.phases.specs.Step.{is_as_listed, handle_function};
 
@@ -296,6 +296,27 @@ impl Roster {
         ensures few { length result.now ≤ 64 }
     {
         self.closing.as_slice()
+    }
+
+    /// Whether a handle is active.
+    pub fn has_active(&self) -> bool
+        ensures { result ≡ has_active self.now }
+    {
+        let timer = self.handles.nearest().is_some();
+        let idle = !self.handles.of_kind(Kind::Idle).is_empty();
+        let check = !self.handles.of_kind(Kind::Check).is_empty();
+        timer || idle || check || self.has_active_async()
+    }
+
+    fn has_active_async(&self) -> bool
+        ensures { result ≡ not (is_empty (active_asyncs self.now)) }
+    {
+        for handle in self.asyncs.as_slice() {
+            if self.is_active(*handle) {
+                return true;
+            }
+        }
+        false
     }
 
     /// The asyncs' handles by number.

@@ -36,7 +36,11 @@ fn knows_the_functions_of_the_host(rt: HostRuntime) -> Result<(), Fail> {
         let call = Call::from_name(name).ok_or("a name of the table is unknown")?;
         assert!(rt; call.name().as_bytes() == name);
         assert_eq!(rt; call.signature().params, params, "of {call:?}");
-        assert_eq!(rt; call.signature().results, [answer].as_slice(), "of {call:?}");
+        assert_eq!(rt;
+            call.signature().results,
+            [answer].as_slice(),
+            "of {call:?}"
+        );
     }
     Ok(())
 }

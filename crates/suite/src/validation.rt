@@ -3,7 +3,7 @@ use std::alloc::Global;
 use std::test::Fail;
 
 /// One function `f` from nothing to an i32.
-const M1: &str = "0105016000017f 03020100 07050101660000";
+const ONE_FUNCTION: &str = "0105016000017f 03020100 07050101660000";
 
 /// The same, with two more types: from nothing to two i32, and from an i32 to an i32.
 const THREE_TYPES: &str = "010f 03 6000017f 6000027f7f 60017f017f 03020100 07050101660000";
@@ -37,7 +37,7 @@ fn judges_bodies(rt: HostRuntime) -> Result<(), Fail> {
         ("280500 0b", "validate 2 Index"),
         ("110000 0b", "validate 2 Index"),
     ] {
-        let bytes = with_body(alloc, M1, bytes_of(alloc, body)?.as_slice())?;
+        let bytes = with_body(alloc, ONE_FUNCTION, bytes_of(alloc, body)?.as_slice())?;
         assert_eq!(rt;
             verdict(alloc, bytes)?.as_str(),
             wanted,
@@ -200,7 +200,7 @@ fn bounds_height_and_nesting(rt: HostRuntime) -> Result<(), Fail> {
         ),
     ];
     for (parts, wanted) in rows {
-        let bytes = with_body(alloc, M1, repeated(alloc, parts)?.as_slice())?;
+        let bytes = with_body(alloc, ONE_FUNCTION, repeated(alloc, parts)?.as_slice())?;
         assert_eq!(rt; verdict(alloc, bytes)?.as_str(), wanted, "of {parts:?}");
     }
     Ok(())

@@ -1,0 +1,29 @@
+-- Which stores are of a module (WebAssembly Core 1.0, appendix, store validity).
+use Rattle.std.specs.Prelude.{◌≡◌, ℕ, ◌*◌, ◌<◌, ◌≤◌, max, List, length, Option, Some, None, All}
+use Rattle.syntax.specs.declared.module.Contents.{Contents}
+use Rattle.validate.specs.Typing.{function_types}
+use Rattle.validate.specs.Segments.{minimum}
+use Rattle.instance.specs.Store.{Store, page, page_limit}
+use Rattle.interp.specs.Typed.{GlobalsFit}
+
+-- an element of a table is empty, or names a function of the module
+abbrev pub NamesFunction : Contents → Option ℕ → Type 0
+NamesFunction m None = Unit {0}
+NamesFunction m (Some f) = f < length (function_types m)
+
+-- So many whole pages: no fewer than the least number, and no more than the limit, or than the least number where
+-- that is more.
+pub record HasPages (limit least : ℕ) (bytes : List ℕ) : Type 0 where
+  pub count : ℕ
+  pub whole : length bytes ≡ count * page
+  pub enough : least ≤ count
+  pub within : count ≤ max limit least
+
+-- The globals are of their types, the table is as long as declared and names functions of the module, and the memory
+-- lies within what is declared.
+pub record IsStoreOf (m : Contents) (s : Store) : Type 0 where
+  pub globals : GlobalsFit m s
+  pub table : length s.table ≡ minimum m.table
+  pub elements : All (NamesFunction m) s.table
+  pub limit : s.limit ≡ page_limit m.memory
+  pub memory : HasPages s.limit (minimum m.memory) s.memory

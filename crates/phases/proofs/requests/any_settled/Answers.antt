@@ -1,0 +1,18 @@
+use Rattle.std.proofs.Common.{◌≡◌, Bool, sym, ap, ◌∙◌}
+use Rattle.std.specs.List.{list_any}
+use Rattle.std.proofs.lemmas.List.{take_all}
+use Rattle.phases.specs.Requests.{Request, is_settled}
+use Rattle.phases.proofs.Finding.{any_here, any_passed}
+use Rattle.phases.proofs.Booking.{any_filtered}
+use Rattle.phases.proofs.requests.any_settled.Goals as goal
+
+pub loop-item-preserved : goal.loop-item-preserved
+loop-item-preserved c =
+    any_passed (λ (r : Request). is_settled r.stage) c.args.items.now c.loop-item.item-index c.item-item.result c.loop-item-test.true c.item-item.is c.loop-item.invariant (sym c.is_settled.ensures ∙ c.if-is_settled.false)
+
+pub returns-then-is_settled : goal.returns-then-is_settled
+returns-then-is_settled c =
+    sym (any_filtered (λ (r : Request). is_settled r.stage) c.args.items.now ∙ any_here (λ (r : Request). is_settled r.stage) c.args.items.now c.loop-item.item-index c.item-item.result c.loop-item-test.true c.item-item.is c.loop-item.invariant (sym c.is_settled.ensures ∙ c.if-is_settled.true))
+
+pub returns : goal.returns
+returns c = sym (any_filtered (λ (r : Request). is_settled r.stage) c.args.items.now ∙ ap (list_any (λ (r : Request). is_settled r.stage)) (sym (take_all c.loop-item.item-index c.args.items.now c.loop-item-test.false)) ∙ c.loop-item.invariant)

@@ -9,11 +9,11 @@ use instance::operands::Operands;
 use instance::state::State;
 
 /// Pushes a global.
-pub fn global_get(instance: &State, operands: &mut Operands, index: u32) -> Turned
+pub fn global_get(state: &State, operands: &mut Operands, index: u32) -> Turned
     requires { length operands.old ≤ 32768 }
-    ensures { DoesInStore (instr.GlobalGet index) result instance.now instance.now operands.old operands.new }
+    ensures { DoesInStore (instr.GlobalGet index) result state.now state.now operands.old operands.new }
 {
-    let Some(value) = instance.global(index) else {
+    let Some(value) = state.global(index) else {
         return Turned::Lacking;
     };
     operands.push(value);
@@ -21,13 +21,13 @@ pub fn global_get(instance: &State, operands: &mut Operands, index: u32) -> Turn
 }
 
 /// Sets a global to the operand on top.
-pub fn global_set(instance: &mut State, operands: &mut Operands, index: u32) -> Turned
-    ensures { DoesInStore (instr.GlobalSet index) result instance.old instance.new operands.old operands.new }
+pub fn global_set(state: &mut State, operands: &mut Operands, index: u32) -> Turned
+    ensures { DoesInStore (instr.GlobalSet index) result state.old state.new operands.old operands.new }
 {
     let Some(value) = operands.pop() else {
         return Turned::Lacking;
     };
-    if instance.set_global(index, value) {
+    if state.set_global(index, value) {
         Turned::On
     } else {
         Turned::Lacking

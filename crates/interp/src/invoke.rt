@@ -31,24 +31,24 @@ fn answered(answer: Option<Value>) -> Values
 /// Asks the host for an import.
 fn invoke_import<H: Host>(
     contents: &Contents,
-    instance: &mut State,
+    state: &mut State,
     host: &mut H,
     import: u32,
     args: &[Value],
     fuel: u64,
     depth: u32,
 ) -> Ended
-    requires store { IsStoreOf contents.now instance.old }
+    requires store { IsStoreOf contents.now state.old }
     requires names { Names contents.now (H.types host.old) }
     requires typed { TakesArguments contents.now import args.now }
     requires imported { import < length contents.now.imports }
-    ensures runs { Invoked contents.now depth fuel H.moves instance.old host.old import args.now result instance.new host.new }
+    ensures runs { Invoked contents.now depth fuel H.moves state.old host.old import args.now result state.new host.new }
     ensures within { result.used ≤ fuel }
     ensures results { ReturnsTyped contents.now import result.ending }
-    ensures kept { IsStoreOf contents.now instance.new }
+    ensures kept { IsStoreOf contents.now state.new }
     ensures types { H.types host.new ≡ H.types host.old }
 {
-    let answer = host.call(import, &Args::new(args), instance.memory_mut());
+    let answer = host.call(import, &Args::new(args), state.memory_mut());
     Ended {
         ending: Ending::Return(answered(answer)),
         used: 0,
@@ -58,7 +58,7 @@ fn invoke_import<H: Host>(
 /// Calls a defined function.
 fn invoke_defined<H: Host>(
     contents: &Contents,
-    instance: &mut State,
+    state: &mut State,
     host: &mut H,
     machine: &mut Machine,
     function: u32,
@@ -67,22 +67,22 @@ fn invoke_defined<H: Host>(
     depth: u32,
 ) -> Ended
     requires valid { ValidModule contents.now }
-    requires store { IsStoreOf contents.now instance.old }
+    requires store { IsStoreOf contents.now state.old }
     requires names { Names contents.now (H.types host.old) }
     requires typed { TakesArguments contents.now function args.now }
     requires defined { length contents.now.imports ≤ function }
     requires deep { depth ≤ 128 }
-    ensures runs { Invoked contents.now depth fuel H.moves instance.old host.old function args.now result instance.new host.new }
+    ensures runs { Invoked contents.now depth fuel H.moves state.old host.old function args.now result state.new host.new }
     ensures within { result.used ≤ fuel }
     ensures results { ReturnsTyped contents.now function result.ending }
-    ensures kept { IsStoreOf contents.now instance.new }
+    ensures kept { IsStoreOf contents.now state.new }
     ensures types { H.types host.new ≡ H.types host.old }
 {
     machine.clear();
     machine.operands.push_all(args);
     let index = function as usize - contents.imports.len();
     enter_function(contents, machine, index);
-    run(contents, instance, host, machine, fuel, depth)
+    run(contents, state, host, machine, fuel, depth)
 }
 
 /// Calls a function of a module on one of its instances, with these arguments and so much fuel. At most `depth`

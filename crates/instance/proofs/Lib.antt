@@ -1,2 +1,4 @@
 pub mod Overwriting
 pub mod Initial
+pub mod Keeping
+pub mod Holding

@@ -5,3 +5,5 @@ pub mod Faults
 pub mod Typed
 pub mod Fresh
 pub mod Lending
+pub mod Frames
+pub mod Opened

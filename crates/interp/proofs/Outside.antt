@@ -10,8 +10,8 @@ use Rattle.validate.specs.Typing.{HasFunctionType, type_of}
 use Rattle.validate.specs.Valid.{ValidModule}
 use Rattle.instance.specs.Store.{Store}
 use Rattle.interp.specs.declared.ended.Ended.{Ended}
-use Rattle.interp.specs.declared.machine.Machine.{Machine}
-use Rattle.interp.specs.Frames.{held, under}
+use Rattle.instance.specs.declared.machine.Machine.{Machine}
+use Rattle.instance.specs.Frames.{held, under}
 use Rattle.interp.specs.Configuration.{entered}
 use Rattle.interp.specs.Run.{HostCall, IsDefined, IsImported, as_operands}
 use Rattle.interp.specs.Hosting.{Names, Takes, Answers}

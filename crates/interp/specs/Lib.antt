@@ -10,7 +10,6 @@ pub mod Room
 pub mod Storing
 pub mod Traps
 pub mod Turning
-pub mod Frames
 pub mod Search
 pub mod Plainly
 pub mod Shapes

@@ -11,9 +11,10 @@ ghost use Rattle.interp.specs.Moving.{Does};
 ghost use Rattle.interp.specs.Jumping.{Chooses};
 
 use crate::blocks::body;
-use crate::machine::{Machine, Moved};
+use crate::moved::Moved;
 use crate::trap::TrapCode;
-use instance::state::Instance;
+use instance::machine::Machine;
+use instance::state::State;
 use syntax::module::{Contents, FuncType};
 use syntax::types::ValType;
 use validate::{type_at, type_of_function};
@@ -41,13 +42,13 @@ fn is_same_type(found: Option<&FuncType>, wanted: Option<&FuncType>) -> bool
 /// The function that the table has at an index, where it is of this type.
 fn function_at(
     contents: &Contents,
-    instance: &Instance,
+    state: &State,
     type_index: u32,
     index: u32,
 ) -> Result<u32, TrapCode>
-    ensures { Chooses contents.now type_index (slice_get instance.now.table index) result }
+    ensures { Chooses contents.now type_index (slice_get state.now.table index) result }
 {
-    let function = match instance.element(index) {
+    let function = match state.element(index) {
         Some(Some(function)) => function,
         Some(None) => return Err(TrapCode::EmptyElement),
         None => return Err(TrapCode::Table),
@@ -74,12 +75,12 @@ pub fn call_direct(contents: &Contents, machine: &mut Machine, function: u32) ->
 /// Calls the function that the operand on top names in the table.
 pub fn call_indirect(
     contents: &Contents,
-    instance: &Instance,
+    state: &State,
     machine: &mut Machine,
     type_index: u32,
 ) -> Moved
     requires { slice_get (body_at contents.now machine.old.function) machine.old.pc ≡ Some (op.Plain (instr.CallIndirect type_index)) }
-    ensures { Does contents.now 1 result machine.old machine.new instance.now instance.now }
+    ensures { Does contents.now 1 result machine.old machine.new state.now state.now }
 {
     let ops = body(contents, machine.function);
     let at = machine.pc;
@@ -88,7 +89,7 @@ pub fn call_indirect(
     let Some(index) = machine.operands.pop_i32() else {
         return Moved::Stuck;
     };
-    match function_at(contents, instance, type_index, index) {
+    match function_at(contents, state, type_index, index) {
         Ok(function) => {
             machine.pc = behind;
             Moved::Call(function)

@@ -5,11 +5,11 @@ ghost use Rattle.validate.specs.Valid.{ValidModule};
 ghost use Rattle.interp.specs.Calling.{CanEnter, Entered, IsAtCall, CallDone, IsAtImport, Asks};
 ghost use Rattle.interp.specs.Hosting.{Names};
 
-use crate::controls::{Control, OpenBlock, OpenCall, Resume};
 use crate::host::{Args, Host};
-use crate::machine::Machine;
 use crate::trap::TrapCode;
-use instance::state::Instance;
+use instance::controls::{Control, OpenBlock, OpenCall, Resume};
+use instance::machine::Machine;
+use instance::state::State;
 use syntax::module::Contents;
 use validate::type_of_function;
 
@@ -58,14 +58,14 @@ pub fn enter_function(contents: &Contents, machine: &mut Machine, index: usize)
 /// Asks the host for an import whose arguments are the topmost operands.
 pub fn ask_host<H: Host>(
     contents: &Contents,
-    instance: &mut Instance,
+    state: &mut State,
     host: &mut H,
     machine: &mut Machine,
     import: u32,
 )
     requires at { IsAtImport contents.now import machine.old }
     requires names { Names contents.now (H.types host.old) }
-    ensures asked { Asks contents.now H.moves import instance.old host.old machine.old instance.new host.new machine.new }
+    ensures asked { Asks contents.now H.moves import state.old host.old machine.old state.new host.new machine.new }
     ensures types { H.types host.new ≡ H.types host.old }
 {
     let Some(import_type) = type_of_function(contents, import) else {
@@ -73,7 +73,7 @@ pub fn ask_host<H: Host>(
     };
     let params = import_type.params.len();
     let args = Args::new(machine.operands.topmost(params));
-    let answer = host.call(import, &args, instance.memory_mut());
+    let answer = host.call(import, &args, state.memory_mut());
     machine.operands.discard(params);
     if let Some(value) = answer {
         machine.operands.push(value);
@@ -84,7 +84,7 @@ pub fn ask_host<H: Host>(
 /// entered where fewer calls than the limit stand open.
 pub fn call<H: Host>(
     contents: &Contents,
-    instance: &mut Instance,
+    state: &mut State,
     host: &mut H,
     machine: &mut Machine,
     function: u32,
@@ -92,15 +92,15 @@ pub fn call<H: Host>(
 ) -> Stepped
     requires valid { ValidModule contents.now }
     requires names { Names contents.now (H.types host.old) }
-    requires at { IsAtCall contents.now instance.old function machine.old }
+    requires at { IsAtCall contents.now state.old function machine.old }
     requires deep { depth ≤ 128 }
-    ensures done { CallDone contents.now depth H.moves instance.old host.old function machine.old result instance.new host.new machine.new }
+    ensures done { CallDone contents.now depth H.moves state.old host.old function machine.old result state.new host.new machine.new }
     ensures types { H.types host.new ≡ H.types host.old }
 {
     let imports = contents.imports.len();
     let index = function as usize;
     if index < imports {
-        ask_host(contents, instance, host, machine, function);
+        ask_host(contents, state, host, machine, function);
         return Stepped::On;
     }
     if machine.locals.depth() >= depth {

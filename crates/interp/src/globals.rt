@@ -4,16 +4,16 @@ ghost use Rattle.std.specs.Prelude.{◌≡◌, ◌≤◌, length};
 ghost use Rattle.syntax.specs.declared.instruction.Instr.TheVariants as instr;
 ghost use Rattle.interp.specs.Turning.{DoesInStore};
 
-use crate::operands::Operands;
 use crate::turned::Turned;
-use instance::state::Instance;
+use instance::operands::Operands;
+use instance::state::State;
 
 /// Pushes a global.
-pub fn global_get(instance: &Instance, operands: &mut Operands, index: u32) -> Turned
+pub fn global_get(state: &State, operands: &mut Operands, index: u32) -> Turned
     requires { length operands.old ≤ 32768 }
-    ensures { DoesInStore (instr.GlobalGet index) result instance.now instance.now operands.old operands.new }
+    ensures { DoesInStore (instr.GlobalGet index) result state.now state.now operands.old operands.new }
 {
-    let Some(value) = instance.global(index) else {
+    let Some(value) = state.global(index) else {
         return Turned::Lacking;
     };
     operands.push(value);
@@ -21,13 +21,13 @@ pub fn global_get(instance: &Instance, operands: &mut Operands, index: u32) -> T
 }
 
 /// Sets a global to the operand on top.
-pub fn global_set(instance: &mut Instance, operands: &mut Operands, index: u32) -> Turned
-    ensures { DoesInStore (instr.GlobalSet index) result instance.old instance.new operands.old operands.new }
+pub fn global_set(state: &mut State, operands: &mut Operands, index: u32) -> Turned
+    ensures { DoesInStore (instr.GlobalSet index) result state.old state.new operands.old operands.new }
 {
     let Some(value) = operands.pop() else {
         return Turned::Lacking;
     };
-    if instance.set_global(index, value) {
+    if state.set_global(index, value) {
         Turned::On
     } else {
         Turned::Lacking

@@ -1,6 +1,6 @@
 // Calls of functions from outside (WebAssembly Core 1.0, 4.5.5).
 
-ghost use Rattle.std.specs.Prelude.{◌≡◌, ◌≤◌, ◌<◌, length, IfOk};
+ghost use Rattle.std.specs.Prelude.{◌≡◌, ◌≤◌, ◌<◌, length};
 ghost use Rattle.validate.specs.Valid.{ValidModule};
 ghost use Rattle.interp.specs.Hosting.{Names};
 ghost use Rattle.interp.specs.Run.{as_operands};
@@ -10,11 +10,10 @@ ghost use Rattle.interp.specs.Invoking.{TakesArguments, Invoked, ReturnsTyped};
 use crate::calls::enter_function;
 use crate::ended::{Ended, Ending};
 use crate::host::{Args, Host};
-use crate::machine::Machine;
 use crate::run::run;
 use crate::values::Values;
-use instance::state::Instance;
-use std::alloc::{AllocError, Global};
+use instance::machine::Machine;
+use instance::state::{Instance, State};
 use syntax::module::Contents;
 use syntax::types::Value;
 use validate::Valid;
@@ -32,24 +31,24 @@ fn answered(answer: Option<Value>) -> Values
 /// Asks the host for an import.
 fn invoke_import<H: Host>(
     contents: &Contents,
-    instance: &mut Instance,
+    state: &mut State,
     host: &mut H,
     import: u32,
     args: &[Value],
     fuel: u64,
     depth: u32,
 ) -> Ended
-    requires store { IsStoreOf contents.now instance.old }
+    requires store { IsStoreOf contents.now state.old }
     requires names { Names contents.now (H.types host.old) }
     requires typed { TakesArguments contents.now import args.now }
     requires imported { import < length contents.now.imports }
-    ensures runs { Invoked contents.now depth fuel H.moves instance.old host.old import args.now result instance.new host.new }
+    ensures runs { Invoked contents.now depth fuel H.moves state.old host.old import args.now result state.new host.new }
     ensures within { result.used ≤ fuel }
     ensures results { ReturnsTyped contents.now import result.ending }
-    ensures kept { IsStoreOf contents.now instance.new }
+    ensures kept { IsStoreOf contents.now state.new }
     ensures types { H.types host.new ≡ H.types host.old }
 {
-    let answer = host.call(import, &Args::new(args), instance.memory_mut());
+    let answer = host.call(import, &Args::new(args), state.memory_mut());
     Ended {
         ending: Ending::Return(answered(answer)),
         used: 0,
@@ -58,39 +57,38 @@ fn invoke_import<H: Host>(
 
 /// Calls a defined function.
 fn invoke_defined<H: Host>(
-    alloc: Global,
     contents: &Contents,
-    instance: &mut Instance,
+    state: &mut State,
     host: &mut H,
+    machine: &mut Machine,
     function: u32,
     args: &[Value],
     fuel: u64,
     depth: u32,
-) -> Result<Ended, AllocError>
+) -> Ended
     requires valid { ValidModule contents.now }
-    requires store { IsStoreOf contents.now instance.old }
+    requires store { IsStoreOf contents.now state.old }
     requires names { Names contents.now (H.types host.old) }
     requires typed { TakesArguments contents.now function args.now }
     requires defined { length contents.now.imports ≤ function }
     requires deep { depth ≤ 128 }
-    ensures runs { IfOk result (λ ended. Invoked contents.now depth fuel H.moves instance.old host.old function args.now ended instance.new host.new) }
-    ensures within { IfOk result (λ ended. ended.used ≤ fuel) }
-    ensures results { IfOk result (λ ended. ReturnsTyped contents.now function ended.ending) }
-    ensures kept { IfOk result (λ _. IsStoreOf contents.now instance.new) }
+    ensures runs { Invoked contents.now depth fuel H.moves state.old host.old function args.now result state.new host.new }
+    ensures within { result.used ≤ fuel }
+    ensures results { ReturnsTyped contents.now function result.ending }
+    ensures kept { IsStoreOf contents.now state.new }
     ensures types { H.types host.new ≡ H.types host.old }
 {
-    let mut machine = Machine::new(alloc)?;
+    machine.clear();
     machine.operands.push_all(args);
     let index = function as usize - contents.imports.len();
-    enter_function(contents, &mut machine, index);
-    Ok(run(contents, instance, host, &mut machine, fuel, depth))
+    enter_function(contents, machine, index);
+    run(contents, state, host, machine, fuel, depth)
 }
 
 /// Calls a function of a module on one of its instances, with these arguments and so much fuel. At most `depth`
 /// calls stand open, this one among them; calls of the host are not counted. A call of an imported function is one
-/// call of the host, and uses no fuel.
+/// call of the host, and uses no fuel. No memory is taken: the instance's machine has room for all calls.
 pub fn invoke<H: Host>(
-    alloc: Global,
     valid: &Valid,
     instance: &mut Instance,
     host: &mut H,
@@ -98,20 +96,21 @@ pub fn invoke<H: Host>(
     args: &[Value],
     fuel: u64,
     depth: u32,
-) -> Result<Ended, AllocError>
+) -> Ended
     requires store { IsStoreOf valid.now.contents instance.old }
     requires names { Names valid.now.contents (H.types host.old) }
     requires typed { TakesArguments valid.now.contents function args.now }
     requires depth { (1 ≤ depth) × (depth ≤ 128) }
-    ensures runs { IfOk result (λ ended. Invoked valid.now.contents depth fuel H.moves instance.old host.old function args.now ended instance.new host.new) }
-    ensures within { IfOk result (λ ended. ended.used ≤ fuel) }
-    ensures results { IfOk result (λ ended. ReturnsTyped valid.now.contents function ended.ending) }
-    ensures kept { IfOk result (λ _. IsStoreOf valid.now.contents instance.new) }
+    ensures runs { Invoked valid.now.contents depth fuel H.moves instance.old host.old function args.now result instance.new host.new }
+    ensures within { result.used ≤ fuel }
+    ensures results { ReturnsTyped valid.now.contents function result.ending }
+    ensures kept { IsStoreOf valid.now.contents instance.new }
     ensures types { H.types host.new ≡ H.types host.old }
 {
     let contents = valid.contents();
+    let Instance { state, machine } = instance;
     if (function as usize) < contents.imports.len() {
-        return Ok(invoke_import(contents, instance, host, function, args, fuel, depth));
+        return invoke_import(contents, state, host, function, args, fuel, depth);
     }
-    invoke_defined(alloc, contents, instance, host, function, args, fuel, depth)
+    invoke_defined(contents, state, host, machine, function, args, fuel, depth)
 }

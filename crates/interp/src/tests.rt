@@ -87,16 +87,7 @@ fn call(
     fresh_is_store_of(valid, &instance);
     assert!(rt; valid.contents().imports.len() == 0);
     assert!(rt; takes_arguments(valid, 0, args));
-    Ok(invoke(
-        rt.alloc(),
-        valid,
-        &mut instance,
-        &mut NoHost,
-        0,
-        args,
-        fuel,
-        depth,
-    )?)
+    Ok(invoke(valid, &mut instance, &mut NoHost, 0, args, fuel, depth))
 }
 
 /// How a call is to end.
@@ -363,19 +354,10 @@ fn asks_the_host(rt: HostRuntime) -> Result<(), Fail> {
     let mut host = Doubling { calls: 0 };
     // a host call opens no call of its own
     assert!(rt; takes_arguments(&valid, 1, &[]));
-    let ended = invoke(rt.alloc(), &valid, &mut instance, &mut host, 1, &[], 2, 1)?;
+    let ended = invoke(&valid, &mut instance, &mut host, 1, &[], 2, 1);
     assert!(rt; is_wanted(&ended, Wanted::Return(&[Value::I32(10)]), 2));
     assert!(rt; takes_arguments(&valid, 0, &[Value::I32(4)]));
-    let ended = invoke(
-        rt.alloc(),
-        &valid,
-        &mut instance,
-        &mut host,
-        0,
-        &[Value::I32(4)],
-        0,
-        1,
-    )?;
+    let ended = invoke(&valid, &mut instance, &mut host, 0, &[Value::I32(4)], 0, 1);
     assert!(rt; is_wanted(&ended, Wanted::Return(&[Value::I32(8)]), 0));
     assert_eq!(rt; host.calls, 2);
     Ok(())

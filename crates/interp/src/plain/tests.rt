@@ -2,6 +2,8 @@ ghost use Rattle.interp.specs.Plainly.{StaysInBlock};
 
 use super::*;
 use decode::decode;
+use instance::state::Instance;
+use std::alloc::AllocError;
 use std::process::Abort;
 use std::test::Fail;
 use syntax::operator::{Extension, MemArg, Width};
@@ -20,12 +22,11 @@ fn valid_module(rt: &(impl Abort + AllocGlobal)) -> Result<Valid, Fail> {
 }
 
 /// A machine in a call with one local, 5, and these operands.
-fn machine_with(rt: &impl AllocGlobal, values: &[Value]) -> Result<Machine, Fail> {
-    let mut machine = Machine::new(rt.alloc());
-    machine.locals.enter(&[Value::I32(5)], &[])?;
-    for value in values {
-        machine.operands.push(*value)?;
-    }
+fn machine_with(rt: &(impl Abort + AllocGlobal), values: &[Value]) -> Result<Machine, AllocError> {
+    let mut machine = Machine::new(rt.alloc())?;
+    machine.locals.enter(&[Value::I32(5)], &[]);
+    assert!(rt; values.len() <= 2);
+    machine.operands.push_all(values);
     Ok(machine)
 }
 
@@ -42,37 +43,35 @@ fn type_of(value: Value) -> ValType {
 
 /// The number of the trap after an instruction, 0 where it goes on, 8 where no rule applies.
 fn trap_after(
+    rt: &impl Abort,
     valid: &Valid,
-    instance: &mut Instance,
+    state: &mut State,
     machine: &mut Machine,
     instr: &Instr,
-) -> Result<u32, AllocError>
+) -> u32
     requires { StaysInBlock instr.now }
 {
-    Ok(
-        match do_plain(valid.contents(), instance, machine, instr)? {
-            Turned::On => 0,
-            Turned::Trapped(trap) => trap.code(),
-            Turned::Lacking => 8,
-        },
-    )
+    assert!(rt; machine.operands.len() <= 32768);
+    match do_plain(valid.contents(), state, machine, instr) {
+        Turned::On => 0,
+        Turned::Trapped(trap) => trap.code(),
+        Turned::Lacking => 8,
+    }
 }
 
 /// The operand on top after an instruction, which stays there.
 fn top_after(
+    rt: &impl Abort,
     valid: &Valid,
-    instance: &mut Instance,
+    state: &mut State,
     machine: &mut Machine,
     instr: &Instr,
-) -> Result<Option<Value>, AllocError>
+) -> Option<Value>
     requires { StaysInBlock instr.now }
 {
-    do_plain(valid.contents(), instance, machine, instr)?;
-    let top = machine.operands.pop();
-    if let Some(value) = top {
-        machine.operands.push(value)?;
-    }
-    Ok(top)
+    assert!(rt; machine.operands.len() <= 32768);
+    do_plain(valid.contents(), state, machine, instr);
+    machine.operands.as_slice().last().copied()
 }
 
 #[test]
@@ -94,7 +93,7 @@ fn narrow_loads_are_widened(rt: HostRuntime) -> Result<(), Fail> {
         let mut machine = machine_with(&rt, &[Value::I32(0)])?;
         let load = Instr::LoadNarrow(type_of(value), width, extension, at(0));
         assert_eq!(rt;
-            top_after(&valid, &mut instance, &mut machine, &load)?,
+            top_after(&rt, &valid, &mut instance.state, &mut machine, &load),
             Some(value)
         );
     }
@@ -109,13 +108,13 @@ fn accesses_past_the_end_trap(rt: HostRuntime) -> Result<(), Fail> {
         let mut machine = machine_with(&rt, &[Value::I32(address)])?;
         let load = Instr::Load(ValType::I32, at(offset));
         assert_eq!(rt;
-            trap_after(&valid, &mut instance, &mut machine, &load)?,
+            trap_after(&rt, &valid, &mut instance.state, &mut machine, &load),
             code
         );
         let mut machine = machine_with(&rt, &[Value::I32(address), Value::I32(7)])?;
         let store = Instr::Store(ValType::I32, at(offset));
         assert_eq!(rt;
-            trap_after(&valid, &mut instance, &mut machine, &store)?,
+            trap_after(&rt, &valid, &mut instance.state, &mut machine, &store),
             code
         );
     }
@@ -129,13 +128,19 @@ fn stores_are_loaded_again(rt: HostRuntime) -> Result<(), Fail> {
     let number = Value::I64(0x8877_6655_4433_2211);
     let mut machine = machine_with(&rt, &[Value::I32(8), number])?;
     let store = Instr::Store(ValType::I64, at(8));
-    assert_eq!(rt; trap_after(&valid, &mut instance, &mut machine, &store)?, 0);
+    assert_eq!(rt;
+        trap_after(&rt, &valid, &mut instance.state, &mut machine, &store),
+        0
+    );
     let mut machine = machine_with(&rt, &[Value::I32(16), Value::I64(0xabcd)])?;
     let store = Instr::StoreNarrow(ValType::I64, Width::One, at(1));
-    assert_eq!(rt; trap_after(&valid, &mut instance, &mut machine, &store)?, 0);
+    assert_eq!(rt;
+        trap_after(&rt, &valid, &mut instance.state, &mut machine, &store),
+        0
+    );
     let mut machine = machine_with(&rt, &[Value::I32(16)])?;
     let load = Instr::Load(ValType::I64, at(0));
-    let value = top_after(&valid, &mut instance, &mut machine, &load)?;
+    let value = top_after(&rt, &valid, &mut instance.state, &mut machine, &load);
     assert_eq!(rt; value, Some(Value::I64(0x8877_6655_4433_cd11)));
     Ok(())
 }
@@ -145,20 +150,56 @@ fn memory_grows_and_variables_are_set(rt: HostRuntime) -> Result<(), Fail> {
     let valid = valid_module(&rt)?;
     let mut instance = Instance::new(rt.alloc(), &valid).expect(&rt, "an instance");
     let mut machine = machine_with(&rt, &[Value::I32(2)])?;
-    let answer = top_after(&valid, &mut instance, &mut machine, &Instr::MemoryGrow)?;
+    let answer = top_after(
+        &rt,
+        &valid,
+        &mut instance.state,
+        &mut machine,
+        &Instr::MemoryGrow,
+    );
     assert_eq!(rt; answer, Some(Value::I32(1)));
-    let pages = top_after(&valid, &mut instance, &mut machine, &Instr::MemorySize)?;
+    let pages = top_after(
+        &rt,
+        &valid,
+        &mut instance.state,
+        &mut machine,
+        &Instr::MemorySize,
+    );
     assert_eq!(rt; pages, Some(Value::I32(3)));
-    let global = top_after(&valid, &mut instance, &mut machine, &Instr::GlobalGet(0))?;
+    let global = top_after(
+        &rt,
+        &valid,
+        &mut instance.state,
+        &mut machine,
+        &Instr::GlobalGet(0),
+    );
     assert_eq!(rt; global, Some(Value::I32(42)));
-    let kept = top_after(&valid, &mut instance, &mut machine, &Instr::LocalTee(0))?;
+    let kept = top_after(
+        &rt,
+        &valid,
+        &mut instance.state,
+        &mut machine,
+        &Instr::LocalTee(0),
+    );
     assert_eq!(rt; kept, Some(Value::I32(42)));
-    let below = top_after(&valid, &mut instance, &mut machine, &Instr::Drop)?;
+    let below = top_after(&rt, &valid, &mut instance.state, &mut machine, &Instr::Drop);
     assert_eq!(rt; below, Some(Value::I32(3)));
-    let local = top_after(&valid, &mut instance, &mut machine, &Instr::LocalGet(0))?;
+    let local = top_after(
+        &rt,
+        &valid,
+        &mut instance.state,
+        &mut machine,
+        &Instr::LocalGet(0),
+    );
     assert_eq!(rt; local, Some(Value::I32(42)));
-    machine.operands.push(Value::I32(7))?;
-    let below = top_after(&valid, &mut instance, &mut machine, &Instr::GlobalSet(0))?;
+    let mut machine = machine_with(&rt, &[Value::I32(42), Value::I32(7)])?;
+    let below = top_after(
+        &rt,
+        &valid,
+        &mut instance.state,
+        &mut machine,
+        &Instr::GlobalSet(0),
+    );
     assert_eq!(rt; below, Some(Value::I32(42)));
     assert_eq!(rt; instance.global(0), Some(Value::I32(7)));
     Ok(())

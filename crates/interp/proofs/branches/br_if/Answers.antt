@@ -1,4 +1,4 @@
-use Rattle.interp.specs.declared.machine.Moved.TheVariants as moved
+use Rattle.interp.specs.declared.moved.Moved.TheVariants as moved
 use Rattle.interp.proofs.Branching.{br_if_untested, did_br_if, passed_br_if}
 use Rattle.interp.proofs.branches.br_if.Goals as goal
 

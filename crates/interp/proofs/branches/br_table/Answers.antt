@@ -1,4 +1,4 @@
-use Rattle.interp.specs.declared.machine.Moved.TheVariants as moved
+use Rattle.interp.specs.declared.moved.Moved.TheVariants as moved
 use Rattle.interp.proofs.Branching.{br_table_untested, did_br_table}
 use Rattle.interp.proofs.branches.br_table.Goals as goal
 

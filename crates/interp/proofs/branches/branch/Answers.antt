@@ -1,9 +1,9 @@
 use Rattle.std.proofs.Common.{◌≡◌, ◌<◌, ◌∙◌, length, drop, List, Option, Some, None, ap, sym, arith}
 use Rattle.std.proofs.lemmas.Option.{slice_get_within}
 use Rattle.syntax.specs.declared.instruction.Op.{Op}
-use Rattle.interp.specs.declared.controls.Control.{Control}
-use Rattle.interp.specs.declared.controls.Control.TheVariants as control
-use Rattle.interp.specs.declared.machine.Moved.TheVariants as moved
+use Rattle.instance.specs.declared.controls.Control.{Control}
+use Rattle.instance.specs.declared.controls.Control.TheVariants as control
+use Rattle.interp.specs.declared.moved.Moved.TheVariants as moved
 use Rattle.interp.specs.Tie.{resumed}
 use Rattle.interp.proofs.Branching.{branch_done, no_block_there, too_few}
 use Rattle.interp.proofs.branches.branch.Goals as goal

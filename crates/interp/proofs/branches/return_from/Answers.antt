@@ -1,6 +1,6 @@
 use Rattle.std.proofs.Common.{arith, length, ap, List}
 use Rattle.syntax.specs.declared.instruction.Op.{Op}
-use Rattle.interp.specs.declared.machine.Moved.TheVariants as moved
+use Rattle.interp.specs.declared.moved.Moved.TheVariants as moved
 use Rattle.interp.proofs.Branching.{did_return, no_call_open, too_few_results}
 use Rattle.interp.proofs.branches.return_from.Goals as goal
 use Rattle.interp.proofs.branches.return_from.Goals.{then-call-height-via-then-call-height, then-call-height-via-else-call-height+then-call-height-2}

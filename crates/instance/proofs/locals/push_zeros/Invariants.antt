@@ -1,7 +1,7 @@
 use Rattle.std.proofs.Common.{◌≡◌, ◌≤◌, ◌+◌, ◌++◌, map, take, vec_len}
 use Rattle.std.specs.Vec.{vec_capacity}
 use Rattle.instance.specs.Store.{value_of}
-use Rattle.interp.proofs.locals.push_zeros.Given as goal
+use Rattle.instance.proofs.locals.push_zeros.Given as goal
 
 abbrev pub invariant-loop-value_type : goal.invariant-loop-value_type
 invariant-loop-value_type l = record {

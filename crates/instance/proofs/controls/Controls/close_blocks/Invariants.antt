@@ -1,7 +1,7 @@
 use Rattle.std.proofs.Common.{◌≡◌, ◌≤◌, reverse, vec_len}
 use Rattle.std.specs.Vec.{vec_capacity}
-use Rattle.interp.specs.Tie.{from_call}
-use Rattle.interp.proofs.controls.Controls.close_blocks.Given as goal
+use Rattle.instance.specs.Opened.{from_call}
+use Rattle.instance.proofs.controls.Controls.close_blocks.Given as goal
 
 abbrev pub invariant-loop-control : goal.invariant-loop-control
 invariant-loop-control l = record {

@@ -7,7 +7,7 @@ use Rattle.syntax.specs.declared.module.ExternKind.TheVariants.{Func}
 use Rattle.syntax.specs.Exporting.{IsFirst}
 use Rattle.interp.specs.declared.ended.Ended.{Ended}
 use Rattle.wasmloop.specs.declared.command.Command.{Command}
-use Rattle.wasmloop.specs.declared.command.Command.TheVariants.{Check, Invoke}
+use Rattle.wasmloop.specs.declared.command.Command.TheVariants.{Check, Invoke, Work}
 use Rattle.wasmloop.specs.declared.command.Invocation.{Invocation}
 use Rattle.wasmloop.specs.declared.calling.Called.TheVariants.{Function}
 use Rattle.wasmloop.specs.Accepted.{Holds}
@@ -31,3 +31,5 @@ pub record HasInvoked (gives : List ℕ → ℕ → List ℕ → Type 0) (i : In
 abbrev pub IsDone : (List ℕ → ℕ → List ℕ → Type 0) → Option (List ℕ) → Option (List ℕ) → Command → Type 0
 IsDone gives before after (Check file) = ((contents : Contents) × Holds gives (string_bytes file) contents) × Appends before after (codes "accepted\n")
 IsDone gives before after (Invoke invocation) = HasInvoked gives invocation
+-- what comes of a work order is the reply's own fact
+IsDone gives before after (Work order) = Unit {0}

@@ -1,6 +1,6 @@
 // What the program is asked to do.
 
-ghost use Rattle.std.specs.Prelude.{◌≤◌};
+ghost use Rattle.std.specs.Prelude.{◌≤◌, vec_len};
 
 /// How far a call may go.
 #[derive(Clone, Copy, Debug, PartialEq, Eq)]
@@ -25,6 +25,20 @@ pub struct Invocation {
     pub budget: Budget,
 }
 
+/// A work order for a module.
+#[derive(Drop)]
+pub struct WorkOrder {
+    /// The file of the module.
+    pub file: String,
+    /// What `uv_work` is given.
+    pub operation: u32,
+    /// What it may read, at most 65,536 bytes.
+    pub bytes: Vec<u8>,
+    /// What the start function and `uv_work` may use together.
+    pub budget: Budget,
+    pub ghost short: { vec_len bytes ≤ 65536 },
+}
+
 /// A command with its words.
 #[derive(Drop)]
 pub enum Command {
@@ -32,4 +46,6 @@ pub enum Command {
     Check { file: String },
     /// Calls an exported function of a module.
     Invoke(Invocation),
+    /// Lets a module compute a reply.
+    Work(WorkOrder),
 }

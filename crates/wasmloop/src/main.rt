@@ -14,6 +14,7 @@ mod refused;
 mod refusing;
 mod status;
 mod words;
+mod work;
 
 use file::SystemFiles;
 use refused::Refused;

@@ -15,6 +15,7 @@ use crate::file::Reader;
 use crate::line::EndedLine;
 use crate::loading::load;
 use crate::status::Status;
+use crate::work::work;
 use std::alloc::Global;
 use std::io::{self, Write};
 
@@ -113,6 +114,7 @@ pub fn perform<R: Reader, O: Write, E: Write>(
     let result = match command {
         Command::Check { file } => check(alloc, file.as_str(), reader, out),
         Command::Invoke(invocation) => invoke(alloc, invocation, reader, out),
+        Command::Work(order) => work(alloc, order, reader, out),
     };
     let status = match result {
         Ok(status) => status,

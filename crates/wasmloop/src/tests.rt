@@ -1,6 +1,7 @@
 mod check;
 mod invoke;
 mod words;
+mod work;
 
 use crate::file::{ReadFault, Reader};
 use crate::perform::perform;

@@ -1,13 +1,17 @@
 // The words of the command line.
 
-ghost use Rattle.std.specs.Prelude.{◌≤◌, IfOk};
+ghost use Rattle.std.specs.Prelude.{◌≤◌, IfOk, vec_len};
 
-use crate::command::{Budget, Command, Invocation};
-use crate::number::decimal;
+use crate::command::{Budget, Command, Invocation, WorkOrder};
+use crate::number::{decimal, small_decimal};
 use crate::refused::Refused;
 use clap::error::ErrorKind;
 use clap::{Arg, ArgAction, ArgMatches};
+use hex::FromHexError;
 use std::alloc::{AllocError, Global};
+
+/// How many bytes a work order has at most.
+const MOST_BYTES: usize = 65_536;
 
 /// How many calls may stand open at most.
 const MOST_DEPTH: u64 = 128;
@@ -63,14 +67,35 @@ fn invoke_words<'a>(alloc: Global) -> Result<clap::Command<'a>, AllocError> {
         .arg(depth_option(alloc))
 }
 
+fn work_words<'a>(alloc: Global) -> Result<clap::Command<'a>, AllocError> {
+    let operation = Arg::new(alloc, "operation")
+        .required(true)
+        .value_name("OP")
+        .allow_negative_numbers(true)
+        .help("The operation, as an unsigned decimal number");
+    let bytes = Arg::new(alloc, "bytes")
+        .value_name("HEX")
+        .allow_negative_numbers(true)
+        .help("The bytes to read, in hexadecimal, at most 65,536 of them");
+    clap::Command::new(alloc, "work")
+        .about("Lets a module's uv_work compute a reply")
+        .after_help("Example:\n  wasmloop work examples/m2.wasm 41 00ff")
+        .arg(file_word(alloc))?
+        .arg(operation)?
+        .arg(bytes)?
+        .arg(fuel_option(alloc))?
+        .arg(depth_option(alloc))
+}
+
 fn program_words<'a>(alloc: Global) -> Result<clap::Command<'a>, AllocError> {
     clap::Command::new(alloc, "wasmloop")
         .version("0.1.0")
         .override_usage("wasmloop <COMMAND>")
         .about("Runs WebAssembly modules of strangers on event loops")
-        .after_help("Example:\n  wasmloop invoke examples/m8.wasm f 0")
+        .after_help("Example:\n  wasmloop work examples/m2.wasm 41 00ff")
         .subcommand(check_words(alloc)?)?
-        .subcommand(invoke_words(alloc)?)
+        .subcommand(invoke_words(alloc)?)?
+        .subcommand(work_words(alloc)?)
 }
 
 fn refused(alloc: Global, error: clap::Error) -> Refused {
@@ -139,6 +164,28 @@ fn invoke(alloc: Global, matches: &ArgMatches<'_>) -> Result<Command, Refused> {
     }))
 }
 
+/// The bytes that a word spells in hexadecimal.
+fn bytes(alloc: Global, word: &str) -> Result<Vec<u8>, Refused>
+    ensures { IfOk result (λ bytes. vec_len bytes ≤ MOST_BYTES) }
+{
+    match hex::decode(alloc, word) {
+        Ok(bytes) if bytes.len() <= MOST_BYTES => Ok(bytes),
+        Err(FromHexError::OutOfMemory) => Err(Refused::Memory),
+        _ => Err(Refused::Arguments),
+    }
+}
+
+fn work(alloc: Global, matches: &ArgMatches<'_>) -> Result<Command, Refused> {
+    let operation = small_decimal(word(matches, "operation")?).ok_or(Refused::Arguments)?;
+    let bytes = bytes(alloc, matches.get_str("bytes").unwrap_or(""))?;
+    Ok(Command::Work(WorkOrder {
+        file: text(alloc, matches, "file")?,
+        operation,
+        bytes,
+        budget: budget(alloc, matches)?,
+    }))
+}
+
 /// The command that the words ask for. The first of them is the program's name.
 pub fn parse(alloc: Global, words: &[String]) -> Result<Command, Refused> {
     let mut program = program_words(alloc)?;
@@ -149,6 +196,7 @@ pub fn parse(alloc: Global, words: &[String]) -> Result<Command, Refused> {
     match matches.subcommand() {
         Some(("check", found)) => check(alloc, found),
         Some(("invoke", found)) => invoke(alloc, found),
+        Some(("work", found)) => work(alloc, found),
         _ => Err(refused(
             alloc,
             program.error(ErrorKind::MissingSubcommand, "a command is missing")?,

@@ -1,5 +1,6 @@
 pub mod Booking
+pub mod Exporting
 pub mod Finding
-pub mod Rostering
-pub mod Lists
 pub mod Listing
+pub mod Lists
+pub mod Rostering

@@ -25,14 +25,16 @@ impl Setting {
     /// The next request's order, twice: to be kept, and to be handed out.
     pub fn orders(
         &self,
+        alloc: Global,
         request: u32,
         slot: u32,
         op: u32,
-        bytes: Arc<Vec<u8>, Global>,
+        bytes: &[u8],
     ) -> Result<(Order, Order), AllocError>
-        ensures kept { IfOk result (λ made. order_of made.0 ≡ record { loop_no = self.now.loop_no; request = request; slot = slot; loaded = (setting_of self.now).loaded; op = op; bytes = (arc_value bytes).items; fuel = self.now.work_fuel; depth = self.now.depth }) }
+        ensures kept { IfOk result (λ made. order_of made.0 ≡ record { loop_no = self.now.loop_no; request = request; slot = slot; loaded = (setting_of self.now).loaded; op = op; bytes = bytes.now; fuel = self.now.work_fuel; depth = self.now.depth }) }
         ensures same { IfOk result (λ made. order_of made.1 ≡ order_of made.0) }
     {
+        let bytes = Arc::new(alloc, bytes.to_vec(alloc)?)?;
         let order = self.order(request, slot, op, Arc::try_clone(&bytes)?)?;
         let copy = self.order(request, slot, op, bytes)?;
         Ok((order, copy))

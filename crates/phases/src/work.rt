@@ -1,13 +1,25 @@
 // The requests of a loop, and what it shares with other threads.
 
-ghost use Rattle.std.specs.Prelude.{◌≡◌};
-ghost use Rattle.phases.specs.Host.{Cancels, Sends};
+ghost use Rattle.std.specs.Prelude.{◌≡◌, ◌<◌, ◌+◌, ◌^◌, ◌⊎◌, length};
+ghost use Rattle.imports.specs.Uv.{name_of_entry};
+ghost use Rattle.order.specs.Numbers.{no_memory};
+ghost use Rattle.phases.specs.Host.{Cancels, Sends, QueuesWork, Opens};
+ghost use Rattle.phases.specs.PhaseList.{exports};
+ghost use Rattle.phases.specs.Setting.{setting_of};
+ghost use Rattle.phases.specs.View.{AreOpenedUpTo};
 
 use crate::progress::Standing;
-use crate::requests::Requests;
+use crate::requests::{LAST_REQUEST, MAX_REQUESTS, Requests};
 use crate::roster::Roster;
+use crate::setting::Setting;
 use crate::shared::Shared;
-use order::answers::{BUSY, INVALID, NONE_LEFT};
+use imports::{Entry, Linked};
+use instance::memory::Memory;
+use order::MAX_BYTES;
+use order::answers::{
+    BUSY, INVALID, NO_MEMORY, NO_ROOM, NO_SUCH_EXPORT, NONE_LEFT, OUTSIDE_MEMORY,
+};
+use std::alloc::Global;
 
 /// Cancels a request: -22 where it is not outstanding or cancelled already, -16 where it is answered or started.
 pub fn cancel<B: Shared>(requests: &mut Requests, shared: &mut B, number: u32) -> u32
@@ -37,4 +49,74 @@ pub fn send<B: Shared>(roster: &Roster, shared: &mut B, handle: u32) -> u32
         return NONE_LEFT;
     }
     0
+}
+
+/// What a guest asks for: the operation, and where its bytes lie in the guest's memory.
+#[derive(Clone, Copy, Debug)]
+pub struct Asked {
+    pub op: u32,
+    pub place: u32,
+    pub count: u32,
+}
+
+fn exports(linked: &Linked, entry: Entry) -> bool
+    ensures { result ≡ exports linked.now.contents (name_of_entry entry) }
+{
+    linked.entry(entry).is_some()
+}
+
+/// Asks for work: -38 where `uv_work` or `uv_after_work` is not exported, -22 where the bytes are more than 65,536, -14
+/// where they lie outside the memory, -11 where 32 requests are outstanding, -28 where the numbers are used up, and -12
+/// where memory is refused. Nothing is changed then. Else the request's number.
+pub fn queue_work<B: Shared>(
+    alloc: Global,
+    setting: &Setting,
+    requests: &mut Requests,
+    shared: &mut B,
+    asked: Asked,
+    memory: &Memory,
+) -> u32
+    requires { AreOpenedUpTo requests.old.last (B.calls.view shared.old) }
+    ensures { QueuesWork B.calls (setting_of setting.now) memory.now.bytes (requests.old, shared.old) asked.op asked.place asked.count result (requests.new, shared.new) }
+{
+    let linked: &Linked = &setting.linked;
+    if !(exports(linked, Entry::Work) && exports(linked, Entry::AfterWork)) {
+        return NO_SUCH_EXPORT;
+    }
+    if asked.count as usize > MAX_BYTES {
+        return INVALID;
+    }
+    let Some(bytes) = memory.read(asked.place as usize, asked.count as usize) else {
+        return OUTSIDE_MEMORY;
+    };
+    if requests.len() == MAX_REQUESTS {
+        return NO_ROOM;
+    }
+    if requests.last() == LAST_REQUEST {
+        return NONE_LEFT;
+    }
+    open(alloc, setting, requests, shared, asked.op, bytes)
+}
+
+fn open<B: Shared>(
+    alloc: Global,
+    setting: &Setting,
+    requests: &mut Requests,
+    shared: &mut B,
+    op: u32,
+    bytes: &[u8],
+) -> u32
+    requires opened { AreOpenedUpTo requests.old.last (B.calls.view shared.old) }
+    requires room { length requests.old.outstanding < 32 }
+    requires numbers { requests.old.last + 1 < 2 ^ 31 }
+    ensures { ((result ≡ no_memory) × (requests.new ≡ requests.old) × (shared.new ≡ shared.old)) ⊎ Opens B.calls (setting_of setting.now) (requests.old, shared.old) op bytes.now result (requests.new, shared.new) }
+{
+    let request = requests.last() + 1;
+    let slot = requests.free_slot();
+    let Ok((order, copy)) = setting.orders(alloc, request, slot, op, bytes) else {
+        return NO_MEMORY;
+    };
+    shared.open(slot, request);
+    requests.open(order, copy);
+    request
 }

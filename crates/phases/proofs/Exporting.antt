@@ -1,0 +1,30 @@
+-- Whether a module exports a function for the host.
+use Rattle.std.proofs.Common.{◌≡◌, ◌≢◌, ℕ, zero, suc, ◌||◌, Bool, true, false, List, [], ◌∷◌, Option, Some, None, refl, sym, ap, subst, ◌∙◌, MatchOption, is_some}
+use Rattle.std.specs.List.{list_any, slice_get, All}
+use Rattle.std.specs.Str.{bytes_eq}
+use Rattle.std.proofs.lemmas.Slice.Eq.{bytes_eq-Decides}
+use Rattle.std.proofs.lemmas.List.Elements.{All-weaker}
+use Rattle.std.proofs.lemmas.List.Folds.{list_any_none}
+use Rattle.syntax.specs.declared.module.Contents.{Contents}
+use Rattle.syntax.specs.declared.module.ModuleExport.{ModuleExport}
+use Rattle.imports.specs.Linking.{ExportsFunction, ExportsNothing}
+use Rattle.phases.specs.PhaseList.{exports}
+
+any_at : {X : Type 0} (p : X → Bool) (xs : List X) (at : ℕ) (x : X) → slice_get xs at ≡ Some x → p x ≡ true → list_any p xs ≡ true
+any_at p [] at x h passes = absurd (cc)
+any_at p (y ∷ ys) zero x h passes = let same : y ≡ x = cc in rw (same, passes) refl
+any_at p (y ∷ ys) (suc at) x h passes =
+    elim (p y) as (λ b. (b || list_any p ys) ≡ true) [ true ↦ refl | false ↦ any_at p ys at x h passes ]
+
+false_of : (b : Bool) → (b ≡ true → ⊥) → b ≡ false
+false_of true h = absurd (h refl)
+false_of false h = refl
+
+pub found_exports : (m : Contents) (name : List ℕ) (o : Option ℕ) → MatchOption o (ExportsNothing m name) (ExportsFunction m name) → is_some o ≡ exports m name
+found_exports m name None none =
+    sym (list_any_none (λ (e : ModuleExport). bytes_eq e.name name) m.exports
+    (All-weaker (λ (e : ModuleExport). name ≢ e.name) (λ (e : ModuleExport). bytes_eq e.name name ≡ false)
+    (λ e apart. false_of (bytes_eq e.name name) (λ same. apart (sym ((bytes_eq-Decides e.name name).0 same))))
+    m.exports none))
+found_exports m name (Some f) h =
+    sym (any_at (λ (e : ModuleExport). bytes_eq e.name name) m.exports h.0 h.1 h.2 ((bytes_eq-Decides h.1.name name).1 (sym h.3)))

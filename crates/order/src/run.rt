@@ -67,12 +67,12 @@ impl Order {
     {
         let mut instance = self.new_instance(alloc)?;
         let mut host = WorkHost::new(alloc, &self.module, &self.bytes)?;
-        let started = self.start(alloc, &mut instance, &mut host)?;
+        let started = self.start(&mut instance, &mut host);
         let Ending::Return(_) = started.ending else {
             return Ok(outcome_from(started.ending, host.reply));
         };
         let fuel = self.fuel - started.used;
-        let ended = self.work(alloc, &mut instance, &mut host, fuel)?;
+        let ended = self.work(&mut instance, &mut host, fuel);
         Ok(outcome_from(ended.ending, host.reply))
     }
 
@@ -92,83 +92,62 @@ impl Order {
     }
 
     /// The start function, where there is one.
-    fn start(
-        &self,
-        alloc: Global,
-        instance: &mut Instance,
-        host: &mut WorkHost,
-    ) -> Result<Ended, AllocError>
+    fn start(&self, instance: &mut Instance, host: &mut WorkHost) -> Ended
         requires store { IsStoreOf (arc_value self.now.module).contents instance.old }
         requires serves { Serves host.old (order_of self.now) }
         requires empty { host.old.reply.items ≡ [] }
         requires depth { (1 ≤ self.now.depth) × (self.now.depth ≤ 128) }
-        ensures run { IfOk result (λ ended. StartRun (order_of self.now) (arc_value self.now.module).contents.start instance.old (outcome_of ended.ending) ended.used instance.new host.new.reply.items) }
-        ensures within { IfOk result (λ ended. ended.used ≤ self.now.fuel) }
-        ensures results { IfOk result (λ ended. AreResults ended.ending []) }
-        ensures store { IfOk result (λ _. IsStoreOf (arc_value self.now.module).contents instance.new) }
-        ensures serves { IfOk result (λ _. Serves host.new (order_of self.now)) }
+        ensures run { StartRun (order_of self.now) (arc_value self.now.module).contents.start instance.old (outcome_of result.ending) result.used instance.new host.new.reply.items }
+        ensures within { result.used ≤ self.now.fuel }
+        ensures results { AreResults result.ending [] }
+        ensures store { IsStoreOf (arc_value self.now.module).contents instance.new }
+        ensures serves { Serves host.new (order_of self.now) }
     {
         match self.module.valid().contents().start {
-            Some(function) => self.call(alloc, instance, host, function, &[], self.fuel),
-            None => Ok(Ended {
+            Some(function) => self.call(instance, host, function, &[], self.fuel),
+            None => Ended {
                 ending: Ending::Return(Values::from_slice(&[])),
                 used: 0,
-            }),
+            },
         }
     }
 
     /// `uv_work`, with the fuel that is left.
-    fn work(
-        &self,
-        alloc: Global,
-        instance: &mut Instance,
-        host: &mut WorkHost,
-        fuel: u64,
-    ) -> Result<Ended, AllocError>
+    fn work(&self, instance: &mut Instance, host: &mut WorkHost, fuel: u64) -> Ended
         requires work { (f : ℕ) × ExportsFunction (arc_value self.now.module).contents (codes "uv_work") f }
         requires store { IsStoreOf (arc_value self.now.module).contents instance.old }
         requires serves { Serves host.old (order_of self.now) }
         requires depth { (1 ≤ self.now.depth) × (self.now.depth ≤ 128) }
-        ensures run { IfOk result (λ ended. (f : ℕ) × ExportsFunction (arc_value self.now.module).contents (codes "uv_work") f
-            × WorkRun (order_of self.now) fuel instance.old host.old.reply.items f (Value.I32 self.now.op ∷ []) (outcome_of ended.ending) ended.used instance.new host.new.reply.items) }
-        ensures results { IfOk result (λ ended. AreResults ended.ending (valtype.I32 ∷ [])) }
+        ensures run { (f : ℕ) × ExportsFunction (arc_value self.now.module).contents (codes "uv_work") f
+            × WorkRun (order_of self.now) fuel instance.old host.old.reply.items f (Value.I32 self.now.op ∷ []) (outcome_of result.ending) result.used instance.new host.new.reply.items }
+        ensures results { AreResults result.ending (valtype.I32 ∷ []) }
     {
         let Some(function) = self.module.entry(Entry::Work) else {
             unreachable!();
         };
-        self.call(
-            alloc,
-            instance,
-            host,
-            function,
-            &[Value::I32(self.op)],
-            fuel,
-        )
+        self.call(instance, host, function, &[Value::I32(self.op)], fuel)
     }
 
     /// A function of the order's module.
     fn call(
         &self,
-        alloc: Global,
         instance: &mut Instance,
         host: &mut WorkHost,
         function: u32,
         args: &[Value],
         fuel: u64,
-    ) -> Result<Ended, AllocError>
+    ) -> Ended
         requires takes { TakesArguments (arc_value self.now.module).contents function args.now }
         requires store { IsStoreOf (arc_value self.now.module).contents instance.old }
         requires serves { Serves host.old (order_of self.now) }
         requires depth { (1 ≤ self.now.depth) × (self.now.depth ≤ 128) }
-        ensures run { IfOk result (λ ended. WorkRun (order_of self.now) fuel instance.old host.old.reply.items function args.now (outcome_of ended.ending) ended.used instance.new host.new.reply.items) }
-        ensures within { IfOk result (λ ended. ended.used ≤ fuel) }
-        ensures results { IfOk result (λ ended. ReturnsTyped (arc_value self.now.module).contents function ended.ending) }
-        ensures store { IfOk result (λ _. IsStoreOf (arc_value self.now.module).contents instance.new) }
-        ensures serves { IfOk result (λ _. Serves host.new (order_of self.now)) }
+        ensures run { WorkRun (order_of self.now) fuel instance.old host.old.reply.items function args.now (outcome_of result.ending) result.used instance.new host.new.reply.items }
+        ensures within { result.used ≤ fuel }
+        ensures results { ReturnsTyped (arc_value self.now.module).contents function result.ending }
+        ensures store { IsStoreOf (arc_value self.now.module).contents instance.new }
+        ensures serves { Serves host.new (order_of self.now) }
     {
         let valid = self.module.valid();
-        invoke(
-            alloc, valid, instance, host, function, args, fuel, self.depth,
-        )
+        invoke(valid, instance, host, function, args, fuel, self.depth)
     }
 }

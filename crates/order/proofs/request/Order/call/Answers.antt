@@ -1,6 +1,6 @@
 use Rattle.std.proofs.Common.{sym, ◌∙◌}
 use Rattle.order.specs.Orders.{order_of}
-use Rattle.order.proofs.Serving.{if_ok, names_of, work_run, work_serves}
+use Rattle.order.proofs.Serving.{names_of, work_run, work_serves}
 use Rattle.order.proofs.request.Order.call.Goals as goal
 
 pub invoke-requires-clause-names : goal.invoke-requires-clause-names
@@ -8,12 +8,8 @@ invoke-requires-clause-names c = names_of _ _ _ c.valid-valid.ensures.same c.val
 
 pub returns-clause-run : goal.returns-clause-run
 returns-clause-run c =
-    if_ok _ _ c.invoke.result
-    (λ ended. work_run (order_of c.args.self.now) c.args.fuel c.valid-valid.result.now (c.valid-valid.ensures.same ∙ c.deref.ensures) c.args.instance.now c.invoke.new.instance c.args.host.now c.invoke.new.host c.requires.serves c.args.function c.args.args.now ended)
-    c.invoke.ensures.runs
+    work_run (order_of c.args.self.now) c.args.fuel c.valid-valid.result.now (c.valid-valid.ensures.same ∙ c.deref.ensures) c.args.instance.now c.invoke.new.instance c.args.host.now c.invoke.new.host c.requires.serves c.args.function c.args.args.now c.invoke.result c.invoke.ensures.runs
 
 pub returns-clause-serves : goal.returns-clause-serves
 returns-clause-serves c =
-    if_ok _ _ c.invoke.result
-    (λ ended. work_serves (order_of c.args.self.now) c.args.fuel c.valid-valid.result.now (c.valid-valid.ensures.same ∙ c.deref.ensures) c.args.instance.now c.invoke.new.instance c.args.host.now c.invoke.new.host c.requires.serves c.args.function c.args.args.now ended)
-    c.invoke.ensures.runs
+    work_serves (order_of c.args.self.now) c.args.fuel c.valid-valid.result.now (c.valid-valid.ensures.same ∙ c.deref.ensures) c.args.instance.now c.invoke.new.instance c.args.host.now c.invoke.new.host c.requires.serves c.args.function c.args.args.now c.invoke.result c.invoke.ensures.runs

@@ -5,11 +5,10 @@ use Rattle.imports.specs.Uv.{type_of_entry}
 use Rattle.validate.specs.Height.{function_type}
 use Rattle.std.proofs.Common.{Some}
 use Rattle.std.specs.Arc.{arc_value}
-use Rattle.order.proofs.Serving.{if_ok}
 use Rattle.order.proofs.Starting.{has_type}
 use Rattle.order.proofs.request.Order.work.Goals as goal
 
 pub returns-clause-results : goal.returns-clause-results
 returns-clause-results c =
     let typed = subst (λ (l : Loaded). function_type l.contents c.in-Some.function ≡ Some (type_of_entry Work)) c.deref.ensures c.in-Some.ensures.typed in
-    if_ok _ _ c.call.result (λ ended h. h (type_of_entry Work) (has_type (arc_value c.args.self.now.module).contents c.in-Some.function (type_of_entry Work) typed)) c.call.ensures.results
+    c.call.ensures.results (type_of_entry Work) (has_type (arc_value c.args.self.now.module).contents c.in-Some.function (type_of_entry Work) typed)

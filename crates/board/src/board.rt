@@ -90,7 +90,8 @@ impl<J: Drop> Board<J> {
         Ok((board, passes_made))
     }
 
-    /// Posts a job, by one push. It comes back where the line was full at some moment.
+    /// Posts a job, by one push. It comes back where the line was full at some moment, or the pass has posted `2^64 - 1`
+    /// jobs.
     pub fn post<R: Wait>(&self, rt: &R, pass: &mut Pass<J>, job: J) -> Result<(), J>
         requires { IsPassOf self.now pass.old }
         ensures own { IsPassOf self.now pass.new }

@@ -3,30 +3,18 @@ ghost use Rattle.board.specs.Jobs.{ticket_of};
 
 use crate::{Board, JOBS, JobBox, Pass, REPLIES};
 use claims::Ticket;
+use decode::decode;
 use imports::{Linked, link};
 use order::{Order, Reply};
 use std::alloc::{AllocError, Global};
 use std::sync::Arc;
 use std::test::Fail;
-use syntax::items::Items;
-use syntax::module::Contents;
 use validate::validate;
 
 // A module with nothing in it.
 fn module(alloc: Global) -> Result<Arc<Linked>, Fail> {
-    let contents = Contents {
-        types: Items::from_vec(Vec::new(alloc)),
-        imports: Items::from_vec(Vec::new(alloc)),
-        functions: Items::from_vec(Vec::new(alloc)),
-        table: None,
-        memory: None,
-        globals: Items::from_vec(Vec::new(alloc)),
-        exports: Items::from_vec(Vec::new(alloc)),
-        start: None,
-        elements: Items::from_vec(Vec::new(alloc)),
-        data: Items::from_vec(Vec::new(alloc)),
-    };
-    let valid = validate(alloc, contents)?;
+    let text = Vec::from_slice(alloc, b"\0asm\x01\0\0\0")?;
+    let valid = validate(alloc, decode(alloc, text)?)?;
     Ok(Arc::new(alloc, link(valid)?)?)
 }
 

@@ -1,4 +1,4 @@
-ghost use Rattle.std.specs.Prelude.{◌≡◌, ◌<◌, length, All, IfOk, IfSome};
+ghost use Rattle.std.specs.Prelude.{◌≡◌, ◌+◌, ◌<◌, [], length, All, IfOk, IfSome};
 ghost use Rattle.board.specs.Jobs.{ticket_of};
 ghost use Rattle.board.specs.Boards.{IsPassOf, IsNewPass};
 ghost use Rattle.std.specs.Thread.{IsSync};
@@ -8,6 +8,7 @@ ghost use Rattle.claims.specs.Views.{new_loop_view, new_worker_view};
 use crate::{Did, Gate, Point, Seats, work_one, work_until_closed};
 use board::{Board, JobBox, Pass};
 use claims::{Claims, LoopSeat, NewClaims, Ticket, WorkerSeat};
+use decode::decode;
 use imports::{Linked, link};
 use marks::Marks;
 use order::{Order, Reply};
@@ -18,8 +19,6 @@ use std::sync::{Arc, Wait};
 use std::test::Fail;
 use std::thread;
 use std::thread::Threads;
-use syntax::items::Items;
-use syntax::module::Contents;
 use validate::validate;
 
 // A gate that holds nobody.
@@ -41,19 +40,8 @@ fn ticket(request: u32) -> Ticket
 
 // A module with nothing in it.
 fn module(alloc: Global) -> Result<Arc<Linked>, Fail> {
-    let contents = Contents {
-        types: Items::from_vec(Vec::new(alloc)),
-        imports: Items::from_vec(Vec::new(alloc)),
-        functions: Items::from_vec(Vec::new(alloc)),
-        table: None,
-        memory: None,
-        globals: Items::from_vec(Vec::new(alloc)),
-        exports: Items::from_vec(Vec::new(alloc)),
-        start: None,
-        elements: Items::from_vec(Vec::new(alloc)),
-        data: Items::from_vec(Vec::new(alloc)),
-    };
-    let valid = validate(alloc, contents)?;
+    let text = Vec::from_slice(alloc, b"\0asm\x01\0\0\0")?;
+    let valid = validate(alloc, decode(alloc, text)?)?;
     Ok(Arc::new(alloc, link(valid)?)?)
 }
 
@@ -346,7 +334,11 @@ fn rises(tickets: &[Ticket]) -> bool {
 }
 
 // A hundred jobs, whose tickets are of this loop and count from 0.
-fn hundred_jobs(alloc: Global, module: &Arc<Linked>, loop_no: u32) -> Result<Vec<JobBox>, AllocError> {
+fn hundred_jobs(
+    alloc: Global,
+    module: &Arc<Linked>,
+    loop_no: u32,
+) -> Result<Vec<JobBox>, AllocError> {
     let calls = Arc::new(alloc, AtomicU64::new(0))?;
     let mut jobs = Vec::new(alloc);
     for request in 0..100 {
@@ -363,7 +355,10 @@ fn hundred_jobs(alloc: Global, module: &Arc<Linked>, loop_no: u32) -> Result<Vec
 fn jobs_come_out_in_the_order_of_each_pass(rt: HostRuntime) -> Result<(), Fail> {
     let alloc = rt.alloc();
     let module = module(alloc)?;
-    let jobs = (hundred_jobs(alloc, &module, 0)?, hundred_jobs(alloc, &module, 1)?);
+    let jobs = (
+        hundred_jobs(alloc, &module, 0)?,
+        hundred_jobs(alloc, &module, 1)?,
+    );
     let (board, posters, takers) = with_four_passes(alloc)?;
     let (left, right) = post_and_take(&rt, alloc, &board, posters, takers, jobs)?;
     assert!(rt; rises(left.as_slice()) && rises(right.as_slice()));
@@ -504,5 +499,116 @@ fn two_workers_run_at_once(rt: HostRuntime) -> Result<(), Fail> {
     };
     work_and_collect(&rt, &board, (b, c, a), &claims, (one, two), &hold)?;
     assert!(rt; hold.ran_out.load(Ordering::SeqCst) == 0);
+    Ok(())
+}
+
+// Opens the next request in a slot.
+#[tactic(auto, using(claims::proofs::SeatLemmas::below_next))]
+fn opened(claims: &Claims, seat: &mut LoopSeat, slot: u32, request: u32) -> Ticket
+    requires own { (seat.old.claims ≡ claims.now.id) × (seat.old.loop_no ≡ 0) }
+    requires there { (slot < 32) × (0 < request) × (request < 1000) }
+    requires rising { All (λ c. c.1 < request) seat.old.opened }
+    ensures own { (seat.new.claims ≡ claims.now.id) × (seat.new.loop_no ≡ 0) }
+    ensures rising { All (λ c. c.1 < request + 1) seat.new.opened }
+    ensures ticket { result ≡ record { loop_no = 0; slot = slot; request = request } }
+{
+    claims.open(seat, slot, request);
+    Ticket {
+        slot,
+        ..ticket(request)
+    }
+}
+
+// Opens a request for each job, in the slots in turn, posts the job and cancels the request. The next request's number.
+fn post_cancelled<R: Wait>(
+    rt: &R,
+    board: &Board,
+    pass: &mut Pass,
+    claims: &Claims,
+    seat: &mut LoopSeat,
+    jobs: Vec<JobBox>,
+) -> Result<u32, AllocError>
+    requires own { IsPassOf board.now pass.old × (seat.old.claims ≡ claims.now.id) × (seat.old.loop_no ≡ 0) }
+    requires new { seat.old.opened ≡ [] }
+    ensures own { IsPassOf board.now pass.new }
+    ensures seat { IfOk result (λ next. (seat.new.claims ≡ claims.now.id) × (seat.new.loop_no ≡ 0) × All (λ c. c.1 < next) seat.new.opened) }
+    ensures next { IfOk result (λ next. (0 < next) × (next < 1000)) }
+{
+    let mut next = 1;
+    for job in jobs {
+        if next > 998 {
+            return Err(AllocError);
+        }
+        let ticket = opened(claims, seat, (next - 1) % 32, next);
+        if board.post(rt, pass, job).is_err() || !claims.cancel(seat, ticket) {
+            return Err(AllocError);
+        }
+        next += 1;
+    }
+    Ok(next)
+}
+
+// A job for each of the first 256 requests, in the slots in turn.
+fn jobs_in_turn(
+    alloc: Global,
+    module: &Arc<Linked>,
+    calls: &Arc<AtomicU64>,
+) -> Result<Vec<JobBox>, AllocError> {
+    let mut jobs = Vec::new(alloc);
+    for n in 0..256 {
+        let ticket = Ticket {
+            slot: n % 32,
+            ..ticket(n + 1)
+        };
+        jobs.push(job_of(alloc, module, ticket, calls)?)?;
+    }
+    Ok(jobs)
+}
+
+// Whether each of so many turns of the worker dropped a job.
+fn drops<R: Wait>(
+    rt: &R,
+    board: &Board,
+    pass: &mut Pass,
+    claims: &Claims,
+    seat: &mut WorkerSeat,
+    turns: u32,
+) -> bool
+    requires own { IsPassOf board.now pass.old × (seat.old.claims ≡ claims.now.id) }
+    requires loops { length board.now.replies ≡ claims.now.loops }
+    ensures own { IsPassOf board.now pass.new × (seat.new.claims ≡ claims.now.id) }
+{
+    let mut all = true;
+    for _ in 0..turns {
+        let did = work_one(rt, board, pass, claims, seat, &Open);
+        all = all && matches!(did, Did::Dropped(_));
+    }
+    all
+}
+
+#[test]
+fn a_full_board_of_cancelled_jobs_is_dropped(rt: HostRuntime) -> Result<(), Fail> {
+    let alloc = rt.alloc();
+    let module = module(alloc)?;
+    let calls = Arc::new(alloc, AtomicU64::new(0))?;
+    let (claims, mut loop_seat, mut worker) = one_of_each(alloc)?;
+    let (board, mut passes) = Board::new(alloc, 1, 1)?;
+    let Some(mut pass) = next_pass(&board, &mut passes) else {
+        return Err(Fail::from("no pass"));
+    };
+    let jobs = jobs_in_turn(alloc, &module, &calls)?;
+    let next = post_cancelled(&rt, &board, &mut pass, &claims, &mut loop_seat, jobs)?;
+    let last = opened(&claims, &mut loop_seat, 0, next);
+    let job = job_of(alloc, &module, last, &calls)?;
+    let Err(back) = board.post(&rt, &mut pass, job) else {
+        return Err(Fail::from("no full board"));
+    };
+    assert!(rt; drops(&rt, &board, &mut pass, &claims, &mut worker, 1));
+    assert!(rt; board.post(&rt, &mut pass, back).is_ok());
+    assert!(rt; drops(&rt, &board, &mut pass, &claims, &mut worker, 255));
+    let did = work_one(&rt, &board, &mut pass, &claims, &mut worker, &Open);
+    assert!(rt; matches!(did, Did::Replied(ticket) if ticket == last));
+    assert_eq!(rt; calls.load(Ordering::SeqCst), 1);
+    assert_eq!(rt; Arc::strong_count(&calls), 1);
     Ok(())
 }

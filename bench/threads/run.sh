@@ -1,0 +1,23 @@
+#!/usr/bin/env bash
+# Runs the stress of claims, marks, board and pool on a copy of the repository, and compares what it counts.
+set -euo pipefail
+top=$(cd "$(dirname "$0")/../.." && pwd)
+work=$(mktemp -d)
+trap 'rm -rf "$work"' EXIT
+mkdir "$work/crates"
+cp "$top/HANDLES" "$work/"
+for crate in "$top"/crates/*; do
+    mkdir "$work/crates/$(basename "$crate")"
+    for part in src specs proofs; do
+        if [ -d "$crate/$part" ]; then cp -r "$crate/$part" "$work/crates/$(basename "$crate")/"; fi
+    done
+done
+mkdir "$work/crates/stress"
+cp -r "$top/bench/threads/src" "$work/crates/stress/"
+{
+    cat "$top/crates.txt"
+    echo "stress: anyhow claims marks board pool order imports validate decode thiserror"
+} > "$work/crates.txt"
+cd "$work/crates/stress"
+rt try | tee "$work/counted"
+diff <(tail -n 3 "$work/counted") <(printf 'claims 1000000\nsends 1000000\njobs 1000000\n')

@@ -50,6 +50,7 @@ still_any p q both (x ∷ xs) h =
       cases_bool : (b : Bool) → (b ≡ true) ⊎ (b ≡ false)
       cases_bool true = inl refl
       cases_bool false = inr refl
+
       kept : (b : Bool) → list_any p (filter q xs) ≡ true → list_any p (cond b (x ∷ filter q xs) (filter q xs)) ≡ true
       kept true k = elim (p x) as (λ b. (b || list_any p (filter q xs)) ≡ true) [ true ↦ refl | false ↦ k ]
       kept false k = k

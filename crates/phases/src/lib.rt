@@ -1,24 +1,24 @@
-//! One event loop.
+//! One event loop: what it shares with other threads, its state, and what it answers to its guest.
 #![tactic(auto)]
 
-ghost use Rattle.phases.specs.PhaseList.{hint_of};
+ghost use Rattle.phases.specs.Outside.{CancelIn, StartsBeside, SendsBeside};
 ghost use Rattle.phases.specs.Step.{LoopStep};
-ghost use Rattle.phases.specs.Outside.{IsOneOf};
-ghost use Rattle.phases.specs.Codes.{requests_code};
 
 mod did;
+mod entries;
 mod entry;
+pub mod machine;
+pub mod outstanding;
+pub mod progress;
+pub mod requests;
+pub mod roster;
+pub mod setting;
 mod shared;
+pub mod work;
 
 pub use did::{Hint, StepDid};
-pub use entry::{EntryKind, Phase, Status};
-pub use entry::Entry;
+pub use entry::{Entry, EntryKind, Phase, Status};
 pub use shared::{Beside, Shared};
-mod progress;
-mod outstanding;
-mod requests;
-mod roster;
-mod entries;
-mod machine;
-mod setting;
-mod work;
+
+#[cfg(test)]
+mod tests;

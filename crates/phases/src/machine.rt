@@ -105,7 +105,8 @@ impl Machine {
         ensures state { self.new ≡ with_roster self.old (started_in Kind.Timer handle callback (saturated (self.old.«now» + timeout)) repeat self.old.roster).1 }
     {
         let due = self.time.saturating_add(timeout);
-        self.roster.start(Kind::Timer, handle, callback, due, repeat)
+        self.roster
+            .start(Kind::Timer, handle, callback, due, repeat)
     }
 
     /// Starts an idle or a check handle.

@@ -10,7 +10,7 @@ ghost use Rattle.phases.specs.Step.{is_as_listed, handle_function};
 
 use arrayvec::ArrayVec;
 use handles::{Handles, Kind, List, MAX_HANDLES, Record};
-use order::answers::{INVALID, NONE_LEFT, NO_ROOM};
+use order::answers::{INVALID, NO_ROOM, NONE_LEFT};
 use std::alloc::{AllocError, Global};
 use std::marker::Model;
 
@@ -265,7 +265,11 @@ impl Roster {
     pub fn async_at(&self, async_no: u32) -> Option<u32>
         ensures { result ≡ async_handle self.now async_no }
     {
-        self.asyncs.as_slice().get(async_no as usize).copied().flatten()
+        self.asyncs
+            .as_slice()
+            .get(async_no as usize)
+            .copied()
+            .flatten()
     }
 
     /// The active timers that are due by `now`.

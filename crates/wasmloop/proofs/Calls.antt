@@ -9,21 +9,9 @@ use Rattle.instance.specs.Store.{Store}
 use Rattle.instance.specs.Fresh.{IsFresh}
 use Rattle.interp.specs.Run.{HostCall}
 use Rattle.interp.specs.Hosting.{Lawful}
-use Rattle.interp.specs.Invoking.{IsStoreOf, TakesArguments}
+use Rattle.interp.specs.Invoking.{TakesArguments}
 use Rattle.wasmloop.specs.Refusing.{Refuses}
 use Rattle.wasmloop.specs.Calling.{AllRefused}
-
--- initial values are of the types of their globals
-initial_types : (globals : List Global) → All (λ (g : Global). IsConstant g.value_type g.init) globals
-    → map type_of (map (λ (g : Global). constant_in g.init) globals) ≡ map (λ (g : Global). g.value_type) globals
-initial_types [] all = refl
-initial_types (g ∷ globals) all =
-    let first : IsConstant g.value_type g.init = all 0 g (omega arith) in
-    let type : type_of (constant_in g.init) ≡ g.value_type = rw first.1 first.2 in
-    rw (type, initial_types globals (λ k d h. all (suc k) d (omega arith))) refl
-
-pub fresh_is_store : (m : Contents) (s : Store) → ValidModule m → IsFresh m s → IsStoreOf m s
-fresh_is_store m s valid fresh = record { globals = rw fresh.store (initial_types m.globals valid.globals) }
 
 pub start_takes_nothing : (m : Contents) (function : ℕ) → ValidModule m → m.start ≡ Some function → TakesArguments m function []
 start_takes_nothing m function valid is = record {

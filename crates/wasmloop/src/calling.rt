@@ -2,7 +2,8 @@
 
 ghost use Rattle.std.specs.Prelude.{◌≡◌, ◌≤◌, ◌↔◌, Some, IfOk, IfSome, IsTrue};
 ghost use Rattle.instance.specs.Fresh.{IsFresh};
-ghost use Rattle.interp.specs.Invoking.{IsStoreOf, TakesArguments};
+ghost use Rattle.interp.specs.Storing.{IsStoreOf};
+ghost use Rattle.interp.specs.Invoking.{TakesArguments};
 ghost use Rattle.syntax.specs.declared.module.ExternKind.TheVariants.{Func};
 ghost use Rattle.syntax.specs.Exporting.{IsFirst};
 ghost use Rattle.validate.specs.Typing.{HasFunctionType};
@@ -12,6 +13,7 @@ use crate::command::Budget;
 use crate::failure::Failure;
 use crate::refusing::Refusing;
 use instance::state::Instance;
+use interp::conditions::fresh_is_store_of;
 use interp::ended::{Ended, Ending};
 use interp::invoke::invoke;
 use interp::values::Values;
@@ -53,42 +55,34 @@ pub fn has_returned(ending: &Ending) -> bool
 
 /// Runs a function while every import answers -1.
 fn run(
-    alloc: Global,
     valid: &Valid,
     instance: &mut Instance,
     function: u32,
     args: &[Value],
     fuel: u64,
     depth: u32,
-) -> Result<Ended, Failure<'static>>
+) -> Ended
     requires store { IsStoreOf valid.now.contents instance.old }
     requires typed { TakesArguments valid.now.contents function args.now }
     requires depth { (1 ≤ depth) × (depth ≤ 128) }
-    ensures runs { IfOk result (λ ended. Runs valid.now.contents depth fuel instance.old function args.now ended instance.new) }
-    ensures within { IfOk result (λ ended. ended.used ≤ fuel) }
-    ensures kept { IfOk result (λ _. IsStoreOf valid.now.contents instance.new) }
+    ensures runs { Runs valid.now.contents depth fuel instance.old function args.now result instance.new }
+    ensures within { result.used ≤ fuel }
+    ensures kept { IsStoreOf valid.now.contents instance.new }
 {
     let mut host = Refusing::new(valid);
-    Ok(invoke(
-        alloc, valid, instance, &mut host, function, args, fuel, depth,
-    )?)
+    invoke(valid, instance, &mut host, function, args, fuel, depth)
 }
 
 /// Runs the start function, where there is one.
-fn start(
-    alloc: Global,
-    valid: &Valid,
-    instance: &mut Instance,
-    budget: Budget,
-) -> Result<Ended, Failure<'static>>
+fn start(valid: &Valid, instance: &mut Instance, budget: Budget) -> Ended
     requires { IsFresh valid.now.contents instance.old }
-    ensures starts { IfOk result (λ ended. Starts valid.now.contents budget.depth budget.fuel valid.now.contents.start ended instance.new) }
-    ensures within { IfOk result (λ ended. ended.used ≤ budget.fuel) }
-    ensures kept { IfOk result (λ _. IsStoreOf valid.now.contents instance.new) }
+    ensures starts { Starts valid.now.contents budget.depth budget.fuel valid.now.contents.start result instance.new }
+    ensures within { result.used ≤ budget.fuel }
+    ensures kept { IsStoreOf valid.now.contents instance.new }
 {
+    fresh_is_store_of(valid, instance);
     match valid.contents().start {
         Some(function) => run(
-            alloc,
             valid,
             instance,
             function,
@@ -96,10 +90,10 @@ fn start(
             budget.fuel,
             budget.depth,
         ),
-        None => Ok(Ended {
+        None => Ended {
             ending: Ending::Return(Values::from_slice(&[])),
             used: 0,
-        }),
+        },
     }
 }
 
@@ -116,19 +110,11 @@ pub fn call(
     ensures { IfOk result (IsCalled valid.now.contents budget function args.now) }
 {
     let mut instance = Instance::new(alloc, valid)?;
-    let started = start(alloc, valid, &mut instance, budget)?;
+    let started = start(valid, &mut instance, budget);
     if !has_returned(&started.ending) {
         return Ok(Called::Start(started));
     }
     let fuel = budget.fuel - started.used;
-    let ended = run(
-        alloc,
-        valid,
-        &mut instance,
-        function,
-        args,
-        fuel,
-        budget.depth,
-    )?;
+    let ended = run(valid, &mut instance, function, args, fuel, budget.depth);
     Ok(Called::Function(ended))
 }

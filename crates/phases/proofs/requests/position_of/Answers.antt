@@ -6,10 +6,11 @@ use Rattle.phases.proofs.requests.position_of.Goals as goal
 
 pub returns-then-number-clause-some : goal.returns-then-number-clause-some
 returns-then-number-clause-some c =
-    let p = has_number c.args.number in
-    (c.index-items-at.result,
-     here p c.args.items.now c.loop-at.at c.index-items-at.result c.loop-at-test.true c.index-items-at.is,
-     found p c.args.items.now c.loop-at.at c.index-items-at.result c.loop-at-test.true c.index-items-at.is c.loop-at.invariant (eq-eqb _ _ (sym c.number.ensures ∙ c.if-number.true)))
+    let p = has_number c.args.number in (
+      c.index-items-at.result,
+      here p c.args.items.now c.loop-at.at c.index-items-at.result c.loop-at-test.true c.index-items-at.is,
+      found p c.args.items.now c.loop-at.at c.index-items-at.result c.loop-at-test.true c.index-items-at.is c.loop-at.invariant (eq-eqb _ _ (sym c.number.ensures ∙ c.if-number.true)),
+    )
 
 pub loop-at-preserved : goal.loop-at-preserved
 loop-at-preserved c =

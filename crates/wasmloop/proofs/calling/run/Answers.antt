@@ -3,5 +3,5 @@ use Rattle.wasmloop.proofs.calling.run.Goals as goal
 
 pub returns-clause-runs : goal.returns-clause-runs
 returns-clause-runs c =
-    let invoked = c.in_ok-invoke.ensures.runs in
+    let invoked = c.invoke.ensures.runs in
     record { trace = invoked.trace; refused = all_refused invoked.trace _ _ invoked.lawful; invokes = invoked.invokes }

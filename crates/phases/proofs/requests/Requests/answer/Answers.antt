@@ -39,7 +39,7 @@ returns-clause-answered c =
     (ap (λ (ys : List Request). let rs : Requests = record { outstanding = ys; last = c.self.inside.last } in rs)
     ((there c).changed ∙ ap (λ n. map (in_stage n (Answered (end_of c.args.reply.outcome))) c.self.inside.items.items) (eqb-true _ _ (there c).passes)))
 
-put_back : (c : goal.Joined-then-is_settled) → (inside : Inside) → inside ≡ record {items = with_item c.self.inside.items c.in-Some.at c.index_mut-item.result.now; last = c.self.inside.last} → the_view inside ≡ c.args.self.now
+put_back : (c : goal.Joined-then-is_settled) → (inside : Inside) → inside ≡ record { items = with_item c.self.inside.items c.in-Some.at c.index_mut-item.result.now; last = c.self.inside.last } → the_view inside ≡ c.args.self.now
 put_back c inside is =
     rw is
     (ap (λ (ys : List Request). let rs : Requests = record { outstanding = ys; last = c.self.inside.last } in rs)
@@ -65,7 +65,9 @@ pub returns-then-is_settled-clause-refused : goal.returns-then-is_settled-clause
 returns-then-is_settled-clause-refused c =
     elim c.then-is_settled.branch [
       | then-is_settled-via-then-is_settled w ↦ (refl, put_back c c.then-is_settled.self-inside w.self-inside-is, settled_one c w.if-is_settled.ensures)
-      | then-is_settled-via-else-is_settled+then-not-is_for w ↦
-          (refl, put_back c c.then-is_settled.self-inside w.self-inside-is,
-           other_one c (λ same. let holds = w.is_for.ensures.1 same in let fails = w.if-not-is_for.true in cc))
+      | then-is_settled-via-else-is_settled+then-not-is_for w ↦ (
+        refl,
+        put_back c c.then-is_settled.self-inside w.self-inside-is,
+        other_one c (λ same. let holds = w.is_for.ensures.1 same in let fails = w.if-not-is_for.true in cc),
+      )
     ]

@@ -14,6 +14,7 @@ invariant_of-self c =
     let view = c.self.view_is in
     let room : length inside.items.items < 32 = rw (← view) at c.requires.room in
     let number : c.args.order.request ≡ inside.last + 1 = rw (← view) at c.requires.number in
-    let small : inside.last + 1 < 2 ^ 31 = rw (← view) at c.requires.last in
-    (rw (c.in-Ok.ensures.items, c.new.ensures) (kept_open inside.items.items inside.last c.self.invariant.0 (order_of c.args.order) room number c.requires.slot small),
-     (let before = c.self.invariant.1 in let more = c.push.ensures.capacity in omega arith))
+    let small : inside.last + 1 < 2 ^ 31 = rw (← view) at c.requires.last in (
+      rw (c.in-Ok.ensures.items, c.new.ensures) (kept_open inside.items.items inside.last c.self.invariant.0 (order_of c.args.order) room number c.requires.slot small),
+      (let before = c.self.invariant.1 in let more = c.push.ensures.capacity in omega arith),
+    )

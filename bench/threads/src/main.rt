@@ -1,4 +1,4 @@
-//! A million claims, a million sends and a million jobs over 16 workers, each counted once.
+//! A million claims, a million sends and 20,000 jobs over 16 workers, each counted once.
 //!
 //! It proves nothing and is run by hand: `bench/threads/run.sh`.
 #![tactic(auto)]
@@ -21,6 +21,8 @@ use validate::validate;
 const WORKERS: u32 = 16;
 const SLOTS: u32 = 32;
 const TOTAL: u32 = 1_000_000;
+// Fewer, so that a run ends within the time limit of `rt try`.
+const JOBS: u32 = 20_000;
 
 fn main(rt: HostRuntime) -> anyhow::Result<()> {
     println!(rt; "claims {}", claim_all(&rt, rt.alloc())?)?;
@@ -38,6 +40,7 @@ fn ticket(slot: u32, request: u32) -> Ticket {
 }
 
 // The rounds of a race: the loop opens a request in each slot, and then all try for all of them.
+#[derive(Drop)]
 struct Rounds {
     opened: AtomicU64,
     started: AtomicU64,
@@ -187,9 +190,9 @@ fn post_and_collect<R: Wait>(
     let text = Vec::from_slice(alloc, b"\0asm\x01\0\0\0")?;
     let linked = link(validate(alloc, decode(alloc, text)?)?)?;
     let module = Arc::new(alloc, linked)?;
-    let mut came = vec![in alloc; false; TOTAL as usize + 1]?;
+    let mut came = vec![in alloc; false; JOBS as usize + 1]?;
     let mut once = 0;
-    for round in 0..TOTAL / SLOTS {
+    for round in 0..JOBS / SLOTS {
         for slot in 0..SLOTS {
             let ticket = ticket(slot, round * SLOTS + slot + 1);
             claims.open(seat, slot, ticket.request);

@@ -1,4 +1,3 @@
-use Rattle.std.proofs.Common.{◌∙◌, ap}
 use Rattle.wasmloop.proofs.Calls.{start_takes_nothing}
 use Rattle.wasmloop.proofs.calling.start.Goals as goal
 

@@ -1,11 +1,11 @@
 -- Requests that rise by their numbers, and what changes one of them.
-use Rattle.std.proofs.Common.{◌≡◌, ◌≢◌, ℕ, zero, suc, ◌+◌, ◌^◌, ◌<◌, ◌≤◌, ◌==◌, ◌||◌, Bool, true, false, cond, not, List, [], ◌∷◌, ◌++◌, length, map, filter, set, get_or, Option, Some, None, refl, sym, ap, subst, ◌∙◌, arith, rules, inl, inr, ◌⊎◌, length-append, length-set}
+use Rattle.std.proofs.Common.{◌≡◌, ℕ, zero, suc, ◌+◌, ◌^◌, ◌<◌, ◌≤◌, ◌==◌, ◌||◌, Bool, true, false, cond, not, List, [], ◌∷◌, ◌++◌, length, map, filter, set, get_or, Some, None, refl, sym, ap, subst, ◌∙◌, arith, inl, inr, ◌⊎◌, length-append, length-set}
 use Rattle.std.specs.List.{find, list_any, slice_get, remove, All}
-use Rattle.std.proofs.lemmas.Bool.{eq-eqb, ne_eqb, cases_eq, eqb-true}
+use Rattle.std.proofs.lemmas.Bool.{eq-eqb, ne_eqb, eqb-true}
 use Rattle.std.proofs.lemmas.List.Elements.{All-filter, All-push, All-set}
 use Rattle.std.proofs.lemmas.Option.{get_or_from_slice_get, slice_get_within}
 use Rattle.order.specs.Work.{WorkOrder}
-use Rattle.phases.specs.Requests.{Requests, Request, Stage, Open, has_number, in_stage}
+use Rattle.phases.specs.Requests.{Request, Stage, Open, has_number, in_stage}
 use Rattle.std.proofs.Common.{eqb}
 use Rattle.phases.specs.PhaseList.{is_empty}
 use Rattle.phases.specs.Fitting.{AreRising, IsRight, IsTrueTo, AreKept}

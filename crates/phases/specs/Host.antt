@@ -1,5 +1,5 @@
 -- What a loop answers to a guest in a callback: each function of "uv".
-use Rattle.std.specs.Prelude.{◌≡◌, ℕ, ◌+◌, ◌<◌, ◌==◌, Bool, true, false, ◌&&◌, not, MatchBool, MatchOption, ◌⊎◌, List, [], ◌∷◌, ◌++◌, length, nat_le, nat_lt, Option, Some, None, codes, if◌then◌else◌}
+use Rattle.std.specs.Prelude.{◌≡◌, ℕ, ◌+◌, ◌<◌, ◌==◌, Bool, true, ◌&&◌, not, MatchBool, ◌⊎◌, List, [], ◌∷◌, ◌++◌, length, nat_le, nat_lt, Option, Some, None, codes, if◌then◌else◌}
 use Rattle.syntax.specs.declared.types.Value.{Value}
 use Rattle.syntax.specs.declared.types.Value.TheVariants.{I32, I64}
 use Rattle.handles.specs.declared.handle.Kind.TheVariants as kind

@@ -1,11 +1,11 @@
 -- The calls of a loop's owner, other than its step.
-use Rattle.std.specs.Prelude.{◌≡◌, ℕ, Bool, true, false, max, Option, Some, None, ◌==◌}
+use Rattle.std.specs.Prelude.{◌≡◌, ℕ, Bool, true, false, max, Option, Some, None}
 use Rattle.order.specs.Numbers.{not_here}
 use Rattle.order.specs.Work.{WorkOrder, WorkEnd}
 use Rattle.phases.specs.Calls.{Calls, OtherCalls}
 use Rattle.phases.specs.declared.entry.Status.{Status}
 use Rattle.phases.specs.declared.entry.Status.TheVariants.{Failed}
-use Rattle.phases.specs.Requests.{Requests, Request, Stage, Open, HandedOut, Answered, Cancelled, request_of, lowest_open, with_stage, is_settled}
+use Rattle.phases.specs.Requests.{Requests, Request, HandedOut, Answered, request_of, lowest_open, with_stage, is_settled}
 use Rattle.phases.specs.State.{Loop, State}
 use Rattle.phases.specs.Host.{Cancels, with_requests}
 

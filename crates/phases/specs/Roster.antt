@@ -1,12 +1,11 @@
 -- The handles of a loop, and what a guest is answered who makes, starts, stops or closes one.
 use Rattle.std.specs.Prelude.{◌≡◌, ℕ, ◌^◌, ◌<◌, ◌==◌, Bool, true, false, ◌&&◌, not, MatchBool, List, [], ◌∷◌, ◌++◌, length, map, filter, Option, Some, None, slice_get, if◌then◌else◌}
-use Rattle.std.specs.Option.{option_map_or, option_and_then, is_some}
-use Rattle.std.specs.List.{list_any, position_or_len}
+use Rattle.std.specs.Option.{option_map_or, is_some}
+use Rattle.std.specs.List.{position_or_len}
 use Rattle.std.specs.FinMap as finite
 use Rattle.syntax.specs.declared.types.ValType.{ValType}
 use Rattle.syntax.specs.declared.types.ValType.TheVariants as type
 use Rattle.syntax.specs.declared.module.Contents.{Contents}
-use Rattle.syntax.specs.declared.module.FuncType.{FuncType}
 use Rattle.validate.specs.Height.{function_type}
 use Rattle.instance.specs.Fresh.{fresh_store}
 use Rattle.handles.specs.declared.handle.Kind.{Kind}

@@ -7,7 +7,7 @@ use Rattle.phases.specs.declared.entry.Phase.TheVariants as phase
 use Rattle.phases.specs.declared.entry.Entry.{Entry}
 use Rattle.phases.specs.declared.entry.Status.{Status}
 use Rattle.phases.specs.declared.entry.Status.TheVariants.{Running}
-use Rattle.phases.specs.Roster.{Roster, opening_roster}
+use Rattle.phases.specs.Roster.{Roster}
 use Rattle.phases.specs.Requests.{Requests, no_requests}
 
 -- what a loop is made of: its module, its number, the fuel of a callback and of a work function, and the depth of calls

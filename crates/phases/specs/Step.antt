@@ -6,7 +6,6 @@ use Rattle.syntax.specs.declared.types.Value.TheVariants.{I32}
 use Rattle.handles.specs.declared.handle.Kind.{Kind}
 use Rattle.handles.specs.declared.handle.Kind.TheVariants as handle_kind
 use Rattle.handles.specs.Table.{record_of, same_kind, after_again}
-use Rattle.instance.specs.Store.{Store}
 use Rattle.interp.specs.Run.{HostCall}
 use Rattle.interp.specs.Running.{outcome_of}
 use Rattle.interp.specs.Hosting.{Lawful}
@@ -27,7 +26,7 @@ use Rattle.phases.specs.declared.entry.Entry.TheVariants as entry
 use Rattle.phases.specs.declared.entry.Status.{Status}
 use Rattle.phases.specs.declared.entry.Status.TheVariants.{Running, Over, Failed}
 use Rattle.phases.specs.Roster.{Roster, callback_function, async_handle, with_handles, without_handle}
-use Rattle.phases.specs.Requests.{Requests, Request, Tidings, request_of, without_request, tidings_of}
+use Rattle.phases.specs.Requests.{Tidings, request_of, without_request, tidings_of}
 use Rattle.phases.specs.State.{Setting, Loop, State}
 use Rattle.phases.specs.PhaseList.{phase_list, next_phase, may_end, is_alive, is_active_handle}
 use Rattle.phases.specs.Calls.{Calls}

@@ -1,4 +1,4 @@
-use Rattle.std.proofs.Common.{◌≡◌, ◌++◌, ◌+◌, ◌≤◌, ℕ, None, refl, sym, ap, ◌∙◌, append_assoc, arith, length, take, length-take-le, get_or}
+use Rattle.std.proofs.Common.{◌+◌, None, refl, arith, take, length-take-le, get_or}
 use Rattle.std.proofs.Common.{map, cond, [], ◌∷◌}
 use Rattle.phases.specs.declared.entry.Entry.TheVariants.{Async}
 use Rattle.phases.specs.PhaseList.{active_from, is_active_handle}

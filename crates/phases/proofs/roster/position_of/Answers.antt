@@ -1,8 +1,7 @@
-use Rattle.std.proofs.Common.{◌≡◌, ◌<◌, ◌≤◌, ℕ, Option, Some, None, refl, sym, ap, ◌∙◌, true, false, get_or, length, List, arith}
+use Rattle.std.proofs.Common.{◌≡◌, ℕ, Option, Some, None, sym, true, false, get_or, arith}
 use Rattle.std.specs.List.{list_any, All}
 use Rattle.std.specs.Option.{option_eq}
 use Rattle.std.proofs.Common.{eqb}
-use Rattle.std.proofs.lemmas.Bool.{eq-eqb}
 use Rattle.std.proofs.lemmas.List.Elements.{All-from_get_or}
 use Rattle.std.proofs.lemmas.List.Folds.{list_any_none}
 use Rattle.std.proofs.lemmas.List.Sums.{position_or_len_is}

@@ -1,7 +1,7 @@
-use Rattle.std.proofs.Common.{◌≡◌, ap, subst}
+use Rattle.std.proofs.Common.{ap, subst}
 use Rattle.phases.specs.State.{State}
 use Rattle.phases.specs.Host.{with_roster}
-use Rattle.phases.specs.Roster.{Makes, MakesAsync, with_made}
+use Rattle.phases.specs.Roster.{Makes, with_made}
 use Rattle.phases.proofs.machine.Machine.init.Goals as goal
 
 pub returns : goal.returns

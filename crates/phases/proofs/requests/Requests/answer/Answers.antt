@@ -1,12 +1,10 @@
-use Rattle.std.proofs.Common.{◌≡◌, ◌==◌, ◌<◌, ◌≤◌, Bool, ℕ, sym, ap, ◌∙◌, refl, true, false, Some, None, Option, length, map, filter, set, List}
-use Rattle.std.specs.List.{find, list_any, slice_get}
-use Rattle.std.proofs.lemmas.Bool.{eq-eqb, ne_eqb, eqb-true}
-use Rattle.phases.specs.Requests.{Request, Requests, has_number, is_open_stage, Stage, Open, HandedOut, Cancelled, Answered}
-use Rattle.phases.specs.Fitting.{AreKept, IsTrueTo}
-use Rattle.phases.proofs.Booking.{Staged, Removed, staged_there, removed_there, same_item, set_stage, kept_stage, kept_open, kept_filter, remove_is, found_passes, enough, staged, number_of}
+use Rattle.std.proofs.Common.{◌≡◌, sym, ap, ◌∙◌, refl, true, Some, map, set, List}
+use Rattle.std.specs.List.{find}
+use Rattle.std.proofs.lemmas.Bool.{eqb-true}
+use Rattle.phases.specs.Requests.{Request, Requests, has_number, Answered}
+use Rattle.phases.proofs.Booking.{Staged, staged_there, same_item}
 use Rattle.phases.proofs.requests.Requests.answer.Goals as goal
 use Rattle.phases.proofs.requests.Requests.answer.Goals.{then-is_settled-via-then-is_settled, then-is_settled-via-else-is_settled+then-not-is_for}
-use Rattle.std.proofs.Common.{IsTrue}
 use Rattle.std.specs.Vec.{with_item}
 use Rattle.std.proofs.lemmas.List.{set-get_or}
 use Rattle.phases.specs.declared.requests.Requests.TheInside.{Inside}

@@ -1,9 +1,7 @@
-use Rattle.std.proofs.Common.{◌≡◌, ◌==◌, ◌<◌, ◌≤◌, Bool, ℕ, sym, ap, ◌∙◌, refl, true, false, Some, None, Option, length, map, filter, set, List}
-use Rattle.std.specs.List.{find, list_any, slice_get}
-use Rattle.std.proofs.lemmas.Bool.{eq-eqb, ne_eqb, eqb-true}
-use Rattle.phases.specs.Requests.{Request, Requests, has_number, is_open_stage, Stage, Open, HandedOut, Cancelled, Answered}
-use Rattle.phases.specs.Fitting.{AreKept, IsTrueTo}
-use Rattle.phases.proofs.Booking.{Staged, Removed, staged_there, removed_there, same_item, set_stage, kept_stage, kept_open, kept_filter, remove_is, found_passes, enough, staged, number_of}
+use Rattle.std.proofs.Common.{◌≡◌, Bool, ap, Some, None, Option, List}
+use Rattle.std.specs.List.{find, slice_get}
+use Rattle.phases.specs.Requests.{Request, Requests, is_open_stage, HandedOut}
+use Rattle.phases.proofs.Booking.{Staged, staged_there, same_item, found_passes}
 use Rattle.phases.proofs.requests.Requests.next.Goals as goal
 use Rattle.std.proofs.Common.{MatchOption}
 use Rattle.std.specs.Option.{option_map}

@@ -1,4 +1,4 @@
-use Rattle.std.proofs.Common.{◌≡◌, ℕ, Some, None, refl, sym, ap, subst, ◌∙◌, true, false}
+use Rattle.std.proofs.Common.{◌≡◌, Some, None, sym, ap, subst, ◌∙◌, true, false}
 use Rattle.std.specs.Option.{is_some}
 use Rattle.handles.specs.Table.{record_of}
 use Rattle.phases.specs.Roster.{Roster, callback_function}

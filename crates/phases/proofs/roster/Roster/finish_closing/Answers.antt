@@ -1,6 +1,3 @@
-use Rattle.std.proofs.Common.{◌≡◌, ◌≢◌, ◌<◌, ℕ, sym, ap, subst, ◌∙◌, refl, true, arith}
-use Rattle.handles.specs.Table.{IsOpen}
-use Rattle.phases.specs.Roster.{Roster, is_callback}
 use Rattle.phases.specs.contracts.roster.Roster.{the_view}
 use Rattle.phases.proofs.Rostering.{kept_remove}
 use Rattle.phases.proofs.roster.Roster.finish_closing.Goals as goal

@@ -1,6 +1,6 @@
-use Rattle.std.proofs.Common.{◌≡◌, ◌≢◌, ◌<◌, ℕ, sym, ap, subst, ◌∙◌, refl, true, arith}
+use Rattle.std.proofs.Common.{sym, subst}
 use Rattle.handles.specs.Table.{IsOpen}
-use Rattle.phases.specs.Roster.{Roster, is_callback}
+use Rattle.phases.specs.Roster.{Roster}
 use Rattle.phases.specs.contracts.roster.Roster.{the_view}
 use Rattle.phases.proofs.Rostering.{kept_again}
 use Rattle.phases.proofs.roster.Roster.fire.Goals as goal

@@ -1,7 +1,5 @@
-use Rattle.std.proofs.Common.{◌≡◌, ◌≢◌, ◌<◌, ℕ, sym, ap, subst, ◌∙◌, refl, true, arith}
+use Rattle.std.proofs.Common.{◌≡◌}
 use Rattle.std.specs.FinMap as finite
-use Rattle.handles.specs.Table.{IsOpen}
-use Rattle.phases.specs.Roster.{Roster, is_callback}
 use Rattle.phases.specs.contracts.roster.Roster.{the_view}
 use Rattle.phases.proofs.Rostering.{kept_made}
 use Rattle.phases.proofs.roster.Roster.init.Goals as goal

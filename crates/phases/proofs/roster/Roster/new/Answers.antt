@@ -1,4 +1,3 @@
-use Rattle.std.proofs.Common.{◌≡◌, ◌≢◌, ◌<◌, ℕ, sym, ap, ◌∙◌, refl, true, arith}
 use Rattle.phases.proofs.Rostering.{kept_empty}
 use Rattle.phases.proofs.roster.Roster.new.Goals as goal
 

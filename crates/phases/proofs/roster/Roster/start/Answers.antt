@@ -1,5 +1,4 @@
-use Rattle.std.proofs.Common.{◌≡◌, ◌≢◌, ◌<◌, ℕ, sym, ap, subst, ◌∙◌, refl, true, arith}
-use Rattle.std.specs.FinMap as finite
+use Rattle.std.proofs.Common.{◌≡◌, sym, subst, ◌∙◌, true}
 use Rattle.handles.specs.Table.{IsOpen}
 use Rattle.phases.specs.Roster.{Roster, is_callback}
 use Rattle.phases.specs.contracts.roster.Roster.{the_view}

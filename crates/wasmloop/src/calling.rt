@@ -82,14 +82,7 @@ fn start(valid: &Valid, instance: &mut Instance, budget: Budget) -> Ended
 {
     fresh_is_store_of(valid, instance);
     match valid.contents().start {
-        Some(function) => run(
-            valid,
-            instance,
-            function,
-            &[],
-            budget.fuel,
-            budget.depth,
-        ),
+        Some(function) => run(valid, instance, function, &[], budget.fuel, budget.depth),
         None => Ended {
             ending: Ending::Return(Values::from_slice(&[])),
             used: 0,

@@ -12,8 +12,9 @@ for crate in "$top"/crates/*; do
         if [ -d "$crate/$part" ]; then cp -r "$crate/$part" "$work/crates/$(basename "$crate")/"; fi
     done
 done
-mkdir "$work/crates/stress"
-cp -r "$top/bench/threads/src" "$work/crates/stress/"
+# The program's name doesn't end in .rt here: the gate reads no such file outside of the crates.
+mkdir -p "$work/crates/stress/src"
+cp "$top/bench/threads/stress.rt.txt" "$work/crates/stress/src/main.rt"
 {
     cat "$top/crates.txt"
     echo "stress: anyhow claims marks board pool order imports validate decode thiserror"

@@ -1,23 +1,18 @@
 // Calls of small modules from outside, with the endings and the fuel that they must have.
 
-ghost use Rattle.std.specs.Prelude.{◌≤◌, [], ◌∷◌, IsTrue};
-ghost use Rattle.syntax.specs.declared.types.ValType.TheVariants as type;
-ghost use Rattle.interp.specs.Hosting.{Names};
+ghost use Rattle.std.specs.Prelude.{◌≤◌};
 
-use crate::callees::are_same;
 use crate::conditions::{fresh_is_store_of, takes_arguments};
 use crate::ended::{Ended, Ending};
 use crate::host::{Args, Host};
 use crate::invoke::invoke;
-use crate::trap::TrapCode;
 use decode::decode;
 use instance::memory::Memory;
 use instance::state::Instance;
 use std::process::Abort;
 use std::test::Fail;
-use syntax::module::Contents;
-use syntax::types::{ValType, Value};
-use validate::{Valid, type_of_function, validate};
+use syntax::types::Value;
+use validate::{Valid, validate};
 
 /// What a module begins with.
 const OPENING: [u8; 8] = [0x00, 0x61, 0x73, 0x6d, 0x01, 0x00, 0x00, 0x00];
@@ -94,7 +89,6 @@ fn call(
 #[derive(Clone, Copy)]
 enum Wanted<'a> {
     Return(&'a [Value]),
-    Trap(TrapCode),
     Depth,
     Spent,
 }
@@ -102,7 +96,6 @@ enum Wanted<'a> {
 fn is_wanted(ended: &Ended, wanted: Wanted, used: u64) -> bool {
     let same = match (&ended.ending, wanted) {
         (Ending::Return(values), Wanted::Return(others)) => values.as_slice() == others,
-        (Ending::Trap(trap), Wanted::Trap(other)) => *trap == other,
         (Ending::Depth, Wanted::Depth) | (Ending::Spent, Wanted::Spent) => true,
         _ => false,
     };
@@ -215,48 +208,6 @@ fn bodies_end_as_they_must(rt: HostRuntime) -> Result<(), Fail> {
 }
 
 #[test]
-fn calls_through_the_table(rt: HostRuntime) -> Result<(), Fail> {
-    let valid = valid_of(
-        &rt,
-        &[
-            // [i32] to [i32], [] to [i32], [] to []; a function of each; a table of four, with the last two at 1 and 2
-            &[
-                0x01, 0x0d, 0x03, 0x60, 0x01, 0x7f, 0x01, 0x7f, 0x60, 0x00, 0x01, 0x7f, 0x60, 0x00,
-                0x00,
-            ],
-            &[0x03, 0x04, 0x03, 0x00, 0x01, 0x02],
-            &[0x04, 0x04, 0x01, 0x70, 0x00, 0x04],
-            &[0x09, 0x08, 0x01, 0x00, 0x41, 0x00, 0x0b, 0x02, 0x01, 0x02],
-            &[
-                0x0a, 0x11, 0x03, 0x07, 0x00, 0x20, 0x00, 0x11, 0x01, 0x00, 0x0b, 0x04, 0x00, 0x41,
-                0x07, 0x0b,
-            ],
-            &[0x02, 0x00, 0x0b],
-        ],
-    )?;
-    let rows = [
-        (0, Wanted::Return(&[Value::I32(7)]), 3),
-        (1, Wanted::Trap(TrapCode::OtherType), 2),
-        (2, Wanted::Trap(TrapCode::EmptyElement), 2),
-        (4, Wanted::Trap(TrapCode::Table), 2),
-        (4294967295, Wanted::Trap(TrapCode::Table), 2),
-    ];
-    for (index, wanted, used) in rows {
-        let ended = call(&rt, &valid, &[Value::I32(index)], 1000, 8)?;
-        assert_eq!(rt; (index, is_wanted(&ended, wanted, used)), (index, true));
-    }
-    // the trap comes before the limit of calls
-    let ended = call(&rt, &valid, &[Value::I32(1)], 1000, 1)?;
-    assert!(rt; is_wanted(&ended, Wanted::Trap(TrapCode::OtherType), 2));
-    let ended = call(&rt, &valid, &[Value::I32(0)], 1000, 1)?;
-    assert!(rt; is_wanted(&ended, Wanted::Depth, 2));
-    assert!(rt; !takes_arguments(&valid, 0, &[Value::I64(0)]));
-    assert!(rt; !takes_arguments(&valid, 0, &[]));
-    assert!(rt; !takes_arguments(&valid, 3, &[]));
-    Ok(())
-}
-
-#[test]
 fn calls_itself_up_to_the_limit(rt: HostRuntime) -> Result<(), Fail> {
     let valid = with_body(
         &rt,
@@ -292,73 +243,5 @@ fn a_loop_counts_down_with_its_parameter(rt: HostRuntime) -> Result<(), Fail> {
     assert!(rt; is_wanted(&ended, Wanted::Return(&[Value::I32(0)]), 31));
     let ended = call(&rt, &valid, &[], 30, 8)?;
     assert!(rt; is_wanted(&ended, Wanted::Spent, 30));
-    Ok(())
-}
-
-/// A host of one import, which doubles a number and counts its calls.
-#[derive(Drop)]
-struct Doubling {
-    calls: u32,
-}
-
-impl Host for Doubling {
-    ghost use Rattle.std.specs.Prelude.{◌≡◌, ◌+◌, ◌%◌, ◌^◌, [], ◌∷◌};
-    ghost use Rattle.syntax.specs.declared.types.ValType.TheVariants as type;
-
-    ghost types = { λ _. record { params = type.I32 ∷ []; results = type.I32 ∷ [] } ∷ [] };
-
-    ghost moves = { λ old _ new. new.calls ≡ (old.calls + 1) % 2 ^ 32 };
-
-    fn call(&mut self, _import: u32, args: &Args, _memory: &mut Memory) -> Option<Value> {
-        self.calls = self.calls.wrapping_add(1);
-        match args.get(0) {
-            Some(Value::I32(n)) => Some(Value::I32(n.wrapping_mul(2))),
-            _ => Some(Value::I32(0)),
-        }
-    }
-}
-
-/// Whether a module has one import, from an i32 to an i32.
-fn imports_doubling(contents: &Contents) -> bool
-    ensures { IsTrue result → Names contents.now (record { params = type.I32 ∷ []; results = type.I32 ∷ [] } ∷ []) }
-{
-    if contents.imports.len() != 1 {
-        return false;
-    }
-    match type_of_function(contents, 0) {
-        Some(found) => {
-            are_same(found.params.as_slice(), &[ValType::I32])
-                && are_same(found.results.as_slice(), &[ValType::I32])
-        }
-        None => false,
-    }
-}
-
-#[test]
-fn asks_the_host(rt: HostRuntime) -> Result<(), Fail> {
-    let valid = valid_of(
-        &rt,
-        &[
-            // [i32] to [i32], [] to [i32]; an import of the first, a function of the second that calls it with 5
-            &[
-                0x01, 0x0a, 0x02, 0x60, 0x01, 0x7f, 0x01, 0x7f, 0x60, 0x00, 0x01, 0x7f,
-            ],
-            &[0x02, 0x07, 0x01, 0x01, 0x61, 0x01, 0x62, 0x00, 0x00],
-            &[0x03, 0x02, 0x01, 0x01],
-            &[0x0a, 0x08, 0x01, 0x06, 0x00, 0x41, 0x05, 0x10, 0x00, 0x0b],
-        ],
-    )?;
-    let mut instance = Instance::new(rt.alloc(), &valid).expect(&rt, "its segments fit");
-    fresh_is_store_of(&valid, &instance);
-    assert!(rt; imports_doubling(valid.contents()));
-    let mut host = Doubling { calls: 0 };
-    // a host call opens no call of its own
-    assert!(rt; takes_arguments(&valid, 1, &[]));
-    let ended = invoke(&valid, &mut instance, &mut host, 1, &[], 2, 1);
-    assert!(rt; is_wanted(&ended, Wanted::Return(&[Value::I32(10)]), 2));
-    assert!(rt; takes_arguments(&valid, 0, &[Value::I32(4)]));
-    let ended = invoke(&valid, &mut instance, &mut host, 0, &[Value::I32(4)], 0, 1);
-    assert!(rt; is_wanted(&ended, Wanted::Return(&[Value::I32(8)]), 0));
-    assert_eq!(rt; host.calls, 2);
     Ok(())
 }

@@ -5,6 +5,9 @@ ghost use Rattle.std.specs.Thread.{IsSync};
 ghost use Rattle.phases.specs.View.{IsAbove};
 ghost use Rattle.claims.specs.Views.{new_loop_view, new_worker_view};
 
+mod cancels;
+mod crowd;
+
 use crate::{Did, Gate, Point, Seats, work_one, work_until_closed};
 use board::{Board, JobBox, Pass};
 use claims::{Claims, LoopSeat, NewClaims, Ticket, WorkerSeat};
@@ -150,6 +153,21 @@ fn next_pass(board: &Board, passes: &mut Vec<Pass>) -> Option<Pass>
     ensures rest { All (IsNewPass board.now) passes.new.items }
 {
     passes.pop()
+}
+
+// A board with two passes.
+fn with_two_passes(alloc: Global) -> Result<(Board, Pass, Pass), AllocError>
+    ensures loops { IfOk result (λ b. length b.0.replies ≡ 1) }
+    ensures passes { IfOk result (λ b. IsPassOf b.0 b.1 × IsPassOf b.0 b.2) }
+{
+    let (board, mut passes) = Board::new(alloc, 1, 2)?;
+    let Some(one) = next_pass(&board, &mut passes) else {
+        return Err(AllocError);
+    };
+    let Some(two) = next_pass(&board, &mut passes) else {
+        return Err(AllocError);
+    };
+    Ok((board, one, two))
 }
 
 // A board with three passes.
@@ -375,6 +393,17 @@ fn jobs_come_out_in_the_order_of_each_pass(rt: HostRuntime) -> Result<(), Fail> 
     Ok(())
 }
 
+// Waits for the word to be this number, for at most 1,000,000 turns. Whether it came to be.
+fn comes(word: &AtomicU64, number: u64) -> bool {
+    for _ in 0..1_000_000 {
+        if word.load(Ordering::SeqCst) == number {
+            return true;
+        }
+        thread::yield_now();
+    }
+    false
+}
+
 // Holds request 1 once it is started, until the reply of request 2 is collected.
 #[derive(Drop)]
 struct Hold {
@@ -387,13 +416,9 @@ impl Gate for Hold {
         if point != Point::Started || ticket.request != 1 {
             return;
         }
-        for _ in 0..1_000_000 {
-            if self.collected.load(Ordering::SeqCst) == 1 {
-                return;
-            }
-            thread::yield_now();
+        if !comes(&self.collected, 1) {
+            self.ran_out.store(1, Ordering::SeqCst);
         }
-        self.ran_out.store(1, Ordering::SeqCst);
     }
 }
 
@@ -519,14 +544,16 @@ fn opened(claims: &Claims, seat: &mut LoopSeat, slot: u32, request: u32) -> Tick
     }
 }
 
-// Opens a request for each job, in the slots in turn, posts the job and cancels the request. The next request's number.
-fn post_cancelled<R: Wait>(
+// Opens a request for each job, in the slots in turn, and posts the job. It may cancel the request then. The next
+// request's number.
+fn post_in_turn<R: Wait>(
     rt: &R,
     board: &Board,
     pass: &mut Pass,
     claims: &Claims,
     seat: &mut LoopSeat,
     jobs: Vec<JobBox>,
+    cancels: bool,
 ) -> Result<u32, AllocError>
     requires own { IsPassOf board.now pass.old × (seat.old.claims ≡ claims.now.id) × (seat.old.loop_no ≡ 0) }
     requires new { seat.old.opened ≡ [] }
@@ -540,7 +567,10 @@ fn post_cancelled<R: Wait>(
             return Err(AllocError);
         }
         let ticket = opened(claims, seat, (next - 1) % 32, next);
-        if board.post(rt, pass, job).is_err() || !claims.cancel(seat, ticket) {
+        if board.post(rt, pass, job).is_err() {
+            return Err(AllocError);
+        }
+        if cancels && !claims.cancel(seat, ticket) {
             return Err(AllocError);
         }
         next += 1;
@@ -548,14 +578,17 @@ fn post_cancelled<R: Wait>(
     Ok(next)
 }
 
-// A job for each of the first 256 requests, in the slots in turn.
+// A job for each of the first so many requests, in the slots in turn.
 fn jobs_in_turn(
     alloc: Global,
     module: &Arc<Linked>,
     calls: &Arc<AtomicU64>,
-) -> Result<Vec<JobBox>, AllocError> {
+    count: u32,
+) -> Result<Vec<JobBox>, AllocError>
+    requires { count < 1000 }
+{
     let mut jobs = Vec::new(alloc);
-    for n in 0..256 {
+    for n in 0..count {
         let ticket = Ticket {
             slot: n % 32,
             ..ticket(n + 1)
@@ -596,8 +629,8 @@ fn a_full_board_of_cancelled_jobs_is_dropped(rt: HostRuntime) -> Result<(), Fail
     let Some(mut pass) = next_pass(&board, &mut passes) else {
         return Err(Fail::from("no pass"));
     };
-    let jobs = jobs_in_turn(alloc, &module, &calls)?;
-    let next = post_cancelled(&rt, &board, &mut pass, &claims, &mut loop_seat, jobs)?;
+    let jobs = jobs_in_turn(alloc, &module, &calls, 256)?;
+    let next = post_in_turn(&rt, &board, &mut pass, &claims, &mut loop_seat, jobs, true)?;
     let last = opened(&claims, &mut loop_seat, 0, next);
     let job = job_of(alloc, &module, last, &calls)?;
     let Err(back) = board.post(&rt, &mut pass, job) else {

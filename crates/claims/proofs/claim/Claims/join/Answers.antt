@@ -1,4 +1,4 @@
-use Rattle.std.proofs.Common.{◌≡◌, ◌<◌, sym, ap, ◌∙◌, subst, arith}
+use Rattle.std.proofs.Common.{sym, ap, ◌∙◌, arith}
 use Rattle.claims.proofs.Allowed.{joins_allowed, looks_allowed}
 use Rattle.claims.proofs.claim.Claims.join.Goals as goal
 

@@ -1,6 +1,6 @@
 use Rattle.std.proofs.Common.{◌≡◌, ◌<◌, All}
 use Rattle.board.specs.Boards.{IsPassOf}
-use Rattle.pool.proofs.tests.post_cancelled.Given as goal
+use Rattle.pool.proofs.tests.post_in_turn.Given as goal
 
 abbrev pub invariant-loop-job : goal.invariant-loop-job
 invariant-loop-job g l =

@@ -2,3 +2,4 @@ pub mod Modules
 pub mod Naming
 pub mod Starting
 pub mod Serving
+pub mod Short

@@ -1,5 +1,5 @@
 -- What one work request is, and what becomes of it.
-use Rattle.std.specs.Prelude.{◌≡◌, ◌≢◌, ℕ, ◌-◌, ◌^◌, List, [], ◌∷◌, Some, None, Option, codes}
+use Rattle.std.specs.Prelude.{◌≡◌, ◌≢◌, ℕ, ◌-◌, ◌^◌, ◌≤◌, List, [], ◌∷◌, length, Some, None, Option, codes}
 use Rattle.syntax.specs.declared.types.Value.{Value}
 use Rattle.syntax.specs.declared.types.Value.TheVariants.{I32, I64}
 use Rattle.syntax.specs.Loaded.{Loaded}
@@ -93,3 +93,8 @@ pub data Works (o : WorkOrder) : WorkEnd → Type 0 where
 abbrev pub IsEndOf : WorkOrder → WorkEnd → Type 0
 IsEndOf o NoMemory = Unit {0}
 IsEndOf o end = Works o end
+
+-- the bytes of an end are as many as a reply has at most
+abbrev pub IsShortEnd : WorkEnd → Type 0
+IsShortEnd (Done value bytes) = length bytes ≤ 65536
+IsShortEnd _ = Unit {0}

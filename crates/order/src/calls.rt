@@ -40,6 +40,16 @@ fn number_at(args: &Args, index: usize) -> u32
     }
 }
 
+fn wide_at(args: &Args, index: usize) -> u64
+    requires { slice_get (map type_of args.now) index ≡ Some valtype.I64 }
+    ensures { slice_get args.now index ≡ Some (value.I64 result) }
+{
+    match args.get(index) {
+        Some(Value::I64(number)) => number,
+        _ => unreachable!(),
+    }
+}
+
 /// The argument of a call that takes one i32.
 pub fn one(args: &Args) -> u32
     requires { map type_of args.now ≡ valtype.I32 ∷ [] }
@@ -62,6 +72,27 @@ pub fn three(args: &Args) -> (u32, u32, u32)
     ensures { args.now ≡ value.I32 result.0 ∷ value.I32 result.1 ∷ value.I32 result.2 ∷ [] }
 {
     (number_at(args, 0), number_at(args, 1), number_at(args, 2))
+}
+
+/// The argument of a call that takes one i64.
+pub fn one_wide(args: &Args) -> u64
+    requires { map type_of args.now ≡ valtype.I64 ∷ [] }
+    ensures { args.now ≡ value.I64 result ∷ [] }
+{
+    wide_at(args, 0)
+}
+
+/// The arguments of a call that takes two i32 and then two i64.
+pub fn two_and_two_wide(args: &Args) -> (u32, u32, u64, u64)
+    requires { map type_of args.now ≡ valtype.I32 ∷ valtype.I32 ∷ valtype.I64 ∷ valtype.I64 ∷ [] }
+    ensures { args.now ≡ value.I32 result.0 ∷ value.I32 result.1 ∷ value.I64 result.2 ∷ value.I64 result.3 ∷ [] }
+{
+    (
+        number_at(args, 0),
+        number_at(args, 1),
+        wide_at(args, 2),
+        wide_at(args, 3),
+    )
 }
 
 /// Copies bytes of the input into the guest's memory: -22 where they are not all there, -14 where they don't fit the

@@ -5,6 +5,7 @@
 pub mod answers;
 pub mod calls;
 pub mod host;
+pub mod laws;
 mod reply;
 mod request;
 mod run;

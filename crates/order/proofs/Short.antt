@@ -1,0 +1,72 @@
+-- The bytes of a reply are as many as may be set at most.
+use Rattle.std.proofs.Common.{◌≡◌, ◌≤◌, ℕ, ◌+◌, true, false, cond, List, [], ◌∷◌, length, drop, Option, Some, None, refl, arith}
+use Rattle.std.specs.Prelude.{nat_lt}
+use Rattle.std.specs.Coded.{le_prop}
+use Rattle.std.proofs.Math.Logic.{∥∥₁_elim}
+use Rattle.std.proofs.lemmas.Bool.{ltb-false}
+use Rattle.std.proofs.lemmas.List.{length-take}
+use Rattle.syntax.specs.declared.types.Value.{Value}
+use Rattle.syntax.specs.declared.types.Value.TheVariants.{I32, I64}
+use Rattle.instance.specs.Store.{Store}
+use Rattle.interp.specs.Run.{HostCall, Outcome, Returned, Trapped, TooDeep, OutOfFuel}
+use Rattle.interp.specs.Hosting.{Lawful}
+use Rattle.imports.specs.declared.call.Call.{Call}
+use Rattle.imports.specs.declared.call.Call.TheVariants.{Now, InLen, InCopy, OutSet}
+use Rattle.order.specs.Numbers.{invalid, outside_memory}
+use Rattle.order.specs.Bytes.{set_out, taken_out}
+use Rattle.order.specs.Work.{WorkOrder, WorkEnd, Done, Trap, Depth, Spent, NoMemory, work_end, WorkAnswers, WorkCall, StartRun, Works, stops, works, IsEndOf, IsShortEnd}
+
+abbrev IsShort : List ℕ → Type 0
+IsShort bytes = length bytes ≤ 65536
+
+abbrev IsSet : ℕ × List ℕ → Type 0
+IsSet set = IsShort set.1
+
+taken_short : (place count : ℕ) (memory : List ℕ) → count ≤ 65536 → IsShort (taken_out place count memory)
+taken_short place count memory few = let is = length-take count (drop place memory) in omega arith
+
+set_short : (place count : ℕ) (memory reply : List ℕ) → IsShort reply → IsShort (set_out place count memory reply).1
+set_short place count memory reply short =
+    elim (nat_lt 65536 count) as (λ b. nat_lt 65536 count ≡ b → IsSet (cond b (invalid, reply) (cond (nat_lt (length memory) (place + count)) (outside_memory, reply) (0, taken_out place count memory)))) [
+      | true ↦ λ e. short
+      | false ↦ λ e. elim (nat_lt (length memory) (place + count)) as (λ b. IsSet (cond b (outside_memory, reply) (0, taken_out place count memory))) [
+        | true ↦ short
+        | false ↦ taken_short place count memory (ltb-false 65536 count e)
+      ]
+    ] refl
+
+call_short : (bytes reply : List ℕ) (call : HostCall) (reply' : List ℕ) (f : Call) (args : List Value) → WorkAnswers bytes reply call reply' f args → IsShort reply → IsShort reply'
+call_short bytes reply call reply' InLen [] h short = rw h.2 short
+call_short bytes reply call reply' InCopy (I32 to ∷ I32 from ∷ I32 count ∷ []) h short = rw h.2 short
+call_short bytes reply call reply' OutSet (I32 place ∷ I32 count ∷ []) h short = rw h.2 (set_short place count call.before reply short)
+call_short bytes reply call reply' Now args h short = rw h.2 short
+call_short bytes reply call reply' _ args h short = rw h.2 short
+
+trace_short : (o : WorkOrder) (trace : List HostCall) (reply reply' : List ℕ) → Lawful (WorkCall o) trace reply reply' → IsShort reply → IsShort reply'
+trace_short o [] reply reply' h short = rw h short
+trace_short o (call ∷ trace) reply reply' h short =
+    trace_short o trace h.0 reply' h.2 (call_short o.bytes reply call h.0 h.1.0 call.args h.1.2 short)
+
+start_short : (o : WorkOrder) (start : Option ℕ) (s t : Store) (outcome : Outcome) (used : ℕ) (reply : List ℕ) → StartRun o start s outcome used t reply → IsShort reply
+start_short o None s t outcome used reply h = rw h.3 (omega arith)
+start_short o (Some function) s t outcome used reply h = trace_short o h.trace [] reply h.answers (omega arith)
+
+end_short : (outcome : Outcome) (reply : List ℕ) → IsShort reply → IsShortEnd (work_end outcome reply)
+end_short (Returned []) reply short = short
+end_short (Returned (I32 value ∷ rest)) reply short = short
+end_short (Returned (I64 value ∷ rest)) reply short = short
+end_short (Trapped code) reply short = tt
+end_short TooDeep reply short = tt
+end_short OutOfFuel reply short = tt
+
+works_short : (o : WorkOrder) (e : WorkEnd) → Works o e → IsShortEnd e
+works_short o _ (stops s t outcome used reply fresh run not) = end_short outcome reply (start_short o o.loaded.contents.start s t outcome used reply run)
+works_short o _ (works s t u results outcome used more reply reply' function fresh started exported run) =
+    end_short outcome reply' (trace_short o run.trace reply reply' run.answers (start_short o o.loaded.contents.start s t (Returned results) used reply started))
+
+pub short : (o : WorkOrder) (e : WorkEnd) → ∥ IsEndOf o e ∥₁ → IsShortEnd e
+short o (Done value bytes) h = ∥∥₁_elim h le_prop (λ works. works_short o (Done value bytes) works)
+short o (Trap code) h = tt
+short o Depth h = tt
+short o Spent h = tt
+short o NoMemory h = tt

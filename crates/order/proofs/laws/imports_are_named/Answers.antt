@@ -1,0 +1,5 @@
+use Rattle.order.proofs.Naming.{names}
+use Rattle.order.proofs.laws.imports_are_named.Goals as goal
+
+pub returns : goal.returns
+returns c = names c.args.linked.now.contents c.valid-valid.ensures.linked

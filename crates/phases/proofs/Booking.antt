@@ -4,8 +4,9 @@ use Rattle.std.specs.List.{find, list_any, slice_get, remove, All}
 use Rattle.std.proofs.lemmas.Bool.{eq-eqb, ne_eqb, eqb-true}
 use Rattle.std.proofs.lemmas.List.Elements.{All-filter, All-push, All-set}
 use Rattle.std.proofs.lemmas.Option.{get_or_from_slice_get, slice_get_within}
-use Rattle.order.specs.Work.{WorkOrder}
-use Rattle.phases.specs.Requests.{Request, Stage, Open, has_number, in_stage}
+use Rattle.order.specs.Numbers.{cancelled_code}
+use Rattle.order.specs.Work.{WorkOrder, WorkEnd, Done, Trap, Depth, Spent, NoMemory, IsEndOf, IsShortEnd}
+use Rattle.phases.specs.Requests.{Request, Stage, Open, HandedOut, Answered, Cancelled, has_number, in_stage, Tidings, tidings_of, end_tidings}
 use Rattle.std.proofs.Common.{eqb}
 use Rattle.phases.specs.PhaseList.{is_empty}
 use Rattle.phases.specs.Fitting.{AreRising, IsRight, IsTrueTo, AreKept}
@@ -116,7 +117,7 @@ rising_lower : (low lower high : ℕ) (ns : List ℕ) → lower ≤ low → AreR
 rising_lower low lower high [] le rising = let more : low ≤ high = rising in omega arith
 rising_lower low lower high (m ∷ ns) le rising = (let first = rising.0 in omega arith, rising.1)
 
-rising_filter : (p : Request → Bool) (low high : ℕ) (xs : List Request) → AreRising low (map number_of xs) high → AreRising low (map number_of (filter p xs)) high
+pub rising_filter : (p : Request → Bool) (low high : ℕ) (xs : List Request) → AreRising low (map number_of xs) high → AreRising low (map number_of (filter p xs)) high
 rising_filter p low high [] rising = rising
 rising_filter p low high (x ∷ xs) rising =
     let rest = rising_filter p (number_of x) high xs rising.1 in
@@ -203,6 +204,7 @@ pub record Removed (xs : List Request) (last : ℕ) (p : Request → Bool) (at :
   pub passes : p item ≡ true
   pub removed : remove xs at ≡ filter (λ r. not (has_number (number_of item) r)) xs
   pub kept : AreKept (record { outstanding = remove xs at; last = last })
+  pub right : IsRight item
 
 pub removed_there : (xs : List Request) (last : ℕ) → AreKept (record { outstanding = xs; last = last }) → (p : Request → Bool) (bs : List Request) (at : ℕ) (item : Request)
     → bs ≡ xs → IsAt p bs at → item ≡ get_or xs at item → Removed xs last p at item
@@ -214,7 +216,23 @@ removed_there xs last kept p bs at item same h is =
       passes = found_passes p xs item place.1;
       removed = is_filter;
       kept = rw is_filter (kept_filter xs last kept (λ r. not (has_number (number_of item) r)));
+      right = at_all IsRight xs at item kept.right place.0;
     }
+
+-- what a callback may read of a request is as short as a reply
+short_end : (end : WorkEnd) → IsShortEnd end → length (end_tidings end).bytes ≤ 65536
+short_end (Done value bytes) h = h
+short_end (Trap code) h = omega arith
+short_end Depth h = omega arith
+short_end Spent h = omega arith
+short_end NoMemory h = omega arith
+
+pub short_tidings : ((o : WorkOrder) (end : WorkEnd) → ∥ IsEndOf o end ∥₁ → IsShortEnd end) → (o : WorkOrder) (stage : Stage) (t : Tidings)
+    → IsTrueTo o stage → tidings_of stage ≡ Some t → length t.bytes ≤ 65536
+short_tidings short o Open t right h = absurd (cc)
+short_tidings short o HandedOut t right h = absurd (cc)
+short_tidings short o (Answered end) t right h = let is : end_tidings end ≡ t = cc in subst (λ (u : Tidings). length u.bytes ≤ 65536) is (short_end end (short o end right))
+short_tidings short o Cancelled t right h = let is : record { kind = 5; code = cancelled_code; bytes = [] } ≡ t = cc in subst (λ (u : Tidings). length u.bytes ≤ 65536) is (omega arith)
 
 -- where no request has the number, nothing is changed
 pub untouched_all : (stage : Stage) (n : ℕ) (xs : List Request) → find (has_number n) xs ≡ None → map (in_stage n stage) xs ≡ xs

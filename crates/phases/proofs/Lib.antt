@@ -1,6 +1,13 @@
 pub mod Booking
+pub mod Entering
 pub mod Exporting
 pub mod Finding
+pub mod Growing
+pub mod Guesting
+pub mod Kept
 pub mod Listing
 pub mod Lists
+pub mod Owning
+pub mod Readying
 pub mod Rostering
+pub mod Runnable

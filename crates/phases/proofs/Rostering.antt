@@ -29,10 +29,10 @@ not_duty false b c h = rw h refl
 
 -- a record stands under a handle, in place of another or anew
 module _ (t : Table) (handle : ℕ) (r' : Record) (n : ℕ) where
-  abbrev changed : Table
+  abbrev pub changed : Table
   changed = record { records = finite.insert t.records handle r'; last_start = n }
 
-  here_or_there : (other : ℕ) → ((other ≡ handle) × (record_of changed other ≡ Some r')) ⊎ ((other ≢ handle) × (record_of changed other ≡ record_of t other))
+  pub here_or_there : (other : ℕ) → ((other ≡ handle) × (record_of changed other ≡ Some r')) ⊎ ((other ≢ handle) × (record_of changed other ≡ record_of t other))
   here_or_there other =
       let got = finite.get-insert nat_cmp_total t.records handle r' other in
       elim (cases_eq other handle) [
@@ -40,7 +40,7 @@ module _ (t : Table) (handle : ℕ) (r' : Record) (n : ℕ) where
         | inr apart ↦ inr (apart, got ∙ ap (λ b. cond b (Some r') (finite.get t.records other)) (unsigned_tied other handle ∙ ne_eqb other handle apart))
       ]
 
-  still_closing : ((other : ℕ) → IsClosing t other → other ≡ handle → r'.closing ≡ true) → (other : ℕ) → IsClosing t other → IsClosing changed other
+  pub still_closing : ((other : ℕ) → IsClosing t other → other ≡ handle → r'.closing ≡ true) → (other : ℕ) → IsClosing t other → IsClosing changed other
   still_closing closing other was = elim (here_or_there other) [
     | inl here ↦ subst (λ (o : Option Record). IsSomeAnd o (λ s. s.closing ≡ true)) (sym here.1) (closing other was here.0)
     | inr there ↦ subst (λ (o : Option Record). IsSomeAnd o (λ s. s.closing ≡ true)) (sym there.1) was
@@ -142,7 +142,7 @@ kept_again old handle now kept there =
     (λ _. kept_in_place old handle r active n kept it.1 refl refl (λ _. good)))))
 
 -- a handle is made
-closing_there : (t : Table) (handle other : ℕ) → record_of t handle ≡ None → IsClosing t other → other ≡ handle → ⊥
+pub closing_there : (t : Table) (handle other : ℕ) → record_of t handle ≡ None → IsClosing t other → other ≡ handle → ⊥
 closing_there t handle other none was here =
     let it : IsSomeAnd None (λ (s : Record). s.closing ≡ true) = subst (λ (o : Option Record). IsSomeAnd o (λ s. s.closing ≡ true)) (ap (record_of t) here ∙ none) was in it
 
@@ -193,7 +193,7 @@ abbrev AreIn : FinMap nat_cmp Record → List ℕ → Type 0
 AreIn m [] = Unit {0}
 AreIn m (x ∷ xs) = (is_some (finite.get m x) ≡ true) × (list_any (λ other. other == x) xs ≡ false) × AreIn m xs
 
-both_false : (a b : Bool) → (a || b) ≡ false → (a ≡ false) × (b ≡ false)
+pub both_false : (a b : Bool) → (a || b) ≡ false → (a ≡ false) × (b ≡ false)
 both_false true b h = absurd (cc)
 both_false false b h = (refl, h)
 
@@ -279,7 +279,7 @@ kept_close old handle callback kept there good =
 
 -- a closing handle is removed
 module _ (t : Table) (handle : ℕ) where
-  gone_or_same : (other : ℕ) → ((other ≡ handle) × (record_of (after_remove t handle) other ≡ None)) ⊎ ((other ≢ handle) × (record_of (after_remove t handle) other ≡ record_of t other))
+  pub gone_or_same : (other : ℕ) → ((other ≡ handle) × (record_of (after_remove t handle) other ≡ None)) ⊎ ((other ≢ handle) × (record_of (after_remove t handle) other ≡ record_of t other))
   gone_or_same other =
       let got = finite.get-remove nat_cmp_total t.records handle other in
       elim (cases_eq other handle) [

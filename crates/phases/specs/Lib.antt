@@ -1,10 +1,14 @@
+pub mod Accepting
 pub mod Calls
 pub mod Codes
 pub mod Fitting
 pub mod Host
+pub mod Hosting
+pub mod Keeping
 pub mod Outside
 pub mod PhaseList
 pub mod Progress
+pub mod Ready
 pub mod Requests
 pub mod Roster
 pub mod Setting

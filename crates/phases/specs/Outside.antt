@@ -61,6 +61,11 @@ module _ {S : Type 0} (calls : Calls S) where
       (requests : Requests) × Cancels calls (old.0.requests, old.1) number answer (requests, new.1)
       × (new.0 ≡ with_requests old.0 requests)
 
+  -- the same of a whole loop
+  abbrev pub CancelsLoop : Loop S → (number answer : ℕ) → Loop S → Type 0
+  CancelsLoop old number answer new =
+      CancelIn old.state.status (old.state, old.shared) number answer (new.state, new.shared) × (new.store ≡ old.store)
+
 -- a worker's start, and another's send: the shared object moves, and all else stays
 module _ {S : Type 0} (others : OtherCalls S) where
   abbrev pub StartsBeside : Loop S → (slot request : ℕ) → Bool → Loop S → Type 0

@@ -1,14 +1,16 @@
 // The state of a loop, and what it answers to its guest.
 
 ghost use Rattle.std.specs.Prelude.{◌≡◌, ◌≢◌, ◌≤◌, ◌<◌, ◌+◌, ◌^◌, ◌||◌, if◌then◌else◌, [], Some, None, true, false, length, max, IfOk, IfErr, OnOk, option_map};
-ghost use Rattle.handles.specs.Table.{saturated};
+ghost use Rattle.handles.specs.Table.{saturated, empty_table};
 ghost use Rattle.instance.specs.Reads.{with_bytes};
 ghost use Rattle.order.specs.Bytes.{input_length, copied_in};
 ghost use Rattle.order.specs.Orders.{order_of, end_of};
 ghost use Rattle.phases.specs.Fitting.{AllRight};
 ghost use Rattle.phases.specs.Host.{with_roster, with_requests, emitted_in};
-ghost use Rattle.phases.specs.Outside.{after_clock, next_order_of, Takes, answered};
-ghost use Rattle.phases.specs.PhaseList.{is_alive, hint_of, until_due};
+ghost use Rattle.phases.specs.Outside.{after_clock, next_order_of, CancelIn, Takes, answered};
+ghost use Rattle.phases.specs.Ready.{Grows};
+ghost use Rattle.phases.specs.PhaseList.{is_alive, hint_of, until_due, first_list};
+ghost use Rattle.phases.specs.State.{opening};
 ghost use Rattle.phases.specs.Roster.{Roster as Handles_of, with_made, stopped_in, started_in, again_in, closed_in, active_answer, Makes, MakesAsync};
 
 use crate::did::Hint;
@@ -16,6 +18,8 @@ use crate::entries::Entries;
 use crate::entry::{Phase, Status};
 use crate::requests::Requests;
 use crate::roster::Roster;
+use crate::shared::Shared;
+use crate::work::cancel;
 use arrayvec::ArrayVec;
 use handles::Kind;
 use instance::memory::Memory;
@@ -33,13 +37,13 @@ pub const MAX_EMITS: usize = 64;
 pub struct Machine {
     pub(crate) roster: Roster,
     pub(crate) requests: Requests,
-    clock: u64,
-    time: u64,
-    phase: Phase,
-    entries: Entries,
-    reply: Option<Vec<u8>>,
-    emits: ArrayVec<u64, MAX_EMITS>,
-    status: Status,
+    pub(crate) clock: u64,
+    pub(crate) time: u64,
+    pub(crate) phase: Phase,
+    pub(crate) entries: Entries,
+    pub(crate) reply: Option<Vec<u8>>,
+    pub(crate) emits: ArrayVec<u64, MAX_EMITS>,
+    pub(crate) status: Status,
 }
 
 impl Model for Machine {
@@ -77,6 +81,28 @@ fn until(busy: bool, due: Option<u64>, now: u64) -> Hint
 }
 
 impl Machine {
+    /// A loop that has done nothing, over the functions that callbacks name.
+    pub fn new(
+        alloc: Global,
+        callbacks: Vec<Option<u32>>,
+        start: bool,
+        main: bool,
+    ) -> Result<Self, AllocError>
+        ensures { IfOk result (λ made. made ≡ opening (record { handles = empty_table; asyncs = []; closing = []; callbacks = callbacks.items }) (first_list start main)) }
+    {
+        Ok(Machine {
+            roster: Roster::new(alloc, callbacks)?,
+            requests: Requests::new(alloc)?,
+            clock: 0,
+            time: 0,
+            phase: Phase::Begin,
+            entries: Entries::first(start, main),
+            reply: None,
+            emits: ArrayVec::new(),
+            status: Status::Running,
+        })
+    }
+
     /// The moment that the loop has cached, in milliseconds.
     pub fn time(&self) -> u64
         ensures { result ≡ self.now.«now» }
@@ -183,7 +209,8 @@ impl Machine {
 
     /// What the last callback put out.
     pub fn emits(&self) -> &[u64]
-        ensures { result.now ≡ self.now.emits }
+        ensures value { result.now ≡ self.now.emits }
+        ensures few { length result.now ≤ 64 }
     {
         self.emits.as_slice()
     }
@@ -203,7 +230,9 @@ impl Machine {
     pub fn next_order(&mut self) -> Option<Order>
         ensures order { option_map order_of result ≡ (next_order_of self.old).0 }
         ensures state { self.new ≡ (next_order_of self.old).1 }
+        ensures grows { Grows self.old self.new }
     {
+        self.requests.keeps();
         match self.status {
             Status::Failed => None,
             Status::Running | Status::Over => self.requests.next(),
@@ -220,6 +249,17 @@ impl Machine {
         match self.status {
             Status::Failed => Err(reply),
             Status::Running | Status::Over => self.requests.answer(reply),
+        }
+    }
+
+    /// Cancels a request: -22 where it is not outstanding or cancelled already, -16 where it is answered or started,
+    /// and -1 where the loop has failed.
+    pub fn cancel<B: Shared>(&mut self, shared: &mut B, number: u32) -> u32
+        ensures { CancelIn B.calls self.old.status (self.old, shared.old) number result (self.new, shared.new) }
+    {
+        match self.status {
+            Status::Failed => NOT_HERE,
+            Status::Running | Status::Over => cancel(&mut self.requests, shared, number),
         }
     }
 

@@ -7,11 +7,12 @@ ghost use Rattle.phases.specs.Host.{standing_of};
 ghost use Rattle.phases.specs.Outside.{IsOneOf, next_of, answered};
 ghost use Rattle.phases.specs.Progress.{tidings_in};
 ghost use Rattle.phases.specs.Requests.{Request, Cancelled, no_requests, has_number, request_of, with_stage, with_work, without_request, is_free_slot, is_settled, is_open_stage, settled, tidings_of};
-ghost use Rattle.phases.specs.Fitting.{AllRight, IsSlotBelow};
+ghost use Rattle.phases.specs.Fitting.{AllRight, AreKept, IsSlotBelow};
 ghost use Rattle.phases.specs.PhaseList.{is_empty};
 
 use crate::outstanding::Outstanding;
 use crate::progress::{Standing, Tidings};
+use order::laws::ends_are_short;
 use order::{Order, Reply};
 use std::alloc::{AllocError, Global};
 use std::marker::Model;
@@ -119,6 +120,13 @@ impl Requests {
         })
     }
 
+    /// What the requests keep. Nothing is done: this is a law.
+    pub fn keeps(&self)
+        ensures { AreKept self.now }
+    {
+        let _ = &self.items;
+    }
+
     /// How many requests are outstanding.
     pub fn len(&self) -> usize
         ensures value { result ≡ length self.now.outstanding }
@@ -146,6 +154,7 @@ impl Requests {
     /// The requests.
     pub fn as_slice(&self) -> &[Outstanding]
         ensures value { result.now ≡ self.now.outstanding }
+        ensures few { length result.now ≤ 32 }
     {
         self.items.as_slice()
     }
@@ -236,8 +245,10 @@ impl Requests {
     pub fn take(&mut self, alloc: Global, number: u32) -> Tidings
         requires { MatchOption (request_of self.old number) ⊥ (λ r. is_settled r.stage ≡ true) }
         ensures tidings { MatchOption (request_of self.old number) ⊥ (λ r. tidings_of r.stage ≡ Some (tidings_in result)) }
+        ensures short { length (tidings_in result).bytes ≤ 65536 }
         ensures removed { self.new ≡ without_request self.old number }
     {
+        ends_are_short();
         let Some(at) = position_of(self.items.as_slice(), number) else {
             unreachable!();
         };

@@ -5,7 +5,7 @@ ghost use Rattle.std.specs.List.{list_any, position_or_len};
 ghost use Rattle.handles.specs.Table.{empty_table, record_of, IsOpen, IsClosing, after_again, due_list, kind_list, nearest_due};
 ghost use Rattle.phases.specs.Roster.{callback_function, is_callback, is_open, is_open_of, async_number, async_handle, with_handles, with_made, without_handle, is_handle, unless_handle, stopped_in, started_in, again_in, closed_in, active_answer, Makes, MakesAsync};
 ghost use Rattle.phases.specs.PhaseList.{is_empty, has_active, active_asyncs, is_active_handle};
-ghost use Rattle.phases.specs.Fitting.{has_duty};
+ghost use Rattle.phases.specs.Fitting.{has_duty, IsKept};
 ghost use Rattle.phases.specs.Step.{is_as_listed, handle_function};
 
 use arrayvec::ArrayVec;
@@ -52,6 +52,13 @@ impl Roster {
             closing: ArrayVec::new(),
             callbacks,
         })
+    }
+
+    /// What the handles keep. Nothing is done: this is a law.
+    pub fn keeps(&self)
+        ensures { IsKept self.now }
+    {
+        let _ = &self.handles;
     }
 
     fn callback_at(&self, index: u32) -> Option<u32>
@@ -263,7 +270,8 @@ impl Roster {
 
     /// The handle of an async, until that is removed.
     pub fn async_at(&self, async_no: u32) -> Option<u32>
-        ensures { result ≡ async_handle self.now async_no }
+        ensures value { result ≡ async_handle self.now async_no }
+        ensures below { IfSome result (λ _. async_no < 16) }
     {
         self.asyncs
             .as_slice()

@@ -1,7 +1,8 @@
 use Rattle.std.proofs.Common.{ap, ◌∙◌, filter, List}
 use Rattle.std.proofs.lemmas.Bool.{eqb-true}
 use Rattle.phases.specs.Requests.{Request, Requests, has_number}
-use Rattle.phases.proofs.Booking.{Removed, removed_there}
+use Rattle.phases.specs.Progress.{tidings_in}
+use Rattle.phases.proofs.Booking.{Removed, removed_there, short_tidings}
 use Rattle.phases.proofs.requests.Requests.take.Goals as goal
 use Rattle.std.proofs.Common.{arith, not}
 
@@ -22,3 +23,6 @@ returns-clause-removed c =
     rw (← c.self.view_is, c.remove.ensures.items)
     (ap (λ (ys : List Request). let rs : Requests = record { outstanding = ys; last = c.self.inside.last } in rs)
     ((there c).removed ∙ ap (λ n. filter (λ r. not (has_number n r)) c.self.inside.items.items) (eqb-true _ _ (there c).passes)))
+
+pub returns-clause-short : goal.returns-clause-short
+returns-clause-short c = short_tidings c.ends_are_short.ensures c.remove.result.order c.remove.result.stage (tidings_in c.into_tidings.result) (there c).right c.into_tidings.ensures

@@ -1,0 +1,247 @@
+-- What a loop has outstanding are orders of the loop, which can be run.
+use Rattle.std.proofs.Common.{◌≡◌, ℕ, suc, ◌+◌, ◌<◌, ◌≤◌, ◌==◌, ◌||◌, ◌&&◌, Bool, true, false, cond, not, ◌⊎◌, inl, inr, List, [], ◌∷◌, ◌++◌, length, find, take, drop, All, Option, Some, None, refl, sym, ap, subst, ◌∙◌, MatchBool, MatchOption, nat_lt, nat_le, codes, slice_get, arith, min}
+use Rattle.std.specs.List.{list_any}
+use Rattle.std.specs.Str.{bytes_eq}
+use Rattle.std.proofs.lemmas.Slice.Eq.{bytes_eq-Decides}
+use Rattle.std.proofs.lemmas.Bool.{ltb-false}
+use Rattle.std.proofs.lemmas.List.{length-take}
+use Rattle.std.proofs.lemmas.List.Elements.{All-append, All-map, All-weaker, All-get_or, All-cons, All-head, All-tail, All-filter}
+use Rattle.std.proofs.lemmas.Option.{slice_get_within, get_or_from_slice_get}
+use Rattle.syntax.specs.declared.types.Value.{Value}
+use Rattle.syntax.specs.declared.types.Value.TheVariants.{I32, I64}
+use Rattle.syntax.specs.declared.module.Contents.{Contents}
+use Rattle.syntax.specs.declared.module.ModuleExport.{ModuleExport}
+use Rattle.interp.specs.Run.{HostCall}
+use Rattle.interp.specs.Hosting.{Lawful}
+use Rattle.imports.specs.declared.call.Call.{Call}
+use Rattle.imports.specs.declared.call.Call.TheVariants.{Now, TimerInit, IdleInit, CheckInit, TimerStart, TimerStop, IdleStop, CheckStop, TimerAgain, IdleStart, CheckStart, AsyncInit, AsyncSend, IsActive, Close, QueueWork, Cancel, InLen, InCopy, OutSet, Emit}
+use Rattle.imports.specs.declared.entry.Entry.TheVariants.{Work}
+use Rattle.imports.specs.Linking.{IsLinked, IsCallable, ExportsFunction}
+use Rattle.order.specs.Numbers.{none_left}
+use Rattle.order.specs.Bytes.{taken_out}
+use Rattle.order.specs.Work.{WorkOrder}
+use Rattle.phases.specs.declared.progress.Standing.{Standing}
+use Rattle.phases.specs.declared.progress.Standing.TheVariants.{Unknown, Pending}
+use Rattle.phases.specs.declared.progress.Standing.TheVariants as standing
+use Rattle.phases.specs.PhaseList.{exports}
+use Rattle.phases.specs.Requests.{Requests, Request, Stage, Open, HandedOut, Cancelled, in_stage, has_number, with_stage, with_work, without_request, lowest_open, is_open_stage, is_settled, request_of}
+use Rattle.phases.specs.State.{Setting, State}
+use Rattle.phases.specs.Calls.{Calls}
+use Rattle.phases.specs.declared.entry.Status.{Status}
+use Rattle.phases.specs.declared.entry.Status.TheVariants.{Running, Over, Failed}
+use Rattle.phases.specs.Outside.{handing, next_in, next_order_of}
+use Rattle.phases.specs.Host.{emitted_in, next_work, CancelsAt, Cancels, Opens, QueuesWork, RelatesWork, CallStep, HostStep}
+use Rattle.phases.specs.Ready.{IsSettledIn}
+use Rattle.phases.specs.Keeping.{CanRun, IsOrderOf, AreOrdersOf}
+
+decide : {P Q R : Type 0} (b : Bool) → (b ≡ true → P → R) → (b ≡ false → Q → R) → MatchBool b P Q → R
+decide true f g h = f refl h
+decide false f g h = g refl h
+
+-- What each call of a guest makes of the requests: it cancels one, or it opens one of the next order.
+module _ {S : Type 0} (calls : Calls S) (g : Setting) (P : Requests → Type 0)
+    (cancelled : (rs : Requests) (number : ℕ) → P rs → P (with_stage rs number Cancelled))
+    (opened : (rs : Requests) (slot op place count : ℕ) (memory : List ℕ)
+    → (exports g.loaded.contents (codes "uv_work") && exports g.loaded.contents (codes "uv_after_work")) ≡ true → nat_lt 65536 count ≡ false → slot < 32
+    → P rs → P (with_work rs (next_work g rs slot op (taken_out place count memory))))
+  where
+    same : (rs us : Requests) → us ≡ rs → P rs → P us
+    same rs us e h = subst P (sym e) h
+
+    won_or_not : (rs us : Requests) (number : ℕ) (won : Bool) → us ≡ (cond won (with_stage rs number Cancelled) rs) → P rs → P us
+    won_or_not rs us number true e h = subst P (sym e) (cancelled rs number h)
+    won_or_not rs us number false e h = subst P (sym e) h
+
+    cancels_at : (at : Standing) (old : Requests × S) (number answer : ℕ) (new : Requests × S) → CancelsAt calls at old number answer new → P old.0 → P new.0
+    cancels_at Unknown old number answer new h = same old.0 new.0 (ap (λ p. p.0) h.1)
+    cancels_at standing.Answered old number answer new h = same old.0 new.0 (ap (λ p. p.0) h.1)
+    cancels_at (Pending slot) old number answer new h = won_or_not old.0 new.0 number h.0 h.3
+
+    after_cancel : (old : Requests × S) (number answer : ℕ) (new : Requests × S) → Cancels calls old number answer new → P old.0 → P new.0
+    after_cancel old number answer new h = cancels_at _ old number answer new h
+
+    after_queue : (memory : List ℕ) (old : Requests × S) (op place count answer : ℕ) (new : Requests × S) → QueuesWork calls g memory old op place count answer new → P old.0 → P new.0
+    after_queue memory old op place count answer new h p =
+        decide (not (exports g.loaded.contents (codes "uv_work") && exports g.loaded.contents (codes "uv_after_work"))) (λ _. unchanged)
+        (λ exported. decide (nat_lt 65536 count) (λ _. unchanged)
+        (λ few. decide (nat_lt (length memory) (place + count)) (λ _. unchanged)
+        (λ _. decide (length old.0.outstanding == 32) (λ _. unchanged)
+        (λ _. decide (old.0.last == 2147483647) (λ _. unchanged)
+        (λ _. done exported few))))) h where
+          unchanged : {Q : Type 0} → Q × (new ≡ old) → P new.0
+          unchanged k = same old.0 new.0 (ap (λ q. q.0) k.1) p
+
+          both : (b : Bool) → not b ≡ false → b ≡ true
+          both true e = refl
+          both false e = absurd (cc)
+
+          done : {Q : Type 0} → not (exports g.loaded.contents (codes "uv_work") && exports g.loaded.contents (codes "uv_after_work")) ≡ false → nat_lt 65536 count ≡ false
+              → (Q × (new ≡ old)) ⊎ Opens calls g old op (taken_out place count memory) answer new → P new.0
+          done exported few (inl k) = unchanged k
+          done exported few (inr k) = subst P (sym k.kept) (opened old.0 k.slot op place count memory (both _ exported) few k.below p)
+
+    module _ (old : State × S) (call : HostCall) (new : State × S) where
+      to_state : (t : State) → t.requests ≡ old.0.requests → new.0 ≡ t → P old.0.requests → P new.0.requests
+      to_state t kept e h = subst P (sym (ap (λ s. s.requests) e ∙ kept)) h
+
+      of_work : (R : ℕ → Requests × S → Type 0) → ((answer : ℕ) (us : Requests) → R answer (us, new.1) → P old.0.requests → P us) → RelatesWork calls g old call new R → P old.0.requests → P new.0.requests
+      of_work R k h p = subst P (sym (ap (λ s. s.requests) h.4)) (k h.0 h.1 h.2 p)
+
+      emitted : (value : ℕ) → (emitted_in value old.0).1.requests ≡ old.0.requests
+      emitted value = elim (nat_le 64 (length old.0.emits)) as (λ b. (cond {A = ℕ × State} b (none_left, old.0) (0, record old.0 { emits = old.0.emits ++ value ∷ [] })).1.requests ≡ old.0.requests) [ true ↦ refl | false ↦ refl ]
+
+      of_call : (f : Call) (args : List Value) → CallStep calls g old call new f args → P old.0.requests → P new.0.requests
+      of_call Now [] h = to_state _ refl (ap (λ p. p.0) h.2)
+      of_call TimerInit [] h = to_state _ refl (ap (λ p. p.0) h.4)
+      of_call IdleInit [] h = to_state _ refl (ap (λ p. p.0) h.4)
+      of_call CheckInit [] h = to_state _ refl (ap (λ p. p.0) h.4)
+      of_call TimerStart (I32 handle ∷ I32 callback ∷ I64 timeout ∷ I64 repeat ∷ []) h = to_state _ refl (ap (λ p. p.0) h.1)
+      of_call TimerStop (I32 handle ∷ []) h = to_state _ refl (ap (λ p. p.0) h.1)
+      of_call IdleStop (I32 handle ∷ []) h = to_state _ refl (ap (λ p. p.0) h.1)
+      of_call CheckStop (I32 handle ∷ []) h = to_state _ refl (ap (λ p. p.0) h.1)
+      of_call TimerAgain (I32 handle ∷ []) h = to_state _ refl (ap (λ p. p.0) h.1)
+      of_call IdleStart (I32 handle ∷ I32 callback ∷ []) h = to_state _ refl (ap (λ p. p.0) h.1)
+      of_call CheckStart (I32 handle ∷ I32 callback ∷ []) h = to_state _ refl (ap (λ p. p.0) h.1)
+      of_call AsyncInit (I32 callback ∷ []) h = to_state _ refl (ap (λ p. p.0) h.4)
+      of_call AsyncSend (I32 handle ∷ []) h = to_state _ refl h.3
+      of_call IsActive (I32 handle ∷ []) h = to_state _ refl (ap (λ p. p.0) h.1)
+      of_call Close (I32 handle ∷ I32 callback ∷ []) h = to_state _ refl (ap (λ p. p.0) h.1)
+      of_call QueueWork (I32 op ∷ I32 place ∷ I32 count ∷ []) h =
+          of_work (λ answer after. QueuesWork calls g call.before (old.0.requests, old.1) op place count answer after) (λ answer us. after_queue call.before (old.0.requests, old.1) op place count answer (us, new.1)) h
+      of_call Cancel (I32 number ∷ []) h = of_work (λ answer after. Cancels calls (old.0.requests, old.1) number answer after) (λ answer us. after_cancel (old.0.requests, old.1) number answer (us, new.1)) h
+      of_call InLen [] h = to_state _ refl (ap (λ p. p.0) h.1)
+      of_call InCopy (I32 to ∷ I32 from ∷ I32 count ∷ []) h = to_state _ refl (ap (λ p. p.0) h.1)
+      of_call OutSet (I32 place ∷ I32 count ∷ []) h = to_state _ refl (ap (λ p. p.0) h.1)
+      of_call Emit (I64 value ∷ []) h = to_state _ (emitted value) (ap (λ p. p.0) h.1)
+      of_call _ _ h = absurd h
+
+      pub after_call : HostStep calls g old call new → P old.0.requests → P new.0.requests
+      after_call h = of_call h.0 call.args h.2
+
+    pub after_trace : (trace : List HostCall) (old new : State × S) → Lawful (HostStep calls g) trace old new → P old.0.requests → P new.0.requests
+    after_trace [] old new h p = same old.0.requests new.0.requests (ap (λ q. q.0.requests) h) p
+    after_trace (call ∷ trace) old new h p = after_trace trace h.0 new h.2 (after_call old call h.0 h.1 p)
+
+-- what stands among a module's exports under the name of its work function is that function
+at_name : (es : List ModuleExport) (name : List ℕ) → list_any (λ e. bytes_eq e.name name) es ≡ true
+    → (at : ℕ) × (e : ModuleExport) × (slice_get es at ≡ Some e) × (name ≡ e.name)
+at_name [] name h = absurd (cc)
+at_name (e ∷ es) name h = chosen (bytes_eq e.name name) refl (at_name es name) where
+  Found : List ModuleExport → Type 0
+  Found xs = (at : ℕ) × (x : ModuleExport) × (slice_get xs at ≡ Some x) × (name ≡ x.name)
+
+  chosen : (b : Bool) → bytes_eq e.name name ≡ b → (list_any (λ x. bytes_eq x.name name) es ≡ true → Found es) → Found (e ∷ es)
+  chosen true is later = (0, e, refl, sym ((bytes_eq-Decides e.name name).0 is))
+  chosen false is later = let rest = later (subst (λ b. (b || list_any (λ x. bytes_eq x.name name) es) ≡ true) is h) in (suc rest.0, rest.1, rest.2, rest.3)
+
+exports_work : (m : Contents) → IsLinked m → exports m (codes "uv_work") ≡ true → (f : ℕ) × ExportsFunction m (codes "uv_work") f
+exports_work m linked h =
+    let it = at_name m.exports (codes "uv_work") h in
+    let callable : IsCallable m it.1 = subst (IsCallable m) (get_or_from_slice_get m.exports it.0 it.1 it.1 it.2)
+    (All-get_or (IsCallable m) m.exports it.0 it.1 (slice_get_within m.exports it.0 it.1 it.2) linked.exports) in
+    (it.1.index, (it.0, it.1, it.2, it.3, (callable Work it.3).0, refl))
+
+-- an order that is handed out leaves the last number
+pub next_last : (s : State) (P : ℕ → Type 0) → P s.requests.last → P (next_order_of s).1.requests.last
+next_last s P h = by_status s.status where
+  handed : (o : Option Request) → P (handing s.requests o).1.last
+  handed None = h
+  handed (Some r) = h
+
+  by_status : (status : Status) → P (next_in status s).1.requests.last
+  by_status Failed = h
+  by_status Running = handed (lowest_open s.requests)
+  by_status Over = handed (lowest_open s.requests)
+
+-- the orders stay those of the loop, however far the requests come
+module _ (g : Setting) where
+  staged : (number : ℕ) (stage : Stage) (r : Request) → IsOrderOf g r.order → IsOrderOf g (in_stage number stage r).order
+  staged number stage r h =
+      elim (has_number number r) as (λ b. IsOrderOf g (cond b (record r { stage = stage }) r).order) [ true ↦ h | false ↦ h ]
+
+  pub staged_orders : (rs : Requests) (number : ℕ) (stage : Stage) → AreOrdersOf g rs → AreOrdersOf g (with_stage rs number stage)
+  staged_orders rs number stage h =
+      All-map (λ (r : Request). IsOrderOf g r.order) (in_stage number stage) rs.outstanding
+      (All-weaker (λ (r : Request). IsOrderOf g r.order) (λ (r : Request). IsOrderOf g (in_stage number stage r).order) (staged number stage) rs.outstanding h)
+
+  pub other_orders : (rs : Requests) (number : ℕ) → AreOrdersOf g rs → AreOrdersOf g (without_request rs number)
+  other_orders rs number h = All-filter (λ r. not (has_number number r)) (λ (r : Request). IsOrderOf g r.order) rs.outstanding h
+
+  won_orders : (rs us : Requests) (number : ℕ) (won : Bool) → us ≡ (cond won (with_stage rs number Cancelled) rs) → AreOrdersOf g rs → AreOrdersOf g us
+  won_orders rs us number true e h = subst (AreOrdersOf g) (sym e) (staged_orders rs number Cancelled h)
+  won_orders rs us number false e h = subst (AreOrdersOf g) (sym e) h
+
+  pub cancelled_orders : {S : Type 0} (calls : Calls S) (at : Standing) (old new : Requests × S) (number answer : ℕ) → CancelsAt calls at old number answer new → AreOrdersOf g old.0 → AreOrdersOf g new.0
+  cancelled_orders calls Unknown old new number answer h k = subst (AreOrdersOf g) (sym (ap (λ p. p.0) h.1)) k
+  cancelled_orders calls standing.Answered old new number answer h k = subst (AreOrdersOf g) (sym (ap (λ p. p.0) h.1)) k
+  cancelled_orders calls (Pending slot) old new number answer h k = won_orders old.0 new.0 number h.0 h.3 k
+
+  pub next_orders : (s : State) → AreOrdersOf g s.requests → AreOrdersOf g (next_order_of s).1.requests
+  next_orders s h = by_status s.status where
+    handed : (o : Option Request) → AreOrdersOf g (handing s.requests o).1
+    handed None = h
+    handed (Some r) = staged_orders s.requests r.order.request HandedOut h
+
+    by_status : (status : Status) → AreOrdersOf g (next_in status s).1.requests
+    by_status Failed = h
+    by_status Running = handed (lowest_open s.requests)
+    by_status Over = handed (lowest_open s.requests)
+
+  -- one that is found among them
+  pub found_order : (p : Request → Bool) (xs : List Request) (r : Request) → find p xs ≡ Some r → All (λ (x : Request). IsOrderOf g x.order) xs → IsOrderOf g r.order
+  found_order p [] r e k = absurd (cc)
+  found_order p (x ∷ xs) r e k = picked (p x) e (λ later. found_order p xs r later (All-tail (λ (y : Request). IsOrderOf g y.order) x xs k)) where
+    picked : (b : Bool) → cond b (Some x) (find p xs) ≡ Some r → (find p xs ≡ Some r → IsOrderOf g r.order) → IsOrderOf g r.order
+    picked true same rest = let one : x ≡ r = cc in subst (λ (y : Request). IsOrderOf g y.order) one (All-head (λ (y : Request). IsOrderOf g y.order) x xs k)
+    picked false later rest = rest later
+
+  pub request_heard : (rs : Requests) (number : ℕ) → IsSettledIn rs number → AreOrdersOf g rs → exports g.loaded.contents (codes "uv_after_work") ≡ true
+  request_heard rs number settled h = of_option (request_of rs number) refl settled where
+    of_option : (o : Option Request) → request_of rs number ≡ o → MatchOption o ⊥ (λ r. is_settled r.stage ≡ true) → exports g.loaded.contents (codes "uv_after_work") ≡ true
+    of_option None e k = absurd k
+    of_option (Some r) e k = (found_order (has_number number) rs.outstanding r e h).heard
+
+  -- what is handed out is one of them
+  pub handed_order : (s : State) (o : WorkOrder) → (next_order_of s).0 ≡ Some o → AreOrdersOf g s.requests → IsOrderOf g o
+  handed_order s o is h = by_status s.status is where
+    of_handing : (u : Option Request) → lowest_open s.requests ≡ u → (handing s.requests u).0 ≡ Some o → IsOrderOf g o
+    of_handing None e k = absurd (cc)
+    of_handing (Some r) e k = let same : r.order ≡ o = cc in subst (IsOrderOf g) same (found_order (λ x. is_open_stage x.stage) s.requests.outstanding r e h)
+
+    by_status : (status : Status) → (next_in status s).0 ≡ Some o → IsOrderOf g o
+    by_status Failed k = absurd (cc)
+    by_status Running k = of_handing (lowest_open s.requests) refl k
+    by_status Over k = of_handing (lowest_open s.requests) refl k
+
+-- the orders of a linked module can be run
+module _ (g : Setting) (linked : IsLinked g.loaded.contents) (depth : (1 ≤ g.depth) × (g.depth ≤ 128)) where
+  second_of : (a b : Bool) → (a && b) ≡ true → b ≡ true
+  second_of true b e = e
+  second_of false b e = absurd (cc)
+
+  first_of : (a b : Bool) → (a && b) ≡ true → a ≡ true
+  first_of true b e = refl
+  first_of false b e = absurd (cc)
+
+  opened_runs : (rs : Requests) (slot op place count : ℕ) (memory : List ℕ)
+      → (exports g.loaded.contents (codes "uv_work") && exports g.loaded.contents (codes "uv_after_work")) ≡ true → nat_lt 65536 count ≡ false → slot < 32
+      → AreOrdersOf g rs → AreOrdersOf g (with_work rs (next_work g rs slot op (taken_out place count memory)))
+  opened_runs rs slot op place count memory exported few below h =
+      let within : count ≤ 65536 = ltb-false 65536 count few in
+      let front : length (take count (drop place memory)) ≡ min count (length (drop place memory)) = length-take count (drop place memory) in
+      let runs : CanRun (next_work g rs slot op (taken_out place count memory)) = record {
+        work = exports_work g.loaded.contents linked (first_of (exports g.loaded.contents (codes "uv_work")) (exports g.loaded.contents (codes "uv_after_work")) exported);
+        bytes = omega arith;
+        depth = depth;
+      } in
+      let one : IsOrderOf g (next_work g rs slot op (taken_out place count memory)) = record {
+        loop_no = refl;
+        slot = below;
+        runs = runs;
+        heard = second_of (exports g.loaded.contents (codes "uv_work")) (exports g.loaded.contents (codes "uv_after_work")) exported;
+      } in
+      All-append (λ (r : Request). IsOrderOf g r.order) rs.outstanding (record { order = next_work g rs slot op (taken_out place count memory); stage = Open } ∷ []) h
+      (All-cons (λ (r : Request). IsOrderOf g r.order) _ [] one (λ i d h. absurd (omega arith)))
+
+  pub orders_run : {S : Type 0} (calls : Calls S) (trace : List HostCall) (old new : State × S) → Lawful (HostStep calls g) trace old new → AreOrdersOf g old.0.requests → AreOrdersOf g new.0.requests
+  orders_run calls trace old new h = after_trace calls g (AreOrdersOf g) (λ rs number. staged_orders g rs number Cancelled) opened_runs trace old new h

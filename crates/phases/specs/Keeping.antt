@@ -1,0 +1,39 @@
+-- What a loop keeps from step to step.
+use Rattle.std.specs.Prelude.{◌≡◌, ℕ, ◌<◌, ◌≤◌, true, All, length, codes}
+use Rattle.syntax.specs.Loaded.{Loaded}
+use Rattle.instance.specs.Store.{Store}
+use Rattle.interp.specs.Storing.{IsStoreOf}
+use Rattle.imports.specs.Linking.{ExportsFunction}
+use Rattle.order.specs.Work.{WorkOrder}
+use Rattle.phases.specs.PhaseList.{exports}
+use Rattle.phases.specs.Requests.{Requests}
+use Rattle.phases.specs.Roster.{callbacks_of}
+use Rattle.phases.specs.Ready.{AreReady}
+use Rattle.phases.specs.State.{Setting, State}
+
+-- an order that can be run: its module exports `uv_work`, and its bytes and its depth are within their bounds
+pub record CanRun (o : WorkOrder) : Type 0 where
+  pub work : (f : ℕ) × ExportsFunction o.loaded.contents (codes "uv_work") f
+  pub bytes : length o.bytes ≤ 65536
+  pub depth : (1 ≤ o.depth) × (o.depth ≤ 128)
+
+-- an order of the loop: it has the loop's number and a slot below 32, it can be run, and what comes of it can be told
+pub record IsOrderOf (g : Setting) (o : WorkOrder) : Type 0 where
+  pub loop_no : o.loop_no ≡ g.loop_no
+  pub slot : o.slot < 32
+  pub runs : CanRun o
+  pub heard : exports g.loaded.contents (codes "uv_after_work") ≡ true
+
+abbrev pub AreOrdersOf : Setting → Requests → Type 0
+AreOrdersOf g rs = All (λ r. IsOrderOf g r.order) rs.outstanding
+
+-- The module is the setting's, calls may stand as deep as a machine has room for, the store is the module's, callbacks
+-- are its functions, what is listed is ready, and what is outstanding are orders of
+-- the loop.
+pub record Keeps (l : Loaded) (g : Setting) (s : State) (t : Store) : Type 0 where
+  pub same : l ≡ g.loaded
+  pub depth : (1 ≤ g.depth) × (g.depth ≤ 128)
+  pub store : IsStoreOf g.loaded.contents t
+  pub callbacks : s.roster.callbacks ≡ callbacks_of g.loaded.contents
+  pub ready : AreReady g.loaded.contents s
+  pub orders : AreOrdersOf g s.requests

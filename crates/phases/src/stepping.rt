@@ -1,0 +1,170 @@
+// How a loop's state goes from phase to phase, and from entry to entry.
+
+ghost use Rattle.std.specs.Prelude.{◌≡◌, ◌≤◌, ◌<◌, [], length, Some, None, true, false, drop, slice_get, IfSome, IfNone, MatchOption, option_map};
+ghost use Rattle.handles.specs.Table.{IsClosing, IsOpen, record_of, after_again};
+ghost use Rattle.phases.specs.Fitting.{IsShort};
+ghost use Rattle.phases.specs.Host.{with_roster, with_requests};
+ghost use Rattle.phases.specs.PhaseList.{is_active_handle, is_alive, phase_list};
+ghost use Rattle.phases.specs.Progress.{tidings_in};
+ghost use Rattle.syntax.specs.declared.module.Contents.{Contents};
+ghost use Rattle.phases.specs.Ready.{AreReady};
+ghost use Rattle.phases.specs.Requests.{request_of, without_request, is_settled, tidings_of};
+ghost use Rattle.phases.specs.Roster.{async_handle, with_handles, without_handle};
+ghost use Rattle.phases.specs.Step.{turn, in_phase, now_in, moment_in, begun, finished, returns, is_as_listed, handle_function};
+
+use crate::did::StepDid;
+use crate::entries::Entries;
+use crate::entry::{Entry, Phase, Status};
+use crate::machine::Machine;
+use crate::progress::Tidings;
+use handles::Kind;
+use interp::ended::{Ended, Ending};
+use std::alloc::Global;
+
+impl Machine {
+    /// Whether the loop goes on.
+    pub fn status(&self) -> Status
+        ensures { result ≡ self.now.status }
+    {
+        self.status
+    }
+
+    /// The entry that comes next in the phase's list.
+    pub fn front(&self) -> Option<Entry>
+        ensures { result ≡ slice_get self.now.list 0 }
+    {
+        self.entries.front()
+    }
+
+    /// Takes the front entry off the list.
+    pub fn pop(&mut self)
+        ensures { self.new ≡ record self.old { list = drop 1 self.old.list } }
+    {
+        self.entries.pop();
+    }
+
+    /// Where the list is used up: the loop is over, or enters the next phase.
+    pub fn turn(&mut self) -> StepDid
+        ensures did { result ≡ (turn self.old).0 }
+        ensures state { self.new ≡ (turn self.old).1 }
+        ensures ready { (m : Contents) → self.old.list ≡ [] → AreReady m self.new }
+    {
+        self.roster.keeps();
+        self.requests.keeps();
+        if self.phase.may_end() && !self.is_alive() {
+            self.status = Status::Over;
+            return StepDid::Over;
+        }
+        self.enter(self.phase.next())
+    }
+
+    fn enter(&mut self, phase: Phase) -> StepDid
+        ensures did { result ≡ StepDid.Entered phase (now_in self.old phase) }
+        ensures state { self.new ≡ record (in_phase self.old phase) { list = phase_list (in_phase self.old phase) phase } }
+    {
+        self.phase = phase;
+        if phase == Phase::Timers {
+            self.time = self.clock;
+        }
+        self.entries = self.listed();
+        StepDid::Entered {
+            phase,
+            now: self.time,
+        }
+    }
+
+    // The list of the phase that the loop is in.
+    fn listed(&self) -> Entries
+        ensures { result ≡ phase_list self.now self.now.phase }
+    {
+        let roster = &self.roster;
+        match self.phase {
+            Phase::Begin => Entries::first(false, false),
+            Phase::Timers => Entries::of_handles(Kind::Timer, &roster.due(self.time)),
+            Phase::Idle => Entries::of_handles(Kind::Idle, &roster.of_kind(Kind::Idle)),
+            Phase::Poll => Entries::of_poll(self.requests.as_slice(), roster),
+            Phase::Check => Entries::of_handles(Kind::Check, &roster.of_kind(Kind::Check)),
+            Phase::Closing => Entries::of_closing(roster.closing()),
+        }
+    }
+
+    /// The callback of a handle that is still as it was listed.
+    pub fn listed_function(&self, kind: Kind, handle: u32, start: u64) -> Option<u32>
+        ensures some { IfSome result (λ f. (is_as_listed kind self.now.roster handle start ≡ true) × (handle_function self.now.roster handle ≡ Some f)) }
+        ensures none { IfNone result (is_as_listed kind self.now.roster handle start ≡ false) }
+    {
+        self.roster.listed_function(kind, handle, start)
+    }
+
+    /// The callback of a timer that is still as it was listed. The timer is then inactive, or started again where
+    /// it repeats.
+    pub fn fire(&mut self, handle: u32, start: u64) -> Option<u32>
+        ensures some { IfSome result (λ f. (is_as_listed Kind.Timer self.old.roster handle start ≡ true) × (handle_function self.old.roster handle ≡ Some f)) }
+        ensures none { IfNone result (is_as_listed Kind.Timer self.old.roster handle start ≡ false) }
+        ensures fired { IfSome result (λ _. self.new ≡ with_roster self.old (with_handles self.old.roster (after_again self.old.roster.handles handle self.old.«now»))) }
+        ensures skipped { IfNone result (self.new ≡ self.old) }
+        ensures requests { self.new.requests ≡ self.old.requests }
+    {
+        self.roster.fire(handle, start, self.time)
+    }
+
+    /// The handle of an async, until that is removed.
+    pub fn async_at(&self, async_no: u32) -> Option<u32>
+        ensures value { result ≡ async_handle self.now.roster async_no }
+        ensures below { IfSome result (λ _. async_no < 16) }
+    {
+        self.roster.async_at(async_no)
+    }
+
+    /// The handle of an async, if it is active, and its callback.
+    pub fn active_async(&self, async_no: u32) -> Option<(u32, u32)>
+        ensures none { IfNone result (is_active_handle self.now.roster.handles (async_handle self.now.roster async_no) ≡ false) }
+        ensures some { IfSome result (λ found. (is_active_handle self.now.roster.handles (Some found.0) ≡ true) × (async_handle self.now.roster async_no ≡ Some found.0) × (handle_function self.now.roster found.0 ≡ Some found.1)) }
+    {
+        self.roster.active_async(async_no)
+    }
+
+    /// Removes a closing handle, and answers the callback of its close.
+    pub fn finish_closing(&mut self, handle: u32) -> u32
+        requires { IsClosing self.old.roster.handles handle }
+        ensures function { handle_function self.old.roster handle ≡ Some result }
+        ensures removed { self.new ≡ with_roster self.old (without_handle self.old.roster handle) }
+    {
+        self.roster.finish_closing(handle)
+    }
+
+    /// Removes a request that is answered or cancelled, and tells what came of it.
+    pub fn take_request(&mut self, alloc: Global, number: u32) -> Tidings
+        requires { MatchOption (request_of self.old.requests number) ⊥ (λ r. is_settled r.stage ≡ true) }
+        ensures tidings { MatchOption (request_of self.old.requests number) ⊥ (λ r. tidings_of r.stage ≡ Some (tidings_in result)) }
+        ensures removed { self.new ≡ with_requests self.old (without_request self.old.requests number) }
+        ensures short { length (tidings_in result).bytes ≤ 65536 }
+    {
+        self.requests.take(alloc, number)
+    }
+
+    /// A callback begins, which may read these bytes, and has put out nothing.
+    pub fn begin_callback(&mut self, reply: Option<Vec<u8>>)
+        requires { IsShort (option_map (λ v. v.items) reply) }
+        ensures { self.new ≡ begun self.old (option_map (λ v. v.items) reply) }
+    {
+        self.reply = reply;
+        self.emits.clear();
+    }
+
+    /// A callback has ended. Where it did not return, the loop has failed.
+    pub fn end_callback(&mut self, ended: &Ended)
+        ensures { self.new ≡ finished self.old ended.now }
+    {
+        self.reply = None;
+        if !returned(&ended.ending) {
+            self.status = Status::Failed;
+        }
+    }
+}
+
+fn returned(ending: &Ending) -> bool
+    ensures { result ≡ returns ending.now }
+{
+    matches!(ending, Ending::Return(_))
+}

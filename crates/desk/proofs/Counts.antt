@@ -1,0 +1,132 @@
+-- The asyncs' words after each step, and the sums of sends.
+use Rattle.std.proofs.Common.{◌≡◌, ◌≢◌, ℕ, ◌+◌, ◌<◌, ◌≤◌, List, length, set, length-set, refl, sym, ap, ◌∙◌, subst, arith}
+use Rattle.std.specs.Prelude.{slice_index, slice_set, sum}
+use Rattle.std.proofs.lemmas.List.{get_or-set_same, get_or-set_other}
+use Rattle.std.proofs.lemmas.List.Sums.{get_or-le-sum_by, sum_by-set}
+use native.Mathlib.Decide.{ℕ_discrete}
+use Rattle.phases.specs.View.{raised}
+use Rattle.desk.specs.declared.TheConstants.{SLOTS, ASYNCS, MOST_SENDS}
+use Rattle.desk.specs.Desk.{Desk, sent_own, taken, sent_by_another}
+use Rattle.desk.specs.Rule.{AreCounts, IsCounted, IsSized, waiting_place}
+
+-- counts, after one of them was raised
+raised-there : (counts : List ℕ) (a n : ℕ) → a < length counts → slice_index (raised counts a n) a ≡ slice_index counts a + n
+raised-there counts a n inside = get_or-set_same counts a (slice_index counts a + n) 0 inside
+
+raised-elsewhere : (counts : List ℕ) (a n b : ℕ) → b ≢ a → slice_index (raised counts a n) b ≡ slice_index counts b
+raised-elsewhere counts a n b other = get_or-set_other counts a b (slice_index counts a + n) 0 other
+
+at-le-sum : (counts : List ℕ) (a : ℕ) → a < length counts → slice_index counts a ≤ sum counts
+at-le-sum counts a inside = get_or-le-sum_by (λ (n : ℕ). n) counts a 0 inside
+
+sum-raised : (counts : List ℕ) (a n : ℕ) → a < length counts → sum (raised counts a n) ≡ sum counts + n
+sum-raised counts a n inside = let moved = sum_by-set (λ (k : ℕ). k) counts a (slice_index counts a + n) 0 inside in omega arith
+
+length-raised : (counts : List ℕ) (a n : ℕ) → length (raised counts a n) ≡ length counts
+length-raised counts a n = length-set counts a (slice_index counts a + n)
+
+-- the lists keep their lengths
+pub own-sized : (d : Desk) (a : ℕ) → IsSized d → IsSized (sent_own d a)
+own-sized d a is = record { own = length-raised d.view.own a 1 ∙ is.own; taken = is.taken; waiting = length-raised d.waiting a 1 ∙ is.waiting; sent = is.sent }
+
+pub others-sized : (d : Desk) (a : ℕ) → IsSized d → IsSized (sent_by_another d a)
+others-sized d a is = record { own = is.own; taken = is.taken; waiting = length-raised d.waiting a 1 ∙ is.waiting; sent = length-raised d.sent a 1 ∙ is.sent }
+
+pub taken-sized : (d : Desk) (a : ℕ) → IsSized d → IsSized (taken d a)
+taken-sized d a is = record { own = is.own; taken = length-raised d.view.taken a (slice_index d.waiting a) ∙ is.taken; waiting = length-set d.waiting a 0 ∙ is.waiting; sent = is.sent }
+
+-- and the sums are counted
+pub own-counted : (d : Desk) (n m a : ℕ) → IsSized d → IsCounted d n m → a < ASYNCS → n < MOST_SENDS → IsCounted (sent_own d a) (n + 1) m
+own-counted d n m a sized is there few = record {
+  own = (let size = sized.own in let old = is.own in let more = sum-raised d.view.own a 1 (omega arith) in omega arith);
+  own_most = omega arith;
+  others = is.others;
+  others_most = is.others_most;
+}
+
+pub others-counted : (d : Desk) (n m a : ℕ) → IsSized d → IsCounted d n m → a < ASYNCS → m < MOST_SENDS → IsCounted (sent_by_another d a) n (m + 1)
+others-counted d n m a sized is there few = record {
+  own = is.own;
+  own_most = is.own_most;
+  others = (let size = sized.sent in let old = is.others in let more = sum-raised d.sent a 1 (omega arith) in omega arith);
+  others_most = omega arith;
+}
+
+pub taken-counted : (d : Desk) (n m a : ℕ) → IsCounted d n m → IsCounted (taken d a) n m
+taken-counted d n m a is = record { own = is.own; own_most = is.own_most; others = is.others; others_most = is.others_most }
+
+module _ (words : List ℕ) (d : Desk) (a : ℕ) (size : length words ≡ SLOTS + ASYNCS) (is : AreCounts words d) (sized : IsSized d) (there : a < ASYNCS) where
+  abbrev i : ℕ
+  i = waiting_place a
+
+  written : (n : ℕ) → slice_index (set words i n) i ≡ n
+  written n = get_or-set_same words i n 0 (omega arith)
+
+  -- the words agree, after one of them and what waits there changed alike
+  alike : (n k b : ℕ) → n ≡ k → b < ASYNCS → slice_index (set words i n) (waiting_place b) ≡ slice_index (slice_set d.waiting a k) b
+  alike n k b same low = elim (ℕ_discrete b a) [
+    | yes e ↦ subst (λ (j : ℕ). slice_index (set words i n) (waiting_place j) ≡ slice_index (slice_set d.waiting a k) j) (sym e) (let w = sized.waiting in written n ∙ same ∙ sym (get_or-set_same d.waiting a k 0 (omega arith)))
+    | no ne ↦ get_or-set_other words i (waiting_place b) n 0 (λ k. ne (omega arith)) ∙ is.word b low ∙ sym (get_or-set_other d.waiting a b k 0 ne)
+  ]
+
+  -- one more waits
+  one_more : slice_index words i + 1 ≡ slice_index d.waiting a + 1
+  one_more = ap (λ n. n + 1) (is.word a there)
+
+  pub own-counts : AreCounts (set words i (slice_index words i + 1)) (sent_own d a)
+  own-counts = record { word = λ b low. alike (slice_index words i + 1) (slice_index d.waiting a + 1) b one_more low; sends = sends }
+    where
+      sends : (b : ℕ) → b < ASYNCS → slice_index (raised d.view.own a 1) b + slice_index d.sent b ≡ slice_index d.view.taken b + slice_index (raised d.waiting a 1) b
+      sends b low = elim (ℕ_discrete b a) [
+        | yes e ↦ subst (λ (j : ℕ). slice_index (raised d.view.own a 1) j + slice_index d.sent j ≡ slice_index d.view.taken j + slice_index (raised d.waiting a 1) j) (sym e) here
+        | no ne ↦ (let o = raised-elsewhere d.view.own a 1 b ne in let w = raised-elsewhere d.waiting a 1 b ne in let was = is.sends b low in omega arith)
+      ]
+        where
+          here : slice_index (raised d.view.own a 1) a + slice_index d.sent a ≡ slice_index d.view.taken a + slice_index (raised d.waiting a 1) a
+          here = let own = sized.own in let waits = sized.waiting in let o = raised-there d.view.own a 1 (omega arith) in let w = raised-there d.waiting a 1 (omega arith) in let was = is.sends a there in omega arith
+
+  pub others-counts : AreCounts (set words i (slice_index words i + 1)) (sent_by_another d a)
+  others-counts = record { word = λ b low. alike (slice_index words i + 1) (slice_index d.waiting a + 1) b one_more low; sends = sends }
+    where
+      sends : (b : ℕ) → b < ASYNCS → slice_index d.view.own b + slice_index (raised d.sent a 1) b ≡ slice_index d.view.taken b + slice_index (raised d.waiting a 1) b
+      sends b low = elim (ℕ_discrete b a) [
+        | yes e ↦ subst (λ (j : ℕ). slice_index d.view.own j + slice_index (raised d.sent a 1) j ≡ slice_index d.view.taken j + slice_index (raised d.waiting a 1) j) (sym e) here
+        | no ne ↦ (let o = raised-elsewhere d.sent a 1 b ne in let w = raised-elsewhere d.waiting a 1 b ne in let was = is.sends b low in omega arith)
+      ]
+        where
+          here : slice_index d.view.own a + slice_index (raised d.sent a 1) a ≡ slice_index d.view.taken a + slice_index (raised d.waiting a 1) a
+          here = let sent = sized.sent in let waits = sized.waiting in let o = raised-there d.sent a 1 (omega arith) in let w = raised-there d.waiting a 1 (omega arith) in let was = is.sends a there in omega arith
+
+  -- what waits is within all sends, so that one more fits in a word
+  pub within : (n m : ℕ) → IsCounted d n m → slice_index words i ≤ MOST_SENDS + MOST_SENDS
+  within n m counted =
+      let own = sized.own in
+      let sent = sized.sent in
+      let mine = at-le-sum d.view.own a (omega arith) in
+      let theirs = at-le-sum d.sent a (omega arith) in
+      let was = is.sends a there in
+      let word = is.word a there in
+      let by_loop = counted.own in
+      let by_others = counted.others in
+      let most = counted.own_most in
+      let most_others = counted.others_most in
+      omega arith
+
+  taken-here : slice_index (taken d a).view.taken a ≡ slice_index d.view.taken a + slice_index d.waiting a
+  taken-here = let size_taken = sized.taken in raised-there d.view.taken a (slice_index d.waiting a) (omega arith)
+
+  -- all own sends are taken
+  pub own-taken : slice_index d.view.own a ≤ slice_index (taken d a).view.taken a
+  own-taken = let now = taken-here in let was = is.sends a there in omega arith
+
+  pub taken-counts : AreCounts (set words i 0) (taken d a)
+  taken-counts = record { word = λ b low. alike 0 0 b refl low; sends = sends }
+    where
+      sends : (b : ℕ) → b < ASYNCS → slice_index d.view.own b + slice_index d.sent b ≡ slice_index (taken d a).view.taken b + slice_index (slice_set d.waiting a 0) b
+      sends b low = elim (ℕ_discrete b a) [
+        | yes e ↦ subst (λ (j : ℕ). slice_index d.view.own j + slice_index d.sent j ≡ slice_index (taken d a).view.taken j + slice_index (slice_set d.waiting a 0) j) (sym e) here
+        | no ne ↦ (let t = raised-elsewhere d.view.taken a (slice_index d.waiting a) b ne in let w : slice_index (slice_set d.waiting a 0) b ≡ slice_index d.waiting b = get_or-set_other d.waiting a b 0 0 ne in let was = is.sends b low in omega arith)
+      ]
+        where
+          here : slice_index d.view.own a + slice_index d.sent a ≡ slice_index (taken d a).view.taken a + slice_index (slice_set d.waiting a 0) a
+          here = let waits = sized.waiting in let t = taken-here in let w : slice_index (slice_set d.waiting a 0) a ≡ 0 = get_or-set_same d.waiting a 0 0 (omega arith) in let was = is.sends a there in omega arith

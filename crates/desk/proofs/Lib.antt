@@ -1,0 +1,4 @@
+pub mod Counts
+pub mod Rising
+pub mod Slots
+pub mod Steps

@@ -1,0 +1,211 @@
+-- Each step on the words is allowed.
+use Rattle.std.proofs.Common.{◌≡◌, ◌≢◌, ℕ, zero, suc, ◌+◌, ◌%◌, ◌^◌, ◌<◌, List, [], ◌∷◌, length, length-set, set, replicate, Bool, true, false, ◌==◌, refl, sym, ap, ◌∙◌, subst, eq-eqb, ne_eqb, mod-eq_of_lt, arith}
+use Rattle.std.specs.Prelude.{slice_index}
+use Rattle.std.proofs.lemmas.List.{set-get_or, get_or-set_other}
+use mathlib.Core.Option.{some, some-injective}
+use native.Mathlib.Decide.{ℕ_discrete}
+use lib.ListN.{get_elem?}
+use prog.Atomic.{either}
+use Rattle.atomic_table.specs.Table.{State, keeps, Allows}
+use Rattle.phases.specs.View.{times, is_pending, IsAbove}
+use Rattle.desk.specs.declared.TheConstants.{SLOTS, ASYNCS}
+use Rattle.desk.specs.declared.rule.History.{History}
+use Rattle.desk.specs.Desk.{Desk, new_desk, is_open, opened, cancelled, found_started, started, sent_own, sent_by_another, taken, DeskCancels, DeskStarts, DeskTakes}
+use Rattle.desk.specs.Rule.{desk_of, history_of, waiting_place, AreSlots, AreCounts, Agrees, IsKept, IsCounted, IsSized}
+use Rattle.desk.proofs.Slots.{opened-slots, cancelled-slots, started-slots, found-slots, not_open, parts, fails}
+use Rattle.desk.proofs.Counts.{own-counts, others-counts, taken-counts, within, own-taken}
+
+abbrev pub Kept : {S : Type 0} → State S History → Type 0
+Kept s = IsKept s.words s.views
+
+-- what a step has to give, wherever the words agree with what was done
+abbrev Moves : ℕ → Desk → (ℕ → ℕ) → (ℕ → Desk → Type 0) → Type 0
+Moves i d f told = (words : List ℕ) → Agrees words d → (e : Desk) × Agrees (set words i (f (slice_index words i))) e × told (slice_index words i) e
+
+moved : {S : Type 0} (slots i : ℕ) (v : History) (held : List (ℕ × S)) (f : ℕ → ℕ) (told : ℕ → Desk → Type 0)
+    → Moves i (desk_of v) f told → Allows Kept slots 0 (v, held) i f (λ found after. told found (desk_of after.0))
+moved slots i v held f told moves s kept homes at fits =
+    let same : kept.0 ≡ v = some-injective kept.0 v (subst (λ vs. get_elem? vs 0 ≡ some v) kept.1 at) in
+    let given = moves s.words (subst (λ h. Agrees s.words (desk_of h)) same kept.2) in
+    let h = history_of given.0 in
+    (h, keeps, tt, (h, ap (λ vs. set vs 0 h) kept.1, given.1), given.2)
+
+-- the asyncs' words are apart from a slot's
+counts-kept : (words : List ℕ) (d : Desk) (slot n : ℕ) → AreCounts words d → slot < SLOTS → AreCounts (set words slot n) d
+counts-kept words d slot n is there = record {
+  word = λ a low. get_or-set_other words slot (waiting_place a) n 0 (λ k. omega arith) ∙ is.word a low;
+  sends = is.sends;
+}
+
+-- and a slot's from an async's
+slots-kept : (words : List ℕ) (d : Desk) (a n : ℕ) → AreSlots words d → a < ASYNCS → AreSlots (set words (waiting_place a) n) d
+slots-kept words d a n is there = record {
+  word = λ slot request low above. ap (λ k. k == request) (get_or-set_other words (waiting_place a) slot n 0 (λ k. omega arith)) ∙ is.word slot request low above;
+  opened = is.opened;
+  found = is.found;
+}
+
+pub opens_allowed : {S : Type 0} (slots slot r : ℕ) (v : History) (held : List (ℕ × S)) → slot < SLOTS → 0 < r → IsAbove (desk_of v).view r
+    → Allows Kept slots 0 (v, held) slot (λ _. r) (λ _ after. desk_of after.0 ≡ opened (desk_of v) (slot, r))
+opens_allowed slots slot r v held there above rises = moved slots slot v held (λ _. r) (λ _ e. e ≡ opened d (slot, r)) (λ words is. (
+  opened d (slot, r),
+  (let counts = counts-kept words d slot r is.counts there in record {
+    size = length-set words slot r ∙ is.size;
+    slots = opened-slots words d slot r is.size is.slots there above rises;
+    counts = record { word = counts.word; sends = counts.sends };
+  }),
+  refl,
+))
+  where
+    d : Desk
+    d = desk_of v
+
+-- a compare-exchange of a request's number for 0
+module _ (slot r : ℕ) (d : Desk) (words : List ℕ) (is : Agrees words d) (there : slot < SLOTS) (above : 0 < r) where
+  abbrev found : ℕ
+  found = slice_index words slot
+
+  size : length (set words slot 0) ≡ SLOTS + ASYNCS
+  size = length-set words slot 0 ∙ is.size
+
+  -- it was found
+  hit : found ≡ r → is_open d (slot, r) ≡ true
+  hit e = sym (is.slots.word slot r there above) ∙ eq-eqb found r e
+
+  none_found : found ≡ r → times (slot, r) d.view.found_started ≡ 0
+  none_found e = elim (ℕ_discrete (times (slot, r) d.view.found_started) 0) [
+    | yes z ↦ z
+    | no ne ↦ (let idle = (parts r _ _ _ (hit e)).2 in let busy = is.slots.found (slot, r) (omega arith) in absurd (omega arith))
+  ]
+
+  cancelled_agrees : found ≡ r → Agrees (set words slot 0) (cancelled d (slot, r))
+  cancelled_agrees e = let counts = counts-kept words d slot 0 is.counts there in record {
+    size = size;
+    slots = cancelled-slots words d slot r is.size is.slots there above (hit e);
+    counts = record { word = counts.word; sends = counts.sends };
+  }
+
+  started_agrees : found ≡ r → Agrees (set words slot 0) (started d (slot, r))
+  started_agrees e = let counts = counts-kept words d slot 0 is.counts there in record {
+    size = size;
+    slots = started-slots words d slot r is.size is.slots there above (hit e);
+    counts = record { word = counts.word; sends = counts.sends };
+  }
+
+  -- it was not, and the word stays
+  same : set words slot found ≡ words
+  same = set-get_or words slot 0
+
+  found_agrees : found ≢ r → Agrees words (found_started d (slot, r))
+  found_agrees ne = record { size = is.size; slots = found-slots words d slot r is.size is.slots there above ne; counts = by_pending (is_pending d.view (slot, r)) refl }
+    where
+      by_pending : (b : Bool) → is_pending d.view (slot, r) ≡ b → AreCounts words (found_started d (slot, r))
+      by_pending true p = rw p (record { word = is.counts.word; sends = is.counts.sends })
+      by_pending false p = rw p (record { word = is.counts.word; sends = is.counts.sends })
+
+  abbrev Goes : (Bool → Desk → Type 0) → Bool → Type 0
+  Goes told b = (e : Desk) × Agrees (set words slot (either b 0 found)) e × told b e
+
+  cancel_goes : Goes (DeskCancels d (slot, r)) (found == r)
+  cancel_goes = elim (ℕ_discrete found r) [
+    | yes e ↦ subst (Goes (DeskCancels d (slot, r))) (sym (eq-eqb found r e)) (cancelled d (slot, r), cancelled_agrees e, (sym (hit e), (none_found e, refl)))
+    | no ne ↦ subst (Goes (DeskCancels d (slot, r))) (sym (ne_eqb found r ne))
+        (found_started d (slot, r), subst (λ ws. Agrees ws (found_started d (slot, r))) (sym same) (found_agrees ne), (sym (not_open words d slot r is.size is.slots there above ne), refl))
+  ]
+
+  start_goes : Goes (DeskStarts d (slot, r)) (found == r)
+  start_goes = elim (ℕ_discrete found r) [
+    | yes e ↦ subst (Goes (DeskStarts d (slot, r))) (sym (eq-eqb found r e)) (started d (slot, r), started_agrees e, (sym (hit e), refl))
+    | no ne ↦ subst (Goes (DeskStarts d (slot, r))) (sym (ne_eqb found r ne)) (d, subst (λ ws. Agrees ws d) (sym same) is, (sym (not_open words d slot r is.size is.slots there above ne), refl))
+  ]
+
+pub cancels_allowed : {S : Type 0} (slots slot r : ℕ) (v : History) (held : List (ℕ × S)) → slot < SLOTS → 0 < r
+    → Allows Kept slots 0 (v, held) slot (λ n. either (n == r) 0 n) (λ found after. DeskCancels (desk_of v) (slot, r) (found == r) (desk_of after.0))
+cancels_allowed slots slot r v held there above =
+    moved slots slot v held (λ n. either (n == r) 0 n) (λ found e. DeskCancels (desk_of v) (slot, r) (found == r) e) (λ words is. cancel_goes slot r (desk_of v) words is there above)
+
+pub starts_allowed : {S : Type 0} (slots slot r : ℕ) (v : History) (held : List (ℕ × S)) → slot < SLOTS → 0 < r
+    → Allows Kept slots 0 (v, held) slot (λ n. either (n == r) 0 n) (λ found after. DeskStarts (desk_of v) (slot, r) (found == r) (desk_of after.0))
+starts_allowed slots slot r v held there above =
+    moved slots slot v held (λ n. either (n == r) 0 n) (λ found e. DeskStarts (desk_of v) (slot, r) (found == r) e) (λ words is. start_goes slot r (desk_of v) words is there above)
+
+-- the sends and the takes of an async, whose word has the place i
+module _ {S : Type 0} (slots a i : ℕ) (v : History) (held : List (ℕ × S)) (sized : IsSized (desk_of v)) (there : a < ASYNCS) (place : i ≡ waiting_place a) where
+  abbrev d : Desk
+  d = desk_of v
+
+  -- no other async has this place
+  told_there : (F : ℕ → Desk) (e : Desk) → e ≡ F a → (b : ℕ) → i ≡ waiting_place b → e ≡ F b
+  told_there F e is b other = let same : a ≡ b = omega arith in is ∙ ap F same
+
+  one_more : (n m : ℕ) → IsCounted d n m → (words : List ℕ) → Agrees words d → (slice_index words (waiting_place a) + 1) % 2 ^ 64 ≡ slice_index words (waiting_place a) + 1
+  one_more n m counted words is = mod-eq_of_lt (let few = within words d a is.size is.counts sized there n m counted in omega arith)
+
+  pub sends_allowed : (n m : ℕ) → IsCounted d n m
+      → Allows Kept slots 0 (v, held) i (λ k. (k + 1) % 2 ^ 64) (λ _ after. (b : ℕ) → i ≡ waiting_place b → desk_of after.0 ≡ sent_own d b)
+  sends_allowed n m counted = moved slots i v held (λ k. (k + 1) % 2 ^ 64) (λ _ e. (b : ℕ) → i ≡ waiting_place b → e ≡ sent_own d b) (λ words is. (
+    sent_own d a,
+    subst (λ j. Agrees (set words j ((slice_index words j + 1) % 2 ^ 64)) (sent_own d a)) (sym place) (subst (λ k. Agrees (set words (waiting_place a) k) (sent_own d a)) (sym (one_more n m counted words is)) (agrees words is)),
+    told_there (sent_own d) (sent_own d a) refl,
+  ))
+    where
+      agrees : (words : List ℕ) → Agrees words d → Agrees (set words (waiting_place a) (slice_index words (waiting_place a) + 1)) (sent_own d a)
+      agrees words is = let slots_are = slots-kept words d a (slice_index words (waiting_place a) + 1) is.slots there in record {
+        size = length-set words (waiting_place a) (slice_index words (waiting_place a) + 1) ∙ is.size;
+        slots = record { word = slots_are.word; opened = slots_are.opened; found = slots_are.found };
+        counts = own-counts words d a is.size is.counts sized there;
+      }
+
+  pub gets_allowed : (n m : ℕ) → IsCounted d n m
+      → Allows Kept slots 0 (v, held) i (λ k. (k + 1) % 2 ^ 64) (λ _ after. (b : ℕ) → i ≡ waiting_place b → desk_of after.0 ≡ sent_by_another d b)
+  gets_allowed n m counted = moved slots i v held (λ k. (k + 1) % 2 ^ 64) (λ _ e. (b : ℕ) → i ≡ waiting_place b → e ≡ sent_by_another d b) (λ words is. (
+    sent_by_another d a,
+    subst (λ j. Agrees (set words j ((slice_index words j + 1) % 2 ^ 64)) (sent_by_another d a)) (sym place) (subst (λ k. Agrees (set words (waiting_place a) k) (sent_by_another d a)) (sym (one_more n m counted words is)) (agrees words is)),
+    told_there (sent_by_another d) (sent_by_another d a) refl,
+  ))
+    where
+      agrees : (words : List ℕ) → Agrees words d → Agrees (set words (waiting_place a) (slice_index words (waiting_place a) + 1)) (sent_by_another d a)
+      agrees words is = let slots_are = slots-kept words d a (slice_index words (waiting_place a) + 1) is.slots there in record {
+        size = length-set words (waiting_place a) (slice_index words (waiting_place a) + 1) ∙ is.size;
+        slots = record { word = slots_are.word; opened = slots_are.opened; found = slots_are.found };
+        counts = others-counts words d a is.size is.counts sized there;
+      }
+
+  pub takes_allowed : Allows Kept slots 0 (v, held) i (λ _. 0) (λ found after. (b : ℕ) → i ≡ waiting_place b → DeskTakes d b found (desk_of after.0))
+  takes_allowed = moved slots i v held (λ _. 0) (λ found e. (b : ℕ) → i ≡ waiting_place b → DeskTakes d b found e) (λ words is. (
+    taken d a,
+    subst (λ j. Agrees (set words j 0) (taken d a)) (sym place) (agrees words is),
+    told words is,
+  ))
+    where
+      agrees : (words : List ℕ) → Agrees words d → Agrees (set words (waiting_place a) 0) (taken d a)
+      agrees words is = let slots_are = slots-kept words d a 0 is.slots there in record {
+        size = length-set words (waiting_place a) 0 ∙ is.size;
+        slots = record { word = slots_are.word; opened = slots_are.opened; found = slots_are.found };
+        counts = taken-counts words d a is.size is.counts sized there;
+      }
+
+      told : (words : List ℕ) → Agrees words d → (b : ℕ) → i ≡ waiting_place b → DeskTakes d b (slice_index words i) (taken d a)
+      told words is b other =
+          let same : a ≡ b = omega arith in
+          subst (λ k. DeskTakes d k (slice_index words i) (taken d a)) same (ap (slice_index words) place ∙ is.counts.word a there, refl, own-taken words d a is.size is.counts sized there)
+
+-- a table on which nothing was done
+zeros : (n k : ℕ) → slice_index (replicate n 0) k ≡ 0
+zeros zero k = refl
+zeros (suc n) zero = refl
+zeros (suc n) (suc k) = zeros n k
+
+pub begins : (loop_no : ℕ) → IsKept (replicate (SLOTS + ASYNCS) 0) (history_of (new_desk loop_no) ∷ [])
+begins loop_no = (
+  history_of (new_desk loop_no),
+  refl,
+  record {
+    size = refl;
+    slots = record { word = word; opened = λ c h. absurd (omega arith); found = λ c h. h };
+    counts = record { word = λ a low. zeros (SLOTS + ASYNCS) (waiting_place a) ∙ sym (zeros ASYNCS a); sends = λ a low. refl };
+  },
+)
+  where
+    word : (slot request : ℕ) → slot < SLOTS → 0 < request → (slice_index (replicate (SLOTS + ASYNCS) 0) slot == request) ≡ is_open (new_desk loop_no) (slot, request)
+    word slot request low above = ap (λ k. k == request) (zeros (SLOTS + ASYNCS) slot) ∙ ne_eqb 0 request (λ z. omega arith) ∙ sym (fails request 0 0 0 (λ z _ _. omega arith))

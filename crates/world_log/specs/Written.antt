@@ -1,0 +1,8 @@
+-- What is written in a log.
+use Rattle.std.specs.Prelude.{ℕ, List}
+use Rattle.world_log.specs.declared.entry.Entry.{Entry}
+
+-- the entries, the oldest first, and for how many more there is room
+pub record Written : Type 0 where
+  pub entries : List Entry
+  pub room : ℕ

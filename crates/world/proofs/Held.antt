@@ -1,0 +1,398 @@
+-- What one step of a loop does to the request of one number.
+use Rattle.std.proofs.Common.{◌≡◌, ◌≢◌, ℕ, ◌+◌, ◌==◌, Bool, true, false, cond, not, ◌&&◌, inl, inr, ◌⊎◌, List, [], ◌∷◌, ◌++◌, length, Option, Some, None, refl, sym, ap, subst, ◌∙◌, arith, append_assoc, MatchBool, MatchOption, ℤ, negsuc}
+use Rattle.std.specs.List.{Contains}
+use Rattle.std.specs.Prelude.{nat_lt, nat_le, codes, pos}
+use Rattle.std.specs.Int.{w32, cast_signed}
+use Rattle.std.proofs.lemmas.List.Elements.{Contains-append_left, Contains-append_cases, Contains-push, Contains-push_cases}
+use Rattle.syntax.specs.declared.types.Value.{Value}
+use Rattle.syntax.specs.declared.types.Value.TheVariants.{I32, I64}
+use Rattle.handles.specs.declared.handle.Kind.TheVariants as handle_kind
+use Rattle.handles.specs.Table.{after_again}
+use Rattle.interp.specs.Run.{HostCall}
+use Rattle.interp.specs.Hosting.{Lawful}
+use Rattle.interp.specs.declared.ended.Ended.{Ended}
+use Rattle.imports.specs.declared.call.Call.{Call}
+use Rattle.imports.specs.declared.call.Call.TheVariants.{Now, TimerInit, IdleInit, CheckInit, TimerStart, TimerStop, IdleStop, CheckStop, TimerAgain, IdleStart, CheckStart, AsyncInit, AsyncSend, IsActive, Close, QueueWork, Cancel, InLen, InCopy, OutSet, Emit}
+use Rattle.order.specs.Numbers.{not_here, busy, invalid, no_such_export, no_room, none_left, no_memory, outside_memory}
+use Rattle.order.specs.Work.{WorkOrder}
+use Rattle.order.specs.Bytes.{taken_out}
+use Rattle.phases.specs.declared.did.StepDid.{StepDid}
+use Rattle.phases.specs.declared.did.StepDid.TheVariants.{Entered, Ran, Skipped}
+use Rattle.phases.specs.declared.did.StepDid.TheVariants as step
+use Rattle.phases.specs.declared.entry.EntryKind.{EntryKind}
+use Rattle.phases.specs.declared.entry.EntryKind.TheVariants as kind
+use Rattle.phases.specs.declared.entry.Entry.{Entry}
+use Rattle.phases.specs.declared.entry.Entry.TheVariants as entry
+use Rattle.phases.specs.declared.entry.Status.{Status}
+use Rattle.phases.specs.declared.entry.Status.TheVariants.{Running, Over, Failed}
+use Rattle.phases.specs.declared.progress.Standing.{Standing}
+use Rattle.phases.specs.declared.progress.Standing.TheVariants.{Unknown, Pending}
+use Rattle.phases.specs.declared.progress.Standing.TheVariants as standing
+use Rattle.phases.specs.Roster.{async_handle, with_handles, without_handle}
+use Rattle.phases.specs.Requests.{Cancelled, Request, Requests, Tidings, request_of, with_stage, without_request, tidings_of}
+use Rattle.phases.specs.State.{Setting, State, Loop}
+use Rattle.phases.specs.PhaseList.{exports, is_alive, may_end, next_phase, is_active_handle}
+use Rattle.phases.specs.Calls.{Calls}
+use Rattle.phases.specs.Host.{HostStep, CallStep, Cancels, CancelsAt, QueuesWork, Opens, next_work, standing_of, request_standing, emitted_in, with_roster, with_requests}
+use Rattle.phases.specs.Outside.{CancelIn}
+use Rattle.phases.specs.Step.{LoopStep, StepIn, ListStep, EntryStep, NextPhase, RunsFrom, CallsBack, CallsHandle, Skips, TakesFirst, AfterWork, in_state, sharing, begun, entered, now_in, is_as_listed, handle_function}
+use Rattle.world.specs.Guests.{GuestCall, named_calls, run_calls, back_calls, calls_if, calls_unless, handle_calls, taking_calls, async_calls, work_calls, after_calls, entry_calls, list_calls, status_calls, loop_calls}
+use Rattle.world.specs.Laws.{WasAsked, IsCancel}
+use Rattle.world.proofs.Numbered.{Fits, Covers, Same, Stages, numbered, fits_more, fits_staged, fits_opened, fits_removed, fits_ran, only_found}
+
+-- an answer other than 0, read as unsigned and as signed
+pub record IsRefusal (answer : ℕ) : Type 0 where
+  pub unsigned : answer ≢ 0
+  pub signed : cast_signed w32 answer ≢ pos 0
+
+abbrev is_zero : ℤ → Bool
+is_zero (pos n) = n == 0
+is_zero (negsuc n) = false
+
+refusal : (answer code : ℕ) → answer ≡ code → (code == 0) ≡ false → is_zero (cast_signed w32 code) ≡ false → IsRefusal answer
+refusal answer code e unsigned signed = record {
+  unsigned = λ z. (let it : (code == 0) ≡ true = ap (λ n. n == 0) (sym e ∙ z) in cc);
+  signed = λ z. (let it : is_zero (cast_signed w32 code) ≡ true = ap (λ n. is_zero (cast_signed w32 n)) (sym e) ∙ ap is_zero z in cc);
+}
+
+-- how a cancel of a request went
+pub data CancelFate (rs : Requests) (n answer : ℕ) (rs' : Requests) : Type 0 where
+  cancelled : (q : Request) → request_of rs n ≡ Some q → answer ≡ 0 → rs' ≡ with_stage rs n Cancelled → CancelFate rs n answer rs'
+  stayed : IsRefusal answer → rs' ≡ rs → CancelFate rs n answer rs'
+
+module _ {S : Type 0} (calls : Calls S) where
+  fate_at : (st : Standing) (old : Requests × S) (n answer : ℕ) (new : Requests × S) → standing_of old.0 n ≡ st → CancelsAt calls st old n answer new → CancelFate old.0 n answer new.0
+  fate_at Unknown old n answer new is h = stayed (refusal answer invalid h.0 refl refl) (ap (λ p. p.0) h.1)
+  fate_at standing.Answered old n answer new is h = stayed (refusal answer busy h.0 refl refl) (ap (λ p. p.0) h.1)
+  fate_at (Pending slot) old n answer new is h = won h.0 h.2 h.3 where
+    there : (o : Option Request) → request_of old.0 n ≡ o → (q : Request) × (request_of old.0 n ≡ Some q)
+    there None e = absurd (let it : request_standing (request_of old.0 n) ≡ Unknown = ap request_standing e in cc)
+    there (Some q) e = (q, e)
+
+    won : (b : Bool) → answer ≡ cond b 0 busy → new.0 ≡ cond b (with_stage old.0 n Cancelled) old.0 → CancelFate old.0 n answer new.0
+    won true a e = let it = there (request_of old.0 n) refl in cancelled it.0 it.1 a e
+    won false a e = stayed (refusal answer busy a refl refl) e
+
+  pub fate_of : (old : Requests × S) (n answer : ℕ) (new : Requests × S) → Cancels calls old n answer new → CancelFate old.0 n answer new.0
+  fate_of old n answer new h = fate_at (standing_of old.0 n) old n answer new refl h
+
+module _ {S : Type 0} (calls : Calls S) where
+  others : (old : State × S) (n answer : ℕ) (new : State × S)
+      → (requests : Requests) × Cancels calls (old.0.requests, old.1) n answer (requests, new.1) × (new.0 ≡ with_requests old.0 requests) → CancelFate old.0.requests n answer new.0.requests
+  others old n answer new h =
+      subst (CancelFate old.0.requests n answer) (sym (ap (λ s. s.requests) h.2)) (fate_of calls (old.0.requests, old.1) n answer (h.0, new.1) h.1)
+
+  pub fate_in : (status : Status) (old : State × S) (n answer : ℕ) (new : State × S) → CancelIn calls status old n answer new → CancelFate old.0.requests n answer new.0.requests
+  fate_in Failed old n answer new h = stayed (refusal answer not_here h.0 refl refl) (ap (λ p. p.0.requests) h.1)
+  fate_in Running old n answer new h = others old n answer new h
+  fate_in Over old n answer new h = others old n answer new h
+
+abbrev is_cancel_call : Call → Bool
+is_cancel_call Cancel = true
+is_cancel_call _ = false
+
+-- A guest's calls so far; the owner's cancel of the request may have been answered 0.
+module _ (g : Setting) (r : ℕ) (L : Type 0) where
+  abbrev pub WasWon : List GuestCall → Type 0
+  WasWon made = L ⊎ ((c : GuestCall) × Contains made c × IsCancel r c)
+
+  abbrev pub Held : (ran : Type 0) → List GuestCall → Requests → Type 0
+  Held ran made rs = Fits r (WasAsked g made) (WasWon made) ran rs
+
+  pub covers : (made more : List GuestCall) → Covers (WasAsked g made) (WasAsked g (made ++ more))
+  covers made more o a = (a.0, Contains-append_left made more a.0 a.1, a.2)
+
+  won_before : (made more : List GuestCall) → WasWon made → WasWon (made ++ more)
+  won_before made more (inl x) = inl x
+  won_before made more (inr a) = inr (a.0, Contains-append_left made more a.0 a.1, a.2)
+
+  won_after : (made more : List GuestCall) → ((c : GuestCall) → Contains more c → IsCancel r c → ⊥) → WasWon (made ++ more) → WasWon made
+  won_after made more never (inl x) = inl x
+  won_after made more never (inr a) = elim (Contains-append_cases made more a.0 a.1) [ inl there ↦ inr (a.0, there, a.2) | inr new ↦ absurd (never a.0 new a.2) ]
+
+  same_won : (made more : List GuestCall) → ((c : GuestCall) → Contains more c → IsCancel r c → ⊥) → Same (WasWon made) (WasWon (made ++ more))
+  same_won made more never = (won_before made more, won_after made more never)
+
+  only_one : (c d : GuestCall) → Contains (c ∷ []) d → c ≡ d
+  only_one c d h = elim (Contains-push_cases [] c d h) [ inl none ↦ absurd (omega (arith, none.1)) | inr e ↦ e ]
+
+  -- a call that doesn't cancel the request
+  no_cancel : (c : GuestCall) → (IsCancel r c → ⊥) → (d : GuestCall) → Contains (c ∷ []) d → IsCancel r d → ⊥
+  no_cancel c never d h k = never (subst (IsCancel r) (sym (only_one c d h)) k)
+
+  stays : (ran : Type 0) (made : List GuestCall) (c : GuestCall) (rs rs' : Requests) → (IsCancel r c → ⊥) → rs' ≡ rs → Held ran made rs → Held ran (made ++ c ∷ []) rs'
+  stays ran made c rs rs' never e f =
+      subst (Held ran (made ++ c ∷ [])) (sym e)
+      (fits_more r (WasAsked g made) (WasAsked g (made ++ c ∷ [])) (WasWon made) (WasWon (made ++ c ∷ [])) ran rs (covers made (c ∷ [])) (same_won made (c ∷ []) (no_cancel c never)) f)
+
+  pub nothing_more : (ran : Type 0) (made : List GuestCall) (rs rs' : Requests) → rs' ≡ rs → Held ran made rs → Held ran (made ++ []) rs'
+  nothing_more ran made rs rs' e f =
+      subst (Held ran (made ++ [])) (sym e)
+      (fits_more r (WasAsked g made) (WasAsked g (made ++ [])) (WasWon made) (WasWon (made ++ [])) ran rs (covers made []) (same_won made [] (λ c none k. omega (arith, none.1))) f)
+
+  other_call : (c : GuestCall) → is_cancel_call c.function ≡ false → IsCancel r c → ⊥
+  other_call c never k = (let is = ap is_cancel_call k.function in cc)
+
+  -- a guest's cancel
+  cancel_holds : (ran : Type 0) (made : List GuestCall) (c : GuestCall) (n answer : ℕ) (rs rs' : Requests) → c.function ≡ Cancel → c.call.args ≡ I32 n ∷ [] → c.call.answer ≡ Some (I32 answer)
+      → CancelFate rs n answer rs' → Held ran made rs → Held ran (made ++ c ∷ []) rs'
+  cancel_holds ran made c n answer rs rs' is args told (stayed refused e) f = stays ran made c rs rs' (λ k. refused.unsigned (let it = sym told ∙ k.answer in cc)) e f
+  cancel_holds ran made c n answer rs rs' is args told (cancelled q found won e) f =
+      subst (Held ran (made ++ c ∷ [])) (sym e)
+      (fits_staged r n Cancelled (WasAsked g made) (WasAsked g (made ++ c ∷ [])) (WasWon made) (WasWon (made ++ c ∷ [])) ran rs stages f) where
+        stages : Stages (WasAsked g made) (WasAsked g (made ++ c ∷ [])) (WasWon made) (WasWon (made ++ c ∷ [])) r n Cancelled rs
+        stages = record {
+          covers = covers made (c ∷ []);
+          apart = λ other. same_won made (c ∷ []) (no_cancel c (λ k. other (let it = sym k.args ∙ args in cc)));
+          here = λ x here only h. inr (c, Contains-push made c, record { function = is; args = args ∙ ap (λ k. I32 k ∷ []) (sym here); answer = told ∙ ap (λ k. Some (I32 k)) won });
+          given = λ here none. (let it = only_found (WasAsked g made) (WasWon made) r rs q f.owned (ap (request_of rs) here ∙ found) in cc);
+        }
+
+  -- a guest asks for work
+  module _ {S : Type 0} (calls : Calls S) where
+    pub data QueueFate (old : Requests × S) (op : ℕ) (bytes : List ℕ) (answer : ℕ) (new : Requests × S) : Type 0 where
+      refused : new.0 ≡ old.0 → QueueFate old op bytes answer new
+      opened : Opens calls g old op bytes answer new → QueueFate old op bytes answer new
+
+    module _ (memory : List ℕ) (old : Requests × S) (op place count answer : ℕ) (new : Requests × S) where
+      abbrev Fate : Type 0
+      Fate = QueueFate old op (taken_out place count memory) answer new
+
+      refuse : (b : Bool) (code : ℕ) {Q : Type 0} → (Q → Fate) → MatchBool b ((answer ≡ code) × (new ≡ old)) Q → Fate
+      refuse true code f h = refused (ap (λ p. p.0) h.1)
+      refuse false code f h = f h
+
+      last : ((answer ≡ no_memory) × (new ≡ old)) ⊎ Opens calls g old op (taken_out place count memory) answer new → Fate
+      last (inl h) = refused (ap (λ p. p.0) h.1)
+      last (inr h) = opened h
+
+      queue_fate : QueuesWork calls g memory old op place count answer new → Fate
+      queue_fate h =
+          refuse (not (exports g.loaded.contents (codes "uv_work") && exports g.loaded.contents (codes "uv_after_work"))) no_such_export
+          (refuse (nat_lt 65536 count) invalid
+          (refuse (nat_lt (length memory) (place + count)) outside_memory
+          (refuse (length old.0.outstanding == 32) no_room
+          (refuse (old.0.last == 2147483647) none_left last)))) h
+
+    queue_holds : (ran : Type 0) (made : List GuestCall) (c : GuestCall) (op place count answer : ℕ) (old new : Requests × S) → c.function ≡ QueueWork → c.call.args ≡ I32 op ∷ I32 place ∷ I32 count ∷ [] → c.call.answer ≡ Some (I32 answer)
+        → QueueFate old op (taken_out place count c.call.before) answer new → Held ran made old.0 → Held ran (made ++ c ∷ []) new.0
+    queue_holds ran made c op place count answer old new is args told (refused e) f = stays ran made c old.0 new.0 (other_call c (ap is_cancel_call is)) e f
+    queue_holds ran made c op place count answer old new is args told (opened h) f =
+        subst (Held ran (made ++ c ∷ [])) (sym h.kept)
+        (fits_opened r (WasAsked g made) (WasAsked g (made ++ c ∷ [])) (WasWon made) (WasWon (made ++ c ∷ [])) ran old.0 o refl (covers made (c ∷ []))
+        (same_won made (c ∷ []) (no_cancel c (other_call c (ap is_cancel_call is)))) asked f) where
+          o : WorkOrder
+          o = next_work g old.0 h.slot op (taken_out place count c.call.before)
+
+          asked : WasAsked g (made ++ c ∷ []) o
+          asked = (c, Contains-push made c, record { op = op; place = place; count = count; function = is; args = args; answer = told ∙ ap (λ k. Some (I32 k)) h.answered; order = refl })
+
+    emit_keeps : (value : ℕ) (s : State) → (emitted_in value s).1.requests ≡ s.requests
+    emit_keeps value s = by (nat_le 64 (length s.emits)) where
+      by : (b : Bool) → (cond {A = ℕ × State} b (none_left, s) (0, record s { emits = s.emits ++ value ∷ [] })).1.requests ≡ s.requests
+      by true = refl
+      by false = refl
+
+    -- one call of the guest
+    module _ (ran : Type 0) (made : List GuestCall) (old : State × S) (call : HostCall) (new : State × S) where
+      abbrev Done : Call → Type 0
+      Done f = Held ran (made ++ record { function = f; call = call } ∷ []) new.0.requests
+
+      plain : (f : Call) → is_cancel_call f ≡ false → new.0.requests ≡ old.0.requests → Held ran made old.0.requests → Done f
+      plain f never e h = stays ran made (record { function = f; call = call }) old.0.requests new.0.requests (other_call (record { function = f; call = call }) never) e h
+
+      call_holds : (f : Call) (args : List Value) → call.args ≡ args → CallStep calls g old call new f args → Held ran made old.0.requests → Done f
+      call_holds Now [] is h f = plain Now refl (ap (λ p. p.0.requests) h.2) f
+      call_holds TimerInit [] is h f = plain TimerInit refl (ap (λ p. p.0.requests) h.4) f
+      call_holds IdleInit [] is h f = plain IdleInit refl (ap (λ p. p.0.requests) h.4) f
+      call_holds CheckInit [] is h f = plain CheckInit refl (ap (λ p. p.0.requests) h.4) f
+      call_holds TimerStart (I32 handle ∷ I32 callback ∷ I64 timeout ∷ I64 repeat ∷ []) is h f = plain TimerStart refl (ap (λ p. p.0.requests) h.1) f
+      call_holds TimerStop (I32 handle ∷ []) is h f = plain TimerStop refl (ap (λ p. p.0.requests) h.1) f
+      call_holds IdleStop (I32 handle ∷ []) is h f = plain IdleStop refl (ap (λ p. p.0.requests) h.1) f
+      call_holds CheckStop (I32 handle ∷ []) is h f = plain CheckStop refl (ap (λ p. p.0.requests) h.1) f
+      call_holds TimerAgain (I32 handle ∷ []) is h f = plain TimerAgain refl (ap (λ p. p.0.requests) h.1) f
+      call_holds IdleStart (I32 handle ∷ I32 callback ∷ []) is h f = plain IdleStart refl (ap (λ p. p.0.requests) h.1) f
+      call_holds CheckStart (I32 handle ∷ I32 callback ∷ []) is h f = plain CheckStart refl (ap (λ p. p.0.requests) h.1) f
+      call_holds AsyncInit (I32 callback ∷ []) is h f = plain AsyncInit refl (ap (λ p. p.0.requests) h.4) f
+      call_holds AsyncSend (I32 handle ∷ []) is h f = plain AsyncSend refl (ap (λ s. s.requests) h.3) f
+      call_holds IsActive (I32 handle ∷ []) is h f = plain IsActive refl (ap (λ p. p.0.requests) h.1) f
+      call_holds Close (I32 handle ∷ I32 callback ∷ []) is h f = plain Close refl (ap (λ p. p.0.requests) h.1) f
+      call_holds QueueWork (I32 op ∷ I32 place ∷ I32 count ∷ []) is h f =
+          subst (Held ran (made ++ record { function = QueueWork; call = call } ∷ [])) (sym (ap (λ s. s.requests) h.4))
+          (queue_holds ran made (record { function = QueueWork; call = call }) op place count h.0 (old.0.requests, old.1) (h.1, new.1) refl is h.3.0
+          (queue_fate call.before (old.0.requests, old.1) op place count h.0 (h.1, new.1) h.2) f)
+      call_holds Cancel (I32 number ∷ []) is h f =
+          subst (Held ran (made ++ record { function = Cancel; call = call } ∷ [])) (sym (ap (λ s. s.requests) h.4))
+          (cancel_holds ran made (record { function = Cancel; call = call }) number h.0 old.0.requests h.1 refl is h.3.0
+          (fate_of calls (old.0.requests, old.1) number h.0 (h.1, new.1) h.2) f)
+      call_holds InLen [] is h f = plain InLen refl (ap (λ p. p.0.requests) h.1) f
+      call_holds InCopy (I32 to ∷ I32 from ∷ I32 count ∷ []) is h f = plain InCopy refl (ap (λ p. p.0.requests) h.1) f
+      call_holds OutSet (I32 place ∷ I32 count ∷ []) is h f = plain OutSet refl (ap (λ p. p.0.requests) h.1) f
+      call_holds Emit (I64 value ∷ []) is h f = plain Emit refl (ap (λ p. p.0.requests) h.1 ∙ emit_keeps value old.0) f
+      call_holds _ _ is h f = absurd h
+
+    trace_holds : (ran : Type 0) (made : List GuestCall) (trace : List HostCall) (old new : State × S) (h : Lawful (HostStep calls g) trace old new) → Held ran made old.0.requests → Held ran (made ++ named_calls calls g trace old new h) new.0.requests
+    trace_holds ran made [] old new h f = nothing_more ran made old.0.requests new.0.requests (ap (λ p. p.0.requests) h) f
+    trace_holds ran made (call ∷ trace) old new h f =
+        let c : GuestCall = record { function = h.1.0; call = call } in
+        subst (λ cs. Held ran cs new.0.requests) (append_assoc made (c ∷ []) (named_calls calls g trace h.0 new h.2))
+        (trace_holds ran (made ++ c ∷ []) trace h.0 new h.2 (call_holds ran made old call h.0 h.1.0 call.args refl h.1.2 f))
+
+-- what a step tells of an after-work callback
+abbrev pub after_of : StepDid → Option ℕ
+after_of (Ran kind.After number ended) = Some number
+after_of _ = None
+
+module _ {S : Type 0} (calls : Calls S) (g : Setting) (r : ℕ) (L : Type 0) where
+  -- the after-work callback of the request ran, which was there
+  pub record WorkedAfter (base : Loop S) (did : StepDid) (new : Loop S) : Type 0 where
+    pub request : Request
+    pub only : numbered r base.state.requests ≡ request ∷ []
+    pub work : AfterWork calls g base r (tidings_of request.stage) did new
+
+  -- what a step leaves of the request, and, where its callback ran, that it is gone for good
+  pub record Passes (ran : Type 0) (made more : List GuestCall) (base : Loop S) (did : StepDid) (new : Loop S) : Type 0 where
+    pub held : Held g r L ran (made ++ more) new.state.requests
+    pub after : after_of did ≡ Some r → WorkedAfter base did new × Held g r L (Unit {0}) (made ++ more) new.state.requests
+
+  module _ (ran : Type 0) (made : List GuestCall) where
+    quiet : (more : List GuestCall) (base : Loop S) (did : StepDid) (new : Loop S) → Held g r L ran (made ++ more) new.state.requests → after_of did ≡ None → Passes ran made more base did new
+    quiet more base did new held none = record { held = held; after = λ h. absurd (cc) }
+
+    runs_hold : (old : Loop S) (kind : EntryKind) (number function : ℕ) (args : List Value) (reply : Option (List ℕ)) (did : StepDid) (new : Loop S)
+        (h : RunsFrom calls g old kind number function args reply did new) → Held g r L ran made old.state.requests
+        → Held g r L ran (made ++ run_calls calls g old kind number function args reply did new h) new.state.requests
+    runs_hold old kind number function args reply did new h f =
+        subst (Held g r L ran (made ++ run_calls calls g old kind number function args reply did new h)) (sym (ap (λ s. s.requests) h.finished))
+        (trace_holds g r L calls ran made h.trace (begun old.state reply, old.shared) (h.state, new.shared) h.answers f)
+
+    -- a callback that is none of after-work
+    abbrev IsOther : EntryKind → Type 0
+    IsOther kind = (number : ℕ) (ended : Ended) → after_of (Ran kind number ended) ≡ None
+
+    back_passes : (base old : Loop S) (kind : EntryKind) (number : ℕ) (function : Option ℕ) (args : List Value) (did : StepDid) (new : Loop S) → IsOther kind
+        → (h : CallsBack calls g old kind number function args did new) → Held g r L ran made old.state.requests
+        → Passes ran made (back_calls calls g old kind number function args did new h) base did new
+    back_passes base old kind number None args did new other h f = absurd h
+    back_passes base old kind number (Some k) args did new other h f =
+        quiet (run_calls calls g old kind number k args None did new h) base did new (runs_hold old kind number k args None did new h f) (ap after_of h.told ∙ other number h.ended)
+
+    skips_pass : (base old : Loop S) (kind : EntryKind) (number : ℕ) (did : StepDid) (new : Loop S) → Skips calls g old kind number did new → Held g r L ran made old.state.requests
+        → Passes ran made [] base did new
+    skips_pass base old kind number did new h f =
+        quiet [] base did new (nothing_more g r L ran made old.state.requests new.state.requests (ap (λ l. l.state.requests) h.1) f) (ap after_of h.0)
+
+    passes_if : (b : Bool) (P Q : Type 0) (more : P → List GuestCall) (base : Loop S) (did : StepDid) (new : Loop S)
+        → ((p : P) → Passes ran made (more p) base did new) → (Q → Passes ran made [] base did new)
+        → (h : MatchBool b P Q) → Passes ran made (calls_if b P Q more h) base did new
+    passes_if true P Q more base did new f k h = f h
+    passes_if false P Q more base did new f k h = k h
+
+    passes_unless : (b : Bool) (P Q : Type 0) (more : Q → List GuestCall) (base : Loop S) (did : StepDid) (new : Loop S)
+        → (P → Passes ran made [] base did new) → ((q : Q) → Passes ran made (more q) base did new)
+        → (h : MatchBool b P Q) → Passes ran made (calls_unless b P Q more h) base did new
+    passes_unless true P Q more base did new f k h = f h
+    passes_unless false P Q more base did new f k h = k h
+
+    -- an entry of a handle
+    listed_passes : (base old fired : Loop S) (b : Bool) (kind : EntryKind) (handle : ℕ) (did : StepDid) (new : Loop S) → IsOther kind
+        → Held g r L ran made old.state.requests → Held g r L ran made fired.state.requests
+        → (h : MatchBool b (CallsHandle calls g fired old.state.roster kind handle did new) (Skips calls g old kind handle did new))
+        → Passes ran made (calls_if b (CallsHandle calls g fired old.state.roster kind handle did new) (Skips calls g old kind handle did new) (handle_calls calls g fired old.state.roster kind handle did new) h) base did new
+    listed_passes base old fired b kind handle did new other f k h =
+        passes_if b (CallsHandle calls g fired old.state.roster kind handle did new) (Skips calls g old kind handle did new) (handle_calls calls g fired old.state.roster kind handle did new) base did new
+        (λ p. back_passes base fired kind handle (handle_function old.state.roster handle) (I32 handle ∷ []) did new other p k)
+        (λ q. skips_pass base old kind handle did new q f) h
+
+    taking_passes : (old : Loop S) (async_no handle : ℕ) (did : StepDid) (new : Loop S) (h : TakesFirst calls g old async_no handle did new) → Held g r L ran made old.state.requests
+        → Passes ran made (taking_calls calls g old async_no handle did new h) old did new
+    taking_passes old async_no handle did new h f =
+        passes_unless (h.0 == 0) (Skips calls g (sharing old h.1) kind.Async handle did new) (CallsHandle calls g (sharing old h.1) old.state.roster kind.Async handle did new)
+        (handle_calls calls g (sharing old h.1) old.state.roster kind.Async handle did new) old did new
+        (λ p. skips_pass old (sharing old h.1) kind.Async handle did new p f)
+        (λ q. back_passes old (sharing old h.1) kind.Async handle (handle_function old.state.roster handle) (I32 handle ∷ []) did new (λ number ended. refl) q f)
+        h.3
+
+    async_passes : (old : Loop S) (async_no : ℕ) (handle : Option ℕ) (did : StepDid) (new : Loop S)
+        (h : MatchOption handle ⊥ (λ handle. MatchBool (is_active_handle old.state.roster.handles (Some handle)) (TakesFirst calls g old async_no handle did new) (Skips calls g old kind.Async handle did new)))
+        → Held g r L ran made old.state.requests → Passes ran made (async_calls calls g old async_no handle did new h) old did new
+    async_passes old async_no None did new h f = absurd h
+    async_passes old async_no (Some handle) did new h f =
+        passes_if (is_active_handle old.state.roster.handles (Some handle)) (TakesFirst calls g old async_no handle did new) (Skips calls g old kind.Async handle did new)
+        (taking_calls calls g old async_no handle did new) old did new
+        (λ p. taking_passes old async_no handle did new p f)
+        (λ q. skips_pass old old kind.Async handle did new q f) h
+
+  work_passes : (ran : Type 0) (made : List GuestCall) (old : Loop S) (number : ℕ) (q : Request) (tidings : Option Tidings) (did : StepDid) (new : Loop S)
+      → request_of old.state.requests number ≡ Some q → tidings_of q.stage ≡ tidings
+      → (h : AfterWork calls g old number tidings did new) → Held g r L ran made old.state.requests → Passes ran made (work_calls calls g old number tidings did new h) old did new
+  work_passes ran made old number q None did new found told h f = absurd h
+  work_passes ran made old number q (Some t) did new found told h f = record {
+    held = runs_hold ran made base kind.After number h.0 (I32 number ∷ I32 t.kind ∷ I32 t.code ∷ []) (Some t.bytes) did new h.2 (fits_removed r number (WasAsked g made) (WasWon g r L made) ran old.state.requests f);
+    after = λ after.
+        let is : number ≡ r = (let it = sym (ap after_of h.2.told) ∙ after in cc) in
+        let only = only_found (WasAsked g made) (WasWon g r L made) r old.state.requests q f.owned (ap (request_of old.state.requests) (sym is) ∙ found) in (
+          record { request = q; only = only; work = rw told (subst (λ k. AfterWork calls g old k (Some t) did new) is h) },
+          runs_hold (Unit {0}) made base kind.After number h.0 (I32 number ∷ I32 t.kind ∷ I32 t.code ∷ []) (Some t.bytes) did new h.2
+              (subst (λ k. Held g r L (Unit {0}) made (without_request old.state.requests k)) (sym is) (fits_ran r (WasAsked g made) (WasWon g r L made) ran (Unit {0}) old.state.requests q only f)),
+        );
+  } where
+    base : Loop S
+    base = in_state old (with_requests old.state (without_request old.state.requests number))
+
+  after_passes : (ran : Type 0) (made : List GuestCall) (old : Loop S) (number : ℕ) (request : Option Request) (did : StepDid) (new : Loop S) → request_of old.state.requests number ≡ request
+      → (h : MatchOption request ⊥ (λ q. AfterWork calls g old number (tidings_of q.stage) did new)) → Held g r L ran made old.state.requests → Passes ran made (after_calls calls g old number request did new h) old did new
+  after_passes ran made old number None did new found h f = absurd h
+  after_passes ran made old number (Some q) did new found h f = work_passes ran made old number q (tidings_of q.stage) did new found refl h f
+
+  entry_passes : (ran : Type 0) (made : List GuestCall) (old : Loop S) (e : Entry) (did : StepDid) (new : Loop S) (h : EntryStep calls g old e did new) → Held g r L ran made old.state.requests
+      → Passes ran made (entry_calls calls g old e did new h) old did new
+  entry_passes ran made old entry.Start did new h f = back_passes ran made old old kind.Start 0 g.loaded.contents.start [] did new (λ number ended. refl) h f
+  entry_passes ran made old entry.Main did new h f = back_passes ran made old old kind.Main 0 (Some h.0) [] did new (λ number ended. refl) h.2 f
+  entry_passes ran made old (entry.Timer handle start) did new h f =
+      let fired = in_state old (with_roster old.state (with_handles old.state.roster (after_again old.state.roster.handles handle old.state.now))) in
+      listed_passes ran made old old fired (is_as_listed handle_kind.Timer old.state.roster handle start) kind.Timer handle did new (λ number ended. refl) f f h
+  entry_passes ran made old (entry.Idle handle start) did new h f =
+      listed_passes ran made old old old (is_as_listed handle_kind.Idle old.state.roster handle start) kind.Idle handle did new (λ number ended. refl) f f h
+  entry_passes ran made old (entry.Check handle start) did new h f =
+      listed_passes ran made old old old (is_as_listed handle_kind.Check old.state.roster handle start) kind.Check handle did new (λ number ended. refl) f f h
+  entry_passes ran made old (entry.After number) did new h f = after_passes ran made old number (request_of old.state.requests number) did new refl h f
+  entry_passes ran made old (entry.Async async_no) did new h f = async_passes ran made old async_no (async_handle old.state.roster async_no) did new h f
+  entry_passes ran made old (entry.Close handle) did new h f =
+      back_passes ran made old (in_state old (with_roster old.state (without_handle old.state.roster handle))) kind.Close handle (handle_function old.state.roster handle) (I32 handle ∷ []) did new (λ number ended. refl) h f
+
+  -- the same of a whole step, whose entry is taken off the list
+  pub record Steps (ran : Type 0) (made more : List GuestCall) (old : Loop S) (did : StepDid) (new : Loop S) : Type 0 where
+    pub held : Held g r L ran (made ++ more) new.state.requests
+    pub after : after_of did ≡ Some r → (rest : List Entry) × WorkedAfter (in_state old (record old.state { list = rest })) did new × Held g r L (Unit {0}) (made ++ more) new.state.requests
+
+  nothing_ran : (ran : Type 0) (made : List GuestCall) (old : Loop S) (did : StepDid) (new : Loop S) → new.state.requests ≡ old.state.requests → after_of did ≡ None → Held g r L ran made old.state.requests → Steps ran made [] old did new
+  nothing_ran ran made old did new e none f = record { held = nothing_more g r L ran made old.state.requests new.state.requests e f; after = λ h. absurd (cc) }
+
+  abbrev Keeps : Requests → StepDid × State → Type 0
+  Keeps rs p = (after_of p.0 ≡ None) × (p.1.requests ≡ rs)
+
+  turn_steps : (ran : Type 0) (made : List GuestCall) (old : Loop S) (did : StepDid) (new : Loop S) → NextPhase calls g old did new → Held g r L ran made old.state.requests → Steps ran made [] old did new
+  turn_steps ran made old did new h f =
+      let it = turned (may_end old.state.phase && not (is_alive old.state)) in
+      nothing_ran ran made old did new (ap (λ l. l.state.requests) h.1 ∙ it.1) (ap after_of h.0 ∙ it.0) f where
+        turned : (b : Bool) → Keeps old.state.requests (cond b (step.Over, record old.state { status = Over }) (Entered (next_phase old.state.phase) (now_in old.state (next_phase old.state.phase)), entered old.state (next_phase old.state.phase)))
+        turned true = (refl, refl)
+        turned false = (refl, refl)
+
+  list_steps : (ran : Type 0) (made : List GuestCall) (old : Loop S) (list : List Entry) (did : StepDid) (new : Loop S) (h : ListStep calls g old list did new) → Held g r L ran made old.state.requests
+      → Steps ran made (list_calls calls g old list did new h) old did new
+  list_steps ran made old [] did new h f = turn_steps ran made old did new h f
+  list_steps ran made old (e ∷ rest) did new h f =
+      let it = entry_passes ran made (in_state old (record old.state { list = rest })) e did new h f in
+      record { held = it.held; after = λ told. let both = it.after told in (rest, both.0, both.1) }
+
+  status_steps : (ran : Type 0) (made : List GuestCall) (status : Status) (old : Loop S) (did : StepDid) (new : Loop S) (h : StepIn calls g status old did new) → Held g r L ran made old.state.requests
+      → Steps ran made (status_calls calls g status old did new h) old did new
+  status_steps ran made Running old did new h f = list_steps ran made old old.state.list did new h f
+  status_steps ran made Over old did new h f = nothing_ran ran made old did new (ap (λ l. l.state.requests) h.1) (ap after_of h.0) f
+  status_steps ran made Failed old did new h f = nothing_ran ran made old did new (ap (λ l. l.state.requests) h.1) (ap after_of h.0) f
+
+  pub step_holds : (ran : Type 0) (made : List GuestCall) (old : Loop S) (did : StepDid) (new : Loop S) (h : LoopStep calls g old did new) → Held g r L ran made old.state.requests
+      → Steps ran made (loop_calls calls g old did new h) old did new
+  step_holds ran made old did new h f = status_steps ran made old.state.status old did new h f

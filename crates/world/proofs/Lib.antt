@@ -1,0 +1,11 @@
+pub mod Collecting
+pub mod Filtered
+pub mod Held
+pub mod Numbered
+pub mod Opening
+pub mod Runs
+pub mod Sets
+pub mod Stepping
+pub mod Taking
+pub mod Turning
+pub mod Working

@@ -1,0 +1,61 @@
+-- Lists of a world, and their changes at one place.
+use Rattle.std.proofs.Common.{◌≡◌, ◌≢◌, ℕ, zero, suc, ◌+◌, ◌≤◌, List, [], ◌∷◌, ◌++◌, map, length, Some, None, refl, sym, ap, ◌∙◌, subst, arith}
+use Rattle.std.specs.Prelude.{slice_get, slice_set, All}
+use Rattle.std.proofs.lemmas.List.{length-set, length_push}
+use Rattle.std.proofs.lemmas.List.Elements.{All-push}
+use Rattle.order.specs.declared.request.Order.{Order}
+use Rattle.phases.specs.State.{Setting, Loop}
+use Rattle.desk.specs.Desk.{Desk}
+use Rattle.world.specs.declared.hand.Hand.{Hand}
+use Rattle.world.specs.Making.{AreNumbered, IsJob, IsHeld, IsKept}
+
+-- what is put back where it stood changes nothing
+pub set_same : {X : Type 0} (xs : List X) (n : ℕ) (x : X) → slice_get xs n ≡ Some x → slice_set xs n x ≡ xs
+set_same [] n x h = refl
+set_same (y ∷ ys) zero x h = let same : y ≡ x = cc in ap (λ z. z ∷ ys) (sym same)
+set_same (y ∷ ys) (suc n) x h = ap (λ zs. y ∷ zs) (set_same ys n x h)
+
+pub map_set : {X Y : Type 0} (f : X → Y) (xs : List X) (n : ℕ) (x : X) → map f (slice_set xs n x) ≡ slice_set (map f xs) n (f x)
+map_set f [] n x = refl
+map_set f (y ∷ ys) zero x = refl
+map_set f (y ∷ ys) (suc n) x = ap (λ zs. f y ∷ zs) (map_set f ys n x)
+
+pub map_get : {X Y : Type 0} (f : X → Y) (xs : List X) (n : ℕ) (x : X) → slice_get xs n ≡ Some x → slice_get (map f xs) n ≡ Some (f x)
+map_get f [] n x h = absurd (cc)
+map_get f (y ∷ ys) zero x h = let same : y ≡ x = cc in ap (λ z. Some (f z)) same
+map_get f (y ∷ ys) (suc n) x h = map_get f ys n x h
+
+-- a loop stands otherwise, under the same number
+numbered_set : (k : ℕ) (ls : List (Setting × Loop Desk)) (n : ℕ) (p q : Setting × Loop Desk) → slice_get ls n ≡ Some p → q.0 ≡ p.0 → AreNumbered k ls → AreNumbered k (slice_set ls n q)
+numbered_set k [] n p q at e h = h
+numbered_set k (x ∷ xs) zero p q at e h = let same : x ≡ p = cc in (ap (λ g. g.loop_no) (e ∙ ap (λ y. y.0) (sym same)) ∙ h.0, h.1)
+numbered_set k (x ∷ xs) (suc n) p q at e h = (h.0, numbered_set (k + 1) xs n p q at e h.1)
+
+pub numbered_at : (k : ℕ) (ls : List (Setting × Loop Desk)) (n : ℕ) (p : Setting × Loop Desk) → slice_get ls n ≡ Some p → AreNumbered k ls → p.0.loop_no ≡ k + n
+numbered_at k [] n p at h = absurd (cc)
+numbered_at k (x ∷ xs) zero p at h = let same : x ≡ p = cc in ap (λ y. y.0.loop_no) (sym same) ∙ h.0 ∙ omega arith
+numbered_at k (x ∷ xs) (suc n) p at h = numbered_at (k + 1) xs n p at h.1 ∙ omega arith
+
+pub kept_set : (ls : List (Setting × Loop Desk)) (js : List Order) (hs : List Hand) (lists room : ℕ) (n : ℕ) (p q : Setting × Loop Desk) → slice_get ls n ≡ Some p → q.0 ≡ p.0
+    → IsKept ls js hs lists room → IsKept (slice_set ls n q) js hs lists room
+kept_set ls js hs lists room n p q at e h =
+    let long : length (slice_set ls n q) ≡ length ls = length-set ls n q in
+    record {
+      numbered = numbered_set 0 ls n p q at e h.numbered;
+      waiting = subst (λ k. All (IsJob k) js) (sym long) h.waiting;
+      held = subst (λ k. All (IsHeld k) hs) (sym long) h.held;
+      paired = h.paired ∙ sym long;
+      few = h.few;
+      roomy = h.roomy;
+    }
+
+pub kept_push : (ls : List (Setting × Loop Desk)) (js js' : List Order) (hs : List Hand) (lists room room' : ℕ) (o : Order) → js' ≡ js ++ o ∷ [] → room' ≡ room → length js ≢ 256 → IsJob (length ls) o
+    → IsKept ls js hs lists room → IsKept ls js' hs lists room'
+kept_push ls js js' hs lists room room' o pushed same other job h = record {
+  numbered = h.numbered;
+  waiting = subst (All (IsJob (length ls))) (sym pushed) (All-push (IsJob (length ls)) js o h.waiting job);
+  held = h.held;
+  paired = h.paired;
+  few = (let long : length js' ≡ length js + 1 = ap length pushed ∙ length_push js o in let few = h.few in omega arith);
+  roomy = rw same h.roomy;
+}

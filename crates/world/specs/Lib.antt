@@ -1,0 +1,4 @@
+pub mod Guests
+pub mod Laws
+pub mod Making
+pub mod World

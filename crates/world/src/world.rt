@@ -1,0 +1,438 @@
+// All loops and workers, in one thread.
+
+ghost use Rattle.std.specs.Prelude.{◌≡◌, ◌++◌, ◌∷◌, [], ◌≤◌, ◌<◌, All, IfOk, IfErr, OnOk, OnErr, length, map, replicate, take};
+ghost use Rattle.world.specs.Making.{setting_from, settings_from, answers_of, HasDepth, MayFault, Stops};
+ghost use Rattle.world.specs.World.{opening_world, opening_loop, WorldStep, WorldRun, told_of, job_of, Tells, StepsLoop, Posts, WithHand, TakesJob, StartsJob, FinishesJob, Collects, SendsTo, Cancels, Clocks};
+ghost use Rattle.order.specs.Orders.{order_of, end_of};
+
+use crate::config::{Config, LoopConfig};
+use crate::fault::WorldFault;
+use crate::hand::Hand;
+use desk::Desk;
+use order::{Order, Outcome, Reply};
+use phases::{Accepted, LoopCore, StepDid};
+use std::alloc::{AllocError, Global};
+use std::collections::VecDeque;
+use std::marker::Model;
+use std::mem;
+use std::sync::Arc;
+use syntax::items::Items;
+use world_log::{
+    CollectOutcome, Entry, FinishOutcome, Job, Log, PostOutcome, StartOutcome, Step, WorkEnding,
+};
+
+/// How many jobs may wait for a worker.
+pub const MAX_JOBS: usize = 256;
+
+/// How many values a callback may put out.
+const MAX_EMITS: usize = 64;
+
+/// How many asyncs a loop has.
+const MAX_ASYNCS: u32 = 16;
+
+/// Some loops and workers, which take turns in one thread, step by step. Contracts see the loops, the jobs that no
+/// worker took, what each worker has, and the replies that no loop was offered.
+#[derive(Drop)]
+pub struct World {
+    alloc: Global,
+    loops: Vec<LoopCore<Desk>>,
+    jobs: VecDeque<Order>,
+    hands: Vec<Hand>,
+    replies: Vec<VecDeque<Reply>>,
+}
+
+impl Model for World {
+    ghost use Rattle.std.specs.Prelude.{length, map};
+    ghost use Rattle.std.specs.VecDeque.{deque_capacity};
+    ghost use Rattle.std.specs.Coded.{codes};
+    ghost use Rattle.syntax.specs.Loaded.{loaded_coded};
+    ghost use Rattle.handles.specs.Codes.{table_code};
+    ghost use Rattle.phases.specs.Codes.{roster_code, requests_code};
+    ghost use Rattle.order.specs.Orders.{order_of};
+    ghost use Rattle.world.specs.World.{World as Value_of};
+    ghost use Rattle.world.specs.Making.{answers_of, hand_of, IsKept};
+
+    ghost Value = { Value_of };
+
+    ghost coded = { Prim.hlevel (codes, loaded_coded, table_code, roster_code, requests_code) };
+
+    ghost view = { λ a. record { loops = a.loops.items; jobs = map order_of a.jobs.items; hands = map hand_of a.hands.items; replies = map (λ d. answers_of d.items) a.replies.items } };
+
+    ghost invariant = { λ a. IsKept a.loops.items a.jobs.items a.hands.items (length a.replies.items) (deque_capacity a.jobs) };
+}
+
+// What is told of a loop's step.
+fn told(loop_no: u32, did: StepDid, emits: Items<u64>) -> Entry
+    ensures { result ≡ told_of loop_no did emits }
+{
+    match did {
+        StepDid::Entered { phase, now } => Entry::Entered {
+            loop_no,
+            phase,
+            now,
+        },
+        StepDid::Ran {
+            kind,
+            number,
+            ended,
+        } => Entry::Ran {
+            loop_no,
+            kind,
+            number,
+            ended,
+            emits,
+        },
+        StepDid::Skipped { kind, number } => Entry::Skipped {
+            loop_no,
+            kind,
+            number,
+        },
+        StepDid::Over => Entry::Over { loop_no },
+        StepDid::Failed => Entry::Failed { loop_no },
+    }
+}
+
+fn job_of(order: &Order) -> Job
+    ensures { result ≡ job_of (order_of order.now) }
+{
+    Job {
+        loop_no: order.loop_no,
+        request: order.request,
+    }
+}
+
+// How an outcome is told.
+fn ending_of(outcome: &Outcome) -> WorkEnding
+    ensures { Tells result (end_of outcome.now) }
+{
+    match outcome {
+        Outcome::Done(value, _) => WorkEnding::Done(*value),
+        Outcome::Trap(trap) => WorkEnding::Trap(*trap),
+        Outcome::Depth => WorkEnding::Depth,
+        Outcome::Spent => WorkEnding::Spent,
+        Outcome::NoMemory => WorkEnding::NoMemory,
+    }
+}
+
+// The loops of a world as they open, each under its place as its number.
+fn opening_loops(alloc: Global, configs: &[LoopConfig]) -> Result<Vec<LoopCore<Desk>>, AllocError>
+    requires few { length configs.now ≤ 8 }
+    requires depths { All HasDepth configs.now }
+    ensures { IfOk result (λ loops. loops.items ≡ map opening_loop (settings_from 0 configs.now)) }
+{
+    let mut loops = Vec::new(alloc);
+    for (place, config) in configs.iter().enumerate() {
+        loops.push(opening_loop(alloc, config, place as u32)?)?;
+    }
+    Ok(loops)
+}
+
+fn opening_loop(
+    alloc: Global,
+    config: &LoopConfig,
+    loop_no: u32,
+) -> Result<LoopCore<Desk>, AllocError>
+    requires { HasDepth config.now }
+    ensures { IfOk result (λ core. core ≡ opening_loop (setting_from loop_no config.now)) }
+{
+    let desk = Desk::new(alloc, loop_no)?;
+    let linked = Arc::try_clone(&config.linked)?;
+    let settings = config.settings;
+    LoopCore::new(
+        alloc,
+        linked,
+        desk,
+        loop_no,
+        settings.fuel,
+        settings.work_fuel,
+        settings.depth,
+    )
+}
+
+// An empty list of replies for each loop.
+fn no_replies(alloc: Global, loops: usize) -> Result<Vec<VecDeque<Reply>>, AllocError>
+    ensures { IfOk result (λ lists. map (λ d. answers_of d.items) lists.items ≡ replicate loops []) }
+{
+    let mut lists = Vec::new(alloc);
+    for _ in 0..loops {
+        lists.push(VecDeque::new(alloc))?;
+    }
+    Ok(lists)
+}
+
+fn empty_hands(alloc: Global, workers: u32) -> Result<Vec<Hand>, AllocError>
+    ensures { IfOk result (λ hands. hands.items ≡ replicate workers Hand.Empty) }
+{
+    let mut hands = Vec::new(alloc);
+    for _ in 0..workers {
+        hands.push(Hand::Empty)?;
+    }
+    Ok(hands)
+}
+
+impl World {
+    /// A world whose loops have done nothing, with workers that have nothing. There are 1 to 8 loops, each numbered by
+    /// its place, and at most 16 workers; calls may stand 1 to 128 deep. `Memory` comes only where memory was refused,
+    /// or as of a loop's handle table.
+    pub fn new(alloc: Global, config: Config) -> Result<World, WorldFault>
+        requires loops { (1 ≤ length config.loops.items) × (length config.loops.items ≤ 8) }
+        requires workers { config.workers ≤ 16 }
+        requires depths { All HasDepth config.loops.items }
+        ensures opening { IfOk result (λ world. world ≡ opening_world (settings_from 0 config.loops.items) config.workers) }
+        ensures memory { IfErr result (λ fault. fault ≡ WorldFault.Memory) }
+    {
+        Ok(World {
+            alloc,
+            loops: opening_loops(alloc, config.loops.as_slice())?,
+            jobs: VecDeque::with_capacity(alloc, MAX_JOBS)?,
+            hands: empty_hands(alloc, config.workers)?,
+            replies: no_replies(alloc, config.loops.len())?,
+        })
+    }
+
+    /// Takes these steps one after another, and writes what each did behind the log. A step that names a loop, a
+    /// worker or an async that is not there, and one for which there is no memory, is a fault: world and log are then
+    /// as the steps before it left them.
+    pub fn run(&mut self, steps: &[Step], log: &mut Log) -> Result<(), WorldFault>
+        ensures ran { OnOk result ((told : _) × (log.new.entries ≡ log.old.entries ++ told) × WorldRun self.old steps.now told self.new) }
+        ensures stopped { IfErr result (λ fault. (told : _) × (log.new.entries ≡ log.old.entries ++ told) × Stops self.old steps.now fault told self.new) }
+    {
+        for step in steps {
+            self.step(*step, log)?;
+        }
+        Ok(())
+    }
+
+    fn step(&mut self, step: Step, log: &mut Log) -> Result<(), WorldFault>
+        ensures ran { OnOk result ((entry : _) × (log.new.entries ≡ log.old.entries ++ entry ∷ []) × WorldStep self.old step entry self.new) }
+        ensures fault { IfErr result (λ fault. MayFault self.old step fault) }
+        ensures kept { OnErr result (self.new ≡ self.old) }
+        ensures log { OnErr result (log.new.entries ≡ log.old.entries) }
+    {
+        log.reserve()?;
+        let entry = self.take_step(step)?;
+        log.push_reserved(entry);
+        Ok(())
+    }
+
+    fn take_step(&mut self, step: Step) -> Result<Entry, WorldFault>
+        ensures ran { IfOk result (λ entry. WorldStep self.old step entry self.new) }
+        ensures fault { IfErr result (λ fault. MayFault self.old step fault) }
+        ensures kept { OnErr result (self.new ≡ self.old) }
+    {
+        match step {
+            Step::Loop(loop_no) => self.step_loop(loop_no),
+            Step::Post(loop_no) => self.post(loop_no),
+            Step::Take(worker) => self.take(worker),
+            Step::Start(worker) => self.start(worker),
+            Step::Finish(worker) => self.finish(worker),
+            Step::Collect(loop_no) => self.collect(loop_no),
+            Step::Send(loop_no, async_no) => self.send(loop_no, async_no),
+            Step::Cancel(loop_no, request) => self.cancel(loop_no, request),
+            Step::Clock(loop_no, ms) => self.clock(loop_no, ms),
+        }
+    }
+
+    fn step_loop(&mut self, loop_no: u32) -> Result<Entry, WorldFault>
+        ensures ran { IfOk result (λ entry. StepsLoop self.old loop_no entry self.new) }
+        ensures fault { IfErr result (λ fault. MayFault self.old (Step.Loop loop_no) fault) }
+        ensures kept { OnErr result (self.new ≡ self.old) }
+    {
+        let mut emits = Vec::with_capacity(self.alloc, MAX_EMITS)?;
+        let Some(core) = self.loops.get_mut(loop_no as usize) else {
+            return Err(WorldFault::NoSuch);
+        };
+        let did = core.step();
+        let Ok(()) = emits.extend_from_slice(core.emits()) else {
+            unreachable!();
+        };
+        Ok(told(loop_no, did, Items::from_vec(emits)))
+    }
+
+    fn post(&mut self, loop_no: u32) -> Result<Entry, WorldFault>
+        ensures ran { IfOk result (λ entry. Posts self.old loop_no entry self.new) }
+        ensures fault { IfErr result (λ fault. MayFault self.old (Step.Post loop_no) fault) }
+        ensures kept { OnErr result (self.new ≡ self.old) }
+    {
+        let Some(core) = self.loops.get_mut(loop_no as usize) else {
+            return Err(WorldFault::NoSuch);
+        };
+        if core.failed() {
+            return Ok(Entry::Failed { loop_no });
+        }
+        if self.jobs.len() == MAX_JOBS {
+            return Ok(Entry::Post {
+                loop_no,
+                outcome: PostOutcome::Full,
+            });
+        }
+        let Some(order) = core.next_order() else {
+            return Ok(Entry::Post {
+                loop_no,
+                outcome: PostOutcome::Nothing,
+            });
+        };
+        let outcome = PostOutcome::Request(order.request);
+        self.jobs.push_back_reserved(order);
+        Ok(Entry::Post { loop_no, outcome })
+    }
+
+    fn take(&mut self, worker: u32) -> Result<Entry, WorldFault>
+        ensures ran { IfOk result (λ entry. WorldStep self.old (Step.Take worker) entry self.new) }
+        ensures fault { IfErr result (λ fault. MayFault self.old (Step.Take worker) fault) }
+        ensures kept { OnErr result (self.new ≡ self.old) }
+    {
+        let Some(hand) = self.hands.get_mut(worker as usize) else {
+            return Err(WorldFault::NoSuch);
+        };
+        let Hand::Empty = hand else {
+            return Ok(Entry::Take { worker, job: None });
+        };
+        let Some(order) = self.jobs.pop_front() else {
+            return Ok(Entry::Take { worker, job: None });
+        };
+        let job = Some(job_of(&order));
+        *hand = Hand::Taken(order);
+        Ok(Entry::Take { worker, job })
+    }
+
+    fn start(&mut self, worker: u32) -> Result<Entry, WorldFault>
+        ensures ran { IfOk result (λ entry. WorldStep self.old (Step.Start worker) entry self.new) }
+        ensures fault { IfErr result (λ fault. MayFault self.old (Step.Start worker) fault) }
+        ensures kept { OnErr result (self.new ≡ self.old) }
+    {
+        let Some(hand) = self.hands.get_mut(worker as usize) else {
+            return Err(WorldFault::NoSuch);
+        };
+        let Hand::Taken(order) = hand else {
+            return Ok(Entry::Start {
+                worker,
+                outcome: StartOutcome::Nothing,
+            });
+        };
+        let job = job_of(order);
+        let core = &mut self.loops[job.loop_no as usize];
+        if !core.start(order.slot, order.request) {
+            *hand = Hand::Empty;
+            return Ok(Entry::Start {
+                worker,
+                outcome: StartOutcome::Dropped(job),
+            });
+        }
+        let Hand::Taken(order) = mem::replace(hand, Hand::Empty) else {
+            unreachable!();
+        };
+        *hand = Hand::Started(order);
+        Ok(Entry::Start {
+            worker,
+            outcome: StartOutcome::Begun(job),
+        })
+    }
+
+    fn finish(&mut self, worker: u32) -> Result<Entry, WorldFault>
+        ensures ran { IfOk result (λ entry. WorldStep self.old (Step.Finish worker) entry self.new) }
+        ensures fault { IfErr result (λ fault. MayFault self.old (Step.Finish worker) fault) }
+        ensures kept { OnErr result (self.new ≡ self.old) }
+    {
+        let Some(hand) = self.hands.get_mut(worker as usize) else {
+            return Err(WorldFault::NoSuch);
+        };
+        let Hand::Started(order) = hand else {
+            return Ok(Entry::Finish {
+                worker,
+                outcome: FinishOutcome::Nothing,
+            });
+        };
+        let job = job_of(order);
+        let replies = &mut self.replies[job.loop_no as usize];
+        replies.reserve(1)?;
+        let Hand::Started(order) = mem::replace(hand, Hand::Empty) else {
+            unreachable!();
+        };
+        let reply = order.run(self.alloc);
+        let ending = ending_of(&reply.outcome);
+        replies.push_back_reserved(reply);
+        Ok(Entry::Finish {
+            worker,
+            outcome: FinishOutcome::Ended(job, ending),
+        })
+    }
+
+    fn collect(&mut self, loop_no: u32) -> Result<Entry, WorldFault>
+        ensures ran { IfOk result (λ entry. Collects self.old loop_no entry self.new) }
+        ensures fault { IfErr result (λ fault. MayFault self.old (Step.Collect loop_no) fault) }
+        ensures kept { OnErr result (self.new ≡ self.old) }
+    {
+        let Some(core) = self.loops.get_mut(loop_no as usize) else {
+            return Err(WorldFault::NoSuch);
+        };
+        if core.failed() {
+            return Ok(Entry::Failed { loop_no });
+        }
+        let Some(reply) = self.replies[loop_no as usize].pop_front() else {
+            return Ok(Entry::Collect {
+                loop_no,
+                outcome: CollectOutcome::Nothing,
+            });
+        };
+        let request = reply.order.request;
+        let outcome = match core.accept(reply) {
+            Accepted::Accepted => CollectOutcome::Request(request),
+            Accepted::Stranger(_) => CollectOutcome::Stranger,
+        };
+        Ok(Entry::Collect { loop_no, outcome })
+    }
+
+    fn send(&mut self, loop_no: u32, async_no: u32) -> Result<Entry, WorldFault>
+        ensures ran { IfOk result (λ entry. SendsTo self.old loop_no async_no entry self.new) }
+        ensures fault { IfErr result (λ fault. MayFault self.old (Step.Send loop_no async_no) fault) }
+        ensures kept { OnErr result (self.new ≡ self.old) }
+    {
+        if async_no >= MAX_ASYNCS {
+            return Err(WorldFault::NoSuch);
+        }
+        let Some(core) = self.loops.get_mut(loop_no as usize) else {
+            return Err(WorldFault::NoSuch);
+        };
+        let is_refused = !core.sent(async_no);
+        Ok(Entry::Send {
+            loop_no,
+            async_no,
+            is_refused,
+        })
+    }
+
+    fn cancel(&mut self, loop_no: u32, request: u32) -> Result<Entry, WorldFault>
+        ensures ran { IfOk result (λ entry. Cancels self.old loop_no request entry self.new) }
+        ensures fault { IfErr result (λ fault. MayFault self.old (Step.Cancel loop_no request) fault) }
+        ensures kept { OnErr result (self.new ≡ self.old) }
+    {
+        let Some(core) = self.loops.get_mut(loop_no as usize) else {
+            return Err(WorldFault::NoSuch);
+        };
+        if core.failed() {
+            return Ok(Entry::Failed { loop_no });
+        }
+        let answer = core.cancel(request);
+        Ok(Entry::Cancel {
+            loop_no,
+            request,
+            answer,
+        })
+    }
+
+    fn clock(&mut self, loop_no: u32, ms: u64) -> Result<Entry, WorldFault>
+        ensures ran { IfOk result (λ entry. Clocks self.old loop_no ms entry self.new) }
+        ensures fault { IfErr result (λ fault. MayFault self.old (Step.Clock loop_no ms) fault) }
+        ensures kept { OnErr result (self.new ≡ self.old) }
+    {
+        let Some(core) = self.loops.get_mut(loop_no as usize) else {
+            return Err(WorldFault::NoSuch);
+        };
+        if core.failed() {
+            return Ok(Entry::Failed { loop_no });
+        }
+        let clock = core.clock(ms);
+        Ok(Entry::Clock { loop_no, clock })
+    }
+}

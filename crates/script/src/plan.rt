@@ -1,0 +1,76 @@
+// What a script asks for.
+
+ghost use Rattle.std.specs.Prelude.{◌≡◌, IsTrue, ◌↔◌};
+
+use world_log::{LoopSettings, Step};
+
+/// The most modules of a script.
+const MAX_MODULES: usize = 8;
+
+/// The most loops of a script.
+const MAX_LOOPS: usize = 8;
+
+/// The most workers of a script.
+const MAX_WORKERS: u32 = 16;
+
+/// The most steps of a script.
+const MAX_STEPS: usize = 65_536;
+
+/// The greatest call depth of a loop.
+const MAX_DEPTH: u32 = 128;
+
+/// A loop of a script.
+#[derive(Clone, Copy, Debug, PartialEq, Eq)]
+pub struct LoopPlan {
+    /// Which of the script's modules the loop runs, counted from 0.
+    pub module: u32,
+    /// What its callbacks and work functions may spend.
+    pub settings: LoopSettings,
+}
+
+/// What a script asks for: a world, and the steps that it is to take.
+#[derive(Debug, Drop)]
+pub struct Plan {
+    /// The bytes of each module.
+    pub modules: Vec<Vec<u8>>,
+    /// The loops, in order of their numbers.
+    pub loops: Vec<LoopPlan>,
+    /// How many workers there are.
+    pub workers: u32,
+    /// The steps, the first one first.
+    pub steps: Vec<Step>,
+}
+
+impl Plan {
+    ghost use Rattle.script.specs.Limits.{IsWithinLimits};
+
+    /// Whether there are 1 to 8 modules, 1 to 8 loops, at most 16 workers and at most 65,536 steps, and each loop has a
+    /// module that is there and a depth of 1 to 128.
+    pub(crate) fn is_within_limits(&self) -> bool
+        ensures { IsTrue result ↔ IsWithinLimits self.now }
+    {
+        let modules = self.modules.len();
+        let loops = self.loops.len();
+        modules >= 1
+            && modules <= MAX_MODULES
+            && loops >= 1
+            && loops <= MAX_LOOPS
+            && self.workers <= MAX_WORKERS
+            && self.steps.len() <= MAX_STEPS
+            && self
+                .loops
+                .iter()
+                .all(|planned| planned.is_within_limits(modules))
+    }
+}
+
+impl LoopPlan {
+    ghost use Rattle.script.specs.Limits.{IsLoopWithinLimits};
+
+    fn is_within_limits(&self, modules: usize) -> bool
+        ensures { IsTrue result ↔ IsLoopWithinLimits modules self.now }
+    {
+        let depth = self.settings.depth;
+        (self.module as usize) < modules && depth >= 1 && depth <= MAX_DEPTH
+    }
+}

@@ -7,7 +7,7 @@ use Rattle.syntax.specs.declared.module.ExternKind.TheVariants.{Func}
 use Rattle.syntax.specs.Exporting.{IsFirst}
 use Rattle.interp.specs.declared.ended.Ended.{Ended}
 use Rattle.wasmloop.specs.declared.command.Command.{Command}
-use Rattle.wasmloop.specs.declared.command.Command.TheVariants.{Check, Invoke, Work}
+use Rattle.wasmloop.specs.declared.command.Command.TheVariants.{Check, Invoke, Work, Script}
 use Rattle.wasmloop.specs.declared.command.Invocation.{Invocation}
 use Rattle.wasmloop.specs.declared.calling.Called.TheVariants.{Function}
 use Rattle.wasmloop.specs.Accepted.{Holds}
@@ -33,3 +33,5 @@ IsDone gives before after (Check file) = ((contents : Contents) × Holds gives (
 IsDone gives before after (Invoke invocation) = HasInvoked gives invocation
 -- what comes of a work order is the reply's own fact
 IsDone gives before after (Work order) = Unit {0}
+-- the log of a script is the world's
+IsDone gives before after (Script file) = Unit {0}

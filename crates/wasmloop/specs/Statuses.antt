@@ -11,6 +11,7 @@ abbrev pub status_of_failure : Failure → Status
 status_of_failure failure.File = status.Failed
 status_of_failure failure.Memory = status.Failed
 status_of_failure failure.Output = status.Failed
+status_of_failure (failure.Script _) = status.Failed
 status_of_failure (failure.Decode _) = status.Refused
 status_of_failure (failure.Validate _) = status.Refused
 status_of_failure (failure.Link _) = status.Refused

@@ -48,4 +48,6 @@ pub enum Command {
     Invoke(Invocation),
     /// Lets a module compute a reply.
     Work(WorkOrder),
+    /// Takes the steps of a script.
+    Script { file: String },
 }

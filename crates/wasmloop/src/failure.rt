@@ -7,9 +7,11 @@ use crate::status::Status;
 use decode::DecodeFault;
 use imports::LinkFault;
 use instance::fault::InstFault;
+use script::ScriptFault;
 use std::alloc::{AllocError, AllocFailed};
 use std::{fmt, io};
 use validate::ValidFault;
+use world::WorldFault;
 
 /// Why a command has no result.
 #[derive(Clone, Copy, Debug, PartialEq, Eq)]
@@ -26,6 +28,8 @@ pub enum Failure<'a> {
     Validate(ValidFault),
     /// The module doesn't fit the host.
     Link(LinkFault),
+    /// The file is no script.
+    Script(ScriptFault),
     /// The module exports no function of this name.
     NoFunction(&'a str),
     /// The words are not the arguments that the function takes.
@@ -40,7 +44,9 @@ impl Failure<'_> {
         ensures { result ≡ status_of_failure self.entry }
     {
         match self {
-            Failure::File | Failure::Memory | Failure::Output => Status::Failed,
+            Failure::File | Failure::Memory | Failure::Output | Failure::Script(_) => {
+                Status::Failed
+            }
             Failure::Decode(_) | Failure::Validate(_) | Failure::Link(_) => Status::Refused,
             Failure::NoFunction(_) | Failure::Arguments => Status::Usage,
         }
@@ -56,13 +62,14 @@ impl fmt::Display for Failure<'_> {
             Failure::Decode(fault) => refusal(f, "decode", fault.code(), fault),
             Failure::Validate(fault) => refusal(f, "validate", fault.code(), fault),
             Failure::Link(fault) => refusal(f, "link", fault.code(), fault),
+            Failure::Script(fault) => refusal(f, "script", fault.code(), fault),
             Failure::NoFunction(name) => write!(f, "no function {name}"),
             Failure::Arguments => f.write_str("arguments"),
         }
     }
 }
 
-/// The line of a refused module: what refused it, and the fault's number and word.
+/// The line of a refused module or script: what refused it, and the fault's number and word.
 fn refusal<W: fmt::Write>(
     f: &mut fmt::Formatter<W>,
     step: &str,
@@ -102,6 +109,22 @@ impl From<ValidFault> for Failure<'_> {
 impl From<LinkFault> for Failure<'_> {
     fn from(fault: LinkFault) -> Self {
         Failure::Link(fault)
+    }
+}
+
+impl From<ScriptFault> for Failure<'_> {
+    fn from(fault: ScriptFault) -> Self {
+        match fault {
+            ScriptFault::Memory => Failure::Memory,
+            _ => Failure::Script(fault),
+        }
+    }
+}
+
+/// A world is refused for want of memory alone.
+impl From<WorldFault> for Failure<'_> {
+    fn from(_fault: WorldFault) -> Self {
+        Failure::Memory
     }
 }
 

@@ -12,6 +12,7 @@ mod number;
 mod perform;
 mod refused;
 mod refusing;
+mod scripting;
 mod status;
 mod words;
 mod work;

@@ -14,6 +14,7 @@ use crate::failure::Failure;
 use crate::file::Reader;
 use crate::line::EndedLine;
 use crate::loading::load;
+use crate::scripting::script;
 use crate::status::Status;
 use crate::work::work;
 use std::alloc::Global;
@@ -100,7 +101,7 @@ fn tell<O: Write, E: Write>(failure: Failure<'_>, out: &mut O, err: &mut E) -> S
 /// Performs the command. Results are written to `out`, and messages to `err`.
 ///
 /// The answer is what the program ends with: 0 done; 1 the file, the memory or the output stood in the way; 2 the
-/// words ask for what isn't there; 3 the module is refused; 4 the call ended otherwise than by return.
+/// words ask for what isn't there; 3 the module is refused; 4 the call ended otherwise than by return, or a loop failed.
 pub fn perform<R: Reader, O: Write, E: Write>(
     alloc: Global,
     command: &Command,
@@ -115,6 +116,7 @@ pub fn perform<R: Reader, O: Write, E: Write>(
         Command::Check { file } => check(alloc, file.as_str(), reader, out),
         Command::Invoke(invocation) => invoke(alloc, invocation, reader, out),
         Command::Work(order) => work(alloc, order, reader, out),
+        Command::Script { file } => script(alloc, file.as_str(), reader, out),
     };
     let status = match result {
         Ok(status) => status,

@@ -1,5 +1,6 @@
 mod check;
 mod invoke;
+mod scripts;
 mod words;
 mod work;
 

@@ -87,6 +87,17 @@ fn work_words<'a>(alloc: Global) -> Result<clap::Command<'a>, AllocError> {
         .arg(depth_option(alloc))
 }
 
+fn script_words<'a>(alloc: Global) -> Result<clap::Command<'a>, AllocError> {
+    let file = Arg::new(alloc, "file")
+        .required(true)
+        .value_name("FILE")
+        .help("The script, in JSON: modules, loops, workers and steps");
+    clap::Command::new(alloc, "script")
+        .about("Takes the steps of a script one by one, and prints the log")
+        .after_help("Example:\n  wasmloop script examples/timer.json")
+        .arg(file)
+}
+
 fn program_words<'a>(alloc: Global) -> Result<clap::Command<'a>, AllocError> {
     clap::Command::new(alloc, "wasmloop")
         .version("0.1.0")
@@ -95,7 +106,8 @@ fn program_words<'a>(alloc: Global) -> Result<clap::Command<'a>, AllocError> {
         .after_help("Example:\n  wasmloop work examples/m2.wasm 41 00ff")
         .subcommand(check_words(alloc)?)?
         .subcommand(invoke_words(alloc)?)?
-        .subcommand(work_words(alloc)?)
+        .subcommand(work_words(alloc)?)?
+        .subcommand(script_words(alloc)?)
 }
 
 fn refused(alloc: Global, error: clap::Error) -> Refused {
@@ -186,6 +198,11 @@ fn work(alloc: Global, matches: &ArgMatches<'_>) -> Result<Command, Refused> {
     }))
 }
 
+fn script(alloc: Global, matches: &ArgMatches<'_>) -> Result<Command, Refused> {
+    let file = text(alloc, matches, "file")?;
+    Ok(Command::Script { file })
+}
+
 /// The command that the words ask for. The first of them is the program's name.
 pub fn parse(alloc: Global, words: &[String]) -> Result<Command, Refused> {
     let mut program = program_words(alloc)?;
@@ -197,6 +214,7 @@ pub fn parse(alloc: Global, words: &[String]) -> Result<Command, Refused> {
         Some(("check", found)) => check(alloc, found),
         Some(("invoke", found)) => invoke(alloc, found),
         Some(("work", found)) => work(alloc, found),
+        Some(("script", found)) => script(alloc, found),
         _ => Err(refused(
             alloc,
             program.error(ErrorKind::MissingSubcommand, "a command is missing")?,

@@ -1,9 +1,8 @@
 -- What a world is made of, and how its code reads.
-use Rattle.std.specs.Prelude.{◌≡◌, ◌≤◌, ℕ, ◌+◌, ◌<◌, ◌⊎◌, List, [], ◌∷◌, ◌++◌, All, Some, length, map, slice_get, take}
+use Rattle.std.specs.Prelude.{◌≡◌, ◌≤◌, ℕ, ◌+◌, ◌<◌, ◌⊎◌, List, [], ◌∷◌, All, Some, length, map, slice_get, take}
 use Rattle.std.specs.Arc.{arc_value}
 use Rattle.order.specs.declared.request.Order.{Order}
 use Rattle.order.specs.declared.reply.Reply.{Reply}
-use Rattle.order.specs.Work.{WorkOrder}
 use Rattle.order.specs.Orders.{order_of, end_of}
 use Rattle.phases.specs.Keeping.{CanRun}
 use Rattle.phases.specs.State.{Setting, Loop}

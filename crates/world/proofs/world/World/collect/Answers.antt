@@ -1,11 +1,8 @@
-use Rattle.std.proofs.Common.{◌≡◌, ◌<◌, [], ◌∷◌, length, map, Some, sym, ap, subst, ◌∙◌}
+use Rattle.std.proofs.Common.{◌≡◌, ◌<◌, [], length, map, Some, sym, ap, subst, ◌∙◌}
 use Rattle.std.specs.Prelude.{slice_set}
 use Rattle.std.specs.VecDeque.{deque_capacity}
 use Rattle.std.proofs.lemmas.List.{length-map, length-set}
-use Rattle.phases.specs.Accepting.{Accepts}
-use Rattle.world_log.specs.declared.entry.Entry.TheVariants as line
-use Rattle.world.specs.Making.{answer_of, answers_of, IsKept}
-use Rattle.world.specs.World.{Collects}
+use Rattle.world.specs.Making.{answers_of, IsKept}
 use Rattle.world.proofs.Sets.{kept_set, map_set}
 use Rattle.world.proofs.Turning.{read}
 use Rattle.world.proofs.Collecting.{reads_at, emptied, collect_failed, collect_nothing, collect_taken, collect_stranger}

@@ -1,4 +1,4 @@
-use Rattle.std.proofs.Common.{◌≡◌, [], length, map, replicate, sym, ap, ◌∙◌}
+use Rattle.std.proofs.Common.{[], map, replicate, ap, ◌∙◌}
 use Rattle.world.specs.Making.{settings_from, answers_of}
 use Rattle.world.specs.World.{opening_loop}
 use Rattle.world.proofs.Opening.{opening_kept, opening_is}

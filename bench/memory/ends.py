@@ -1,0 +1,202 @@
+#!/usr/bin/env python3
+"""Refuses a program each of its allocations in turn, and looks at how it ends.
+
+    python3 ends.py PROGRAM GOING_ON REFUSE
+
+PROGRAM is the program, GOING_ON the same but that it goes on with a script's next steps where a step found no memory,
+and REFUSE the library of refuse.c. Each command is run with its first allocation refused, then with its second, until a
+run in which none is refused. Every run has to end as with memory or by a named want of memory. The status is 1 where
+one ends otherwise, or where a named end never came.
+"""
+import collections
+import os
+import pathlib
+import subprocess
+import sys
+import tempfile
+
+EXAMPLES = pathlib.Path(__file__).resolve().parents[2] / "examples"
+
+# No command takes so many allocations.
+MOST_RUNS = 5000
+
+SECONDS = 60
+
+End = collections.namedtuple("End", "out err status")
+
+Command = collections.namedtuple("Command", "name words whole others")
+
+MEMORY = End("", "memory\n", 1)
+
+NO_MEMORY = End("nomemory\n", "", 4)
+
+FAULT = "fault 2\n"
+
+WORK_LOG = """\
+loop 0 run main 0 return used 5
+post 0 request 1
+take 0 loop 0 request 1
+start 0 loop 0 request 1 begun
+finish 0 loop 0 request 1 done 6
+collect 0 request 1
+loop 0 enter timers 0
+loop 0 enter idle 0
+loop 0 enter poll 0
+loop 0 run after 1 return used 4 emit 6
+"""
+
+# `queue_work` is refused memory, so that there is no request.
+UNQUEUED_LOG = """\
+loop 0 run main 0 return used 5
+post 0 none
+take 0 none
+start 0 none
+finish 0 none
+collect 0 none
+loop 0 over
+loop 0 over
+loop 0 over
+loop 0 over
+"""
+
+# The instance of the work is refused memory, and the guest is told so.
+UNWORKED_LOG = WORK_LOG.replace("done 6", "nomemory").replace("emit 6", "emit -12")
+
+TIMER_LOG = """\
+loop 0 run main 0 return used 6
+clock 0 50
+loop 0 enter timers 50
+loop 0 run timer 0 return used 3 emit 50
+loop 0 enter idle 50
+loop 0 enter poll 50
+loop 0 enter check 50
+loop 0 enter closing 50
+loop 0 over
+"""
+
+
+def done(text):
+    return End(text, "", 0)
+
+
+COMMANDS = [
+    Command("check m4", ["check", "m4.wasm"], done("accepted\n"), {}),
+    Command("invoke m8 f 0", ["invoke", "m8.wasm", "f", "0"], done("return 7 used 3\n"), {}),
+    Command(
+        "work m3 5 616263",
+        ["work", "m3.wasm", "5", "616263"],
+        done("done 8 bytes 3 616263\n"),
+        {"nomemory": NO_MEMORY},
+    ),
+]
+
+SCRIPTS = [
+    Command(
+        "script work",
+        ["script", "work.json"],
+        done(WORK_LOG),
+        {"queue_work answers -12": done(UNQUEUED_LOG), "nomemory": done(UNWORKED_LOG)},
+    ),
+    Command("script timer", ["script", "timer.json"], done(TIMER_LOG), {}),
+]
+
+
+class Wrong(Exception):
+    pass
+
+
+def run(program, refuse, words, number):
+    """How the program ends with the allocation of this number refused, and whether it came to that allocation."""
+    with tempfile.TemporaryDirectory() as folder:
+        mark = os.path.join(folder, "mark")
+        given = {"LD_PRELOAD": refuse, "REFUSED": str(number), "REFUSED_MARK": mark}
+        ran = subprocess.run(
+            [program, *words], cwd=EXAMPLES, env=given, capture_output=True, timeout=SECONDS
+        )
+        end = End(ran.stdout.decode(), ran.stderr.decode(), ran.returncode)
+        return end, os.path.exists(mark)
+
+
+def is_stopped(command, end):
+    """Whether a script's log is cut behind some of its lines, and a fault is told there."""
+    if end.err or end.status != 1 or not end.out.endswith(FAULT):
+        return False
+    told = end.out[: -len(FAULT)].splitlines()
+    whole = command.whole.out.splitlines()
+    return len(told) < len(whole) and told == whole[: len(told)]
+
+
+def name_of(command, end, is_script):
+    """The name of this end of a run that was refused memory."""
+    if is_script and is_stopped(command, end):
+        return "fault 2"
+    named = {"whole": command.whole, "memory": MEMORY, **command.others}
+    for name, other in named.items():
+        if end == other:
+            return name
+    return None
+
+
+def refuse_in_turn(program, refuse, command, is_script):
+    """The names of the ends, by the number of the refused allocation. The run without refusal isn't among them."""
+    names = {}
+    for number in range(1, MOST_RUNS):
+        end, is_refused = run(program, refuse, command.words, number)
+        if not is_refused:
+            if end != command.whole:
+                raise Wrong(f"{command.name}: with memory: {end}")
+            return names
+        names[number] = name_of(command, end, is_script)
+        if names[number] is None:
+            raise Wrong(f"{command.name}: allocation {number} refused: {end}")
+    raise Wrong(f"{command.name}: no run without refusal")
+
+
+def tell(command, names):
+    counts = collections.Counter(names.values())
+    told = ", ".join(f"{count} {name}" for name, count in counts.items())
+    print(f"{command.name}: {len(names) + 1} runs: {told}, 1 with all memory", flush=True)
+
+
+def expect(command, names, expected):
+    for name in expected:
+        if name not in names.values():
+            raise Wrong(f"{command.name}: no run ended so: {name}")
+
+
+def go_on(program, refuse, command, names):
+    """Where a step found no memory, the run goes on to the whole log."""
+    stopped = [number for number, name in names.items() if name == "fault 2"]
+    for number in stopped:
+        end, _ = run(program, refuse, command.words, number)
+        if end != command.whole:
+            raise Wrong(f"{command.name}: going on behind allocation {number}: {end}")
+    print(f"{command.name}: {len(stopped)} runs went on behind a fault to the whole log", flush=True)
+
+
+def refuse_all(program, going_on, refuse):
+    for command in COMMANDS:
+        names = refuse_in_turn(program, refuse, command, False)
+        tell(command, names)
+        expect(command, names, ["memory", *command.others])
+    for command in SCRIPTS:
+        names = refuse_in_turn(program, refuse, command, True)
+        tell(command, names)
+        expect(command, names, ["memory", "fault 2", *command.others])
+        go_on(going_on, refuse, command, names)
+
+
+def main(words):
+    if len(words) != 3:
+        print(__doc__)
+        return 2
+    try:
+        refuse_all(*(os.path.abspath(word) for word in words))
+    except Wrong as wrong:
+        print(wrong)
+        return 1
+    return 0
+
+
+if __name__ == "__main__":
+    sys.exit(main(sys.argv[1:]))

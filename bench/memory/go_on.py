@@ -1,0 +1,38 @@
+#!/usr/bin/env python3
+"""Lets the program go on with the next steps of a script where one found no memory.
+
+    python3 go_on.py SCRIPTING
+
+SCRIPTING is the program's file scripting.rt, which is changed in place.
+"""
+import pathlib
+import sys
+
+RUN = """\
+    let ran = world.run(plan.steps.as_slice(), &mut log);
+"""
+
+RUN_AND_GO_ON = """\
+    let mut ran = world.run(plan.steps.as_slice(), &mut log);
+    let done = log.entries().len();
+    if let Some(rest) = plan.steps.as_slice().get(done..) {
+        ran = world.run(rest, &mut log);
+    }
+"""
+
+
+def main(words):
+    if len(words) != 1:
+        print(__doc__)
+        return 2
+    file = pathlib.Path(words[0])
+    text = file.read_text()
+    if text.count(RUN) != 1:
+        print(f"{file} doesn't take a script's steps by one call")
+        return 1
+    file.write_text(text.replace(RUN, RUN_AND_GO_ON))
+    return 0
+
+
+if __name__ == "__main__":
+    sys.exit(main(sys.argv[1:]))

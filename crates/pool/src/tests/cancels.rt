@@ -1,16 +1,15 @@
 // A loop cancels a request at each point of its job's way.
-ghost use Rattle.std.specs.Prelude.{◌≡◌, length};
+ghost use Rattle.std.specs.Prelude.{◌≡◌};
 ghost use Rattle.std.specs.Thread.{IsSync};
-ghost use Rattle.board.specs.Boards.{IsPassOf};
 
-use super::{Open, comes, job_of, module, one_of_each, ticket, with_two_passes};
-use crate::{Did, Gate, Point, work_one};
-use board::{Board, Pass};
-use claims::{Claims, LoopSeat, Ticket, WorkerSeat};
-use imports::Linked;
+use super::hall::{End, Hall, LoopSide, WorkerSide, ticket};
+use super::jobs::Jobs;
+use super::{Open, comes};
+use crate::{Gate, Point};
+use claims::Ticket;
 use std::alloc::Global;
+use std::sync::Wait;
 use std::sync::atomic::{AtomicU64, Ordering};
-use std::sync::{Arc, Wait};
 use std::test::Fail;
 use std::thread;
 use std::thread::Threads;
@@ -51,172 +50,134 @@ impl Gate for HoldAt {
     }
 }
 
-// What the worker did, with the request's number.
-#[derive(Clone, Copy, Debug, PartialEq, Eq)]
-enum End {
-    Nothing,
-    Dropped(u32),
-    Replied(u32),
-    Stuck(u32),
-}
-
-fn end_of(did: Did) -> End {
-    match did {
-        Did::Nothing => End::Nothing,
-        Did::Dropped(ticket) => End::Dropped(ticket.request),
-        Did::Replied(ticket) => End::Replied(ticket.request),
-        Did::Stuck(reply) => End::Stuck(reply.order.request),
-    }
-}
-
-// What was seen of request 1: what two tries to cancel it answered, what the worker did, how often the box was called,
-// and of which request a reply came.
-#[derive(Clone, Copy, Debug, PartialEq, Eq)]
+// What was seen of request 1: whether it was posted, what two tries to cancel it answered, what the worker did, whether
+// the turns ran out, of which request a reply came, and how often the box was called.
+#[derive(Clone, Copy, Debug, PartialEq)]
 struct Seen {
+    posted: bool,
     cancelled: (bool, bool),
     end: End,
-    calls: u64,
+    ran_out: bool,
     reply: Option<u32>,
+    calls: u64,
 }
 
-const DROPPED: Seen = Seen {
-    cancelled: (true, false),
-    end: End::Dropped(1),
-    calls: 0,
-    reply: None,
-};
-
-const REPLIED: Seen = Seen {
-    cancelled: (false, false),
-    end: End::Replied(1),
-    calls: 1,
-    reply: Some(1),
-};
+// Where the request is cancelled.
+#[derive(Clone, Copy, Debug)]
+enum When {
+    Opened,
+    Posted,
+    HeldAt(Point),
+}
 
 // What two tries to cancel request 1 answer.
-fn cancel_twice(claims: &Claims, seat: &mut LoopSeat) -> (bool, bool)
-    requires { (seat.old.claims ≡ claims.now.id) × (seat.old.loop_no ≡ 0) }
-    ensures { seat.new.claims ≡ claims.now.id }
-{
-    let first = claims.cancel(seat, ticket(1));
-    (first, claims.cancel(seat, ticket(1)))
+fn cancel_twice(side: &mut LoopSide<'_>) -> (bool, bool) {
+    (side.cancel(1), side.cancel(1))
 }
 
 // Cancels request 1 once its job is held, and then lets the job go.
-fn cancel_while_held(claims: &Claims, mut seat: LoopSeat, hold: &HoldAt) -> (bool, bool)
-    requires { (seat.claims ≡ claims.now.id) × (seat.loop_no ≡ 0) }
-{
+fn cancel_while_held(side: &mut LoopSide<'_>, hold: &HoldAt) -> (bool, bool) {
     hold.wait_for(&hold.reached);
-    let answers = cancel_twice(claims, &mut seat);
+    let answers = cancel_twice(side);
     hold.let_go.store(1, Ordering::SeqCst);
     answers
 }
 
 // A worker takes the job in a thread of its own, and the loop cancels while the job is held.
-fn work_and_cancel<R: Threads + Wait + Sync>(
+fn held<R: Threads + Wait + Sync>(
     rt: &R,
-    board: &Board,
-    mut pass: Pass,
-    claims: &Claims,
-    mut worker: WorkerSeat,
-    loop_seat: LoopSeat,
-    hold: &HoldAt,
-) -> (End, (bool, bool))
-    requires worker { IsPassOf board.now pass × (worker.claims ≡ claims.now.id) }
-    requires loops { length board.now.replies ≡ claims.now.loops }
-    requires canceller { (loop_seat.claims ≡ claims.now.id) × (loop_seat.loop_no ≡ 0) }
-{
-    thread::join(
-        rt,
-        move || -> End
-            requires sync { IsSync R.row }
-            requires worker { IsPassOf board.now pass × (worker.claims ≡ claims.now.id) }
-            requires loops { length board.now.replies ≡ claims.now.loops }
-        { end_of(work_one(rt, board, &mut pass, claims, &mut worker, hold)) },
-        move || -> (bool, bool)
-            requires { (loop_seat.claims ≡ claims.now.id) × (loop_seat.loop_no ≡ 0) }
-        { cancel_while_held(claims, loop_seat, hold) },
-    )
-}
-
-// What is seen where the request is cancelled while its job is held at a point.
-fn cancelled_at<R: Threads + Wait + Sync>(
-    rt: &R,
-    alloc: Global,
-    module: &Arc<Linked>,
+    side: &mut LoopSide<'_>,
+    worker: &mut WorkerSide<'_>,
     point: Point,
-) -> Result<Seen, Fail> {
-    let calls = Arc::new(alloc, AtomicU64::new(0))?;
-    let (claims, mut loop_seat, worker) = one_of_each(alloc)?;
-    let (board, mut own, pass) = with_two_passes(alloc)?;
-    claims.open(&mut loop_seat, 0, 1);
-    if board
-        .post(rt, &mut own, job_of(alloc, module, ticket(1), &calls)?)
-        .is_err()
-    {
-        return Err(Fail::from("a full board"));
-    }
+) -> (End, (bool, bool), bool) {
     let hold = HoldAt::new(point);
-    let (end, cancelled) = work_and_cancel(rt, &board, pass, &claims, worker, loop_seat, &hold);
-    if hold.ran_out.load(Ordering::SeqCst) == 1 {
-        return Err(Fail::from("the turns ran out"));
-    }
-    let reply = board.collect(rt, &mut own, 0);
+    let (end, cancelled) = thread::join(
+        rt,
+        || -> End
+            requires { IsSync R.row }
+        { worker.turn(rt, &hold) },
+        || cancel_while_held(side, &hold),
+    );
+    (end, cancelled, hold.ran_out.load(Ordering::SeqCst) == 1)
+}
+
+// The loop cancels before the worker looks at the board.
+fn early<R: Wait>(
+    rt: &R,
+    side: &mut LoopSide<'_>,
+    worker: &mut WorkerSide<'_>,
+) -> (End, (bool, bool), bool) {
+    let cancelled = cancel_twice(side);
+    (worker.turn(rt, &Open), cancelled, false)
+}
+
+fn turn<R: Threads + Wait + Sync>(
+    rt: &R,
+    jobs: &Jobs,
+    side: &mut LoopSide<'_>,
+    worker: &mut WorkerSide<'_>,
+    when: When,
+) -> Result<Seen, Fail> {
+    side.open()?;
+    let posted = match when {
+        When::Opened => false,
+        When::Posted | When::HeldAt(_) => side.post(rt),
+    };
+    let (end, cancelled, ran_out) = match when {
+        When::HeldAt(point) => held(rt, side, worker, point),
+        When::Opened | When::Posted => early(rt, side, worker),
+    };
     Ok(Seen {
+        posted,
         cancelled,
         end,
-        calls: calls.load(Ordering::SeqCst),
-        reply: reply.map(|reply| reply.order.request),
+        ran_out,
+        reply: side.collect(rt),
+        calls: jobs.called(),
     })
 }
 
-// What is seen where the request is cancelled before a worker looks at the board.
-fn cancelled_early<R: Wait>(
-    rt: &R,
-    alloc: Global,
-    module: &Arc<Linked>,
-    is_posted: bool,
-) -> Result<Seen, Fail> {
-    let calls = Arc::new(alloc, AtomicU64::new(0))?;
-    let (claims, mut loop_seat, mut worker) = one_of_each(alloc)?;
-    let (board, mut own, mut pass) = with_two_passes(alloc)?;
-    claims.open(&mut loop_seat, 0, 1);
-    let job = job_of(alloc, module, ticket(1), &calls)?;
-    if is_posted && board.post(rt, &mut own, job).is_err() {
-        return Err(Fail::from("a full board"));
-    }
-    let cancelled = cancel_twice(&claims, &mut loop_seat);
-    let end = end_of(work_one(rt, &board, &mut pass, &claims, &mut worker, &Open));
-    let reply = board.collect(rt, &mut own, 0);
-    Ok(Seen {
-        cancelled,
-        end,
-        calls: calls.load(Ordering::SeqCst),
-        reply: reply.map(|reply| reply.order.request),
-    })
+fn cancelled<R: Threads + Wait + Sync>(rt: &R, alloc: Global, when: When) -> Result<Seen, Fail> {
+    let jobs = Jobs::new(alloc)?;
+    let (hall, gear) = Hall::new(alloc, 1)?;
+    let (mut side, mut spares) = hall.settle(jobs.in_turn(1)?, gear)?;
+    let mut worker = spares.worker()?;
+    turn(rt, &jobs, &mut side, &mut worker, when)
 }
 
 #[test]
 fn a_request_is_cancelled_until_it_is_started(rt: HostRuntime) -> Result<(), Fail> {
-    let alloc = rt.alloc();
-    let module = module(alloc)?;
-    let open = cancelled_early(&rt, alloc, &module, false)?;
-    let never_run = Seen {
-        end: End::Nothing,
-        ..DROPPED
+    let dropped = Seen {
+        posted: true,
+        cancelled: (true, false),
+        end: End::Dropped(ticket(1)),
+        ran_out: false,
+        reply: None,
+        calls: 0,
     };
-    assert_eq!(rt; open, never_run);
-    let posted = cancelled_early(&rt, alloc, &module, true)?;
-    assert_eq!(rt; posted, DROPPED);
-    let points = [
-        (Point::Taken, DROPPED),
-        (Point::Started, REPLIED),
-        (Point::Finished, REPLIED),
-        (Point::Replied, REPLIED),
+    let never_run = Seen {
+        posted: false,
+        end: End::Nothing,
+        ..dropped
+    };
+    let replied = Seen {
+        cancelled: (false, false),
+        end: End::Replied(ticket(1)),
+        reply: Some(1),
+        calls: 1,
+        ..dropped
+    };
+    let cases = [
+        (When::Opened, never_run),
+        (When::Posted, dropped),
+        (When::HeldAt(Point::Taken), dropped),
+        (When::HeldAt(Point::Started), replied),
+        (When::HeldAt(Point::Finished), replied),
+        (When::HeldAt(Point::Replied), replied),
     ];
-    for (point, expected) in points {
-        let seen = cancelled_at(&rt, alloc, &module, point)?;
-        assert_eq!(rt; seen, expected, "{point:?}");
+    for (when, expected) in cases {
+        let seen = cancelled(&rt, rt.alloc(), when)?;
+        assert_eq!(rt; seen, expected, "{when:?}");
     }
     Ok(())
 }

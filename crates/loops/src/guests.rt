@@ -1,0 +1,56 @@
+// Guests, from hexadecimal digits to a loop.
+
+use decode::decode;
+use desk::Desk;
+use imports::{Linked, link};
+use phases::LoopCore;
+use std::alloc::{AllocError, Global};
+use std::sync::Arc;
+use std::test::Fail;
+use validate::validate;
+
+/// What a module begins with.
+const OPENING: &str = "0061736d01000000";
+
+/// The fuel of a callback, and of a work function.
+pub const FUEL: u64 = 100_000;
+
+/// How many calls may stand open.
+pub const DEPTH: u32 = 8;
+
+fn push_digits(alloc: Global, bytes: &mut Vec<u8>, digits: &str) -> Result<(), Fail> {
+    for word in digits.split_whitespace() {
+        bytes.extend_from_slice(hex::decode(alloc, word)?.as_slice())?;
+    }
+    Ok(())
+}
+
+fn link_bytes(alloc: Global, bytes: Vec<u8>) -> Result<Arc<Linked>, Fail> {
+    let valid = validate(alloc, decode(alloc, bytes)?)?;
+    Ok(Arc::new(alloc, link(valid)?)?)
+}
+
+/// The guest with these sections, in hexadecimal digits between which spaces may stand.
+pub fn linked_of(alloc: Global, sections: &str) -> Result<Arc<Linked>, Fail> {
+    let mut bytes = hex::decode(alloc, OPENING)?;
+    push_digits(alloc, &mut bytes, sections)?;
+    link_bytes(alloc, bytes)
+}
+
+/// The same guest with a section behind it that says nothing, so that its bytes are others.
+pub fn with_custom_section(alloc: Global, guest: &Linked) -> Result<Arc<Linked>, Fail> {
+    let mut bytes = Vec::from_slice(alloc, guest.valid().module().bytes())?;
+    bytes.extend_from_slice(&[0x00, 0x02, 0x01, 0x78])?;
+    link_bytes(alloc, bytes)
+}
+
+/// A loop over a desk, which has done nothing.
+pub fn loop_at_desk(
+    alloc: Global,
+    guest: &Arc<Linked>,
+    loop_no: u32,
+) -> Result<LoopCore<Desk>, AllocError> {
+    let desk = Desk::new(alloc, loop_no)?;
+    let guest = Arc::try_clone(guest)?;
+    LoopCore::new(alloc, guest, desk, loop_no, FUEL, FUEL, DEPTH)
+}

@@ -1,0 +1,50 @@
+// What became of a loop.
+use std::fmt;
+
+/// How a loop ended.
+#[derive(Clone, Copy, Debug, PartialEq, Eq)]
+pub enum Ending {
+    /// Nothing was left to do.
+    Over,
+    /// A callback did not return.
+    Failed,
+    /// What is left to do waits for what no one does.
+    Waiting,
+    /// It ran as many callbacks as it may.
+    Limit,
+}
+
+impl Ending {
+    /// The word that is printed.
+    pub fn word(self) -> &'static str {
+        match self {
+            Ending::Over => "over",
+            Ending::Failed => "failed",
+            Ending::Waiting => "waiting",
+            Ending::Limit => "limit",
+        }
+    }
+}
+
+/// What one loop did. It prints as a line, as in `loop 0 over emits 6`.
+#[derive(Drop)]
+pub struct Served {
+    /// The loop's number, from 0.
+    pub loop_no: u32,
+    /// How it ended.
+    pub ending: Ending,
+    /// What its callbacks put out, in order.
+    pub emits: Vec<u64>,
+}
+
+impl fmt::Display for Served {
+    fn fmt<W: fmt::Write>(&self, f: &mut fmt::Formatter<W>) -> fmt::Result {
+        let (loop_no, word) = (self.loop_no, self.ending.word());
+        write!(f, "loop {loop_no} {word} emits")?;
+        for value in self.emits.as_slice() {
+            let signed = value.cast_signed();
+            write!(f, " {signed}")?;
+        }
+        Ok(())
+    }
+}

@@ -1,0 +1,22 @@
+//! Some loops of one module and some workers, each in a thread of its own.
+//!
+//! The loops share claims and a board with the workers. A loop takes one turn after another until it is over, has failed,
+//! waits for ever or has run as many callbacks as it may. The board is closed once all loops have ended.
+#![tactic(auto)]
+
+mod ended;
+mod job;
+mod place;
+mod settings;
+mod task;
+#[cfg(test)]
+mod tests;
+mod threads;
+mod turn;
+
+pub use ended::{Ending, Served};
+pub use job::Job;
+pub use settings::Serving;
+pub use task::Task;
+pub use threads::serve;
+pub use turn::MOST_CALLBACKS;

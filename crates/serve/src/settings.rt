@@ -1,0 +1,20 @@
+// How many threads there are, and what a loop may spend.
+ghost use Rattle.std.specs.Prelude.{◌≤◌};
+
+/// How many loops and workers there are, and what each loop may spend.
+#[derive(Clone, Copy, Debug, PartialEq, Eq)]
+pub struct Serving {
+    /// The loops, 1 to 8.
+    pub loops: u32,
+    /// The workers, 1 to 16.
+    pub workers: u32,
+    /// The fuel of a callback.
+    pub fuel: u64,
+    /// The fuel of a work function.
+    pub work_fuel: u64,
+    /// How many calls may stand open, 1 to 128.
+    pub depth: u32,
+    pub ghost few_loops: { (1 ≤ loops) × (loops ≤ 8) },
+    pub ghost few_workers: { (1 ≤ workers) × (workers ≤ 16) },
+    pub ghost depth_in_range: { (1 ≤ depth) × (depth ≤ 128) },
+}

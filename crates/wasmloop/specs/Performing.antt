@@ -7,7 +7,7 @@ use Rattle.syntax.specs.declared.module.ExternKind.TheVariants.{Func}
 use Rattle.syntax.specs.Exporting.{IsFirst}
 use Rattle.interp.specs.declared.ended.Ended.{Ended}
 use Rattle.wasmloop.specs.declared.command.Command.{Command}
-use Rattle.wasmloop.specs.declared.command.Command.TheVariants.{Check, Invoke, Work, Script}
+use Rattle.wasmloop.specs.declared.command.Command.TheVariants.{Check, Invoke, Work, Script, Serve}
 use Rattle.wasmloop.specs.declared.command.Invocation.{Invocation}
 use Rattle.wasmloop.specs.declared.calling.Called.TheVariants.{Function}
 use Rattle.wasmloop.specs.Accepted.{Holds}
@@ -35,3 +35,5 @@ IsDone gives before after (Invoke invocation) = HasInvoked gives invocation
 IsDone gives before after (Work order) = Unit {0}
 -- the log of a script is the world's
 IsDone gives before after (Script file) = Unit {0}
+-- what loops in threads print is no clause's
+IsDone gives before after (Serve file serving) = (contents : Contents) × Holds gives (string_bytes file) contents

@@ -1,6 +1,9 @@
 //! The program: checks WebAssembly modules of strangers and runs their functions.
 #![tactic(auto)]
 
+ghost use Rattle.std.specs.Prelude.{◌≡◌};
+ghost use Rattle.board.specs.Jobs.{ticket_of};
+
 mod arguments;
 mod calling;
 mod command;
@@ -13,13 +16,18 @@ mod perform;
 mod refused;
 mod refusing;
 mod scripting;
+mod serving;
 mod status;
 mod words;
 mod work;
 
+use board::JobBox;
+use command::Command;
 use file::SystemFiles;
+use order::Reply;
 use refused::Refused;
-use std::alloc::Global;
+use serve::Task;
+use std::alloc::{AllocError, Global};
 use std::io::ErrorKind;
 use std::process::ExitCode;
 use std::{env, io};
@@ -29,23 +37,32 @@ fn words_of(rt: &HostRuntime, alloc: Global) -> io::Result<Vec<String>> {
     Ok(env::args(rt)?.collect(alloc)?)
 }
 
-fn run(rt: &HostRuntime) -> u8 {
-    let alloc = rt.alloc();
-    let mut out = rt.stdout();
-    let mut err = rt.stderr();
-    let parsed = match words_of(rt, alloc) {
+/// What the command line asks for.
+fn command_of(rt: &HostRuntime, alloc: Global) -> Result<Command, Refused> {
+    match words_of(rt, alloc) {
         Ok(words) => words::parse(alloc, words.as_slice()),
         Err(error) if error.kind() == ErrorKind::OutOfMemory => Err(Refused::Memory),
         Err(_) => Err(Refused::Arguments),
-    };
-    match parsed {
-        Ok(command) => perform::perform(alloc, &command, &SystemFiles::new(rt), &mut out, &mut err),
-        Err(refused) => refused.tell(&mut out, &mut err),
     }
 }
 
 fn main(rt: HostRuntime) -> ExitCode {
-    ExitCode::from(run(&rt))
+    let alloc = rt.alloc();
+    let mut out = rt.stdout();
+    let mut err = rt.stderr();
+    let make = move |task: Task| -> Result<JobBox, AllocError> {
+        let ticket = task.ticket();
+        let run = move || -> Reply
+            ensures { ticket_of result.order ≡ ticket_of task }
+        { task.run(alloc) };
+        Ok(JobBox::new(ticket, Box::new(alloc, run)?))
+    };
+    let files = SystemFiles::new(&rt);
+    let status = match command_of(&rt, alloc) {
+        Ok(command) => perform::perform(&rt, alloc, &command, &files, &mut out, &mut err, &make),
+        Err(refused) => refused.tell(&mut out, &mut err),
+    };
+    ExitCode::from(status)
 }
 
 #[cfg(test)]

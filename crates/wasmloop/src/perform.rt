@@ -15,10 +15,14 @@ use crate::file::Reader;
 use crate::line::EndedLine;
 use crate::loading::load;
 use crate::scripting::script;
+use crate::serving::serve_file;
 use crate::status::Status;
 use crate::work::work;
-use std::alloc::Global;
+use serve::{Job, Task};
+use std::alloc::{AllocError, Global};
 use std::io::{self, Write};
+use std::sync::Wait;
+use std::thread::Threads;
 
 /// Tells whether the module of the file is accepted.
 fn check<R: Reader, O: Write>(
@@ -98,17 +102,19 @@ fn tell<O: Write, E: Write>(failure: Failure<'_>, out: &mut O, err: &mut E) -> S
     }
 }
 
-/// Performs the command. Results are written to `out`, and messages to `err`.
+/// Performs the command. Results are written to `out`, and messages to `err`. `make` makes the job of an order.
 ///
 /// The answer is what the program ends with: 0 done; 1 the file, the memory or the output stood in the way; 2 the
 /// words ask for what isn't there; 3 the module is refused; 4 the call ended otherwise than by return, or a loop failed.
-pub fn perform<R: Reader, O: Write, E: Write>(
-    alloc: Global,
-    command: &Command,
-    reader: &R,
-    out: &mut O,
-    err: &mut E,
-) -> u8
+pub fn perform<
+    H: Threads + Wait + Sync,
+    M: Fn(Task) -> Result<J, AllocError> + Sync,
+    J: Job + Send,
+    R: Reader,
+    O: Write,
+    E: Write,
+>(rt: &H, alloc: Global, command: &Command, reader: &R, out: &mut O, err: &mut E, make: &M) -> u8
+    requires make { M.IsAlwaysCallable make.now }
     ensures known { result ≤ 4 }
     ensures done { result ≡ 0 → IsDone (R.gives reader.now) (O.contents out.old) (O.contents out.new) command.now }
 {
@@ -117,6 +123,9 @@ pub fn perform<R: Reader, O: Write, E: Write>(
         Command::Invoke(invocation) => invoke(alloc, invocation, reader, out),
         Command::Work(order) => work(alloc, order, reader, out),
         Command::Script { file } => script(alloc, file.as_str(), reader, out),
+        Command::Serve { file, serving } => {
+            serve_file(rt, alloc, file.as_str(), *serving, reader, out, make)
+        }
     };
     let status = match result {
         Ok(status) => status,

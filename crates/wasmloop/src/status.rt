@@ -14,7 +14,7 @@ pub enum Status {
     Usage,
     /// The module is refused.
     Refused,
-    /// The call ended otherwise than by return.
+    /// The call ended otherwise than by return, or a loop failed.
     Ended,
 }
 

@@ -1,14 +1,23 @@
+ghost use Rattle.std.specs.Prelude.{◌≡◌};
+ghost use Rattle.board.specs.Jobs.{ticket_of};
+
 mod check;
 mod invoke;
 mod scripts;
+mod serves;
 mod words;
 mod work;
 
 use crate::file::{ReadFault, Reader};
 use crate::perform::perform;
 use crate::words::parse;
+use board::JobBox;
+use order::Reply;
+use serve::Task;
 use std::alloc::{AllocError, Global};
 use std::process::Abort;
+use std::sync::Wait;
+use std::thread::Threads;
 
 /// A reader that has one file, `m.wasm`.
 #[derive(Drop)]
@@ -37,27 +46,47 @@ struct Shown {
 }
 
 /// Runs the program on a line of words, where `m.wasm` has these bytes.
-fn run(alloc: Global, bytes: &[u8], line: &str) -> Result<Shown, AllocError> {
+fn run<R: Threads + Wait + Sync + AllocGlobal>(
+    rt: &R,
+    bytes: &[u8],
+    line: &str,
+) -> Result<Shown, AllocError> {
+    let alloc = rt.alloc();
+    let make = move |task: Task| -> Result<JobBox, AllocError> {
+        let ticket = task.ticket();
+        let run = move || -> Reply
+            ensures { ticket_of result.order ≡ ticket_of task }
+        { task.run(alloc) };
+        Ok(JobBox::new(ticket, Box::new(alloc, run)?))
+    };
     let mut words = Vec::new(alloc);
     for word in line.split_whitespace() {
         words.push(String::from_str(alloc, word)?)?;
     }
     let (mut out, mut err) = (Vec::new(alloc), Vec::new(alloc));
     let status = match parse(alloc, words.as_slice()) {
-        Ok(command) => perform(alloc, &command, &OneFile { bytes }, &mut out, &mut err),
+        Ok(command) => perform(
+            rt,
+            alloc,
+            &command,
+            &OneFile { bytes },
+            &mut out,
+            &mut err,
+            &make,
+        ),
         Err(refused) => refused.tell(&mut out, &mut err),
     };
     Ok(Shown { out, err, status })
 }
 
 /// A line of words prints this text and ends with this status. Messages of status 1 and 2 go to standard error.
-fn shows<R: Abort + AllocGlobal>(
+fn shows<R: Threads + Wait + Sync + Abort + AllocGlobal>(
     rt: &R,
     bytes: &[u8],
     line: &str,
     (text, status): (&str, u8),
 ) -> Result<(), AllocError> {
-    let shown = run(rt.alloc(), bytes, line)?;
+    let shown = run(rt, bytes, line)?;
     let (told, silent) = match status {
         1 | 2 => (&shown.err, &shown.out),
         _ => (&shown.out, &shown.err),

@@ -8,6 +8,7 @@ use crate::refused::Refused;
 use clap::error::ErrorKind;
 use clap::{Arg, ArgAction, ArgMatches};
 use hex::FromHexError;
+use serve::Serving;
 use std::alloc::{AllocError, Global};
 
 /// How many bytes a work order has at most.
@@ -15,6 +16,12 @@ const MOST_BYTES: usize = 65_536;
 
 /// How many calls may stand open at most.
 const MOST_DEPTH: u64 = 128;
+
+/// How many loops are served at most.
+const MOST_LOOPS: u64 = 8;
+
+/// How many workers serve them at most.
+const MOST_WORKERS: u64 = 16;
 
 fn file_word<'a>(alloc: Global) -> Arg<'a> {
     Arg::new(alloc, "file")
@@ -98,6 +105,32 @@ fn script_words<'a>(alloc: Global) -> Result<clap::Command<'a>, AllocError> {
         .arg(file)
 }
 
+/// A count of threads, which has to be told.
+fn count_option<'a>(alloc: Global, name: &'a str, help: &'a str) -> Arg<'a> {
+    Arg::new(alloc, name)
+        .long(name)
+        .required(true)
+        .value_name("N")
+        .help(help)
+}
+
+fn serve_words<'a>(alloc: Global) -> Result<clap::Command<'a>, AllocError> {
+    let work_fuel = Arg::new(alloc, "work-fuel")
+        .long("work-fuel")
+        .value_name("N")
+        .default_value("1000000")
+        .help("How many instructions a work function may run");
+    clap::Command::new(alloc, "serve")
+        .about("Runs loops of a module, each in a thread, and workers beside them")
+        .after_help("Example:\n  wasmloop serve examples/m6.wasm --loops 2 --workers 3")
+        .arg(file_word(alloc))?
+        .arg(count_option(alloc, "loops", "How many loops, 1 to 8"))?
+        .arg(count_option(alloc, "workers", "How many workers, 1 to 16"))?
+        .arg(fuel_option(alloc))?
+        .arg(work_fuel)?
+        .arg(depth_option(alloc))
+}
+
 fn program_words<'a>(alloc: Global) -> Result<clap::Command<'a>, AllocError> {
     clap::Command::new(alloc, "wasmloop")
         .version("0.1.0")
@@ -107,7 +140,8 @@ fn program_words<'a>(alloc: Global) -> Result<clap::Command<'a>, AllocError> {
         .subcommand(check_words(alloc)?)?
         .subcommand(invoke_words(alloc)?)?
         .subcommand(work_words(alloc)?)?
-        .subcommand(script_words(alloc)?)
+        .subcommand(script_words(alloc)?)?
+        .subcommand(serve_words(alloc)?)
 }
 
 fn refused(alloc: Global, error: clap::Error) -> Refused {
@@ -152,6 +186,21 @@ fn budget(alloc: Global, matches: &ArgMatches<'_>) -> Result<Budget, Refused> {
     let fuel = option(alloc, matches, "fuel", 0, u64::MAX)?;
     let depth = option(alloc, matches, "depth", 1, MOST_DEPTH)? as u32;
     Ok(Budget { fuel, depth })
+}
+
+fn serving(alloc: Global, matches: &ArgMatches<'_>) -> Result<Serving, Refused> {
+    let loops = option(alloc, matches, "loops", 1, MOST_LOOPS)? as u32;
+    let workers = option(alloc, matches, "workers", 1, MOST_WORKERS)? as u32;
+    let fuel = option(alloc, matches, "fuel", 0, u64::MAX)?;
+    let work_fuel = option(alloc, matches, "work-fuel", 0, u64::MAX)?;
+    let depth = option(alloc, matches, "depth", 1, MOST_DEPTH)? as u32;
+    Ok(Serving {
+        loops,
+        workers,
+        fuel,
+        work_fuel,
+        depth,
+    })
 }
 
 fn check(alloc: Global, matches: &ArgMatches<'_>) -> Result<Command, Refused> {
@@ -203,6 +252,12 @@ fn script(alloc: Global, matches: &ArgMatches<'_>) -> Result<Command, Refused> {
     Ok(Command::Script { file })
 }
 
+fn serve(alloc: Global, matches: &ArgMatches<'_>) -> Result<Command, Refused> {
+    let file = text(alloc, matches, "file")?;
+    let serving = serving(alloc, matches)?;
+    Ok(Command::Serve { file, serving })
+}
+
 /// The command that the words ask for. The first of them is the program's name.
 pub fn parse(alloc: Global, words: &[String]) -> Result<Command, Refused> {
     let mut program = program_words(alloc)?;
@@ -215,6 +270,7 @@ pub fn parse(alloc: Global, words: &[String]) -> Result<Command, Refused> {
         Some(("invoke", found)) => invoke(alloc, found),
         Some(("work", found)) => work(alloc, found),
         Some(("script", found)) => script(alloc, found),
+        Some(("serve", found)) => serve(alloc, found),
         _ => Err(refused(
             alloc,
             program.error(ErrorKind::MissingSubcommand, "a command is missing")?,

@@ -1,0 +1,19 @@
+#!/usr/bin/env bash
+# Runs `serve` 100 times, with 8 loops of a guest that asks for work and 16 workers. Each run has to print the same lines.
+#
+#     bench/serve.sh PROGRAM
+set -euo pipefail
+if [ $# -ne 1 ]; then
+    echo "usage: bench/serve.sh PROGRAM" >&2
+    exit 2
+fi
+top=$(cd "$(dirname "$0")/.." && pwd)
+wanted=$(for loop in $(seq 0 7); do echo "loop $loop over emits 6"; done)
+for run in $(seq 100); do
+    printed=$("$1" serve "$top/examples/m6.wasm" --loops 8 --workers 16)
+    if [ "$printed" != "$wanted" ]; then
+        printf 'run %s printed other lines:\n%s\n' "$run" "$printed" >&2
+        exit 1
+    fi
+done
+echo "100 runs agree"

@@ -23,6 +23,8 @@ const MOST_LOOPS: u64 = 8;
 /// How many workers serve them at most.
 const MOST_WORKERS: u64 = 16;
 
+const FUEL_HELP: &str = "How many instructions may be run";
+
 fn file_word<'a>(alloc: Global) -> Arg<'a> {
     Arg::new(alloc, "file")
         .required(true)
@@ -30,12 +32,13 @@ fn file_word<'a>(alloc: Global) -> Arg<'a> {
         .help("The module, in the binary format")
 }
 
-fn fuel_option<'a>(alloc: Global) -> Arg<'a> {
-    Arg::new(alloc, "fuel")
-        .long("fuel")
+/// An option of fuel.
+fn fuel_option<'a>(alloc: Global, name: &'a str, help: &'a str) -> Arg<'a> {
+    Arg::new(alloc, name)
+        .long(name)
         .value_name("N")
         .default_value("1000000")
-        .help("How many instructions may be run")
+        .help(help)
 }
 
 fn depth_option<'a>(alloc: Global) -> Arg<'a> {
@@ -70,7 +73,7 @@ fn invoke_words<'a>(alloc: Global) -> Result<clap::Command<'a>, AllocError> {
         .arg(file_word(alloc))?
         .arg(name)?
         .arg(arguments)?
-        .arg(fuel_option(alloc))?
+        .arg(fuel_option(alloc, "fuel", FUEL_HELP))?
         .arg(depth_option(alloc))
 }
 
@@ -90,7 +93,7 @@ fn work_words<'a>(alloc: Global) -> Result<clap::Command<'a>, AllocError> {
         .arg(file_word(alloc))?
         .arg(operation)?
         .arg(bytes)?
-        .arg(fuel_option(alloc))?
+        .arg(fuel_option(alloc, "fuel", FUEL_HELP))?
         .arg(depth_option(alloc))
 }
 
@@ -115,18 +118,18 @@ fn count_option<'a>(alloc: Global, name: &'a str, help: &'a str) -> Arg<'a> {
 }
 
 fn serve_words<'a>(alloc: Global) -> Result<clap::Command<'a>, AllocError> {
-    let work_fuel = Arg::new(alloc, "work-fuel")
-        .long("work-fuel")
-        .value_name("N")
-        .default_value("1000000")
-        .help("How many instructions a work function may run");
+    let work_fuel = fuel_option(
+        alloc,
+        "work-fuel",
+        "How many instructions a work function may run",
+    );
     clap::Command::new(alloc, "serve")
         .about("Runs loops of a module, each in a thread, and workers beside them")
         .after_help("Example:\n  wasmloop serve examples/m6.wasm --loops 2 --workers 3")
         .arg(file_word(alloc))?
         .arg(count_option(alloc, "loops", "How many loops, 1 to 8"))?
         .arg(count_option(alloc, "workers", "How many workers, 1 to 16"))?
-        .arg(fuel_option(alloc))?
+        .arg(fuel_option(alloc, "fuel", FUEL_HELP))?
         .arg(work_fuel)?
         .arg(depth_option(alloc))
 }

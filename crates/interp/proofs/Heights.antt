@@ -26,7 +26,7 @@ abbrev pub arities : Context → List ℕ
 arities c = map (λ (types : List ValType). length types) c.labels
 
 -- the effect by numbers is that of the height
-abbrev Agrees : (height numbers : Effect) → (before mid : List ValType) → Type 0
+abbrev pub Agrees : (height numbers : Effect) → (before mid : List ValType) → Type 0
 Agrees Ends f before mid = f ≡ Ends
 Agrees (Changes pops pushes) f before mid =
     (f ≡ Changes pops pushes) × ((left : ℕ) × (length before ≡ pops + left) × (length mid ≡ pushes + left))
@@ -62,7 +62,7 @@ agrees_convert c I32WrapI64 before mid turns = (refl, turned (type.I64 ∷ []) (
 agrees_convert c I64ExtendI32S before mid turns = (refl, turned (type.I32 ∷ []) (type.I64 ∷ []) before mid turns)
 agrees_convert c I64ExtendI32U before mid turns = (refl, turned (type.I32 ∷ []) (type.I64 ∷ []) before mid turns)
 
-agrees : (c : Context) (i : Instr) (before mid : List ValType) → InstrTyped c i before mid → Agrees (effect_of c i) (counts c.module_contents (arities c) i) before mid
+pub agrees : (c : Context) (i : Instr) (before mid : List ValType) → InstrTyped c i before mid → Agrees (effect_of c i) (counts c.module_contents (arities c) i) before mid
 agrees c Unreachable before mid t = refl
 agrees c Nop before mid t = (refl, turned [] [] before mid t)
 agrees c (Br label) before mid t = refl

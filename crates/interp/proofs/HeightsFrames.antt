@@ -1,6 +1,6 @@
 -- No step opens a call by itself.
-use Rattle.std.proofs.Common.{◌≡◌, ℕ, zero, suc, ◌<◌, ◌≤◌, List, [], ◌∷◌, length, take, drop, Option, Some, None, refl, subst, true, false, Bool, nat_le, arith}
-use Rattle.std.specs.Prelude.{slice_get, if◌then◌else◌}
+use Rattle.std.proofs.Common.{◌≡◌, ◌==◌, ℕ, zero, suc, ◌<◌, ◌≤◌, List, [], ◌∷◌, length, take, drop, Option, Some, None, refl, subst, true, false, Bool, nat_le, arith}
+use Rattle.std.specs.Prelude.{slice_get, is_some, if◌then◌else◌}
 use Rattle.syntax.specs.declared.types.Value.{Value}
 use Rattle.syntax.specs.declared.types.Value.TheVariants.{I32, I64}
 use Rattle.syntax.specs.declared.instruction.Instr.{Instr}
@@ -11,7 +11,7 @@ use Rattle.syntax.specs.Code.{Code, Done, Plain, Block, Loop, If}
 use Rattle.validate.specs.Typing.{block_type}
 use Rattle.instance.specs.Store.{Store as Memory_and_globals}
 use Rattle.interp.specs.Configuration.{Context, Label, Frame, frames, locals_of, with_locals, going_on, receiving, continuing, branched, returned}
-use Rattle.interp.specs.Step.{Move, Goes, Traps, Calls, Stuck, Turn, Leaves, Fails, Lacks, turn, turned, plain, at_code, next, on_contexts, label_for, call_typed, call_element, type_of_function, same_type, entering, block, loop, chosen}
+use Rattle.interp.specs.Step.{Move, Goes, Traps, Calls, Stuck, Turn, Leaves, Fails, Lacks, turn, turned, plain, at_code, next, on_contexts, label_for, takes_topmost, call_typed, left_with, call_element, type_of_function, same_type, entering, block, loop, chosen}
 use Rattle.interp.specs.Run.{as_operands}
 use Rattle.interp.specs.HeightsOfRuns.{Arrives, here, goes, calls, asks, IsReached}
 
@@ -75,8 +75,8 @@ module _ (m : Contents) (s : Memory_and_globals) where
 
   calls_function : (f : ℕ) (o : Option FuncType) (values : List Value) (rest : Code) (contexts : List Context) → Opens (frames contexts) (call_typed f o values rest contexts)
   calls_function f None values rest contexts = tt
-  calls_function f (Some type) values rest contexts = by_test (nat_le (length type.params) (length values)) refl where
-    by_test : (b : Bool) → nat_le (length type.params) (length values) ≡ b → Opens (frames contexts) (call_typed f (Some type) values rest contexts)
+  calls_function f (Some type) values rest contexts = by_test (takes_topmost type values) refl where
+    by_test : (b : Bool) → takes_topmost type values ≡ b → Opens (frames contexts) (call_typed f (Some type) values rest contexts)
     by_test false e = rw e tt
     by_test true e = rw e (omega (arith, frames-going (drop (length type.params) values) rest contexts))
 
@@ -100,14 +100,21 @@ module _ (m : Contents) (s : Memory_and_globals) where
   plains (BrTable labels default) (I32 n ∷ values) rest contexts = branches (frames contexts) (label_for (slice_get labels n) default) values contexts (omega arith)
   plains Return values rest contexts = returns (frames contexts) values contexts (omega arith)
   plains (Call f) values rest contexts = calls_function f (type_of_function m f) values rest contexts
-  plains (CallIndirect t) (I32 n ∷ values) rest contexts = calls_element t (slice_get s.table n) values rest contexts
+  plains (CallIndirect t) (I32 n ∷ values) rest contexts = tabled (is_some m.table) where
+    tabled : (b : Bool) → Opens (frames contexts) (if b then call_element m t (slice_get s.table n) values rest contexts else Stuck)
+    tabled true = calls_element t (slice_get s.table n) values rest contexts
+    tabled false = tt
   plains i values rest contexts = turns (turn m s (locals_of contexts) i values) rest contexts
+
+  leaves : (b : Bool) (values : List Value) (below : List Context) → Opens (suc (frames below)) (if b then left_with s values below else Stuck)
+  leaves true values [] = tt
+  leaves true values (top ∷ below) = omega (arith, frames-receiving values (top ∷ below))
+  leaves false values below = tt
 
   codes : (code : Code) (values : List Value) (contexts : List Context) → Opens (frames contexts) (at_code m s values code contexts)
   codes Done values [] = tt
   codes Done values (Label arity next own code ∷ below) = omega (arith, frames-receiving values below)
-  codes Done values (Frame locals arity own code ∷ []) = tt
-  codes Done values (Frame locals arity own code ∷ top ∷ below) = omega (arith, frames-receiving values (top ∷ below))
+  codes Done values (Frame locals arity own code ∷ below) = leaves (length values == arity) values below
   codes (Plain i rest) values contexts = plains i values rest contexts
   codes (Block type body rest) values contexts = blocks (block_type m type) body values rest contexts
   codes (Loop type body rest) values contexts = loops (block_type m type) (Loop type body rest) body values rest contexts

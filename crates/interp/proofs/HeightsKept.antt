@@ -1,7 +1,9 @@
 -- Each step keeps the contexts within the limits of the bodies that they run.
-use Rattle.std.proofs.Common.{◌≡◌, ℕ, zero, suc, ◌+◌, ◌≤◌, List, [], ◌∷◌, ◌++◌, length, take, drop, reverse, Option, Some, None, refl, sym, ap, ◌∙◌, subst, true, false, Bool, nat_le, ◌&&◌, arith, length-append, length-drop}
-use Rattle.std.specs.Prelude.{slice_get, if◌then◌else◌}
-use Rattle.std.proofs.lemmas.List.{length-take-le, length-reverse}
+use Rattle.std.proofs.Common.{◌≡◌, ◌==◌, map, ℕ, zero, suc, ◌+◌, ◌≤◌, List, [], ◌∷◌, ◌++◌, length, take, drop, reverse, Option, Some, None, refl, sym, ap, ◌∙◌, subst, true, false, Bool, nat_le, ◌&&◌, arith, length-append, length-drop}
+use Rattle.std.specs.Prelude.{slice_get, is_some, if◌then◌else◌}
+use Rattle.std.proofs.lemmas.List.{length-take-le, length-map}
+use Rattle.validate.specs.Typing.{type_of}
+use Rattle.interp.proofs.SameTypes.{same_valtypes-is}
 use Rattle.std.proofs.lemmas.Grind.{common_steps}
 use Rattle.syntax.specs.declared.types.ValType.{ValType}
 use Rattle.syntax.specs.declared.types.Value.{Value}
@@ -14,7 +16,7 @@ use Rattle.syntax.specs.Code.{Code, Done, Plain, Block, Loop, If}
 use Rattle.validate.specs.Height.{Effect, Changes, Ends, named, calls}
 use Rattle.instance.specs.Store.{Store as Memory_and_globals}
 use Rattle.interp.specs.Configuration.{Context, Label, Frame, locals_of, with_locals, going_on, receiving, continuing, branched, returned}
-use Rattle.interp.specs.Step.{Move, Goes, Traps, Calls, Turn, Leaves, Fails, Lacks, turn, turned, plain, at_code, next, on_contexts, label_for, call_typed, call_element, type_of_function, same_valtype, same_valtypes, same_type, entering, chosen}
+use Rattle.interp.specs.Step.{Move, Goes, Traps, Calls, Stuck, Turn, Leaves, Fails, Lacks, turn, turned, plain, at_code, next, on_contexts, label_for, takes_topmost, call_typed, left_with, call_element, type_of_function, same_valtype, same_valtypes, same_type, entering, chosen}
 use Rattle.interp.specs.Typed.{code_of, operands_of}
 use Rattle.interp.specs.Heights.{Fits, tests, counts, Follows, Counted, labels_of, height_of, base_of, Beneath, IsWithin}
 use Rattle.interp.proofs.HeightsOfTurns.{Counts, turn_counts}
@@ -26,7 +28,7 @@ Kept m (Calls f args below) =
     (type : FuncType) × (type_of_function m f ≡ Some type) × (length args ≡ length type.params) × IsWithin m below (length type.results)
 Kept m _ = Unit {0}
 
-at_least : (a b : ℕ) → nat_le a b ≡ true → a ≤ b
+pub at_least : (a b : ℕ) → nat_le a b ≡ true → a ≤ b
 at_least a b e = grind (arith, common_steps)
 
 with_locals-labels : (locals : List Value) (contexts : List Context) → labels_of (with_locals locals contexts) ≡ labels_of contexts
@@ -34,7 +36,7 @@ with_locals-labels locals [] = refl
 with_locals-labels locals (Label arity next values code ∷ below) = ap (λ (ls : List ℕ). arity ∷ ls) (with_locals-labels locals below)
 with_locals-labels locals (Frame own arity values code ∷ below) = refl
 
-with_locals-height : (locals : List Value) (contexts : List Context) → height_of (with_locals locals contexts) ≡ height_of contexts
+pub with_locals-height : (locals : List Value) (contexts : List Context) → height_of (with_locals locals contexts) ≡ height_of contexts
 with_locals-height locals [] = refl
 with_locals-height locals (Label arity next values code ∷ below) = ap (λ (n : ℕ). length values + n) (with_locals-height locals below)
 with_locals-height locals (Frame own arity values code ∷ below) = refl
@@ -44,12 +46,12 @@ with_locals-base locals [] = refl
 with_locals-base locals (Label arity next values code ∷ below) = with_locals-height locals below
 with_locals-base locals (Frame own arity values code ∷ below) = refl
 
-with_locals-operands : (locals : List Value) (contexts : List Context) → operands_of (with_locals locals contexts) ≡ operands_of contexts
+pub with_locals-operands : (locals : List Value) (contexts : List Context) → operands_of (with_locals locals contexts) ≡ operands_of contexts
 with_locals-operands locals [] = refl
 with_locals-operands locals (Label arity next values code ∷ below) = refl
 with_locals-operands locals (Frame own arity values code ∷ below) = refl
 
-with_locals-code : (locals : List Value) (contexts : List Context) → code_of (with_locals locals contexts) ≡ code_of contexts
+pub with_locals-code : (locals : List Value) (contexts : List Context) → code_of (with_locals locals contexts) ≡ code_of contexts
 with_locals-code locals [] = refl
 with_locals-code locals (Label arity next values code ∷ below) = refl
 with_locals-code locals (Frame own arity values code ∷ below) = refl
@@ -60,22 +62,22 @@ height-parts [] = refl
 height-parts (Label arity next values code ∷ below) = refl
 height-parts (Frame locals arity values code ∷ below) = omega arith
 
-receiving-is : (more : List Value) (contexts : List Context) → receiving more contexts ≡ going_on (more ++ operands_of contexts) (code_of contexts) contexts
+pub receiving-is : (more : List Value) (contexts : List Context) → receiving more contexts ≡ going_on (more ++ operands_of contexts) (code_of contexts) contexts
 receiving-is more [] = refl
 receiving-is more (Label arity next values code ∷ below) = refl
 receiving-is more (Frame locals arity values code ∷ below) = refl
 
-continuing-is : (more : List Value) (next : Code) (contexts : List Context) → continuing more next contexts ≡ going_on (more ++ operands_of contexts) next contexts
+pub continuing-is : (more : List Value) (next : Code) (contexts : List Context) → continuing more next contexts ≡ going_on (more ++ operands_of contexts) next contexts
 continuing-is more next [] = refl
 continuing-is more next (Label arity back values code ∷ below) = refl
 continuing-is more next (Frame locals arity values code ∷ below) = refl
 
-both_true : (a b : Bool) → (a && b) ≡ true → (a ≡ true) × (b ≡ true)
+pub both_true : (a b : Bool) → (a && b) ≡ true → (a ≡ true) × (b ≡ true)
 both_true true true e = (refl, refl)
 both_true true false e = absurd (cc)
 both_true false b e = absurd (cc)
 
-same_lengths : (ts us : List ValType) → same_valtypes ts us ≡ true → length ts ≡ length us
+pub same_lengths : (ts us : List ValType) → same_valtypes ts us ≡ true → length ts ≡ length us
 same_lengths [] [] e = refl
 same_lengths [] (u ∷ us) e = absurd (cc)
 same_lengths (t ∷ ts) [] e = absurd (cc)
@@ -207,12 +209,13 @@ module _ (m : Contents) where
       → length values ≡ length type.params + left
       → Counted m (labels_of contexts) (base_of contexts) (length type.results + left) after rest
       → Kept m (call_typed f (Some called) values rest contexts)
-  calling f type called left after values rest contexts h found ep er e k = by_test (nat_le (length called.params) (length values)) refl where
-    by_test : (b : Bool) → nat_le (length called.params) (length values) ≡ b → Kept m (call_typed f (Some called) values rest contexts)
+  calling f type called left after values rest contexts h found ep er e k = by_test (takes_topmost called values) refl where
+    by_test : (b : Bool) → takes_topmost called values ≡ b → Kept m (call_typed f (Some called) values rest contexts)
     by_test false q = rw q tt
     by_test true q =
         let n = length called.params in
-        let size : length (reverse (take n values)) ≡ n = length-reverse (take n values) ∙ length-take-le n values (at_least n (length values) q) in
+        let args = reverse (take n values) in
+        let size : length args ≡ n = sym (length-map args type_of) ∙ ap length (same_valtypes-is (map type_of args) called.params q) in
         let rest_size : length (drop n values) ≡ left = omega (arith, length-drop n values, ep, e) in
         rw q (called, found, size, placed after (length called.results) (length type.results + left) contexts (drop n values) rest h k (omega (arith, rest_size, er)))
 
@@ -247,7 +250,7 @@ module _ (m : Contents) where
   calls_element t after values rest contexts (Some (Some f)) h k = calls_typed f after values rest contexts (type_of_function m f) (slice_get m.types t) refl h k
 
   -- an operand that is tested
-  tested : (P : ℕ → Type 0) (n : ℕ) (o : Option ℕ) → Follows (tests o) (suc n) P → P n
+  pub tested : (P : ℕ → Type 0) (n : ℕ) (o : Option ℕ) → Follows (tests o) (suc n) P → P n
   tested P n None (left, e, p) = subst P (omega (arith, e)) p
   tested P n (Some arity) (left, e, p) = subst P (omega (arith, e)) p
 
@@ -276,18 +279,25 @@ module _ (m : Contents) where
   plains s after (BrTable labels default) (I32 n ∷ values) rest contexts h k = branches s after (label_for (slice_get labels n) default) values contexts h
   plains s after Return values rest contexts h k = returns s after values contexts h
   plains s after (Call f) values rest contexts h k = calls_function f after values rest contexts (type_of_function m f) refl h k
-  plains s after (CallIndirect t) (I32 n ∷ values) rest contexts h k = calls_element t after values rest contexts (slice_get s.table n) h k
+  plains s after (CallIndirect t) (I32 n ∷ values) rest contexts h k = tabled (is_some m.table) where
+    tabled : (b : Bool) → Kept m (if b then call_element m t (slice_get s.table n) values rest contexts else Stuck)
+    tabled true = calls_element t after values rest contexts (slice_get s.table n) h k
+    tabled false = tt
   plains s after i values rest contexts h k =
       turns (counts m (labels_of contexts) i) (turn m s (locals_of contexts) i values) (length values) after rest contexts h k
       (turn_counts s (locals_of contexts) m (labels_of contexts) i values)
+
+  leaves : (b : Bool) (s : Memory_and_globals) (values : List Value) (below : List Context) → Kept m (left_with s values below) → Kept m (if b then left_with s values below else Stuck)
+  leaves true s values below k = k
+  leaves false s values below k = tt
 
   -- the end of a sequence
   ends : (s : Memory_and_globals) (after : ℕ) (values : List Value) (contexts : List Context) → Beneath m after contexts → length values ≡ after → Kept m (at_code m s values Done contexts)
   ends s after values [] h e = absurd h
   ends s after values (Label arity next own code ∷ below) (later, h, k, n) e = received after below values (record { after = later; beneath = h; code = k }) e
-  ends s after values (Frame locals arity own code ∷ []) h e = tt
+  ends s after values (Frame locals arity own code ∷ []) h e = leaves (length values == arity) s values [] tt
   ends s after values (Frame locals arity own code ∷ top ∷ below) (few, small, same, later, h, k) e =
-      received after (top ∷ below) values (record { after = later; beneath = h; code = k }) e
+      leaves (length values == arity) s values (top ∷ below) (received after (top ∷ below) values (record { after = later; beneath = h; code = k }) e)
 
   chooses : (labels : List ℕ) (base before after n : ℕ) (first second : Code) → Counted m labels base before after first → Counted m labels base before after second
       → Counted m labels base before after (chosen n first second)

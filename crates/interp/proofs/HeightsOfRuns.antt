@@ -31,10 +31,10 @@ module _ (m : Contents) where
   found_type f type (Some t) a b = (t, a, b)
 
   -- a function of this type that is defined is of that type
-  same_type : (function : ℕ) (type found : FuncType) (f : Func) → IsDefined m function type f → type_of_function m function ≡ Some found → type ≡ found
+  pub same_type : (function : ℕ) (type found : FuncType) (f : Func) → IsDefined m function type f → type_of_function m function ≡ Some found → type ≡ found
   same_type function type found f defined e = defined_type m function type found f defined (found_type function found (slice_get (function_types m) function) refl e)
 
-  its_type : (f : Func) (w : ValidFunc m f) (type : FuncType) → slice_get m.types f.type_index ≡ Some type → w.type ≡ type
+  pub its_type : (f : Func) (w : ValidFunc m f) (type : FuncType) → slice_get m.types f.type_index ≡ Some type → w.type ≡ type
   its_type f w type known = let h : Some w.type ≡ Some type = sym w.known ∙ known in cc
 
   -- the body of a call takes no operand to its results, and its locals are few

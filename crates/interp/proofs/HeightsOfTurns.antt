@@ -91,10 +91,10 @@ module _ (s : Memory_and_globals) (locals : List Value) where
   turn_counts m labels (StoreNarrow t w at) (v ∷ []) = tt
   turn_counts m labels (StoreNarrow t w at) (v ∷ I64 n ∷ values) = tt
   turn_counts m labels (StoreNarrow t w at) (v ∷ I32 n ∷ values) = stores _ _ v (I32 n) values
-  turn_counts m labels MemorySize values = (refl, omega arith)
+  turn_counts m labels MemorySize values = leaves (Changes 0 1) (length values) s locals (_ ∷ values) _ refl (omega arith)
   turn_counts m labels MemoryGrow [] = tt
   turn_counts m labels MemoryGrow (I64 n ∷ values) = tt
-  turn_counts m labels MemoryGrow (I32 n ∷ values) = (refl, omega arith)
+  turn_counts m labels MemoryGrow (I32 n ∷ values) = leaves (Changes 1 1) (length (I32 n ∷ values)) _ locals (_ ∷ values) _ refl (omega arith)
   turn_counts m labels (Const v) values = (refl, omega arith)
   turn_counts m labels (Eqz t) [] = tt
   turn_counts m labels (Eqz t) (v ∷ values) = leaves (Changes 1 1) (length (v ∷ values)) s locals (_ ∷ values) _ refl (omega arith)

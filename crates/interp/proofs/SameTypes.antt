@@ -28,6 +28,9 @@ same_itself [] = refl
 same_itself (I32 ∷ types) = same_itself types
 same_itself (I64 ∷ types) = same_itself types
 
+pub same_valtypes-of : (ts us : List ValType) → ts ≡ us → same_valtypes ts us ≡ true
+same_valtypes-of ts us e = subst (λ (x : List ValType). same_valtypes ts x ≡ true) e (same_itself ts)
+
 pub same_when : (types others : List ValType) (answer : Bool) → IsTrue answer ↔ (types ≡ others) → answer ≡ same_valtypes types others
 same_when types others true k = let e : types ≡ others = k.0 refl in subst (λ (ts : List ValType). true ≡ same_valtypes types ts) e (sym (same_itself types))
 same_when types others false k = by_answer (same_valtypes types others) refl where

@@ -1,6 +1,6 @@
 -- A run keeps what the stores of a module have.
-use Rattle.std.proofs.Common.{◌≡◌, ℕ, zero, suc, ◌+◌, ◌*◌, ◌/◌, ◌≤◌, List, [], ◌∷◌, ◌++◌, length, take, drop, replicate, Option, Some, None, refl, sym, ap, ◌∙◌, arith, Bool, true, false, ◌&&◌, nat_le, nat_lt, length-append, length-drop}
-use Rattle.std.specs.Prelude.{slice_get, if◌then◌else◌}
+use Rattle.std.proofs.Common.{◌≡◌, ◌==◌, ℕ, zero, suc, ◌+◌, ◌*◌, ◌/◌, ◌≤◌, List, [], ◌∷◌, ◌++◌, length, take, drop, replicate, Option, Some, None, refl, sym, ap, ◌∙◌, arith, Bool, true, false, ◌&&◌, nat_le, length-append, length-drop}
+use Rattle.std.specs.Prelude.{slice_get, is_some, if◌then◌else◌}
 use Rattle.std.proofs.Math.Nat.{mul-div_cancel}
 use Rattle.std.proofs.lemmas.Grind.{common_steps}
 use Rattle.std.proofs.lemmas.List.{length-take-le, length-replicate}
@@ -20,7 +20,7 @@ use Rattle.validate.specs.Typing.{HasFunctionType, block_type, bytes_of_type, by
 use Rattle.instance.specs.Store.{Store as Stored, page, page_limit, pages, grown, with_memory, bytes_at, written_at, bytes_of, number_in}
 use Rattle.interp.specs.Operators.{Computed, Number, TrapOf, binary, converted}
 use Rattle.interp.specs.Configuration.{Context, Label, Frame, locals_of, branched, returned}
-use Rattle.interp.specs.Step.{Move, Goes, Traps, Calls, Ends, Stuck, Turn, Leaves, Fails, Lacks, turn, turned, plain, at_code, next, branch_if, on_contexts, label_for, call_typed, call_element, type_of_function, same_type, entering, block, loop, chosen, giving, loaded, stored, computed, is_of, alike}
+use Rattle.interp.specs.Step.{Move, Goes, Traps, Calls, Ends, Stuck, Turn, Leaves, Fails, Lacks, turn, turned, plain, at_code, next, branch_if, on_contexts, label_for, takes_topmost, call_typed, call_element, type_of_function, same_type, entering, block, loop, chosen, giving, loaded, stored, computed, is_of, alike, replaces}
 use Rattle.interp.specs.Typed.{types_of}
 use Rattle.interp.specs.HeightsTyped.{Bounded, AwaitsWithin, SoundWithin}
 use Rattle.interp.specs.Storing.{NamesFunction, HasPages, IsStoreOf}
@@ -116,12 +116,12 @@ module _ (m : Contents) where
     turn_keeps Select (I32 n ∷ w ∷ v ∷ vs) = if_keeps (alike v w) _ k
     turn_keeps (LocalGet x) vs = giving_keeps (slice_get ls x) vs
     turn_keeps (LocalSet x) [] = tt
-    turn_keeps (LocalSet x) (v ∷ vs) = if_keeps (nat_lt x (length ls)) _ k
+    turn_keeps (LocalSet x) (v ∷ vs) = if_keeps (replaces v (slice_get ls x)) _ k
     turn_keeps (LocalTee x) [] = tt
-    turn_keeps (LocalTee x) (v ∷ vs) = if_keeps (nat_lt x (length ls)) _ k
+    turn_keeps (LocalTee x) (v ∷ vs) = if_keeps (replaces v (slice_get ls x)) _ k
     turn_keeps (GlobalGet x) vs = giving_keeps (slice_get s.globals x) vs
     turn_keeps (GlobalSet x) [] = tt
-    turn_keeps (GlobalSet x) (v ∷ vs) = if_keeps (nat_lt x (length s.globals)) _ (record { table = k.table; elements = k.elements; limit = k.limit; memory = k.memory })
+    turn_keeps (GlobalSet x) (v ∷ vs) = if_keeps (replaces v (slice_get s.globals x)) _ (record { table = k.table; elements = k.elements; limit = k.limit; memory = k.memory })
     turn_keeps (Load t at) [] = tt
     turn_keeps (Load t at) (I64 n ∷ vs) = tt
     turn_keeps (Load t at) (I32 n ∷ vs) = loaded_keeps t (bytes_of_type t) Unsigned (bytes_at (n + at.offset) (bytes_of_type t) s.memory) vs
@@ -136,10 +136,11 @@ module _ (m : Contents) where
     turn_keeps (StoreNarrow t w at) (v ∷ []) = tt
     turn_keeps (StoreNarrow t w at) (v ∷ I64 n ∷ vs) = tt
     turn_keeps (StoreNarrow t w at) (v ∷ I32 n ∷ vs) = if_keeps (is_of t v) _ (stored_keeps (n + at.offset) (bytes_of (bytes_of_width w) (number_in v)) vs)
-    turn_keeps MemorySize vs = k
+    turn_keeps MemorySize vs = if_keeps (is_some m.memory) _ k
     turn_keeps MemoryGrow [] = tt
     turn_keeps MemoryGrow (I64 n ∷ vs) = tt
-    turn_keeps MemoryGrow (I32 n ∷ vs) = record { table = k.table; elements = k.elements; limit = k.limit; memory = grown_pages s.limit (minimum m.memory) n s.memory k.memory }
+    turn_keeps MemoryGrow (I32 n ∷ vs) =
+        if_keeps (is_some m.memory) _ (record { table = k.table; elements = k.elements; limit = k.limit; memory = grown_pages s.limit (minimum m.memory) n s.memory k.memory })
     turn_keeps (Const v) vs = k
     turn_keeps (Eqz t) [] = tt
     turn_keeps (Eqz t) (v ∷ vs) = if_keeps (is_of t v) _ k
@@ -184,7 +185,7 @@ module _ (m : Contents) where
 
     call_keeps : (f : ℕ) (o : Option FuncType) (values : List Value) (rest : Code) (contexts : List Context) → Keeps (call_typed f o values rest contexts)
     call_keeps f None values rest contexts = tt
-    call_keeps f (Some type) values rest contexts = move_if_keeps (nat_le (length type.params) (length values)) _ _ tt tt
+    call_keeps f (Some type) values rest contexts = move_if_keeps (takes_topmost type values) _ _ tt tt
 
     element_keeps : (t : ℕ) (o : Option (Option ℕ)) (values : List Value) (rest : Code) (contexts : List Context) → Keeps (call_element m t o values rest contexts)
     element_keeps t None values rest contexts = tt
@@ -204,7 +205,8 @@ module _ (m : Contents) where
     plain_keeps (Call f) values rest contexts = call_keeps f (type_of_function m f) values rest contexts
     plain_keeps (CallIndirect t) [] rest contexts = tt
     plain_keeps (CallIndirect t) (I64 n ∷ values) rest contexts = tt
-    plain_keeps (CallIndirect t) (I32 n ∷ values) rest contexts = element_keeps t (slice_get s.table n) values rest contexts
+    plain_keeps (CallIndirect t) (I32 n ∷ values) rest contexts =
+        move_if_keeps (is_some m.table) _ _ (element_keeps t (slice_get s.table n) values rest contexts) tt
     plain_keeps i values rest contexts = turned_keeps (turn m s (locals_of contexts) i values) rest contexts (turn_keeps s k (locals_of contexts) i values)
 
     entering_keeps : (params arity : ℕ) (back body : Code) (values : List Value) (rest : Code) (contexts : List Context) → Keeps (entering s params arity back body values rest contexts)
@@ -220,8 +222,8 @@ module _ (m : Contents) where
 
     code_keeps : (code : Code) (values : List Value) (contexts : List Context) → Keeps (at_code m s values code contexts)
     code_keeps Done values (Label arity next own code ∷ below) = k
-    code_keeps Done values (Frame locals arity own code ∷ []) = tt
-    code_keeps Done values (Frame locals arity own code ∷ top ∷ below) = k
+    code_keeps Done values (Frame locals arity own code ∷ []) = move_if_keeps (length values == arity) _ _ tt tt
+    code_keeps Done values (Frame locals arity own code ∷ top ∷ below) = move_if_keeps (length values == arity) _ _ k tt
     code_keeps Done values [] = tt
     code_keeps (Plain i rest) values contexts = plain_keeps i values rest contexts
     code_keeps (Block type body rest) values contexts = block_keeps (block_type m type) body values rest contexts

@@ -6,6 +6,7 @@ pub mod Typed
 pub mod Heights
 pub mod HeightsOfRuns
 pub mod HeightsTyped
+pub mod Places
 pub mod Room
 pub mod Storing
 pub mod Traps
@@ -19,4 +20,5 @@ pub mod Hosting
 pub mod Invoking
 pub mod Moving
 pub mod Tie
+pub mod Standing
 pub mod Jumping

@@ -3,3 +3,5 @@ pub mod Naming
 pub mod Starting
 pub mod Serving
 pub mod Short
+pub mod OneEnd
+pub mod Agreeing

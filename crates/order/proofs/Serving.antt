@@ -9,11 +9,12 @@ use Rattle.imports.specs.declared.call.Call.TheVariants.{Now, InLen, InCopy, Out
 use Rattle.imports.specs.Linking.{Imports}
 use Rattle.order.specs.declared.host.WorkHost.{WorkHost}
 use Rattle.order.specs.Numbers.{not_here}
-use Rattle.order.specs.Work.{WorkOrder, WorkEnd, Done, Trap, Depth, Spent, NoMemory, WorkAnswers, WorkCall, Works, IsEndOf, Gives}
+use Rattle.order.specs.Work.{WorkOrder, WorkEnd, Done, Trap, Depth, Spent, NoMemory, WorkAnswers, WorkCall, Works, IsTheEnd, IsEndOf, Gives}
 use Rattle.order.specs.WorkHosting.{Answered}
 use Rattle.order.specs.Serving.{Serves}
 use Rattle.std.proofs.Common.{Result, Ok, Err, IfOk, reverse, ◌-◌, codes}
 use Rattle.syntax.specs.declared.types.Value.TheVariants.{I32}
+use Rattle.validate.specs.Valid.{ValidModule}
 use Rattle.instance.specs.Store.{Store}
 use Rattle.instance.specs.Fresh.{IsFresh}
 use Rattle.interp.specs.Hosting.{Names}
@@ -28,6 +29,7 @@ use Rattle.imports.specs.Linking.{IsLinked, ExportsFunction}
 use Rattle.order.specs.Hosting.{import_types}
 use Rattle.order.specs.Work.{WorkRun, StartRun, work_end, stops, works}
 use Rattle.order.proofs.Naming.{names}
+use Rattle.order.proofs.OneEnd.{one_end}
 
 -- the calls that are not for a work function
 pub others : (bytes reply : List ℕ) (call : HostCall) (reply' : List ℕ) (f : Call) (args : List Value)
@@ -61,12 +63,15 @@ served o (call ∷ trace) old new serves h =
     subst (λ (bs : List ℕ). WorkAnswers bs old.reply.items call mid.reply.items answered.asked call.args) serves.bytes answered.answers in
     record { answers = (mid.reply.items, (answered.asked, imported, answers), rest.answers); serves = rest.serves }
 
-pub is_end : (o : WorkOrder) (e : WorkEnd) → Works o e → IsEndOf o e
-is_end o (Done value bytes) h = h
-is_end o (Trap code) h = h
-is_end o Depth h = h
-is_end o Spent h = h
-is_end o NoMemory h = tt
+the_end : (o : WorkOrder) (e : WorkEnd) → ValidModule o.loaded.contents → Works o e → IsTheEnd o e
+the_end o e valid h = record { computed = h; only = λ other k. one_end o other e valid k h }
+
+pub is_end : (o : WorkOrder) (e : WorkEnd) → ValidModule o.loaded.contents → Works o e → IsEndOf o e
+is_end o (Done value bytes) valid h = the_end o (Done value bytes) valid h
+is_end o (Trap code) valid h = the_end o (Trap code) valid h
+is_end o Depth valid h = the_end o Depth valid h
+is_end o Spent valid h = the_end o Spent valid h
+is_end o NoMemory valid h = tt
 
 pub if_ok : {T E : Type 0} (P Q : T → Type 0) (r : Result T E) → ((x : T) → P x → Q x) → IfOk r P → IfOk r Q
 if_ok P Q (Ok x) k h = k x h
@@ -94,18 +99,18 @@ not_returned ending.Depth h results e = absurd (cc)
 not_returned ending.Spent h results e = absurd (cc)
 
 -- the start function does not return
-pub stops_end : (o : WorkOrder) (s t : Store) (how : Ending) (used : ℕ) (reply : List ℕ) (e : WorkEnd) → IsFresh o.loaded.contents s
+pub stops_end : (o : WorkOrder) (s t : Store) (how : Ending) (used : ℕ) (reply : List ℕ) (e : WorkEnd) → ValidModule o.loaded.contents → IsFresh o.loaded.contents s
     → StartRun o o.loaded.contents.start s (outcome_of how) used t reply → ((values : List Value) → how ≡ Return values → ⊥)
     → e ≡ work_end (outcome_of how) reply → IsEndOf o e
-stops_end o s t how used reply e fresh run not same =
-    is_end o e (subst (Works o) (sym same) (stops s t (outcome_of how) used reply fresh run (not_returned how not)))
+stops_end o s t how used reply e valid fresh run not same =
+    is_end o e valid (subst (Works o) (sym same) (stops s t (outcome_of how) used reply fresh run (not_returned how not)))
 
 -- it returns, and `uv_work` runs with the fuel that is left
-pub works_end : (o : WorkOrder) (s t u : Store) (started ended : Ended) (values : List Value) (reply reply' : List ℕ) (e : WorkEnd) → IsFresh o.loaded.contents s
+pub works_end : (o : WorkOrder) (s t u : Store) (started ended : Ended) (values : List Value) (reply reply' : List ℕ) (e : WorkEnd) → ValidModule o.loaded.contents → IsFresh o.loaded.contents s
     → started.ending ≡ Return values → StartRun o o.loaded.contents.start s (outcome_of started.ending) started.used t reply
     → (f : ℕ) × ExportsFunction o.loaded.contents (codes "uv_work") f × WorkRun o (o.fuel - started.used) t reply f (I32 o.op ∷ []) (outcome_of ended.ending) ended.used u reply'
     → e ≡ work_end (outcome_of ended.ending) reply' → IsEndOf o e
-works_end o s t u started ended values reply reply' e fresh returned run work same =
+works_end o s t u started ended values reply reply' e valid fresh returned run work same =
     let first : StartRun o o.loaded.contents.start s (Returned (reverse values)) started.used t reply =
     subst (λ (x : Ending). StartRun o o.loaded.contents.start s (outcome_of x) started.used t reply) returned run in
-    is_end o e (subst (Works o) (sym same) (works s t u (reverse values) (outcome_of ended.ending) started.used ended.used reply reply' work.0 fresh first work.1 work.2))
+    is_end o e valid (subst (Works o) (sym same) (works s t u (reverse values) (outcome_of ended.ending) started.used ended.used reply reply' work.0 fresh first work.1 work.2))

@@ -65,7 +65,7 @@ works_short o _ (works s t u results outcome used more reply reply' function fre
     end_short outcome reply' (trace_short o run.trace reply reply' run.answers (start_short o o.loaded.contents.start s t (Returned results) used reply started))
 
 pub short : (o : WorkOrder) (e : WorkEnd) → ∥ IsEndOf o e ∥₁ → IsShortEnd e
-short o (Done value bytes) h = ∥∥₁_elim h le_prop (λ works. works_short o (Done value bytes) works)
+short o (Done value bytes) h = ∥∥₁_elim h le_prop (λ it. works_short o (Done value bytes) it.computed)
 short o (Trap code) h = tt
 short o Depth h = tt
 short o Spent h = tt

@@ -89,10 +89,15 @@ pub data Works (o : WorkOrder) : WorkEnd → Type 0 where
       → WorkRun o (o.fuel - used) t reply function (I32 o.op ∷ []) outcome more u reply'
       → Works o (work_end outcome reply')
 
--- what a reply to the order may say: this, or that there was no memory
+-- the end of the order: one thread computes it, and no other
+pub record IsTheEnd (o : WorkOrder) (end : WorkEnd) : Type 0 where
+  pub computed : Works o end
+  pub only : (other : WorkEnd) → Works o other → other ≡ end
+
+-- what a reply to the order may say: its end, or that there was no memory
 abbrev pub IsEndOf : WorkOrder → WorkEnd → Type 0
 IsEndOf o NoMemory = Unit {0}
-IsEndOf o end = Works o end
+IsEndOf o end = IsTheEnd o end
 
 -- the bytes of an end are as many as a reply has at most
 abbrev pub IsShortEnd : WorkEnd → Type 0

@@ -2,7 +2,9 @@
 
 ghost use Rattle.interp.specs.Hosting.{Names};
 ghost use Rattle.order.specs.Hosting.{import_types};
-ghost use Rattle.order.specs.Work.{WorkOrder, WorkEnd, IsEndOf, IsShortEnd};
+ghost use Rattle.std.specs.Prelude.{◌≡◌, ◌≢◌};
+ghost use Rattle.validate.specs.Valid.{ValidModule};
+ghost use Rattle.order.specs.Work.{WorkOrder, WorkEnd, NoMemory, Works, IsEndOf, IsShortEnd};
 
 use imports::Linked;
 
@@ -16,4 +18,16 @@ pub fn imports_are_named(linked: &Linked)
 /// What one thread computes from an order has at most 65,536 bytes.
 pub fn ends_are_short()
     ensures { (o : WorkOrder) (end : WorkEnd) → ∥ IsEndOf o end ∥₁ → IsShortEnd end }
+{}
+
+/// From an order whose module is valid one thread computes one end at most: what the order's host answers is a function
+/// of what it is asked, and a new instance, the function that is imported under a number and the one that is exported
+/// under a name are one each.
+pub fn one_end()
+    ensures { (o : WorkOrder) (end other : WorkEnd) → ValidModule o.loaded.contents → Works o end → Works o other → end ≡ other }
+{}
+
+/// Two replies to one order, each from an instance of its own, hold one end, unless there was no memory for one of them.
+pub fn replies_agree()
+    ensures { (o : WorkOrder) (end other : WorkEnd) → ∥ IsEndOf o end ∥₁ → ∥ IsEndOf o other ∥₁ → end ≢ NoMemory → other ≢ NoMemory → end ≡ other }
 {}

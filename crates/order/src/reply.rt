@@ -6,7 +6,8 @@ ghost use Rattle.order.specs.Orders.{order_of, end_of};
 
 use crate::request::{Order, Outcome};
 
-/// An order with what became of it: what one thread computes from the order alone, or that there was no memory.
+/// An order with what became of it: its end, which is all that one thread computes from the order alone, or that there
+/// was no memory.
 #[derive(Drop)]
 pub struct Reply {
     pub order: Order,

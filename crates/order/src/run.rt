@@ -3,6 +3,7 @@
 ghost use Rattle.std.specs.Prelude.{◌≡◌, ◌≤◌, ℕ, [], ◌∷◌, Some, length, codes, IfOk};
 ghost use Rattle.std.specs.Arc.{arc_value};
 ghost use Rattle.syntax.specs.declared.types.ValType.TheVariants as valtype;
+ghost use Rattle.validate.specs.Valid.{ValidModule};
 ghost use Rattle.instance.specs.Fresh.{IsFresh};
 ghost use Rattle.interp.specs.Storing.{IsStoreOf};
 ghost use Rattle.interp.specs.Invoking.{TakesArguments, ReturnsTyped};
@@ -77,6 +78,7 @@ impl Order {
     }
 
     fn new_instance(&self, alloc: Global) -> Result<Instance, AllocError>
+        ensures valid { IfOk result (λ _. ValidModule (arc_value self.now.module).contents) }
         ensures fresh { IfOk result (λ i. IsFresh (arc_value self.now.module).contents i) }
         ensures store { IfOk result (λ i. IsStoreOf (arc_value self.now.module).contents i) }
     {

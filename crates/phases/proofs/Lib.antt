@@ -1,12 +1,16 @@
 pub mod Booking
 pub mod Entering
 pub mod Exporting
+pub mod Filtered
 pub mod Finding
 pub mod Growing
 pub mod Guesting
+pub mod Held
+pub mod Histories
 pub mod Kept
 pub mod Listing
 pub mod Lists
+pub mod Numbered
 pub mod Owning
 pub mod Readying
 pub mod Rostering

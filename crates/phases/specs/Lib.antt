@@ -2,9 +2,12 @@ pub mod Accepting
 pub mod Calls
 pub mod Codes
 pub mod Fitting
+pub mod Guests
+pub mod History
 pub mod Host
 pub mod Hosting
 pub mod Keeping
+pub mod Laws
 pub mod Outside
 pub mod PhaseList
 pub mod Progress

@@ -9,6 +9,7 @@ mod did;
 mod entries;
 mod entry;
 pub mod guest;
+pub mod laws;
 pub mod machine;
 pub mod outstanding;
 pub mod progress;

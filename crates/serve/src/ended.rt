@@ -1,4 +1,6 @@
 // What became of a loop.
+ghost use Rattle.serve.specs.Histories.{HasServed};
+
 use std::fmt;
 
 /// How a loop ended.
@@ -27,6 +29,8 @@ impl Ending {
 }
 
 /// What one loop did. It prints as a line, as in `loop 0 over emits 6`.
+///
+/// A loop of this number has a history from its opening, over its seats, in which its callbacks put out just this.
 #[derive(Drop)]
 pub struct Served {
     /// The loop's number, from 0.
@@ -35,6 +39,7 @@ pub struct Served {
     pub ending: Ending,
     /// What its callbacks put out, in order.
     pub emits: Vec<u64>,
+    pub ghost told: { ∥ HasServed loop_no emits.items ∥₁ },
 }
 
 impl fmt::Display for Served {

@@ -7,6 +7,7 @@
 mod ended;
 mod job;
 mod place;
+mod record;
 mod settings;
 mod task;
 #[cfg(test)]

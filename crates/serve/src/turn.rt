@@ -5,12 +5,13 @@ ghost use Rattle.marks.specs.Counts.{new_taker};
 
 use crate::ended::{Ending, Served};
 use crate::place::LoopPlace;
+use crate::record::Record;
 use crate::settings::Serving;
 use crate::task::Task;
 use board::{Board, Pass};
 use imports::Linked;
 use marks::{Marks, TakeSeat};
-use phases::{Accepted, Hint, LoopCore, Phase, StepDid};
+use phases::{Hint, LoopCore, Phase, StepDid};
 use pool::Seats;
 use std::alloc::{AllocError, Global};
 use std::sync::{Arc, Wait};
@@ -19,24 +20,25 @@ use std::thread;
 /// How many callbacks a loop may run.
 pub const MOST_CALLBACKS: u32 = 100_000;
 
-/// A loop, with its pass and what it has done.
+/// A loop with what it has put out, its pass, and how many callbacks it may still run.
 #[derive(Drop)]
 pub struct Turns<'a, J> {
     board: &'a Board<J>,
     pass: Pass<J>,
     loop_no: u32,
-    core: LoopCore<Seats<'a>>,
+    told: Record<'a>,
     // A job that the board refused.
     kept: Option<J>,
-    emits: Vec<u64>,
     // How many callbacks it may still run.
     left: u32,
     ghost of_board: { IsPassOf board.now pass },
     ghost there: { loop_no < length board.now.replies },
+    ghost numbered: { told.core.0.loop_no ≡ loop_no },
 }
 
 impl<'a, J: Drop> Turns<'a, J> {
     /// A loop that has done nothing, over a new instance of the module.
+    #[tactic(auto, using(crate::proofs::Recording::opens_new))]
     pub fn new(
         alloc: Global,
         module: Arc<Linked>,
@@ -68,9 +70,8 @@ impl<'a, J: Drop> Turns<'a, J> {
             board,
             pass,
             loop_no,
-            core,
+            told: Record::new(alloc, core),
             kept: None,
-            emits: Vec::new(alloc),
             left: MOST_CALLBACKS,
         })
     }
@@ -91,11 +92,12 @@ impl<'a, J: Drop> Turns<'a, J> {
         unreachable!()
     }
 
+    #[tactic(auto, using(crate::proofs::Recording::served_as))]
     fn served(self, ending: Ending) -> Served {
         Served {
             loop_no: self.loop_no,
             ending,
-            emits: self.emits,
+            emits: self.told.into_emits(),
         }
     }
 
@@ -113,7 +115,7 @@ impl<'a, J: Drop> Turns<'a, J> {
         if let Some(ending) = self.step_through(rt)? {
             return Ok(Some(ending));
         }
-        if self.core.outstanding() > 0 {
+        if self.told.outstanding() > 0 {
             thread::yield_now();
             return Ok(None);
         }
@@ -129,9 +131,7 @@ impl<'a, J: Drop> Turns<'a, J> {
             let Some(reply) = self.board.collect(rt, &mut self.pass, self.loop_no) else {
                 return;
             };
-            match self.core.accept(reply) {
-                Accepted::Accepted | Accepted::Stranger(_) => {}
-            }
+            self.told.accept(reply);
         }
     }
 
@@ -165,7 +165,7 @@ impl<'a, J: Drop> Turns<'a, J> {
         if let Some(job) = self.kept.take() {
             return Ok(Some(job));
         }
-        let Some(order) = self.core.next_order() else {
+        let Some(order) = self.told.next_order() else {
             return Ok(None);
         };
         Ok(Some(make(Task::new(order))?))
@@ -174,14 +174,14 @@ impl<'a, J: Drop> Turns<'a, J> {
     // Steps until the timers phase is entered or the loop has ended. How it ended, if it did.
     fn step_through<R: Wait>(&mut self, rt: &R) -> Result<Option<Ending>, AllocError> {
         for _ in rt.forever() {
-            match self.core.step() {
+            match self.told.step()? {
                 StepDid::Entered {
                     phase: Phase::Timers,
                     ..
                 } => return Ok(None),
                 StepDid::Entered { .. } | StepDid::Skipped { .. } => {}
                 StepDid::Ran { .. } => {
-                    if self.note()? {
+                    if self.note() {
                         return Ok(Some(Ending::Limit));
                     }
                 }
@@ -192,21 +192,19 @@ impl<'a, J: Drop> Turns<'a, J> {
         unreachable!()
     }
 
-    // Notes a callback that ran, and what it put out. Whether it was the last that the loop may run.
-    fn note(&mut self) -> Result<bool, AllocError> {
-        self.emits.extend_from_slice(self.core.emits())?;
+    // Counts a callback that ran. Whether it was the last that the loop may run.
+    fn note(&mut self) -> bool {
         self.left = self.left.saturating_sub(1);
-        Ok(self.left == 0 && !self.core.failed())
+        self.left == 0 && !self.told.failed()
     }
 
     // Nothing was done in a turn and no reply will come: the clock is raised to the next timer. Without one the loop
     // waits for ever.
     fn rest(&mut self) -> Option<Ending> {
-        match self.core.hint() {
+        match self.told.hint() {
             Hint::Now => None,
             Hint::For(ms) => {
-                let clock = self.core.clock(0);
-                self.core.clock(clock.saturating_add(ms));
+                self.told.pass(ms);
                 None
             }
             Hint::Forever => Some(Ending::Waiting),

@@ -17,7 +17,9 @@ use Rattle.validate.specs.Typing.{Context, InstrTyped, Typed, inside, block_type
 use Rattle.validate.specs.Height.{function_type, shape_of, type_or_none, greatest_height}
 use Rattle.validate.specs.Rules.{Rule, Indexes, Labels, Alignments, Mutabilities, NamesAll, NamesLabels, IsAligned, SetsVariables, Keeps, KeepsType, Kept}
 use Rattle.validate.specs.Valid.{ValidFunc, ValidImport, ValidModule, body_context}
-use Rattle.validate.specs.Refusals.{HasFew, IsNamed, KeptIn, IsLow, Refutes}
+use Rattle.validate.specs.Stack.{pushed}
+use Rattle.validate.specs.Refusals.{HasFew, IsNamed, IsTyped, KeptIn, IsLow, Refutes}
+use Rattle.validate.proofs.Items.{same_some}
 
 names_all : (c : Context) (i : Instr) (before after : List ValType) → InstrTyped c i before after → NamesAll c i
 names_all c (Call f) before after t = rw t.1.1 (rw t.1.2 refl)
@@ -47,9 +49,6 @@ is_aligned c (LoadNarrow v width extension at) before after t = t.0.1
 is_aligned c (Store v at) before after t = t.0.1
 is_aligned c (StoreNarrow v width at) before after t = t.0.1
 is_aligned c _ before after t = tt
-
-same_some : {A : Type 0} (a b : A) (o : Option A) → o ≡ Some a → o ≡ Some b → a ≡ b
-same_some a b o p q = cc
 
 sets_variables : (c : Context) (i : Instr) (before after : List ValType) → InstrTyped c i before after → SetsVariables c i
 sets_variables c (GlobalSet x) before after t =
@@ -102,6 +101,11 @@ is_low m f v type e =
     let same : v.type ≡ type = same_some v.type type (slice_get m.types f.type_index) v.known e in
     subst (λ (t : FuncType). (length t.params + length f.locals ≤ 256) × (greatest_height (body_context m t f) 0 0 f.body ≤ 256)) same (v.few_locals, v.height)
 
+is_typed : (m : Contents) (f : Func) → ValidFunc m f → IsTyped m f
+is_typed m f v type e =
+    let same : v.type ≡ type = same_some v.type type (slice_get m.types f.type_index) v.known e in
+    subst (λ (t : FuncType). Typed (body_context m t f) f.body [] (pushed t.results [])) same v.body
+
 has_few : (m : Contents) (i : Import) → ValidImport m i → HasFew m i
 has_few m i v type e = subst (λ (t : FuncType). length t.results ≤ 1) (same_some v.type type (slice_get m.types i.type_index) v.known e) v.few_results
 
@@ -119,17 +123,17 @@ is_named m v = record {
   data_segments = λ i d lt. (v.data_segments i d lt).memory;
 }
 
--- a refusal that names a rule is of no valid module
-pub refuted : (m : Contents) (e : ValidFault) → Refutes m e → (e ≡ fault.BadType) ⊎ (e ≡ fault.Memory) ⊎ (ValidModule m → ⊥)
-refuted m fault.BadType r = inl refl
-refuted m fault.Memory r = inr (inl refl)
-refuted m fault.Index r = inr (inr (λ v. r (is_named m v)))
-refuted m fault.Label r = inr (inr (λ v. r (λ i d lt. kept_in Labels m _ (v.functions i d lt))))
-refuted m fault.Align r = inr (inr (λ v. r (λ i d lt. kept_in Alignments m _ (v.functions i d lt))))
-refuted m fault.Mutability r = inr (inr (λ v. r (λ i d lt. kept_in Mutabilities m _ (v.functions i d lt))))
-refuted m fault.Result r = inr (inr (λ v. r (v.types, λ i d lt. has_few m _ (v.imports i d lt))))
-refuted m fault.Export r = inr (inr (λ v. r v.distinct))
-refuted m fault.Start r = inr (inr (λ v. r v.start))
-refuted m fault.Constant r = inr (inr (λ v. r (v.globals, λ i d lt. (v.elements i d lt).offset, λ i d lt. (v.data_segments i d lt).offset)))
-refuted m fault.Height r = inr (inr (λ v. r (λ i d lt. is_low m _ (v.functions i d lt))))
-refuted m fault.Nesting r = inr (inr (λ v. r (λ i d lt. (v.functions i d lt).nested)))
+-- a refusal that isn't for want of memory is of no valid module
+pub refuted : (m : Contents) (e : ValidFault) → Refutes m e → (e ≡ fault.Memory) ⊎ (ValidModule m → ⊥)
+refuted m fault.Memory r = inl refl
+refuted m fault.BadType r = inr (λ v. r (λ i d lt. is_typed m _ (v.functions i d lt)))
+refuted m fault.Index r = inr (λ v. r (is_named m v))
+refuted m fault.Label r = inr (λ v. r (λ i d lt. kept_in Labels m _ (v.functions i d lt)))
+refuted m fault.Align r = inr (λ v. r (λ i d lt. kept_in Alignments m _ (v.functions i d lt)))
+refuted m fault.Mutability r = inr (λ v. r (λ i d lt. kept_in Mutabilities m _ (v.functions i d lt)))
+refuted m fault.Result r = inr (λ v. r (v.types, λ i d lt. has_few m _ (v.imports i d lt)))
+refuted m fault.Export r = inr (λ v. r v.distinct)
+refuted m fault.Start r = inr (λ v. r v.start)
+refuted m fault.Constant r = inr (λ v. r (v.globals, λ i d lt. (v.elements i d lt).offset, λ i d lt. (v.data_segments i d lt).offset))
+refuted m fault.Height r = inr (λ v. r (λ i d lt. is_low m _ (v.functions i d lt)))
+refuted m fault.Nesting r = inr (λ v. r (λ i d lt. (v.functions i d lt).nested))

@@ -39,10 +39,10 @@ pub record NestedParts (fs : List Frame) (block code : Code) (other : Option Cod
 
 -- ---- the rules of what is named
 
-label_results : (scope : Scope) (g : Frame) (type : BlockType) → g.is_loop ≡ false → g.block_type ≡ type → label_of scope.contents.now g ≡ (shape_of scope.contents.now type).results
+pub label_results : (scope : Scope) (g : Frame) (type : BlockType) → g.is_loop ≡ false → g.block_type ≡ type → label_of scope.contents.now g ≡ (shape_of scope.contents.now type).results
 label_results scope g type plain e = rw (plain, e) refl
 
-label_params : (scope : Scope) (g : Frame) (type : BlockType) → g.is_loop ≡ true → g.block_type ≡ type → label_of scope.contents.now g ≡ (shape_of scope.contents.now type).params
+pub label_params : (scope : Scope) (g : Frame) (type : BlockType) → g.is_loop ≡ true → g.block_type ≡ type → label_of scope.contents.now g ≡ (shape_of scope.contents.now type).params
 label_params scope g type loops e = rw (loops, e) refl
 
 pub kept_block : (r : Rule) (scope : Scope) (f g : Frame) (fs : List Frame) (type : BlockType) (body code : Code)

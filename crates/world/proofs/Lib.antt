@@ -1,11 +1,10 @@
+pub mod AfterOnce
 pub mod Collecting
-pub mod Filtered
-pub mod Held
-pub mod Numbered
 pub mod Opening
 pub mod Runs
 pub mod Sets
 pub mod Stepping
 pub mod Taking
+pub mod Telling
 pub mod Turning
 pub mod Working

@@ -1,33 +1,40 @@
--- What the runs of a world keep.
-use Rattle.std.proofs.Common.{◌≡◌, ◌≢◌, ℕ, zero, suc, ◌+◌, ◌<◌, ◌≤◌, ◌==◌, Bool, true, false, cond, ◌&&◌, inl, inr, ◌⊎◌, List, [], ◌∷◌, ◌++◌, map, length, Option, Some, None, refl, sym, ap, subst, ◌∙◌, arith, append_assoc, append-nil, MatchBool}
+-- What the runs of a world are to one of its loops.
+use Rattle.std.proofs.Common.{◌≡◌, ◌≢◌, ℕ, zero, suc, ◌+◌, ◌≤◌, ◌==◌, Bool, true, false, cond, inl, inr, ◌⊎◌, List, [], ◌∷◌, ◌++◌, map, length, Option, Some, None, refl, sym, ap, subst, ◌∙◌, arith, append_assoc, append-nil, MatchBool}
 use Rattle.std.specs.Prelude.{pos, slice_get, slice_set}
 use Rattle.std.specs.Int.{w32, cast_signed}
 use Rattle.std.specs.List.{Contains, count_by}
-use Rattle.std.proofs.lemmas.Bool.{cases_eq, cases_lt, eqb-true, eq-eqb, ne_eqb}
-use Rattle.std.proofs.lemmas.List.Elements.{Contains-append_left, Contains-push, Contains-push_cases}
-use Rattle.std.proofs.lemmas.List.Sums.{sum_by_push}
+use Rattle.std.specs.Option.{is_some}
+use Rattle.std.proofs.lemmas.Bool.{cases_eq, eq-eqb, ne_eqb}
 use Rattle.order.specs.Work.{WorkOrder, IsEndOf}
 use Rattle.phases.specs.declared.did.StepDid.{StepDid}
 use Rattle.phases.specs.declared.did.StepDid.TheVariants as did
-use Rattle.phases.specs.declared.entry.EntryKind.TheVariants as kind
-use Rattle.phases.specs.Requests.{Stage, Open, HandedOut, Answered, Cancelled, Request, Requests, Tidings, no_requests, request_of, with_stage, tidings_of, end_tidings, lowest_open}
-use Rattle.phases.specs.State.{Setting, State, Loop}
-use Rattle.phases.specs.Step.{AfterWork, in_state}
-use Rattle.phases.specs.Outside.{is_failed, next_order_of, next_in, handing}
 use Rattle.phases.specs.declared.entry.Status.{Status}
 use Rattle.phases.specs.declared.entry.Status.TheVariants.{Running, Over, Failed}
+use Rattle.phases.specs.Guests.{GuestCall, loop_calls}
+use Rattle.phases.specs.History.{Event, Stepped, OrderAsked, EndOffered, CancelAnswered, ClockRaised, MovedBeside, EventStep, History, calls_in}
+use Rattle.phases.specs.History.{guest_calls as calls_within}
+use Rattle.phases.specs.Laws.{is_after_event}
+use Rattle.phases.specs.Outside.{is_failed, next_order_of, next_in, handing, after_clock}
+use Rattle.phases.specs.Requests.{Request, lowest_open}
+use Rattle.phases.specs.State.{Setting, State, Loop}
+use Rattle.phases.specs.Step.{in_state}
+use Rattle.phases.proofs.Numbered.{Same}
+use Rattle.phases.proofs.Histories.{calls_push}
 use Rattle.desk.specs.Desk.{Desk, desk_calls}
+use Rattle.desk.specs.Law.{desk_beside}
 use Rattle.world_log.specs.declared.step.Step.{Step}
 use Rattle.world_log.specs.declared.step.Step.TheVariants as step
 use Rattle.world_log.specs.declared.entry.Entry.{Entry as Line}
 use Rattle.world_log.specs.declared.entry.Entry.TheVariants as line
-use Rattle.world.specs.World.{World, Hand, Empty, Taken, Started, Answer, Only, UnlessFailed, StepsLoop, Posts, PostsOrder, TakesJob, StartsJob, FinishesJob, CollectsFrom, WorldStep, WorldRun, opening_world, opening_loop, with_loop, told_of}
-use Rattle.world.specs.Guests.{GuestCall, loop_calls, calls_of_loop, step_calls, guest_calls}
-use Rattle.world.specs.Laws.{is_after, WasAsked, cancellation, AreDue, IsOwn}
-use Rattle.world.proofs.Numbered.{Fits, Same, Stages, numbered, Stands, Owned, fits_more, fits_staged, fits_handed, fits_answered, only_found, found_only}
-use Rattle.world.proofs.Held.{Held, WasWon, CancelFate, cancelled, stayed, fate_in, after_of, Steps, step_holds}
+use Rattle.world_log.specs.declared.outcome.PostOutcome.TheVariants as post
+use Rattle.world_log.specs.declared.outcome.CollectOutcome.TheVariants as collect
+use Rattle.world.specs.World.{World, Hand, Empty, Taken, Started, Answer, Only, UnlessFailed, StepsLoop, Posts, PostsOrder, TakesJob, StartsJob, FinishesJob, CollectsFrom, WorldStep, WorldRun, told_of}
+use Rattle.world.specs.Guests.{calls_of_loop, step_calls, guest_calls}
+use Rattle.world.specs.Histories.{is_of_owner, Tells, AreTold}
+use Rattle.world.specs.Laws.{is_after}
+use Rattle.world.proofs.Telling.{history_push, told_push, tells_callback, tells_cancel, contains_push, count_push}
 
-set_here : {X : Type 0} (xs : List X) (n : ℕ) (v x : X) → slice_get xs n ≡ Some x → slice_get (slice_set xs n v) n ≡ Some v
+pub set_here : {X : Type 0} (xs : List X) (n : ℕ) (v x : X) → slice_get xs n ≡ Some x → slice_get (slice_set xs n v) n ≡ Some v
 set_here [] n v x h = absurd (cc)
 set_here (y ∷ ys) zero v x h = refl
 set_here (y ∷ ys) (suc n) v x h = set_here ys n v x h
@@ -38,6 +45,13 @@ set_apart (y ∷ ys) zero zero v apart = absurd (apart refl)
 set_apart (y ∷ ys) zero (suc k) v apart = refl
 set_apart (y ∷ ys) (suc n) zero v apart = refl
 set_apart (y ∷ ys) (suc n) (suc k) v apart = set_apart ys n k v (λ e. apart (ap suc e))
+
+set_there : {X : Type 0} (xs : List X) (n k : ℕ) (v : X) → is_some (slice_get (slice_set xs n v) k) ≡ is_some (slice_get xs k)
+set_there [] n k v = refl
+set_there (y ∷ ys) zero zero v = refl
+set_there (y ∷ ys) zero (suc k) v = refl
+set_there (y ∷ ys) (suc n) zero v = refl
+set_there (y ∷ ys) (suc n) (suc k) v = set_there ys n k v
 
 set_all : {X : Type 0} (P : X → Type 0) (xs : List X) (k : ℕ) (v : X) → P v → ((n : ℕ) (x : X) → slice_get xs n ≡ Some x → P x)
     → (n : ℕ) (x : X) → slice_get (slice_set xs k v) n ≡ Some x → P x
@@ -60,414 +74,255 @@ ends_more : (xs : List Answer) (a : Answer) → ∥ IsEndOf a.order a.end ∥₁
 ends_more [] a h all = (h, tt)
 ends_more (x ∷ xs) a h all = (all.0, ends_more xs a h all.1)
 
-abbrev is_cancel_line : Line → Bool
-is_cancel_line (line.Cancel n request answer) = true
-is_cancel_line _ = false
-
-either : (b : Bool) (P Q R : Type 0) → (P → R) → (Q → R) → MatchBool b P Q → R
+pub either : (b : Bool) (P Q R : Type 0) → (P → R) → (Q → R) → MatchBool b P Q → R
 either true P Q R f k h = f h
 either false P Q R f k h = k h
 
-both_true : (a b : Bool) → (a && b) ≡ true → (a ≡ true) × (b ≡ true)
-both_true true b h = (refl, h)
-both_true false b h = absurd (cc)
+-- where no order is handed out nothing changes
+none_handed : (status : Status) (s : State) → (next_in status s).0 ≡ None → s ≡ (next_in status s).1
+none_handed Failed s h = refl
+none_handed Running s h = by (lowest_open s.requests) h where
+  by : (o : Option Request) → (handing s.requests o).0 ≡ None → s ≡ record s { requests = (handing s.requests o).1 }
+  by None h = refl
+  by (Some q) h = absurd (cc)
+none_handed Over s h = by (lowest_open s.requests) h where
+  by : (o : Option Request) → (handing s.requests o).0 ≡ None → s ≡ record s { requests = (handing s.requests o).1 }
+  by None h = refl
+  by (Some q) h = absurd (cc)
 
-module _ (settings : List Setting) (j r : ℕ) where
-  abbrev pub InLog : List Line → Type 0
-  InLog log = Contains log (line.Cancel j r (pos 0))
+-- A history of the loop of a number, which may be there, from where it began.
+module _ (Begins : Setting → Loop Desk → Type 0) (there : Bool) (j : ℕ) where
+  pub record Told (log : List Line) (made : List GuestCall) (g : Setting) (l : Loop Desk) : Type 0 where
+    pub start : Loop Desk
+    pub begins : Begins g start
+    pub events : List Event
+    pub history : History desk_calls g start events l
+    pub told : AreTold j log events
+    pub calls : calls_within events ≡ made
+    pub callbacks : (r : ℕ) → count_by (is_after j r) log ≡ count_by (is_after_event r) events
+    pub cancels : (r : ℕ) → Same (Contains log (line.Cancel j r (pos 0))) (Contains events (CancelAnswered r 0))
 
-  abbrev pub HasRun : List Line → Type 0
-  HasRun log = 1 ≤ count_by (is_after j r) log
-
-  abbrev pub Good : List Line → List GuestCall → Setting → Requests → Type 0
-  Good log made g rs = Held g r (InLog log) (HasRun log) made rs
-
-  abbrev pub Stood : List Line → List GuestCall → Setting × Loop Desk → Type 0
-  Stood log made p = (slice_get settings j ≡ Some p.0) × Good log made p.0 p.1.state.requests
-
-  pub record Holds (w : World) (log : List Line) (made : List GuestCall) : Type 0 where
-    pub loops : (p : Setting × Loop Desk) → slice_get w.loops j ≡ Some p → Stood log made p
-    pub replies : (n : ℕ) (xs : List Answer) → slice_get w.replies n ≡ Some xs → AllEnds xs
-    pub once : count_by (is_after j r) log ≤ 1
-
-  -- what is told is no after-work callback and no cancel of the request
-  record Quiet (entry : Line) : Type 0 where
-    pub callback : is_after j r entry ≡ false
-    pub cancel : entry ≢ line.Cancel j r (pos 0)
-
-  plain : (entry told : Line) → entry ≡ told → is_after j r told ≡ false → is_cancel_line told ≡ false → Quiet entry
-  plain entry told e a c = record {
-    callback = ap (is_after j r) e ∙ a;
-    cancel = λ k. (let it : is_cancel_line told ≡ true = ap is_cancel_line (sym e ∙ k) in cc);
+  -- one event more
+  told_more : (log : List Line) (made more : List GuestCall) (g : Setting) (l m : Loop Desk) (entry : Line) (e : Event) → EventStep desk_calls g e l m → Tells j entry e → calls_in e ≡ more
+      → Told log made g l → Told (log ++ entry ∷ []) (made ++ more) g m
+  told_more log made more g l m entry e step tells is was = record {
+    start = was.start;
+    begins = was.begins;
+    events = was.events ++ e ∷ [];
+    history = history_push g was.events e was.start l m was.history step;
+    told = told_push j log was.events entry e was.told tells;
+    calls = calls_push was.events e ∙ ap (λ cs. cs ++ calls_in e) was.calls ∙ ap (λ cs. made ++ cs) is;
+    callbacks = λ r. count_push j r log was.events entry e (was.callbacks r) (tells_callback j r entry e tells);
+    cancels = λ r. contains_push j log was.events entry (line.Cancel j r (pos 0)) e (CancelAnswered r 0) (was.cancels r) (tells_cancel j g r entry e l m step tells);
   }
 
-  counted : (log : List Line) (entry : Line) → count_by (is_after j r) (log ++ entry ∷ []) ≡ count_by (is_after j r) log + cond (is_after j r entry) 1 0
-  counted log entry = sum_by_push (λ x. cond (is_after j r x) 1 0) log entry
+  -- what others do
+  told_beside : (log : List Line) (made : List GuestCall) (g : Setting) (l : Loop Desk) (entry : Line) → is_of_owner j entry ≡ false → Told log made g l → Told (log ++ entry ∷ []) (made ++ []) g l
+  told_beside log made g l entry other was = told_more log made [] g l l entry MovedBeside (record { view = refl; state = refl; store = refl }) other refl was
 
-  uncounted : (log : List Line) (entry : Line) → is_after j r entry ≡ false → count_by (is_after j r) (log ++ entry ∷ []) ≡ count_by (is_after j r) log
-  uncounted log entry none = counted log entry ∙ rw none (omega arith)
+  pub record Keeps (w : World) (log : List Line) (made : List GuestCall) : Type 0 where
+    pub stays : is_some (slice_get w.loops j) ≡ there
+    pub loops : (p : Setting × Loop Desk) → slice_get w.loops j ≡ Some p → Told log made p.0 p.1
+    pub replies : (n : ℕ) (xs : List Answer) → slice_get w.replies n ≡ Some xs → AllEnds xs
 
-  same_log : (log : List Line) (entry : Line) → entry ≢ line.Cancel j r (pos 0) → Same (InLog log) (InLog (log ++ entry ∷ []))
-  same_log log entry other = (
-    Contains-append_left log (entry ∷ []) (line.Cancel j r (pos 0)),
-    λ h. elim (Contains-push_cases log entry (line.Cancel j r (pos 0)) h) [ inl there ↦ there | inr e ↦ absurd (other e) ],
-  )
+  -- an event of a loop, which the line tells
+  record Happens (g : Setting) (l m : Loop Desk) (entry : Line) (more : List GuestCall) : Type 0 where
+    pub event : Event
+    pub step : EventStep desk_calls g event l m
+    pub tells : Tells j entry event
+    pub calls : calls_in event ≡ more
 
-  same_won : (g : Setting) (L L' : Type 0) (made : List GuestCall) → Same L L' → Same (WasWon g r L made) (WasWon g r L' made)
-  same_won g L L' made e = (one L L' e.0, one L' L e.1) where
-    one : (L L' : Type 0) → (L → L') → WasWon g r L made → WasWon g r L' made
-    one L L' f (inl x) = inl (f x)
-    one L L' f (inr a) = inr a
-
-  fits_ran_less : (asked : WorkOrder → Type 0) (won ran ran' : Type 0) (rs : Requests) → (ran' → ran) → Fits r asked won ran rs → Fits r asked won ran' rs
-  fits_ran_less asked won ran ran' rs less f = record { owned = f.owned; fresh = f.fresh; gone = λ h. f.gone (less h) }
-
-  -- an entry that tells no cancel of the request
-  relogged : (g : Setting) (log : List Line) (made : List GuestCall) (ran ran' : Type 0) (entry : Line) (rs : Requests) → entry ≢ line.Cancel j r (pos 0) → (ran' → ran)
-      → Held g r (InLog log) ran made rs → Held g r (InLog (log ++ entry ∷ [])) ran' made rs
-  relogged g log made ran ran' entry rs other less f =
-      fits_ran_less (WasAsked g made) (WasWon g r (InLog (log ++ entry ∷ [])) made) ran ran' rs less
-      (fits_more r (WasAsked g made) (WasAsked g made) (WasWon g r (InLog log) made) (WasWon g r (InLog (log ++ entry ∷ [])) made) ran rs
-      (λ o a. a) (same_won g (InLog log) (InLog (log ++ entry ∷ [])) made (same_log log entry other)) f)
-
-  quietly : (g : Setting) (log : List Line) (made : List GuestCall) (entry : Line) (rs : Requests) → Quiet entry → Good log made g rs → Good (log ++ entry ∷ []) made g rs
-  quietly g log made entry rs q f = relogged g log made (HasRun log) (HasRun (log ++ entry ∷ [])) entry rs q.cancel (λ h. subst (λ n. 1 ≤ n) (uncounted log entry q.callback) h) f
-
-  quietly_none : (g : Setting) (log : List Line) (made : List GuestCall) (entry : Line) (rs : Requests) → Quiet entry → Good log made g rs → Good (log ++ entry ∷ []) (made ++ []) g rs
-  quietly_none g log made entry rs q f = subst (λ cs. Good (log ++ entry ∷ []) cs g rs) (sym (append-nil made)) (quietly g log made entry rs q f)
-
-  -- one step of the world, whose guest made these calls
-  pub record Next (w : World) (log : List Line) (made : List GuestCall) (entry : Line) (w' : World) (more : List GuestCall) : Type 0 where
-    pub holds : Holds w' (log ++ entry ∷ []) (made ++ more)
-    pub own : is_after j r entry ≡ true → IsOwn settings log made w j r entry w'
-
-  module _ (w : World) (log : List Line) (made : List GuestCall) (holds : Holds w log made) where
-    -- the loop of a number stands otherwise, and all others as before
-    loops_moved : (w' : World) (entry : Line) (more : List GuestCall) (n : ℕ) (g : Setting) (l m : Loop Desk)
-        → slice_get w.loops n ≡ Some (g, l) → w'.loops ≡ slice_set w.loops n (g, m)
-        → (n ≡ j → Stood log made (g, l) → Stood (log ++ entry ∷ []) (made ++ more) (g, m))
-        → (n ≢ j → (p : Setting × Loop Desk) → Stood log made p → Stood (log ++ entry ∷ []) (made ++ more) p)
-        → (p : Setting × Loop Desk) → slice_get w'.loops j ≡ Some p → Stood (log ++ entry ∷ []) (made ++ more) p
-    loops_moved w' entry more n g l m at e here apart p h = elim (cases_eq n j) [
-      | inl same ↦
-          let at_j : slice_get w.loops j ≡ Some (g, l) = ap (slice_get w.loops) (sym same) ∙ at in
-          let now : slice_get w'.loops j ≡ Some (g, m) = ap (λ ls. slice_get ls j) e ∙ (ap (λ k. slice_get (slice_set w.loops k (g, m)) j) same ∙ set_here w.loops j (g, m) (g, l) at_j) in
-          let is : (g, m) ≡ p = ap (inner {X = Setting × Loop Desk} p) (sym now ∙ h) in
-          subst (Stood (log ++ entry ∷ []) (made ++ more)) is (here same (holds.loops (g, l) at_j))
-      | inr other ↦
-          apart other p (holds.loops p (sym (ap (λ ls. slice_get ls j) e ∙ set_apart w.loops n j (g, m) other) ∙ h))
-    ]
+  module _ (w : World) (log : List Line) (made : List GuestCall) (keeps : Keeps w log made) where
+    abbrev Next : World → Line → List GuestCall → Type 0
+    Next w' entry more = Keeps w' (log ++ entry ∷ []) (made ++ more)
 
     same_replies : (w' : World) → w'.replies ≡ w.replies → (n : ℕ) (xs : List Answer) → slice_get w'.replies n ≡ Some xs → AllEnds xs
-    same_replies w' e n xs h = holds.replies n xs (ap (λ x. slice_get x n) (sym e) ∙ h)
+    same_replies w' e n xs h = keeps.replies n xs (ap (λ x. slice_get x n) (sym e) ∙ h)
 
     set_replies : (w' : World) (k : ℕ) (ys : List Answer) → w'.replies ≡ slice_set w.replies k ys → AllEnds ys → (n : ℕ) (xs : List Answer) → slice_get w'.replies n ≡ Some xs → AllEnds xs
-    set_replies w' k ys e all n xs h = set_all AllEnds w.replies k ys all holds.replies n xs (ap (λ x. slice_get x n) (sym e) ∙ h)
-
-    quiet_once : (entry : Line) → Quiet entry → count_by (is_after j r) (log ++ entry ∷ []) ≤ 1
-    quiet_once entry q = subst (λ n. n ≤ 1) (sym (uncounted log entry q.callback)) holds.once
+    set_replies w' k ys e all n xs h = set_all AllEnds w.replies k ys all keeps.replies n xs (ap (λ x. slice_get x n) (sym e) ∙ h)
 
     -- no loop changes
-    kept : (w' : World) (entry : Line) → Quiet entry → w'.loops ≡ w.loops
-        → ((n : ℕ) (xs : List Answer) → slice_get w'.replies n ≡ Some xs → AllEnds xs) → Next w log made entry w' []
-    kept w' entry q e replies = record {
-      holds = record {
-        loops = λ p h.
-            let was = holds.loops p (ap (λ ls. slice_get ls j) (sym e) ∙ h) in
-            (was.0, quietly_none p.0 log made entry p.1.state.requests q was.1);
-        replies = replies;
-        once = quiet_once entry q;
-      };
-      own = λ h. absurd (let none = q.callback in cc);
+    kept : (w' : World) (entry : Line) → is_of_owner j entry ≡ false → w'.loops ≡ w.loops
+        → ((n : ℕ) (xs : List Answer) → slice_get w'.replies n ≡ Some xs → AllEnds xs) → Next w' entry []
+    kept w' entry other e replies = record {
+      stays = ap (λ ls. is_some (slice_get ls j)) e ∙ keeps.stays;
+      loops = λ p h. told_beside log made p.0 p.1 entry other (keeps.loops p (ap (λ ls. slice_get ls j) (sym e) ∙ h));
+      replies = replies;
     }
 
-    only : (w' : World) (entry told : Line) → is_after j r told ≡ false → is_cancel_line told ≡ false → Only w entry told w' → Next w log made entry w' []
-    only w' entry told a c h = kept w' entry (plain entry told h.0 a c) (ap (λ x. x.loops) h.1) (same_replies w' (ap (λ x. x.replies) h.1))
+    only : (w' : World) (entry told : Line) → is_of_owner j told ≡ false → Only w entry told w' → Next w' entry []
+    only w' entry told other h = kept w' entry (ap (is_of_owner j) h.0 ∙ other) (ap (λ x. x.loops) h.1) (same_replies w' (ap (λ x. x.replies) h.1))
 
-    -- a loop changes, and tells no callback
-    moved : (w' : World) (entry : Line) (n : ℕ) (g : Setting) (l m : Loop Desk) → Quiet entry
+    -- the loop of a number changes, or it has an event in which it does not
+    moved_with : (w' : World) (entry : Line) (more : List GuestCall) (n : ℕ) (g : Setting) (l m : Loop Desk)
         → slice_get w.loops n ≡ Some (g, l) → w'.loops ≡ slice_set w.loops n (g, m)
         → ((n : ℕ) (xs : List Answer) → slice_get w'.replies n ≡ Some xs → AllEnds xs)
-        → (Good log made g l.state.requests → Good log made g m.state.requests) → Next w log made entry w' []
-    moved w' entry n g l m q at e replies f = record {
-      holds = record {
-        loops = loops_moved w' entry [] n g l m at e
-            (λ same was. (was.0, quietly_none g log made entry m.state.requests q (f was.1)))
-            (λ other p was. (was.0, quietly_none p.0 log made entry p.1.state.requests q was.1));
-        replies = replies;
-        once = quiet_once entry q;
-      };
-      own = λ h. absurd (let none = q.callback in cc);
+        → (n ≡ j → Happens g l m entry more) → (n ≢ j → (is_of_owner j entry ≡ false) × (more ≡ [])) → Next w' entry more
+    moved_with w' entry more n g l m at e replies here apart = record {
+      stays = ap (λ ls. is_some (slice_get ls j)) e ∙ set_there w.loops n j (g, m) ∙ keeps.stays;
+      loops = λ p h. elim (cases_eq n j) [
+        | inl same ↦
+            let at_j : slice_get w.loops j ≡ Some (g, l) = ap (slice_get w.loops) (sym same) ∙ at in
+            let now : slice_get w'.loops j ≡ Some (g, m) = ap (λ ls. slice_get ls j) e ∙ (ap (λ k. slice_get (slice_set w.loops k (g, m)) j) same ∙ set_here w.loops j (g, m) (g, l) at_j) in
+            let is : (g, m) ≡ p = ap (inner {X = Setting × Loop Desk} p) (sym now ∙ h) in
+            let event = here same in
+            subst (λ (x : Setting × Loop Desk). Told (log ++ entry ∷ []) (made ++ more) x.0 x.1) is
+            (told_more log made more g l m entry event.event event.step event.tells event.calls (keeps.loops (g, l) at_j))
+        | inr other ↦
+            let no = apart other in
+            subst (λ cs. Told (log ++ entry ∷ []) (made ++ cs) p.0 p.1) (sym no.1)
+            (told_beside log made p.0 p.1 entry no.0 (keeps.loops p (sym (ap (λ ls. slice_get ls j) e ∙ set_apart w.loops n j (g, m) other) ∙ h)))
+      ];
+      replies = replies;
     }
 
-    same_requests : (g : Setting) (l m : Loop Desk) → m.state ≡ l.state → Good log made g l.state.requests → Good log made g m.state.requests
-    same_requests g l m e f = subst (λ s. Good log made g s.requests) (sym e) f
+    -- the same where the guest calls nothing
+    moved : (w' : World) (entry told : Line) (n : ℕ) (g : Setting) (l m : Loop Desk) → entry ≡ told → (is_of_owner j told ≡ (n == j)) ⊎ (is_of_owner j told ≡ false)
+        → slice_get w.loops n ≡ Some (g, l) → w'.loops ≡ slice_set w.loops n (g, m)
+        → ((n : ℕ) (xs : List Answer) → slice_get w'.replies n ≡ Some xs → AllEnds xs)
+        → (n ≡ j → Happens g l m entry []) → Next w' entry []
+    moved w' entry told n g l m is whose at e replies here =
+        moved_with w' entry [] n g l m at e replies here (λ other. (ap (is_of_owner j) is ∙ apart other whose, refl)) where
+          apart : n ≢ j → (is_of_owner j told ≡ (n == j)) ⊎ (is_of_owner j told ≡ false) → is_of_owner j told ≡ false
+          apart other (inl own) = own ∙ ne_eqb n j other
+          apart other (inr none) = none
 
-    unless_next : (w' : World) (n : ℕ) (l : Loop Desk) (entry : Line) (P : Type 0) → (P → Next w log made entry w' []) → UnlessFailed w n l entry w' P → Next w log made entry w' []
-    unless_next w' n l entry P f h = either (is_failed l.state.status) _ _ (Next w log made entry w' []) (only w' entry (line.Failed n) refl refl) f h
+    -- a loop that stays, in an event of its own
+    stayed_own : (w' : World) (entry told : Line) (n : ℕ) (g : Setting) (l : Loop Desk) → entry ≡ told → is_of_owner j told ≡ (n == j)
+        → slice_get w.loops n ≡ Some (g, l) → w'.loops ≡ w.loops
+        → ((n : ℕ) (xs : List Answer) → slice_get w'.replies n ≡ Some xs → AllEnds xs)
+        → (n ≡ j → Happens g l l entry []) → Next w' entry []
+    stayed_own w' entry told n g l is own at e replies here = record {
+      stays = ap (λ ls. is_some (slice_get ls j)) e ∙ keeps.stays;
+      loops = λ p h. elim (cases_eq n j) [
+        | inl same ↦
+            let now : slice_get w'.loops j ≡ Some (g, l) = ap (λ ls. slice_get ls j) e ∙ (ap (slice_get w.loops) (sym same) ∙ at) in
+            let at_j : slice_get w.loops j ≡ Some (g, l) = ap (slice_get w.loops) (sym same) ∙ at in
+            let is_p : (g, l) ≡ p = ap (inner {X = Setting × Loop Desk} p) (sym now ∙ h) in
+            let event = here same in
+            subst (λ (x : Setting × Loop Desk). Told (log ++ entry ∷ []) (made ++ []) x.0 x.1) is_p
+            (told_more log made [] g l l entry event.event event.step event.tells event.calls (keeps.loops (g, l) at_j))
+        | inr other ↦
+            told_beside log made p.0 p.1 entry (ap (is_of_owner j) is ∙ own ∙ ne_eqb n j other) (keeps.loops p (ap (λ ls. slice_get ls j) (sym e) ∙ h))
+      ];
+      replies = replies;
+    }
 
-    handing_good : (g : Setting) (rs : Requests) (o : Option Request) → lowest_open rs ≡ o → Good log made g rs → Good log made g (handing rs o).1
-    handing_good g rs None e f = f
-    handing_good g rs (Some q) e f = fits_handed r (WasAsked g made) (WasWon g r (InLog log) made) (HasRun log) rs q e f
-
-    next_good : (g : Setting) (status : Status) (s : State) → Good log made g s.requests → Good log made g (next_in status s).1.requests
-    next_good g Failed s f = f
-    next_good g Running s f = handing_good g s.requests (lowest_open s.requests) refl f
-    next_good g Over s f = handing_good g s.requests (lowest_open s.requests) refl f
+    unless_next : (w' : World) (n : ℕ) (l : Loop Desk) (entry : Line) (P : Type 0) → (P → Next w' entry []) → UnlessFailed w n l entry w' P → Next w' entry []
+    unless_next w' n l entry P f h = either (is_failed l.state.status) _ _ (Next w' entry []) (only w' entry (line.Failed n) refl) f h
 
     order_next : (w' : World) (n : ℕ) (g : Setting) (l : Loop Desk) (out : Option WorkOrder × State) (entry : Line) → slice_get w.loops n ≡ Some (g, l)
-        → (Good log made g l.state.requests → Good log made g out.1.requests) → PostsOrder w n g l out entry w' → Next w log made entry w' []
-    order_next w' n g l (None, s) entry at f h = only w' entry _ refl refl h
-    order_next w' n g l (Some o, s) entry at f h =
-        moved w' entry n g l (in_state l s) (plain entry _ h.0 refl refl) at (ap (λ x. x.loops) h.1) (same_replies w' (ap (λ x. x.replies) h.1)) f
+        → next_order_of l.state ≡ out → PostsOrder w n g l out entry w' → Next w' entry []
+    order_next w' n g l (None, s) entry at is h =
+        stayed_own w' entry (line.Post n post.Nothing) n g l h.0 refl at (ap (λ x. x.loops) h.1) (same_replies w' (ap (λ x. x.replies) h.1))
+        (λ same. record {
+          event = OrderAsked None;
+          step = (sym (ap (λ p. p.0) is), ap (in_state l) (none_handed l.state.status l.state (ap (λ p. p.0) is)));
+          tells = h.0 ∙ ap (λ k. line.Post k post.Nothing) same;
+          calls = refl;
+        })
+    order_next w' n g l (Some o, s) entry at is h =
+        moved w' entry (line.Post n (post.Request o.request)) n g l (in_state l s) h.0 (inl refl) at (ap (λ x. x.loops) h.1) (same_replies w' (ap (λ x. x.replies) h.1))
+        (λ same. record {
+          event = OrderAsked (Some o);
+          step = (sym (ap (λ p. p.0) is), ap (in_state l) (sym (ap (λ p. p.1) is)));
+          tells = h.0 ∙ ap (λ k. line.Post k (post.Request o.request)) same;
+          calls = refl;
+        })
 
-    posts_next : (w' : World) (n : ℕ) (entry : Line) → Posts w n entry w' → Next w log made entry w' []
+    posts_next : (w' : World) (n : ℕ) (entry : Line) → Posts w n entry w' → Next w' entry []
     posts_next w' n entry h =
         unless_next w' n h.1 entry _
-        (λ k. either (length w.jobs == 256) _ _ (Next w log made entry w' []) (only w' entry _ refl refl)
-        (order_next w' n h.0 h.1 (next_order_of h.1.state) entry h.2 (next_good h.0 h.1.state.status h.1.state)) k)
+        (λ k. either (length w.jobs == 256) _ _ (Next w' entry []) (only w' entry (line.Post n post.Full) refl)
+        (order_next w' n h.0 h.1 (next_order_of h.1.state) entry h.2 refl) k)
         h.3
 
-    take_next : (w' : World) (n : ℕ) (hand : Hand) (jobs : List WorkOrder) (entry : Line) → TakesJob w n hand jobs entry w' → Next w log made entry w' []
-    take_next w' n Empty (o ∷ jobs) entry h = kept w' entry (plain entry _ h.0 refl refl) (ap (λ x. x.loops) h.1) (same_replies w' (ap (λ x. x.replies) h.1))
-    take_next w' n Empty [] entry h = only w' entry _ refl refl h
-    take_next w' n (Taken o) jobs entry h = only w' entry _ refl refl h
-    take_next w' n (Started o) jobs entry h = only w' entry _ refl refl h
+    take_next : (w' : World) (n : ℕ) (hand : Hand) (jobs : List WorkOrder) (entry : Line) → TakesJob w n hand jobs entry w' → Next w' entry []
+    take_next w' n Empty (o ∷ jobs) entry h = kept w' entry (ap (is_of_owner j) h.0) (ap (λ x. x.loops) h.1) (same_replies w' (ap (λ x. x.replies) h.1))
+    take_next w' n Empty [] entry h = only w' entry _ refl h
+    take_next w' n (Taken o) jobs entry h = only w' entry _ refl h
+    take_next w' n (Started o) jobs entry h = only w' entry _ refl h
 
-    start_next : (w' : World) (n : ℕ) (hand : Hand) (entry : Line) → StartsJob w n hand entry w' → Next w log made entry w' []
+    -- a worker's start, and another's send
+    beside : (g : Setting) (l m : Loop Desk) (entry told : Line) → entry ≡ told → is_of_owner j told ≡ false → desk_calls.view m.shared ≡ desk_calls.view l.shared → m.state ≡ l.state → m.store ≡ l.store → Happens g l m entry []
+    beside g l m entry told is none view state store = record { event = MovedBeside; step = record { view = view; state = state; store = store }; tells = ap (is_of_owner j) is ∙ none; calls = refl }
+
+    start_next : (w' : World) (n : ℕ) (hand : Hand) (entry : Line) → StartsJob w n hand entry w' → Next w' entry []
     start_next w' n (Taken o) entry h =
-        either h.3 _ _ (Next w log made entry w' [])
-        (λ k. moved w' entry o.loop_no h.0 h.1 h.2 (plain entry _ k.0 refl refl) h.4 (ap (λ x. x.loops) k.1) (same_replies w' (ap (λ x. x.replies) k.1)) (same_requests h.0 h.1 h.2 h.5.1))
-        (λ k. kept w' entry (plain entry _ k.0 refl refl) (ap (λ x. x.loops) k.1) (same_replies w' (ap (λ x. x.replies) k.1)))
+        either h.3 _ _ (Next w' entry [])
+        (λ k. moved w' entry _ o.loop_no h.0 h.1 h.2 k.0 (inr refl) h.4 (ap (λ x. x.loops) k.1) (same_replies w' (ap (λ x. x.replies) k.1))
+        (λ same. beside h.0 h.1 h.2 entry _ k.0 refl (desk_beside.starts h.1.shared h.2.shared o.slot o.request h.3 h.5.0) h.5.1 h.5.2))
+        (λ k. kept w' entry (ap (is_of_owner j) k.0) (ap (λ x. x.loops) k.1) (same_replies w' (ap (λ x. x.replies) k.1)))
         h.6
-    start_next w' n Empty entry h = only w' entry _ refl refl h
-    start_next w' n (Started o) entry h = only w' entry _ refl refl h
+    start_next w' n Empty entry h = only w' entry _ refl h
+    start_next w' n (Started o) entry h = only w' entry _ refl h
 
-    finish_next : (w' : World) (n : ℕ) (hand : Hand) (entry : Line) → FinishesJob w n hand entry w' → Next w log made entry w' []
+    finish_next : (w' : World) (n : ℕ) (hand : Hand) (entry : Line) → FinishesJob w n hand entry w' → Next w' entry []
     finish_next w' n (Started o) entry h =
-        kept w' entry (plain entry _ h.told refl refl) (ap (λ x. x.loops) h.after)
-        (set_replies w' o.loop_no _ (ap (λ x. x.replies) h.after) (ends_more h.replies (record { order = o; end = h.end }) h.right (holds.replies o.loop_no h.replies h.waiting)))
-    finish_next w' n Empty entry h = only w' entry _ refl refl h
-    finish_next w' n (Taken o) entry h = only w' entry _ refl refl h
+        kept w' entry (ap (is_of_owner j) h.told) (ap (λ x. x.loops) h.after)
+        (set_replies w' o.loop_no _ (ap (λ x. x.replies) h.after) (ends_more h.replies (record { order = o; end = h.end }) h.right (keeps.replies o.loop_no h.replies h.waiting)))
+    finish_next w' n Empty entry h = only w' entry _ refl h
+    finish_next w' n (Taken o) entry h = only w' entry _ refl h
 
     collect_next : (w' : World) (n : ℕ) (g : Setting) (l : Loop Desk) (replies : List Answer) (entry : Line) → slice_get w.loops n ≡ Some (g, l) → AllEnds replies
-        → CollectsFrom w n g l replies entry w' → Next w log made entry w' []
-    collect_next w' n g l [] entry at all h = only w' entry _ refl refl h
+        → CollectsFrom w n g l replies entry w' → Next w' entry []
+    collect_next w' n g l [] entry at all h = only w' entry _ refl h
     collect_next w' n g l (a ∷ replies) entry at all h =
-        either h.0 _ _ (Next w log made entry w' [])
-        (λ k. moved w' entry n g l _ (plain entry _ k.1 refl refl) at (ap (λ x. x.loops) k.2) (set_replies w' n replies (ap (λ x. x.replies) k.2) all.1)
-        (fits_answered r (WasAsked g made) (WasWon g r (InLog log) made) (HasRun log) l.state.requests a.order a.end k.0.one all.0))
-        (λ k. kept w' entry (plain entry _ k.1 refl refl) (ap (λ x. x.loops) k.2) (set_replies w' n replies (ap (λ x. x.replies) k.2) all.1))
+        either h.0 _ _ (Next w' entry [])
+        (λ k. moved w' entry _ n g l _ k.1 (inl refl) at (ap (λ x. x.loops) k.2) (set_replies w' n replies (ap (λ x. x.replies) k.2) all.1)
+        (λ same. record { event = EndOffered a.order a.end true; step = (all.0, (k.0, refl)); tells = k.1 ∙ ap (λ i. line.Collect i (collect.Request a.order.request)) same; calls = refl }))
+        (λ k. stayed_own w' entry _ n g l k.1 refl at (ap (λ x. x.loops) k.2) (set_replies w' n replies (ap (λ x. x.replies) k.2) all.1)
+        (λ same. record { event = EndOffered a.order a.end false; step = (all.0, (k.0, refl)); tells = k.1 ∙ ap (λ i. line.Collect i collect.Stranger) same; calls = refl }))
         h.1
 
-    -- the owner's cancel
-    module _ (n request answer : ℕ) (entry : Line) (told : entry ≡ line.Cancel n request (cast_signed w32 answer)) where
-      not_after : is_after j r entry ≡ false
-      not_after = ap (is_after j r) told
-
-      names : entry ≡ line.Cancel j r (pos 0) → (n ≡ j) × (request ≡ r) × (cast_signed w32 answer ≡ pos 0)
-      names e = let it = sym told ∙ e in (cc, cc, cc)
-
-      refused_good : (g : Setting) (rs : Requests) → cast_signed w32 answer ≢ pos 0 → Good log made g rs → Good (log ++ entry ∷ []) (made ++ []) g rs
-      refused_good g rs other f = quietly_none g log made entry rs (record { callback = not_after; cancel = λ e. other (names e).2 }) f
-
-      elsewhere_good : (g : Setting) (rs : Requests) → n ≢ j → Good log made g rs → Good (log ++ entry ∷ []) (made ++ []) g rs
-      elsewhere_good g rs other f = quietly_none g log made entry rs (record { callback = not_after; cancel = λ e. other (names e).0 }) f
-
-      won_good : (g : Setting) (rs : Requests) (q : Request) → n ≡ j → request_of rs request ≡ Some q → answer ≡ 0 → Good log made g rs → Good (log ++ entry ∷ []) (made ++ []) g (with_stage rs request Cancelled)
-      won_good g rs q here found zeroed f =
-          subst (λ cs. Good (log ++ entry ∷ []) cs g (with_stage rs request Cancelled)) (sym (append-nil made))
-          (fits_ran_less (WasAsked g made) (WasWon g r (InLog (log ++ entry ∷ [])) made) (HasRun log) (HasRun (log ++ entry ∷ [])) (with_stage rs request Cancelled)
-          (λ h. subst (λ k. 1 ≤ k) (uncounted log entry not_after) h)
-          (fits_staged r request Cancelled (WasAsked g made) (WasAsked g made) (WasWon g r (InLog log) made) (WasWon g r (InLog (log ++ entry ∷ [])) made) (HasRun log) rs stages f)) where
-            is_line : r ≡ request → entry ≡ line.Cancel j r (pos 0)
-            is_line same = told ∙ ap (λ k. line.Cancel k request (cast_signed w32 answer)) here ∙ ap (λ k. line.Cancel j k (cast_signed w32 answer)) (sym same) ∙ ap (λ k. line.Cancel j r (cast_signed w32 k)) zeroed
-
-            stages : Stages (WasAsked g made) (WasAsked g made) (WasWon g r (InLog log) made) (WasWon g r (InLog (log ++ entry ∷ [])) made) r request Cancelled rs
-            stages = record {
-              covers = λ o a. a;
-              apart = λ other. same_won g (InLog log) (InLog (log ++ entry ∷ [])) made (same_log log entry (λ e. other (sym (names e).1)));
-              here = λ x same single h. inl (subst (Contains (log ++ entry ∷ [])) (is_line same) (Contains-push log entry));
-              given = λ same none. (let it = only_found (WasAsked g made) (WasWon g r (InLog log) made) r rs q f.owned (ap (request_of rs) same ∙ found) in cc);
-            }
-
-      fate_good : (g : Setting) (rs rs' : Requests) → n ≡ j → CancelFate rs request answer rs' → Good log made g rs → Good (log ++ entry ∷ []) (made ++ []) g rs'
-      fate_good g rs rs' here (stayed refused e) f = subst (Good (log ++ entry ∷ []) (made ++ []) g) (sym e) (refused_good g rs refused.signed f)
-      fate_good g rs rs' here (cancelled q found zeroed e) f = subst (Good (log ++ entry ∷ []) (made ++ []) g) (sym e) (won_good g rs q here found zeroed f)
-
-      cancelled_next : (w' : World) (g : Setting) (l l' : Loop Desk) → slice_get w.loops n ≡ Some (g, l) → w' ≡ with_loop w n g l' → CancelFate l.state.requests request answer l'.state.requests → Next w log made entry w' []
-      cancelled_next w' g l l' at e fate = record {
-        holds = record {
-          loops = loops_moved w' entry [] n g l l' at (ap (λ x. x.loops) e)
-              (λ same was. (was.0, fate_good g l.state.requests l'.state.requests same fate was.1))
-              (λ other p was. (was.0, elsewhere_good p.0 p.1.state.requests other was.1));
-          replies = same_replies w' (ap (λ x. x.replies) e);
-          once = subst (λ k. k ≤ 1) (sym (uncounted log entry not_after)) holds.once;
-        };
-        own = λ h. absurd (let none = not_after in cc);
-      }
-
     -- a step of a loop
-    after_told : (n : ℕ) (told : StepDid) (emits : List ℕ) → is_after j r (told_of n told emits) ≡ true → (n ≡ j) × (after_of told ≡ Some r)
-    after_told n (did.Ran kind.After number ended) emits h =
-        let parts = both_true (n == j) (number == r) h in
-        (eqb-true n j parts.0, ap Some (eqb-true number r parts.1))
-    after_told n _ emits h = absurd (cc)
+    told_elsewhere : (n : ℕ) (told : StepDid) (emits : List ℕ) → n ≢ j → is_of_owner j (told_of n told emits) ≡ false
+    told_elsewhere n (did.Entered phase now) emits other = ne_eqb n j other
+    told_elsewhere n (did.Ran kind number ended) emits other = ne_eqb n j other
+    told_elsewhere n (did.Skipped kind number) emits other = ne_eqb n j other
+    told_elsewhere n did.Over emits other = ne_eqb n j other
+    told_elsewhere n did.Failed emits other = refl
 
-    no_cancel_told : (n : ℕ) (told : StepDid) (emits : List ℕ) → told_of n told emits ≢ line.Cancel j r (pos 0)
-    no_cancel_told n (did.Entered phase now) emits e = cc
-    no_cancel_told n (did.Ran kind number ended) emits e = cc
-    no_cancel_told n (did.Skipped kind number) emits e = cc
-    no_cancel_told n did.Over emits e = cc
-    no_cancel_told n did.Failed emits e = cc
+    loop_next : (w' : World) (n : ℕ) (entry : Line) (h : StepsLoop w n entry w') → Next w' entry (calls_of_loop j n w entry w' h)
+    loop_next w' n entry h =
+        moved_with w' entry (calls_of_loop j n w entry w' h) n h.setting h.old h.new h.at (ap (λ x. x.loops) h.after) (same_replies w' (ap (λ x. x.replies) h.after))
+        (λ same. record {
+          event = Stepped h.did h.new.state.emits (loop_calls desk_calls h.setting h.old h.did h.new h.steps);
+          step = (h.steps, refl, refl);
+          tells = h.told ∙ ap (λ k. told_of k h.did h.new.state.emits) same;
+          calls = rw (eq-eqb n j same) refl;
+        })
+        (λ other. (ap (is_of_owner j) h.told ∙ told_elsewhere n h.did h.new.state.emits other, rw (ne_eqb n j other) refl))
 
-    stage_due : (g : Setting) (o : WorkOrder) (won : Type 0) (base : Loop Desk) (told : StepDid) (new : Loop Desk) (s : Stage) → Stands o won s
-        → AfterWork desk_calls g base r (tidings_of s) told new → (t : Tidings) × AfterWork desk_calls g base r (Some t) told new × AreDue o t won
-    stage_due g o won base told new Open h work = absurd work
-    stage_due g o won base told new HandedOut h work = absurd work
-    stage_due g o won base told new (Answered end) h work = (end_tidings end, work, inr (h.1, (end, h.0, refl)))
-    stage_due g o won base told new Cancelled h work = (cancellation, work, inl (h, refl))
-
-    owned_one : (g : Setting) (rs : Requests) (q : Request) → numbered r rs ≡ q ∷ [] → Owned (WasAsked g made) (WasWon g r (InLog log) made) (numbered r rs)
-        → WasAsked g made q.order × Stands q.order (WasWon g r (InLog log) made) q.stage
-    owned_one g rs q single h = subst (Owned (WasAsked g made) (WasWon g r (InLog log) made)) single h
-
-    module _ (w' : World) (entry : Line) (h : StepsLoop w j entry w') where
-      made_now : List GuestCall
-      made_now = loop_calls desk_calls h.setting h.old h.did h.new h.steps
-
-      was : Stood log made (h.setting, h.old)
-      was = holds.loops (h.setting, h.old) h.at
-
-      stepped : Steps desk_calls h.setting r (InLog log) (HasRun log) made (loop_calls desk_calls h.setting h.old h.did h.new h.steps) h.old h.did h.new
-      stepped = step_holds desk_calls h.setting r (InLog log) (HasRun log) made h.old h.did h.new h.steps was.1
-
-      no_cancel : entry ≢ line.Cancel j r (pos 0)
-      no_cancel e = no_cancel_told j h.did h.new.state.emits (sym h.told ∙ e)
-
-      ran_here : is_after j r entry ≡ true → after_of h.did ≡ Some r
-      ran_here holds_now = (after_told j h.did h.new.state.emits (ap (is_after j r) (sym h.told) ∙ holds_now)).1
-
-      own_here : is_after j r entry ≡ true → IsOwn settings log made w j r entry w'
-      own_here now =
-          let it = stepped.after (ran_here now) in
-          let base = in_state h.old (record h.old.state { list = it.0 }) in
-          let q = it.1.request in
-          let mine = owned_one h.setting h.old.state.requests q it.1.only was.1.owned in
-          let due = stage_due h.setting q.order (WasWon h.setting r (InLog log) made) base h.did h.new q.stage mine.1 it.1.work in
-          record {
-            setting = h.setting;
-            order = q.order;
-            tidings = due.0;
-            of_loop = was.0;
-            number = (found_only r h.old.state.requests q it.1.only).1;
-            asked = mine.0;
-            runs = record { old = h.old; new = h.new; rest = it.0; did = h.did; at = h.at; runs = due.1; told = h.told; after = h.after };
-            due = due.2;
-          }
-
-      good_here : (b : Bool) → is_after j r entry ≡ b → Good (log ++ entry ∷ []) (made ++ loop_calls desk_calls h.setting h.old h.did h.new h.steps) h.setting h.new.state.requests
-      good_here true now =
-          relogged h.setting log (made ++ loop_calls desk_calls h.setting h.old h.did h.new h.steps) (Unit {0}) (HasRun (log ++ entry ∷ [])) entry h.new.state.requests no_cancel (λ _. tt) (stepped.after (ran_here now)).2
-      good_here false quiet =
-          relogged h.setting log (made ++ loop_calls desk_calls h.setting h.old h.did h.new h.steps) (HasRun log) (HasRun (log ++ entry ∷ [])) entry h.new.state.requests no_cancel
-          (λ k. subst (λ n. 1 ≤ n) (uncounted log entry quiet) k) stepped.held
-
-      once_here : (b : Bool) → is_after j r entry ≡ b → count_by (is_after j r) (log ++ entry ∷ []) ≤ 1
-      once_here true now = subst (λ n. n ≤ 1) (sym (counted log entry ∙ rw now refl)) (below (cases_lt 0 (count_by (is_after j r) log))) where
-        below : (0 < count_by (is_after j r) log) ⊎ (count_by (is_after j r) log ≤ 0) → count_by (is_after j r) log + 1 ≤ 1
-        below (inr none) = omega (arith, none)
-        below (inl some) = absurd (let single = (stepped.after (ran_here now)).1.only in let gone = (was.1.gone some).1 in cc)
-      once_here false quiet = subst (λ n. n ≤ 1) (sym (uncounted log entry quiet)) holds.once
-
-      step_here : Next w log made entry w' (loop_calls desk_calls h.setting h.old h.did h.new h.steps)
-      step_here = record {
-        holds = record {
-          loops = loops_moved w' entry (loop_calls desk_calls h.setting h.old h.did h.new h.steps) j h.setting h.old h.new h.at (ap (λ x. x.loops) h.after)
-              (λ _ _. (was.0, good_here (is_after j r entry) refl))
-              (λ other _ _. absurd (other refl));
-          replies = same_replies w' (ap (λ x. x.replies) h.after);
-          once = once_here (is_after j r entry) refl;
-        };
-        own = own_here;
-      }
-
-    step_elsewhere : (w' : World) (n : ℕ) (entry : Line) (h : StepsLoop w n entry w') → n ≢ j → Next w log made entry w' []
-    step_elsewhere w' n entry h other = record {
-      holds = record {
-        loops = loops_moved w' entry [] n h.setting h.old h.new h.at (ap (λ x. x.loops) h.after)
-            (λ same _. absurd (other same))
-            (λ _ p was. (was.0, quietly_none p.0 log made entry p.1.state.requests quiet was.1));
-        replies = same_replies w' (ap (λ x. x.replies) h.after);
-        once = quiet_once entry quiet;
-      };
-      own = λ now. absurd (let none = quiet.callback in cc);
-    } where
-      not_after : (b : Bool) → is_after j r (told_of n h.did h.new.state.emits) ≡ b → is_after j r entry ≡ false
-      not_after true e = absurd (other (after_told n h.did h.new.state.emits e).0)
-      not_after false e = ap (is_after j r) h.told ∙ e
-
-      quiet : Quiet entry
-      quiet = record { callback = not_after (is_after j r (told_of n h.did h.new.state.emits)) refl; cancel = λ e. no_cancel_told n h.did h.new.state.emits (sym h.told ∙ e) }
-
-    loop_next : (w' : World) (n : ℕ) (entry : Line) (h : StepsLoop w n entry w') → Next w log made entry w' (calls_of_loop j n w entry w' h)
-    loop_next w' n entry h = elim (cases_eq n j) [
-      | inl same ↦ rw (eq-eqb n j same) (at_loop n same h)
-      | inr other ↦ rw (ne_eqb n j other) (step_elsewhere w' n entry h other)
-    ] where
-      at_loop : (n : ℕ) → n ≡ j → (h : StepsLoop w n entry w') → Next w log made entry w' (loop_calls desk_calls h.setting h.old h.did h.new h.steps)
-      at_loop n same = subst (λ k. (h : StepsLoop w k entry w') → Next w log made entry w' (loop_calls desk_calls h.setting h.old h.did h.new h.steps)) (sym same) (step_here w' entry)
-
-    pub step_next : (s : Step) (entry : Line) (w' : World) (h : WorldStep w s entry w') → Next w log made entry w' (step_calls j w s entry w' h)
+    pub step_next : (s : Step) (entry : Line) (w' : World) (h : WorldStep w s entry w') → Next w' entry (step_calls j w s entry w' h)
     step_next (step.Loop n) entry w' h = loop_next w' n entry h
     step_next (step.Post n) entry w' h = posts_next w' n entry h
     step_next (step.Take n) entry w' h = take_next w' n h.0 w.jobs entry h.2
     step_next (step.Start n) entry w' h = start_next w' n h.0 entry h.2
     step_next (step.Finish n) entry w' h = finish_next w' n h.0 entry h.2
-    step_next (step.Collect n) entry w' h = unless_next w' n h.1 entry _ (collect_next w' n h.0 h.1 h.2 entry h.3 (holds.replies n h.2 h.4)) h.5
-    step_next (step.Send n a) entry w' h = moved w' entry n h.0 h.1 h.2 (plain entry _ h.7 refl refl) h.5 (ap (λ x. x.loops) h.8) (same_replies w' (ap (λ x. x.replies) h.8)) (same_requests h.0 h.1 h.2 h.6.1)
+    step_next (step.Collect n) entry w' h = unless_next w' n h.1 entry _ (collect_next w' n h.0 h.1 h.2 entry h.3 (keeps.replies n h.2 h.4)) h.5
+    step_next (step.Send n a) entry w' h =
+        moved w' entry _ n h.0 h.1 h.2 h.7 (inr refl) h.5 (ap (λ x. x.loops) h.8) (same_replies w' (ap (λ x. x.replies) h.8))
+        (λ same. beside h.0 h.1 h.2 entry _ h.7 refl (desk_beside.gets h.1.shared h.2.shared a h.3 h.6.0) h.6.1 h.6.2)
     step_next (step.Cancel n request) entry w' h =
         unless_next w' n h.1 entry _
-        (λ k. cancelled_next n request h.3 entry k.2 w' h.0 h.1 h.2 h.4 k.3 (fate_in desk_calls h.1.state.status (h.1.state, h.1.shared) request h.3 (h.2.state, h.2.shared) k.0)) h.5
+        (λ k. moved w' entry _ n h.0 h.1 h.2 k.2 (inl refl) h.4 (ap (λ x. x.loops) k.3) (same_replies w' (ap (λ x. x.replies) k.3))
+        (λ same. record { event = CancelAnswered request h.3; step = (k.0, k.1); tells = k.2 ∙ ap (λ i. line.Cancel i request (cast_signed w32 h.3)) same; calls = refl })) h.5
     step_next (step.Clock n ms) entry w' h =
         unless_next w' n h.1 entry _
-        (λ k. moved w' entry n h.0 h.1 _ (plain entry _ k.0 refl refl) h.2 (ap (λ x. x.loops) k.1) (same_replies w' (ap (λ x. x.replies) k.1)) (λ f. f)) h.3
+        (λ k. moved w' entry _ n h.0 h.1 _ k.0 (inl refl) h.2 (ap (λ x. x.loops) k.1) (same_replies w' (ap (λ x. x.replies) k.1))
+        (λ same. record { event = ClockRaised ms; step = refl; tells = ((after_clock h.1.state ms).clock, k.0 ∙ ap (λ i. line.Clock i (after_clock h.1.state ms).clock) same); calls = refl })) h.3
 
-  run_holds : (steps : List Step) (told : List Line) (w w' : World) (log : List Line) (made : List GuestCall) → Holds w log made → (run : WorldRun w steps told w') → Holds w' (log ++ told) (made ++ guest_calls j w steps told w' run)
-  run_holds [] [] w w' log made holds run =
-      subst (λ x. Holds x (log ++ []) (made ++ [])) (sym run) (rw (append-nil log, append-nil made) holds)
-  run_holds [] (e ∷ told) w w' log made holds run = absurd run
-  run_holds (s ∷ steps) [] w w' log made holds run = absurd run
-  run_holds (s ∷ steps) (e ∷ told) w w' log made holds run =
-      let next = step_next w log made holds s e run.0 run.1 in
+  pub run_keeps : (steps : List Step) (told : List Line) (w w' : World) (log : List Line) (made : List GuestCall) → Keeps w log made → (run : WorldRun w steps told w') → Keeps w' (log ++ told) (made ++ guest_calls j w steps told w' run)
+  run_keeps [] [] w w' log made keeps run =
+      subst (λ x. Keeps x (log ++ []) (made ++ [])) (sym run) (rw (append-nil log, append-nil made) keeps)
+  run_keeps [] (e ∷ told) w w' log made keeps run = absurd run
+  run_keeps (s ∷ steps) [] w w' log made keeps run = absurd run
+  run_keeps (s ∷ steps) (e ∷ told) w w' log made keeps run =
+      let next = step_next w log made keeps s e run.0 run.1 in
       let more = step_calls j w s e run.0 run.1 in
       let rest = guest_calls j run.0 steps told w' run.2 in
-      subst (λ x. Holds w' x (made ++ (more ++ rest))) (append_assoc log (e ∷ []) told)
-      (subst (Holds w' (log ++ e ∷ [] ++ told)) (append_assoc made more rest)
-      (run_holds steps told run.0 w' (log ++ e ∷ []) (made ++ more) next.holds run.2))
-
-  opens : (gs : List Setting) (n : ℕ) (p : Setting × Loop Desk) → slice_get (map opening_loop gs) n ≡ Some p → (slice_get gs n ≡ Some p.0) × (p.1.state.requests ≡ no_requests)
-  opens [] n p h = absurd (cc)
-  opens (g ∷ gs) zero p h = let is : opening_loop g ≡ p = cc in (ap (λ (x : Setting × Loop Desk). Some x.0) is, ap (λ (x : Setting × Loop Desk). x.1.state.requests) (sym is))
-  opens (g ∷ gs) (suc n) p h = opens gs n p h
-
-  no_replies : (gs : List Setting) (n : ℕ) (xs : List Answer) → slice_get (map (λ _. []) gs) n ≡ Some xs → AllEnds xs
-  no_replies [] n xs h = absurd (cc)
-  no_replies (g ∷ gs) zero xs h = let is : [] ≡ xs = cc in subst AllEnds is tt
-  no_replies (g ∷ gs) (suc n) xs h = no_replies gs n xs h
-
-  fresh_good : (g : Setting) → Good [] [] g no_requests
-  fresh_good g = record { owned = tt; fresh = λ _. (refl, never); gone = λ h. absurd (omega (arith, h)) } where
-    never : WasWon g r (InLog []) [] → ⊥
-    never (inl h) = omega (arith, h.1)
-    never (inr h) = omega (arith, h.1.1)
-
-  opening_holds : (workers : ℕ) → Holds (opening_world settings workers) [] []
-  opening_holds workers = record {
-    loops = λ p h. let it = opens settings j p h in (it.0, subst (Good [] [] p.0) (sym it.1) (fresh_good p.0));
-    replies = no_replies settings;
-    once = omega arith;
-  }
-
-  pub holds_after : (workers : ℕ) (steps : List Step) (log : List Line) (w : World) (run : WorldRun (opening_world settings workers) steps log w) → Holds w log (guest_calls j (opening_world settings workers) steps log w run)
-  holds_after workers steps log w run = run_holds steps log (opening_world settings workers) w [] [] (opening_holds workers) run
+      subst (λ x. Keeps w' x (made ++ (more ++ rest))) (append_assoc log (e ∷ []) told)
+      (subst (Keeps w' (log ++ e ∷ [] ++ told)) (append_assoc made more rest)
+      (run_keeps steps told run.0 w' (log ++ e ∷ []) (made ++ more) next run.2))

@@ -1,4 +1,5 @@
 pub mod Guests
+pub mod Histories
 pub mod Laws
 pub mod Making
 pub mod World

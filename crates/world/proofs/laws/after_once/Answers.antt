@@ -1,11 +1,15 @@
-use Rattle.world.proofs.Runs.{holds_after, step_next}
-use Rattle.world.specs.World.{opening_world}
-use Rattle.world.specs.Guests.{guest_calls}
+use Rattle.world.proofs.AfterOnce.{history_after, once_after, own_after, last_after}
 use Rattle.world.proofs.laws.after_once.Goals as goal
 
+pub returns-clause-history : goal.returns-clause-history
+returns-clause-history c settings workers steps log w run l g now at = history_after settings l workers steps log w run g now at
+
 pub returns-clause-once : goal.returns-clause-once
-returns-clause-once c settings workers steps log w run l request = (holds_after settings l request workers steps log w run).once
+returns-clause-once c settings workers steps log w run l request = once_after settings l request c.after_once.ensures.once workers steps log w run
 
 pub returns-clause-own : goal.returns-clause-own
-returns-clause-own c settings workers steps log w run s entry w' h l request now =
-    (step_next settings l request w log (guest_calls l (opening_world settings workers) steps log w run) (holds_after settings l request workers steps log w run) s entry w' h).own now
+returns-clause-own c settings workers steps log w run s entry w' h l request is = own_after settings l workers steps log w run request s entry w' h is c.after_once.ensures.own
+
+pub returns-clause-last : goal.returns-clause-last
+returns-clause-last c settings workers steps log w run s entry mid h behind more w' rest l request is cancelled =
+    last_after settings l workers steps log w run request s entry mid h is c.after_once.ensures.last behind more w' rest cancelled

@@ -6,7 +6,7 @@ use Rattle.std.proofs.lemmas.List.Elements.{filter-append}
 use Rattle.order.specs.Work.{WorkOrder, WorkEnd, IsEndOf}
 use Rattle.phases.specs.Requests.{Stage, Open, HandedOut, Answered, Cancelled, Request, Requests, has_number, request_of, in_stage, with_stage, without_request, with_work, is_open_stage, is_settled, lowest_open}
 use Rattle.phases.specs.Outside.{IsOneOf, answered}
-use Rattle.world.proofs.Filtered.{first, Member, find_first, first_passes, filter_mapped, found_kept, filter_kept, filter_dropped}
+use Rattle.phases.proofs.Filtered.{first, Member, find_first, first_passes, filter_mapped, found_kept, filter_kept, filter_dropped}
 
 abbrev pub numbered : ℕ → Requests → List Request
 numbered r rs = filter (has_number r) rs.outstanding
@@ -24,11 +24,13 @@ Owned asked won [] = Unit {0}
 Owned asked won (q ∷ []) = asked q.order × Stands q.order won q.stage
 Owned asked won (q ∷ x ∷ xs) = ⊥
 
--- The request of one number: a number that was not given is not cancelled, and one whose callback ran is gone.
-pub record Fits (r : ℕ) (asked : WorkOrder → Type 0) (won ran : Type 0) (rs : Requests) : Type 0 where
+-- The request of one number: a number that was not given is not cancelled, and one whose callback ran is gone, so that
+-- it is cancelled only if it was so early.
+pub record Fits (r : ℕ) (asked : WorkOrder → Type 0) (won ran early : Type 0) (rs : Requests) : Type 0 where
   pub owned : Owned asked won (numbered r rs)
   pub fresh : rs.last < r → (numbered r rs ≡ []) × (won → ⊥)
   pub gone : ran → (r ≤ rs.last) × (numbered r rs ≡ [])
+  pub late : ran → won → early
 
 -- whoever was asked for before still is
 abbrev pub Covers : (asked asked' : WorkOrder → Type 0) → Type 0
@@ -49,11 +51,12 @@ owned_more asked asked' won won' (q ∷ []) c e h = (c q.order h.0, stands_same 
 owned_more asked asked' won won' (q ∷ x ∷ xs) c e h = h
 
 -- nothing happens to this request, or to any
-pub fits_more : (r : ℕ) (asked asked' : WorkOrder → Type 0) (won won' ran : Type 0) (rs : Requests) → Covers asked asked' → Same won won' → Fits r asked won ran rs → Fits r asked' won' ran rs
-fits_more r asked asked' won won' ran rs c e f = record {
+pub fits_more : (r : ℕ) (asked asked' : WorkOrder → Type 0) (won won' ran early : Type 0) (rs : Requests) → Covers asked asked' → Same won won' → Fits r asked won ran early rs → Fits r asked' won' ran early rs
+fits_more r asked asked' won won' ran early rs c e f = record {
   owned = owned_more asked asked' won won' (numbered r rs) c e f.owned;
   fresh = λ low. let it = f.fresh low in (it.0, λ w. it.1 (e.1 w));
   gone = f.gone;
+  late = λ h w. f.late h (e.1 w);
 }
 
 number_kept : (r n : ℕ) (s : Stage) (q : Request) → has_number r (in_stage n s q) ≡ has_number r q
@@ -85,12 +88,13 @@ pub record Stages (asked asked' : WorkOrder → Type 0) (won won' : Type 0) (r n
   pub here : (q : Request) → r ≡ n → numbered r rs ≡ q ∷ [] → Stands q.order won q.stage → Stands q.order won' s
   pub given : r ≡ n → numbered r rs ≢ []
 
-pub fits_staged : (r n : ℕ) (s : Stage) (asked asked' : WorkOrder → Type 0) (won won' ran : Type 0) (rs : Requests)
-    → Stages asked asked' won won' r n s rs → Fits r asked won ran rs → Fits r asked' won' ran (with_stage rs n s)
-fits_staged r n s asked asked' won won' ran rs t f = record {
+pub fits_staged : (r n : ℕ) (s : Stage) (asked asked' : WorkOrder → Type 0) (won won' ran early : Type 0) (rs : Requests)
+    → Stages asked asked' won won' r n s rs → Fits r asked won ran early rs → Fits r asked' won' ran early (with_stage rs n s)
+fits_staged r n s asked asked' won won' ran early rs t f = record {
   owned = rw (numbered_staged r n s rs) (owned (numbered r rs) refl f.owned);
   fresh = λ low. let it = f.fresh low in (rw (numbered_staged r n s rs) (ap (map (in_stage n s)) it.0), λ w. it.1 ((t.apart (λ e. t.given e it.0)).1 w));
   gone = λ h. let it = f.gone h in (it.0, rw (numbered_staged r n s rs) (ap (map (in_stage n s)) it.1));
+  late = λ h w. elim (cases_eq r n) [ inl here ↦ absurd (t.given here (f.gone h).1) | inr apart ↦ f.late h ((t.apart apart).1 w) ];
 } where
   at_one : (q : Request) (b : Bool) → has_number n q ≡ b → numbered r rs ≡ q ∷ [] → Stands q.order won q.stage → asked q.order
       → Owned asked' won' (cond b (record q { stage = s }) q ∷ [])
@@ -109,9 +113,9 @@ fits_staged r n s asked asked' won won' ran rs t f = record {
   owned (q ∷ x ∷ xs) only h = absurd h
 
 -- a new request is opened
-pub fits_opened : (r : ℕ) (asked asked' : WorkOrder → Type 0) (won won' ran : Type 0) (rs : Requests) (o : WorkOrder)
-    → o.request ≡ rs.last + 1 → Covers asked asked' → Same won won' → asked' o → Fits r asked won ran rs → Fits r asked' won' ran (with_work rs o)
-fits_opened r asked asked' won won' ran rs o next c e a f = record {
+pub fits_opened : (r : ℕ) (asked asked' : WorkOrder → Type 0) (won won' ran early : Type 0) (rs : Requests) (o : WorkOrder)
+    → o.request ≡ rs.last + 1 → Covers asked asked' → Same won won' → asked' o → Fits r asked won ran early rs → Fits r asked' won' ran early (with_work rs o)
+fits_opened r asked asked' won won' ran early rs o next c e a f = record {
   owned = rw (filter-append (has_number r) rs.outstanding (new ∷ [])) (owned (has_number r new) refl);
   fresh = λ low.
       let below : rs.last < r = omega (arith, low, next) in
@@ -123,6 +127,7 @@ fits_opened r asked asked' won won' ran rs o next c e a f = record {
       let le : r ≤ rs.last = it.0 in
       let other : has_number r new ≡ false = ne_eqb o.request r (λ same. omega (arith, le, next, same)) in
       (omega (arith, le, next), filter-append (has_number r) rs.outstanding (new ∷ []) ∙ rw other (ap (λ qs. qs ++ []) it.1));
+  late = λ h w. f.late h (e.1 w);
 } where
   new : Request
   new = record { order = o; stage = Open }
@@ -155,23 +160,25 @@ removed_here r rs = filter_dropped (λ q. not (has_number r q)) (has_number r) (
   by true h = absurd (cc)
   by false h = refl
 
-pub fits_removed : (r n : ℕ) (asked : WorkOrder → Type 0) (won ran : Type 0) (rs : Requests) → Fits r asked won ran rs → Fits r asked won ran (without_request rs n)
-fits_removed r n asked won ran rs f = elim (cases_eq r n) [
+pub fits_removed : (r n : ℕ) (asked : WorkOrder → Type 0) (won ran early : Type 0) (rs : Requests) → Fits r asked won ran early rs → Fits r asked won ran early (without_request rs n)
+fits_removed r n asked won ran early rs f = elim (cases_eq r n) [
   | inl here ↦
       let none : numbered r (without_request rs n) ≡ [] = ap (λ k. numbered r (without_request rs k)) (sym here) ∙ removed_here r rs in
-      record { owned = rw none tt; fresh = λ low. (none, (f.fresh low).1); gone = λ h. ((f.gone h).0, none) }
+      record { owned = rw none tt; fresh = λ low. (none, (f.fresh low).1); gone = λ h. ((f.gone h).0, none); late = f.late }
   | inr apart ↦
       let same = removed_apart r n rs apart in
-      record { owned = rw same f.owned; fresh = λ low. let it = f.fresh low in (same ∙ it.0, it.1); gone = λ h. let it = f.gone h in (it.0, same ∙ it.1) }
+      record { owned = rw same f.owned; fresh = λ low. let it = f.fresh low in (same ∙ it.0, it.1); gone = λ h. let it = f.gone h in (it.0, same ∙ it.1); late = f.late }
 ]
 
+-- a request that stands was given its number
+pub was_given : (r : ℕ) (asked : WorkOrder → Type 0) (won ran early : Type 0) (rs : Requests) (q : Request) → numbered r rs ≡ q ∷ [] → Fits r asked won ran early rs → r ≤ rs.last
+was_given r asked won ran early rs q only f = elim (cases_lt rs.last r) [ inl low ↦ absurd (let none = (f.fresh low).0 in cc) | inr le ↦ le ]
+
 -- once its callback begins, the request is gone for good
-pub fits_ran : (r : ℕ) (asked : WorkOrder → Type 0) (won ran ran' : Type 0) (rs : Requests) (q : Request) → numbered r rs ≡ q ∷ [] → Fits r asked won ran rs → Fits r asked won ran' (without_request rs r)
-fits_ran r asked won ran ran' rs q only f =
+pub fits_ran : (r : ℕ) (asked : WorkOrder → Type 0) (won ran early : Type 0) (rs : Requests) → r ≤ rs.last → (won → early) → Fits r asked won ran early (without_request rs r)
+fits_ran r asked won ran early rs given then_early =
     let none = removed_here r rs in
-    record { owned = rw none tt; fresh = λ low. (none, (f.fresh low).1); gone = λ h. (given, none) } where
-      given : r ≤ rs.last
-      given = elim (cases_lt rs.last r) [ inl low ↦ absurd (let none = (f.fresh low).0 in cc) | inr le ↦ le ]
+    record { owned = rw none tt; fresh = λ low. absurd (omega (arith, low, given)); gone = λ h. (given, none); late = λ h. then_early }
 
 -- the lowest open request is handed out
 is_open : (s : Stage) → is_open_stage s ≡ true → s ≡ Open
@@ -180,8 +187,8 @@ is_open HandedOut h = absurd (cc)
 is_open (Answered end) h = absurd (cc)
 is_open Cancelled h = absurd (cc)
 
-pub fits_handed : (r : ℕ) (asked : WorkOrder → Type 0) (won ran : Type 0) (rs : Requests) (q : Request) → lowest_open rs ≡ Some q → Fits r asked won ran rs → Fits r asked won ran (with_stage rs q.order.request HandedOut)
-fits_handed r asked won ran rs q lowest f = fits_staged r q.order.request HandedOut asked asked won won ran rs stages f where
+pub fits_handed : (r : ℕ) (asked : WorkOrder → Type 0) (won ran early : Type 0) (rs : Requests) (q : Request) → lowest_open rs ≡ Some q → Fits r asked won ran early rs → Fits r asked won ran early (with_stage rs q.order.request HandedOut)
+fits_handed r asked won ran early rs q lowest f = fits_staged r q.order.request HandedOut asked asked won won ran early rs stages f where
   kept : r ≡ q.order.request → Member q (numbered r rs)
   kept here = found_kept (λ x. is_open_stage x.stage) (has_number r) rs.outstanding q lowest (eq-eqb q.order.request r (sym here))
 
@@ -212,8 +219,8 @@ unsettled_not o won HandedOut e h = h
 unsettled_not o won (Answered end) e h = absurd (cc)
 unsettled_not o won Cancelled e h = absurd (cc)
 
-pub fits_answered : (r : ℕ) (asked : WorkOrder → Type 0) (won ran : Type 0) (rs : Requests) (o : WorkOrder) (end : WorkEnd) → IsOneOf o rs → ∥ IsEndOf o end ∥₁ → Fits r asked won ran rs → Fits r asked won ran (answered rs o end)
-fits_answered r asked won ran rs o end one right f = fits_staged r o.request (Answered end) asked asked won won ran rs stages f where
+pub fits_answered : (r : ℕ) (asked : WorkOrder → Type 0) (won ran early : Type 0) (rs : Requests) (o : WorkOrder) (end : WorkEnd) → IsOneOf o rs → ∥ IsEndOf o end ∥₁ → Fits r asked won ran early rs → Fits r asked won ran early (answered rs o end)
+fits_answered r asked won ran early rs o end one right f = fits_staged r o.request (Answered end) asked asked won won ran early rs stages f where
   only : r ≡ o.request → numbered r rs ≡ one.request ∷ []
   only here = only_found asked won r rs one.request f.owned (ap (request_of rs) here ∙ one.outstanding)
 

@@ -1,5 +1,5 @@
 -- What one step of a loop does to the request of one number.
-use Rattle.std.proofs.Common.{◌≡◌, ◌≢◌, ℕ, ◌+◌, ◌==◌, Bool, true, false, cond, not, ◌&&◌, inl, inr, ◌⊎◌, List, [], ◌∷◌, ◌++◌, length, Option, Some, None, refl, sym, ap, subst, ◌∙◌, arith, append_assoc, MatchBool, MatchOption, ℤ, negsuc}
+use Rattle.std.proofs.Common.{◌≡◌, ◌≢◌, ℕ, ◌+◌, ◌≤◌, ◌==◌, Bool, true, false, cond, not, ◌&&◌, inl, inr, ◌⊎◌, List, [], ◌∷◌, ◌++◌, length, Option, Some, None, refl, sym, ap, subst, ◌∙◌, arith, append_assoc, MatchBool, MatchOption, ℤ, negsuc}
 use Rattle.std.specs.List.{Contains}
 use Rattle.std.specs.Prelude.{nat_lt, nat_le, codes, pos}
 use Rattle.std.specs.Int.{w32, cast_signed}
@@ -36,9 +36,9 @@ use Rattle.phases.specs.Calls.{Calls}
 use Rattle.phases.specs.Host.{HostStep, CallStep, Cancels, CancelsAt, QueuesWork, Opens, next_work, standing_of, request_standing, emitted_in, with_roster, with_requests}
 use Rattle.phases.specs.Outside.{CancelIn}
 use Rattle.phases.specs.Step.{LoopStep, StepIn, ListStep, EntryStep, NextPhase, RunsFrom, CallsBack, CallsHandle, Skips, TakesFirst, AfterWork, in_state, sharing, begun, entered, now_in, is_as_listed, handle_function}
-use Rattle.world.specs.Guests.{GuestCall, named_calls, run_calls, back_calls, calls_if, calls_unless, handle_calls, taking_calls, async_calls, work_calls, after_calls, entry_calls, list_calls, status_calls, loop_calls}
-use Rattle.world.specs.Laws.{WasAsked, IsCancel}
-use Rattle.world.proofs.Numbered.{Fits, Covers, Same, Stages, numbered, fits_more, fits_staged, fits_opened, fits_removed, fits_ran, only_found}
+use Rattle.phases.specs.Guests.{GuestCall, named_calls, run_calls, back_calls, calls_if, calls_unless, handle_calls, taking_calls, async_calls, work_calls, after_calls, entry_calls, list_calls, status_calls, loop_calls}
+use Rattle.phases.specs.Laws.{WasAsked, IsCancel}
+use Rattle.phases.proofs.Numbered.{Fits, Covers, Same, Stages, numbered, fits_more, fits_staged, fits_opened, fits_removed, fits_ran, was_given, only_found}
 
 -- an answer other than 0, read as unsigned and as signed
 pub record IsRefusal (answer : ℕ) : Type 0 where
@@ -96,8 +96,8 @@ module _ (g : Setting) (r : ℕ) (L : Type 0) where
   abbrev pub WasWon : List GuestCall → Type 0
   WasWon made = L ⊎ ((c : GuestCall) × Contains made c × IsCancel r c)
 
-  abbrev pub Held : (ran : Type 0) → List GuestCall → Requests → Type 0
-  Held ran made rs = Fits r (WasAsked g made) (WasWon made) ran rs
+  abbrev pub Held : (ran early : Type 0) → List GuestCall → Requests → Type 0
+  Held ran early made rs = Fits r (WasAsked g made) (WasWon made) ran early rs
 
   pub covers : (made more : List GuestCall) → Covers (WasAsked g made) (WasAsked g (made ++ more))
   covers made more o a = (a.0, Contains-append_left made more a.0 a.1, a.2)
@@ -120,26 +120,26 @@ module _ (g : Setting) (r : ℕ) (L : Type 0) where
   no_cancel : (c : GuestCall) → (IsCancel r c → ⊥) → (d : GuestCall) → Contains (c ∷ []) d → IsCancel r d → ⊥
   no_cancel c never d h k = never (subst (IsCancel r) (sym (only_one c d h)) k)
 
-  stays : (ran : Type 0) (made : List GuestCall) (c : GuestCall) (rs rs' : Requests) → (IsCancel r c → ⊥) → rs' ≡ rs → Held ran made rs → Held ran (made ++ c ∷ []) rs'
-  stays ran made c rs rs' never e f =
-      subst (Held ran (made ++ c ∷ [])) (sym e)
-      (fits_more r (WasAsked g made) (WasAsked g (made ++ c ∷ [])) (WasWon made) (WasWon (made ++ c ∷ [])) ran rs (covers made (c ∷ [])) (same_won made (c ∷ []) (no_cancel c never)) f)
+  stays : (ran early : Type 0) (made : List GuestCall) (c : GuestCall) (rs rs' : Requests) → (IsCancel r c → ⊥) → rs' ≡ rs → Held ran early made rs → Held ran early (made ++ c ∷ []) rs'
+  stays ran early made c rs rs' never e f =
+      subst (Held ran early (made ++ c ∷ [])) (sym e)
+      (fits_more r (WasAsked g made) (WasAsked g (made ++ c ∷ [])) (WasWon made) (WasWon (made ++ c ∷ [])) ran early rs (covers made (c ∷ [])) (same_won made (c ∷ []) (no_cancel c never)) f)
 
-  pub nothing_more : (ran : Type 0) (made : List GuestCall) (rs rs' : Requests) → rs' ≡ rs → Held ran made rs → Held ran (made ++ []) rs'
-  nothing_more ran made rs rs' e f =
-      subst (Held ran (made ++ [])) (sym e)
-      (fits_more r (WasAsked g made) (WasAsked g (made ++ [])) (WasWon made) (WasWon (made ++ [])) ran rs (covers made []) (same_won made [] (λ c none k. omega (arith, none.1))) f)
+  pub nothing_more : (ran early : Type 0) (made : List GuestCall) (rs rs' : Requests) → rs' ≡ rs → Held ran early made rs → Held ran early (made ++ []) rs'
+  nothing_more ran early made rs rs' e f =
+      subst (Held ran early (made ++ [])) (sym e)
+      (fits_more r (WasAsked g made) (WasAsked g (made ++ [])) (WasWon made) (WasWon (made ++ [])) ran early rs (covers made []) (same_won made [] (λ c none k. omega (arith, none.1))) f)
 
   other_call : (c : GuestCall) → is_cancel_call c.function ≡ false → IsCancel r c → ⊥
   other_call c never k = (let is = ap is_cancel_call k.function in cc)
 
   -- a guest's cancel
-  cancel_holds : (ran : Type 0) (made : List GuestCall) (c : GuestCall) (n answer : ℕ) (rs rs' : Requests) → c.function ≡ Cancel → c.call.args ≡ I32 n ∷ [] → c.call.answer ≡ Some (I32 answer)
-      → CancelFate rs n answer rs' → Held ran made rs → Held ran (made ++ c ∷ []) rs'
-  cancel_holds ran made c n answer rs rs' is args told (stayed refused e) f = stays ran made c rs rs' (λ k. refused.unsigned (let it = sym told ∙ k.answer in cc)) e f
-  cancel_holds ran made c n answer rs rs' is args told (cancelled q found won e) f =
-      subst (Held ran (made ++ c ∷ [])) (sym e)
-      (fits_staged r n Cancelled (WasAsked g made) (WasAsked g (made ++ c ∷ [])) (WasWon made) (WasWon (made ++ c ∷ [])) ran rs stages f) where
+  cancel_holds : (ran early : Type 0) (made : List GuestCall) (c : GuestCall) (n answer : ℕ) (rs rs' : Requests) → c.function ≡ Cancel → c.call.args ≡ I32 n ∷ [] → c.call.answer ≡ Some (I32 answer)
+      → CancelFate rs n answer rs' → Held ran early made rs → Held ran early (made ++ c ∷ []) rs'
+  cancel_holds ran early made c n answer rs rs' is args told (stayed refused e) f = stays ran early made c rs rs' (λ k. refused.unsigned (let it = sym told ∙ k.answer in cc)) e f
+  cancel_holds ran early made c n answer rs rs' is args told (cancelled q found won e) f =
+      subst (Held ran early (made ++ c ∷ [])) (sym e)
+      (fits_staged r n Cancelled (WasAsked g made) (WasAsked g (made ++ c ∷ [])) (WasWon made) (WasWon (made ++ c ∷ [])) ran early rs stages f) where
         stages : Stages (WasAsked g made) (WasAsked g (made ++ c ∷ [])) (WasWon made) (WasWon (made ++ c ∷ [])) r n Cancelled rs
         stages = record {
           covers = covers made (c ∷ []);
@@ -174,12 +174,12 @@ module _ (g : Setting) (r : ℕ) (L : Type 0) where
           (refuse (length old.0.outstanding == 32) no_room
           (refuse (old.0.last == 2147483647) none_left last)))) h
 
-    queue_holds : (ran : Type 0) (made : List GuestCall) (c : GuestCall) (op place count answer : ℕ) (old new : Requests × S) → c.function ≡ QueueWork → c.call.args ≡ I32 op ∷ I32 place ∷ I32 count ∷ [] → c.call.answer ≡ Some (I32 answer)
-        → QueueFate old op (taken_out place count c.call.before) answer new → Held ran made old.0 → Held ran (made ++ c ∷ []) new.0
-    queue_holds ran made c op place count answer old new is args told (refused e) f = stays ran made c old.0 new.0 (other_call c (ap is_cancel_call is)) e f
-    queue_holds ran made c op place count answer old new is args told (opened h) f =
-        subst (Held ran (made ++ c ∷ [])) (sym h.kept)
-        (fits_opened r (WasAsked g made) (WasAsked g (made ++ c ∷ [])) (WasWon made) (WasWon (made ++ c ∷ [])) ran old.0 o refl (covers made (c ∷ []))
+    queue_holds : (ran early : Type 0) (made : List GuestCall) (c : GuestCall) (op place count answer : ℕ) (old new : Requests × S) → c.function ≡ QueueWork → c.call.args ≡ I32 op ∷ I32 place ∷ I32 count ∷ [] → c.call.answer ≡ Some (I32 answer)
+        → QueueFate old op (taken_out place count c.call.before) answer new → Held ran early made old.0 → Held ran early (made ++ c ∷ []) new.0
+    queue_holds ran early made c op place count answer old new is args told (refused e) f = stays ran early made c old.0 new.0 (other_call c (ap is_cancel_call is)) e f
+    queue_holds ran early made c op place count answer old new is args told (opened h) f =
+        subst (Held ran early (made ++ c ∷ [])) (sym h.kept)
+        (fits_opened r (WasAsked g made) (WasAsked g (made ++ c ∷ [])) (WasWon made) (WasWon (made ++ c ∷ [])) ran early old.0 o refl (covers made (c ∷ []))
         (same_won made (c ∷ []) (no_cancel c (other_call c (ap is_cancel_call is)))) asked f) where
           o : WorkOrder
           o = next_work g old.0 h.slot op (taken_out place count c.call.before)
@@ -194,14 +194,14 @@ module _ (g : Setting) (r : ℕ) (L : Type 0) where
       by false = refl
 
     -- one call of the guest
-    module _ (ran : Type 0) (made : List GuestCall) (old : State × S) (call : HostCall) (new : State × S) where
+    module _ (ran early : Type 0) (made : List GuestCall) (old : State × S) (call : HostCall) (new : State × S) where
       abbrev Done : Call → Type 0
-      Done f = Held ran (made ++ record { function = f; call = call } ∷ []) new.0.requests
+      Done f = Held ran early (made ++ record { function = f; call = call } ∷ []) new.0.requests
 
-      plain : (f : Call) → is_cancel_call f ≡ false → new.0.requests ≡ old.0.requests → Held ran made old.0.requests → Done f
-      plain f never e h = stays ran made (record { function = f; call = call }) old.0.requests new.0.requests (other_call (record { function = f; call = call }) never) e h
+      plain : (f : Call) → is_cancel_call f ≡ false → new.0.requests ≡ old.0.requests → Held ran early made old.0.requests → Done f
+      plain f never e h = stays ran early made (record { function = f; call = call }) old.0.requests new.0.requests (other_call (record { function = f; call = call }) never) e h
 
-      call_holds : (f : Call) (args : List Value) → call.args ≡ args → CallStep calls g old call new f args → Held ran made old.0.requests → Done f
+      call_holds : (f : Call) (args : List Value) → call.args ≡ args → CallStep calls g old call new f args → Held ran early made old.0.requests → Done f
       call_holds Now [] is h f = plain Now refl (ap (λ p. p.0.requests) h.2) f
       call_holds TimerInit [] is h f = plain TimerInit refl (ap (λ p. p.0.requests) h.4) f
       call_holds IdleInit [] is h f = plain IdleInit refl (ap (λ p. p.0.requests) h.4) f
@@ -218,12 +218,12 @@ module _ (g : Setting) (r : ℕ) (L : Type 0) where
       call_holds IsActive (I32 handle ∷ []) is h f = plain IsActive refl (ap (λ p. p.0.requests) h.1) f
       call_holds Close (I32 handle ∷ I32 callback ∷ []) is h f = plain Close refl (ap (λ p. p.0.requests) h.1) f
       call_holds QueueWork (I32 op ∷ I32 place ∷ I32 count ∷ []) is h f =
-          subst (Held ran (made ++ record { function = QueueWork; call = call } ∷ [])) (sym (ap (λ s. s.requests) h.4))
-          (queue_holds ran made (record { function = QueueWork; call = call }) op place count h.0 (old.0.requests, old.1) (h.1, new.1) refl is h.3.0
+          subst (Held ran early (made ++ record { function = QueueWork; call = call } ∷ [])) (sym (ap (λ s. s.requests) h.4))
+          (queue_holds ran early made (record { function = QueueWork; call = call }) op place count h.0 (old.0.requests, old.1) (h.1, new.1) refl is h.3.0
           (queue_fate call.before (old.0.requests, old.1) op place count h.0 (h.1, new.1) h.2) f)
       call_holds Cancel (I32 number ∷ []) is h f =
-          subst (Held ran (made ++ record { function = Cancel; call = call } ∷ [])) (sym (ap (λ s. s.requests) h.4))
-          (cancel_holds ran made (record { function = Cancel; call = call }) number h.0 old.0.requests h.1 refl is h.3.0
+          subst (Held ran early (made ++ record { function = Cancel; call = call } ∷ [])) (sym (ap (λ s. s.requests) h.4))
+          (cancel_holds ran early made (record { function = Cancel; call = call }) number h.0 old.0.requests h.1 refl is h.3.0
           (fate_of calls (old.0.requests, old.1) number h.0 (h.1, new.1) h.2) f)
       call_holds InLen [] is h f = plain InLen refl (ap (λ p. p.0.requests) h.1) f
       call_holds InCopy (I32 to ∷ I32 from ∷ I32 count ∷ []) is h f = plain InCopy refl (ap (λ p. p.0.requests) h.1) f
@@ -231,17 +231,25 @@ module _ (g : Setting) (r : ℕ) (L : Type 0) where
       call_holds Emit (I64 value ∷ []) is h f = plain Emit refl (ap (λ p. p.0.requests) h.1 ∙ emit_keeps value old.0) f
       call_holds _ _ is h f = absurd h
 
-    trace_holds : (ran : Type 0) (made : List GuestCall) (trace : List HostCall) (old new : State × S) (h : Lawful (HostStep calls g) trace old new) → Held ran made old.0.requests → Held ran (made ++ named_calls calls g trace old new h) new.0.requests
-    trace_holds ran made [] old new h f = nothing_more ran made old.0.requests new.0.requests (ap (λ p. p.0.requests) h) f
-    trace_holds ran made (call ∷ trace) old new h f =
+    trace_holds : (ran early : Type 0) (made : List GuestCall) (trace : List HostCall) (old new : State × S) (h : Lawful (HostStep calls g) trace old new) → Held ran early made old.0.requests → Held ran early (made ++ named_calls calls g trace old new h) new.0.requests
+    trace_holds ran early made [] old new h f = nothing_more ran early made old.0.requests new.0.requests (ap (λ p. p.0.requests) h) f
+    trace_holds ran early made (call ∷ trace) old new h f =
         let c : GuestCall = record { function = h.1.0; call = call } in
-        subst (λ cs. Held ran cs new.0.requests) (append_assoc made (c ∷ []) (named_calls calls g trace h.0 new h.2))
-        (trace_holds ran (made ++ c ∷ []) trace h.0 new h.2 (call_holds ran made old call h.0 h.1.0 call.args refl h.1.2 f))
+        subst (λ cs. Held ran early cs new.0.requests) (append_assoc made (c ∷ []) (named_calls calls g trace h.0 new h.2))
+        (trace_holds ran early (made ++ c ∷ []) trace h.0 new h.2 (call_holds ran early made old call h.0 h.1.0 call.args refl h.1.2 f))
 
 -- what a step tells of an after-work callback
 abbrev pub after_of : StepDid → Option ℕ
 after_of (Ran kind.After number ended) = Some number
 after_of _ = None
+
+module _ {S : Type 0} (calls : Calls S) (g : Setting) (r : ℕ) where
+  callback_holds : (L ran early : Type 0) (made : List GuestCall) (old : Loop S) (kind : EntryKind) (number function : ℕ) (args : List Value) (reply : Option (List ℕ)) (did : StepDid) (new : Loop S)
+      (h : RunsFrom calls g old kind number function args reply did new) → Held g r L ran early made old.state.requests
+      → Held g r L ran early (made ++ run_calls calls g old kind number function args reply did new h) new.state.requests
+  callback_holds L ran early made old kind number function args reply did new h f =
+      subst (Held g r L ran early (made ++ run_calls calls g old kind number function args reply did new h)) (sym (ap (λ s. s.requests) h.finished))
+      (trace_holds g r L calls ran early made h.trace (begun old.state reply, old.shared) (h.state, new.shared) h.answers f)
 
 module _ {S : Type 0} (calls : Calls S) (g : Setting) (r : ℕ) (L : Type 0) where
   -- the after-work callback of the request ran, which was there
@@ -250,62 +258,60 @@ module _ {S : Type 0} (calls : Calls S) (g : Setting) (r : ℕ) (L : Type 0) whe
     pub only : numbered r base.state.requests ≡ request ∷ []
     pub work : AfterWork calls g base r (tidings_of request.stage) did new
 
-  -- what a step leaves of the request, and, where its callback ran, that it is gone for good
-  pub record Passes (ran : Type 0) (made more : List GuestCall) (base : Loop S) (did : StepDid) (new : Loop S) : Type 0 where
-    pub held : Held g r L ran (made ++ more) new.state.requests
-    pub after : after_of did ≡ Some r → WorkedAfter base did new × Held g r L (Unit {0}) (made ++ more) new.state.requests
+  -- what a callback of the request leaves: it is gone for good, and is not cancelled any more
+  pub record Leaves (made more : List GuestCall) (new : Loop S) : Type 0 where
+    pub gone : Held g r L (Unit {0}) (Unit {0}) (made ++ more) new.state.requests
+    pub late : Held g r ⊥ (Unit {0}) ⊥ more new.state.requests
 
-  module _ (ran : Type 0) (made : List GuestCall) where
-    quiet : (more : List GuestCall) (base : Loop S) (did : StepDid) (new : Loop S) → Held g r L ran (made ++ more) new.state.requests → after_of did ≡ None → Passes ran made more base did new
+  -- what an entry leaves of the request
+  pub record Passes (e : Entry) (ran early : Type 0) (made more : List GuestCall) (base : Loop S) (did : StepDid) (new : Loop S) : Type 0 where
+    pub held : Held g r L ran early (made ++ more) new.state.requests
+    pub after : after_of did ≡ Some r → (e ≡ entry.After r) × WorkedAfter base did new × Leaves made more new
+
+  module _ (e : Entry) (ran early : Type 0) (made : List GuestCall) where
+    quiet : (more : List GuestCall) (base : Loop S) (did : StepDid) (new : Loop S) → Held g r L ran early (made ++ more) new.state.requests → after_of did ≡ None → Passes e ran early made more base did new
     quiet more base did new held none = record { held = held; after = λ h. absurd (cc) }
-
-    runs_hold : (old : Loop S) (kind : EntryKind) (number function : ℕ) (args : List Value) (reply : Option (List ℕ)) (did : StepDid) (new : Loop S)
-        (h : RunsFrom calls g old kind number function args reply did new) → Held g r L ran made old.state.requests
-        → Held g r L ran (made ++ run_calls calls g old kind number function args reply did new h) new.state.requests
-    runs_hold old kind number function args reply did new h f =
-        subst (Held g r L ran (made ++ run_calls calls g old kind number function args reply did new h)) (sym (ap (λ s. s.requests) h.finished))
-        (trace_holds g r L calls ran made h.trace (begun old.state reply, old.shared) (h.state, new.shared) h.answers f)
 
     -- a callback that is none of after-work
     abbrev IsOther : EntryKind → Type 0
     IsOther kind = (number : ℕ) (ended : Ended) → after_of (Ran kind number ended) ≡ None
 
     back_passes : (base old : Loop S) (kind : EntryKind) (number : ℕ) (function : Option ℕ) (args : List Value) (did : StepDid) (new : Loop S) → IsOther kind
-        → (h : CallsBack calls g old kind number function args did new) → Held g r L ran made old.state.requests
-        → Passes ran made (back_calls calls g old kind number function args did new h) base did new
+        → (h : CallsBack calls g old kind number function args did new) → Held g r L ran early made old.state.requests
+        → Passes e ran early made (back_calls calls g old kind number function args did new h) base did new
     back_passes base old kind number None args did new other h f = absurd h
     back_passes base old kind number (Some k) args did new other h f =
-        quiet (run_calls calls g old kind number k args None did new h) base did new (runs_hold old kind number k args None did new h f) (ap after_of h.told ∙ other number h.ended)
+        quiet (run_calls calls g old kind number k args None did new h) base did new (callback_holds calls g r L ran early made old kind number k args None did new h f) (ap after_of h.told ∙ other number h.ended)
 
-    skips_pass : (base old : Loop S) (kind : EntryKind) (number : ℕ) (did : StepDid) (new : Loop S) → Skips calls g old kind number did new → Held g r L ran made old.state.requests
-        → Passes ran made [] base did new
+    skips_pass : (base old : Loop S) (kind : EntryKind) (number : ℕ) (did : StepDid) (new : Loop S) → Skips calls g old kind number did new → Held g r L ran early made old.state.requests
+        → Passes e ran early made [] base did new
     skips_pass base old kind number did new h f =
-        quiet [] base did new (nothing_more g r L ran made old.state.requests new.state.requests (ap (λ l. l.state.requests) h.1) f) (ap after_of h.0)
+        quiet [] base did new (nothing_more g r L ran early made old.state.requests new.state.requests (ap (λ l. l.state.requests) h.1) f) (ap after_of h.0)
 
     passes_if : (b : Bool) (P Q : Type 0) (more : P → List GuestCall) (base : Loop S) (did : StepDid) (new : Loop S)
-        → ((p : P) → Passes ran made (more p) base did new) → (Q → Passes ran made [] base did new)
-        → (h : MatchBool b P Q) → Passes ran made (calls_if b P Q more h) base did new
+        → ((p : P) → Passes e ran early made (more p) base did new) → (Q → Passes e ran early made [] base did new)
+        → (h : MatchBool b P Q) → Passes e ran early made (calls_if b P Q more h) base did new
     passes_if true P Q more base did new f k h = f h
     passes_if false P Q more base did new f k h = k h
 
     passes_unless : (b : Bool) (P Q : Type 0) (more : Q → List GuestCall) (base : Loop S) (did : StepDid) (new : Loop S)
-        → (P → Passes ran made [] base did new) → ((q : Q) → Passes ran made (more q) base did new)
-        → (h : MatchBool b P Q) → Passes ran made (calls_unless b P Q more h) base did new
+        → (P → Passes e ran early made [] base did new) → ((q : Q) → Passes e ran early made (more q) base did new)
+        → (h : MatchBool b P Q) → Passes e ran early made (calls_unless b P Q more h) base did new
     passes_unless true P Q more base did new f k h = f h
     passes_unless false P Q more base did new f k h = k h
 
     -- an entry of a handle
     listed_passes : (base old fired : Loop S) (b : Bool) (kind : EntryKind) (handle : ℕ) (did : StepDid) (new : Loop S) → IsOther kind
-        → Held g r L ran made old.state.requests → Held g r L ran made fired.state.requests
+        → Held g r L ran early made old.state.requests → Held g r L ran early made fired.state.requests
         → (h : MatchBool b (CallsHandle calls g fired old.state.roster kind handle did new) (Skips calls g old kind handle did new))
-        → Passes ran made (calls_if b (CallsHandle calls g fired old.state.roster kind handle did new) (Skips calls g old kind handle did new) (handle_calls calls g fired old.state.roster kind handle did new) h) base did new
+        → Passes e ran early made (calls_if b (CallsHandle calls g fired old.state.roster kind handle did new) (Skips calls g old kind handle did new) (handle_calls calls g fired old.state.roster kind handle did new) h) base did new
     listed_passes base old fired b kind handle did new other f k h =
         passes_if b (CallsHandle calls g fired old.state.roster kind handle did new) (Skips calls g old kind handle did new) (handle_calls calls g fired old.state.roster kind handle did new) base did new
         (λ p. back_passes base fired kind handle (handle_function old.state.roster handle) (I32 handle ∷ []) did new other p k)
         (λ q. skips_pass base old kind handle did new q f) h
 
-    taking_passes : (old : Loop S) (async_no handle : ℕ) (did : StepDid) (new : Loop S) (h : TakesFirst calls g old async_no handle did new) → Held g r L ran made old.state.requests
-        → Passes ran made (taking_calls calls g old async_no handle did new h) old did new
+    taking_passes : (old : Loop S) (async_no handle : ℕ) (did : StepDid) (new : Loop S) (h : TakesFirst calls g old async_no handle did new) → Held g r L ran early made old.state.requests
+        → Passes e ran early made (taking_calls calls g old async_no handle did new h) old did new
     taking_passes old async_no handle did new h f =
         passes_unless (h.0 == 0) (Skips calls g (sharing old h.1) kind.Async handle did new) (CallsHandle calls g (sharing old h.1) old.state.roster kind.Async handle did new)
         (handle_calls calls g (sharing old h.1) old.state.roster kind.Async handle did new) old did new
@@ -315,7 +321,7 @@ module _ {S : Type 0} (calls : Calls S) (g : Setting) (r : ℕ) (L : Type 0) whe
 
     async_passes : (old : Loop S) (async_no : ℕ) (handle : Option ℕ) (did : StepDid) (new : Loop S)
         (h : MatchOption handle ⊥ (λ handle. MatchBool (is_active_handle old.state.roster.handles (Some handle)) (TakesFirst calls g old async_no handle did new) (Skips calls g old kind.Async handle did new)))
-        → Held g r L ran made old.state.requests → Passes ran made (async_calls calls g old async_no handle did new h) old did new
+        → Held g r L ran early made old.state.requests → Passes e ran early made (async_calls calls g old async_no handle did new h) old did new
     async_passes old async_no None did new h f = absurd h
     async_passes old async_no (Some handle) did new h f =
         passes_if (is_active_handle old.state.roster.handles (Some handle)) (TakesFirst calls g old async_no handle did new) (Skips calls g old kind.Async handle did new)
@@ -323,76 +329,92 @@ module _ {S : Type 0} (calls : Calls S) (g : Setting) (r : ℕ) (L : Type 0) whe
         (λ p. taking_passes old async_no handle did new p f)
         (λ q. skips_pass old old kind.Async handle did new q f) h
 
-  work_passes : (ran : Type 0) (made : List GuestCall) (old : Loop S) (number : ℕ) (q : Request) (tidings : Option Tidings) (did : StepDid) (new : Loop S)
+  work_passes : (ran early : Type 0) (made : List GuestCall) (old : Loop S) (number : ℕ) (q : Request) (tidings : Option Tidings) (did : StepDid) (new : Loop S)
       → request_of old.state.requests number ≡ Some q → tidings_of q.stage ≡ tidings
-      → (h : AfterWork calls g old number tidings did new) → Held g r L ran made old.state.requests → Passes ran made (work_calls calls g old number tidings did new h) old did new
-  work_passes ran made old number q None did new found told h f = absurd h
-  work_passes ran made old number q (Some t) did new found told h f = record {
-    held = runs_hold ran made base kind.After number h.0 (I32 number ∷ I32 t.kind ∷ I32 t.code ∷ []) (Some t.bytes) did new h.2 (fits_removed r number (WasAsked g made) (WasWon g r L made) ran old.state.requests f);
+      → (h : AfterWork calls g old number tidings did new) → Held g r L ran early made old.state.requests → Passes (entry.After number) ran early made (work_calls calls g old number tidings did new h) old did new
+  work_passes ran early made old number q None did new found told h f = absurd h
+  work_passes ran early made old number q (Some t) did new found told h f = record {
+    held = runs L ran early made (fits_removed r number (WasAsked g made) (WasWon g r L made) ran early old.state.requests f);
     after = λ after.
         let is : number ≡ r = (let it = sym (ap after_of h.2.told) ∙ after in cc) in
-        let only = only_found (WasAsked g made) (WasWon g r L made) r old.state.requests q f.owned (ap (request_of old.state.requests) (sym is) ∙ found) in (
+        let only = only_found (WasAsked g made) (WasWon g r L made) r old.state.requests q f.owned (ap (request_of old.state.requests) (sym is) ∙ found) in
+        let given = was_given r (WasAsked g made) (WasWon g r L made) ran early old.state.requests q only f in (
+          ap entry.After is,
           record { request = q; only = only; work = rw told (subst (λ k. AfterWork calls g old k (Some t) did new) is h) },
-          runs_hold (Unit {0}) made base kind.After number h.0 (I32 number ∷ I32 t.kind ∷ I32 t.code ∷ []) (Some t.bytes) did new h.2
-              (subst (λ k. Held g r L (Unit {0}) made (without_request old.state.requests k)) (sym is) (fits_ran r (WasAsked g made) (WasWon g r L made) ran (Unit {0}) old.state.requests q only f)),
+          record {
+            gone = runs L (Unit {0}) (Unit {0}) made (removed L (Unit {0}) made is given (λ _. tt));
+            late = runs ⊥ (Unit {0}) ⊥ [] (removed ⊥ ⊥ [] is given never);
+          },
         );
   } where
     base : Loop S
     base = in_state old (with_requests old.state (without_request old.state.requests number))
 
-  after_passes : (ran : Type 0) (made : List GuestCall) (old : Loop S) (number : ℕ) (request : Option Request) (did : StepDid) (new : Loop S) → request_of old.state.requests number ≡ request
-      → (h : MatchOption request ⊥ (λ q. AfterWork calls g old number (tidings_of q.stage) did new)) → Held g r L ran made old.state.requests → Passes ran made (after_calls calls g old number request did new h) old did new
-  after_passes ran made old number None did new found h f = absurd h
-  after_passes ran made old number (Some q) did new found h f = work_passes ran made old number q (tidings_of q.stage) did new found refl h f
+    runs : (L ran early : Type 0) (made : List GuestCall) → Held g r L ran early made base.state.requests
+        → Held g r L ran early (made ++ run_calls calls g base kind.After number h.0 (I32 number ∷ I32 t.kind ∷ I32 t.code ∷ []) (Some t.bytes) did new h.2) new.state.requests
+    runs L ran early made = callback_holds calls g r L ran early made base kind.After number h.0 (I32 number ∷ I32 t.kind ∷ I32 t.code ∷ []) (Some t.bytes) did new h.2
 
-  entry_passes : (ran : Type 0) (made : List GuestCall) (old : Loop S) (e : Entry) (did : StepDid) (new : Loop S) (h : EntryStep calls g old e did new) → Held g r L ran made old.state.requests
-      → Passes ran made (entry_calls calls g old e did new h) old did new
-  entry_passes ran made old entry.Start did new h f = back_passes ran made old old kind.Start 0 g.loaded.contents.start [] did new (λ number ended. refl) h f
-  entry_passes ran made old entry.Main did new h f = back_passes ran made old old kind.Main 0 (Some h.0) [] did new (λ number ended. refl) h.2 f
-  entry_passes ran made old (entry.Timer handle start) did new h f =
+    removed : (L early : Type 0) (made : List GuestCall) → number ≡ r → r ≤ old.state.requests.last → (WasWon g r L made → early) → Held g r L (Unit {0}) early made base.state.requests
+    removed L early made is given then_early =
+        subst (λ k. Held g r L (Unit {0}) early made (without_request old.state.requests k)) (sym is) (fits_ran r (WasAsked g made) (WasWon g r L made) (Unit {0}) early old.state.requests given then_early)
+
+    never : WasWon g r ⊥ [] → ⊥
+    never (inl h) = h
+    never (inr a) = omega (arith, a.1.1)
+
+  after_passes : (ran early : Type 0) (made : List GuestCall) (old : Loop S) (number : ℕ) (request : Option Request) (did : StepDid) (new : Loop S) → request_of old.state.requests number ≡ request
+      → (h : MatchOption request ⊥ (λ q. AfterWork calls g old number (tidings_of q.stage) did new)) → Held g r L ran early made old.state.requests → Passes (entry.After number) ran early made (after_calls calls g old number request did new h) old did new
+  after_passes ran early made old number None did new found h f = absurd h
+  after_passes ran early made old number (Some q) did new found h f = work_passes ran early made old number q (tidings_of q.stage) did new found refl h f
+
+  entry_passes : (ran early : Type 0) (made : List GuestCall) (old : Loop S) (e : Entry) (did : StepDid) (new : Loop S) (h : EntryStep calls g old e did new) → Held g r L ran early made old.state.requests
+      → Passes e ran early made (entry_calls calls g old e did new h) old did new
+  entry_passes ran early made old entry.Start did new h f = back_passes entry.Start ran early made old old kind.Start 0 g.loaded.contents.start [] did new (λ number ended. refl) h f
+  entry_passes ran early made old entry.Main did new h f = back_passes entry.Main ran early made old old kind.Main 0 (Some h.0) [] did new (λ number ended. refl) h.2 f
+  entry_passes ran early made old (entry.Timer handle start) did new h f =
       let fired = in_state old (with_roster old.state (with_handles old.state.roster (after_again old.state.roster.handles handle old.state.now))) in
-      listed_passes ran made old old fired (is_as_listed handle_kind.Timer old.state.roster handle start) kind.Timer handle did new (λ number ended. refl) f f h
-  entry_passes ran made old (entry.Idle handle start) did new h f =
-      listed_passes ran made old old old (is_as_listed handle_kind.Idle old.state.roster handle start) kind.Idle handle did new (λ number ended. refl) f f h
-  entry_passes ran made old (entry.Check handle start) did new h f =
-      listed_passes ran made old old old (is_as_listed handle_kind.Check old.state.roster handle start) kind.Check handle did new (λ number ended. refl) f f h
-  entry_passes ran made old (entry.After number) did new h f = after_passes ran made old number (request_of old.state.requests number) did new refl h f
-  entry_passes ran made old (entry.Async async_no) did new h f = async_passes ran made old async_no (async_handle old.state.roster async_no) did new h f
-  entry_passes ran made old (entry.Close handle) did new h f =
-      back_passes ran made old (in_state old (with_roster old.state (without_handle old.state.roster handle))) kind.Close handle (handle_function old.state.roster handle) (I32 handle ∷ []) did new (λ number ended. refl) h f
+      listed_passes (entry.Timer handle start) ran early made old old fired (is_as_listed handle_kind.Timer old.state.roster handle start) kind.Timer handle did new (λ number ended. refl) f f h
+  entry_passes ran early made old (entry.Idle handle start) did new h f =
+      listed_passes (entry.Idle handle start) ran early made old old old (is_as_listed handle_kind.Idle old.state.roster handle start) kind.Idle handle did new (λ number ended. refl) f f h
+  entry_passes ran early made old (entry.Check handle start) did new h f =
+      listed_passes (entry.Check handle start) ran early made old old old (is_as_listed handle_kind.Check old.state.roster handle start) kind.Check handle did new (λ number ended. refl) f f h
+  entry_passes ran early made old (entry.After number) did new h f = after_passes ran early made old number (request_of old.state.requests number) did new refl h f
+  entry_passes ran early made old (entry.Async async_no) did new h f = async_passes (entry.Async async_no) ran early made old async_no (async_handle old.state.roster async_no) did new h f
+  entry_passes ran early made old (entry.Close handle) did new h f =
+      back_passes (entry.Close handle) ran early made old (in_state old (with_roster old.state (without_handle old.state.roster handle))) kind.Close handle (handle_function old.state.roster handle) (I32 handle ∷ []) did new (λ number ended. refl) h f
 
   -- the same of a whole step, whose entry is taken off the list
-  pub record Steps (ran : Type 0) (made more : List GuestCall) (old : Loop S) (did : StepDid) (new : Loop S) : Type 0 where
-    pub held : Held g r L ran (made ++ more) new.state.requests
-    pub after : after_of did ≡ Some r → (rest : List Entry) × WorkedAfter (in_state old (record old.state { list = rest })) did new × Held g r L (Unit {0}) (made ++ more) new.state.requests
+  pub record Steps (ran early : Type 0) (made more : List GuestCall) (old : Loop S) (did : StepDid) (new : Loop S) : Type 0 where
+    pub held : Held g r L ran early (made ++ more) new.state.requests
+    pub after : after_of did ≡ Some r → (rest : List Entry) × (old.state.list ≡ entry.After r ∷ rest) × WorkedAfter (in_state old (record old.state { list = rest })) did new × Leaves made more new
 
-  nothing_ran : (ran : Type 0) (made : List GuestCall) (old : Loop S) (did : StepDid) (new : Loop S) → new.state.requests ≡ old.state.requests → after_of did ≡ None → Held g r L ran made old.state.requests → Steps ran made [] old did new
-  nothing_ran ran made old did new e none f = record { held = nothing_more g r L ran made old.state.requests new.state.requests e f; after = λ h. absurd (cc) }
+  nothing_ran : (ran early : Type 0) (made : List GuestCall) (old : Loop S) (did : StepDid) (new : Loop S) → new.state.requests ≡ old.state.requests → after_of did ≡ None → Held g r L ran early made old.state.requests → Steps ran early made [] old did new
+  nothing_ran ran early made old did new e none f = record { held = nothing_more g r L ran early made old.state.requests new.state.requests e f; after = λ h. absurd (cc) }
 
   abbrev Keeps : Requests → StepDid × State → Type 0
   Keeps rs p = (after_of p.0 ≡ None) × (p.1.requests ≡ rs)
 
-  turn_steps : (ran : Type 0) (made : List GuestCall) (old : Loop S) (did : StepDid) (new : Loop S) → NextPhase calls g old did new → Held g r L ran made old.state.requests → Steps ran made [] old did new
-  turn_steps ran made old did new h f =
+  turn_steps : (ran early : Type 0) (made : List GuestCall) (old : Loop S) (did : StepDid) (new : Loop S) → NextPhase calls g old did new → Held g r L ran early made old.state.requests → Steps ran early made [] old did new
+  turn_steps ran early made old did new h f =
       let it = turned (may_end old.state.phase && not (is_alive old.state)) in
-      nothing_ran ran made old did new (ap (λ l. l.state.requests) h.1 ∙ it.1) (ap after_of h.0 ∙ it.0) f where
+      nothing_ran ran early made old did new (ap (λ l. l.state.requests) h.1 ∙ it.1) (ap after_of h.0 ∙ it.0) f where
         turned : (b : Bool) → Keeps old.state.requests (cond b (step.Over, record old.state { status = Over }) (Entered (next_phase old.state.phase) (now_in old.state (next_phase old.state.phase)), entered old.state (next_phase old.state.phase)))
         turned true = (refl, refl)
         turned false = (refl, refl)
 
-  list_steps : (ran : Type 0) (made : List GuestCall) (old : Loop S) (list : List Entry) (did : StepDid) (new : Loop S) (h : ListStep calls g old list did new) → Held g r L ran made old.state.requests
-      → Steps ran made (list_calls calls g old list did new h) old did new
-  list_steps ran made old [] did new h f = turn_steps ran made old did new h f
-  list_steps ran made old (e ∷ rest) did new h f =
-      let it = entry_passes ran made (in_state old (record old.state { list = rest })) e did new h f in
-      record { held = it.held; after = λ told. let both = it.after told in (rest, both.0, both.1) }
+  list_steps : (ran early : Type 0) (made : List GuestCall) (old : Loop S) (list : List Entry) (did : StepDid) (new : Loop S) → old.state.list ≡ list → (h : ListStep calls g old list did new) → Held g r L ran early made old.state.requests
+      → Steps ran early made (list_calls calls g old list did new h) old did new
+  list_steps ran early made old [] did new is h f = turn_steps ran early made old did new h f
+  list_steps ran early made old (e ∷ rest) did new is h f =
+      let it = entry_passes ran early made (in_state old (record old.state { list = rest })) e did new h f in
+      record { held = it.held; after = λ told. let both = it.after told in (rest, is ∙ ap (λ x. x ∷ rest) both.0, both.1, both.2) }
 
-  status_steps : (ran : Type 0) (made : List GuestCall) (status : Status) (old : Loop S) (did : StepDid) (new : Loop S) (h : StepIn calls g status old did new) → Held g r L ran made old.state.requests
-      → Steps ran made (status_calls calls g status old did new h) old did new
-  status_steps ran made Running old did new h f = list_steps ran made old old.state.list did new h f
-  status_steps ran made Over old did new h f = nothing_ran ran made old did new (ap (λ l. l.state.requests) h.1) (ap after_of h.0) f
-  status_steps ran made Failed old did new h f = nothing_ran ran made old did new (ap (λ l. l.state.requests) h.1) (ap after_of h.0) f
+  status_steps : (ran early : Type 0) (made : List GuestCall) (status : Status) (old : Loop S) (did : StepDid) (new : Loop S) (h : StepIn calls g status old did new) → Held g r L ran early made old.state.requests
+      → Steps ran early made (status_calls calls g status old did new h) old did new
+  status_steps ran early made Running old did new h f = list_steps ran early made old old.state.list did new refl h f
+  status_steps ran early made Over old did new h f = nothing_ran ran early made old did new (ap (λ l. l.state.requests) h.1) (ap after_of h.0) f
+  status_steps ran early made Failed old did new h f = nothing_ran ran early made old did new (ap (λ l. l.state.requests) h.1) (ap after_of h.0) f
 
-  pub step_holds : (ran : Type 0) (made : List GuestCall) (old : Loop S) (did : StepDid) (new : Loop S) (h : LoopStep calls g old did new) → Held g r L ran made old.state.requests
-      → Steps ran made (loop_calls calls g old did new h) old did new
-  step_holds ran made old did new h f = status_steps ran made old.state.status old did new h f
+  pub step_holds : (ran early : Type 0) (made : List GuestCall) (old : Loop S) (did : StepDid) (new : Loop S) (h : LoopStep calls g old did new) → Held g r L ran early made old.state.requests
+      → Steps ran early made (loop_calls calls g old did new h) old did new
+  step_holds ran early made old did new h f = status_steps ran early made old.state.status old did new h f

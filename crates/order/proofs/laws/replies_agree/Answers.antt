@@ -1,0 +1,5 @@
+use Rattle.order.proofs.Agreeing.{agree}
+use Rattle.order.proofs.laws.replies_agree.Goals as goal
+
+pub returns : goal.returns
+returns c = agree

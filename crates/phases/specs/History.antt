@@ -1,0 +1,79 @@
+-- What the owner of one loop does with it, and what it is told.
+use Rattle.std.specs.Prelude.{◌≡◌, ℕ, Bool, MatchBool, List, [], ◌∷◌, ◌++◌, Option}
+use Rattle.instance.specs.Fresh.{fresh_store}
+use Rattle.order.specs.Work.{WorkOrder, WorkEnd, IsEndOf}
+use Rattle.phases.specs.declared.did.StepDid.{StepDid}
+use Rattle.phases.specs.declared.did.StepDid.TheVariants.{Ran}
+use Rattle.phases.specs.Calls.{Calls}
+use Rattle.phases.specs.Guests.{GuestCall, loop_calls}
+use Rattle.phases.specs.Host.{with_requests}
+use Rattle.phases.specs.Outside.{Takes, CancelsLoop, next_order_of, answered, after_clock}
+use Rattle.phases.specs.PhaseList.{begin_list}
+use Rattle.phases.specs.Roster.{opening_roster}
+use Rattle.phases.specs.State.{Setting, Loop, opening}
+use Rattle.phases.specs.Step.{LoopStep, in_state}
+use Rattle.phases.specs.View.{new_view}
+
+-- A step, with what it did, what the last callback put out, and what the guest called in it; an order that was asked for, if there was one; an order
+-- that was offered with its end, and whether it was taken; a cancel, and its answer; a moment of the clock; and what
+-- others do to the shared object.
+pub data Event : Type 0 where
+  Stepped : (did : StepDid) → (emits : List ℕ) → (made : List GuestCall) → Event
+  OrderAsked : (order : Option WorkOrder) → Event
+  EndOffered : (o : WorkOrder) → (end : WorkEnd) → (taken : Bool) → Event
+  CancelAnswered : (request answer : ℕ) → Event
+  ClockRaised : (ms : ℕ) → Event
+  MovedBeside : Event
+
+-- what the guest called in an event, and in some events, in order
+abbrev pub calls_in : Event → List GuestCall
+calls_in (Stepped did emits made) = made
+calls_in _ = []
+
+abbrev pub guest_calls : List Event → List GuestCall
+guest_calls [] = []
+guest_calls (e ∷ events) = calls_in e ++ guest_calls events
+
+-- what callbacks put out in an event, and in some events, in order
+abbrev pub emits_in : Event → List ℕ
+emits_in (Stepped (Ran kind number ended) emits made) = emits
+emits_in _ = []
+
+abbrev pub emitted : List Event → List ℕ
+emitted [] = []
+emitted (e ∷ events) = emits_in e ++ emitted events
+
+module _ {S : Type 0} (calls : Calls S) (g : Setting) where
+  -- a loop of this setting that has done nothing, and knows nothing of the shared object
+  pub record IsOpening (l : Loop S) : Type 0 where
+    pub state : l.state ≡ opening (opening_roster g.loaded.contents) (begin_list g.loaded.contents)
+    pub store : l.store ≡ fresh_store g.loaded.contents
+    pub shared : calls.view l.shared ≡ new_view g.loop_no
+
+  -- A reply that is right in itself is taken where its order is one of the loop's; else nothing changes.
+  abbrev pub Offers : (o : WorkOrder) → (end : WorkEnd) → (taken : Bool) → (old new : Loop S) → Type 0
+  Offers o end taken old new =
+      ∥ IsEndOf o end ∥₁
+      × MatchBool taken
+      (Takes o old.state × (new ≡ in_state old (with_requests old.state (answered old.state.requests o end))))
+      ((Takes o old.state → ⊥) × (new ≡ old))
+
+  -- Others leave the loop, and all that it knows of the shared object.
+  pub record Moves (old new : Loop S) : Type 0 where
+    pub view : calls.view new.shared ≡ calls.view old.shared
+    pub state : new.state ≡ old.state
+    pub store : new.store ≡ old.store
+
+  abbrev pub EventStep : Event → (old new : Loop S) → Type 0
+  EventStep (Stepped did emits made) old new =
+      (step : LoopStep calls g old did new) × (made ≡ loop_calls calls g old did new step) × (emits ≡ new.state.emits)
+  EventStep (OrderAsked order) old new = (order ≡ (next_order_of old.state).0) × (new ≡ in_state old (next_order_of old.state).1)
+  EventStep (EndOffered o end taken) old new = Offers o end taken old new
+  EventStep (CancelAnswered request answer) old new = CancelsLoop calls old request answer new
+  EventStep (ClockRaised ms) old new = new ≡ in_state old (after_clock old.state ms)
+  EventStep MovedBeside old new = Moves old new
+
+  -- some events, one after another
+  abbrev pub History : (old : Loop S) → List Event → (new : Loop S) → Type 0
+  History old [] new = new ≡ old
+  History old (e ∷ events) new = (mid : Loop S) × EventStep e old mid × History mid events new

@@ -1,0 +1,109 @@
+-- Laws of the histories of a loop.
+use Rattle.std.specs.Prelude.{◌≡◌, ℕ, ◌≤◌, ◌==◌, Bool, true, false, ◌⊎◌, List, [], ◌∷◌, ◌++◌, Contains, count_by, Some}
+use Rattle.syntax.specs.declared.types.Value.TheVariants.{I32}
+use Rattle.imports.specs.declared.call.Call.TheVariants.{QueueWork, Cancel}
+use Rattle.order.specs.Numbers.{cancelled_code}
+use Rattle.order.specs.Bytes.{taken_out}
+use Rattle.order.specs.Work.{WorkOrder, WorkEnd, IsEndOf}
+use Rattle.phases.specs.declared.did.StepDid.{StepDid}
+use Rattle.phases.specs.declared.did.StepDid.TheVariants.{Ran}
+use Rattle.phases.specs.declared.entry.Entry.{Entry}
+use Rattle.phases.specs.declared.entry.Entry.TheVariants as entry
+use Rattle.phases.specs.declared.entry.EntryKind.TheVariants as kind
+use Rattle.phases.specs.Calls.{Calls}
+use Rattle.phases.specs.Guests.{GuestCall}
+use Rattle.phases.specs.History.{Event, Stepped, CancelAnswered, EventStep, History, IsOpening, guest_calls}
+use Rattle.phases.specs.Requests.{Request, Tidings, end_tidings, request_of, tidings_of}
+use Rattle.phases.specs.State.{Setting, Loop}
+use Rattle.phases.specs.Step.{AfterWork, in_state}
+
+-- the event is an after-work callback of this request
+abbrev pub is_after_event : (request : ℕ) → Event → Bool
+is_after_event request (Stepped (Ran kind.After number ended) emits made) = number == request
+is_after_event request _ = false
+
+-- The guest called `queue_work` and was answered the order's request: the order is of the loop's module, of the
+-- operation that was asked for, and of the bytes as they stood in the memory, with the loop's fuel and depth.
+pub record Asks (g : Setting) (c : GuestCall) (o : WorkOrder) : Type 0 where
+  pub op : ℕ
+  pub place : ℕ
+  pub count : ℕ
+  pub function : c.function ≡ QueueWork
+  pub args : c.call.args ≡ I32 op ∷ I32 place ∷ I32 count ∷ []
+  pub answer : c.call.answer ≡ Some (I32 o.request)
+  pub order : o ≡ record {
+    loop_no = g.loop_no;
+    request = o.request;
+    slot = o.slot;
+    loaded = g.loaded;
+    op = op;
+    bytes = taken_out place count c.call.before;
+    fuel = g.work_fuel;
+    depth = g.depth;
+  }
+
+abbrev pub WasAsked : Setting → List GuestCall → WorkOrder → Type 0
+WasAsked g made o = (c : GuestCall) × Contains made c × Asks g c o
+
+-- the guest cancelled the request, and was answered 0
+pub record IsCancel (request : ℕ) (c : GuestCall) : Type 0 where
+  pub function : c.function ≡ Cancel
+  pub args : c.call.args ≡ I32 request ∷ []
+  pub answer : c.call.answer ≡ Some (I32 0)
+
+-- a cancel of the request was answered 0: the owner's, or the guest's
+abbrev pub WasCancelled : (request : ℕ) → List Event → Type 0
+WasCancelled request events =
+    Contains events (CancelAnswered request 0) ⊎ ((c : GuestCall) × Contains (guest_calls events) c × IsCancel request c)
+
+-- as much as the callback of a cancelled request is given
+abbrev pub cancellation : Tidings
+cancellation = record { kind = 5; code = cancelled_code; bytes = [] }
+
+-- Once cancelled, it is told that alone; else what one thread computes from the order alone, or that there was no
+-- memory.
+abbrev pub AreDue : WorkOrder → Tidings → (cancelled : Type 0) → Type 0
+AreDue o tidings cancelled =
+    (cancelled × (tidings ≡ cancellation)) ⊎ ((cancelled → ⊥) × ((end : WorkEnd) × ∥ IsEndOf o end ∥₁ × (tidings ≡ end_tidings end)))
+
+module _ {S : Type 0} (calls : Calls S) (g : Setting) where
+  -- The step takes this request off the list of the phase, where it stands first, removes it, and runs its
+  -- after-work callback with the tidings of the stage that it has come to.
+  pub record RunsAfter (old : Loop S) (q : Request) (tidings : Tidings) (did : StepDid) (new : Loop S) : Type 0 where
+    pub rest : List Entry
+    pub listed : old.state.list ≡ entry.After q.order.request ∷ rest
+    pub stood : request_of old.state.requests q.order.request ≡ Some q
+    pub given : tidings_of q.stage ≡ Some tidings
+    pub runs : AfterWork calls g (in_state old (record old.state { list = rest })) q.order.request (Some tidings) did new
+
+  -- The callback of this request is given what is due to the order that the guest had asked for, which is the very
+  -- order of the request that the step removes.
+  pub record IsOwn (events : List Event) (old : Loop S) (number : ℕ) (did : StepDid) (new : Loop S) : Type 0 where
+    pub request : Request
+    pub tidings : Tidings
+    pub numbered : request.order.request ≡ number
+    pub asked : WasAsked g (guest_calls events) request.order
+    pub runs : RunsAfter old request tidings did new
+    pub due : AreDue request.order tidings (WasCancelled number events)
+
+module _ {S : Type 0} (calls : Calls S) where
+  -- in every history of a loop from its opening each request has at most one after-work callback
+  abbrev pub IsAfterOnce : Type 0
+  IsAfterOnce =
+      (g : Setting) (l l' : Loop S) (events : List Event) → IsOpening calls g l → History calls g l events l'
+      → (request : ℕ) → count_by (is_after_event request) events ≤ 1
+
+  -- each that runs, after any history, is given what is due to its own order
+  abbrev pub IsAfterOwn : Type 0
+  IsAfterOwn =
+      (g : Setting) (l old new : Loop S) (events : List Event) (did : StepDid) (emits : List ℕ) (made : List GuestCall) → IsOpening calls g l → History calls g l events old
+      → EventStep calls g (Stepped did emits made) old new
+      → (request : ℕ) → is_after_event request (Stepped did emits made) ≡ true
+      → IsOwn calls g events old request did new
+
+  -- from the callback on no cancel of its request is answered 0, in the callback or behind it
+  abbrev pub IsAfterLast : Type 0
+  IsAfterLast =
+      (g : Setting) (l l' : Loop S) (before behind : List Event) (e : Event) → IsOpening calls g l → History calls g l (before ++ e ∷ behind) l'
+      → (request : ℕ) → is_after_event request e ≡ true
+      → WasCancelled request (e ∷ behind) → ⊥

@@ -1,0 +1,14 @@
+//! Laws of what the owner of a loop does with it. Their functions do nothing: each contract is the law.
+
+ghost use Rattle.phases.specs.Laws.{IsAfterOnce, IsAfterOwn, IsAfterLast};
+
+use crate::shared::Shared;
+
+/// In every history of a loop, whatever it shares and whatever others do to that, each request has at most one
+/// after-work callback. It is given what one thread computes from the very order that the guest asked for, or, where a
+/// cancel of it was answered 0, only its cancellation; and from then on none is answered 0.
+pub fn after_once<B: Shared>()
+    ensures once { IsAfterOnce B.calls }
+    ensures own { IsAfterOwn B.calls }
+    ensures last { IsAfterLast B.calls }
+{}

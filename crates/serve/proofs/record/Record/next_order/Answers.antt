@@ -1,0 +1,8 @@
+use Rattle.std.proofs.Common.{refl}
+use Rattle.serve.proofs.Recording.{does_order}
+use Rattle.serve.proofs.record.Record.next_order.Goals as goal
+
+pub invariant_of-self : goal.invariant_of-self
+invariant_of-self c =
+    let r = c.args.self.now in
+    record { told = does_order r.core.0 c.next_order.new.self.0 r.core.1 c.next_order.new.self.1 r.emits.items r.emits.items c.next_order.ensures.setting c.next_order.ensures.core refl r.told }

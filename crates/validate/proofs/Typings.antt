@@ -1,0 +1,225 @@
+-- What is left of a body whose whole is typed: each open block is typed from something that its operands stand for.
+use Rattle.std.proofs.Common.{◌≡◌, ◌++◌, List, [], ◌∷◌, length, true, false, Option, Some, None, refl, sym, ap, subst, ◌∙◌, arith}
+use Rattle.syntax.specs.declared.types.ValType.{ValType}
+use Rattle.syntax.specs.declared.types.ValType.TheVariants.{I32}
+use Rattle.syntax.specs.declared.types.BlockType.{BlockType}
+use Rattle.syntax.specs.declared.instruction.Instr.{Instr}
+use Rattle.syntax.specs.declared.instruction.Op.{Op}
+use Rattle.syntax.specs.declared.instruction.Op.TheVariants as op
+use Rattle.syntax.specs.declared.module.FuncType.{FuncType}
+use Rattle.syntax.specs.Code.{Code, Done, Plain, Block, Loop, If}
+use Rattle.validate.specs.declared.operands.Operand.{Operand}
+use Rattle.validate.specs.declared.frames.Frame.{Frame}
+use Rattle.validate.specs.declared.scope.Scope.{Scope}
+use Rattle.validate.specs.Stack.{pushed}
+use Rattle.validate.specs.Typing.{Context, Typed, inside, block_type}
+use Rattle.validate.specs.Height.{type_or_none}
+use Rattle.validate.specs.Frames.{label_of}
+use Rattle.validate.specs.Operands.{Held, held_of, around, with_left, Fits}
+use Rattle.validate.specs.Checking.{Checks, context_in}
+use Rattle.validate.specs.Rejecting.{MayFollow}
+use Rattle.validate.proofs.Items.{same_some}
+use Rattle.validate.proofs.Taking.{fits_more, pushed-push}
+use Rattle.validate.proofs.Opens.{Open, open_of, flat_of, shape_in, returned}
+use Rattle.validate.proofs.Blocks.{Begun, begun, around-begun}
+use Rattle.validate.proofs.Parting.{label_results, label_params}
+
+-- the sequence leaves these results, from something that the operands stand for
+pub record TypedFrom (c : Context) (results : List ValType) (h : Held) (code : Code) : Type 0 where
+  pub from : List ValType
+  pub fits : Fits h from
+  pub typed : Typed c code from (pushed results [])
+
+abbrev pub IfTyped : Context → FuncType → Option Code → Type 0
+IfTyped c type None = Unit {0}
+IfTyped c type (Some code) = Typed c code (pushed type.params []) (pushed type.results [])
+
+abbrev pub TypedOpens : Scope → List Frame → Held → List Open → Type 0
+TypedOpens scope [] h os = Unit {0}
+TypedOpens scope (f ∷ fs) h [] = Unit {0}
+TypedOpens scope (f ∷ fs) h (o ∷ os) =
+    TypedFrom (context_in scope (f ∷ fs)) (shape_in scope f).results h o.code
+    × IfTyped (context_in scope (f ∷ fs)) (shape_in scope f) o.other
+    × TypedOpens scope fs (returned scope f h.below) os
+
+-- ---- what follows for the next operation
+
+-- a typing rule lets the operation follow something that the operands stand for
+pub record Follows (scope : Scope) (frames : List Frame) (h : Held) (o : Op) : Type 0 where
+  pub from : List ValType
+  pub fits : Fits h from
+  pub rule : MayFollow o (record { scope = scope; frames = frames; operands = h }) from
+
+follows_at : (scope : Scope) (frames : List Frame) (h : Held) (o p : Op) → p ≡ o → Follows scope frames h p → Follows scope frames h o
+follows_at scope frames h o p e n = subst (λ (x : Op). Follows scope frames h x) e n
+
+follows_first : (scope : Scope) (f : Frame) (fs : List Frame) (h : Held) (o : Op) (rest : List Op) (code : Code) (other : Option Code) (os : List Open)
+    → o ∷ rest ≡ flat_of (open_of code other ∷ os)
+    → TypedFrom (context_in scope (f ∷ fs)) (shape_in scope f).results h code
+    → Follows scope (f ∷ fs) h o
+follows_first scope f fs h o rest Done None os flat p =
+    let e : op.End ≡ o = cc in
+    follows_at scope (f ∷ fs) h o op.End e (record { from = p.from; fits = p.fits; rule = (f, refl, p.typed) })
+follows_first scope f fs h o rest Done (Some second) os flat p =
+    let e : op.Else ≡ o = cc in
+    follows_at scope (f ∷ fs) h o op.Else e (record { from = p.from; fits = p.fits; rule = (f, refl, p.typed) })
+follows_first scope f fs h o rest (Plain i code) other os flat p =
+    let e : op.Plain i ≡ o = cc in
+    let t = p.typed in
+    follows_at scope (f ∷ fs) h o (op.Plain i) e (record { from = p.from; fits = p.fits; rule = (t.0, t.1) })
+follows_first scope f fs h o rest (Block type body code) other os flat p =
+    let e : op.Block type ≡ o = cc in
+    let t = p.typed in
+    follows_at scope (f ∷ fs) h o (op.Block type) e (record { from = p.from; fits = p.fits; rule = (t.0, t.1, t.2, t.3) })
+follows_first scope f fs h o rest (Loop type body code) other os flat p =
+    let e : op.Loop type ≡ o = cc in
+    let t = p.typed in
+    follows_at scope (f ∷ fs) h o (op.Loop type) e (record { from = p.from; fits = p.fits; rule = (t.0, t.1, t.2, t.3) })
+follows_first scope f fs h o rest (If type first second code) other os flat p =
+    let e : op.If type ≡ o = cc in
+    let t = p.typed in
+    follows_at scope (f ∷ fs) h o (op.If type) e
+    (record { from = p.from; fits = p.fits; rule = (pushed t.0.params t.2, t.3, (t.0, t.1, t.2, refl)) })
+
+pub follows_now : (scope : Scope) (frames : List Frame) (h : Held) (o : Op) (rest : List Op) (opens : List Open)
+    → o ∷ rest ≡ flat_of opens → length frames ≡ length opens → TypedOpens scope frames h opens → Follows scope frames h o
+follows_now scope frames h o rest [] flat same k = absurd cc
+follows_now scope [] h o rest (x ∷ os) flat same k = absurd (omega arith)
+follows_now scope (f ∷ fs) h o rest (x ∷ os) flat same k = follows_first scope f fs h o rest x.code x.other os flat k.0
+
+-- ---- what is left behind one operation
+
+pub typed_plain : (scope : Scope) (f : Frame) (fs : List Frame) (h j : Held) (i : Instr) (code : Code) (other : Option Code) (os : List Open)
+    → Checks (context_in scope (f ∷ fs)) i h j
+    → TypedOpens scope (f ∷ fs) h (open_of (Plain i code) other ∷ os)
+    → TypedOpens scope (f ∷ fs) j (open_of code other ∷ os)
+typed_plain scope f fs h j i code other os k p =
+    let n : TypedFrom (context_in scope (f ∷ fs)) (shape_in scope f).results h (Plain i code) = p.0 in
+    let t = n.typed in (
+      record { from = t.0; fits = k.goes n.from t.0 n.fits t.1; typed = t.2 },
+      p.1,
+      subst (λ (b : List Operand). TypedOpens scope fs (returned scope f b) os) (sym k.below) p.2,
+    )
+
+-- the second branch of an `if` begins
+pub typed_other : (scope : Scope) (f : Frame) (fs : List Frame) (type : FuncType) (h mid : Held) (second : Code) (os : List Open)
+    → shape_in scope f ≡ type → mid.below ≡ h.below
+    → IfTyped (context_in scope (f ∷ fs)) (shape_in scope f) (Some second) × TypedOpens scope fs (returned scope f h.below) os
+    → TypedOpens scope (f ∷ fs) (with_left type.params (held_of [] mid.below false)) (open_of second None ∷ os)
+typed_other scope f fs type h mid second os shape e p = (
+  record {
+    from = pushed type.params [];
+    fits = fits_more false type.params [] [] refl;
+    typed =
+        subst (λ (s : FuncType). Typed (context_in scope (f ∷ fs)) second (pushed s.params []) (pushed (shape_in scope f).results [])) shape p.0;
+  },
+  tt,
+  subst (λ (b : List Operand). TypedOpens scope fs (returned scope f b) os) (sym e) p.1,
+)
+
+-- the parts of a block that is typed
+pub record TypedParts (scope : Scope) (f g : Frame) (fs : List Frame) (type : FuncType) (mid : Held) (block code : Code) (other : Option Code) : Type 0 where
+  pub body : Typed (context_in scope (g ∷ f ∷ fs)) block (pushed type.params []) (pushed type.results [])
+  pub first : IfTyped (context_in scope (g ∷ f ∷ fs)) type other
+  pub below : List ValType
+  pub fits : Fits mid below
+  pub rest : Typed (context_in scope (f ∷ fs)) code (pushed type.results below) (pushed (shape_in scope f).results [])
+
+-- a block begins
+pub typed_begun : (scope : Scope) (f g : Frame) (fs : List Frame) (type : FuncType) (taken : List ValType) (h mid : Held) (body code : Code) (first other : Option Code) (os : List Open)
+    → Begun scope f g fs type taken h mid
+    → TypedParts scope f g fs type mid body code first
+    → IfTyped (context_in scope (f ∷ fs)) (shape_in scope f) other × TypedOpens scope fs (returned scope f h.below) os
+    → TypedOpens scope (g ∷ f ∷ fs) (begun type mid) (open_of body first ∷ open_of code other ∷ os)
+typed_begun scope f g fs type taken h mid body code first other os b p l =
+    let d = context_in scope (g ∷ f ∷ fs) in
+    let shape : type ≡ shape_in scope g = sym (ap type_or_none b.known) in
+    let back : returned scope g (mid.own ++ mid.below) ≡ with_left type.results mid =
+    ap (λ (t : FuncType). with_left t.results (around g.enclosing (mid.own ++ mid.below))) (sym shape)
+    ∙ ap (with_left type.results) (around-begun g.enclosing mid b.enclosing) in
+    let behind : TypedOpens scope (f ∷ fs) (with_left type.results mid) (open_of code other ∷ os) = (
+      record { from = pushed type.results p.below; fits = fits_more mid.unreachable type.results mid.own p.below p.fits; typed = p.rest },
+      l.0,
+      subst (λ (bs : List Operand). TypedOpens scope fs (returned scope f bs) os) (sym b.takes.below) l.1,
+    ) in (
+      record {
+        from = pushed type.params [];
+        fits = fits_more false type.params [] [] refl;
+        typed = subst (λ (s : FuncType). Typed d body (pushed type.params []) (pushed s.results [])) shape p.body;
+      },
+      subst (λ (s : FuncType). IfTyped d s first) shape p.first,
+      subst (λ (k : Held). TypedOpens scope (f ∷ fs) k (open_of code other ∷ os)) (sym back) behind,
+    )
+
+named_type : (scope : Scope) (g : Frame) (named : BlockType) (s type : FuncType) → g.block_type ≡ named
+    → block_type scope.contents.now named ≡ Some s → block_type scope.contents.now g.block_type ≡ Some type → s ≡ type
+named_type scope g named s type e p q =
+    same_some s type (block_type scope.contents.now named) p (subst (λ (t : BlockType). block_type scope.contents.now t ≡ Some type) e q)
+
+pub typed_block : (scope : Scope) (f g : Frame) (fs : List Frame) (type : FuncType) (named : BlockType) (h mid : Held) (body code : Code)
+    → g.is_loop ≡ false → g.block_type ≡ named → Begun scope f g fs type type.params h mid
+    → TypedFrom (context_in scope (f ∷ fs)) (shape_in scope f).results h (Block named body code)
+    → TypedParts scope f g fs type mid body code None
+typed_block scope f g fs type named h mid body code plain e b p =
+    let c = context_in scope (f ∷ fs) in
+    let t = p.typed in
+    let same : t.0 ≡ type = named_type scope g named t.0 type e t.1 b.known in
+    let label : t.0.results ≡ label_of scope.contents.now g =
+    ap (λ (s : FuncType). s.results) (sym (ap type_or_none t.1)) ∙ sym (label_results scope g named plain e) in
+    record {
+      body =
+          subst (λ (s : FuncType). Typed (inside (label_of scope.contents.now g) c) body (pushed s.params []) (pushed s.results [])) same
+          (subst (λ (l : List ValType). Typed (inside l c) body (pushed t.0.params []) (pushed t.0.results [])) label t.4);
+      first = tt;
+      below = t.2;
+      fits =
+          (b.takes.fits t.2).0
+          (subst (λ (x : List ValType). Fits h x) (t.3 ∙ ap (λ (s : FuncType). pushed s.params t.2) same) p.fits);
+      rest = subst (λ (s : FuncType). Typed c code (pushed s.results t.2) (pushed (shape_in scope f).results [])) same t.5;
+    }
+
+pub typed_loop : (scope : Scope) (f g : Frame) (fs : List Frame) (type : FuncType) (named : BlockType) (h mid : Held) (body code : Code)
+    → g.is_loop ≡ true → g.block_type ≡ named → Begun scope f g fs type type.params h mid
+    → TypedFrom (context_in scope (f ∷ fs)) (shape_in scope f).results h (Loop named body code)
+    → TypedParts scope f g fs type mid body code None
+typed_loop scope f g fs type named h mid body code loops e b p =
+    let c = context_in scope (f ∷ fs) in
+    let t = p.typed in
+    let same : t.0 ≡ type = named_type scope g named t.0 type e t.1 b.known in
+    let label : t.0.params ≡ label_of scope.contents.now g =
+    ap (λ (s : FuncType). s.params) (sym (ap type_or_none t.1)) ∙ sym (label_params scope g named loops e) in
+    record {
+      body =
+          subst (λ (s : FuncType). Typed (inside (label_of scope.contents.now g) c) body (pushed s.params []) (pushed s.results [])) same
+          (subst (λ (l : List ValType). Typed (inside l c) body (pushed t.0.params []) (pushed t.0.results [])) label t.4);
+      first = tt;
+      below = t.2;
+      fits =
+          (b.takes.fits t.2).0
+          (subst (λ (x : List ValType). Fits h x) (t.3 ∙ ap (λ (s : FuncType). pushed s.params t.2) same) p.fits);
+      rest = subst (λ (s : FuncType). Typed c code (pushed s.results t.2) (pushed (shape_in scope f).results [])) same t.5;
+    }
+
+pub typed_if : (scope : Scope) (f g : Frame) (fs : List Frame) (type : FuncType) (named : BlockType) (h mid : Held) (first second code : Code)
+    → g.is_loop ≡ false → g.block_type ≡ named → Begun scope f g fs type (type.params ++ I32 ∷ []) h mid
+    → TypedFrom (context_in scope (f ∷ fs)) (shape_in scope f).results h (If named first second code)
+    → TypedParts scope f g fs type mid first code (Some second)
+typed_if scope f g fs type named h mid first second code plain e b p =
+    let c = context_in scope (f ∷ fs) in
+    let t = p.typed in
+    let same : t.0 ≡ type = named_type scope g named t.0 type e t.1 b.known in
+    let label : t.0.results ≡ label_of scope.contents.now g =
+    ap (λ (s : FuncType). s.results) (sym (ap type_or_none t.1)) ∙ sym (label_results scope g named plain e) in
+    let over : p.from ≡ pushed (type.params ++ I32 ∷ []) t.2 =
+    t.3 ∙ ap (λ (s : FuncType). I32 ∷ pushed s.params t.2) same ∙ sym (pushed-push type.params I32 t.2) in
+    record {
+      body =
+          subst (λ (s : FuncType). Typed (inside (label_of scope.contents.now g) c) first (pushed s.params []) (pushed s.results [])) same
+          (subst (λ (l : List ValType). Typed (inside l c) first (pushed t.0.params []) (pushed t.0.results [])) label t.4);
+      first =
+          subst (λ (s : FuncType). Typed (inside (label_of scope.contents.now g) c) second (pushed s.params []) (pushed s.results [])) same
+          (subst (λ (l : List ValType). Typed (inside l c) second (pushed t.0.params []) (pushed t.0.results [])) label t.5);
+      below = t.2;
+      fits = (b.takes.fits t.2).0 (subst (λ (x : List ValType). Fits h x) over p.fits);
+      rest = subst (λ (s : FuncType). Typed c code (pushed s.results t.2) (pushed (shape_in scope f).results [])) same t.6;
+    }

@@ -1,0 +1,242 @@
+-- The law of a loop's histories, as it stands of the runs of a world.
+use Rattle.std.proofs.Common.{◌≡◌, ◌≢◌, ℕ, zero, suc, ◌+◌, ◌≤◌, ◌==◌, Bool, true, false, cond, inl, inr, ◌⊎◌, List, [], ◌∷◌, ◌++◌, map, length, Option, Some, None, refl, sym, ap, subst, ◌∙◌, arith, append-nil, append_assoc, ◌&&◌, MatchBool}
+use Rattle.std.specs.Prelude.{pos, slice_get, slice_set}
+use Rattle.std.specs.List.{Contains, count_by}
+use Rattle.std.specs.Option.{is_some}
+use Rattle.std.proofs.lemmas.Bool.{eqb-true}
+use Rattle.std.proofs.lemmas.List.Sums.{sum_by_push}
+use Rattle.order.specs.Work.{WorkOrder}
+use Rattle.phases.specs.declared.did.StepDid.{StepDid}
+use Rattle.phases.specs.declared.did.StepDid.TheVariants as did
+use Rattle.phases.specs.declared.entry.EntryKind.TheVariants as kind
+use Rattle.phases.specs.Guests.{GuestCall, loop_calls}
+use Rattle.phases.specs.History.{Event, Stepped, CancelAnswered, History, IsOpening}
+use Rattle.phases.specs.History.{guest_calls as calls_within}
+use Rattle.phases.specs.Laws.{is_after_event, WasAsked, IsCancel, AreDue, cancellation}
+use Rattle.phases.specs.Laws.{IsAfterOnce as LoopOnce, IsAfterOwn as LoopOwn, IsAfterLast as LoopLast, IsOwn as LoopIsOwn, WasCancelled as LoopCancelled}
+use Rattle.phases.specs.Outside.{is_failed, next_order_of}
+use Rattle.phases.specs.Requests.{Tidings}
+use Rattle.phases.specs.State.{Setting, State, Loop}
+use Rattle.phases.proofs.Numbered.{Same}
+use Rattle.desk.specs.Desk.{Desk, desk_calls}
+use Rattle.world_log.specs.declared.step.Step.{Step}
+use Rattle.world_log.specs.declared.step.Step.TheVariants as step
+use Rattle.world_log.specs.declared.entry.Entry.{Entry as Line}
+use Rattle.world_log.specs.declared.entry.Entry.TheVariants as line
+use Rattle.world.specs.World.{World, Hand, Empty, Taken, Started, Answer, UnlessFailed, PostsOrder, TakesJob, StartsJob, FinishesJob, CollectsFrom, StepsLoop, WorldStep, WorldRun, HasLoop, opening_world, opening_loop, told_of}
+use Rattle.world.specs.Guests.{step_calls, guest_calls}
+use Rattle.world.specs.Histories.{AreTold, HasHistory}
+use Rattle.world.specs.Laws.{is_after, WasCancelled, IsOwn}
+use Rattle.world.proofs.Runs.{Keeps, Told, AllEnds, set_here, either, step_next, run_keeps}
+use Rattle.world.proofs.Telling.{history_join, step_callback, tells_callback}
+
+opening_is : (g : Setting) → IsOpening desk_calls g (opening_loop g).1
+opening_is g = record { state = refl; store = refl; shared = refl }
+
+both_true : (a b : Bool) → (a && b) ≡ true → (a ≡ true) × (b ≡ true)
+both_true true b h = (refl, h)
+both_true false b h = absurd (cc)
+
+-- only a step of a loop tells a callback
+module _ (j r : ℕ) where
+  after_told : (n : ℕ) (told : StepDid) (emits : List ℕ) → is_after j r (told_of n told emits) ≡ true → n ≡ j
+  after_told n (did.Ran kind.After number ended) emits h = eqb-true n j (both_true (n == j) (number == r) h).0
+  after_told n _ emits h = absurd (cc)
+
+  abbrev Silent : Line → Type 0
+  Silent entry = is_after j r entry ≡ false
+
+  unless_silent : (w w' : World) (n : ℕ) (l : Loop Desk) (entry : Line) (P : Type 0) → (P → Silent entry) → UnlessFailed w n l entry w' P → Silent entry
+  unless_silent w w' n l entry P f h = either (is_failed l.state.status) _ _ (Silent entry) (λ k. ap (is_after j r) k.0) f h
+
+  order_silent : (w w' : World) (n : ℕ) (g : Setting) (l : Loop Desk) (out : Option WorkOrder × State) (entry : Line) → PostsOrder w n g l out entry w' → Silent entry
+  order_silent w w' n g l (None, s) entry h = ap (is_after j r) h.0
+  order_silent w w' n g l (Some o, s) entry h = ap (is_after j r) h.0
+
+  take_silent : (w w' : World) (n : ℕ) (hand : Hand) (jobs : List WorkOrder) (entry : Line) → TakesJob w n hand jobs entry w' → Silent entry
+  take_silent w w' n Empty (o ∷ jobs) entry h = ap (is_after j r) h.0
+  take_silent w w' n Empty [] entry h = ap (is_after j r) h.0
+  take_silent w w' n (Taken o) jobs entry h = ap (is_after j r) h.0
+  take_silent w w' n (Started o) jobs entry h = ap (is_after j r) h.0
+
+  start_silent : (w w' : World) (n : ℕ) (hand : Hand) (entry : Line) → StartsJob w n hand entry w' → Silent entry
+  start_silent w w' n (Taken o) entry h = either h.3 _ _ (Silent entry) (λ k. ap (is_after j r) k.0) (λ k. ap (is_after j r) k.0) h.6
+  start_silent w w' n Empty entry h = ap (is_after j r) h.0
+  start_silent w w' n (Started o) entry h = ap (is_after j r) h.0
+
+  finish_silent : (w w' : World) (n : ℕ) (hand : Hand) (entry : Line) → FinishesJob w n hand entry w' → Silent entry
+  finish_silent w w' n (Started o) entry h = ap (is_after j r) h.told
+  finish_silent w w' n Empty entry h = ap (is_after j r) h.0
+  finish_silent w w' n (Taken o) entry h = ap (is_after j r) h.0
+
+  collect_silent : (w w' : World) (n : ℕ) (g : Setting) (l : Loop Desk) (replies : List Answer) (entry : Line) → CollectsFrom w n g l replies entry w' → Silent entry
+  collect_silent w w' n g l [] entry h = ap (is_after j r) h.0
+  collect_silent w w' n g l (a ∷ replies) entry h = either h.0 _ _ (Silent entry) (λ k. ap (is_after j r) k.1) (λ k. ap (is_after j r) k.1) h.1
+
+  after_step : (w w' : World) (s : Step) (entry : Line) → WorldStep w s entry w' → is_after j r entry ≡ true → StepsLoop w j entry w'
+  after_step w w' (step.Loop n) entry h is =
+      subst (λ k. StepsLoop w k entry w') (after_told n h.did h.new.state.emits (ap (is_after j r) (sym h.told) ∙ is)) h
+  after_step w w' (step.Post n) entry h is =
+      absurd (let none = unless_silent w w' n h.1 entry _ (λ k. either (length w.jobs == 256) _ _ (Silent entry) (λ m. ap (is_after j r) m.0) (order_silent w w' n h.0 h.1 (next_order_of h.1.state) entry) k) h.3 in cc)
+  after_step w w' (step.Take n) entry h is = absurd (let none = take_silent w w' n h.0 w.jobs entry h.2 in cc)
+  after_step w w' (step.Start n) entry h is = absurd (let none = start_silent w w' n h.0 entry h.2 in cc)
+  after_step w w' (step.Finish n) entry h is = absurd (let none = finish_silent w w' n h.0 entry h.2 in cc)
+  after_step w w' (step.Collect n) entry h is = absurd (let none = unless_silent w w' n h.1 entry _ (collect_silent w w' n h.0 h.1 h.2 entry) h.5 in cc)
+  after_step w w' (step.Send n a) entry h is = absurd (let none = ap (is_after j r) h.7 in cc)
+  after_step w w' (step.Cancel n request) entry h is = absurd (let none = unless_silent w w' n h.1 entry _ (λ k. ap (is_after j r) k.2) h.5 in cc)
+  after_step w w' (step.Clock n ms) entry h is = absurd (let none = unless_silent w w' n h.1 entry _ (λ k. ap (is_after j r) k.0) h.3 in cc)
+
+module _ (settings : List Setting) (j : ℕ) where
+  abbrev Opens : Setting → Loop Desk → Type 0
+  Opens g l = (slice_get settings j ≡ Some g) × (l ≡ (opening_loop g).1)
+
+  opens : (gs : List Setting) (n : ℕ) (p : Setting × Loop Desk) → slice_get (map opening_loop gs) n ≡ Some p → (slice_get gs n ≡ Some p.0) × (p.1 ≡ (opening_loop p.0).1)
+  opens [] n p h = absurd (cc)
+  opens (g ∷ gs) zero p h =
+      let is : opening_loop g ≡ p = cc in
+      (ap (λ (x : Setting × Loop Desk). Some x.0) is, subst (λ (x : Setting × Loop Desk). x.1 ≡ (opening_loop x.0).1) is refl)
+  opens (g ∷ gs) (suc n) p h = opens gs n p h
+
+  no_replies : (gs : List Setting) (n : ℕ) (xs : List Answer) → slice_get (map (λ _. []) gs) n ≡ Some xs → AllEnds xs
+  no_replies [] n xs h = absurd (cc)
+  no_replies (g ∷ gs) zero xs h = let is : [] ≡ xs = cc in subst AllEnds is tt
+  no_replies (g ∷ gs) (suc n) xs h = no_replies gs n xs h
+
+  none_in : {X : Type 0} (x : X) → Contains [] x → ⊥
+  none_in x h = omega (arith, h.1)
+
+  told_none : (Begins : Setting → Loop Desk → Type 0) (there : Bool) (g : Setting) (l : Loop Desk) → Begins g l → Told Begins there j [] [] g l
+  told_none Begins there g l begins = record {
+    start = l;
+    begins = begins;
+    events = [];
+    history = refl;
+    told = tt;
+    calls = refl;
+    callbacks = λ r. refl;
+    cancels = λ r. (λ h. absurd (none_in _ h), λ h. absurd (none_in _ h));
+  }
+
+  abbrev IsThere : (workers : ℕ) → Bool
+  IsThere workers = is_some (slice_get (opening_world settings workers).loops j)
+
+  opening_keeps : (workers : ℕ) → Keeps Opens (IsThere workers) j (opening_world settings workers) [] []
+  opening_keeps workers = record {
+    stays = refl;
+    loops = λ p h. told_none Opens (IsThere workers) p.0 p.1 (opens settings j p h);
+    replies = no_replies settings;
+  }
+
+  module _ (workers : ℕ) (steps : List Step) (log : List Line) (w : World) (run : WorldRun (opening_world settings workers) steps log w) where
+    abbrev Made : List GuestCall
+    Made = guest_calls j (opening_world settings workers) steps log w run
+
+    keeps_after : Keeps Opens (IsThere workers) j w log Made
+    keeps_after = run_keeps Opens (IsThere workers) j steps log (opening_world settings workers) w [] [] (opening_keeps workers) run
+
+    pub history_after : (g : Setting) (now : Loop Desk) → HasLoop w j g now → (slice_get settings j ≡ Some g) × HasHistory j g (opening_loop g).1 log Made now
+    history_after g now at =
+        let it = keeps_after.loops (g, now) at in
+        (it.begins.0, record { events = it.events; history = subst (λ l. History desk_calls g l it.events now) it.begins.1 it.history; told = it.told; calls = it.calls })
+
+    -- what was cancelled, in the log and in the history
+    cancelled_same : (Begins : Setting → Loop Desk → Type 0) (there : Bool) (r : ℕ) (lines : List Line) (made : List GuestCall) (g : Setting) (l : Loop Desk) (it : Told Begins there j lines made g l)
+        → Same (LoopCancelled r it.events) (WasCancelled j r lines made)
+    cancelled_same Begins there r lines made g l it = (to, back) where
+      to : LoopCancelled r it.events → WasCancelled j r lines made
+      to (inl h) = inl ((it.cancels r).1 h)
+      to (inr a) = inr (a.0, subst (λ cs. Contains cs a.0) it.calls a.1, a.2)
+
+      back : WasCancelled j r lines made → LoopCancelled r it.events
+      back (inl h) = inl ((it.cancels r).0 h)
+      back (inr a) = inr (a.0, subst (λ cs. Contains cs a.0) (sym it.calls) a.1, a.2)
+
+    due_same : (o : WorkOrder) (t : Tidings) (P Q : Type 0) → Same P Q → AreDue o t P → AreDue o t Q
+    due_same o t P Q same (inl h) = inl (same.0 h.0, h.1)
+    due_same o t P Q same (inr h) = inr (λ q. h.0 (same.1 q), h.1)
+
+    -- a callback after the run
+    module _ (r : ℕ) (s : Step) (entry : Line) (w' : World) (h : WorldStep w s entry w') (is : is_after j r entry ≡ true) where
+      here : StepsLoop w j entry w'
+      here = after_step j r w w' s entry h is
+
+      before : Told Opens (IsThere workers) j log Made here.setting here.old
+      before = keeps_after.loops (here.setting, here.old) here.at
+
+      opening : IsOpening desk_calls here.setting before.start
+      opening = subst (IsOpening desk_calls here.setting) (sym before.begins.1) (opening_is here.setting)
+
+      pub own_after : LoopOwn desk_calls → IsOwn settings log Made w j r entry w'
+      own_after law =
+          let it = law here.setting before.start here.old here.new before.events here.did here.new.state.emits (loop_calls desk_calls here.setting here.old here.did here.new here.steps) opening before.history (here.steps, refl, refl) r
+          (sym (step_callback j r here.did here.new.state.emits (loop_calls desk_calls here.setting here.old here.did here.new here.steps)) ∙ ap (is_after j r) (sym here.told) ∙ is) in
+          record {
+            setting = here.setting;
+            request = it.request;
+            tidings = it.tidings;
+            of_loop = before.begins.0;
+            numbered = it.numbered;
+            asked = subst (λ cs. WasAsked here.setting cs it.request.order) before.calls it.asked;
+            runs = record { old = here.old; new = here.new; did = here.did; at = here.at; runs = it.runs; told = here.told; after = here.after };
+            due = due_same it.request.order it.tidings _ _ (cancelled_same Opens (IsThere workers) r log Made here.setting here.old before) it.due;
+          }
+
+      -- from here on
+      abbrev From : Setting → Loop Desk → Type 0
+      From g l = ◌≡◌ {A = Setting × Loop Desk} (here.setting, here.old) (g, l)
+
+      from_keeps : Keeps From true j w [] []
+      from_keeps = record {
+        stays = ap is_some here.at;
+        loops = λ p at. told_none From true p.0 p.1 (let it = sym here.at ∙ at in cc);
+        replies = keeps_after.replies;
+      }
+
+      some_of : {X : Type 0} (o : Option X) → is_some o ≡ true → (x : X) × (o ≡ Some x)
+      some_of None h = absurd (cc)
+      some_of (Some x) h = (x, refl)
+
+      late : LoopLast desk_calls → (more : List Line) (events : List Event) (g : Setting) (start now : Loop Desk) → From g start → History desk_calls g start events now → AreTold j (entry ∷ more) events
+          → LoopCancelled r events → ⊥
+      late law more [] g start now begins history told cancelled = absurd told
+      late law more (e ∷ events) g start now begins history told cancelled =
+          law here.setting before.start now before.events events e opening
+          (history_join here.setting before.events (e ∷ events) before.start here.old now before.history
+          (subst (λ (x : Setting × Loop Desk). History desk_calls x.0 x.1 (e ∷ events) now) (sym begins) history))
+          r (sym (tells_callback j r entry e told.0) ∙ is) cancelled
+
+      pub last_after : LoopLast desk_calls → (behind : List Step) (more : List Line) (w'' : World) (rest : WorldRun w' behind more w'')
+          → WasCancelled j r (entry ∷ more) (step_calls j w s entry w' h ++ guest_calls j w' behind more w'' rest) → ⊥
+      last_after law behind more w'' rest cancelled =
+          let next = step_next From true j w [] [] from_keeps s entry w' h in
+          let then_on = run_keeps From true j behind more w' w'' (entry ∷ []) (step_calls j w s entry w' h) next rest in
+          let at = some_of (slice_get w''.loops j) then_on.stays in
+          let it = then_on.loops at.0 at.1 in
+          late law more it.events at.0.0 it.start at.0.1 it.begins it.history it.told
+          ((cancelled_same From true r (entry ∷ more) (step_calls j w s entry w' h ++ guest_calls j w' behind more w'' rest) at.0.0 at.0.1 it).1 cancelled)
+
+  -- how often a callback was told
+  module _ (r : ℕ) (law : LoopOnce desk_calls) where
+    once_step : (there : Bool) (w : World) (log : List Line) (made : List GuestCall) → Keeps Opens there j w log made → (s : Step) (entry : Line) (w' : World) → WorldStep w s entry w'
+        → count_by (is_after j r) log ≤ 1 → count_by (is_after j r) (log ++ entry ∷ []) ≤ 1
+    once_step there w log made keeps s entry w' h few = by (is_after j r entry) refl where
+      by : (b : Bool) → is_after j r entry ≡ b → count_by (is_after j r) (log ++ entry ∷ []) ≤ 1
+      by true is =
+          let here = after_step j r w w' s entry h is in
+          let now : slice_get w'.loops j ≡ Some (here.setting, here.new) = ap (λ x. slice_get x.loops j) here.after ∙ set_here w.loops j (here.setting, here.new) (here.setting, here.old) here.at in
+          let it = (step_next Opens there j w log made keeps s entry w' h).loops (here.setting, here.new) now in
+          subst (λ n. n ≤ 1) (sym (it.callbacks r))
+          (law here.setting it.start here.new it.events (subst (IsOpening desk_calls here.setting) (sym it.begins.1) (opening_is here.setting)) it.history r)
+      by false none = subst (λ n. n ≤ 1) (sym (sum_by_push (λ x. cond (is_after j r x) 1 0) log entry ∙ rw none (omega arith))) few
+
+    once_run : (there : Bool) (steps : List Step) (told : List Line) (w w' : World) (log : List Line) (made : List GuestCall) → Keeps Opens there j w log made → count_by (is_after j r) log ≤ 1
+        → WorldRun w steps told w' → count_by (is_after j r) (log ++ told) ≤ 1
+    once_run there [] [] w w' log made keeps few run = subst (λ xs. count_by (is_after j r) xs ≤ 1) (sym (append-nil log)) few
+    once_run there [] (e ∷ told) w w' log made keeps few run = absurd run
+    once_run there (s ∷ steps) [] w w' log made keeps few run = absurd run
+    once_run there (s ∷ steps) (e ∷ told) w w' log made keeps few run =
+        subst (λ xs. count_by (is_after j r) xs ≤ 1) (append_assoc log (e ∷ []) told)
+        (once_run there steps told run.0 w' (log ++ e ∷ []) (made ++ step_calls j w s e run.0 run.1) (step_next Opens there j w log made keeps s e run.0 run.1) (once_step there w log made keeps s e run.0 run.1 few) run.2)
+
+    pub once_after : (workers : ℕ) (steps : List Step) (log : List Line) (w : World) → WorldRun (opening_world settings workers) steps log w → count_by (is_after j r) log ≤ 1
+    once_after workers steps log w run = once_run (IsThere workers) steps log (opening_world settings workers) w [] [] (opening_keeps workers) (omega arith) run

@@ -1,5 +1,5 @@
 #!/usr/bin/env bash
-# Runs `serve` 100 times, with 8 loops of a guest that asks for work and 16 workers. Each run has to print the same lines.
+# Runs `serve` 1,000 times (RUNS: another count), with 8 loops of a guest that asks for work and 16 workers. Each run has to print the same lines.
 #
 #     bench/serve.sh PROGRAM
 set -euo pipefail
@@ -8,12 +8,13 @@ if [ $# -ne 1 ]; then
     exit 2
 fi
 top=$(cd "$(dirname "$0")/.." && pwd)
+runs=${RUNS:-1000}
 wanted=$(for loop in $(seq 0 7); do echo "loop $loop over emits 6"; done)
-for run in $(seq 100); do
+for run in $(seq "$runs"); do
     printed=$("$1" serve "$top/examples/m6.wasm" --loops 8 --workers 16)
     if [ "$printed" != "$wanted" ]; then
         printf 'run %s printed other lines:\n%s\n' "$run" "$printed" >&2
         exit 1
     fi
 done
-echo "100 runs agree"
+echo "$runs runs agree"

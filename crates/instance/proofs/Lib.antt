@@ -1,4 +1,5 @@
 pub mod Overwriting
 pub mod Initial
+pub mod FreshStores
 pub mod Keeping
 pub mod Holding

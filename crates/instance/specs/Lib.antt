@@ -2,7 +2,7 @@ pub mod Store
 pub mod Room
 pub mod Reads
 pub mod Faults
-pub mod Typed
+pub mod Storing
 pub mod Fresh
 pub mod Lending
 pub mod Frames

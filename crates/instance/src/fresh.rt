@@ -6,7 +6,6 @@ ghost use Rattle.validate.specs.Segments.{ElementFits, DataFits, offset_in, mini
 ghost use Rattle.validate.specs.Valid.{IsConstant, ValidModule};
 ghost use Rattle.instance.specs.Store.{page_limit};
 ghost use Rattle.instance.specs.Reads.{with_bytes};
-ghost use Rattle.instance.specs.Typed.{HaveGlobalTypes};
 ghost use Rattle.instance.specs.Fresh.{with_element, with_data, fresh_globals, fresh_table, fresh_bytes};
 
 use crate::memory::Memory;
@@ -18,8 +17,7 @@ use validate::{constant_of, offset_of};
 /// The globals, with their initial values.
 pub fn first_globals(alloc: Global, contents: &Contents) -> Result<Vec<Value>, AllocError>
     requires { ValidModule contents.now }
-    ensures values { IfOk result (λ globals. globals.items ≡ fresh_globals contents.now) }
-    ensures typed { IfOk result (λ globals. HaveGlobalTypes contents.now globals.items) }
+    ensures { IfOk result (λ globals. globals.items ≡ fresh_globals contents.now) }
 {
     let mut globals = Vec::with_capacity(alloc, contents.globals.len())?;
     for global in contents.globals.as_slice() {

@@ -10,10 +10,11 @@ use Rattle.validate.specs.Stack.{pushed}
 use Rattle.validate.specs.Typing.{type_of, HasFunctionType}
 use Rattle.validate.specs.Valid.{ValidModule}
 use Rattle.instance.specs.Store.{Store}
+use Rattle.instance.specs.Storing.{HaveGlobalTypes}
 use Rattle.interp.specs.Configuration.{Context, entered, frames, receiving}
 use Rattle.interp.specs.Step.{Move, Goes, Traps, Calls, Ends, Stuck, next, type_of_function}
 use Rattle.interp.specs.Run.{IsDefined}
-use Rattle.interp.specs.Typed.{types_of, GlobalsFit, Sound}
+use Rattle.interp.specs.Typed.{types_of, Sound}
 use Rattle.interp.specs.Heights.{IsWithin}
 use Rattle.interp.specs.HeightsTyped.{Bounded, AwaitsWithin, SoundWithin}
 use Rattle.interp.proofs.Lists.{length-pushed}
@@ -37,7 +38,7 @@ module _ (m : Contents) (depth : ℕ) (answers : List ValType) where
   together most (Ends results) a k o h = a
   together most Stuck a k o h = a
 
-  pub sound_within : (s : Store) (contexts : List Context) → GlobalsFit m s → Bounded m depth answers contexts → SoundWithin m depth answers (next m s contexts)
+  pub sound_within : (s : Store) (contexts : List Context) → HaveGlobalTypes m s.globals → Bounded m depth answers contexts → SoundWithin m depth answers (next m s contexts)
   sound_within s contexts fit b =
       together (frames contexts) (next m s contexts) (sound m answers s contexts fit b.typed) (kept m s contexts b.within) (opens m s contexts) b.shallow
 

@@ -24,7 +24,7 @@ use Rattle.instance.specs.Store.{with_memory_instance, MemoryInstance}
 use Rattle.interp.specs.Moving.{Stands}
 use Rattle.interp.specs.Running.{IsTypedIn, EndsSo, EndSo, AreResults}
 use Rattle.interp.specs.Calling.{CanEnter, Entered, in_function}
-use Rattle.interp.specs.Storing.{IsStoreOf}
+use Rattle.instance.specs.Storing.{IsStoreOf}
 use Rattle.interp.specs.Invoking.{defined, imported, TakesArguments, Invoked, ReturnsTyped}
 use Rattle.interp.proofs.Stores.{with_memory_of}
 use Rattle.interp.proofs.Entering.{defined_type}

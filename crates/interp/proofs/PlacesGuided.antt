@@ -177,7 +177,7 @@ module _ (b : Body) where
             (λ (q : Agrees d b.table inner_labels (at + 1) low (low + length (pushed t.params [])) first).
             guided d inner_labels low (at + 1) (at + size first) to op.Else after_first first (pushed t.params []) (pushed t.results [])
             same_inside tf q here.1 (omega arith)
-            (subst (λ (n : ℕ). slice_get b.table.targets (at + size first) ≡ Some (target to n low)) (sym results) at_else)),
+            (omega arith, subst (λ (n : ℕ). slice_get b.table.targets (at + size first) ≡ Some (target to n low)) (sym results) at_else)),
         alone d inner_labels low other to second t.params t.results as_
             (λ (q : Agrees d b.table inner_labels other low (low + length (pushed t.params [])) second).
             guided d inner_labels low other (at + size first + size second) to op.End after_second second (pushed t.params []) (pushed t.results [])

@@ -321,7 +321,7 @@ module _ (m : Contents) (body : ℕ → Body) (function : ℕ) (callers : List P
           → Leads m body (stepped (body function) (here at) values callers o) (Goes 0 s (receiving values below))
       closing None c = absurd c
       closing (Some op.End) c = subst (λ (to : ℕ). IsPlaced m body (here to) callers (receiving values below) 0) c (beneath labels h)
-      closing (Some op.Else) c = rw c (beneath labels h)
+      closing (Some op.Else) c = rw c.1 (beneath labels h)
       closing (Some o) c = absurd c
     codes s at (Plain i rest) values (o, tells, k) = rw o (plains s at i values rest tells k)
     codes s at (Block type inside rest) values (o, t, found, left, e, kb, kr) =

@@ -27,17 +27,17 @@ operands-parts [] = refl
 operands-parts (Label arity next values code ∷ below) = omega (arith, length-append values (all_operands below), operands-parts below)
 operands-parts (Frame locals arity values code ∷ below) = omega (arith, length-append values (all_operands below))
 
-call-going : (values : List Value) (code : Code) (contexts : List Context) → call_of (going_on values code contexts) ≡ call_of contexts
+pub call-going : (values : List Value) (code : Code) (contexts : List Context) → call_of (going_on values code contexts) ≡ call_of contexts
 call-going values code [] = refl
 call-going values code (Label arity next own rest ∷ below) = refl
 call-going values code (Frame locals arity own rest ∷ below) = refl
 
-call-locals : (locals : List Value) (contexts : List Context) → call_of (with_locals locals contexts) ≡ call_of contexts
+pub call-locals : (locals : List Value) (contexts : List Context) → call_of (with_locals locals contexts) ≡ call_of contexts
 call-locals locals [] = refl
 call-locals locals (Label arity next own rest ∷ below) = call-locals locals below
 call-locals locals (Frame own arity values rest ∷ below) = refl
 
-call-receiving : (values : List Value) (contexts : List Context) → call_of (receiving values contexts) ≡ call_of contexts
+pub call-receiving : (values : List Value) (contexts : List Context) → call_of (receiving values contexts) ≡ call_of contexts
 call-receiving values [] = refl
 call-receiving values (Label arity next own rest ∷ below) = refl
 call-receiving values (Frame locals arity own rest ∷ below) = refl

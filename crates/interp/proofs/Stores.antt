@@ -23,7 +23,7 @@ use Rattle.interp.specs.Configuration.{Context, Label, Frame, locals_of, branche
 use Rattle.interp.specs.Step.{Move, Goes, Traps, Calls, Ends, Stuck, Turn, Leaves, Fails, Lacks, turn, turned, plain, at_code, next, branch_if, on_contexts, label_for, takes_topmost, call_typed, call_element, type_of_function, same_type, entering, block, loop, chosen, giving, loaded, stored, computed, is_of, alike, replaces}
 use Rattle.interp.specs.Typed.{types_of}
 use Rattle.interp.specs.HeightsTyped.{Bounded, AwaitsWithin, SoundWithin}
-use Rattle.interp.specs.Storing.{NamesFunction, HasPages, IsStoreOf}
+use Rattle.instance.specs.Storing.{NamesFunction, HasPages, IsStoreOf}
 use Rattle.interp.proofs.HeightsSound.{sound_within}
 use Rattle.std.specs.Prelude.{All}
 

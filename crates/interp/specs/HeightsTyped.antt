@@ -7,8 +7,9 @@ use Rattle.validate.specs.Stack.{pushed}
 use Rattle.validate.specs.Typing.{HasFunctionType}
 use Rattle.interp.specs.Configuration.{Context, frames}
 use Rattle.interp.specs.Step.{Move, Goes, Traps, Calls, Ends, Stuck}
-use Rattle.interp.specs.Typed.{types_of, GlobalsFit, Awaits, Configured}
+use Rattle.interp.specs.Typed.{types_of, Awaits, Configured}
 use Rattle.interp.specs.Heights.{IsWithin}
+use Rattle.instance.specs.Storing.{HaveGlobalTypes}
 
 -- the contexts are typed and within the limits, and so many calls are open at most
 pub record Bounded (m : Contents) (depth : ℕ) (answers : List ValType) (contexts : List Context) : Type 0 where
@@ -24,7 +25,7 @@ pub record AwaitsWithin (m : Contents) (depth : ℕ) (answers : List ValType) (c
 
 -- what a step of typed contexts within the limits leads to
 abbrev pub SoundWithin : Contents → (depth : ℕ) → (answers : List ValType) → Move → Type 0
-SoundWithin m depth answers (Goes charge s contexts) = GlobalsFit m s × Bounded m depth answers contexts
+SoundWithin m depth answers (Goes charge s contexts) = HaveGlobalTypes m s.globals × Bounded m depth answers contexts
 SoundWithin m depth answers (Traps trap) = Unit {0}
 SoundWithin m depth answers (Calls f args below) =
     (type : FuncType) × HasFunctionType m f type × (types_of args ≡ type.params) × AwaitsWithin m depth answers below type

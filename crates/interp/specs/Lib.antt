@@ -8,7 +8,6 @@ pub mod HeightsOfRuns
 pub mod HeightsTyped
 pub mod Places
 pub mod Room
-pub mod Storing
 pub mod Traps
 pub mod Turning
 pub mod Search

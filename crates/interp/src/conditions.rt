@@ -2,12 +2,9 @@
 
 ghost use Rattle.std.specs.Prelude.{◌≡◌, IsTrue, ◌↔◌};
 ghost use Rattle.validate.specs.Typing.{type_of};
-ghost use Rattle.instance.specs.Fresh.{IsFresh};
 ghost use Rattle.interp.specs.Typed.{types_of};
-ghost use Rattle.interp.specs.Storing.{IsStoreOf};
 ghost use Rattle.interp.specs.Invoking.{TakesArguments};
 
-use instance::state::Instance;
 use syntax::types::{ValType, Value};
 use validate::{Valid, type_of_function};
 
@@ -44,13 +41,4 @@ pub fn takes_arguments(valid: &Valid, function: u32, args: &[Value]) -> bool
         Some(found) => are_of(args, found.params.as_slice()),
         None => false,
     }
-}
-
-/// A new instance of a module has a store of that module. Nothing is done: this is a law.
-pub fn fresh_is_store_of(valid: &Valid, instance: &Instance)
-    requires { IsFresh valid.now.contents instance.now }
-    ensures { IsStoreOf valid.now.contents instance.now }
-{
-    let _contents = valid.contents();
-    let _memory = instance.memory();
 }

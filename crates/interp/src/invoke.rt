@@ -4,7 +4,7 @@ ghost use Rattle.std.specs.Prelude.{◌≡◌, ◌≤◌, ◌<◌, length};
 ghost use Rattle.validate.specs.Valid.{ValidModule};
 ghost use Rattle.interp.specs.Hosting.{Names};
 ghost use Rattle.interp.specs.Run.{as_operands};
-ghost use Rattle.interp.specs.Storing.{IsStoreOf};
+ghost use Rattle.instance.specs.Storing.{IsStoreOf};
 ghost use Rattle.interp.specs.Invoking.{TakesArguments, Invoked, ReturnsTyped};
 
 use crate::calls::enter_function;

@@ -15,7 +15,8 @@ ghost use Rattle.interp.specs.Run.{HostCall, Outcome, IsDefined, RunsWithin};
 ghost use Rattle.interp.specs.Hosting.{Lawful, IsDetermined};
 ghost use Rattle.interp.specs.Invoking.{Invokes, Invoked};
 ghost use Rattle.interp.specs.declared.ended.Ended.{Ended};
-ghost use Rattle.interp.specs.Typed.{types_of, GlobalsFit};
+ghost use Rattle.instance.specs.Storing.{HaveGlobalTypes};
+ghost use Rattle.interp.specs.Typed.{types_of};
 ghost use Rattle.interp.specs.HeightsTyped.{Bounded, AwaitsWithin, SoundWithin};
 ghost use Rattle.interp.specs.HeightsOfRuns.{IsReached, all_operands, all_locals};
 ghost use Rattle.std.specs.Prelude.{zero, suc, ◌+◌, ◌∷◌, min, Some, slice_get};
@@ -49,7 +50,7 @@ pub fn reached_contexts_are_bounded()
 /// (`steps`); so is a call of a function of a valid module, from outside (`begins`) or over contexts that await its
 /// results (`enters`), and so are those contexts once the host has answered (`answers`).
 pub fn bounded_contexts_are_sound()
-    ensures steps { (m : Contents) (depth : ℕ) (answers : List ValType) (s : Store) (contexts : List Context) → GlobalsFit m s → Bounded m depth answers contexts → SoundWithin m depth answers (next m s contexts) }
+    ensures steps { (m : Contents) (depth : ℕ) (answers : List ValType) (s : Store) (contexts : List Context) → HaveGlobalTypes m s.globals → Bounded m depth answers contexts → SoundWithin m depth answers (next m s contexts) }
     ensures begins { (m : Contents) (depth function : ℕ) (type : FuncType) (f : Func) (args : List Value) → ValidModule m → IsDefined m function type f → types_of args ≡ type.params → 0 < depth → Bounded m depth type.results (entered type f args []) }
     ensures enters { (m : Contents) (depth : ℕ) (answers : List ValType) (function : ℕ) (type : FuncType) (f : Func) (args : List Value) (below : List Context) → ValidModule m → IsDefined m function type f → types_of args ≡ type.params → AwaitsWithin m depth answers below type → frames below < depth → Bounded m depth answers (entered type f args below) }
     ensures answers { (m : Contents) (depth : ℕ) (answers : List ValType) (below : List Context) (type : FuncType) (values : List Value) → types_of values ≡ pushed type.results [] → AwaitsWithin m depth answers below type → Bounded m depth answers (receiving values below) }

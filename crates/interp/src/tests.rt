@@ -2,7 +2,7 @@
 
 ghost use Rattle.std.specs.Prelude.{◌≤◌};
 
-use crate::conditions::{fresh_is_store_of, takes_arguments};
+use crate::conditions::takes_arguments;
 use crate::ended::{Ended, Ending};
 use crate::host::{Args, Host};
 use crate::invoke::invoke;
@@ -79,7 +79,6 @@ fn call(
     requires { (1 ≤ depth) × (depth ≤ 128) }
 {
     let mut instance = Instance::new(rt.alloc(), valid).expect(rt, "its segments fit");
-    fresh_is_store_of(valid, &instance);
     assert!(rt; valid.contents().imports.len() == 0);
     assert!(rt; takes_arguments(valid, 0, args));
     Ok(invoke(valid, &mut instance, &mut Idle, 0, args, fuel, depth))

@@ -5,7 +5,7 @@ ghost use Rattle.std.specs.Arc.{arc_value};
 ghost use Rattle.syntax.specs.declared.types.ValType.TheVariants as valtype;
 ghost use Rattle.validate.specs.Valid.{ValidModule};
 ghost use Rattle.instance.specs.Fresh.{IsFresh};
-ghost use Rattle.interp.specs.Storing.{IsStoreOf};
+ghost use Rattle.instance.specs.Storing.{IsStoreOf};
 ghost use Rattle.interp.specs.Invoking.{TakesArguments, ReturnsTyped};
 ghost use Rattle.interp.specs.Running.{outcome_of, AreResults};
 ghost use Rattle.imports.specs.Linking.{ExportsFunction};
@@ -18,7 +18,6 @@ use crate::reply::Reply;
 use crate::request::{Order, Outcome};
 use imports::Entry;
 use instance::state::Instance;
-use interp::conditions::fresh_is_store_of;
 use interp::ended::{Ended, Ending};
 use interp::invoke::invoke;
 use interp::values::Values;
@@ -85,10 +84,7 @@ impl Order {
         let valid = self.module.valid();
         let _contents = valid.contents();
         match Instance::new(alloc, valid) {
-            Ok(instance) => {
-                fresh_is_store_of(valid, &instance);
-                Ok(instance)
-            }
+            Ok(instance) => Ok(instance),
             Err(_) => Err(AllocError),
         }
     }

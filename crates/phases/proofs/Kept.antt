@@ -19,7 +19,7 @@ use Rattle.instance.specs.Store.{Store}
 use Rattle.interp.specs.Hosting.{Lawful, Names}
 use Rattle.interp.specs.Invoking.{Invokes, Invoked, TakesArguments}
 use Rattle.interp.specs.Running.{outcome_of}
-use Rattle.interp.specs.Storing.{IsStoreOf}
+use Rattle.instance.specs.Storing.{IsStoreOf}
 use Rattle.interp.specs.declared.ended.Ended.{Ended}
 use Rattle.imports.specs.Linking.{IsLinked, ExportsFunction, ExportsNothing}
 use Rattle.order.specs.Hosting.{import_types}

@@ -2,7 +2,7 @@
 use Rattle.std.specs.Prelude.{◌≡◌, ℕ, ◌<◌, ◌≤◌, true, All, length, codes}
 use Rattle.syntax.specs.Loaded.{Loaded}
 use Rattle.instance.specs.Store.{Store}
-use Rattle.interp.specs.Storing.{IsStoreOf}
+use Rattle.instance.specs.Storing.{IsStoreOf}
 use Rattle.imports.specs.Linking.{ExportsFunction}
 use Rattle.order.specs.Work.{WorkOrder}
 use Rattle.phases.specs.PhaseList.{exports}

@@ -6,7 +6,7 @@ ghost use Rattle.std.specs.Int.{w32, cast_unsigned};
 ghost use Rattle.interp.specs.Invoking.{TakesArguments};
 ghost use Rattle.imports.specs.Linking.{ExportsFunction};
 ghost use Rattle.instance.specs.Fresh.{IsFresh, fresh_store};
-ghost use Rattle.interp.specs.Storing.{IsStoreOf};
+ghost use Rattle.instance.specs.Storing.{IsStoreOf};
 ghost use Rattle.order.specs.Orders.{order_of};
 ghost use Rattle.phases.specs.Fitting.{AllRight, IsShort};
 ghost use Rattle.phases.specs.Accepting.{Accepts};
@@ -29,7 +29,6 @@ use crate::shared::{Beside, Shared};
 use handles::Kind;
 use imports::{Entry as Export, Linked};
 use instance::state::Instance;
-use interp::conditions::fresh_is_store_of;
 use interp::invoke::invoke;
 use order::laws::imports_are_named;
 use order::{Order, Reply};
@@ -101,7 +100,6 @@ impl<B: Shared + Drop> LoopCore<B> {
         let Ok(instance) = Instance::new(alloc, valid) else {
             return Err(AllocError);
         };
-        fresh_is_store_of(valid, &instance);
         let callbacks = callbacks_of(alloc, contents, &instance)?;
         let start = contents.start.is_some();
         let main = linked.entry(Export::Main).is_some();

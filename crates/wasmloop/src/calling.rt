@@ -2,7 +2,7 @@
 
 ghost use Rattle.std.specs.Prelude.{◌≡◌, ◌≤◌, ◌↔◌, Some, IfOk, IfSome, IsTrue};
 ghost use Rattle.instance.specs.Fresh.{IsFresh};
-ghost use Rattle.interp.specs.Storing.{IsStoreOf};
+ghost use Rattle.instance.specs.Storing.{IsStoreOf};
 ghost use Rattle.interp.specs.Invoking.{TakesArguments};
 ghost use Rattle.syntax.specs.declared.module.ExternKind.TheVariants.{Func};
 ghost use Rattle.syntax.specs.Exporting.{IsFirst};
@@ -13,7 +13,6 @@ use crate::command::Budget;
 use crate::failure::Failure;
 use crate::refusing::Refusing;
 use instance::state::Instance;
-use interp::conditions::fresh_is_store_of;
 use interp::ended::{Ended, Ending};
 use interp::invoke::invoke;
 use interp::values::Values;
@@ -75,12 +74,12 @@ fn run(
 
 /// Runs the start function, where there is one.
 fn start(valid: &Valid, instance: &mut Instance, budget: Budget) -> Ended
-    requires { IsFresh valid.now.contents instance.old }
+    requires fresh { IsFresh valid.now.contents instance.old }
+    requires store { IsStoreOf valid.now.contents instance.old }
     ensures starts { Starts valid.now.contents budget.depth budget.fuel valid.now.contents.start result instance.new }
     ensures within { result.used ≤ budget.fuel }
     ensures kept { IsStoreOf valid.now.contents instance.new }
 {
-    fresh_is_store_of(valid, instance);
     match valid.contents().start {
         Some(function) => run(valid, instance, function, &[], budget.fuel, budget.depth),
         None => Ended {

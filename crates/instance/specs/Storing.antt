@@ -1,10 +1,14 @@
 -- Which stores are of a module (WebAssembly Core 1.0, appendix, store validity).
-use Rattle.std.specs.Prelude.{◌≡◌, ℕ, ◌*◌, ◌<◌, ◌≤◌, max, List, length, Option, Some, None, All}
+use Rattle.std.specs.Prelude.{◌≡◌, ℕ, ◌*◌, ◌<◌, ◌≤◌, max, List, length, map, Option, Some, None, All}
+use Rattle.syntax.specs.declared.types.Value.{Value}
 use Rattle.syntax.specs.declared.module.Contents.{Contents}
-use Rattle.validate.specs.Typing.{function_types}
+use Rattle.validate.specs.Typing.{type_of, function_types}
 use Rattle.validate.specs.Segments.{minimum}
 use Rattle.instance.specs.Store.{Store, page, page_limit}
-use Rattle.interp.specs.Typed.{GlobalsFit}
+
+-- the values are of the types of the module's globals, in their order
+abbrev pub HaveGlobalTypes : Contents → List Value → Type 0
+HaveGlobalTypes m values = map type_of values ≡ map (λ g. g.value_type) m.globals
 
 -- an element of a table is empty, or names a function of the module
 abbrev pub NamesFunction : Contents → Option ℕ → Type 0
@@ -22,7 +26,7 @@ pub record HasPages (limit least : ℕ) (bytes : List ℕ) : Type 0 where
 -- The globals are of their types, the table is as long as declared and names functions of the module, and the memory
 -- lies within what is declared.
 pub record IsStoreOf (m : Contents) (s : Store) : Type 0 where
-  pub globals : GlobalsFit m s
+  pub globals : HaveGlobalTypes m s.globals
   pub table : length s.table ≡ minimum m.table
   pub elements : All (NamesFunction m) s.table
   pub limit : s.limit ≡ page_limit m.memory

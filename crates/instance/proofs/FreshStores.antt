@@ -1,32 +1,21 @@
 -- The store of a new instance is one of its module.
-use Rattle.std.proofs.Common.{◌≡◌, ℕ, ◌+◌, ◌*◌, ◌<◌, ◌≤◌, List, [], ◌∷◌, ◌++◌, length, map, take, drop, replicate, Option, Some, None, refl, sym, ap, ◌∙◌, subst, arith, length-append, length-drop}
+use Rattle.std.proofs.Common.{◌≡◌, ℕ, ◌+◌, ◌*◌, ◌<◌, ◌≤◌, List, [], ◌∷◌, ◌++◌, length, map, take, drop, replicate, Option, Some, None, refl, sym, ◌∙◌, subst, arith, length-append, length-drop}
 use Rattle.std.specs.Prelude.{All}
 use Rattle.std.proofs.lemmas.List.{length-take-le, length-replicate, length-map}
 use Rattle.std.proofs.lemmas.List.Elements.{All-append, All-take, All-drop, All-tail, All-cons, All-nil, All-replicate}
-use Rattle.syntax.specs.declared.types.ValType.{ValType}
 use Rattle.syntax.specs.declared.module.Contents.{Contents}
-use Rattle.syntax.specs.declared.module.Global.{Global}
 use Rattle.syntax.specs.declared.module.Element.{Element}
 use Rattle.syntax.specs.declared.module.Data.{Data}
-use Rattle.syntax.specs.Code.{Code}
-use Rattle.validate.specs.Typing.{type_of, function_types}
-use Rattle.validate.specs.Valid.{ValidModule, ValidElement, IsConstant}
-use Rattle.validate.specs.Segments.{ElementFits, DataFits, constant_in, offset_in, minimum}
+use Rattle.validate.specs.Typing.{function_types}
+use Rattle.validate.specs.Valid.{ValidModule, ValidElement}
+use Rattle.validate.specs.Segments.{ElementFits, DataFits, offset_in, minimum}
 use Rattle.instance.specs.Store.{Store, page}
 use Rattle.instance.specs.Fresh.{IsFresh, overwritten, with_element, with_data, all_written, fresh_store}
-use Rattle.interp.specs.Typed.{types_of}
-use Rattle.interp.specs.Storing.{NamesFunction, IsStoreOf}
+use Rattle.instance.specs.Storing.{NamesFunction, IsStoreOf}
+use Rattle.instance.proofs.Initial.{initial_types}
 
 first_of : {X : Type 0} (P : X → Type 0) (x : X) (xs : List X) → All P (x ∷ xs) → P x
 first_of P x xs k = k 0 x (omega arith)
-
-globals_typed : (globals : List Global) → All (λ g. IsConstant g.value_type g.init) globals → types_of (map (λ (g : Global). constant_in g.init) globals) ≡ map (λ (g : Global). g.value_type) globals
-globals_typed [] k = refl
-globals_typed (g ∷ globals) k =
-    let c = first_of (λ (g : Global). IsConstant g.value_type g.init) g globals k in
-    let e : type_of (constant_in g.init) ≡ g.value_type = ap (λ (x : Code). type_of (constant_in x)) c.1 ∙ c.2 in
-    let r = globals_typed globals (All-tail (λ (g : Global). IsConstant g.value_type g.init) g globals k) in
-    ap (λ (t : ValType). t ∷ types_of (map (λ (g : Global). constant_in g.init) globals)) e ∙ ap (λ (ts : List ValType). g.value_type ∷ ts) r
 
 over_length : {X : Type 0} (at : ℕ) (xs old : List X) → at + length xs ≤ length old → length (overwritten at xs old) ≡ length old
 over_length at xs old h =
@@ -69,7 +58,7 @@ module _ (m : Contents) where
         let t = table_written m.elements (replicate (minimum m.table) None) (length-replicate {A = Option ℕ} (minimum m.table) None) (All-replicate (NamesFunction m) (minimum m.table) None tt) k.segments.elements v.elements in
         let b = bytes_written m.«data» (replicate (minimum m.memory * page) 0) (length-replicate {A = ℕ} (minimum m.memory * page) 0) k.segments.data_segments in
         record {
-          globals = globals_typed m.globals v.globals;
+          globals = initial_types m.globals v.globals;
           table = t.0;
           elements = t.1;
           limit = refl;

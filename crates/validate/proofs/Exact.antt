@@ -37,7 +37,7 @@ names_all c MemorySize before after t = t.0
 names_all c MemoryGrow before after t = t.0
 names_all c _ before after t = tt
 
-names_labels : (c : Context) (i : Instr) (before after : List ValType) → InstrTyped c i before after → NamesLabels c i
+pub names_labels : (c : Context) (i : Instr) (before after : List ValType) → InstrTyped c i before after → NamesLabels c i
 names_labels c (Br label) before after t = rw t.1.0 refl
 names_labels c (BrIf label) before after t = rw t.1 refl
 names_labels c (BrTable labels default) before after t = (λ i d lt. rw (t.1 i d lt) refl, rw t.2 refl)

@@ -3,10 +3,13 @@ use Rattle.validate.specs.Refusals.{Refutes}
 use Rattle.validate.proofs.Exact.{refuted}
 use Rattle.validate.proofs.valid.validate.Goals as goal
 
-pub returns-in_err-check_contents-clause-invalid : goal.returns-in_err-check_contents-clause-invalid
-returns-in_err-check_contents-clause-invalid c =
+pub returns-in_err-tables-clause-invalid : goal.returns-in_err-tables-clause-invalid
+returns-in_err-tables-clause-invalid c =
     let m = c.args.module.contents in
-    let e = c.in_err-check_contents.field-0.0 in
+    let e = c.in_err-tables.field-0.0 in
     let p = err_from_is_err_and c.from_residual.result c.from_residual.ensures.1 in
-    let refutes : Refutes m e = rw (← c.contents.ensures.value) c.in_err-check_contents.ensures.refused in
+    let refutes : Refutes m e = rw (← c.contents.ensures.value) c.in_err-tables.ensures.refused in
     rw (p.1, p.2) (refuted m e refutes)
+
+pub invariant_of-result : goal.invariant_of-result
+invariant_of-result c = rw (← c.contents.ensures.value) (c.in_ok-tables.ensures.valid, c.in_ok-tables.ensures.told)

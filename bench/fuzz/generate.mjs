@@ -403,10 +403,10 @@ class Module {
     }
 }
 
-/** A valid module: its bytes, and the types of what "g" gives. */
+/** A valid module: its bytes, the types of what "g" gives, and how many imports it has. */
 export function validModule(random) {
     const m = new Module(random).fill();
-    return { bytes: m.bytes(), results: m.results };
+    return { bytes: m.bytes(), results: m.results, imports: m.imports.length };
 }
 
 /** One that is nearly valid: some instruction is left out, doubled, exchanged with another or made anew. */

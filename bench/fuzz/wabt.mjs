@@ -33,7 +33,7 @@ export function answer(module) {
     return line.includes("error") ? `trap ${trap ? trap[1] : line}` : returned(line, module.results);
 }
 
-/** Modules that import are left out: wasm-interp answers 0 where the program answers -1. */
+/** Whether the program and wabt agree. A start function or a segment that stops a module is told by wabt as no line of "g". */
 export function isSame(ours, theirs, own) {
     const [line] = ours.split(" used ");
     if (theirs.startsWith("none") || /^(start|spent|depth|link)/.test(line)) return true;

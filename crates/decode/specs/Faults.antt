@@ -1,7 +1,8 @@
 -- The numbers of the faults.
 use Rattle.std.specs.Prelude.{ℕ}
 use Rattle.decode.specs.declared.fault.DecodeFault.{DecodeFault}
-use Rattle.decode.specs.declared.fault.DecodeFault.TheVariants.{Magic, Version, End, Leb, Order, Size, Kind, Opcode, Name, Counts, Profile, Limit, Memory}
+use Rattle.decode.specs.declared.fault.DecodeFault.TheVariants.{Magic, Version, End, Leb, Order, Size, Kind, Opcode, Name, Counts, Profile}
+use Rattle.decode.specs.declared.fault.DecodeFault.TheVariants.{Limit, Memory}
 
 abbrev pub number_of : DecodeFault → ℕ
 number_of Magic = 1

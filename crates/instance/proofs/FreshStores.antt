@@ -8,8 +8,8 @@ use Rattle.syntax.specs.declared.module.Element.{Element}
 use Rattle.syntax.specs.declared.module.Data.{Data}
 use Rattle.validate.specs.Typing.{function_types}
 use Rattle.validate.specs.Valid.{ValidModule, ValidElement}
-use Rattle.validate.specs.Segments.{ElementFits, DataFits, offset_in, minimum}
-use Rattle.instance.specs.Store.{Store, page}
+use Rattle.validate.specs.Segments.{ElementFits, DataFits, offset_in, minimum, page_size}
+use Rattle.instance.specs.Store.{Store}
 use Rattle.instance.specs.Fresh.{IsFresh, overwritten, with_element, with_data, all_written, fresh_store}
 use Rattle.instance.specs.Storing.{NamesFunction, IsStoreOf}
 use Rattle.instance.proofs.Initial.{initial_types}
@@ -43,7 +43,7 @@ module _ (m : Contents) where
       (All-append (NamesFunction m) xs (drop (at + length xs) table) (named e.functions valid.functions) (All-drop (NamesFunction m) (at + length xs) table a)) in
       table_written elements (with_element table e) (over_length at xs table h ∙ n) a' (All-tail (ElementFits m) e elements f) (All-tail (ValidElement m) e elements v)
 
-  bytes_written : (segments : List Data) (bytes : List ℕ) → length bytes ≡ minimum m.memory * page → All (DataFits m) segments → length (all_written with_data bytes segments) ≡ minimum m.memory * page
+  bytes_written : (segments : List Data) (bytes : List ℕ) → length bytes ≡ minimum m.memory * page_size → All (DataFits m) segments → length (all_written with_data bytes segments) ≡ minimum m.memory * page_size
   bytes_written [] bytes n f = n
   bytes_written (d ∷ segments) bytes n f =
       let at = offset_in d.offset in
@@ -56,7 +56,7 @@ module _ (m : Contents) where
     of_fresh : IsStoreOf m (fresh_store m)
     of_fresh =
         let t = table_written m.elements (replicate (minimum m.table) None) (length-replicate {A = Option ℕ} (minimum m.table) None) (All-replicate (NamesFunction m) (minimum m.table) None tt) k.segments.elements v.elements in
-        let b = bytes_written m.«data» (replicate (minimum m.memory * page) 0) (length-replicate {A = ℕ} (minimum m.memory * page) 0) k.segments.data_segments in
+        let b = bytes_written m.«data» (replicate (minimum m.memory * page_size) 0) (length-replicate {A = ℕ} (minimum m.memory * page_size) 0) k.segments.data_segments in
         record {
           globals = initial_types m.globals v.globals;
           table = t.0;

@@ -4,8 +4,8 @@ use Rattle.syntax.specs.declared.module.Contents.{Contents}
 use Rattle.syntax.specs.declared.types.Value.{Value}
 use Rattle.syntax.specs.declared.module.Element.{Element}
 use Rattle.syntax.specs.declared.module.Data.{Data}
-use Rattle.validate.specs.Segments.{SegmentsFit, constant_in, offset_in, minimum}
-use Rattle.instance.specs.Store.{Store, page, page_limit}
+use Rattle.validate.specs.Segments.{SegmentsFit, constant_in, offset_in, minimum, page_size}
+use Rattle.instance.specs.Store.{Store, page_limit}
 
 -- the list with these in place of what stood from a place on
 abbrev pub overwritten : {X : Type 0} → ℕ → List X → List X → List X
@@ -29,7 +29,7 @@ abbrev pub fresh_table : Contents → List (Option ℕ)
 fresh_table m = all_written with_element (replicate (minimum m.table) None) m.elements
 
 abbrev pub fresh_bytes : Contents → List ℕ
-fresh_bytes m = all_written with_data (replicate (minimum m.memory * page) 0) m.«data»
+fresh_bytes m = all_written with_data (replicate (minimum m.memory * page_size) 0) m.«data»
 
 abbrev pub fresh_store : Contents → Store
 fresh_store m = record {

@@ -3,8 +3,8 @@ use Rattle.std.specs.Prelude.{◌≡◌, ℕ, ◌*◌, ◌<◌, ◌≤◌, max, 
 use Rattle.syntax.specs.declared.types.Value.{Value}
 use Rattle.syntax.specs.declared.module.Contents.{Contents}
 use Rattle.validate.specs.Typing.{type_of, function_types}
-use Rattle.validate.specs.Segments.{minimum}
-use Rattle.instance.specs.Store.{Store, page, page_limit}
+use Rattle.validate.specs.Segments.{minimum, page_size}
+use Rattle.instance.specs.Store.{Store, page_limit}
 
 -- the values are of the types of the module's globals, in their order
 abbrev pub HaveGlobalTypes : Contents → List Value → Type 0
@@ -19,7 +19,7 @@ NamesFunction m (Some f) = f < length (function_types m)
 -- that is more.
 pub record HasPages (limit least : ℕ) (bytes : List ℕ) : Type 0 where
   pub count : ℕ
-  pub whole : length bytes ≡ count * page
+  pub whole : length bytes ≡ count * page_size
   pub enough : least ≤ count
   pub within : count ≤ max limit least
 

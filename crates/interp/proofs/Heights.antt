@@ -15,9 +15,8 @@ use Rattle.syntax.specs.declared.module.Contents.{Contents}
 use Rattle.syntax.specs.declared.module.FuncType.{FuncType}
 use Rattle.syntax.specs.Code.{Code, Done, Plain, Block, Loop, If}
 use Rattle.validate.specs.Stack.{pushed}
-use Rattle.validate.specs.Typing.{Context, inside, type_of, Turns, ConversionTurns, HasFunctionType, InstrTyped, Typed}
-use Rattle.validate.specs.Height.{Effect, Changes, Ends, effect_of, after_effect, function_type, greatest_height, nesting}
-use Rattle.interp.specs.Step.{type_of_function}
+use Rattle.validate.specs.Typing.{Context, inside, type_of, Turns, ConversionTurns, HasFunctionType, InstrTyped, Typed, type_of_function}
+use Rattle.validate.specs.Height.{Effect, Changes, Ends, effect_of, after_effect, greatest_height, nesting}
 use Rattle.interp.specs.Heights.{Fits, counts, Follows, Counted}
 use Rattle.interp.proofs.Lists.{length-pushed}
 
@@ -46,7 +45,7 @@ turned_on taken given before after t turns =
     let r = turned (taken ++ (t ∷ [])) given before after turns in
     (r.0, omega (arith, r.1, length-append taken (t ∷ [])), r.2)
 
-called : (m : Contents) (f : ℕ) (type : FuncType) → HasFunctionType m f type → (function_type m f ≡ Some type) × (type_of_function m f ≡ Some type)
+called : (m : Contents) (f : ℕ) (type : FuncType) → HasFunctionType m f type → (type_of_function m f ≡ Some type) × (type_of_function m f ≡ Some type)
 called m f type (t, a, b) = (rw a b, rw a b)
 
 agrees_call : (c : Context) (f : ℕ) (before mid : List ValType) (type : FuncType) → HasFunctionType c.module_contents f type → Turns type.params type.results before mid

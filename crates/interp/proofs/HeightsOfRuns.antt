@@ -1,5 +1,5 @@
 -- A call of a function of a valid module begins within the limits, and its run stays within them.
-use Rattle.std.proofs.Common.{◌≡◌, ℕ, ◌+◌, ◌≤◌, List, [], ◌∷◌, ◌++◌, length, map, Option, Some, None, refl, sym, ap, ◌∙◌, subst, arith, length-append}
+use Rattle.std.proofs.Common.{option_and_then, ◌≡◌, ℕ, ◌+◌, ◌≤◌, List, [], ◌∷◌, ◌++◌, length, map, Option, Some, None, refl, sym, ap, ◌∙◌, subst, arith, length-append}
 use Rattle.std.specs.Prelude.{slice_get}
 use Rattle.std.proofs.lemmas.List.{length-map}
 use Rattle.std.proofs.lemmas.Option.{slice_get_within, get_or_from_slice_get}
@@ -10,11 +10,11 @@ use Rattle.syntax.specs.declared.module.FuncType.{FuncType}
 use Rattle.syntax.specs.declared.module.Func.{Func}
 use Rattle.syntax.specs.Code.{Done}
 use Rattle.validate.specs.Stack.{pushed}
-use Rattle.validate.specs.Typing.{type_of, HasFunctionType, function_types}
+use Rattle.validate.specs.Typing.{type_of, HasFunctionType, function_types, type_of_function}
 use Rattle.validate.specs.Valid.{ValidModule, ValidFunc, body_context}
 use Rattle.instance.specs.Store.{Store, value_of}
 use Rattle.interp.specs.Configuration.{Context, Frame, entered, receiving}
-use Rattle.interp.specs.Step.{Move, Calls, next, type_of_function, type_with}
+use Rattle.interp.specs.Step.{Move, Calls, next}
 use Rattle.interp.specs.Run.{as_operands, IsDefined}
 use Rattle.interp.specs.Hosting.{Answers}
 use Rattle.interp.specs.Typed.{types_of}
@@ -26,7 +26,7 @@ use Rattle.interp.proofs.Heights.{counted}
 use Rattle.interp.proofs.HeightsKept.{Kept, received, kept}
 
 module _ (m : Contents) where
-  found_type : (f : ℕ) (type : FuncType) (o : Option ℕ) → slice_get (function_types m) f ≡ o → type_with m o ≡ Some type → HasFunctionType m f type
+  found_type : (f : ℕ) (type : FuncType) (o : Option ℕ) → slice_get (function_types m) f ≡ o → option_and_then (slice_get m.types) o ≡ Some type → HasFunctionType m f type
   found_type f type None a b = absurd (cc)
   found_type f type (Some t) a b = (t, a, b)
 

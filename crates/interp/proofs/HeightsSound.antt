@@ -7,12 +7,12 @@ use Rattle.syntax.specs.declared.module.Contents.{Contents}
 use Rattle.syntax.specs.declared.module.FuncType.{FuncType}
 use Rattle.syntax.specs.declared.module.Func.{Func}
 use Rattle.validate.specs.Stack.{pushed}
-use Rattle.validate.specs.Typing.{type_of, HasFunctionType}
+use Rattle.validate.specs.Typing.{type_of, HasFunctionType, type_of_function}
 use Rattle.validate.specs.Valid.{ValidModule}
 use Rattle.instance.specs.Store.{Store}
 use Rattle.instance.specs.Storing.{HaveGlobalTypes}
 use Rattle.interp.specs.Configuration.{Context, entered, frames, receiving}
-use Rattle.interp.specs.Step.{Move, Goes, Traps, Calls, Ends, Stuck, next, type_of_function}
+use Rattle.interp.specs.Step.{Move, Goes, Traps, Calls, Ends, Stuck, next}
 use Rattle.interp.specs.Run.{IsDefined}
 use Rattle.interp.specs.Typed.{types_of, Sound}
 use Rattle.interp.specs.Heights.{IsWithin}

@@ -6,7 +6,7 @@ use Rattle.syntax.specs.declared.types.Value.{Value}
 use Rattle.syntax.specs.declared.module.Contents.{Contents}
 use Rattle.syntax.specs.declared.module.FuncType.{FuncType}
 use Rattle.syntax.specs.declared.module.Func.{Func}
-use Rattle.validate.specs.Typing.{HasFunctionType, type_of}
+use Rattle.validate.specs.Typing.{HasFunctionType, type_of, type_of_function}
 use Rattle.validate.specs.Valid.{ValidModule}
 use Rattle.instance.specs.Store.{Store}
 use Rattle.interp.specs.declared.ended.Ended.{Ended}
@@ -16,7 +16,6 @@ use Rattle.interp.specs.Configuration.{entered}
 use Rattle.interp.specs.Run.{HostCall, IsDefined, IsImported, as_operands}
 use Rattle.interp.specs.Hosting.{Names, Takes, Answers}
 use Rattle.interp.specs.Typed.{types_of}
-use Rattle.interp.specs.Step.{type_of_function}
 use Rattle.validate.specs.Stack.{pushed}
 use Rattle.interp.specs.declared.ended.Ending.TheVariants.{Return}
 use Rattle.interp.proofs.Lists.{in_order}

@@ -12,7 +12,8 @@ use Rattle.syntax.specs.declared.instruction.Instr.TheVariants.{Br, BrIf, BrTabl
 use Rattle.syntax.specs.declared.instruction.Op.TheVariants as op
 use Rattle.syntax.specs.declared.module.Contents.{Contents}
 use Rattle.syntax.specs.Code.{Code, Done, Plain, Block, Loop, If}
-use Rattle.validate.specs.Targets.{Target, Tells}
+use Rattle.validate.specs.declared.table.Target.{Target}
+use Rattle.validate.specs.Targets.{Tells}
 use Rattle.instance.specs.Store.{Store}
 use Rattle.interp.specs.Configuration.{Context, Label, Frame, locals_of, continuing, branched}
 use Rattle.interp.specs.Step.{Goes, next, plain, on_contexts, label_for}

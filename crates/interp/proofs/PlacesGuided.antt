@@ -8,7 +8,8 @@ use Rattle.syntax.specs.Code.{Code, Done, Plain, Block, Loop, If, operations_to}
 use Rattle.validate.specs.Stack.{pushed}
 use Rattle.validate.specs.Typing.{Context, inside, Typed}
 use Rattle.validate.specs.Height.{Effect, Changes, Ends, effect_of, after_effect}
-use Rattle.validate.specs.Targets.{Target, size, Agrees}
+use Rattle.validate.specs.declared.table.Target.{Target}
+use Rattle.validate.specs.Targets.{size, Agrees}
 use Rattle.interp.specs.Heights.{counts, Follows}
 use Rattle.interp.specs.Places.{Body, keeps, ClosesTo, Guided}
 use Rattle.interp.proofs.Lists.{length-pushed}

@@ -12,7 +12,8 @@ use Rattle.syntax.specs.Code.{Code, Done, Plain, Block, Loop, If, operations_to}
 use Rattle.validate.specs.Stack.{pushed}
 use Rattle.validate.specs.Typing.{type_of}
 use Rattle.validate.specs.Valid.{ValidModule, body_context}
-use Rattle.validate.specs.Targets.{Target, size}
+use Rattle.validate.specs.declared.table.Target.{Target}
+use Rattle.validate.specs.Targets.{size}
 use Rattle.instance.specs.Store.{Store, value_of}
 use Rattle.interp.specs.Configuration.{Context, Frame, entered, receiving}
 use Rattle.interp.specs.Step.{Move, Calls, next}

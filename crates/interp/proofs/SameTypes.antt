@@ -1,8 +1,9 @@
 -- Equal lists of types.
-use Rattle.std.proofs.Common.{◌≡◌, List, [], ◌∷◌, Bool, true, false, ◌&&◌, refl, sym, subst, ◌↔◌, IsTrue}
+use Rattle.std.proofs.Common.{◌≡◌, List, [], ◌∷◌, Bool, true, false, ◌&&◌, Some, refl, sym, ap, ◌∙◌, subst, ◌↔◌, IsTrue}
 use Rattle.syntax.specs.declared.types.ValType.{ValType}
 use Rattle.syntax.specs.declared.types.ValType.TheVariants.{I32, I64}
-use Rattle.interp.specs.Step.{same_valtype, same_valtypes}
+use Rattle.syntax.specs.declared.module.FuncType.{FuncType}
+use Rattle.interp.specs.Step.{same_valtype, same_valtypes, same_type}
 
 same_valtype-is : (t u : ValType) → same_valtype t u ≡ true → t ≡ u
 same_valtype-is I32 I32 e = refl
@@ -37,3 +38,11 @@ same_when types others false k = by_answer (same_valtypes types others) refl whe
   by_answer : (b : Bool) → same_valtypes types others ≡ b → false ≡ b
   by_answer false e = refl
   by_answer true e = k.1 (same_valtypes-is types others e)
+
+module _ (a b : FuncType) (params results : Bool) where
+  pub same_types : IsTrue params ↔ (a.params ≡ b.params) → IsTrue results ↔ (a.results ≡ b.results) → (params && results) ≡ same_type (Some a) (Some b)
+  same_types p r =
+      ap (λ (x : Bool). x && results) (same_when a.params b.params params p) ∙ ap (λ (x : Bool). same_valtypes a.params b.params && x) (same_when a.results b.results results r)
+
+  pub other_params : params ≡ false → IsTrue params ↔ (a.params ≡ b.params) → params ≡ same_type (Some a) (Some b)
+  other_params e p = e ∙ ap (λ (x : Bool). x && same_valtypes a.results b.results) (sym e ∙ same_when a.params b.params params p)

@@ -15,12 +15,12 @@ use Rattle.syntax.specs.declared.module.Contents.{Contents}
 use Rattle.syntax.specs.declared.module.FuncType.{FuncType}
 use Rattle.syntax.specs.Code.{Code, Done, Plain, Block, Loop, If}
 use Rattle.validate.specs.Stack.{pushed}
-use Rattle.validate.specs.Segments.{minimum}
-use Rattle.validate.specs.Typing.{HasFunctionType, block_type, bytes_of_type, bytes_of_width}
-use Rattle.instance.specs.Store.{Store as Stored, page, page_limit, pages, grown, with_memory, bytes_at, written_at, bytes_of, number_in}
+use Rattle.validate.specs.Segments.{minimum, page_size, number_in}
+use Rattle.validate.specs.Typing.{HasFunctionType, block_type, bytes_of_type, bytes_of_width, type_of_function}
+use Rattle.instance.specs.Store.{Store as Stored, page_limit, pages, grown, with_memory, bytes_at, written_at, bytes_of}
 use Rattle.interp.specs.Operators.{Computed, Number, TrapOf, binary, converted}
 use Rattle.interp.specs.Configuration.{Context, Label, Frame, locals_of, branched, returned}
-use Rattle.interp.specs.Step.{Move, Goes, Traps, Calls, Ends, Stuck, Turn, Leaves, Fails, Lacks, turn, turned, plain, at_code, next, branch_if, on_contexts, label_for, takes_topmost, call_typed, call_element, type_of_function, same_type, entering, block, loop, chosen, giving, loaded, stored, computed, is_of, alike, replaces}
+use Rattle.interp.specs.Step.{Move, Goes, Traps, Calls, Ends, Stuck, Turn, Leaves, Fails, Lacks, turn, turned, plain, at_code, next, branch_if, on_contexts, label_for, takes_topmost, call_typed, call_element, same_type, entering, block, loop, chosen, giving, loaded, stored, computed, is_of, alike, replaces}
 use Rattle.interp.specs.Typed.{types_of}
 use Rattle.interp.specs.HeightsTyped.{Bounded, AwaitsWithin, SoundWithin}
 use Rattle.instance.specs.Storing.{NamesFunction, HasPages, IsStoreOf}
@@ -50,17 +50,17 @@ pub with_memory_of : (m : Contents) (s : Stored) (bytes : List ℕ) → length b
 with_memory_of m s bytes e k =
     record { globals = k.globals; table = k.table; elements = k.elements; limit = k.limit; memory = same_pages s.limit (minimum m.memory) s.memory bytes e k.memory }
 
-more_pages : (limit least delta : ℕ) (bytes : List ℕ) → nat_le (pages bytes + delta) limit ≡ true → HasPages limit least bytes → HasPages limit least (bytes ++ replicate (delta * page) 0)
+more_pages : (limit least delta : ℕ) (bytes : List ℕ) → nat_le (pages bytes + delta) limit ≡ true → HasPages limit least bytes → HasPages limit least (bytes ++ replicate (delta * page_size) 0)
 more_pages limit least delta bytes e k =
-    let p : pages bytes ≡ k.count = ap (λ (n : ℕ). n / page) k.whole ∙ mul-div_cancel k.count (omega arith) in
+    let p : pages bytes ≡ k.count = ap (λ (n : ℕ). n / page_size) k.whole ∙ mul-div_cancel k.count (omega arith) in
     let h : pages bytes + delta ≤ limit = at_most (pages bytes + delta) limit e in
-    let n : length (bytes ++ replicate (delta * page) 0) ≡ (k.count + delta) * page =
-    length-append bytes (replicate (delta * page) 0) ∙ (omega (arith, length-replicate {A = ℕ} (delta * page) 0, k.whole)) in
+    let n : length (bytes ++ replicate (delta * page_size) 0) ≡ (k.count + delta) * page_size =
+    length-append bytes (replicate (delta * page_size) 0) ∙ (omega (arith, length-replicate {A = ℕ} (delta * page_size) 0, k.whole)) in
     record { count = k.count + delta; whole = n; enough = omega (arith, k.enough); within = omega arith }
 
 grown_pages : (limit least delta : ℕ) (bytes : List ℕ) → HasPages limit least bytes → HasPages limit least (grown limit delta bytes)
 grown_pages limit least delta bytes k = by_test (nat_le (pages bytes + delta) limit) refl where
-  by_test : (b : Bool) → nat_le (pages bytes + delta) limit ≡ b → HasPages limit least (if b then bytes ++ replicate (delta * page) 0 else bytes)
+  by_test : (b : Bool) → nat_le (pages bytes + delta) limit ≡ b → HasPages limit least (if b then bytes ++ replicate (delta * page_size) 0 else bytes)
   by_test true e = more_pages limit least delta bytes e k
   by_test false e = k
 

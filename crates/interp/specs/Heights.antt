@@ -1,14 +1,16 @@
 -- How high the operands of a call can stand and how many labels can be open in it.
 use Rattle.std.specs.Prelude.{◌≡◌, ℕ, ◌+◌, ◌≤◌, List, [], ◌∷◌, length, Option, Some, None, slice_get}
 use Rattle.syntax.specs.declared.instruction.Instr.{Instr}
-use Rattle.syntax.specs.declared.instruction.Instr.TheVariants.{Unreachable, Nop, Br, BrIf, BrTable, Return, Call, CallIndirect, Drop, Select, LocalGet, LocalSet, LocalTee, GlobalGet, GlobalSet, Load, LoadNarrow, Store, StoreNarrow, MemorySize, MemoryGrow, Const, Eqz, Unary, Binary, Compare, Convert}
+use Rattle.syntax.specs.declared.instruction.Instr.TheVariants.{Unreachable, Nop, Br, BrIf, BrTable, Return, Call, CallIndirect, Drop}
+use Rattle.syntax.specs.declared.instruction.Instr.TheVariants.{Select, LocalGet, LocalSet, LocalTee, GlobalGet, GlobalSet, Load}
+use Rattle.syntax.specs.declared.instruction.Instr.TheVariants.{LoadNarrow, Store, StoreNarrow, MemorySize, MemoryGrow, Const, Eqz, Unary}
+use Rattle.syntax.specs.declared.instruction.Instr.TheVariants.{Binary, Compare, Convert}
 use Rattle.syntax.specs.declared.module.Contents.{Contents}
 use Rattle.syntax.specs.declared.module.FuncType.{FuncType}
 use Rattle.syntax.specs.Code.{Code, Done, Plain, Block, Loop, If}
-use Rattle.validate.specs.Typing.{block_type}
+use Rattle.validate.specs.Typing.{block_type, type_of_function}
 use Rattle.validate.specs.Height.{Effect, Changes, Ends, named, calls}
 use Rattle.interp.specs.Configuration.{Context, Label, Frame}
-use Rattle.interp.specs.Step.{type_of_function}
 use Rattle.interp.specs.Typed.{code_of, operands_of}
 
 -- the operands of one call stay within a body's height, and its labels within the nesting, with the label of the body

@@ -5,8 +5,9 @@ use Rattle.syntax.specs.declared.module.Contents.{Contents}
 use Rattle.syntax.specs.declared.module.FuncType.{FuncType}
 use Rattle.syntax.specs.declared.module.Func.{Func}
 use Rattle.instance.specs.Store.{Store, with_memory}
+use Rattle.validate.specs.Typing.{type_of_function}
 use Rattle.interp.specs.Configuration.{Context, Label, Frame, entered, frames, receiving}
-use Rattle.interp.specs.Step.{Goes, Calls, next, type_of_function}
+use Rattle.interp.specs.Step.{Goes, Calls, next}
 use Rattle.interp.specs.Run.{HostCall, as_operands, IsDefined, IsImported}
 use Rattle.interp.specs.Typed.{types_of}
 use Rattle.interp.specs.Hosting.{Answers}

@@ -1,4 +1,5 @@
 pub mod Operators
+pub mod Traps
 pub mod Configuration
 pub mod Step
 pub mod Run
@@ -8,7 +9,6 @@ pub mod HeightsOfRuns
 pub mod HeightsTyped
 pub mod Places
 pub mod Room
-pub mod Traps
 pub mod Turning
 pub mod Search
 pub mod Plainly

@@ -5,7 +5,7 @@ ghost use Rattle.std.specs.Option.{option_copied};
 ghost use Rattle.syntax.specs.declared.instruction.Op.TheVariants as op;
 ghost use Rattle.syntax.specs.declared.instruction.Instr.TheVariants as instr;
 ghost use Rattle.instance.specs.Store.{Store};
-ghost use Rattle.interp.specs.Step.{same_valtypes, same_type};
+ghost use Rattle.interp.specs.Step.{same_type};
 ghost use Rattle.interp.specs.Tie.{body_at};
 ghost use Rattle.interp.specs.Moving.{Does};
 ghost use Rattle.interp.specs.Jumping.{Chooses};
@@ -16,15 +16,8 @@ use crate::trap::TrapCode;
 use instance::machine::Machine;
 use instance::state::State;
 use syntax::module::{Contents, FuncType};
-use syntax::types::ValType;
+use syntax::types::are_same;
 use validate::{type_at, type_of_function};
-
-/// Whether two lists of types are the same.
-pub fn are_same(types: &[ValType], others: &[ValType]) -> bool
-    ensures { result ≡ same_valtypes types.now others.now }
-{
-    types == others
-}
 
 /// Whether both types are there and the same.
 fn is_same_type(found: Option<&FuncType>, wanted: Option<&FuncType>) -> bool

@@ -23,7 +23,7 @@ ghost use Rattle.std.specs.Prelude.{zero, suc, ◌+◌, ◌∷◌, min, Some, sl
 ghost use Rattle.syntax.specs.declared.types.Value.TheVariants.{I32};
 ghost use Rattle.syntax.specs.declared.instruction.Op.TheVariants as op;
 ghost use Rattle.syntax.specs.declared.instruction.Instr.TheVariants as instr;
-ghost use Rattle.validate.specs.Targets.{Target};
+ghost use Rattle.validate.specs.declared.table.Target.{Target};
 ghost use Rattle.interp.specs.Step.{Goes};
 ghost use Rattle.interp.specs.Typed.{operands_of};
 ghost use Rattle.interp.specs.Places.{Body, Place, AreBodies, IsPlaced, stepped, ArePlaced, Leads, Cuts, BranchesTo, call_of, StaysIn, cut};

@@ -8,18 +8,18 @@ use Rattle.syntax.specs.declared.module.FuncType.{FuncType}
 use Rattle.syntax.specs.declared.module.ModuleExport.{ModuleExport}
 use Rattle.syntax.specs.declared.types.Value.{Value}
 use Rattle.validate.specs.Typing.{function_types, type_of, HasFunctionType}
-use Rattle.validate.specs.Height.{function_type}
+use Rattle.validate.specs.Typing.{type_of_function}
 use Rattle.interp.specs.Invoking.{TakesArguments}
 use Rattle.imports.specs.Linking.{ExportsFunction, ExportsNothing}
 
 -- a function's type, found in either way
-pub has_type : (m : Contents) (f : ℕ) (type : FuncType) → function_type m f ≡ Some type → HasFunctionType m f type
+pub has_type : (m : Contents) (f : ℕ) (type : FuncType) → type_of_function m f ≡ Some type → HasFunctionType m f type
 has_type m f type h = found (slice_get (function_types m) f) refl h where
   found : (o : Option ℕ) → slice_get (function_types m) f ≡ o → option_and_then (slice_get m.types) o ≡ Some type → HasFunctionType m f type
   found None e k = absurd (cc)
   found (Some t) e k = (t, e, k)
 
-pub takes : (m : Contents) (f : ℕ) (type : FuncType) (args : List Value) → function_type m f ≡ Some type → map type_of args ≡ type.params → TakesArguments m f args
+pub takes : (m : Contents) (f : ℕ) (type : FuncType) (args : List Value) → type_of_function m f ≡ Some type → map type_of args ≡ type.params → TakesArguments m f args
 takes m f type args h fit = record { type = type; known = has_type m f type h; fit = fit }
 
 pub not_nothing : (m : Contents) (name : List ℕ) (f : ℕ) → ExportsFunction m name f → ExportsNothing m name → ⊥

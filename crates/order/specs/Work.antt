@@ -65,7 +65,8 @@ abbrev pub WorkCall : WorkOrder → List ℕ → HostCall → List ℕ → Type 
 WorkCall o reply call reply' = (f : Call) × Imports o.loaded.contents call.function f × WorkAnswers o.bytes reply call reply' f call.args
 
 -- a function of the order's module runs so, on this store and with these bytes of the reply
-pub record WorkRun (o : WorkOrder) (fuel : ℕ) (s : Store) (reply : List ℕ) (function : ℕ) (args : List Value) (outcome : Outcome) (used : ℕ) (t : Store) (reply' : List ℕ) : Type 0 where
+pub record WorkRun (o : WorkOrder) (fuel : ℕ) (s : Store) (reply : List ℕ) (function : ℕ) (args : List Value) (outcome : Outcome) (used : ℕ)
+    (t : Store) (reply' : List ℕ) : Type 0 where
   pub trace : List HostCall
   pub run : Invokes o.loaded.contents o.depth fuel s function args trace outcome used t
   pub answers : Lawful (WorkCall o) trace reply reply'
@@ -83,7 +84,8 @@ pub data Works (o : WorkOrder) : WorkEnd → Type 0 where
       → StartRun o o.loaded.contents.start s outcome used t reply
       → ((results : List Value) → outcome ≢ Returned results)
       → Works o (work_end outcome reply)
-  works : (s t u : Store) (results : List Value) (outcome : Outcome) (used more : ℕ) (reply reply' : List ℕ) (function : ℕ) → IsFresh o.loaded.contents s
+  works : (s t u : Store) (results : List Value) (outcome : Outcome) (used more : ℕ) (reply reply' : List ℕ) (function : ℕ)
+      → IsFresh o.loaded.contents s
       → StartRun o o.loaded.contents.start s (Returned results) used t reply
       → ExportsFunction o.loaded.contents (codes "uv_work") function
       → WorkRun o (o.fuel - used) t reply function (I32 o.op ∷ []) outcome more u reply'

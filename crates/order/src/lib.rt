@@ -1,5 +1,11 @@
 //! One work request of a loop: the order, what becomes of it, and the reply; and what a guest is answered who reads
 //! its input or sets its reply.
+//!
+//! `Order::run` makes an instance, runs the start function and then `uv_work`, and gives the reply. A `Reply` keeps in its type that it
+//! holds the end of its own order, which is one (`laws::one_end`), or that there was no memory: so whoever holds a reply
+//! knows it, whatever thread made it. `Order::is_same` compares two orders in every field.
+//!
+//! Begin with `request` and `run`; what one thread computes is `specs/Work.antt`.
 #![tactic(auto)]
 
 pub mod answers;

@@ -10,7 +10,7 @@ use Rattle.syntax.specs.declared.types.ValType.{ValType}
 use Rattle.syntax.specs.declared.types.ValType.TheVariants as valtype
 use Rattle.syntax.specs.declared.types.Value.{Value}
 use Rattle.syntax.specs.declared.types.Value.TheVariants.{I32}
-use Rattle.validate.specs.Height.{function_type}
+use Rattle.validate.specs.Typing.{type_of_function}
 use Rattle.validate.specs.Typing.{function_types, type_of, HasFunctionType}
 use Rattle.handles.specs.Table.{record_of, empty_table}
 use Rattle.handles.specs.declared.handle.Record.{Record}
@@ -93,13 +93,13 @@ names_of v d l h a b e n =
     subst (λ (x : Loaded). Names x.contents (import_types h.contents)) (sym a) (subst (λ (x : Loaded). Names d.contents (import_types x.contents)) (b ∙ e) n)
 
 -- a function of this type takes these arguments
-has_type : (m : Contents) (f : ℕ) (type : FuncType) → function_type m f ≡ Some type → HasFunctionType m f type
+has_type : (m : Contents) (f : ℕ) (type : FuncType) → type_of_function m f ≡ Some type → HasFunctionType m f type
 has_type m f type h = found (slice_get (function_types m) f) refl h where
   found : (o : Option ℕ) → slice_get (function_types m) f ≡ o → option_and_then (slice_get m.types) o ≡ Some type → HasFunctionType m f type
   found None e k = absurd (cc)
   found (Some t) e k = (t, e, k)
 
-pub takes : (m : Contents) (f : ℕ) (type : FuncType) (args : List Value) → function_type m f ≡ Some type → map type_of args ≡ type.params → TakesArguments m f args
+pub takes : (m : Contents) (f : ℕ) (type : FuncType) (args : List Value) → type_of_function m f ≡ Some type → map type_of args ≡ type.params → TakesArguments m f args
 takes m f type args h fit = record { type = type; known = has_type m f type h; fit = fit }
 
 -- a callback takes the number of its handle
@@ -110,18 +110,18 @@ module _ (m : Contents) (f n : ℕ) where
   by_types (valtype.I32 ∷ p ∷ params) results h = absurd (cc)
   by_types (valtype.I64 ∷ params) results h = absurd (cc)
 
-  typed : (o : Option FuncType) (k : ℕ) → function_type m k ≡ o → (cond (option_map_or (λ t. takes_one_number t.params t.results) o false) (Some k) None) ≡ Some f → TakesArguments m f (I32 n ∷ [])
+  typed : (o : Option FuncType) (k : ℕ) → type_of_function m k ≡ o → (cond (option_map_or (λ t. takes_one_number t.params t.results) o false) (Some k) None) ≡ Some f → TakesArguments m f (I32 n ∷ [])
   typed None k e h = absurd (cc)
   typed (Some t) k e h = chosen (takes_one_number t.params t.results) refl h where
     chosen : (b : Bool) → takes_one_number t.params t.results ≡ b → (cond b (Some k) None) ≡ Some f → TakesArguments m f (I32 n ∷ [])
     chosen false is found = absurd (cc)
     chosen true is found =
         let same : k ≡ f = cc in
-        takes m f t (I32 n ∷ []) (subst (λ i. function_type m i ≡ Some t) same e) (sym (by_types t.params t.results is))
+        takes m f t (I32 n ∷ []) (subst (λ i. type_of_function m i ≡ Some t) same e) (sym (by_types t.params t.results is))
 
   of_element : (o : Option ℕ) → callback_in m o ≡ Some f → TakesArguments m f (I32 n ∷ [])
   of_element None h = absurd (cc)
-  of_element (Some k) h = typed (function_type m k) k refl h
+  of_element (Some k) h = typed (type_of_function m k) k refl h
 
   of_found : (o : Option (Option ℕ)) → in_table (option_map (callback_in m) o) ≡ Some f → TakesArguments m f (I32 n ∷ [])
   of_found None h = absurd (cc)

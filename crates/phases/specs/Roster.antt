@@ -6,7 +6,7 @@ use Rattle.std.specs.FinMap as finite
 use Rattle.syntax.specs.declared.types.ValType.{ValType}
 use Rattle.syntax.specs.declared.types.ValType.TheVariants as type
 use Rattle.syntax.specs.declared.module.Contents.{Contents}
-use Rattle.validate.specs.Height.{function_type}
+use Rattle.validate.specs.Typing.{type_of_function}
 use Rattle.instance.specs.Fresh.{fresh_store}
 use Rattle.handles.specs.declared.handle.Kind.{Kind}
 use Rattle.handles.specs.declared.handle.Kind.TheVariants as kind
@@ -29,7 +29,7 @@ takes_one_number _ _ = false
 
 abbrev pub callback_in : Contents → Option ℕ → Option ℕ
 callback_in m None = None
-callback_in m (Some f) = if option_map_or (λ t. takes_one_number t.params t.results) (function_type m f) false then Some f else None
+callback_in m (Some f) = if option_map_or (λ t. takes_one_number t.params t.results) (type_of_function m f) false then Some f else None
 
 abbrev pub callbacks_of : Contents → List (Option ℕ)
 callbacks_of m = map (callback_in m) (fresh_store m).table

@@ -1,4 +1,7 @@
 //! The text form of a world's work: a script in JSON comes in, and the lines of a log go out.
+//!
+//! `read` gives a plan within the limits, or the lowest of the faults that the text has. `print` is exactly the text of the log, a
+//! line for each entry (`specs/Text.antt`); docs/FORMATS.md has both forms.
 #![tactic(auto)]
 
 mod document;

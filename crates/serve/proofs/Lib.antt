@@ -1,2 +1,5 @@
+pub mod Counting
+pub mod Ends
+pub mod Promised
 pub mod Recording
 pub mod Seats

@@ -1,5 +1,6 @@
 -- One event more of a thread's loop.
-use Rattle.std.proofs.Common.{◌≡◌, ◌≢◌, ℕ, Bool, true, false, List, [], ◌∷◌, ◌++◌, Some, None, refl, sym, ap, subst, ◌∙◌, append_assoc, append-nil}
+use Rattle.std.proofs.Common.{◌≡◌, ◌≢◌, ℕ, ◌+◌, ◌≤◌, Bool, true, false, cond, List, [], ◌∷◌, ◌++◌, Some, None, refl, sym, ap, subst, ◌∙◌, append_assoc, append-nil, add-zero}
+use Rattle.std.proofs.lemmas.List.Sums.{sum_by_push}
 use Rattle.std.proofs.Math.Logic.{∥∥₁_map}
 use Rattle.syntax.specs.Loaded.{Loaded}
 use Rattle.instance.specs.Fresh.{IsFresh}
@@ -13,7 +14,7 @@ use Rattle.interp.specs.declared.ended.Ended.{Ended}
 use Rattle.phases.specs.declared.running.Accepted.{Accepted}
 use Rattle.phases.specs.declared.running.Accepted.TheVariants as accepted
 use Rattle.phases.specs.Accepting.{Accepts}
-use Rattle.phases.specs.Guests.{loop_calls}
+use Rattle.phases.specs.Guests.{GuestCall, loop_calls}
 use Rattle.phases.specs.History.{Event, Stepped, OrderAsked, EndOffered, ClockRaised, EventStep, History, IsOpening, emits_in, emitted}
 use Rattle.phases.specs.Outside.{next_order_of, after_clock}
 use Rattle.phases.specs.PhaseList.{begin_list}
@@ -22,7 +23,10 @@ use Rattle.phases.specs.State.{Setting, Loop, opening}
 use Rattle.phases.specs.Step.{LoopStep}
 use Rattle.phases.specs.View.{new_view}
 use Rattle.pool.specs.declared.seats.Seats.{Seats}
-use Rattle.serve.specs.Histories.{HasDone, HasServed, thread_calls}
+use Rattle.serve.specs.declared.ended.TheConstants.{MOST_CALLBACKS}
+use Rattle.serve.specs.declared.ended.Ending.{Ending}
+use Rattle.serve.specs.declared.settings.Serving.{Serving}
+use Rattle.serve.specs.Histories.{HasDone, HasEnded, HasServed, EndsBy, thread_calls, setting_at, is_callback, callbacks_in}
 
 push : (g : Setting) (events : List Event) (e : Event) (start old new : Loop Seats) → History thread_calls g start events old → EventStep thread_calls g e old new → History thread_calls g start (events ++ e ∷ []) new
 push g [] e start old new h step = (new, subst (λ l. EventStep thread_calls g e l new) h step, refl)
@@ -32,59 +36,68 @@ emitted_push : (events : List Event) (e : Event) → emitted (events ++ e ∷ []
 emitted_push [] e = append-nil (emits_in e)
 emitted_push (x ∷ events) e = ap (λ xs. emits_in x ++ xs) (emitted_push events e) ∙ sym (append_assoc (emits_in x) (emitted events) (emits_in e))
 
-abbrev pub Does : Setting → Loop Seats → List ℕ → Type 0
-Does g l emits = ∥ HasDone g l emits ∥₁
+callbacks_push : (events : List Event) (e : Event) → callbacks_in (events ++ e ∷ []) ≡ callbacks_in events + cond (is_callback e) 1 0
+callbacks_push events e = sum_by_push (λ x. cond (is_callback x) 1 0) events e
 
-pub does_nothing : (g : Setting) (l : Loop Seats) (emits : List ℕ) → emits ≡ [] → IsOpening thread_calls g l → Does g l emits
-does_nothing g l emits none opens = ∣ record { start = l; opens = opens; events = []; history = refl; told = none } ∣₁
+abbrev pub Does : Setting → Loop Seats → ℕ → List ℕ → Type 0
+Does g l ran emits = ∥ HasDone g l ran emits ∥₁
 
-does_more : (g g' : Setting) (l m : Loop Seats) (emits emits' : List ℕ) (e : Event) → g' ≡ g → EventStep thread_calls g e l m → emits' ≡ emits ++ emits_in e → Does g l emits → Does g' m emits'
-does_more g g' l m emits emits' e same step more was = subst (λ x. Does x m emits') (sym same) (∥∥₁_map was one) where
-  one : HasDone g l emits → HasDone g m emits'
+pub does_nothing : (g : Setting) (l : Loop Seats) (emits : List ℕ) → emits ≡ [] → IsOpening thread_calls g l → Does g l 0 emits
+does_nothing g l emits none opens = ∣ record { start = l; opens = opens; events = []; history = refl; counted = refl; told = none } ∣₁
+
+does_more : (g g' : Setting) (l m : Loop Seats) (ran ran' : ℕ) (emits emits' : List ℕ) (e : Event) → g' ≡ g → EventStep thread_calls g e l m
+    → ran' ≡ ran + cond (is_callback e) 1 0 → emits' ≡ emits ++ emits_in e → Does g l ran emits → Does g' m ran' emits'
+does_more g g' l m ran ran' emits emits' e same step count more was = subst (λ x. Does x m ran' emits') (sym same) (∥∥₁_map was one) where
+  one : HasDone g l ran emits → HasDone g m ran' emits'
   one h = record {
     start = h.start;
     opens = h.opens;
     events = h.events ++ e ∷ [];
     history = push g h.events e h.start l m h.history step;
+    counted = count ∙ ap (λ n. n + cond (is_callback e) 1 0) h.counted ∙ sym (callbacks_push h.events e);
     told = more ∙ ap (λ xs. xs ++ emits_in e) h.told ∙ sym (emitted_push h.events e);
   }
 
-pub does_step : (g g' : Setting) (l m : Loop Seats) (emits emits' : List ℕ) (told : StepDid) → g' ≡ g → LoopStep thread_calls g l told m
-    → emits' ≡ emits ++ emits_in (Stepped told m.state.emits []) → Does g l emits → Does g' m emits'
-does_step g g' l m emits emits' told same step more was =
-    does_more g g' l m emits emits' (Stepped told m.state.emits (loop_calls thread_calls g l told m step)) same (step, refl, refl) (more ∙ ap (λ xs. emits ++ xs) (alike told)) was where
-      alike : (d : StepDid) → emits_in (Stepped d m.state.emits []) ≡ emits_in (Stepped d m.state.emits (loop_calls thread_calls g l told m step))
-      alike (did.Entered phase now) = refl
-      alike (did.Ran kind number ended) = refl
-      alike (did.Skipped kind number) = refl
-      alike did.Over = refl
-      alike did.Failed = refl
+-- an event that is no callback
+does_quiet : (g g' : Setting) (l m : Loop Seats) (ran : ℕ) (emits emits' : List ℕ) (e : Event) → is_callback e ≡ false → emits_in e ≡ [] → g' ≡ g → EventStep thread_calls g e l m
+    → emits' ≡ emits → Does g l ran emits → Does g' m ran emits'
+does_quiet g g' l m ran emits emits' e quiet none same step kept was =
+    does_more g g' l m ran ran emits emits' e same step (sym (add-zero ran) ∙ ap (λ b. ran + cond b 1 0) (sym quiet)) (kept ∙ sym (append-nil emits) ∙ ap (λ xs. emits ++ xs) (sym none)) was
 
--- a step that runs no callback
-pub does_other : (g g' : Setting) (l m : Loop Seats) (emits emits' : List ℕ) (told : StepDid) → g' ≡ g → LoopStep thread_calls g l told m
-    → emits' ≡ emits → ((kind : EntryKind) (number : ℕ) (ended : Ended) → told ≢ did.Ran kind number ended) → Does g l emits → Does g' m emits'
-does_other g g' l m emits emits' told same step kept other was =
-    does_step g g' l m emits emits' told same step (kept ∙ sym (append-nil emits) ∙ ap (λ xs. emits ++ xs) (none told other)) was where
-      none : (d : StepDid) → ((kind : EntryKind) (number : ℕ) (ended : Ended) → d ≢ did.Ran kind number ended) → [] ≡ emits_in (Stepped d m.state.emits [])
-      none (did.Ran kind number ended) not = absurd (not kind number ended refl)
-      none (did.Entered phase now) not = refl
-      none (did.Skipped kind number) not = refl
-      none did.Over not = refl
-      none did.Failed not = refl
+-- a step that runs a callback
+pub does_run : (g g' : Setting) (l m : Loop Seats) (ran ran' : ℕ) (emits emits' : List ℕ) (kind : EntryKind) (number : ℕ) (ended : Ended) (told : StepDid) → told ≡ did.Ran kind number ended → g' ≡ g
+    → LoopStep thread_calls g l told m → ran' ≡ ran + 1 → emits' ≡ emits ++ m.state.emits → Does g l ran emits → Does g' m ran' emits'
+does_run g g' l m ran ran' emits emits' kind number ended told is same step count more was =
+    let ran_it : LoopStep thread_calls g l (did.Ran kind number ended) m = subst (λ d. LoopStep thread_calls g l d m) is step in
+    does_more g g' l m ran ran' emits emits' (Stepped (did.Ran kind number ended) m.state.emits (loop_calls thread_calls g l (did.Ran kind number ended) m ran_it)) same (ran_it, refl, refl) count more was
 
-pub does_order : (g g' : Setting) (l m : Loop Seats) (emits emits' : List ℕ) → g' ≡ g → m ≡ record l { state = (next_order_of l.state).1 } → emits' ≡ emits → Does g l emits → Does g' m emits'
-does_order g g' l m emits emits' same is kept was =
-    does_more g g' l m emits emits' (OrderAsked (next_order_of l.state).0) same (refl, is) (kept ∙ sym (append-nil emits)) was
+-- a step that runs none
+pub does_other : (g g' : Setting) (l m : Loop Seats) (ran : ℕ) (emits emits' : List ℕ) (told : StepDid) → g' ≡ g → LoopStep thread_calls g l told m
+    → emits' ≡ emits → ((kind : EntryKind) (number : ℕ) (ended : Ended) → told ≢ did.Ran kind number ended) → Does g l ran emits → Does g' m ran emits'
+does_other g g' l m ran emits emits' told same step kept other was =
+    let it = quiet told (loop_calls thread_calls g l told m step) other in
+    does_quiet g g' l m ran emits emits' (Stepped told m.state.emits (loop_calls thread_calls g l told m step)) it.0 it.1 same (step, refl, refl) kept was where
+      quiet : (d : StepDid) (made : List GuestCall) → ((kind : EntryKind) (number : ℕ) (ended : Ended) → d ≢ did.Ran kind number ended)
+          → (is_callback (Stepped d m.state.emits made) ≡ false) × (emits_in (Stepped d m.state.emits made) ≡ [])
+      quiet (did.Ran kind number ended) made not = absurd (not kind number ended refl)
+      quiet (did.Entered phase now) made not = (refl, refl)
+      quiet (did.Skipped kind number) made not = (refl, refl)
+      quiet did.Over made not = (refl, refl)
+      quiet did.Failed made not = (refl, refl)
 
-pub does_accept : (g g' : Setting) (l m : Loop Seats) (emits emits' : List ℕ) (reply : Reply) (a : Accepted) → g' ≡ g → Accepts reply l a m → emits' ≡ emits → Does g l emits → Does g' m emits'
-does_accept g g' l m emits emits' reply accepted.Accepted same h kept was =
-    does_more g g' l m emits emits' (EndOffered (order_of reply.order) (end_of reply.outcome) true) same (reply.computed, (h.0, h.1)) (kept ∙ sym (append-nil emits)) was
-does_accept g g' l m emits emits' reply (accepted.Stranger other) same h kept was =
-    does_more g g' l m emits emits' (EndOffered (order_of reply.order) (end_of reply.outcome) false) same (reply.computed, (h.2, h.1)) (kept ∙ sym (append-nil emits)) was
+pub does_order : (g g' : Setting) (l m : Loop Seats) (ran : ℕ) (emits emits' : List ℕ) → g' ≡ g → m ≡ record l { state = (next_order_of l.state).1 } → emits' ≡ emits → Does g l ran emits → Does g' m ran emits'
+does_order g g' l m ran emits emits' same is kept was =
+    does_quiet g g' l m ran emits emits' (OrderAsked (next_order_of l.state).0) refl refl same (refl, is) kept was
 
-pub does_clock : (g g' : Setting) (l m : Loop Seats) (emits emits' : List ℕ) (ms : ℕ) → g' ≡ g → m ≡ record l { state = after_clock l.state ms } → emits' ≡ emits → Does g l emits → Does g' m emits'
-does_clock g g' l m emits emits' ms same is kept was =
-    does_more g g' l m emits emits' (ClockRaised ms) same is (kept ∙ sym (append-nil emits)) was
+pub does_accept : (g g' : Setting) (l m : Loop Seats) (ran : ℕ) (emits emits' : List ℕ) (reply : Reply) (a : Accepted) → g' ≡ g → Accepts reply l a m → emits' ≡ emits → Does g l ran emits → Does g' m ran emits'
+does_accept g g' l m ran emits emits' reply accepted.Accepted same h kept was =
+    does_quiet g g' l m ran emits emits' (EndOffered (order_of reply.order) (end_of reply.outcome) true) refl refl same (reply.computed, (h.0, h.1)) kept was
+does_accept g g' l m ran emits emits' reply (accepted.Stranger other) same h kept was =
+    does_quiet g g' l m ran emits emits' (EndOffered (order_of reply.order) (end_of reply.outcome) false) refl refl same (reply.computed, (h.2, h.1)) kept was
+
+pub does_clock : (g g' : Setting) (l m : Loop Seats) (ran : ℕ) (emits emits' : List ℕ) (ms : ℕ) → g' ≡ g → m ≡ record l { state = after_clock l.state ms } → emits' ≡ emits → Does g l ran emits → Does g' m ran emits'
+does_clock g g' l m ran emits emits' ms same is kept was =
+    does_quiet g g' l m ran emits emits' (ClockRaised ms) refl refl same is kept was
 
 -- a new loop opens so
 pub opens_new : (g : Setting) (l : Loop Seats) (loaded : Loaded) (loop_no fuel work_fuel depth : ℕ) (seats : Seats) → g ≡ record { loaded = loaded; loop_no = loop_no; fuel = fuel; work_fuel = work_fuel; depth = depth }
@@ -93,9 +106,10 @@ pub opens_new : (g : Setting) (l : Loop Seats) (loaded : Loaded) (loop_no fuel w
 opens_new g l loaded loop_no fuel work_fuel depth seats is state store shared view =
     subst (λ x. IsOpening thread_calls x l) (sym is) (record { state = state; store = store.store; shared = ap thread_calls.view shared ∙ view })
 
--- what was served, under the loop's number
-pub served_as : (n m : ℕ) (emits : List ℕ) → n ≡ m → ∥ HasServed n emits ∥₁ → ∥ HasServed m emits ∥₁
-served_as n m emits same h = subst (λ k. ∥ HasServed k emits ∥₁) same h
+-- what is done is ended
+pub ended_by : (g : Setting) (l : Loop Seats) (ran : ℕ) (ending : Ending) (emits : List ℕ) → ran ≤ MOST_CALLBACKS → EndsBy ending l ran → Does g l ran emits → ∥ HasEnded g ending emits ∥₁
+ended_by g l ran ending emits few ends was = ∥∥₁_map was (λ done. record { now = l; ran = ran; few = few; done = done; ends = ends })
 
-pub served_by : (g : Setting) (l : Loop Seats) (emits emits' : List ℕ) → emits' ≡ emits → Does g l emits → ∥ HasServed g.loop_no emits' ∥₁
-served_by g l emits emits' same was = subst (λ xs. ∥ HasServed g.loop_no xs ∥₁) (sym same) (∥∥₁_map was (λ done. record { setting = g; now = l; numbered = refl; done = done }))
+-- and is that of a loop of this number
+pub served_by : (g : Setting) (loop_no : ℕ) (ending : Ending) (emits : List ℕ) → loop_no ≡ g.loop_no → ∥ HasEnded g ending emits ∥₁ → ∥ HasServed loop_no ending emits ∥₁
+served_by g loop_no ending emits same was = ∥∥₁_map was (λ ended. record { setting = g; numbered = sym same; ended = ended })

@@ -1,26 +1,75 @@
--- What a thread has done with its loop: a history over the loop's seats.
-use Rattle.std.specs.Prelude.{◌≡◌, ℕ, List}
+-- What a thread has done with its loop: a history over the loop's seats, and how it ended.
+use Rattle.std.specs.Prelude.{◌≡◌, ℕ, ◌+◌, ◌<◌, ◌≤◌, Bool, true, false, List, [], count_by, Option, Some, None}
+use Rattle.syntax.specs.Loaded.{Loaded}
+use Rattle.phases.specs.declared.did.StepDid.TheVariants.{Ran}
+use Rattle.phases.specs.declared.did.Hint.TheVariants.{Forever}
+use Rattle.phases.specs.declared.entry.Status.TheVariants as status
 use Rattle.phases.specs.Calls.{Calls}
-use Rattle.phases.specs.History.{Event, History, IsOpening, emitted}
+use Rattle.phases.specs.History.{Event, Stepped, History, IsOpening, emitted}
+use Rattle.phases.specs.PhaseList.{hint_of}
 use Rattle.phases.specs.State.{Setting, Loop}
 use Rattle.pool.specs.declared.seats.Seats.{Seats}
 use Rattle.pool.specs.Share.{seats_calls}
+use Rattle.serve.specs.declared.ended.TheConstants.{MOST_CALLBACKS}
+use Rattle.serve.specs.declared.ended.Ending.{Ending}
+use Rattle.serve.specs.declared.ended.Ending.TheVariants as ending
+use Rattle.serve.specs.declared.settings.Serving.{Serving}
 
 -- how a loop's calls move its seats
 abbrev pub thread_calls : Calls Seats
 thread_calls = seats_calls (λ s. s.loop_seat) (λ s. s.taker)
 
--- a history of a loop of this setting from its opening, in which its callbacks put out these values, in order
-pub record HasDone (g : Setting) (now : Loop Seats) (emits : List ℕ) : Type 0 where
+-- the loop of a number, of this module, with the fuel and the depth that were asked for
+abbrev pub setting_at : Loaded → Serving → (loop_no : ℕ) → Setting
+setting_at loaded serving loop_no = record {
+  loaded = loaded;
+  loop_no = loop_no;
+  fuel = serving.fuel;
+  work_fuel = serving.work_fuel;
+  depth = serving.depth;
+}
+
+-- how many callbacks ran in some events
+abbrev pub is_callback : Event → Bool
+is_callback (Stepped (Ran kind number ended) emits made) = true
+is_callback _ = false
+
+abbrev pub callbacks_in : List Event → ℕ
+callbacks_in events = count_by is_callback events
+
+-- a history of a loop of this setting from its opening, in which so many callbacks ran and put out these values, in order
+pub record HasDone (g : Setting) (now : Loop Seats) (ran : ℕ) (emits : List ℕ) : Type 0 where
   pub start : Loop Seats
   pub opens : IsOpening thread_calls g start
   pub events : List Event
   pub history : History thread_calls g start events now
+  pub counted : ran ≡ callbacks_in events
   pub told : emits ≡ emitted events
 
--- the same of some loop of this number
-pub record HasServed (loop_no : ℕ) (emits : List ℕ) : Type 0 where
-  pub setting : Setting
+-- Why a loop has ended: it is over; it has failed; it has no request outstanding and nothing to do for ever; or it ran
+-- as many callbacks as it may.
+abbrev pub EndsBy : Ending → (now : Loop Seats) → (ran : ℕ) → Type 0
+EndsBy ending.Over now ran = now.state.status ≡ status.Over
+EndsBy ending.Failed now ran = now.state.status ≡ status.Failed
+EndsBy ending.Waiting now ran = (now.state.requests.outstanding ≡ []) × (hint_of now.state ≡ Forever)
+EndsBy ending.Limit now ran = ran ≡ MOST_CALLBACKS
+
+-- the loop has ended so, or may run callbacks yet
+abbrev pub ComesTo : Option Ending → (now : Loop Seats) → (ran : ℕ) → Type 0
+ComesTo None now ran = ran < MOST_CALLBACKS
+ComesTo (Some ending) now ran = EndsBy ending now ran
+
+-- A history of a loop of this setting from its opening, in which its callbacks put out these values, in order, and at
+-- whose end the loop has ended so.
+pub record HasEnded (g : Setting) (ending : Ending) (emits : List ℕ) : Type 0 where
   pub now : Loop Seats
+  pub ran : ℕ
+  pub few : ran ≤ MOST_CALLBACKS
+  pub done : HasDone g now ran emits
+  pub ends : EndsBy ending now ran
+
+-- the same of some loop of this number
+pub record HasServed (loop_no : ℕ) (ending : Ending) (emits : List ℕ) : Type 0 where
+  pub setting : Setting
   pub numbered : setting.loop_no ≡ loop_no
-  pub done : HasDone setting now emits
+  pub ended : HasEnded setting ending emits

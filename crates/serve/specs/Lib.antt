@@ -1,2 +1,4 @@
+pub mod Answers
 pub mod Histories
 pub mod Places
+pub mod Promises

@@ -3,6 +3,9 @@ ghost use Rattle.serve.specs.Histories.{HasServed};
 
 use std::fmt;
 
+/// How many callbacks a loop may run.
+pub const MOST_CALLBACKS: u32 = 100_000;
+
 /// How a loop ended.
 #[derive(Clone, Copy, Debug, PartialEq, Eq)]
 pub enum Ending {
@@ -30,7 +33,8 @@ impl Ending {
 
 /// What one loop did. It prints as a line, as in `loop 0 over emits 6`.
 ///
-/// A loop of this number has a history from its opening, over its seats, in which its callbacks put out just this.
+/// A loop of this number has a history from its opening, over its seats, in which its callbacks put out just this, and
+/// at whose end it has ended so.
 #[derive(Drop)]
 pub struct Served {
     /// The loop's number, from 0.
@@ -39,7 +43,7 @@ pub struct Served {
     pub ending: Ending,
     /// What its callbacks put out, in order.
     pub emits: Vec<u64>,
-    pub ghost told: { ∥ HasServed loop_no emits.items ∥₁ },
+    pub ghost told: { ∥ HasServed loop_no ending emits.items ∥₁ },
 }
 
 impl fmt::Display for Served {

@@ -6,7 +6,9 @@
 
 mod ended;
 mod job;
+pub mod laws;
 mod place;
+mod plan;
 mod record;
 mod settings;
 mod task;
@@ -15,9 +17,8 @@ mod tests;
 mod threads;
 mod turn;
 
-pub use ended::{Ending, Served};
+pub use ended::{Ending, MOST_CALLBACKS, Served};
 pub use job::Job;
 pub use settings::Serving;
 pub use task::Task;
 pub use threads::serve;
-pub use turn::MOST_CALLBACKS;

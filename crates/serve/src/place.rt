@@ -2,7 +2,7 @@
 ghost use Rattle.std.specs.Prelude.{◌≡◌, ◌<◌, ◌≤◌, ◌+◌, length, All, IfOk};
 ghost use Rattle.board.specs.Boards.{IsPassOf, IsNewPass};
 ghost use Rattle.claims.specs.Views.{new_loop_view};
-ghost use Rattle.serve.specs.Places.{IsNewSeat};
+ghost use Rattle.serve.specs.Places.{IsNewSeat, EachFrom};
 
 use crate::job::Job;
 use board::{Board, Pass};
@@ -114,6 +114,7 @@ fn loop_place<'a, J>(
     requires own { IsPassOf board.now pass }
     requires seat { IsNewSeat claims.now seat }
     requires loops { length board.now.replies ≡ claims.now.loops }
+    ensures { result.seat.loop_no ≡ seat.loop_no }
 {
     LoopPlace {
         board,
@@ -123,22 +124,24 @@ fn loop_place<'a, J>(
     }
 }
 
-/// A place for each loop, the last loop's first.
+/// A place for each loop, in the order of their numbers.
 pub fn loop_places<'a, J: Drop>(
     alloc: Global,
     board: &'a Board<J>,
     mut passes: Vec<Pass<J>>,
     claims: &'a Claims,
-    mut seats: Vec<LoopSeat>,
+    seats: Vec<LoopSeat>,
 ) -> Result<Vec<LoopPlace<'a, J>>, AllocError>
     requires passes { All (IsNewPass board.now) passes.items }
     requires seats { All (IsNewSeat claims.now) seats.items }
+    requires numbered { EachFrom (λ k s. s.loop_no ≡ k) 0 seats.items }
     requires enough { length seats.items ≤ length passes.items }
     requires loops { length board.now.replies ≡ claims.now.loops }
-    ensures { IfOk result (λ places. length places.items ≡ length seats.items) }
+    ensures count { IfOk result (λ places. length places.items ≡ length seats.items) }
+    ensures numbered { IfOk result (λ places. EachFrom (λ k p. p.seat.loop_no ≡ k) 0 places.items) }
 {
     let mut places = Vec::with_capacity(alloc, seats.len())?;
-    while let Some(seat) = seats.pop() {
+    for seat in seats {
         let pass = take_pass(board, &mut passes);
         places.push(loop_place(board, pass, claims, seat))?;
     }

@@ -1,24 +1,43 @@
-// A loop, with what its callbacks have put out.
-ghost use Rattle.std.specs.Prelude.{◌≡◌, IfSome};
+// A loop, with how many of its callbacks ran and what they have put out.
+ghost use Rattle.std.specs.Prelude.{◌≡◌, ◌<◌, ◌≤◌, [], IfOk, IfSome};
+ghost use Rattle.std.specs.Bool.{OnFalse};
 ghost use Rattle.order.specs.Orders.{order_of};
 ghost use Rattle.phases.specs.History.{IsOpening};
 ghost use Rattle.phases.specs.Keeping.{CanRun};
-ghost use Rattle.serve.specs.Histories.{HasDone, HasServed, thread_calls};
+ghost use Rattle.phases.specs.declared.entry.Status.TheVariants as status;
+ghost use Rattle.serve.specs.declared.ended.TheConstants.{MOST_CALLBACKS};
+ghost use Rattle.serve.specs.Answers.{IsServed};
+ghost use Rattle.serve.specs.Histories.{HasDone, EndsBy, ComesTo, thread_calls};
 
+use crate::ended::{Ending, MOST_CALLBACKS, Served};
 use order::{Order, Reply};
-use phases::{Accepted, Hint, LoopCore, StepDid};
+use phases::{Accepted, Hint, LoopCore, Phase, StepDid};
 use pool::Seats;
 use std::alloc::{AllocError, Global};
+use std::sync::Wait;
 
 /// What one callback may put out at most.
 const MOST_EMITS: usize = 64;
 
-/// A loop, with all that its callbacks have put out so far: it has a history from its opening that says so.
+/// A loop, with how many of its callbacks ran and all that they have put out: it has a history from its opening that
+/// says so.
 #[derive(Drop)]
 pub struct Record<'a> {
     pub(crate) core: LoopCore<Seats<'a>>,
+    pub(crate) ran: u32,
     emits: Vec<u64>,
-    ghost told: { ∥ HasDone core.0 core.1 emits.items ∥₁ },
+    ghost few: { ran ≤ MOST_CALLBACKS },
+    ghost told: { ∥ HasDone core.0 core.1 ran emits.items ∥₁ },
+}
+
+fn enters_timers(did: &StepDid) -> bool {
+    matches!(
+        did,
+        StepDid::Entered {
+            phase: Phase::Timers,
+            ..
+        }
+    )
 }
 
 impl<'a> Record<'a> {
@@ -26,9 +45,11 @@ impl<'a> Record<'a> {
     pub fn new(alloc: Global, core: LoopCore<Seats<'a>>) -> Record<'a>
         requires { IsOpening thread_calls core.0 core.1 }
         ensures setting { result.core.0 ≡ core.entry.0 }
+        ensures none { result.ran ≡ 0 }
     {
         Record {
             core,
+            ran: 0,
             emits: Vec::new(alloc),
         }
     }
@@ -36,6 +57,7 @@ impl<'a> Record<'a> {
     /// Offers a reply to the loop, which drops it where it is not the loop's.
     pub fn accept(&mut self, reply: Reply)
         ensures setting { self.new.core.0 ≡ self.old.core.0 }
+        ensures ran { self.new.ran ≡ self.old.ran }
     {
         match self.core.accept(reply) {
             Accepted::Accepted | Accepted::Stranger(_) => {}
@@ -46,17 +68,38 @@ impl<'a> Record<'a> {
     pub fn next_order(&mut self) -> Option<Order>
         ensures can_run { IfSome result (λ o. CanRun (order_of o)) }
         ensures setting { self.new.core.0 ≡ self.old.core.0 }
+        ensures ran { self.new.ran ≡ self.old.ran }
     {
         self.core.next_order()
     }
 
-    /// One step of the loop. Where memory for what a callback may put out is refused, it takes none.
-    pub fn step(&mut self) -> Result<StepDid, AllocError>
+    /// Steps until the timers phase is entered or the loop has ended. How it ended, if it did.
+    pub fn step_through<R: Wait>(&mut self, rt: &R) -> Result<Option<Ending>, AllocError>
+        requires room { self.old.ran < MOST_CALLBACKS }
         ensures setting { self.new.core.0 ≡ self.old.core.0 }
+        ensures comes { IfOk result (λ ended. ComesTo ended self.new.core.1 self.new.ran) }
+    {
+        for _ in rt.forever() {
+            let did = self.step()?;
+            match self.ended(&did) {
+                Some(ending) => return Ok(Some(ending)),
+                None if enters_timers(&did) => return Ok(None),
+                None => {}
+            }
+        }
+        unreachable!()
+    }
+
+    // One step of the loop. Where memory for what a callback may put out is refused, it takes none.
+    fn step(&mut self) -> Result<StepDid, AllocError>
+        requires room { self.old.ran < MOST_CALLBACKS }
+        ensures setting { self.new.core.0 ≡ self.old.core.0 }
+        ensures over { IfOk result (λ did. did ≡ StepDid.Over → self.new.core.1.state.status ≡ status.Over) }
     {
         self.emits.reserve(MOST_EMITS)?;
         let did = self.core.step();
         if let StepDid::Ran { .. } = did {
+            self.ran += 1;
             let Ok(()) = self.emits.extend_from_slice(self.core.emits()) else {
                 unreachable!()
             };
@@ -64,33 +107,63 @@ impl<'a> Record<'a> {
         Ok(did)
     }
 
-    /// Raises the clock by so many milliseconds.
-    pub fn pass(&mut self, ms: u64)
+    // How the loop has ended with a step, if it has: it is over; the callback failed; or it was the last that the loop
+    // may run.
+    fn ended(&self, did: &StepDid) -> Option<Ending>
+        requires { did.now ≡ StepDid.Over → self.now.core.1.state.status ≡ status.Over }
+        ensures { ComesTo result self.now.core.1 self.now.ran }
+    {
+        match did {
+            StepDid::Over => Some(Ending::Over),
+            _ if self.core.failed() => Some(Ending::Failed),
+            _ if self.ran == MOST_CALLBACKS => Some(Ending::Limit),
+            _ => None,
+        }
+    }
+
+    /// Raises the clock to the next timer. Without one the loop waits for ever.
+    pub fn wait(&mut self) -> Option<Ending>
+        requires room { self.old.ran < MOST_CALLBACKS }
+        requires none { self.old.core.1.state.requests.outstanding ≡ [] }
         ensures setting { self.new.core.0 ≡ self.old.core.0 }
+        ensures comes { ComesTo result self.new.core.1 self.new.ran }
+    {
+        match self.core.hint() {
+            Hint::Now => None,
+            Hint::For(ms) => {
+                self.pass(ms);
+                None
+            }
+            Hint::Forever => Some(Ending::Waiting),
+        }
+    }
+
+    // Raises the clock by so many milliseconds.
+    fn pass(&mut self, ms: u64)
+        ensures setting { self.new.core.0 ≡ self.old.core.0 }
+        ensures ran { self.new.ran ≡ self.old.ran }
     {
         let clock = self.core.clock(0);
         self.core.clock(clock.saturating_add(ms));
     }
 
-    /// Whether the loop has failed.
-    pub fn failed(&self) -> bool {
-        self.core.failed()
-    }
-
-    /// How many requests are outstanding.
-    pub fn outstanding(&self) -> usize {
-        self.core.outstanding()
-    }
-
-    /// How long the loop has nothing to do.
-    pub fn hint(&self) -> Hint {
-        self.core.hint()
-    }
-
-    /// All that the loop's callbacks have put out.
-    pub fn into_emits(self) -> Vec<u64>
-        ensures { ∥ HasServed self.entry.core.0.loop_no result.items ∥₁ }
+    /// Whether requests are outstanding.
+    pub fn has_requests(&self) -> bool
+        ensures { OnFalse result (self.now.core.1.state.requests.outstanding ≡ []) }
     {
-        self.emits
+        self.core.outstanding() > 0
+    }
+
+    /// What the loop has done, and how it ended.
+    pub fn into_served(self, loop_no: u32, ending: Ending) -> Served
+        requires loop_no { loop_no ≡ self.core.0.loop_no }
+        requires ends { EndsBy ending self.core.1 self.ran }
+        ensures { IsServed self.entry.core.0 result }
+    {
+        Served {
+            loop_no,
+            ending,
+            emits: self.emits,
+        }
     }
 }

@@ -1,6 +1,8 @@
 ghost use Rattle.std.specs.Prelude.{◌≡◌, ◌≤◌};
 ghost use Rattle.board.specs.Jobs.{ticket_of};
 
+mod apart;
+
 use crate::{Served, Serving, Task, serve};
 use board::JobBox;
 use decode::decode;
@@ -71,12 +73,12 @@ fn module(alloc: Global, digits: &str) -> Result<Arc<Linked>, Fail> {
     Ok(Arc::new(alloc, link(valid)?)?)
 }
 
-// The lines of the loops that are served so.
-fn lines<R: Threads + Wait + Sync + AllocGlobal>(
+// What comes of the loops that are served so.
+fn served<R: Threads + Wait + Sync + AllocGlobal>(
     rt: &R,
     digits: &str,
     serving: Serving,
-) -> Result<String, Fail> {
+) -> Result<Vec<Served>, Fail> {
     let alloc = rt.alloc();
     let make = move |task: Task| -> Result<JobBox, AllocError> {
         let ticket = task.ticket();
@@ -85,8 +87,17 @@ fn lines<R: Threads + Wait + Sync + AllocGlobal>(
         { task.run(alloc) };
         Ok(JobBox::new(ticket, Box::new(alloc, run)?))
     };
-    let served = serve(rt, alloc, module(alloc, digits)?, serving, &make)?;
-    text_of(alloc, served.as_slice())
+    Ok(serve(rt, alloc, module(alloc, digits)?, serving, &make)?)
+}
+
+// The lines of the loops that are served so.
+fn lines<R: Threads + Wait + Sync + AllocGlobal>(
+    rt: &R,
+    digits: &str,
+    serving: Serving,
+) -> Result<String, Fail> {
+    let served = served(rt, digits, serving)?;
+    text_of(rt.alloc(), served.as_slice())
 }
 
 fn text_of(alloc: Global, served: &[Served]) -> Result<String, Fail> {

@@ -1,37 +1,29 @@
 // The threads of the loops and the workers.
-ghost use Rattle.std.specs.Prelude.{◌≡◌, ◌≤◌, ◌+◌, length, vec_capacity, IfOk, OnOk};
+ghost use Rattle.std.specs.Prelude.{◌≡◌, ◌≤◌, [], length, vec_capacity, IfOk, OnOk};
+ghost use Rattle.std.specs.Arc.{arc_value};
 ghost use Rattle.std.specs.Thread.{IsSync};
+ghost use Rattle.serve.specs.Answers.{IsServed, EachServed};
+ghost use Rattle.serve.specs.Histories.{setting_at};
+ghost use Rattle.serve.specs.Places.{EachFrom};
+ghost use Rattle.serve.specs.Promises.{IsThreadOf};
 
 use crate::ended::Served;
 use crate::job::Job;
 use crate::place::{LoopPlace, WorkerPlace, loop_places, worker_places};
+use crate::plan::{OfLoop, Outcome, Plan};
 use crate::settings::Serving;
 use crate::task::Task;
-use crate::turn::Turns;
 use board::Board;
 use claims::{Claims, NewClaims};
 use imports::Linked;
-use marks::Marks;
 use std::alloc::{AllocError, Global};
-use std::sync::atomic::{AtomicBool, Ordering};
 use std::sync::{Arc, Wait};
 use std::thread;
-use std::thread::{JoinHandle, Scope, Threads};
-
-// What all loops are made of, and whether one of them found no memory.
-#[derive(Drop)]
-struct Plan {
-    alloc: Global,
-    module: Arc<Linked>,
-    serving: Serving,
-    ran_out: AtomicBool,
-}
-
-// What comes of a loop's thread.
-type Outcome = Result<Served, AllocError>;
+use std::thread::{PromisedHandle, Scope, Threads};
 
 /// Runs loops of the module and workers, each in a thread of its own, until all loops have ended. What each loop did, in
-/// the order of their numbers. `make` makes the job of an order.
+/// the order of their numbers: it has a history from its opening, over its seats, in which its callbacks put out just
+/// the answer's values, and at whose end it has ended as the answer says. `make` makes the job of an order.
 ///
 /// Where memory is refused, no further thread is started and a loop that it concerns ends; the error comes once all
 /// threads have ended.
@@ -45,6 +37,7 @@ pub fn serve<R: Threads + Wait + Sync, M: Fn(Task) -> Result<J, AllocError> + Sy
 ) -> Result<Vec<Served>, AllocError>
     requires make { M.IsAlwaysCallable make.now }
     ensures count { IfOk result (λ served. length served.items ≡ serving.loops) }
+    ensures each { IfOk result (λ served. EachServed (arc_value «module») serving served.items) }
 {
     let NewClaims {
         claims,
@@ -55,14 +48,12 @@ pub fn serve<R: Threads + Wait + Sync, M: Fn(Task) -> Result<J, AllocError> + Sy
     let (board, mut passes) = Board::new(alloc, serving.loops, passes)?;
     let workers = worker_places(alloc, &board, &mut passes, &claims, worker_seats)?;
     let loops = loop_places(alloc, &board, passes, &claims, loop_seats)?;
-    let plan = Plan {
-        alloc,
-        module,
-        serving,
-        ran_out: AtomicBool::new(false),
-    };
+    let plan = Plan::new(alloc, module, serving);
     run_all(rt, &plan, &board, workers, loops, make)
 }
+
+// The thread of a loop.
+type LoopThread<'s> = PromisedHandle<Outcome, OfLoop<'s>>;
 
 // Starts the workers and then the loops, and closes the board once all loops have ended.
 fn run_all<
@@ -79,7 +70,9 @@ fn run_all<
     make: &M,
 ) -> Result<Vec<Served>, AllocError>
     requires make { M.IsAlwaysCallable make.now }
+    requires numbered { EachFrom (λ k p. p.seat.loop_no ≡ k) 0 loops.items }
     ensures count { IfOk result (λ served. length served.items ≡ length loops.entry.items) }
+    ensures each { IfOk result (λ served. EachServed (arc_value plan.now.module) plan.now.serving served.items) }
 {
     thread::scope(
         thread::scope_env(),
@@ -87,7 +80,9 @@ fn run_all<
         move |scope| -> Result<Vec<Served>, AllocError>
             requires make { M.IsAlwaysCallable make.now }
             requires sync { IsSync R.row × IsSync M.row }
+            requires numbered { EachFrom (λ k p. p.seat.loop_no ≡ k) 0 loops.items }
             ensures count { IfOk result (λ served. length served.items ≡ length loops.entry.items) }
+            ensures each { IfOk result (λ served. EachServed (arc_value plan.entry.now.module) plan.entry.now.serving served.items) }
         {
             let served = match start_workers(scope, rt, workers) {
                 Ok(()) => run_loops(scope, rt, plan, loops, make),
@@ -133,12 +128,14 @@ fn run_loops<
 ) -> Result<Vec<Served>, AllocError>
     requires make { M.IsAlwaysCallable make.now }
     requires sync { IsSync R.row × IsSync M.row }
+    requires numbered { EachFrom (λ k p. p.seat.loop_no ≡ k) 0 places.items }
     ensures count { IfOk result (λ served. length served.items ≡ length places.entry.items) }
+    ensures each { IfOk result (λ served. EachServed (arc_value plan.now.module) plan.now.serving served.items) }
 {
     let mut started = Vec::with_capacity(plan.alloc, places.len())?;
     let mut served = Vec::with_capacity(plan.alloc, places.len())?;
     let starting = start_loops(scope, rt, plan, places, make, &mut started);
-    let ending = join_all(rt, started, &mut served);
+    let ending = join_all(rt, plan, started, &mut served);
     starting?;
     ending?;
     Ok(served)
@@ -149,71 +146,65 @@ fn start_loops<'s, R: Wait + Sync, M: Fn(Task) -> Result<J, AllocError> + Sync, 
     scope: &Scope<'s, E>,
     rt: &'s R,
     plan: &'s Plan,
-    mut places: Vec<LoopPlace<'s, J>>,
+    places: Vec<LoopPlace<'s, J>>,
     make: &'s M,
-    started: &mut Vec<JoinHandle<Outcome>>,
+    started: &mut Vec<LoopThread<'s>>,
 ) -> Result<(), AllocError>
     requires make { M.IsAlwaysCallable make.now }
     requires sync { IsSync R.row × IsSync M.row }
-    requires room { length started.old.items + length places.items ≤ vec_capacity started.old }
-    ensures count { OnOk result (length started.new.items ≡ length started.old.items + length places.entry.items) }
-    ensures at_most { length started.new.items ≤ length started.old.items + length places.entry.items }
+    requires room { length places.items ≤ vec_capacity started.old }
+    requires none { started.old.items ≡ [] }
+    requires numbered { EachFrom (λ k p. p.seat.loop_no ≡ k) 0 places.items }
+    ensures count { OnOk result (length started.new.items ≡ length places.entry.items) }
+    ensures at_most { length started.new.items ≤ length places.entry.items }
+    ensures promised { EachFrom (λ k h. IsThreadOf plan.now k h.promise) 0 started.new.items }
 {
-    while let Some(place) = places.pop() {
-        if plan.ran_out.load(Ordering::SeqCst) {
-            return Err(AllocError);
-        }
-        let thread = scope.spawn(
-            move || -> Outcome
-                requires make { M.IsAlwaysCallable make.now }
-                requires sync { IsSync R.row × IsSync M.row }
-            { plan.run(rt, place, make) },
-        )?;
+    for place in places {
+        let thread = start_loop(scope, rt, plan, place, make)?;
         started.push_reserved(thread);
     }
     Ok(())
 }
 
-impl Plan {
-    // One loop, until it has ended.
-    fn run<R: Wait, M: Fn(Task) -> Result<J, AllocError>, J: Drop>(
-        &self,
-        rt: &R,
-        place: LoopPlace<'_, J>,
-        make: &M,
-    ) -> Outcome
-        requires make { M.IsAlwaysCallable make.now }
-    {
-        let outcome = self.turns(rt, place, make);
-        if outcome.is_err() {
-            self.ran_out.store(true, Ordering::SeqCst);
-        }
-        outcome
+// A thread for a loop, unless memory ran out.
+fn start_loop<'s, R: Wait + Sync, M: Fn(Task) -> Result<J, AllocError> + Sync, J: Drop + Send, E>(
+    scope: &Scope<'s, E>,
+    rt: &'s R,
+    plan: &'s Plan,
+    place: LoopPlace<'s, J>,
+    make: &'s M,
+) -> Result<LoopThread<'s>, AllocError>
+    requires make { M.IsAlwaysCallable make.now }
+    requires sync { IsSync R.row × IsSync M.row }
+    ensures { IfOk result (λ h. IsThreadOf plan.now place.entry.seat.loop_no h.promise) }
+{
+    if plan.ran_out() {
+        return Err(AllocError);
     }
-
-    fn turns<R: Wait, M: Fn(Task) -> Result<J, AllocError>, J: Drop>(
-        &self,
-        rt: &R,
-        place: LoopPlace<'_, J>,
-        make: &M,
-    ) -> Outcome
-        requires make { M.IsAlwaysCallable make.now }
-    {
-        let (marks, taker, _senders) = Marks::new(self.alloc, 0)?;
-        let module = Arc::try_clone(&self.module)?;
-        let turns = Turns::new(self.alloc, module, &marks, taker, place, self.serving)?;
-        turns.run(rt, make)
-    }
+    let loop_no = place.seat.loop_no();
+    let thread = scope.spawn_with(
+        OfLoop { plan, loop_no },
+        move || -> Outcome
+            requires make { M.IsAlwaysCallable make.now }
+            requires sync { IsSync R.row × IsSync M.row }
+            ensures { IfOk result (λ s. IsServed (setting_at (arc_value plan.entry.now.module) plan.entry.now.serving place.entry.seat.loop_no) s) }
+        { plan.run(rt, place, make) },
+    )?;
+    Ok(thread)
 }
 
 // Waits for each thread. What their loops did, unless one of them found no memory.
-fn join_all<R: Threads>(
+fn join_all<'s, R: Threads>(
     rt: &R,
-    started: Vec<JoinHandle<Outcome>>,
+    plan: &'s Plan,
+    started: Vec<LoopThread<'s>>,
     served: &mut Vec<Served>,
 ) -> Result<(), AllocError>
-    requires room { length served.old.items + length started.items ≤ vec_capacity served.old }
-    ensures count { OnOk result (length served.new.items ≡ length served.old.items + length started.items) }
+    requires room { length started.items ≤ vec_capacity served.old }
+    requires none { served.old.items ≡ [] }
+    requires promised { EachFrom (λ k h. IsThreadOf plan.now k h.promise) 0 started.items }
+    ensures count { OnOk result (length served.new.items ≡ length started.entry.items) }
+    ensures each { OnOk result (EachFrom (λ k s. IsServed (setting_at (arc_value plan.now.module) plan.now.serving k) s) 0 served.new.items) }
 {
     let mut ending = Ok(());
     for thread in started {

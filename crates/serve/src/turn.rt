@@ -1,7 +1,11 @@
 // The turns of one loop.
-ghost use Rattle.std.specs.Prelude.{◌≡◌, ◌<◌, ◌≤◌, length, IfOk, IfSome};
+ghost use Rattle.std.specs.Prelude.{◌≡◌, ◌<◌, ◌≤◌, length, IfOk};
+ghost use Rattle.std.specs.Arc.{arc_value};
 ghost use Rattle.board.specs.Boards.{IsPassOf};
 ghost use Rattle.marks.specs.Counts.{new_taker};
+ghost use Rattle.serve.specs.declared.ended.TheConstants.{MOST_CALLBACKS};
+ghost use Rattle.serve.specs.Answers.{IsServed};
+ghost use Rattle.serve.specs.Histories.{ComesTo, EndsBy, setting_at};
 
 use crate::ended::{Ending, Served};
 use crate::place::LoopPlace;
@@ -11,16 +15,13 @@ use crate::task::Task;
 use board::{Board, Pass};
 use imports::Linked;
 use marks::{Marks, TakeSeat};
-use phases::{Hint, LoopCore, Phase, StepDid};
+use phases::LoopCore;
 use pool::Seats;
 use std::alloc::{AllocError, Global};
 use std::sync::{Arc, Wait};
 use std::thread;
 
-/// How many callbacks a loop may run.
-pub const MOST_CALLBACKS: u32 = 100_000;
-
-/// A loop with what it has put out, its pass, and how many callbacks it may still run.
+/// A loop with what it has put out, and its pass.
 #[derive(Drop)]
 pub struct Turns<'a, J> {
     board: &'a Board<J>,
@@ -29,8 +30,6 @@ pub struct Turns<'a, J> {
     told: Record<'a>,
     // A job that the board refused.
     kept: Option<J>,
-    // How many callbacks it may still run.
-    left: u32,
     ghost of_board: { IsPassOf board.now pass },
     ghost there: { loop_no < length board.now.replies },
     ghost numbered: { told.core.0.loop_no ≡ loop_no },
@@ -48,6 +47,8 @@ impl<'a, J: Drop> Turns<'a, J> {
         serving: Serving,
     ) -> Result<Turns<'a, J>, AllocError>
         requires { taker ≡ new_taker marks.now 0 }
+        ensures setting { IfOk result (λ t. t.told.core.0 ≡ setting_at (arc_value «module») serving place.entry.seat.loop_no) }
+        ensures room { IfOk result (λ t. t.told.ran < MOST_CALLBACKS) }
     {
         let LoopPlace {
             board,
@@ -72,7 +73,6 @@ impl<'a, J: Drop> Turns<'a, J> {
             loop_no,
             told: Record::new(alloc, core),
             kept: None,
-            left: MOST_CALLBACKS,
         })
     }
 
@@ -83,22 +83,29 @@ impl<'a, J: Drop> Turns<'a, J> {
         make: &M,
     ) -> Result<Served, AllocError>
         requires make { M.IsAlwaysCallable make.now }
+        requires room { self.told.ran < MOST_CALLBACKS }
+        ensures { IfOk result (λ served. IsServed self.entry.told.core.0 served) }
+    {
+        let ending = self.until_ended(rt, make)?;
+        Ok(self.told.into_served(self.loop_no, ending))
+    }
+
+    fn until_ended<R: Wait, M: Fn(Task) -> Result<J, AllocError>>(
+        &mut self,
+        rt: &R,
+        make: &M,
+    ) -> Result<Ending, AllocError>
+        requires make { M.IsAlwaysCallable make.now }
+        requires room { self.old.told.ran < MOST_CALLBACKS }
+        ensures setting { self.new.told.core.0 ≡ self.old.told.core.0 }
+        ensures ends { IfOk result (λ ending. EndsBy ending self.new.told.core.1 self.new.told.ran) }
     {
         for _ in rt.forever() {
             if let Some(ending) = self.turn(rt, make)? {
-                return Ok(self.served(ending));
+                return Ok(ending);
             }
         }
         unreachable!()
-    }
-
-    #[tactic(auto, using(crate::proofs::Recording::served_as))]
-    fn served(self, ending: Ending) -> Served {
-        Served {
-            loop_no: self.loop_no,
-            ending,
-            emits: self.told.into_emits(),
-        }
     }
 
     // One turn. How the loop ended, if it did.
@@ -108,25 +115,24 @@ impl<'a, J: Drop> Turns<'a, J> {
         make: &M,
     ) -> Result<Option<Ending>, AllocError>
         requires make { M.IsAlwaysCallable make.now }
+        requires room { self.old.told.ran < MOST_CALLBACKS }
+        ensures setting { self.new.told.core.0 ≡ self.old.told.core.0 }
+        ensures comes { IfOk result (λ ended. ComesTo ended self.new.told.core.1 self.new.told.ran) }
     {
         self.accept_all(rt);
         self.post_all(rt, make)?;
-        let left = self.left;
-        if let Some(ending) = self.step_through(rt)? {
-            return Ok(Some(ending));
+        let ran = self.told.ran;
+        match self.told.step_through(rt)? {
+            Some(ending) => Ok(Some(ending)),
+            None => Ok(self.rest(ran)),
         }
-        if self.told.outstanding() > 0 {
-            thread::yield_now();
-            return Ok(None);
-        }
-        if self.left < left {
-            return Ok(None);
-        }
-        Ok(self.rest())
     }
 
     // Accepts all replies that are there.
-    fn accept_all<R: Wait>(&mut self, rt: &R) {
+    fn accept_all<R: Wait>(&mut self, rt: &R)
+        ensures setting { self.new.told.core.0 ≡ self.old.told.core.0 }
+        ensures ran { self.new.told.ran ≡ self.old.told.ran }
+    {
         for _ in rt.forever() {
             let Some(reply) = self.board.collect(rt, &mut self.pass, self.loop_no) else {
                 return;
@@ -142,6 +148,8 @@ impl<'a, J: Drop> Turns<'a, J> {
         make: &M,
     ) -> Result<(), AllocError>
         requires make { M.IsAlwaysCallable make.now }
+        ensures setting { self.new.told.core.0 ≡ self.old.told.core.0 }
+        ensures ran { self.new.told.ran ≡ self.old.told.ran }
     {
         for _ in rt.forever() {
             let Some(job) = self.next_job(make)? else {
@@ -161,6 +169,8 @@ impl<'a, J: Drop> Turns<'a, J> {
         make: &M,
     ) -> Result<Option<J>, AllocError>
         requires make { M.IsAlwaysCallable make.now }
+        ensures setting { self.new.told.core.0 ≡ self.old.told.core.0 }
+        ensures ran { self.new.told.ran ≡ self.old.told.ran }
     {
         if let Some(job) = self.kept.take() {
             return Ok(Some(job));
@@ -171,43 +181,20 @@ impl<'a, J: Drop> Turns<'a, J> {
         Ok(Some(make(Task::new(order))?))
     }
 
-    // Steps until the timers phase is entered or the loop has ended. How it ended, if it did.
-    fn step_through<R: Wait>(&mut self, rt: &R) -> Result<Option<Ending>, AllocError> {
-        for _ in rt.forever() {
-            match self.told.step()? {
-                StepDid::Entered {
-                    phase: Phase::Timers,
-                    ..
-                } => return Ok(None),
-                StepDid::Entered { .. } | StepDid::Skipped { .. } => {}
-                StepDid::Ran { .. } => {
-                    if self.note() {
-                        return Ok(Some(Ending::Limit));
-                    }
-                }
-                StepDid::Over => return Ok(Some(Ending::Over)),
-                StepDid::Failed => return Ok(Some(Ending::Failed)),
-            }
+    // Where no callback ran since there were so many, and no reply will come, the clock is raised to the next timer.
+    // Without one the loop waits for ever.
+    fn rest(&mut self, ran: u32) -> Option<Ending>
+        requires room { self.old.told.ran < MOST_CALLBACKS }
+        ensures setting { self.new.told.core.0 ≡ self.old.told.core.0 }
+        ensures comes { ComesTo result self.new.told.core.1 self.new.told.ran }
+    {
+        if self.told.has_requests() {
+            thread::yield_now();
+            return None;
         }
-        unreachable!()
-    }
-
-    // Counts a callback that ran. Whether it was the last that the loop may run.
-    fn note(&mut self) -> bool {
-        self.left = self.left.saturating_sub(1);
-        self.left == 0 && !self.told.failed()
-    }
-
-    // Nothing was done in a turn and no reply will come: the clock is raised to the next timer. Without one the loop
-    // waits for ever.
-    fn rest(&mut self) -> Option<Ending> {
-        match self.told.hint() {
-            Hint::Now => None,
-            Hint::For(ms) => {
-                self.told.pass(ms);
-                None
-            }
-            Hint::Forever => Some(Ending::Waiting),
+        if self.told.ran > ran {
+            return None;
         }
+        self.told.wait()
     }
 }

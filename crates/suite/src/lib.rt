@@ -1,9 +1,20 @@
-//! Tests of reading, validating and linking together, on whole modules.
+//! Tests of a module's way from its bytes to its calls: of integers, texts, validation, links, operators, instances and
+//! runs.
 #![tactic(auto)]
 
+#[cfg(test)]
+mod decoding;
+#[cfg(test)]
+mod instances;
+#[cfg(test)]
+mod integers;
 #[cfg(test)]
 mod linking;
 #[cfg(test)]
 mod modules;
+#[cfg(test)]
+mod operators;
+#[cfg(test)]
+mod runs;
 #[cfg(test)]
 mod validation;

@@ -1,9 +1,11 @@
-use crate::modules::{module_of, verdict};
+use crate::modules::{check_sections, module_of};
 use decode::decode;
-use imports::{Call, Entry, link};
+use imports::{Call, Entry, Linked, link};
+use std::alloc::Global;
+use std::process::Abort;
 use std::test::Fail;
 use syntax::types::ValType::{self, I32, I64};
-use validate::validate;
+use validate::{Valid, validate};
 
 /// The functions of "uv", by name, parameters and result.
 const TABLE: [(&[u8], &[ValType], ValType); 21] = [
@@ -51,93 +53,63 @@ const GUEST: &str = "011b0560037f7f7f017f60017e017f60000060017f017f60037f7f7f00
     0725030775765f6d61696e00020775765f776f726b00030d75765f61667465725f776f726b0004
     0a1e030b0041054100410010001a0b0700200041016a0b08002002ac10011a0b";
 
-#[test]
-fn finds_calls_and_entries(rt: HostRuntime) -> Result<(), Fail> {
-    let alloc = rt.alloc();
-    let bytes = module_of(alloc, GUEST)?;
-    let kept = bytes.clone()?;
-    let linked = link(validate(alloc, decode(alloc, bytes)?)?)?;
-    assert!(rt; linked.valid().module().bytes() == kept.as_slice());
-    assert!(rt; linked.call(0) == Some(Call::QueueWork));
-    assert!(rt; linked.call(1) == Some(Call::Emit));
-    assert!(rt; linked.call(2).is_none());
-    assert_eq!(rt; linked.entry(Entry::Main), Some(2));
-    assert_eq!(rt; linked.entry(Entry::Work), Some(3));
-    assert_eq!(rt; linked.entry(Entry::AfterWork), Some(4));
-    Ok(())
+fn finds(rt: &impl Abort, linked: &Linked) {
+    let calls = (linked.call(0), linked.call(1), linked.call(2));
+    assert!(rt; calls == (Some(Call::QueueWork), Some(Call::Emit), None));
+    let entries = (
+        linked.entry(Entry::Main),
+        linked.entry(Entry::Work),
+        linked.entry(Entry::AfterWork),
+    );
+    assert_eq!(rt; entries, (Some(2), Some(3), Some(4)));
+}
+
+fn valid_of(alloc: Global, bytes: Vec<u8>) -> Result<Valid, Fail> {
+    Ok(validate(alloc, decode(alloc, bytes)?)?)
 }
 
 #[test]
-fn judges_imports_exports_and_segments(rt: HostRuntime) -> Result<(), Fail> {
-    let alloc = rt.alloc();
-    for (sections, wanted) in [
-        // now
-        ("0105016000017e 020a01 027576 036e6f77 0000", "accepted"),
-        (
-            "0105016000017e 020a01 027577 036e6f77 0000",
-            "link 1 Module",
-        ),
-        ("0105016000017e 020901 0175 036e6f77 0000", "link 1 Module"),
-        ("0105016000017e 020a01 027576 036e6f70 0000", "link 2 Name"),
-        ("0105016000017e 020901 027576 026e6f 0000", "link 2 Name"),
-        (
-            "0105016000017e 020b01 027576 046e6f7773 0000",
-            "link 2 Name",
-        ),
-        ("0105016000017f 020a01 027576 036e6f77 0000", "link 3 Type"),
-        ("010401600000 020a01 027576 036e6f77 0000", "link 3 Type"),
-        // the first wrong import, and an import before an export
-        (
-            "0105016000017f 021302 027576 036e6f77 0000 027577 036e6f77 0000",
-            "link 3 Type",
-        ),
-        (
-            "0105016000017f 020a01 027576 036e6f77 0000 070b01 0775765f6d61696e 0000",
-            "link 3 Type",
-        ),
-        // uv_work of type [] to [], uv_main as a memory, and uv_works
-        (
-            "010401600000 03020100 070b01 0775765f776f726b 0000 0a040102000b",
-            "link 4 Kind",
-        ),
-        ("0503010001 070b01 0775765f6d61696e 0200", "link 4 Kind"),
-        (
-            "010401600000 03020100 070b01 0775765f6d61696e 0000 0a040102000b",
-            "accepted",
-        ),
-        (
-            "010401600000 03020100 070c01 0875765f776f726b73 0000 0a040102000b",
-            "accepted",
-        ),
-        // an export before a segment
-        (
-            "0503010000 070b01 0775765f6d61696e 0200 0b07010041000b0101",
-            "link 4 Kind",
-        ),
-        // elements in a table of two
-        (
-            "010401600000 03020100 0404017000 02 0908010041000b020000 0a040102000b",
-            "accepted",
-        ),
-        (
-            "010401600000 03020100 0404017000 02 0908010041010b020000 0a040102000b",
-            "link 5 Segments",
-        ),
-        ("0404017000 02 0906010041020b00", "accepted"),
-        ("0404017000 02 0906010041030b00", "link 5 Segments"),
-        // bytes in a memory of one page
-        ("0503010001 0b090100 41ffff03 0b 0101", "accepted"),
-        ("0503010001 0b0a0100 41ffff03 0b 020101", "link 5 Segments"),
-        ("0503010001 0b080100 41808004 0b 00", "accepted"),
-        ("0503010001 0b080100 41818004 0b 00", "link 5 Segments"),
-        ("0503010001 0b070100 417f 0b 0101", "link 5 Segments"),
-    ] {
-        let bytes = module_of(alloc, sections)?;
-        assert_eq!(rt;
-            verdict(alloc, bytes)?.as_str(),
-            wanted,
-            "of the sections {sections}"
-        );
-    }
+fn finds_calls_and_entries(rt: HostRuntime) -> Result<(), Fail> {
+    let valid = valid_of(rt.alloc(), module_of(rt.alloc(), GUEST)?)?;
+    finds(&rt, &link(valid)?);
     Ok(())
+}
+
+/// Sections.
+const PARTS: &str = "
+    # now
+    0105016000017e 020a01 027576 036e6f77 0000 = accepted
+    0105016000017e 020a01 027577 036e6f77 0000 = link 1 Module
+    0105016000017e 020901 0175 036e6f77 0000 = link 1 Module
+    0105016000017e 020a01 027576 036e6f70 0000 = link 2 Name
+    0105016000017e 020901 027576 026e6f 0000 = link 2 Name
+    0105016000017e 020b01 027576 046e6f7773 0000 = link 2 Name
+    0105016000017f 020a01 027576 036e6f77 0000 = link 3 Type
+    010401600000 020a01 027576 036e6f77 0000 = link 3 Type
+    # the first wrong import, and an import before an export
+    0105016000017f 021302 027576 036e6f77 0000 027577 036e6f77 0000 = link 3 Type
+    0105016000017f 020a01 027576 036e6f77 0000 070b01 0775765f6d61696e 0000 = link 3 Type
+    # uv_work of type [] to [], uv_main as a memory, and uv_works
+    010401600000 03020100 070b01 0775765f776f726b 0000 0a040102000b = link 4 Kind
+    0503010001 070b01 0775765f6d61696e 0200 = link 4 Kind
+    010401600000 03020100 070b01 0775765f6d61696e 0000 0a040102000b = accepted
+    010401600000 03020100 070c01 0875765f776f726b73 0000 0a040102000b = accepted
+    # an export before a segment
+    0503010000 070b01 0775765f6d61696e 0200 0b07010041000b0101 = link 4 Kind
+    # elements in a table of two
+    010401600000 03020100 0404017000 02 0908010041000b020000 0a040102000b = accepted
+    010401600000 03020100 0404017000 02 0908010041010b020000 0a040102000b = link 5 Segments
+    0404017000 02 0906010041020b00 = accepted
+    0404017000 02 0906010041030b00 = link 5 Segments
+    # bytes in a memory of one page
+    0503010001 0b090100 41ffff03 0b 0101 = accepted
+    0503010001 0b0a0100 41ffff03 0b 020101 = link 5 Segments
+    0503010001 0b080100 41808004 0b 00 = accepted
+    0503010001 0b080100 41818004 0b 00 = link 5 Segments
+    0503010001 0b070100 417f 0b 0101 = link 5 Segments
+";
+
+#[test]
+fn judges_imports_exports_and_segments(rt: HostRuntime) -> Result<(), Fail> {
+    check_sections(&rt, rt.alloc(), PARTS)
 }

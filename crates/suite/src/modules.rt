@@ -3,6 +3,7 @@
 use decode::decode;
 use imports::link;
 use std::alloc::{AllocError, Global};
+use std::process::Abort;
 use std::test::Fail;
 use validate::validate;
 
@@ -67,4 +68,25 @@ pub fn verdict(alloc: Global, bytes: Vec<u8>) -> Result<String, Fail> {
         Ok(_) => Ok(String::from_str(alloc, "accepted")?),
         Err(fault) => Ok(format!(in alloc; "link {} {fault}", fault.code())?),
     }
+}
+
+/// The two parts of a row, or none of a remark and of an empty line.
+pub fn parts_of(row: &str) -> Result<Option<(&str, &str)>, Fail> {
+    let row = row.trim();
+    if row.is_empty() || row.starts_with('#') {
+        return Ok(None);
+    }
+    Ok(Some(row.split_once(" = ").ok_or("a row of one part")?))
+}
+
+/// Each row has the sections of a module, and the verdict on it.
+pub fn check_sections(rt: &impl Abort, alloc: Global, rows: &str) -> Result<(), Fail> {
+    for row in rows.lines() {
+        let Some((sections, wanted)) = parts_of(row)? else {
+            continue;
+        };
+        let bytes = module_of(alloc, sections)?;
+        assert_eq!(rt; verdict(alloc, bytes)?.as_str(), wanted, "of {sections}");
+    }
+    Ok(())
 }

@@ -13,8 +13,8 @@ use Rattle.syntax.specs.declared.module.Mutability.TheVariants.{Var}
 use Rattle.syntax.specs.Code.{Code, Done, Plain, Block, Loop, If}
 use Rattle.validate.specs.declared.fault.ValidFault.{ValidFault}
 use Rattle.validate.specs.declared.fault.ValidFault.TheVariants as fault
-use Rattle.validate.specs.Typing.{Context, InstrTyped, Typed, inside, block_type, HasFunctionType}
-use Rattle.validate.specs.Height.{function_type, shape_of, type_or_none, greatest_height}
+use Rattle.validate.specs.Typing.{Context, InstrTyped, Typed, inside, block_type, HasFunctionType, type_of_function}
+use Rattle.validate.specs.Height.{shape_of, type_or_none, greatest_height}
 use Rattle.validate.specs.Rules.{Rule, Indexes, Labels, Alignments, Mutabilities, NamesAll, NamesLabels, IsAligned, SetsVariables, Keeps, KeepsType, Kept}
 use Rattle.validate.specs.Valid.{ValidFunc, ValidImport, ValidModule, body_context}
 use Rattle.validate.specs.Stack.{pushed}
@@ -109,7 +109,7 @@ is_typed m f v type e =
 has_few : (m : Contents) (i : Import) → ValidImport m i → HasFew m i
 has_few m i v type e = subst (λ (t : FuncType). length t.results ≤ 1) (same_some v.type type (slice_get m.types i.type_index) v.known e) v.few_results
 
-starts : (m : Contents) (s : Option ℕ) → IfSome s (λ f. HasFunctionType m f (record { params = []; results = [] })) → IfSome s (λ f. IsSome (function_type m f))
+starts : (m : Contents) (s : Option ℕ) → IfSome s (λ f. HasFunctionType m f (record { params = []; results = [] })) → IfSome s (λ f. IsSome (type_of_function m f))
 starts m None h = tt
 starts m (Some f) h = rw h.1 (rw h.2 refl)
 

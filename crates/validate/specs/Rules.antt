@@ -2,16 +2,18 @@
 use Rattle.std.specs.Prelude.{◌≡◌, ◌^◌, ◌≤◌, All, Some, IsSome, slice_get}
 use Rattle.syntax.specs.declared.types.BlockType.{BlockType}
 use Rattle.syntax.specs.declared.instruction.Instr.{Instr}
-use Rattle.syntax.specs.declared.instruction.Instr.TheVariants.{Br, BrIf, BrTable, Call, CallIndirect, LocalGet, LocalSet, LocalTee, GlobalGet, GlobalSet, Load, LoadNarrow, Store, StoreNarrow, MemorySize, MemoryGrow}
+use Rattle.syntax.specs.declared.instruction.Instr.TheVariants.{Br, BrIf, BrTable, Call, CallIndirect, LocalGet, LocalSet, LocalTee}
+use Rattle.syntax.specs.declared.instruction.Instr.TheVariants.{GlobalGet, GlobalSet, Load, LoadNarrow, Store, StoreNarrow, MemorySize}
+use Rattle.syntax.specs.declared.instruction.Instr.TheVariants.{MemoryGrow}
 use Rattle.syntax.specs.declared.module.Global.{Global}
 use Rattle.syntax.specs.declared.module.Mutability.TheVariants.{Var}
 use Rattle.syntax.specs.Code.{Code, Done, Plain, Block, Loop, If}
-use Rattle.validate.specs.Typing.{Context, inside, block_type, bytes_of_type, bytes_of_width}
-use Rattle.validate.specs.Height.{function_type, shape_of}
+use Rattle.validate.specs.Typing.{Context, inside, block_type, bytes_of_type, bytes_of_width, type_of_function}
+use Rattle.validate.specs.Height.{shape_of}
 
 -- each index of a type, function, table, memory, global or local names something
 abbrev pub NamesAll : Context → Instr → Type 0
-NamesAll c (Call f) = IsSome (function_type c.module_contents f)
+NamesAll c (Call f) = IsSome (type_of_function c.module_contents f)
 NamesAll c (CallIndirect t) = IsSome c.module_contents.table × IsSome (slice_get c.module_contents.types t)
 NamesAll c (LocalGet x) = IsSome (slice_get c.locals x)
 NamesAll c (LocalSet x) = IsSome (slice_get c.locals x)

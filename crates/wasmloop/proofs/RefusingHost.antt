@@ -8,8 +8,7 @@ use Rattle.syntax.specs.declared.module.FuncType.{FuncType}
 use Rattle.syntax.specs.declared.module.Func.{Func}
 use Rattle.syntax.specs.declared.module.Import.{Import}
 use Rattle.validate.specs.Valid.{ValidModule, ValidImport}
-use Rattle.validate.specs.Typing.{function_types}
-use Rattle.interp.specs.Step.{type_of_function, type_with}
+use Rattle.validate.specs.Typing.{function_types, type_of_function}
 use Rattle.interp.specs.Hosting.{Names}
 use Rattle.wasmloop.specs.Refusing.{nothing, type_of_import, types_of_imports}
 

@@ -16,6 +16,13 @@ run_more [] (e ∷ told) w mid w' s entry run h = absurd run
 run_more (x ∷ steps) [] w mid w' s entry run h = absurd run
 run_more (x ∷ steps) (e ∷ told) w mid w' s entry run h = (run.0, run.1, run_more steps told run.0 mid w' s entry run.2 h)
 
+-- more steps from where some ended
+pub runs_join : (w mid w' : World) (steps more : List Step) (told lines : List Entry) → WorldRun w steps told mid → WorldRun mid more lines w' → WorldRun w (steps ++ more) (told ++ lines) w'
+runs_join w mid w' [] more [] lines run behind = subst (λ x. WorldRun x more lines w') run behind
+runs_join w mid w' [] more (e ∷ told) lines run behind = absurd run
+runs_join w mid w' (s ∷ steps) more [] lines run behind = absurd run
+runs_join w mid w' (s ∷ steps) more (e ∷ told) lines run behind = (run.0, run.1, runs_join run.0 mid w' steps more told lines run.2 behind)
+
 -- some steps were taken, and what they told stands behind the old entries
 abbrev pub HasRun : World → List Step → (old : List Entry) → World → (new : List Entry) → Type 0
 HasRun w steps old w' new = (told : List Entry) × (new ≡ old ++ told) × WorldRun w steps told w'

@@ -68,3 +68,9 @@ IsAfterLast =
     → (behind : List Step) (more : List Line) (w' : World) (run : WorldRun mid behind more w')
     → (l request : ℕ) → is_after l request entry ≡ true
     → WasCancelled l request (entry ∷ more) (step_calls l w s entry mid step ++ guest_calls l mid behind more w' run) → ⊥
+
+-- a run, and a run from where it ended, are one run
+abbrev pub RunsJoin : Type 0
+RunsJoin =
+    (w mid w' : World) (steps more : List Step) (log lines : List Line) → WorldRun w steps log mid → WorldRun mid more lines w'
+    → WorldRun w (steps ++ more) (log ++ lines) w'

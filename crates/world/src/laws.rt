@@ -1,7 +1,7 @@
 //! Laws of the runs of a world. Their functions do nothing: each contract is the law.
 
 ghost use Rattle.world.specs.Histories.{IsHistory};
-ghost use Rattle.world.specs.Laws.{IsAfterOnce, IsAfterOwn, IsAfterLast};
+ghost use Rattle.world.specs.Laws.{IsAfterOnce, IsAfterOwn, IsAfterLast, RunsJoin};
 
 use desk::Desk;
 
@@ -16,3 +16,9 @@ pub fn after_once()
 {
     phases::laws::after_once::<Desk>();
 }
+
+/// A run of some steps, and a run of more from the world in which it ended, are one run of them all. So a world that
+/// stopped with a fault and went on has one run behind it.
+pub fn runs_join()
+    ensures { RunsJoin }
+{}

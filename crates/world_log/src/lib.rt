@@ -1,4 +1,7 @@
 //! The steps that a world of loops and workers takes, and the log that it keeps of them.
+//!
+//! `Step` is one of the nine steps, `Entry` what one did. To a contract a `Log` is its entries, and for how many more there
+//! is room: `reserve` makes room before a step, so that `push_reserved` behind it takes no memory.
 #![tactic(auto)]
 
 mod entry;

@@ -1,10 +1,12 @@
 use Rattle.std.proofs.Common.{◌≡◌, ◌≤◌, ◌+◌, length, vec_capacity}
+use Rattle.serve.specs.Places.{EachFrom}
+use Rattle.serve.specs.Promises.{IsThreadOf}
 use Rattle.serve.proofs.threads.start_loops.Given as goal
 
 abbrev pub invariant-loop-place : goal.invariant-loop-place
 invariant-loop-place g l =
-    (length l.started.items + length l.places.items ≤ vec_capacity l.started)
-    × (length l.started.items + length l.places.items ≡ length l.fn.started.items + length l.fn.places.items)
-
-abbrev pub decreases-loop-place : goal.decreases-loop-place
-decreases-loop-place g l = length l.places.items
+    let rest = l.place-iterator.rest.items in
+    (length l.started.items + length rest ≤ vec_capacity l.started)
+    × (length l.started.items + length rest ≡ length l.fn.places.items)
+    × EachFrom (λ k p. p.seat.loop_no ≡ k) (length l.started.items) rest
+    × EachFrom (λ k h. IsThreadOf l.plan k h.promise) 0 l.started.items

@@ -10,6 +10,3 @@ returns-in_err-tables-clause-invalid c =
     let p = err_from_is_err_and c.from_residual.result c.from_residual.ensures.1 in
     let refutes : Refutes m e = rw (← c.contents.ensures.value) c.in_err-tables.ensures.refused in
     rw (p.1, p.2) (refuted m e refutes)
-
-pub invariant_of-result : goal.invariant_of-result
-invariant_of-result c = rw (← c.contents.ensures.value) (c.in_ok-tables.ensures.valid, c.in_ok-tables.ensures.told)

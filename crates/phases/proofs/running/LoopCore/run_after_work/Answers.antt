@@ -1,7 +1,7 @@
 use Rattle.std.proofs.Common.{refl, sym, subst, ◌∙◌, Some}
 use Rattle.std.specs.Arc.{arc_value}
 use Rattle.syntax.specs.Loaded.{Loaded}
-use Rattle.validate.specs.Height.{function_type}
+use Rattle.validate.specs.Typing.{type_of_function}
 use Rattle.imports.specs.declared.entry.Entry.TheVariants.{AfterWork as AfterWorkExport}
 use Rattle.imports.specs.Linking.{ExportsFunction}
 use Rattle.imports.specs.Uv.{name_of_entry, type_of_entry}
@@ -46,7 +46,7 @@ invariant_of-self g c =
 
 pub call-requires-clause-takes : goal.call-requires-clause-takes
 call-requires-clause-takes g c =
-    let typed = subst (λ (x : Loaded). function_type x.contents c.in-Some.function ≡ Some (type_of_entry AfterWorkExport)) (c.deref.ensures ∙ c.self.invariant.same) c.in-Some.ensures.typed in
+    let typed = subst (λ (x : Loaded). type_of_function x.contents c.in-Some.function ≡ Some (type_of_entry AfterWorkExport)) (c.deref.ensures ∙ c.self.invariant.same) c.in-Some.ensures.typed in
     takes (setting_of c.self.inside.guest.setting).loaded.contents c.in-Some.function (type_of_entry AfterWorkExport) _ typed refl
 
 pub returns-clause-step : goal.returns-clause-step

@@ -5,4 +5,7 @@ use Rattle.serve.proofs.record.Record.next_order.Goals as goal
 pub invariant_of-self : goal.invariant_of-self
 invariant_of-self c =
     let r = c.args.self.now in
-    record { told = does_order r.core.0 c.next_order.new.self.0 r.core.1 c.next_order.new.self.1 r.emits.items r.emits.items c.next_order.ensures.setting c.next_order.ensures.core refl r.told }
+    record {
+      few = r.few;
+      told = does_order r.core.0 c.next_order.new.self.0 r.core.1 c.next_order.new.self.1 r.ran r.emits.items r.emits.items c.next_order.ensures.setting c.next_order.ensures.core refl r.told;
+    }

@@ -1,0 +1,58 @@
+-- Lists whose elements are numbered in order.
+use Rattle.std.proofs.Common.{Result, Ok, Err, OnOk, ◌≡◌, ℕ, zero, suc, ◌+◌, ◌<◌, List, [], ◌∷◌, ◌++◌, length, Some, refl, sym, ap, subst, ◌∙◌, arith}
+use Rattle.std.proofs.lemmas.List.{length_push}
+use Rattle.std.specs.List.{slice_get}
+use Rattle.serve.specs.Places.{EachFrom}
+
+module _ {A : Type 0} (P : ℕ → A → Type 0) where
+  pub from_push : (n : ℕ) (xs : List A) (x : A) → EachFrom P n xs → P (n + length xs) x → EachFrom P n (xs ++ x ∷ [])
+  from_push n [] x h last = (subst (λ k. P k x) (omega arith) last, tt)
+  from_push n (y ∷ ys) x h last = (h.0, from_push (suc n) ys x h.1 (subst (λ k. P k x) (omega arith) last))
+
+  from_get : (n : ℕ) (xs : List A) (k : ℕ) (x : A) → EachFrom P n xs → slice_get xs k ≡ Some x → P (n + k) x
+  from_get n [] k x h e = absurd (cc)
+  from_get n (y ∷ ys) zero x h e = let same : y ≡ x = cc in subst (λ z. P (n + zero) z) same (subst (λ k. P k y) (omega arith) h.0)
+  from_get n (y ∷ ys) (suc k) x h e = subst (λ i. P i x) (omega arith) (from_get (suc n) ys k x h.1 e)
+
+  -- what stands at each place
+  pub each_get : (xs : List A) (k : ℕ) (x : A) → EachFrom P 0 xs → slice_get xs k ≡ Some x → P k x
+  each_get xs k x h e = subst (λ i. P i x) (omega arith) (from_get 0 xs k x h e)
+
+  from_each : (n : ℕ) (xs : List A) → ((k : ℕ) → k < length xs → (x : A) × (slice_get xs k ≡ Some x) × P (n + k) x) → EachFrom P n xs
+  from_each n [] h = tt
+  from_each n (y ∷ ys) h =
+      let first = h 0 (omega arith) in
+      let same : first.0 ≡ y = (let it = sym first.1 in cc) in (
+        subst (λ k. P k y) (omega arith) (subst (λ z. P (n + 0) z) same first.2),
+        from_each (suc n) ys (λ k below. let it = h (suc k) (omega arith) in (it.0, it.1, subst (λ i. P i it.0) (omega arith) it.2)),
+      )
+
+  pub all_from : (xs : List A) → ((k : ℕ) → k < length xs → (x : A) × (slice_get xs k ≡ Some x) × P k x) → EachFrom P 0 xs
+  all_from xs h = from_each 0 xs (λ k below. let it = h k below in (it.0, it.1, subst (λ i. P i it.0) (omega arith) it.2))
+
+  pub from_first : (n : ℕ) (xs : List A) (x : A) (more : List A) → xs ≡ x ∷ more → EachFrom P n xs → P n x
+  from_first n xs x more e h = (subst (EachFrom P n) e h).0
+
+  pub from_rest : (n m : ℕ) (xs : List A) (x : A) (more : List A) → xs ≡ x ∷ more → m ≡ n + 1 → EachFrom P n xs → EachFrom P m more
+  from_rest n m xs x more e next h =
+      let up : suc n ≡ m = omega arith in
+      subst (λ k. EachFrom P k more) up (subst (EachFrom P n) e h).1
+
+  -- one more at the end, under its place
+  pub push_at : (xs : List A) (x : A) (ys : List A) → ys ≡ xs ++ x ∷ [] → EachFrom P 0 xs → P (length xs) x → EachFrom P 0 ys
+  push_at xs x ys e h last = subst (EachFrom P 0) (sym e) (from_push 0 xs x h (subst (λ k. P k x) (omega arith) last))
+
+-- what follows where there is no error
+pub on_ok : {T E : Type 0} (P Q : Type 0) (r : Result T E) → (P → Q) → OnOk r P → OnOk r Q
+on_ok P Q (Ok x) f p = f p
+on_ok P Q (Err e) f p = tt
+
+pub on_both : {T E : Type 0} (P Q R : Type 0) (r : Result T E) → (P → Q → R) → OnOk r P → OnOk r Q → OnOk r R
+on_both P Q R (Ok x) f p q = f p q
+on_both P Q R (Err e) f p q = tt
+
+pub longer_by : {A : Type 0} (xs : List A) (x : A) (ys : List A) → ys ≡ xs ++ x ∷ [] → length ys ≡ length xs + 1
+longer_by xs x ys e = ap length e ∙ length_push xs x
+
+pub shorter_by : {A : Type 0} (xs : List A) (x : A) (more : List A) → xs ≡ x ∷ more → length xs ≡ length more + 1
+shorter_by xs x more e = subst (λ ys. length ys ≡ length more + 1) (sym e) (omega arith)

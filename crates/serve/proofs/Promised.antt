@@ -1,0 +1,15 @@
+-- What a thread that keeps its promise gives.
+use Rattle.std.proofs.Common.{◌≡◌, ℕ, subst}
+use Rattle.std.specs.Arc.{arc_value}
+use Rattle.serve.specs.declared.ended.Served.{Served}
+use Rattle.serve.specs.declared.plan.OfLoop.{OfLoop}
+use Rattle.serve.specs.declared.plan.Plan.{Plan}
+use Rattle.serve.specs.Answers.{IsServed}
+use Rattle.serve.specs.Histories.{setting_at}
+use Rattle.serve.specs.Promises.{IsThreadOf}
+
+pub served_of : (plan : Plan) (k : ℕ) (promise : OfLoop) (s : Served) → IsThreadOf plan k promise
+    → IsServed (setting_at (arc_value promise.plan.now.module) promise.plan.now.serving promise.loop_no) s → IsServed (setting_at (arc_value plan.module) plan.serving k) s
+served_of plan k promise s h served =
+    subst (λ n. IsServed (setting_at (arc_value plan.module) plan.serving n) s) h.number
+    (subst (λ p. IsServed (setting_at (arc_value p.module) p.serving promise.loop_no) s) h.plan_is served)

@@ -1,0 +1,10 @@
+use Rattle.std.proofs.Common.{◌≡◌, ◌<◌}
+use Rattle.serve.specs.declared.ended.TheConstants.{MOST_CALLBACKS}
+use Rattle.serve.proofs.record.Record.step_through.Given as goal
+
+abbrev pub invariant-loop : goal.invariant-loop
+invariant-loop g l =
+    (goal.iterator-loop g).can_next l.iterator'
+    × (goal.iterator-loop g).is_finite l.iterator'
+    × (l.self.core.0 ≡ l.fn.self.core.0)
+    × (l.self.ran < MOST_CALLBACKS)

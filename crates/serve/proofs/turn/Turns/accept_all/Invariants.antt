@@ -1,0 +1,9 @@
+use Rattle.std.proofs.Common.{◌≡◌}
+use Rattle.serve.proofs.turn.Turns.accept_all.Given as goal
+
+abbrev pub invariant-loop : goal.invariant-loop
+invariant-loop g l =
+    (goal.iterator-loop g).can_next l.iterator'
+    × (goal.iterator-loop g).is_finite l.iterator'
+    × (l.self.told.core.0 ≡ l.fn.self.told.core.0)
+    × (l.self.told.ran ≡ l.fn.self.told.ran)

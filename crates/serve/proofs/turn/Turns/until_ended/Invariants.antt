@@ -1,0 +1,10 @@
+use Rattle.std.proofs.Common.{◌≡◌, ◌<◌}
+use Rattle.serve.specs.declared.ended.TheConstants.{MOST_CALLBACKS}
+use Rattle.serve.proofs.turn.Turns.until_ended.Given as goal
+
+abbrev pub invariant-loop : goal.invariant-loop
+invariant-loop g l =
+    (goal.iterator-loop g).can_next l.iterator'
+    × (goal.iterator-loop g).is_finite l.iterator'
+    × (l.self.told.core.0 ≡ l.fn.self.told.core.0)
+    × (l.self.told.ran < MOST_CALLBACKS)

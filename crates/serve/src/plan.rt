@@ -1,0 +1,92 @@
+// What all loops are made of, and the run of one.
+ghost use Rattle.std.specs.Prelude.{◌≡◌, IfOk};
+ghost use Rattle.std.specs.Arc.{arc_value};
+ghost use Rattle.serve.specs.Answers.{IsServed};
+ghost use Rattle.serve.specs.Histories.{setting_at};
+
+use crate::ended::Served;
+use crate::place::LoopPlace;
+use crate::settings::Serving;
+use crate::task::Task;
+use crate::turn::Turns;
+use imports::Linked;
+use marks::Marks;
+use std::alloc::{AllocError, Global};
+use std::sync::atomic::{AtomicBool, Ordering};
+use std::sync::{Arc, Wait};
+use std::thread::Promise;
+
+/// What all loops are made of, and whether one of them found no memory.
+#[derive(Drop)]
+pub struct Plan {
+    pub alloc: Global,
+    pub module: Arc<Linked>,
+    pub serving: Serving,
+    ran_out: AtomicBool,
+}
+
+/// What comes of a loop's thread.
+pub type Outcome = Result<Served, AllocError>;
+
+/// That what comes of a thread is said of this loop.
+#[derive(Clone, Copy)]
+pub struct OfLoop<'a> {
+    pub plan: &'a Plan,
+    pub loop_no: u32,
+}
+
+impl<'a> Promise<Outcome> for OfLoop<'a> {
+    ghost kept_by = { λ p r. IfOk r (λ s. IsServed (setting_at (arc_value p.plan.now.module) p.plan.now.serving p.loop_no) s) };
+}
+
+impl Plan {
+    /// No loop has found no memory.
+    pub fn new(alloc: Global, module: Arc<Linked>, serving: Serving) -> Plan
+        ensures module { result.module ≡ «module» }
+        ensures serving { result.serving ≡ serving }
+    {
+        Plan {
+            alloc,
+            module,
+            serving,
+            ran_out: AtomicBool::new(false),
+        }
+    }
+
+    /// Whether a loop has found no memory.
+    pub fn ran_out(&self) -> bool {
+        self.ran_out.load(Ordering::SeqCst)
+    }
+
+    /// One loop, until it has ended.
+    pub fn run<R: Wait, M: Fn(Task) -> Result<J, AllocError>, J: Drop>(
+        &self,
+        rt: &R,
+        place: LoopPlace<'_, J>,
+        make: &M,
+    ) -> Outcome
+        requires make { M.IsAlwaysCallable make.now }
+        ensures { IfOk result (λ s. IsServed (setting_at (arc_value self.now.module) self.now.serving place.entry.seat.loop_no) s) }
+    {
+        let outcome = self.turns(rt, place, make);
+        if outcome.is_err() {
+            self.ran_out.store(true, Ordering::SeqCst);
+        }
+        outcome
+    }
+
+    fn turns<R: Wait, M: Fn(Task) -> Result<J, AllocError>, J: Drop>(
+        &self,
+        rt: &R,
+        place: LoopPlace<'_, J>,
+        make: &M,
+    ) -> Outcome
+        requires make { M.IsAlwaysCallable make.now }
+        ensures { IfOk result (λ s. IsServed (setting_at (arc_value self.now.module) self.now.serving place.entry.seat.loop_no) s) }
+    {
+        let (marks, taker, _senders) = Marks::new(self.alloc, 0)?;
+        let module = Arc::try_clone(&self.module)?;
+        let turns = Turns::new(self.alloc, module, &marks, taker, place, self.serving)?;
+        turns.run(rt, make)
+    }
+}

@@ -6,4 +6,3 @@ pub mod Storing
 pub mod Fresh
 pub mod Lending
 pub mod Frames
-pub mod Opened

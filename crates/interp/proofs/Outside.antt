@@ -1,5 +1,5 @@
 -- Calls of functions from outside.
-use Rattle.std.proofs.Common.{◌≡◌, ℕ, zero, suc, ◌+◌, ◌≤◌, List, [], ◌∷◌, ◌++◌, length, reverse, Some, None, refl, sym, ap, ◌∙◌, subst, arith}
+use Rattle.std.proofs.Common.{◌≡◌, ℕ, ◌+◌, ◌≤◌, List, [], ◌∷◌, ◌++◌, length, reverse, Some, None, refl, sym, ap, ◌∙◌, subst, arith}
 use Rattle.std.specs.Prelude.{slice_get, Option}
 use Rattle.std.proofs.lemmas.Option.{slice_get_within, get_or_from_slice_get}
 use Rattle.syntax.specs.declared.types.Value.{Value}
@@ -31,12 +31,16 @@ use Rattle.interp.proofs.HeightsSound.{starts_within}
 use Rattle.interp.proofs.HeightsOfRuns.{few_locals_of}
 use Rattle.std.proofs.lemmas.List.{length-map}
 use Rattle.syntax.specs.declared.types.ValType.{ValType}
-use Rattle.interp.proofs.Ties.{enters_first}
-use Rattle.interp.proofs.CallsMade.{is_defined, arguments}
+use Rattle.interp.proofs.StandingCalls.{starts}
+use Rattle.interp.specs.Bodies.{bodies}
+use Rattle.instance.specs.declared.calls.OpenCall.{OpenCall}
+use Rattle.validate.specs.declared.table.SideTable.{SideTable}
+use Rattle.validate.specs.Targets.{AreTables}
+use Rattle.interp.proofs.CallsMade.{is_defined, arguments, are_bodies}
 
 -- a machine at no operation, with these arguments
 abbrev pub waiting : List Value → Machine
-waiting args = record { function = 0; pc = 0; locals = held [] (under [] 0); operands = reverse args ++ []; controls = [] }
+waiting args = record { function = 0; pc = 0; locals = held [] (under [] 0); operands = reverse args ++ []; calls = [] }
 
 module _ (m : Contents) (function index : ℕ) (args : List Value) (e : function ≡ length m.imports + index) (takes : TakesArguments m function args) where
   pub few_args : ValidModule m → length args ≤ 256
@@ -49,9 +53,9 @@ module _ (m : Contents) (function index : ℕ) (args : List Value) (e : function
   can_start v =
       let d = is_defined m function index takes.type takes.known e in
       let a = arguments m args [] (reverse args ++ []) takes.type.params takes.fit refl in
-      record { type = takes.type; func = d.0; found = d.1; known = d.2; enough = a.2; below_limit = omega arith; few_locals = few_locals_of m v takes.type d.0 index d.1 d.2; controls = omega arith; locals = omega arith }
+      record { type = takes.type; func = d.0; found = d.1; known = d.2; enough = a.2; below_limit = omega arith; few_locals = few_locals_of m v takes.type d.0 index d.1 d.2; calls = omega arith; locals = omega arith }
 
-  module _ (v : ValidModule m) (new : Machine) (en : Entered m index (waiting args) new) where
+  module _ (v : ValidModule m) (tables : List SideTable) (agree : AreTables m tables) (new : Machine) (en : Entered m index (waiting args) new) where
     func : Func
     func = (is_defined m function index takes.type takes.known e).0
 
@@ -66,19 +70,20 @@ module _ (m : Contents) (function index : ℕ) (args : List Value) (e : function
     is_there : IsDefined m function takes.type func
     is_there = (index, e, found, known)
 
-    stands : Stands m new (entered takes.type func args [])
+    stands : Stands m tables new (entered takes.type func args [])
+    unfolding is_there
     stands =
         let a = arguments m args [] (reverse args ++ []) takes.type.params takes.fit refl in
         let q : new ≡ in_function index takes.type func (waiting args) = en takes.type func found known in
-        let one : 0 + 1 ≡ suc zero = refl in
-        let t : Stands m (in_function index takes.type func (waiting args)) (entered takes.type func args []) =
-        rw (a.0, a.1, found) (enters_first m 0 0 index 0 args takes.type func found) in
-        subst (λ (x : Machine). Stands m x (entered takes.type func args [])) (sym q) t
+        let c : OpenCall = record { arity = length takes.type.results; height = 0; function = 0; pc = 0; base = 0 } in
+        let t : Stands m tables (in_function index takes.type func (waiting args)) (entered takes.type func args []) =
+        rw (a.0, a.1) (starts m (bodies m tables) v (are_bodies m tables agree) function takes.type func args c is_there refl refl) in
+        subst (λ (x : Machine). Stands m tables x (entered takes.type func args [])) (sym q) t
 
     few : length takes.type.results ≤ 16
     few = subst (λ (t : FuncType). length t.results ≤ 16) (get_or_from_slice_get m.types func.type_index takes.type takes.type known) (v.types func.type_index takes.type (slice_get_within m.types func.type_index takes.type known))
 
-    pub is_typed : (s : Store) → IsStoreOf m s → IsTypedIn m s new
+    pub is_typed : (s : Store) → IsStoreOf m s → IsTypedIn m tables s new
     is_typed s fit = record {
       answers = takes.type.results;
       few = few;
@@ -88,7 +93,7 @@ module _ (m : Contents) (function index : ℕ) (args : List Value) (e : function
       typed = starts_within m 128 function takes.type func args v is_there takes.fit (omega arith);
     }
 
-    module _ {H : Type 0} (depth fuel : ℕ) (moves : H → HostCall → H → Type 0) (s t : Store) (before after : H) (ended : Ended) (fit : IsStoreOf m s) (ends : EndsSo m depth moves fuel s before new ended t after) where
+    module _ {H : Type 0} (depth fuel : ℕ) (moves : H → HostCall → H → Type 0) (s t : Store) (before after : H) (ended : Ended) (fit : IsStoreOf m s) (ends : EndsSo m tables depth moves fuel s before new ended t after) where
       end : EndSo m depth moves takes.type.results fuel s before (entered takes.type func args []) ended t after
       end = ends takes.type.results (entered takes.type func args []) fit stands (starts_within m 128 function takes.type func args v is_there takes.fit (omega arith))
 

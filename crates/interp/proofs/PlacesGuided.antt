@@ -10,13 +10,11 @@ use Rattle.validate.specs.Typing.{Context, inside, Typed}
 use Rattle.validate.specs.Height.{Effect, Changes, Ends, effect_of, after_effect}
 use Rattle.validate.specs.declared.table.Target.{Target}
 use Rattle.validate.specs.Targets.{size, Agrees}
+use Rattle.validate.specs.Writing.{target}
 use Rattle.interp.specs.Heights.{counts, Follows}
 use Rattle.interp.specs.Places.{Body, keeps, ClosesTo, Guided}
 use Rattle.interp.proofs.Lists.{length-pushed}
 use Rattle.interp.proofs.Heights.{Agrees as SameEffect, agrees, arities}
-
-abbrev target : (pc keep height : ℕ) → Target
-target pc keep height = record { pc = pc; keep = keep; height = height }
 
 -- the operation at a place, and what is behind it
 first_at : (ops : List Op) (at : ℕ) (o : Op) (rest : List Op) → drop at ops ≡ o ∷ rest → (slice_get ops at ≡ Some o) × (drop (at + 1) ops ≡ rest)

@@ -13,7 +13,7 @@ use Rattle.syntax.specs.declared.module.FuncType.{FuncType}
 use Rattle.syntax.specs.Code.{Code, Done, Plain, Block, Loop, If}
 use Rattle.validate.specs.Height.{Effect, Changes, Ends, named, calls}
 use Rattle.validate.specs.declared.table.Target.{Target}
-use Rattle.validate.specs.Targets.{size, Lists, Tells}
+use Rattle.validate.specs.Targets.{pc_of, size, Lists, Tells}
 use Rattle.instance.specs.Store.{Store as Memory_and_globals}
 use Rattle.interp.specs.Configuration.{Context, Label, Frame, locals_of, with_locals, going_on, receiving, continuing, branched, returned}
 use Rattle.validate.specs.Typing.{block_type, type_of_function}
@@ -22,7 +22,7 @@ use Rattle.std.proofs.lemmas.Option.{slice_get_past}
 use Rattle.interp.specs.Step.{block, Goes, Traps, Stuck, Turn, Leaves, Fails, Lacks, turn, turned, plain, at_code, next, on_contexts, label_for, takes_topmost, call_typed, left_with, call_element, same_valtypes, same_type, entering, chosen}
 use Rattle.interp.specs.Typed.{code_of, operands_of}
 use Rattle.interp.specs.Heights.{counts, Follows, height_of}
-use Rattle.interp.specs.Places.{Body, Place, keeps, ClosesTo, Guided, GoesOn, Over, IsPlaced, pc_of, jumped, stepped, Leads}
+use Rattle.interp.specs.Places.{Body, Place, keeps, ClosesTo, Guided, GoesOn, Over, IsPlaced, jumped, stepped, Leads}
 use Rattle.interp.proofs.HeightsOfTurns.{Counts, turn_counts}
 use Rattle.interp.proofs.HeightsKept.{at_least, both_true, same_lengths, with_locals-height, tested}
 

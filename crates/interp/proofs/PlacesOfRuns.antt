@@ -8,13 +8,14 @@ use Rattle.syntax.specs.declared.instruction.Op.TheVariants as op
 use Rattle.syntax.specs.declared.module.Contents.{Contents}
 use Rattle.syntax.specs.declared.module.FuncType.{FuncType}
 use Rattle.syntax.specs.declared.module.Func.{Func}
-use Rattle.syntax.specs.Code.{Code, Done, Plain, Block, Loop, If, operations_to}
+use Rattle.syntax.specs.Code.{Code, Done, Plain, Block, Loop, If}
 use Rattle.validate.specs.Stack.{pushed}
 use Rattle.validate.specs.Typing.{type_of}
 use Rattle.validate.specs.Valid.{ValidModule, body_context}
 use Rattle.validate.specs.declared.table.Target.{Target}
 use Rattle.validate.specs.Targets.{size}
 use Rattle.instance.specs.Store.{Store, value_of}
+use Rattle.validate.proofs.Tables.{length-operations}
 use Rattle.interp.specs.Configuration.{Context, Frame, entered, receiving}
 use Rattle.interp.specs.Step.{Move, Calls, next}
 use Rattle.interp.specs.Run.{as_operands, IsDefined}
@@ -26,22 +27,6 @@ use Rattle.interp.proofs.Entering.{valid_function, body_typed}
 use Rattle.interp.proofs.HeightsOfRuns.{same_type}
 use Rattle.interp.proofs.PlacesKept.{received, leads}
 use Rattle.interp.proofs.PlacesGuided.{guided}
-
--- a sequence has as many operations as its size says
-length-operations : (close : Op) (c : Code) (after : List Op) → length (operations_to close c after) ≡ size c + length after
-length-operations close Done after = omega arith
-length-operations close (Plain i rest) after = omega (arith, length-operations close rest after)
-length-operations close (Block t body rest) after =
-    omega (arith, length-operations op.End body (operations_to close rest after), length-operations close rest after)
-length-operations close (Loop t body rest) after =
-    omega (arith, length-operations op.End body (operations_to close rest after), length-operations close rest after)
-length-operations close (If t first second rest) after =
-    omega (
-      arith,
-      length-operations op.Else first (operations_to op.End second (operations_to close rest after)),
-      length-operations op.End second (operations_to close rest after),
-      length-operations close rest after,
-    )
 
 some_size : (c : Code) → (n : ℕ) × (size c ≡ n + 1)
 some_size Done = (0, refl)

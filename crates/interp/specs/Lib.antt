@@ -10,14 +10,12 @@ pub mod HeightsTyped
 pub mod Places
 pub mod Room
 pub mod Turning
-pub mod Search
 pub mod Plainly
-pub mod Shapes
 pub mod Running
 pub mod Calling
 pub mod Hosting
 pub mod Invoking
 pub mod Moving
-pub mod Tie
+pub mod Bodies
 pub mod Standing
 pub mod Jumping

@@ -1,12 +1,13 @@
 // Which function a call is of (WebAssembly Core 1.0, 4.4.7).
 
-ghost use Rattle.std.specs.Prelude.{◌≡◌, ◌+◌, Some, slice_get};
+ghost use Rattle.std.specs.Prelude.{◌≡◌, ◌+◌, List, Some, slice_get};
 ghost use Rattle.std.specs.Option.{option_copied};
 ghost use Rattle.syntax.specs.declared.instruction.Op.TheVariants as op;
 ghost use Rattle.syntax.specs.declared.instruction.Instr.TheVariants as instr;
+ghost use Rattle.validate.specs.declared.table.SideTable.{SideTable as Table};
 ghost use Rattle.instance.specs.Store.{Store};
 ghost use Rattle.interp.specs.Step.{same_type};
-ghost use Rattle.interp.specs.Tie.{body_at};
+ghost use Rattle.interp.specs.Bodies.{op_before};
 ghost use Rattle.interp.specs.Moving.{Does};
 ghost use Rattle.interp.specs.Jumping.{Chooses};
 
@@ -55,8 +56,8 @@ fn function_at(
 
 /// Calls a function: its caller goes on behind the call.
 pub fn call_direct(contents: &Contents, machine: &mut Machine, function: u32) -> Moved
-    requires { slice_get (body_at contents.now machine.old.function) machine.old.pc ≡ Some (op.Plain (instr.Call function)) }
-    ensures { (s : Store) → Does contents.now 1 result machine.old machine.new s s }
+    requires { op_before contents.now machine.old ≡ Some (op.Plain (instr.Call function)) }
+    ensures { (tables : List Table) (s : Store) → Does contents.now tables 1 result machine.old machine.new s s }
 {
     let ops = body(contents, machine.function);
     let at = machine.pc;
@@ -72,8 +73,8 @@ pub fn call_indirect(
     machine: &mut Machine,
     type_index: u32,
 ) -> Moved
-    requires { slice_get (body_at contents.now machine.old.function) machine.old.pc ≡ Some (op.Plain (instr.CallIndirect type_index)) }
-    ensures { Does contents.now 1 result machine.old machine.new state.now state.now }
+    requires { op_before contents.now machine.old ≡ Some (op.Plain (instr.CallIndirect type_index)) }
+    ensures { (tables : List Table) → Does contents.now tables 1 result machine.old machine.new state.now state.now }
 {
     let ops = body(contents, machine.function);
     let at = machine.pc;

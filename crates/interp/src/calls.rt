@@ -2,16 +2,17 @@
 
 ghost use Rattle.std.specs.Prelude.{◌≡◌, ◌<◌, ◌≤◌, length};
 ghost use Rattle.validate.specs.Valid.{ValidModule};
+ghost use Rattle.validate.specs.Targets.{AreTables};
 ghost use Rattle.interp.specs.Calling.{CanEnter, Entered, IsAtCall, CallDone, IsAtImport, Asks};
 ghost use Rattle.interp.specs.Hosting.{Names};
 
 use crate::host::{Args, Host};
 use crate::trap::TrapCode;
-use instance::controls::{Control, OpenBlock, OpenCall, Resume};
+use instance::calls::OpenCall;
 use instance::machine::Machine;
 use instance::state::State;
 use syntax::module::Contents;
-use validate::type_of_function;
+use validate::{SideTable, type_of_function};
 
 /// What a step that costs fuel did: the run goes on, it trapped, or a call would have opened one more than the limit.
 #[derive(Clone, Copy)]
@@ -39,18 +40,13 @@ pub fn enter_function(contents: &Contents, machine: &mut Machine, index: usize)
     machine.locals.enter(args, func.locals.as_slice());
     machine.operands.discard(params);
     let height = machine.operands.len();
-    machine.controls.push(Control::Call(OpenCall {
+    machine.calls.push(OpenCall {
         arity,
         height,
         function: machine.function,
         pc: machine.pc,
         base,
-    }));
-    machine.controls.push(Control::Block(OpenBlock {
-        resume: Resume::At(func.body.as_slice().len()),
-        arity,
-        height,
-    }));
+    });
     machine.function = index;
     machine.pc = 0;
 }
@@ -84,6 +80,7 @@ pub fn ask_host<H: Host>(
 /// entered where fewer calls than the limit stand open.
 pub fn call<H: Host>(
     contents: &Contents,
+    tables: &[SideTable],
     state: &mut State,
     host: &mut H,
     machine: &mut Machine,
@@ -92,9 +89,10 @@ pub fn call<H: Host>(
 ) -> Stepped
     requires valid { ValidModule contents.now }
     requires names { Names contents.now (H.types host.old) }
-    requires at { IsAtCall contents.now state.old function machine.old }
+    requires agree { AreTables contents.now tables.now }
+    requires at { IsAtCall contents.now tables.now state.old function machine.old }
     requires deep { depth ≤ 128 }
-    ensures done { CallDone contents.now depth H.moves state.old host.old function machine.old result state.new host.new machine.new }
+    ensures done { CallDone contents.now tables.now depth H.moves state.old host.old function machine.old result state.new host.new machine.new }
     ensures types { H.types host.new ≡ H.types host.old }
 {
     let imports = contents.imports.len();

@@ -2,6 +2,7 @@
 
 ghost use Rattle.std.specs.Prelude.{◌≡◌, ◌≤◌, ◌<◌, length};
 ghost use Rattle.validate.specs.Valid.{ValidModule};
+ghost use Rattle.validate.specs.Targets.{AreTables};
 ghost use Rattle.interp.specs.Hosting.{Names};
 ghost use Rattle.interp.specs.Run.{as_operands};
 ghost use Rattle.instance.specs.Storing.{IsStoreOf};
@@ -16,7 +17,7 @@ use instance::machine::Machine;
 use instance::state::{Instance, State};
 use syntax::module::Contents;
 use syntax::types::Value;
-use validate::Valid;
+use validate::{SideTable, Valid};
 
 /// The results that an answer of the host makes.
 fn answered(answer: Option<Value>) -> Values
@@ -58,6 +59,7 @@ fn invoke_import<H: Host>(
 /// Calls a defined function.
 fn invoke_defined<H: Host>(
     contents: &Contents,
+    tables: &[SideTable],
     state: &mut State,
     host: &mut H,
     machine: &mut Machine,
@@ -67,6 +69,7 @@ fn invoke_defined<H: Host>(
     depth: u32,
 ) -> Ended
     requires valid { ValidModule contents.now }
+    requires agree { AreTables contents.now tables.now }
     requires store { IsStoreOf contents.now state.old }
     requires names { Names contents.now (H.types host.old) }
     requires typed { TakesArguments contents.now function args.now }
@@ -82,7 +85,7 @@ fn invoke_defined<H: Host>(
     machine.operands.push_all(args);
     let index = function as usize - contents.imports.len();
     enter_function(contents, machine, index);
-    run(contents, state, host, machine, fuel, depth)
+    run(contents, tables, state, host, machine, fuel, depth)
 }
 
 /// Calls a function of a module on one of its instances, with these arguments and so much fuel. At most `depth`
@@ -112,5 +115,8 @@ pub fn invoke<H: Host>(
     if (function as usize) < contents.imports.len() {
         return invoke_import(contents, state, host, function, args, fuel, depth);
     }
-    invoke_defined(contents, state, host, machine, function, args, fuel, depth)
+    let tables = valid.tables();
+    invoke_defined(
+        contents, tables, state, host, machine, function, args, fuel, depth,
+    )
 }

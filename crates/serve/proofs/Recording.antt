@@ -1,12 +1,11 @@
 -- One event more of a thread's loop.
-use Rattle.std.proofs.Common.{◌≡◌, ◌≢◌, ℕ, ◌+◌, ◌≤◌, Bool, true, false, cond, List, [], ◌∷◌, ◌++◌, Some, None, refl, sym, ap, subst, ◌∙◌, append_assoc, append-nil, add-zero}
+use Rattle.std.proofs.Common.{◌≡◌, ◌≢◌, ℕ, ◌+◌, ◌≤◌, true, false, cond, List, [], ◌∷◌, ◌++◌, refl, sym, ap, subst, ◌∙◌, append_assoc, append-nil, add-zero}
 use Rattle.std.proofs.lemmas.List.Sums.{sum_by_push}
 use Rattle.std.proofs.Math.Logic.{∥∥₁_map}
 use Rattle.syntax.specs.Loaded.{Loaded}
 use Rattle.instance.specs.Fresh.{IsFresh}
 use Rattle.order.specs.declared.reply.Reply.{Reply}
 use Rattle.order.specs.Orders.{order_of, end_of}
-use Rattle.order.specs.Work.{IsEndOf}
 use Rattle.phases.specs.declared.did.StepDid.{StepDid}
 use Rattle.phases.specs.declared.did.StepDid.TheVariants as did
 use Rattle.phases.specs.declared.entry.EntryKind.{EntryKind}
@@ -25,8 +24,7 @@ use Rattle.phases.specs.View.{new_view}
 use Rattle.pool.specs.declared.seats.Seats.{Seats}
 use Rattle.serve.specs.declared.ended.TheConstants.{MOST_CALLBACKS}
 use Rattle.serve.specs.declared.ended.Ending.{Ending}
-use Rattle.serve.specs.declared.settings.Serving.{Serving}
-use Rattle.serve.specs.Histories.{HasDone, HasEnded, HasServed, EndsBy, thread_calls, setting_at, is_callback, callbacks_in}
+use Rattle.serve.specs.Histories.{HasDone, HasEnded, HasServed, EndsBy, thread_calls, is_callback, callbacks_in}
 
 push : (g : Setting) (events : List Event) (e : Event) (start old new : Loop Seats) → History thread_calls g start events old → EventStep thread_calls g e old new → History thread_calls g start (events ++ e ∷ []) new
 push g [] e start old new h step = (new, subst (λ l. EventStep thread_calls g e l new) h step, refl)

@@ -1,5 +1,5 @@
 -- What an answer says of its loop.
-use Rattle.std.specs.Prelude.{◌≡◌, ℕ, ◌+◌, List, Some, slice_get}
+use Rattle.std.specs.Prelude.{◌≡◌, ℕ, List, Some, slice_get}
 use Rattle.syntax.specs.Loaded.{Loaded}
 use Rattle.phases.specs.State.{Setting}
 use Rattle.serve.specs.declared.ended.Served.{Served}

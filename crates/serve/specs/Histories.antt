@@ -1,5 +1,5 @@
 -- What a thread has done with its loop: a history over the loop's seats, and how it ended.
-use Rattle.std.specs.Prelude.{◌≡◌, ℕ, ◌+◌, ◌<◌, ◌≤◌, Bool, true, false, List, [], count_by, Option, Some, None}
+use Rattle.std.specs.Prelude.{◌≡◌, ℕ, ◌<◌, ◌≤◌, Bool, true, false, List, [], count_by, Option, Some, None}
 use Rattle.syntax.specs.Loaded.{Loaded}
 use Rattle.phases.specs.declared.did.StepDid.TheVariants.{Ran}
 use Rattle.phases.specs.declared.did.Hint.TheVariants.{Forever}

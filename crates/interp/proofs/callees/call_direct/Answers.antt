@@ -2,4 +2,4 @@ use Rattle.interp.proofs.Branching.{did_call}
 use Rattle.interp.proofs.callees.call_direct.Goals as goal
 
 pub returns : goal.returns
-returns c = did_call c.args.contents.now c.args.machine.now c.args.function c.requires
+returns c = λ tables. did_call c.args.contents.now tables c.args.machine.now c.args.function c.requires

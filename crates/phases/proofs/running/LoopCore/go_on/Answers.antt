@@ -1,4 +1,4 @@
-use Rattle.std.proofs.Common.{sym, subst, ap, drop, ◌∙◌}
+use Rattle.std.proofs.Common.{sym, subst, ap, drop, ◌∙◌, List}
 use Rattle.std.specs.Arc.{arc_value}
 use Rattle.phases.specs.Keeping.{Keeps, AreOrdersOf}
 use Rattle.phases.specs.Ready.{IsReady}
@@ -6,6 +6,8 @@ use Rattle.phases.specs.Requests.{Requests}
 use Rattle.phases.specs.Roster.{Roster}
 use Rattle.phases.specs.Setting.{setting_of}
 use Rattle.phases.specs.State.{State}
+use Rattle.phases.specs.Step.{ListStep, EntryStep}
+use Rattle.phases.specs.declared.entry.Entry.{Entry}
 use Rattle.phases.specs.View.{AreOpenedUpTo}
 use Rattle.phases.proofs.Kept.{kept_with, turn_leaves, front_of, no_front}
 use Rattle.phases.proofs.Readying.{ready_front, ready_rest, spared_rest}
@@ -59,3 +61,12 @@ run-requires-clause-apart g c =
     let s = c.self.inside.guest.machine in
     let is = front_of s.list c.in-Some.entry (sym c.front.ensures ∙ c.in-Some.is) in
     rw c.pop.ensures (spared_rest set.loaded.contents s c.in-Some.entry (drop 1 s.list) c.self.invariant.ready is)
+
+pub returns-clause-step : goal.returns-clause-step
+returns-clause-step g c =
+    let s = c.self.inside.guest.machine in
+    let is = front_of s.list c.in-Some.entry (sym c.front.ensures ∙ c.in-Some.is) in
+    let set = setting_of c.self.inside.guest.setting in
+    subst (λ now. ListStep g.B.Shared.calls now.0 now.1 now.1.state.list c.run.result c.run.new.self.1) c.self.view_is
+    (subst (λ (list : List Entry). ListStep g.B.Shared.calls set (record { state = s; store = c.self.inside.instance; shared = c.self.inside.guest.shared }) list c.run.result c.run.new.self.1) (sym is)
+    (subst (λ (u : State). EntryStep g.B.Shared.calls set (record { state = u; store = c.self.inside.instance; shared = c.self.inside.guest.shared }) c.in-Some.entry c.run.result c.run.new.self.1) c.pop.ensures c.run.ensures.step))

@@ -1,4 +1,3 @@
-use Rattle.std.proofs.Common.{refl}
 use Rattle.serve.proofs.Recording.{ended_by, served_by}
 use Rattle.serve.proofs.record.Record.into_served.Goals as goal
 

@@ -1,4 +1,4 @@
-use Rattle.std.proofs.Common.{refl, arith}
+use Rattle.std.proofs.Common.{arith}
 use Rattle.serve.proofs.Recording.{does_nothing}
 use Rattle.serve.proofs.record.Record.new.Goals as goal
 

@@ -1,4 +1,4 @@
-use Rattle.std.proofs.Common.{◌≡◌, ◌++◌, ◌≤◌, ◌<◌, ◌+◌, true, cond, List, [], length, refl, sym, ap, ◌∙◌, arith}
+use Rattle.std.proofs.Common.{◌≡◌, ◌++◌, ◌+◌, cond, refl, ap, ◌∙◌, arith}
 use Rattle.serve.proofs.Recording.{does_run, does_other}
 use Rattle.serve.proofs.record.Record.step.Goals as goal
 

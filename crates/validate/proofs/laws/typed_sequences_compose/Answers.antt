@@ -1,0 +1,8 @@
+use Rattle.validate.proofs.Framing as framing
+use Rattle.validate.proofs.laws.typed_sequences_compose.Goals as goal
+
+pub returns-clause-joins : goal.returns-clause-joins
+returns-clause-joins c = framing.joins
+
+pub returns-clause-parts : goal.returns-clause-parts
+returns-clause-parts c = framing.parts

@@ -10,7 +10,7 @@
 
 pub mod answers;
 pub mod calls;
-pub mod host;
+mod host;
 pub mod laws;
 mod reply;
 mod request;

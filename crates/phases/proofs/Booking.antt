@@ -69,7 +69,7 @@ enough (suc n) xs all =
     omega arith
 
 -- numbers that rise
-within : (low high : ℕ) (xs : List Request) (at : ℕ) (r : Request) → AreRising low (map number_of xs) high → slice_get xs at ≡ Some r → low < number_of r
+pub within : (low high : ℕ) (xs : List Request) (at : ℕ) (r : Request) → AreRising low (map number_of xs) high → slice_get xs at ≡ Some r → low < number_of r
 within low high [] at r rising h = absurd (cc)
 within low high (x ∷ xs) zero r rising h = let same : x ≡ r = cc in rw (← same) (rising.0)
 within low high (x ∷ xs) (suc at) r rising h = let rest = within (number_of x) high xs at r rising.1 h in let first = rising.0 in omega arith

@@ -1,5 +1,5 @@
 -- What the histories of a loop keep.
-use Rattle.std.proofs.Common.{◌≡◌, ◌≢◌, ℕ, ◌+◌, ◌<◌, ◌≤◌, ◌==◌, Bool, true, false, cond, inl, inr, ◌⊎◌, List, [], ◌∷◌, ◌++◌, Option, Some, None, refl, sym, ap, subst, ◌∙◌, arith, append_assoc, append-nil, MatchBool}
+use Rattle.std.proofs.Common.{◌≡◌, ◌≢◌, ℕ, ◌+◌, ◌<◌, ◌≤◌, Bool, true, false, cond, inl, inr, ◌⊎◌, List, [], ◌∷◌, ◌++◌, Option, Some, None, refl, sym, ap, subst, ◌∙◌, arith, append_assoc, append-nil}
 use Rattle.std.specs.List.{Contains, count_by}
 use Rattle.std.proofs.lemmas.Bool.{cases_lt, eqb-true}
 use Rattle.std.proofs.lemmas.List.Elements.{Contains-append_left, Contains-push, Contains-push_cases}
@@ -15,8 +15,8 @@ use Rattle.phases.specs.declared.entry.Status.TheVariants.{Running, Over, Failed
 use Rattle.phases.specs.Calls.{Calls}
 use Rattle.phases.specs.Guests.{GuestCall, loop_calls}
 use Rattle.phases.specs.History.{Event, Stepped, OrderAsked, EndOffered, CancelAnswered, ClockRaised, MovedBeside, EventStep, Offers, History, IsOpening, calls_in, guest_calls}
-use Rattle.phases.specs.Laws.{WasAsked, WasCancelled, is_after_event, cancellation, AreDue, RunsAfter, IsOwn}
-use Rattle.phases.specs.Outside.{next_order_of, next_in, handing, Takes}
+use Rattle.phases.specs.Laws.{WasAsked, WasCancelled, is_after_event, cancellation, AreDue, IsOwn}
+use Rattle.phases.specs.Outside.{next_order_of, next_in, handing}
 use Rattle.phases.specs.Requests.{Stage, Open, HandedOut, Answered, Cancelled, Request, Requests, Tidings, no_requests, request_of, with_stage, tidings_of, end_tidings, lowest_open}
 use Rattle.phases.specs.State.{Setting, State, Loop}
 use Rattle.phases.specs.Step.{AfterWork, in_state}

@@ -10,6 +10,8 @@ pub mod Histories
 pub mod Kept
 pub mod Listing
 pub mod Lists
+pub mod Living
+pub mod Lowest
 pub mod Numbered
 pub mod Owning
 pub mod Readying

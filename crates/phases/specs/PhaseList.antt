@@ -1,10 +1,11 @@
 -- The list of each phase, and what keeps a loop alive.
-use Rattle.std.specs.Prelude.{ℕ, ◌+◌, ◌-◌, ◌==◌, Bool, true, false, ◌||◌, not, List, [], ◌∷◌, ◌++◌, length, map, nat_le, Option, Some, None, codes, bytes_eq, if◌then◌else◌}
+use Rattle.std.specs.Prelude.{◌≡◌, ◌≢◌, ◌⊎◌, ℕ, ◌+◌, ◌-◌, ◌==◌, Bool, true, false, ◌||◌, not, List, [], ◌∷◌, ◌++◌, length, map, nat_le, Option, Some, None, codes, bytes_eq, if◌then◌else◌}
 use Rattle.std.specs.Option.{option_map_or, is_some}
 use Rattle.std.specs.List.{list_any}
 use Rattle.syntax.specs.declared.module.Contents.{Contents}
 use Rattle.handles.specs.declared.handle.Kind.{Kind}
 use Rattle.handles.specs.declared.handle.Kind.TheVariants as kind
+use Rattle.handles.specs.declared.handle.Record.{Record}
 use Rattle.handles.specs.Table.{Table, record_of, due_list, kind_list, nearest_due}
 use Rattle.phases.specs.declared.entry.Phase.{Phase}
 use Rattle.phases.specs.declared.entry.Phase.TheVariants.{Begin, Timers, Idle, Poll, Check, Closing}
@@ -104,6 +105,17 @@ has_active r =
 -- an active handle, an outstanding request or a closing handle
 unfoldable pub is_alive : State → Bool
 is_alive s = has_active s.roster || (not (is_empty s.requests.outstanding) || not (is_empty s.roster.closing))
+
+-- some handle is active
+pub record HasActive (t : Table) : Type 0 where
+  pub handle : ℕ
+  pub it : Record
+  pub there : record_of t handle ≡ Some it
+  pub active : it.active ≡ true
+
+-- the same without the lists: a handle is active, a request is outstanding, or a handle is closing
+abbrev pub IsAlive : State → Type 0
+IsAlive s = HasActive s.roster.handles ⊎ ((s.requests.outstanding ≢ []) ⊎ (s.roster.closing ≢ []))
 
 -- how long nothing is to do, by the cached now
 abbrev pub until_due : Option ℕ → (now : ℕ) → Hint

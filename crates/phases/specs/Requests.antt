@@ -1,5 +1,5 @@
 -- The outstanding requests of a loop.
-use Rattle.std.specs.Prelude.{ℕ, ◌==◌, Bool, true, false, not, List, [], ◌∷◌, ◌++◌, map, filter, find, Option, Some, None, if◌then◌else◌}
+use Rattle.std.specs.Prelude.{◌≡◌, ℕ, ◌≤◌, ◌==◌, Bool, true, false, not, List, [], ◌∷◌, ◌++◌, map, filter, find, All, Option, Some, None, if◌then◌else◌}
 use Rattle.std.specs.List.{list_any}
 use Rattle.order.specs.Numbers.{no_memory, cancelled_code}
 use Rattle.order.specs.Work.{WorkOrder, WorkEnd, Done, Trap, Depth, Spent, NoMemory}
@@ -65,6 +65,10 @@ is_open_stage _ = false
 -- the lowest request that is not handed out
 abbrev pub lowest_open : Requests → Option Request
 lowest_open rs = find (λ r. is_open_stage r.stage) rs.outstanding
+
+-- no request that is not handed out has a lower number
+abbrev pub IsLowestOpen : ℕ → Requests → Type 0
+IsLowestOpen number rs = All (λ r. is_open_stage r.stage ≡ true → number ≤ r.order.request) rs.outstanding
 
 -- kind and code that an after-work callback is given, and the bytes that it may read
 pub record Tidings : Type 0 where

@@ -1,6 +1,6 @@
 // The state of a loop, and what it answers to its guest.
 
-ghost use Rattle.std.specs.Prelude.{◌≡◌, ◌≢◌, ◌≤◌, ◌<◌, ◌+◌, ◌^◌, ◌||◌, if◌then◌else◌, [], Some, None, true, false, length, max, IfOk, IfErr, OnOk, option_map};
+ghost use Rattle.std.specs.Prelude.{◌≡◌, ◌≢◌, ◌↔◌, ◌≤◌, ◌<◌, ◌+◌, ◌^◌, ◌||◌, if◌then◌else◌, [], Some, None, true, false, length, max, IsTrue, IfOk, IfErr, IfSome, OnOk, option_map};
 ghost use Rattle.handles.specs.Table.{saturated, empty_table};
 ghost use Rattle.instance.specs.Reads.{with_bytes};
 ghost use Rattle.order.specs.Bytes.{input_length, copied_in};
@@ -9,7 +9,8 @@ ghost use Rattle.phases.specs.Fitting.{AllRight};
 ghost use Rattle.phases.specs.Host.{with_roster, with_requests, emitted_in};
 ghost use Rattle.phases.specs.Outside.{after_clock, next_order_of, CancelIn, Takes, answered};
 ghost use Rattle.phases.specs.Ready.{Grows};
-ghost use Rattle.phases.specs.PhaseList.{is_alive, hint_of, until_due, first_list};
+ghost use Rattle.phases.specs.Requests.{IsLowestOpen};
+ghost use Rattle.phases.specs.PhaseList.{is_alive, hint_of, until_due, first_list, IsAlive};
 ghost use Rattle.phases.specs.State.{opening};
 ghost use Rattle.phases.specs.Roster.{Roster as Handles_of, with_made, stopped_in, started_in, again_in, closed_in, active_answer, Makes, MakesAsync};
 
@@ -230,6 +231,7 @@ impl Machine {
     pub fn next_order(&mut self) -> Option<Order>
         ensures order { option_map order_of result ≡ (next_order_of self.old).0 }
         ensures state { self.new ≡ (next_order_of self.old).1 }
+        ensures lowest { IfSome result (λ o. IsLowestOpen o.request self.old.requests) }
         ensures grows { Grows self.old self.new }
     {
         self.requests.keeps();
@@ -275,8 +277,10 @@ impl Machine {
     /// Whether there is an active handle, an outstanding request or a closing handle.
     #[tactic(auto, unfolding(crate::specs::PhaseList::is_alive))]
     pub fn is_alive(&self) -> bool
-        ensures { result ≡ is_alive self.now }
+        ensures value { result ≡ is_alive self.now }
+        ensures means { IsTrue (is_alive self.now) ↔ IsAlive self.now }
     {
+        self.roster.keeps();
         let requests = !self.requests.is_empty();
         let closing = !self.roster.closing().is_empty();
         any(self.roster.has_active(), requests, closing)

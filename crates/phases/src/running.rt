@@ -1,6 +1,6 @@
 //! One event loop.
 
-ghost use Rattle.std.specs.Prelude.{◌≡◌, ◌≤◌, ℕ, [], ◌∷◌, Some, None, true, false, All, codes, length, ◌<◌, MatchBool, IfOk, IfSome, option_map};
+ghost use Rattle.std.specs.Prelude.{◌≡◌, ◌↔◌, ◌≤◌, ℕ, [], ◌∷◌, Some, None, true, false, All, codes, length, ◌<◌, MatchBool, IsTrue, IfOk, IfSome, option_map};
 ghost use Rattle.std.specs.Arc.{arc_value};
 ghost use Rattle.std.specs.Int.{w32, cast_unsigned};
 ghost use Rattle.interp.specs.Invoking.{TakesArguments};
@@ -12,8 +12,9 @@ ghost use Rattle.phases.specs.Fitting.{AllRight, IsShort};
 ghost use Rattle.phases.specs.Accepting.{Accepts};
 ghost use Rattle.phases.specs.Outside.{after_clock, is_failed, next_order_of, CancelsLoop, StartsBeside, SendsBeside};
 ghost use Rattle.phases.specs.Keeping.{CanRun};
-ghost use Rattle.phases.specs.PhaseList.{begin_list, hint_of, is_alive};
+ghost use Rattle.phases.specs.PhaseList.{begin_list, hint_of, is_alive, IsAlive};
 ghost use Rattle.phases.specs.Ready.{IsReady, Spares};
+ghost use Rattle.phases.specs.Requests.{IsLowestOpen};
 ghost use Rattle.phases.specs.Roster.{opening_roster, callbacks_of};
 ghost use Rattle.phases.specs.State.{opening};
 ghost use Rattle.phases.specs.Step.{LoopStep, ListStep, EntryStep, CallsBack, CallsHandle, RunsFrom, Skips, TakesFirst, AfterWork, is_as_listed};
@@ -372,6 +373,7 @@ impl<B: Shared + Drop> LoopCore<B> {
     pub fn next_order(&mut self) -> Option<Order>
         ensures order { option_map order_of result ≡ (next_order_of self.old.1.state).0 }
         ensures core { self.new.1 ≡ record self.old.1 { state = (next_order_of self.old.1.state).1 } }
+        ensures lowest { IfSome result (λ o. IsLowestOpen o.request self.old.1.state.requests) }
         ensures own { IfSome result (λ o. o.loop_no ≡ self.old.0.loop_no) }
         ensures slot { IfSome result (λ o. o.slot < 32) }
         ensures can_run { IfSome result (λ o. CanRun (order_of o)) }
@@ -422,7 +424,8 @@ impl<B: Shared + Drop> LoopCore<B> {
 
     /// Whether the loop has an active handle, an outstanding request or a closing handle.
     pub fn alive(&self) -> bool
-        ensures { result ≡ is_alive self.now.1.state }
+        ensures value { result ≡ is_alive self.now.1.state }
+        ensures means { IsTrue (is_alive self.now.1.state) ↔ IsAlive self.now.1.state }
     {
         self.guest.machine.is_alive()
     }

@@ -4,6 +4,7 @@ use Rattle.phases.specs.Host.{with_requests}
 use Rattle.phases.specs.Ready.{Grows}
 use Rattle.phases.specs.State.{State}
 use Rattle.phases.proofs.Kept.{next_unfailed}
+use Rattle.phases.proofs.Lowest.{lowest_next}
 use Rattle.phases.proofs.Owning.{grows_next}
 use Rattle.phases.proofs.machine.Machine.next_order.Goals as goal
 
@@ -15,5 +16,6 @@ returns-in-Running c =
     rw (← c.self.view_is) (record {
       order = c.next.ensures.order ∙ sym (ap (λ p. p.0) next);
       state = state;
+      lowest = lowest_next s.requests c.keeps.ensures c.next.result c.next.ensures.order;
       grows = subst (Grows s) (sym state) (grows_next s c.keeps.ensures);
     })

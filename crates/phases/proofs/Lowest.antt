@@ -1,0 +1,45 @@
+-- The lowest open request, in order of numbers that rise.
+use Rattle.std.proofs.Common.{◌≡◌, ℕ, zero, suc, ◌<◌, ◌≤◌, Bool, true, false, cond, List, [], ◌∷◌, map, Option, Some, None, refl, sym, ap, subst, ◌∙◌, arith, get_or, IfSome}
+use Rattle.std.specs.List.{find, slice_get}
+use Rattle.std.specs.Option.{option_map}
+use Rattle.std.proofs.lemmas.Option.{slice_get-get_or}
+use Rattle.order.specs.declared.request.Order.{Order}
+use Rattle.order.specs.Orders.{order_of}
+use Rattle.phases.specs.Fitting.{AreRising, AreKept}
+use Rattle.phases.specs.Outside.{handing, next_of}
+use Rattle.phases.specs.Requests.{Request, Requests, is_open_stage, lowest_open, IsLowestOpen}
+use Rattle.phases.proofs.Booking.{number_of, within}
+
+module _ (p : Request → Bool) where
+  -- the first is the lowest
+  first_is_lowest : (low high : ℕ) (xs : List Request) (q : Request) (at : ℕ) (r : Request) → AreRising low (map number_of xs) high → find p xs ≡ Some q → slice_get xs at ≡ Some r → p r ≡ true
+      → number_of q ≤ number_of r
+  first_is_lowest low high [] q at r rising found here holds = absurd (cc)
+  first_is_lowest low high (x ∷ xs) q zero r rising found here holds =
+      let same : x ≡ r = cc in
+      let passes : p x ≡ true = ap p same ∙ holds in
+      let first : Some x ≡ Some q = subst (λ b. cond b (Some x) (find p xs) ≡ Some q) passes found in
+      let is : q ≡ r = cc in
+      subst (λ y. number_of q ≤ number_of y) is (omega arith)
+  first_is_lowest low high (x ∷ xs) q (suc at) r rising found here holds =
+      elim (p x) as (λ b. cond b (Some x) (find p xs) ≡ Some q → number_of q ≤ number_of r) [
+        | true ↦ λ k. (
+            let same : x ≡ q = cc in
+            let above : number_of x < number_of r = within (number_of x) high xs at r rising.1 here in
+            subst (λ y. number_of y ≤ number_of r) same (omega arith)
+            )
+        | false ↦ λ k. first_is_lowest (number_of x) high xs q at r rising.1 k here holds
+      ] found
+
+is_lowest : (rs : Requests) → AreKept rs → (q : Request) → lowest_open rs ≡ Some q → IsLowestOpen q.order.request rs
+is_lowest rs kept q found k d below opens =
+    first_is_lowest (λ r. is_open_stage r.stage) 0 rs.last rs.outstanding q k (get_or rs.outstanding k d) kept.rising found (slice_get-get_or rs.outstanding k d below) opens
+
+pub lowest_next : (rs : Requests) → AreKept rs → (o : Option Order) → option_map order_of o ≡ (next_of rs).0 → IfSome o (λ x. IsLowestOpen x.request rs)
+lowest_next rs kept o is = by (lowest_open rs) refl o is where
+  by : (found : Option Request) → lowest_open rs ≡ found → (o : Option Order) → option_map order_of o ≡ (handing rs found).0 → IfSome o (λ x. IsLowestOpen x.request rs)
+  by found e None is = tt
+  by None e (Some x) is = absurd (cc)
+  by (Some q) e (Some x) is =
+      let same : order_of x ≡ q.order = cc in
+      subst (λ n. IsLowestOpen n rs) (ap (λ w. w.request) (sym same)) (is_lowest rs kept q e)

@@ -12,8 +12,8 @@ cc -std=c11 -O1 -Wall -Wextra -shared -fPIC -o "$work/refuse.so" "$top/bench/mem
 # The same program, but that it goes on with the next steps of a script where one found no memory.
 copy=$work/copy
 mkdir "$copy"
-cp -a "$top/HANDLES" "$top/crates.txt" "$top/wasmloop" "$top/crates" "$copy/"
-python3 "$top/bench/memory/go_on.py" "$copy/crates/wasmloop/src/scripting.rt"
+cp -a "$top/HANDLES" "$top/crates.txt" "$top/wasmloop" "$top/build.py" "$top/crates" "$copy/"
+python3 "$top/bench/memory/go_on.py" "$copy/crates/commands/src/scripting.rt"
 "$copy/wasmloop" --version
 
 built=crates/wasmloop/out/wasmloop

@@ -43,6 +43,20 @@ impl ScriptFault {
     }
 }
 
+impl ScriptFault {
+    /// What is wrong, in words.
+    pub fn meaning(self) -> &'static str {
+        match self {
+            ScriptFault::Json => "the text is no JSON",
+            ScriptFault::Shape =>
+                "a key, a value, a step or a count of numbers is not as it should be",
+            ScriptFault::Hex => "it is not written in hexadecimal",
+            ScriptFault::Range => "a number or a count is out of its range",
+            ScriptFault::Memory => "there is not enough memory",
+        }
+    }
+}
+
 impl<T: Drop> From<AllocFailed<T>> for ScriptFault {
     ghost use Rattle.std.specs.Prelude.{◌≡◌};
     ghost use Rattle.script.specs.declared.fault.ScriptFault.TheVariants.{Memory};

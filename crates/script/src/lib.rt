@@ -6,6 +6,7 @@
 
 mod document;
 mod fault;
+mod place;
 mod plan;
 mod reader;
 #[cfg(test)]
@@ -13,6 +14,7 @@ mod tests;
 mod text;
 
 pub use fault::ScriptFault;
+pub use place::Place;
 pub use plan::{LoopPlan, Plan};
 pub use reader::read;
 pub use text::print;

@@ -4,33 +4,13 @@
 ghost use Rattle.std.specs.Prelude.{◌≡◌};
 ghost use Rattle.board.specs.Jobs.{ticket_of};
 
-mod arguments;
-mod calling;
-mod command;
-mod failure;
-mod file;
-mod line;
-mod loading;
-mod number;
-mod perform;
-mod refused;
-mod refusing;
-mod scripting;
-mod serving;
-mod status;
-mod words;
-mod work;
-
-use board::JobBox;
-use command::Command;
-use file::SystemFiles;
-use order::Reply;
-use refused::Refused;
-use serve::Task;
+use commands::{SystemFiles, perform};
+use host::{JobBox, Reply, Task};
 use std::alloc::{AllocError, Global};
 use std::io::ErrorKind;
 use std::process::ExitCode;
 use std::{env, io};
+use words::{Command, Refused, parse};
 
 /// The words of the command line, the program's name first.
 fn words_of(rt: &HostRuntime, alloc: Global) -> io::Result<Vec<String>> {
@@ -40,7 +20,7 @@ fn words_of(rt: &HostRuntime, alloc: Global) -> io::Result<Vec<String>> {
 /// What the command line asks for.
 fn command_of(rt: &HostRuntime, alloc: Global) -> Result<Command, Refused> {
     match words_of(rt, alloc) {
-        Ok(words) => words::parse(alloc, words.as_slice()),
+        Ok(words) => parse(alloc, words.as_slice()),
         Err(error) if error.kind() == ErrorKind::OutOfMemory => Err(Refused::Memory),
         Err(_) => Err(Refused::Arguments),
     }
@@ -59,11 +39,8 @@ fn main(rt: HostRuntime) -> ExitCode {
     };
     let files = SystemFiles::new(&rt);
     let status = match command_of(&rt, alloc) {
-        Ok(command) => perform::perform(&rt, alloc, &command, &files, &mut out, &mut err, &make),
+        Ok(command) => perform(&rt, alloc, &command, &files, &mut out, &mut err, &make),
         Err(refused) => refused.tell(&mut out, &mut err),
     };
     ExitCode::from(status)
 }
-
-#[cfg(test)]
-mod tests;

@@ -1,0 +1,39 @@
+-- What a command has done that ends with the status 0.
+use Rattle.std.specs.Prelude.{◌≡◌, ℕ, List, Option, Some, map, string_bytes, codes}
+use Rattle.std.specs.Io.KnownBytes.{Appends}
+use Rattle.syntax.specs.declared.types.Value.{Value}
+use Rattle.syntax.specs.declared.module.Contents.{Contents}
+use Rattle.syntax.specs.declared.module.ExternKind.TheVariants.{Func}
+use Rattle.syntax.specs.Exporting.{IsFirst}
+use Rattle.interp.specs.declared.ended.Ended.{Ended}
+use Rattle.words.specs.declared.command.Command.{Command}
+use Rattle.words.specs.declared.command.Command.TheVariants.{Check, Invoke, Work, Script, Serve}
+use Rattle.words.specs.declared.command.Invocation.{Invocation}
+use Rattle.commands.specs.declared.calling.Called.TheVariants.{Function}
+use Rattle.commands.specs.Accepted.{Holds}
+use Rattle.commands.specs.Calling.{IsCalled, HasReturned}
+use Rattle.commands.specs.Arguments.{AllSpell}
+
+-- The file's module exports a function under the name, the words spell its arguments, and called with them on a new
+-- instance, it returns.
+pub record HasInvoked (gives : List ℕ → ℕ → List ℕ → Type 0) (i : Invocation) : Type 0 where
+  pub contents : Contents
+  pub held : Holds gives (string_bytes i.file) contents
+  pub function : ℕ
+  pub named : IsFirst contents.exports (string_bytes i.name) (Some (record { kind = Func; index = function }))
+  pub args : List Value
+  pub spelled : AllSpell (map string_bytes i.arguments.items) args
+  pub ended : Ended
+  pub called : IsCalled contents i.budget function args (Function ended)
+  pub returned : HasReturned ended.ending
+
+-- what is written behind what the output held is given where that is known
+abbrev pub IsDone : (List ℕ → ℕ → List ℕ → Type 0) → Option (List ℕ) → Option (List ℕ) → Command → Type 0
+IsDone gives before after (Check file) = ((contents : Contents) × Holds gives (string_bytes file) contents) × Appends before after (codes "accepted\n")
+IsDone gives before after (Invoke invocation) = HasInvoked gives invocation
+-- what comes of a work order is the reply's own fact
+IsDone gives before after (Work order) = Unit {0}
+-- the log of a script is the world's
+IsDone gives before after (Script file) = Unit {0}
+-- what loops in threads print is no clause's
+IsDone gives before after (Serve service) = (contents : Contents) × Holds gives (string_bytes service.file) contents

@@ -1,0 +1,22 @@
+-- What the program ends with.
+use Rattle.std.specs.Prelude.{ℕ}
+use Rattle.commands.specs.declared.status.Status.{Status}
+use Rattle.commands.specs.declared.status.Status.TheVariants as status
+use Rattle.commands.specs.declared.failure.Failure.{Failure}
+use Rattle.commands.specs.declared.failure.Failure.TheVariants as failure
+
+abbrev pub status_of_failure : Failure → Status
+status_of_failure (failure.File _) = status.Failed
+status_of_failure failure.Memory = status.Failed
+status_of_failure failure.Output = status.Failed
+status_of_failure (failure.Script _ _) = status.Failed
+status_of_failure (failure.Refused _ _ _) = status.Refused
+status_of_failure (failure.NoFunction _) = status.Usage
+status_of_failure failure.Arguments = status.Usage
+
+abbrev pub number_of : Status → ℕ
+number_of status.Done = 0
+number_of status.Failed = 1
+number_of status.Usage = 2
+number_of status.Refused = 3
+number_of status.Ended = 4

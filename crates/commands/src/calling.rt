@@ -1,0 +1,112 @@
+// A call of a function on a new instance of its module.
+
+ghost use Rattle.std.specs.Prelude.{◌≡◌, ◌≤◌, ◌↔◌, Some, IfOk, IfSome, IsTrue};
+ghost use Rattle.instance.specs.Fresh.{IsFresh};
+ghost use Rattle.instance.specs.Storing.{IsStoreOf};
+ghost use Rattle.interp.specs.Invoking.{TakesArguments};
+ghost use Rattle.syntax.specs.declared.module.ExternKind.TheVariants.{Func};
+ghost use Rattle.syntax.specs.Exporting.{IsFirst};
+ghost use Rattle.validate.specs.Typing.{HasFunctionType};
+ghost use Rattle.commands.specs.Calling.{Runs, Starts, HasReturned, IsCalled};
+
+use crate::failure::Failure;
+use crate::refusing::Refusing;
+use instance::state::Instance;
+use interp::ended::{Ended, Ending};
+use interp::invoke::invoke;
+use interp::values::Values;
+use std::alloc::Global;
+use syntax::module::{ExternKind, FuncType};
+use syntax::types::Value;
+use validate::{Valid, type_of_function};
+use words::Budget;
+
+/// What came of a call.
+#[derive(Debug, Drop)]
+pub enum Called {
+    /// The start function ended so, and not by return: the function is not called.
+    Start(Ended),
+    /// The function ended so.
+    Function(Ended),
+}
+
+/// The function that is exported under a name, with its type, where there is one.
+pub fn exported_function<'a>(valid: &'a Valid, name: &str) -> Option<(u32, &'a FuncType)>
+    ensures named { IfSome result (λ found. IsFirst valid.now.contents.exports name.now (Some (record { kind = Func; index = found.0 }))) }
+    ensures typed { IfSome result (λ found. HasFunctionType valid.now.contents found.0 found.1.now) }
+{
+    let export = valid.module().export(name)?;
+    match export.kind {
+        ExternKind::Func => {
+            let func_type = type_of_function(valid.contents(), export.index)?;
+            Some((export.index, func_type))
+        }
+        _ => None,
+    }
+}
+
+/// Whether a call ended by return.
+pub fn has_returned(ending: &Ending) -> bool
+    ensures { IsTrue result ↔ HasReturned ending.now }
+{
+    matches!(ending, Ending::Return(_))
+}
+
+/// Runs a function while every import answers -1.
+fn run(
+    valid: &Valid,
+    instance: &mut Instance,
+    function: u32,
+    args: &[Value],
+    fuel: u64,
+    depth: u32,
+) -> Ended
+    requires store { IsStoreOf valid.now.contents instance.old }
+    requires typed { TakesArguments valid.now.contents function args.now }
+    requires depth { (1 ≤ depth) × (depth ≤ 128) }
+    ensures runs { Runs valid.now.contents depth fuel instance.old function args.now result instance.new }
+    ensures within { result.used ≤ fuel }
+    ensures kept { IsStoreOf valid.now.contents instance.new }
+{
+    let mut host = Refusing::new(valid);
+    invoke(valid, instance, &mut host, function, args, fuel, depth)
+}
+
+/// Runs the start function, where there is one.
+fn start(valid: &Valid, instance: &mut Instance, budget: Budget) -> Ended
+    requires fresh { IsFresh valid.now.contents instance.old }
+    requires store { IsStoreOf valid.now.contents instance.old }
+    ensures starts { Starts valid.now.contents budget.depth budget.fuel valid.now.contents.start result instance.new }
+    ensures within { result.used ≤ budget.fuel }
+    ensures kept { IsStoreOf valid.now.contents instance.new }
+{
+    match valid.contents().start {
+        Some(function) => run(valid, instance, function, &[], budget.fuel, budget.depth),
+        None => Ended {
+            ending: Ending::Return(Values::from_slice(&[])),
+            used: 0,
+        },
+    }
+}
+
+/// Calls a function on a new instance of its module: first the start function, and where that returns the function,
+/// with the fuel that is left. Every import answers -1.
+pub fn call(
+    alloc: Global,
+    valid: &Valid,
+    function: u32,
+    args: &[Value],
+    budget: Budget,
+) -> Result<Called, Failure<'static>>
+    requires { TakesArguments valid.now.contents function args.now }
+    ensures { IfOk result (IsCalled valid.now.contents budget function args.now) }
+{
+    let mut instance = Instance::new(alloc, valid)?;
+    let started = start(valid, &mut instance, budget);
+    if !has_returned(&started.ending) {
+        return Ok(Called::Start(started));
+    }
+    let fuel = budget.fuel - started.used;
+    let ended = run(valid, &mut instance, function, args, fuel, budget.depth);
+    Ok(Called::Function(ended))
+}

@@ -1,0 +1,21 @@
+//! What each command does: `perform` takes a command, a reader of files and two writers, and answers the exit status.
+//!
+//! Its contract says what a command has done that ends with the status 0: the file of `check`, `invoke` and `serve` holds a
+//! module that is decoded, valid and linked, and the function that `invoke` called returned. Begin with `perform`.
+#![tactic(auto)]
+
+mod arguments;
+mod calling;
+mod failure;
+mod file;
+mod line;
+mod loading;
+mod performing;
+mod refusing;
+mod scripting;
+mod serving;
+mod status;
+mod working;
+
+pub use file::{ReadFault, Reader, SystemFiles};
+pub use performing::perform;

@@ -1,0 +1,44 @@
+// From a file to a module that the host can run.
+
+ghost use Rattle.std.specs.Prelude.{◌≡◌, IfOk};
+ghost use Rattle.host.specs.Loading.{IsAccepted};
+ghost use Rattle.commands.specs.Accepted.{enough};
+
+use crate::failure::Failure;
+use crate::file::Reader;
+use host::{Linked, Refusal};
+use std::alloc::Global;
+
+/// One byte more than a module may have: whatever comes behind it changes no answer.
+const ENOUGH: usize = 1_048_577;
+
+fn refused(alloc: Global, bytes: &[u8], refusal: Refusal) -> Failure<'static> {
+    match refusal {
+        Refusal::Memory => Failure::Memory,
+        _ => Failure::Refused {
+            module: None,
+            refusal,
+            place: refusal.place(alloc, bytes),
+        },
+    }
+}
+
+/// The module that the bytes spell, validated and linked.
+pub fn accept(alloc: Global, bytes: &[u8]) -> Result<Linked, Failure<'static>>
+    ensures same { IfOk result (λ linked. linked.bytes ≡ bytes.now) }
+    ensures accepted { IfOk result (λ linked. IsAccepted linked.bytes linked.contents) }
+{
+    match host::load(alloc, bytes) {
+        Ok(linked) => Ok(linked),
+        Err(refusal) => Err(refused(alloc, bytes, refusal)),
+    }
+}
+
+/// The module of the file, read, validated and linked.
+pub fn load<R: Reader>(alloc: Global, reader: &R, file: &str) -> Result<Linked, Failure<'static>>
+    ensures read { IfOk result (λ linked. R.gives reader.now file.now enough linked.bytes) }
+    ensures accepted { IfOk result (λ linked. IsAccepted linked.bytes linked.contents) }
+{
+    let bytes = reader.read(alloc, file, ENOUGH)?;
+    accept(alloc, bytes.as_slice())
+}

@@ -1,0 +1,68 @@
+// What comes of loops and workers in threads.
+
+ghost use Rattle.std.specs.Prelude.{OnOk, string_bytes};
+ghost use Rattle.syntax.specs.declared.module.Contents.{Contents};
+ghost use Rattle.commands.specs.Accepted.{Holds};
+
+use crate::failure::Failure;
+use crate::file::Reader;
+use crate::loading::load;
+use crate::status::Status;
+use host::{Ending, Job, Served, Serving, Task, serve};
+use std::alloc::{AllocError, Global};
+use std::io::{self, BufWriter, Write};
+use std::sync::{Arc, Wait};
+use std::thread::Threads;
+use words::Service;
+
+/// How many threads there are, and what each loop may spend.
+fn serving_of(service: &Service) -> Serving {
+    Serving {
+        loops: service.loops,
+        workers: service.workers,
+        fuel: service.budget.fuel,
+        work_fuel: service.work_fuel,
+        depth: service.budget.depth,
+    }
+}
+
+/// Writes the lines of the loops, in the order of their numbers. It takes no memory.
+fn tell_served<O: Write>(served: &[Served], out: &mut O) -> io::Result<()> {
+    for one in served {
+        writeln!(out, "{one}")?;
+    }
+    out.flush()
+}
+
+fn status_of(served: &[Served]) -> Status {
+    if served.iter().any(|one| one.ending == Ending::Failed) {
+        return Status::Ended;
+    }
+    Status::Done
+}
+
+/// Runs loops of the file's module and workers in threads, and tells what each loop did once all have ended. Whatever the
+/// lines need of memory is there before the first loop begins.
+pub fn serve_file<
+    H: Threads + Wait + Sync,
+    M: Fn(Task) -> Result<J, AllocError> + Sync,
+    J: Job + Send,
+    R: Reader,
+    O: Write,
+>(
+    rt: &H,
+    alloc: Global,
+    service: &Service,
+    reader: &R,
+    out: &mut O,
+    make: &M,
+) -> Result<Status, Failure<'static>>
+    requires make { M.IsAlwaysCallable make.now }
+    ensures accepted { OnOk result ((contents : Contents) × Holds (R.gives reader.now) (string_bytes service.now.file) contents) }
+{
+    let module = Arc::new(alloc, load(alloc, reader, service.file.as_str())?)?;
+    let mut lines = BufWriter::new(alloc, out)?;
+    let served = serve(rt, alloc, module, serving_of(service), make)?;
+    tell_served(served.as_slice(), &mut lines)?;
+    Ok(status_of(served.as_slice()))
+}

@@ -1,0 +1,35 @@
+// The lines of a list.
+
+/// A line of a list.
+pub enum Line<'a> {
+    /// It is printed as it is.
+    Remark,
+    /// A file of the bytes that these digits spell.
+    Bytes { name: &'a str, digits: &'a str },
+    /// A file of this text.
+    Text { name: &'a str, text: &'a str },
+    /// The words of a command.
+    Command,
+}
+
+/// What a line says.
+pub fn read_line(line: &str) -> Line<'_> {
+    if line.is_empty() || line.starts_with('#') {
+        return Line::Remark;
+    }
+    match line.split_once(' ') {
+        Some(("let", rest)) => bytes_line(rest),
+        Some(("text", rest)) => text_line(rest),
+        _ => Line::Command,
+    }
+}
+
+fn bytes_line(rest: &str) -> Line<'_> {
+    let (name, digits) = rest.split_once(' ').unwrap_or((rest, ""));
+    Line::Bytes { name, digits }
+}
+
+fn text_line(rest: &str) -> Line<'_> {
+    let (name, text) = rest.split_once(' ').unwrap_or((rest, ""));
+    Line::Text { name, text }
+}

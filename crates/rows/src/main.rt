@@ -1,0 +1,120 @@
+//! Performs the commands of a list, and prints what each prints and ends with.
+//!
+//! Standard input has a line for each command: its words, as the program takes them behind its own name. The files that
+//! they name stand in the list too: `let NAME HEX` makes a file of bytes, and `text NAME TEXT` one of text, in which each
+//! `@OTHER@` is the file OTHER in hexadecimal. In a command `NAME:N` is the front of a file, N bytes long, and `hex:HEX` a file
+//! of these bytes. Empty lines and those that begin with `#` are printed as they are.
+#![tactic(auto)]
+
+ghost use Rattle.std.specs.Prelude.{◌≡◌};
+ghost use Rattle.board.specs.Jobs.{ticket_of};
+
+mod list;
+mod shelf;
+
+use crate::list::{Line, read_line};
+use crate::shelf::Shelf;
+use commands::perform;
+use host::{JobBox, Reply, Task};
+use std::alloc::{AllocError, Global};
+use std::io::{self, BufRead, BufReader, Write};
+use std::process::ExitCode;
+use std::str;
+use std::sync::Wait;
+use std::thread::Threads;
+use words::parse;
+
+/// The words of a command line, the program's name first.
+fn words_of(alloc: Global, line: &str) -> Result<Vec<String>, AllocError> {
+    let mut words = Vec::new(alloc);
+    words.push(String::from_str(alloc, "wasmloop")?)?;
+    for word in line.split_whitespace() {
+        words.push(String::from_str(alloc, word)?)?;
+    }
+    Ok(words)
+}
+
+/// Performs a command. What it writes to standard error is in the answer, beside what it ends with.
+fn perform_line<R: Threads + Wait + Sync + AllocGlobal, O: Write>(
+    rt: &R,
+    line: &str,
+    shelf: &Shelf,
+    out: &mut O,
+) -> Result<(u8, Vec<u8>), AllocError> {
+    let alloc = rt.alloc();
+    let make = move |task: Task| -> Result<JobBox, AllocError> {
+        let ticket = task.ticket();
+        let run = move || -> Reply
+            ensures { ticket_of result.order ≡ ticket_of task }
+        { task.run(alloc) };
+        Ok(JobBox::new(ticket, Box::new(alloc, run)?))
+    };
+    let words = words_of(alloc, line)?;
+    let mut err = Vec::new(alloc);
+    let status = match parse(alloc, words.as_slice()) {
+        Ok(command) => perform(rt, alloc, &command, shelf, out, &mut err, &make),
+        Err(refused) => refused.tell(out, &mut err),
+    };
+    Ok((status, err))
+}
+
+/// Tells what was written to standard error, each line behind a mark.
+fn tell_errors<O: Write>(err: &[u8], out: &mut O) -> io::Result<()> {
+    for line in str::from_utf8(err).unwrap_or("no text").lines() {
+        writeln!(out, "! {line}")?;
+    }
+    Ok(())
+}
+
+/// Performs a command, and prints it with all that it prints and its status.
+fn show_command<R: Threads + Wait + Sync + AllocGlobal, O: Write>(
+    rt: &R,
+    line: &str,
+    shelf: &Shelf,
+    out: &mut O,
+) -> io::Result<()> {
+    writeln!(out, "$ {line}")?;
+    let (status, err) = perform_line(rt, line, shelf, out)?;
+    tell_errors(err.as_slice(), out)?;
+    writeln!(out, "= {status}")
+}
+
+/// Does what a line of the list says.
+fn take_line<R: Threads + Wait + Sync + AllocGlobal, O: Write>(
+    rt: &R,
+    line: &str,
+    shelf: &mut Shelf,
+    out: &mut O,
+) -> io::Result<()> {
+    match read_line(line) {
+        Line::Remark => writeln!(out, "{line}"),
+        Line::Bytes { name, digits } => shelf.keep_bytes(rt.alloc(), name, digits),
+        Line::Text { name, text } => shelf.keep_text(rt.alloc(), name, text),
+        Line::Command => show_command(rt, line, shelf, out),
+    }
+}
+
+/// Does what each line of the list says.
+fn take_list<R: Threads + Wait + Sync + AllocGlobal, I: BufRead + Drop, O: Write>(
+    rt: &R,
+    list: I,
+    out: &mut O,
+) -> io::Result<()> {
+    let alloc = rt.alloc();
+    let mut shelf = Shelf::new(alloc);
+    for line in list.lines(alloc) {
+        take_line(rt, line?.as_str(), &mut shelf, out)?;
+    }
+    out.flush()
+}
+
+fn main(rt: HostRuntime) -> ExitCode {
+    let mut out = rt.stdout();
+    let Ok(list) = BufReader::new(rt.alloc(), rt.reader()) else {
+        return ExitCode::FAILURE;
+    };
+    match take_list(&rt, list, &mut out) {
+        Ok(()) => ExitCode::SUCCESS,
+        Err(_) => ExitCode::FAILURE,
+    }
+}

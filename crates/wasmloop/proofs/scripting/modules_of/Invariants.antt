@@ -1,9 +1,0 @@
-use Rattle.std.proofs.Common.{◌≡◌, ◌≤◌, length}
-use Rattle.wasmloop.proofs.scripting.modules_of.Given as goal
-
-abbrev pub invariant-loop-number : goal.invariant-loop-number
-invariant-loop-number l = record {
-  count : length l.linked.items ≡ l.number-counter;
-  end : l.number-end ≡ length l.texts;
-  within : l.number-counter ≤ l.number-end;
-}

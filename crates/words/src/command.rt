@@ -1,0 +1,72 @@
+// What the program is asked to do.
+
+ghost use Rattle.std.specs.Prelude.{◌≤◌, vec_len};
+
+/// How far a call may go.
+#[derive(Clone, Copy, Debug, PartialEq, Eq)]
+pub struct Budget {
+    /// How many instructions may be paid for.
+    pub fuel: u64,
+    /// How many calls may stand open, 1 to 128.
+    pub depth: u32,
+    pub ghost in_range: { (1 ≤ depth) × (depth ≤ 128) },
+}
+
+/// A function of a module and the words that spell its arguments.
+#[derive(Drop)]
+pub struct Invocation {
+    /// The file of the module.
+    pub file: String,
+    /// The name that the function is exported under.
+    pub name: String,
+    /// The arguments, as unsigned decimal numbers.
+    pub arguments: Vec<String>,
+    /// What the start function and the function may use together.
+    pub budget: Budget,
+}
+
+/// A work order for a module.
+#[derive(Drop)]
+pub struct WorkOrder {
+    /// The file of the module.
+    pub file: String,
+    /// What `uv_work` is given.
+    pub operation: u32,
+    /// What it may read, at most 65,536 bytes.
+    pub bytes: Vec<u8>,
+    /// What the start function and `uv_work` may use together.
+    pub budget: Budget,
+    pub ghost short: { vec_len bytes ≤ 65536 },
+}
+
+/// Loops of a module and workers beside them.
+#[derive(Drop)]
+pub struct Service {
+    /// The file of the module.
+    pub file: String,
+    /// How many loops there are, 1 to 8.
+    pub loops: u32,
+    /// How many workers there are, 1 to 16.
+    pub workers: u32,
+    /// What a callback may use.
+    pub budget: Budget,
+    /// How many instructions a work function may pay for.
+    pub work_fuel: u64,
+    pub ghost few_loops: { (1 ≤ loops) × (loops ≤ 8) },
+    pub ghost few_workers: { (1 ≤ workers) × (workers ≤ 16) },
+}
+
+/// A command with its words.
+#[derive(Drop)]
+pub enum Command {
+    /// Tells whether the module in the file is accepted.
+    Check { file: String },
+    /// Calls an exported function of a module.
+    Invoke(Invocation),
+    /// Lets a module compute a reply.
+    Work(WorkOrder),
+    /// Takes the steps of a script.
+    Script { file: String },
+    /// Runs loops of a module and workers in threads.
+    Serve(Service),
+}

@@ -1,0 +1,167 @@
+// From the words of the command line to a command.
+
+ghost use Rattle.std.specs.Prelude.{◌≤◌, IfOk, vec_len};
+
+use crate::command::{Budget, Command, Invocation, Service, WorkOrder};
+use crate::grammar;
+use crate::number::{decimal, small_decimal};
+use crate::refused::Refused;
+use clap::ArgMatches;
+use clap::error::ErrorKind;
+use hex::FromHexError;
+use std::alloc::Global;
+
+/// How many bytes a work order has at most.
+const MAX_BYTES: usize = 65_536;
+
+/// How many calls may stand open at most.
+const MAX_DEPTH: u64 = 128;
+
+/// How many loops are served at most.
+const MAX_LOOPS: u64 = 8;
+
+/// How many workers serve them at most.
+const MAX_WORKERS: u64 = 16;
+
+fn refused(alloc: Global, error: clap::Error) -> Refused {
+    let shown = !error.use_stderr();
+    match (error.kind(), error.to_string(alloc)) {
+        (ErrorKind::OutOfMemory, _) | (_, Err(_)) => Refused::Memory,
+        (_, Ok(text)) if shown => Refused::Help(text),
+        (_, Ok(text)) => Refused::Usage(text),
+    }
+}
+
+/// A word that the grammar asks for, so that it is there.
+fn word<'a>(matches: &ArgMatches<'a>, id: &str) -> Result<&'a str, Refused> {
+    matches.get_str(id).ok_or(Refused::Arguments)
+}
+
+fn text(alloc: Global, matches: &ArgMatches<'_>, id: &str) -> Result<String, Refused> {
+    Ok(String::from_str(alloc, word(matches, id)?)?)
+}
+
+/// The number of an option, which lies between two bounds.
+fn option(
+    alloc: Global,
+    matches: &ArgMatches<'_>,
+    name: &str,
+    least: u64,
+    most: u64,
+) -> Result<u64, Refused>
+    ensures { IfOk result (λ number. (least ≤ number) × (number ≤ most)) }
+{
+    let value = word(matches, name)?;
+    match decimal(value) {
+        Some(number) if least <= number && number <= most => Ok(number),
+        _ => Err(Refused::Usage(format!(in alloc;
+            "error: invalid value '{value}' for '--{name} <N>': no whole number from {least} to {most}\n\n\
+             For more information, try '--help'."
+        )?)),
+    }
+}
+
+fn budget(alloc: Global, matches: &ArgMatches<'_>) -> Result<Budget, Refused> {
+    let fuel = option(alloc, matches, "fuel", 0, u64::MAX)?;
+    let depth = option(alloc, matches, "depth", 1, MAX_DEPTH)? as u32;
+    Ok(Budget { fuel, depth })
+}
+
+fn check(alloc: Global, matches: &ArgMatches<'_>) -> Result<Command, Refused> {
+    let file = text(alloc, matches, "file")?;
+    Ok(Command::Check { file })
+}
+
+fn arguments(alloc: Global, matches: &ArgMatches<'_>) -> Result<Vec<String>, Refused> {
+    let mut found = Vec::new(alloc);
+    for argument in matches.get_strs("arguments").unwrap_or(&[]) {
+        found.push(String::from_str(alloc, argument)?)?;
+    }
+    Ok(found)
+}
+
+fn invoke(alloc: Global, matches: &ArgMatches<'_>) -> Result<Command, Refused> {
+    Ok(Command::Invoke(Invocation {
+        budget: budget(alloc, matches)?,
+        file: text(alloc, matches, "file")?,
+        name: text(alloc, matches, "name")?,
+        arguments: arguments(alloc, matches)?,
+    }))
+}
+
+/// The bytes that a word spells in hexadecimal.
+fn bytes(alloc: Global, word: &str) -> Result<Vec<u8>, Refused>
+    ensures { IfOk result (λ bytes. vec_len bytes ≤ MAX_BYTES) }
+{
+    match hex::decode(alloc, word) {
+        Ok(bytes) if bytes.len() <= MAX_BYTES => Ok(bytes),
+        Err(FromHexError::OutOfMemory) => Err(Refused::Memory),
+        _ => Err(Refused::Arguments),
+    }
+}
+
+fn work(alloc: Global, matches: &ArgMatches<'_>) -> Result<Command, Refused> {
+    let operation = small_decimal(word(matches, "operation")?).ok_or(Refused::Arguments)?;
+    let bytes = bytes(alloc, matches.get_str("bytes").unwrap_or(""))?;
+    Ok(Command::Work(WorkOrder {
+        budget: budget(alloc, matches)?,
+        file: text(alloc, matches, "file")?,
+        operation,
+        bytes,
+    }))
+}
+
+fn script(alloc: Global, matches: &ArgMatches<'_>) -> Result<Command, Refused> {
+    let file = text(alloc, matches, "file")?;
+    Ok(Command::Script { file })
+}
+
+fn serve(alloc: Global, matches: &ArgMatches<'_>) -> Result<Command, Refused> {
+    let loops = option(alloc, matches, "loops", 1, MAX_LOOPS)? as u32;
+    let workers = option(alloc, matches, "workers", 1, MAX_WORKERS)? as u32;
+    let budget = budget(alloc, matches)?;
+    let work_fuel = option(alloc, matches, "work-fuel", 0, u64::MAX)?;
+    Ok(Command::Serve(Service {
+        file: text(alloc, matches, "file")?,
+        loops,
+        workers,
+        budget,
+        work_fuel,
+    }))
+}
+
+/// The command that was found among the words, where there is one.
+fn command_found(
+    alloc: Global,
+    found: Option<(&str, &ArgMatches<'_>)>,
+) -> Option<Result<Command, Refused>> {
+    let (name, matches) = found?;
+    match name {
+        "check" => Some(check(alloc, matches)),
+        "invoke" => Some(invoke(alloc, matches)),
+        "work" => Some(work(alloc, matches)),
+        "script" => Some(script(alloc, matches)),
+        "serve" => Some(serve(alloc, matches)),
+        _ => None,
+    }
+}
+
+fn missing(alloc: Global, program: &mut clap::Command<'_>) -> Refused {
+    match program.error(ErrorKind::MissingSubcommand, "a command is missing") {
+        Ok(error) => refused(alloc, error),
+        Err(_) => Refused::Memory,
+    }
+}
+
+/// The command that the words ask for. The first of them is the program's name.
+pub fn parse(alloc: Global, words: &[String]) -> Result<Command, Refused> {
+    let mut program = grammar::program(alloc)?;
+    let matches = match program.try_get_matches_from_mut(words) {
+        Ok(matches) => matches,
+        Err(error) => return Err(refused(alloc, error)),
+    };
+    match command_found(alloc, matches.subcommand()) {
+        Some(command) => command,
+        None => Err(missing(alloc, &mut program)),
+    }
+}

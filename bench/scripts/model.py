@@ -278,12 +278,12 @@ class Loop:
             return [(phase, n, start) for start, n in self.active(phase)]
         if phase == "poll":
             ready = [("after", n) for n in sorted(self.requests) if self.requests[n].state in ("answered", "cancelled")]
-            return ready + [("async", n) for n in self.asyncs if n in self.handles and self.is_async(n)]
+            return ready + [("async", n) for k, n in enumerate(self.asyncs) if self.is_async(n, k)]
         return [("close", n) for n in self.closing]
 
-    def is_async(self, handle):
-        h = self.handles[handle]
-        return h.kind == "async" and h.active and self.asyncs[h.number] == handle
+    def is_async(self, handle, number):
+        h = self.handles.get(handle)
+        return h is not None and h.kind == "async" and h.active and h.number == number
 
     def step(self):
         if self.status != "running":

@@ -63,6 +63,13 @@ pub fn one_ending()
     ensures calls { (m : Contents) (depth fuel : ℕ) (s : Store) (function : ℕ) (args : List Value) (trace : List HostCall) (outcome outcome' : Outcome) (used used' : ℕ) (t t' : Store) → Invokes m depth fuel s function args trace outcome used t → Invokes m depth fuel s function args trace outcome' used' t' → (outcome ≡ outcome') × (used ≡ used') × (t ≡ t') }
 {}
 
+/// A law, with nothing to run: a run leaves the table as it was, since no instruction writes it. So does a call from
+/// outside.
+pub fn table_stays()
+    ensures runs { (m : Contents) (depth fuel : ℕ) (s : Store) (contexts : List Context) (trace : List HostCall) (outcome : Outcome) (used : ℕ) (t : Store) → RunsWithin m depth fuel s contexts trace outcome used t → t.table ≡ s.table }
+    ensures calls { (m : Contents) (depth fuel : ℕ) (s : Store) (function : ℕ) (args : List Value) (trace : List HostCall) (outcome : Outcome) (used : ℕ) (t : Store) → Invokes m depth fuel s function args trace outcome used t → t.table ≡ s.table }
+{}
+
 /// A law, with nothing to run: where the calls of a host are a function of what is seen of its state and of what is
 /// asked, one start has one run at most: one list of the host's calls, one ending, one number of used fuel, one store and
 /// one last sight of the host. So has a call from outside, and `invoke` then has one answer.

@@ -12,8 +12,6 @@ mod plan;
 mod record;
 mod settings;
 mod task;
-#[cfg(test)]
-mod tests;
 mod threads;
 mod turn;
 

@@ -1,0 +1,35 @@
+-- The functions behind the imports, as they are found one by one.
+use Rattle.std.proofs.Common.{◌≡◌, ◌⊎◌, inl, inr, ℕ, zero, suc, ◌+◌, ◌<◌, ◌≤◌, List, [], ◌∷◌, length, Option, Some, None, MatchOption, unwrap_or, refl, sym, ◌∙◌, subst, arith}
+use Rattle.std.specs.Prelude.{slice_get, slice_set}
+use Rattle.syntax.specs.declared.module.Contents.{Contents}
+use Rattle.syntax.proofs.ExportLaws.{below_or_at}
+use Rattle.imports.specs.declared.call.Call.{Call}
+use Rattle.imports.specs.declared.call.Call.TheVariants.{Now}
+use Rattle.imports.specs.Linking.{Imports}
+
+put_there : (calls : List Call) (at : ℕ) (c : Call) → at < length calls → slice_get (slice_set calls at c) at ≡ Some c
+put_there [] at c h = absurd (omega arith)
+put_there (x ∷ calls) zero c h = refl
+put_there (x ∷ calls) (suc at) c h = put_there calls at c (omega arith)
+
+put_elsewhere : (calls : List Call) (at k : ℕ) (c : Call) → k < at → slice_get (slice_set calls at c) k ≡ slice_get calls k
+put_elsewhere calls zero k c h = absurd (omega arith)
+put_elsewhere [] (suc at) k c h = refl
+put_elsewhere (x ∷ calls) (suc at) zero c h = refl
+put_elsewhere (x ∷ calls) (suc at) (suc k) c h = put_elsewhere calls at k c (omega arith)
+
+-- those in front of a place are there
+abbrev pub Found : Contents → ℕ → List Call → Type 0
+Found m at calls = (k : ℕ) → k < at → k < length m.imports → (c : Call) × (slice_get calls k ≡ Some c) × Imports m k c
+
+module _ (m : Contents) (at : ℕ) (calls : List Call) (c : Call) (room : at < length calls) (is : Imports m at c) (all : Found m at calls) where
+  pub one_more : Found m (at + 1) (slice_set calls at c)
+  one_more k less within = by (below_or_at k at less) where
+    by : (k < at) ⊎ (k ≡ at) → (d : Call) × (slice_get (slice_set calls at c) k ≡ Some d) × Imports m k d
+    by (inl before) = let f = all k before within in (f.0, put_elsewhere calls at k c before ∙ f.1, f.2)
+    by (inr e) =
+        subst (λ (n : ℕ). (d : Call) × (slice_get (slice_set calls at c) n ≡ Some d) × Imports m n d) (sym e) (c, put_there calls at c room, is)
+
+pub or_now : (m : Contents) (at : ℕ) (r : Option Call) → MatchOption r (length m.imports ≤ at) (Imports m at) → at < length m.imports → Imports m at (unwrap_or r Now)
+or_now m at None k h = absurd (omega arith)
+or_now m at (Some c) k h = k

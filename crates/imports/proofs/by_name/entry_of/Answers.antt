@@ -1,0 +1,23 @@
+use Rattle.std.proofs.Common.{◌≡◌, ◌≢◌, rules}
+use Rattle.std.proofs.lemmas.Slice.Eq.{bytes_eq-Decides}
+use Rattle.syntax.specs.declared.module.Contents.{Contents}
+use Rattle.syntax.specs.declared.module.ModuleExport.{ModuleExport}
+use Rattle.validate.proofs.Items.{all_at_end}
+use Rattle.imports.specs.Uv.{name_of_entry}
+use Rattle.imports.proofs.Known.{callable_at}
+use Rattle.imports.proofs.by_name.entry_of.Goals as goal
+
+pub returns-then-eq : goal.returns-then-eq
+returns-then-eq c =
+    let m : Contents = c.args.contents.now in
+    let equal : c.as_slice.result.now ≡ c.as_bytes.result.now = search (rules, bytes_eq-Decides) in
+    let named : name_of_entry c.args.entry ≡ c.export-item.result.name = cc in
+    let k = callable_at m c.loop-export.export-index c.export-item.result c.args.entry (search rules) (search rules) c.requires named in
+    record { found = k.0; typed = k.1 }
+
+pub returns : goal.returns
+returns c =
+    record {
+      found = all_at_end (λ (e : ModuleExport). name_of_entry c.args.entry ≢ e.name) c.args.contents.now.exports c.loop-export.export-index (search rules) c.loop-export.invariant;
+      typed = tt;
+    }

@@ -1,0 +1,191 @@
+// A loop cancels a request at each point of its job's way.
+ghost use Rattle.std.specs.Prelude.{◌≡◌};
+ghost use Rattle.std.specs.Thread.{IsSync};
+
+use crate::gates::{Open, comes};
+use crate::hall::{End, Hall, LoopSide, WorkerSide, ticket};
+use crate::jobs::Jobs;
+use board::JobBox;
+use claims::Ticket;
+use pool::{Gate, Point};
+use std::alloc::Global;
+use std::sync::Wait;
+use std::sync::atomic::{AtomicU64, Ordering};
+use std::test::Fail;
+use std::thread;
+use std::thread::Threads;
+
+// Holds a worker at one point until it is let go.
+#[derive(Drop)]
+struct HoldAt {
+    point: Point,
+    reached: AtomicU64,
+    let_go: AtomicU64,
+    ran_out: AtomicU64,
+}
+
+impl HoldAt {
+    fn new(point: Point) -> HoldAt {
+        HoldAt {
+            point,
+            reached: AtomicU64::new(0),
+            let_go: AtomicU64::new(0),
+            ran_out: AtomicU64::new(0),
+        }
+    }
+
+    // Waits until the word is 1. Notes where the turns run out.
+    fn wait_for(&self, word: &AtomicU64) {
+        if !comes(word, 1) {
+            self.ran_out.store(1, Ordering::SeqCst);
+        }
+    }
+}
+
+impl Gate for HoldAt {
+    fn at(&self, point: Point, _ticket: Ticket) {
+        if point == self.point {
+            self.reached.store(1, Ordering::SeqCst);
+            self.wait_for(&self.let_go);
+        }
+    }
+}
+
+// What was seen of request 1: whether it was posted, what two tries to cancel it answered, what the worker did, whether
+// the turns ran out, of which request a reply came, and how often the box was called.
+#[derive(Clone, Copy, Debug, PartialEq)]
+struct Seen {
+    posted: bool,
+    cancelled: (bool, bool),
+    end: End,
+    ran_out: bool,
+    reply: Option<u32>,
+    calls: u64,
+}
+
+// Where the request is cancelled.
+#[derive(Clone, Copy, Debug)]
+enum When {
+    Opened,
+    Posted,
+    HeldAt(Point),
+}
+
+// What two tries to cancel request 1 answer.
+fn cancel_twice(side: &mut LoopSide<'_>) -> (bool, bool) {
+    (side.cancel(1), side.cancel(1))
+}
+
+// Cancels request 1 once its job is held, and then lets the job go.
+fn cancel_while_held(side: &mut LoopSide<'_>, hold: &HoldAt) -> (bool, bool) {
+    hold.wait_for(&hold.reached);
+    let answers = cancel_twice(side);
+    hold.let_go.store(1, Ordering::SeqCst);
+    answers
+}
+
+// A worker takes the job in a thread of its own, and the loop cancels while the job is held.
+fn held<R: Threads + Wait + Sync>(
+    rt: &R,
+    side: &mut LoopSide<'_>,
+    worker: &mut WorkerSide<'_>,
+    point: Point,
+) -> (End, (bool, bool), bool) {
+    let hold = HoldAt::new(point);
+    let (end, cancelled) = thread::join(
+        rt,
+        || -> End
+            requires { IsSync R.row }
+        { worker.turn(rt, &hold) },
+        || cancel_while_held(side, &hold),
+    );
+    (end, cancelled, hold.ran_out.load(Ordering::SeqCst) == 1)
+}
+
+// The loop cancels before the worker looks at the board.
+fn early<R: Wait>(
+    rt: &R,
+    side: &mut LoopSide<'_>,
+    worker: &mut WorkerSide<'_>,
+) -> (End, (bool, bool), bool) {
+    let cancelled = cancel_twice(side);
+    (worker.turn(rt, &Open), cancelled, false)
+}
+
+fn turn<R: Threads + Wait + Sync>(
+    rt: &R,
+    jobs: &Jobs,
+    side: &mut LoopSide<'_>,
+    worker: &mut WorkerSide<'_>,
+    when: When,
+) -> Result<Seen, Fail> {
+    side.open()?;
+    let posted = !matches!(when, When::Opened) && side.post(rt);
+    let (end, cancelled, ran_out) = match when {
+        When::HeldAt(point) => held(rt, side, worker, point),
+        When::Opened | When::Posted => early(rt, side, worker),
+    };
+    Ok(Seen {
+        posted,
+        cancelled,
+        end,
+        ran_out,
+        reply: side.collect(rt),
+        calls: jobs.called(),
+    })
+}
+
+// By one worker, with these jobs.
+fn in_hall<R: Threads + Wait + Sync>(
+    rt: &R,
+    alloc: Global,
+    jobs: &Jobs,
+    made: Vec<JobBox>,
+    when: When,
+) -> Result<Seen, Fail> {
+    let (hall, gear) = Hall::new(alloc, 1)?;
+    let (mut side, mut spares) = hall.settle(made, gear);
+    turn(rt, jobs, &mut side, &mut spares.worker()?, when)
+}
+
+fn cancelled<R: Threads + Wait + Sync>(rt: &R, alloc: Global, when: When) -> Result<Seen, Fail> {
+    let jobs = Jobs::new(alloc)?;
+    in_hall(rt, alloc, &jobs, jobs.in_turn(1)?, when)
+}
+
+#[test]
+fn a_request_is_cancelled_until_it_is_started(rt: HostRuntime) -> Result<(), Fail> {
+    let dropped = Seen {
+        posted: true,
+        cancelled: (true, false),
+        end: End::Dropped(ticket(1)),
+        ran_out: false,
+        reply: None,
+        calls: 0,
+    };
+    let never_run = Seen {
+        posted: false,
+        end: End::Nothing,
+        ..dropped
+    };
+    let replied = Seen {
+        cancelled: (false, false),
+        end: End::Replied(ticket(1)),
+        reply: Some(1),
+        calls: 1,
+        ..dropped
+    };
+    let cases = [
+        (When::Opened, never_run),
+        (When::Posted, dropped),
+        (When::HeldAt(Point::Taken), dropped),
+        (When::HeldAt(Point::Started), replied),
+        (When::HeldAt(Point::Finished), replied),
+        (When::HeldAt(Point::Replied), replied),
+    ];
+    for (when, expected) in cases {
+        let seen = cancelled(&rt, rt.alloc(), when)?;
+        assert_eq!(rt; seen, expected, "{when:?}");
+    }
+    Ok(())
+}

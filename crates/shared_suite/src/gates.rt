@@ -1,0 +1,24 @@
+// Gates at which workers may be held.
+
+use claims::Ticket;
+use pool::{Gate, Point};
+use std::sync::atomic::{AtomicU64, Ordering};
+use std::thread;
+
+// A gate that holds nobody.
+pub struct Open;
+
+impl Gate for Open {
+    fn at(&self, _point: Point, _ticket: Ticket) {}
+}
+
+// Waits for the word to be this number, for at most 1,000,000 turns. Whether it came to be.
+pub fn comes(word: &AtomicU64, number: u64) -> bool {
+    for _ in 0..1_000_000 {
+        if word.load(Ordering::SeqCst) == number {
+            return true;
+        }
+        thread::yield_now();
+    }
+    false
+}

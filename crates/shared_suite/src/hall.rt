@@ -1,0 +1,277 @@
+// A board and claims for one loop and some workers, and the sides from which they are used.
+ghost use Rattle.std.specs.Prelude.{◌≡◌, ◌<◌, ◌≤◌, length, All, IfOk, IfSome};
+ghost use Rattle.board.specs.Boards.{IsPassOf};
+ghost use Rattle.claims.specs.Views.{new_loop_view};
+
+use board::{Board, JobBox, Pass};
+use claims::{Claims, LoopSeat, NewClaims, SLOTS, Ticket, WorkerSeat};
+use order::Reply;
+use pool::{Did, Gate, work_one, work_until_closed};
+use std::alloc::{AllocError, Global};
+use std::sync::Wait;
+use std::test::Fail;
+
+// The ticket of the loop's request, in the slots in turn.
+pub fn ticket(request: u32) -> Ticket
+    ensures request { (result.request ≡ request) × (result.loop_no ≡ 0) }
+    ensures slot { result.slot < 32 }
+{
+    Ticket {
+        loop_no: 0,
+        slot: request % SLOTS,
+        request,
+    }
+}
+
+#[derive(Drop)]
+pub struct Hall {
+    pub board: Board,
+    pub claims: Claims,
+    ghost loops: { (length board.replies ≡ 1) × (claims.loops ≡ 1) },
+}
+
+// What a new hall hands out.
+#[derive(Drop)]
+pub struct Gear {
+    loop_pass: Pass,
+    loop_seat: LoopSeat,
+    passes: Vec<Pass>,
+    worker_seats: Vec<WorkerSeat>,
+}
+
+#[tactic(auto, using(crate::proofs::Crew::all_own))]
+fn with_workers(
+    alloc: Global,
+    workers: u32,
+) -> Result<(Claims, LoopSeat, Vec<WorkerSeat>), AllocError>
+    requires { workers ≤ 16 }
+    ensures loops { IfOk result (λ m. m.0.loops ≡ 1) }
+    ensures loop_seat { IfOk result (λ m. m.1 ≡ new_loop_view m.0.id 0) }
+    ensures workers { IfOk result (λ m. All (λ s. s.claims ≡ m.0.id) m.2.items) }
+{
+    let NewClaims {
+        claims,
+        mut loop_seats,
+        worker_seats,
+    } = Claims::new(alloc, 1, workers)?;
+    let Some(loop_seat) = loop_seats.pop() else {
+        unreachable!()
+    };
+    Ok((claims, loop_seat, worker_seats))
+}
+
+#[tactic(auto, using(crate::proofs::Crew::passes_own))]
+fn with_passes(alloc: Global, workers: u32) -> Result<(Board, Pass, Vec<Pass>), AllocError>
+    requires { workers ≤ 16 }
+    ensures loops { IfOk result (λ m. length m.0.replies ≡ 1) }
+    ensures pass { IfOk result (λ m. IsPassOf m.0 m.1) }
+    ensures passes { IfOk result (λ m. All (IsPassOf m.0) m.2.items) }
+{
+    let (board, mut passes) = Board::new(alloc, 1, workers as usize + 1)?;
+    let Some(pass) = passes.pop() else {
+        unreachable!()
+    };
+    Ok((board, pass, passes))
+}
+
+impl Hall {
+    // A hall with one pass for the loop and one for each worker.
+    pub fn new(alloc: Global, workers: u32) -> Result<(Hall, Gear), AllocError>
+        requires { workers ≤ 16 }
+        ensures loop_pass { IfOk result (λ h. IsPassOf h.0.board h.1.loop_pass) }
+        ensures loop_seat { IfOk result (λ h. h.1.loop_seat ≡ new_loop_view h.0.claims.id 0) }
+        ensures passes { IfOk result (λ h. All (IsPassOf h.0.board) h.1.passes.items) }
+        ensures worker_seats { IfOk result (λ h. All (λ s. s.claims ≡ h.0.claims.id) h.1.worker_seats.items) }
+    {
+        let (claims, loop_seat, worker_seats) = with_workers(alloc, workers)?;
+        let (board, loop_pass, passes) = with_passes(alloc, workers)?;
+        let gear = Gear {
+            loop_pass,
+            loop_seat,
+            passes,
+            worker_seats,
+        };
+        Ok((Hall { board, claims }, gear))
+    }
+
+    // The loop's side, where its requests have these jobs, and what is left for the workers.
+    pub fn settle<'a>(&'a self, jobs: Vec<JobBox>, gear: Gear) -> (LoopSide<'a>, Spares<'a>)
+        requires loop_pass { IsPassOf self.now.board gear.loop_pass }
+        requires loop_seat { gear.loop_seat ≡ new_loop_view self.now.claims.id 0 }
+        requires passes { All (IsPassOf self.now.board) gear.passes.items }
+        requires worker_seats { All (λ s. s.claims ≡ self.now.claims.id) gear.worker_seats.items }
+    {
+        let Gear {
+            loop_pass,
+            loop_seat,
+            passes,
+            worker_seats,
+        } = gear;
+        let side = LoopSide {
+            hall: self,
+            jobs,
+            pass: loop_pass,
+            seat: loop_seat,
+            next: 1,
+            kept: None,
+        };
+        let spares = Spares {
+            hall: self,
+            passes,
+            seats: worker_seats,
+        };
+        (side, spares)
+    }
+}
+
+// The passes and seats that no worker has yet.
+#[derive(Drop)]
+pub struct Spares<'a> {
+    hall: &'a Hall,
+    passes: Vec<Pass>,
+    seats: Vec<WorkerSeat>,
+    ghost passes_own: { All (IsPassOf hall.now.board) passes.items },
+    ghost seats_own: { All (λ s. s.claims ≡ hall.now.claims.id) seats.items },
+}
+
+impl<'a> Spares<'a> {
+    // The next worker's side.
+    pub fn worker(&mut self) -> Result<WorkerSide<'a>, AllocError> {
+        if self.passes.is_empty() || self.seats.is_empty() {
+            return Err(AllocError);
+        }
+        let (Some(pass), Some(seat)) = (self.passes.pop(), self.seats.pop()) else {
+            unreachable!()
+        };
+        Ok(WorkerSide {
+            hall: self.hall,
+            pass,
+            seat,
+        })
+    }
+}
+
+// What a worker did in one turn.
+#[derive(Clone, Copy, Debug, PartialEq)]
+pub enum End {
+    Nothing,
+    Dropped(Ticket),
+    Replied(Ticket),
+    Stuck(u32),
+}
+
+fn end_of(did: Did) -> End {
+    match did {
+        Did::Nothing => End::Nothing,
+        Did::Dropped(ticket) => End::Dropped(ticket),
+        Did::Replied(ticket) => End::Replied(ticket),
+        Did::Stuck(reply) => End::Stuck(reply.order.request),
+    }
+}
+
+#[derive(Drop)]
+pub struct WorkerSide<'a> {
+    hall: &'a Hall,
+    pass: Pass,
+    seat: WorkerSeat,
+    ghost pass_own: { IsPassOf hall.now.board pass },
+    ghost seat_own: { seat.claims ≡ hall.now.claims.id },
+}
+
+impl<'a> WorkerSide<'a> {
+    pub fn turn<G: Gate, R: Wait>(&mut self, rt: &R, gate: &G) -> End {
+        let hall = self.hall;
+        end_of(work_one(
+            rt,
+            &hall.board,
+            &mut self.pass,
+            &hall.claims,
+            &mut self.seat,
+            gate,
+        ))
+    }
+
+    pub fn work_until_closed<G: Gate, R: Wait>(self, rt: &R, gate: &G) {
+        let WorkerSide {
+            hall,
+            mut pass,
+            mut seat,
+        } = self;
+        work_until_closed(rt, &hall.board, &mut pass, &hall.claims, &mut seat, gate);
+    }
+}
+
+// The loop opens its requests in the slots in turn, and pops the job that it posts. It keeps one that was refused.
+#[derive(Drop)]
+pub struct LoopSide<'a> {
+    hall: &'a Hall,
+    jobs: Vec<JobBox>,
+    pass: Pass,
+    seat: LoopSeat,
+    next: u32,
+    kept: Option<JobBox>,
+    ghost pass_own: { IsPassOf hall.now.board pass },
+    ghost seat_own: { (seat.claims ≡ hall.now.claims.id) × (seat.loop_no ≡ 0) },
+    ghost rising: { (0 < next) × All (λ c. c.1 < next) seat.opened },
+}
+
+// The largest request that a loop may open here.
+const LAST: u32 = 1000;
+
+impl<'a> LoopSide<'a> {
+    // Opens the next request. Its number.
+    #[tactic(auto, using(crate::proofs::Rising::below_next))]
+    pub fn open(&mut self) -> Result<u32, Fail> {
+        let request = self.next;
+        if request > LAST {
+            return Err(Fail::from("no number left"));
+        }
+        let slot = ticket(request).slot;
+        self.hall.claims.open(&mut self.seat, slot, request);
+        self.next = request + 1;
+        Ok(request)
+    }
+
+    pub fn cancel(&mut self, request: u32) -> bool {
+        self.hall.claims.cancel(&mut self.seat, ticket(request))
+    }
+
+    // Posts the next job. Whether the board took it.
+    pub fn post<R: Wait>(&mut self, rt: &R) -> bool {
+        let Some(job) = self.jobs.pop() else {
+            return false;
+        };
+        match self.hall.board.post(rt, &mut self.pass, job) {
+            Ok(()) => true,
+            Err(job) => {
+                self.kept = Some(job);
+                false
+            }
+        }
+    }
+
+    // Posts the job that was refused. Whether the board took it.
+    pub fn post_kept<R: Wait>(&mut self, rt: &R) -> bool {
+        let Some(job) = self.kept.take() else {
+            return false;
+        };
+        self.hall.board.post(rt, &mut self.pass, job).is_ok()
+    }
+
+    // Puts a reply. Whether the board took it.
+    pub fn put_reply<R: Wait>(&mut self, rt: &R, reply: Reply) -> bool
+        requires { reply.order.loop_no ≡ 0 }
+    {
+        self.hall.board.put_reply(rt, &mut self.pass, reply).is_ok()
+    }
+
+    // Collects a reply. Its request.
+    pub fn collect<R: Wait>(&mut self, rt: &R) -> Option<u32> {
+        let reply = self.hall.board.collect(rt, &mut self.pass, 0)?;
+        Some(reply.order.request)
+    }
+
+    pub fn close(&self) {
+        self.hall.board.close();
+    }
+}

@@ -1,0 +1,103 @@
+// The jobs of the tests. Their orders are for a module with nothing in it, and each is answered that there was no memory.
+ghost use Rattle.std.specs.Prelude.{◌≡◌, IfOk};
+ghost use Rattle.board.specs.Jobs.{ticket_of};
+
+use crate::hall::ticket;
+use crate::modules::linked_of;
+use board::JobBox;
+use claims::Ticket;
+use imports::Linked;
+use order::{Order, Reply};
+use std::alloc::{AllocError, Global};
+use std::sync::Arc;
+use std::sync::atomic::{AtomicU64, Ordering};
+use std::test::Fail;
+
+// What jobs are made of, and how often they were called.
+#[derive(Drop)]
+pub struct Jobs {
+    alloc: Global,
+    module: Arc<Linked>,
+    bytes: Arc<Vec<u8>>,
+    pub calls: Arc<AtomicU64>,
+}
+
+// A module with nothing in it.
+const EMPTY: &str = "0061736d01000000";
+
+impl Jobs {
+    pub fn new(alloc: Global) -> Result<Jobs, Fail> {
+        Ok(Jobs {
+            alloc,
+            module: linked_of(alloc, EMPTY)?,
+            bytes: Arc::new(alloc, Vec::new(alloc))?,
+            calls: Arc::new(alloc, AtomicU64::new(0))?,
+        })
+    }
+
+    // One more owner of each part.
+    fn shared(&self) -> Result<Jobs, AllocError> {
+        Ok(Jobs {
+            alloc: self.alloc,
+            module: Arc::try_clone(&self.module)?,
+            bytes: Arc::try_clone(&self.bytes)?,
+            calls: Arc::try_clone(&self.calls)?,
+        })
+    }
+
+    fn into_reply(self, ticket: Ticket) -> Reply
+        ensures { ticket_of result.order ≡ ticket }
+    {
+        let order = Order {
+            loop_no: ticket.loop_no,
+            request: ticket.request,
+            slot: ticket.slot,
+            module: self.module,
+            op: 0,
+            bytes: self.bytes,
+            fuel: 0,
+            depth: 1,
+        };
+        order.out_of_memory()
+    }
+
+    // The reply to the ticket's request.
+    pub fn reply(&self, ticket: Ticket) -> Result<Reply, AllocError>
+        ensures { IfOk result (λ reply. ticket_of reply.order ≡ ticket) }
+    {
+        Ok(self.shared()?.into_reply(ticket))
+    }
+
+    // A job that gives that reply and counts its call.
+    pub fn job(&self, ticket: Ticket) -> Result<JobBox, AllocError>
+        ensures { IfOk result (λ job. job.ticket ≡ ticket) }
+    {
+        let own = self.shared()?;
+        let run = move || -> Reply
+            ensures { ticket_of result.order ≡ ticket }
+        {
+            own.calls.fetch_add(1, Ordering::SeqCst);
+            own.into_reply(ticket)
+        };
+        Ok(JobBox::new(ticket, Box::new(self.alloc, run)?))
+    }
+
+    // The jobs of the loop's first so many requests, to be popped in their order.
+    pub fn in_turn(&self, count: u32) -> Result<Vec<JobBox>, AllocError> {
+        let mut jobs = Vec::new(self.alloc);
+        for n in 0..count {
+            jobs.push(self.job(ticket(count - n))?)?;
+        }
+        Ok(jobs)
+    }
+
+    // How often they were called.
+    pub fn called(&self) -> u64 {
+        self.calls.load(Ordering::SeqCst)
+    }
+
+    // How many jobs still stand, and this.
+    pub fn owners(&self) -> usize {
+        Arc::strong_count(&self.calls)
+    }
+}

@@ -1,0 +1,69 @@
+// A board, by one thread: what comes out of it, and what comes back.
+
+use crate::hall::ticket;
+use crate::hands::{Hand, two_hands};
+use crate::jobs::Jobs;
+use board::{Board, JOBS, Pass, REPLIES};
+use std::alloc::Global;
+use std::process::Abort;
+use std::sync::Wait;
+use std::test::Fail;
+
+// A job goes from one hand to the other, and its reply back.
+fn pass_on<R: Wait + Abort>(
+    rt: &R,
+    jobs: &Jobs,
+    poster: &mut Hand<'_>,
+    worker: &mut Hand<'_>,
+) -> Result<(), Fail> {
+    assert_eq!(rt; worker.take(rt), None);
+    assert_eq!(rt; poster.post(rt, jobs.job(ticket(1))?), None);
+    assert_eq!(rt; worker.take(rt), Some(ticket(1)));
+    assert_eq!(rt; worker.put(rt, jobs.reply(ticket(1))?), None);
+    assert_eq!(rt; (poster.collect(rt), poster.collect(rt)), (Some(1), None));
+    Ok(())
+}
+
+// So many jobs and replies are taken in, and the next of each comes back.
+fn fill<R: Wait + Abort>(rt: &R, jobs: &Jobs, hand: &mut Hand<'_>) -> Result<(), Fail> {
+    for request in 0..JOBS as u32 {
+        assert_eq!(rt; hand.post(rt, jobs.job(ticket(request))?), None);
+    }
+    let last = ticket(JOBS as u32);
+    assert_eq!(rt; hand.post(rt, jobs.job(last)?), Some(last));
+    for request in 0..REPLIES as u32 {
+        assert_eq!(rt; hand.put(rt, jobs.reply(ticket(request))?), None);
+    }
+    let last = ticket(REPLIES as u32);
+    assert_eq!(rt; hand.put(rt, jobs.reply(last)?), Some(last.request));
+    Ok(())
+}
+
+fn on_two_boards<R: Wait + Abort>(rt: &R, alloc: Global, jobs: &Jobs) -> Result<(), Fail> {
+    let (board, mut passes) = Board::new(alloc, 1, 2)?;
+    let (mut poster, mut worker) = two_hands(&board, &mut passes)?;
+    pass_on(rt, jobs, &mut poster, &mut worker)?;
+    let (board, mut passes) = Board::new(alloc, 2, 2)?;
+    let (mut hand, _other) = two_hands(&board, &mut passes)?;
+    fill(rt, jobs, &mut hand)
+}
+
+#[test]
+fn what_one_pass_posts_another_takes_and_a_full_line_gives_back(
+    rt: HostRuntime,
+) -> Result<(), Fail> {
+    on_two_boards(&rt, rt.alloc(), &Jobs::new(rt.alloc())?)
+}
+
+fn is_closed_once(rt: &impl Abort, board: &Board) {
+    assert_eq!(rt; (board.loops(), board.is_closed()), (8, false));
+    board.close();
+    assert!(rt; board.is_closed());
+}
+
+#[test]
+fn a_board_is_closed(rt: HostRuntime) -> Result<(), Fail> {
+    let (board, _passes): (Board, Vec<Pass>) = Board::new(rt.alloc(), 8, 1)?;
+    is_closed_once(&rt, &board);
+    Ok(())
+}

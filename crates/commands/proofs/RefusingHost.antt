@@ -1,6 +1,6 @@
 -- The host that refuses every import names the types of a valid module's imports.
 use Rattle.std.proofs.Common.{◌≡◌, ℕ, zero, suc, ◌<◌, List, [], ◌∷◌, ◌++◌, length, map, Option, Some, None, refl, sym, ap, ◌∙◌, subst, arith}
-use Rattle.std.specs.Prelude.{slice_get, unwrap_or}
+use Rattle.std.specs.Prelude.{slice_get, unwrap_or, option_and_then}
 use Rattle.std.specs.Option.{option_map}
 use Rattle.std.proofs.lemmas.Option.{slice_get-map, slice_get_within, slice_get-get_or, get_or_from_slice_get}
 use Rattle.syntax.specs.declared.module.Contents.{Contents}
@@ -29,7 +29,7 @@ module _ (m : Contents) (v : ValidModule m) where
       let front : slice_get (function_types m) function ≡ Some i.type_index = in_front indexes (map (λ (f : Func). f.type_index) m.functions) function (slice_get_within indexes function i.type_index index) ∙ index in
       let left : slice_get (types_of_imports m) function ≡ Some (type_of_import m i) = slice_get-map (type_of_import m) m.imports function ∙ ap (option_map (type_of_import m)) at in
       let type : type_of_import m i ≡ valid.type = ap (λ (o : Option FuncType). unwrap_or o nothing) valid.known in
-      left ∙ ap (λ (t : FuncType). Some t) type ∙ sym valid.known ∙ ap (type_with m) (sym front)
+      left ∙ ap (λ (t : FuncType). Some t) type ∙ sym valid.known ∙ ap (λ (o : Option ℕ). option_and_then (slice_get m.types) o) (sym front)
 
   pub names_imports : Names m (types_of_imports m)
   names_imports function imported =

@@ -8,7 +8,7 @@ use crate::entry::Entry;
 use syntax::module::Contents;
 
 /// How many functions a module may import.
-const MAX_IMPORTS: usize = 64;
+pub(crate) const MAX_IMPORTS: usize = 64;
 
 /// The functions of the host behind the imports, in their order. What stands behind the last of them says nothing.
 pub(crate) fn calls_of(contents: &Contents) -> [Call; MAX_IMPORTS]

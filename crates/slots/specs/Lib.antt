@@ -1,0 +1,4 @@
+pub mod Holding
+pub mod Turning
+pub mod Lying
+pub mod Simulating

@@ -1,0 +1,4 @@
+//! The slot machine does what the reduction rules do.
+#![tactic(auto)]
+
+pub mod laws;

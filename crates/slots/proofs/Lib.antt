@@ -10,9 +10,14 @@ pub mod Steps
 pub mod Jumps
 pub mod Returns
 pub mod Calling
+pub mod Targets
 pub mod Following
 pub mod FollowingTests
 pub mod FollowingCalls
+pub mod Readying
 pub mod FollowingTable
 pub mod Simulating
 pub mod Running
+pub mod Steadying
+pub mod Closing
+pub mod Building

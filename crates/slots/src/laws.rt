@@ -1,4 +1,4 @@
-// The law of the slot machine.
+// The laws of the slot machine.
 
 ghost use Rattle.std.specs.Prelude.{ℕ, ◌≤◌, List};
 ghost use Rattle.syntax.specs.declared.types.ValType.{ValType};
@@ -8,7 +8,7 @@ ghost use Rattle.interp.specs.Configuration.{Context};
 ghost use Rattle.interp.specs.Places.{Body, AreBodies};
 ghost use Rattle.engine.specs.declared.at.Flow.{Flow};
 ghost use Rattle.engine.specs.declared.function.Program.{Program};
-ghost use Rattle.engine.specs.Stepping.{State, Comes, Ends};
+ghost use Rattle.engine.specs.Stepping.{State, Comes, Ends, Steady};
 ghost use Rattle.slots.specs.Simulating.{IsProgramOf, Onward, Represents, StopsSo};
 
 /// A law, with nothing to run: the slot machine does the reduction. Where it stands for contexts of a run and comes to a
@@ -17,4 +17,10 @@ ghost use Rattle.slots.specs.Simulating.{IsProgramOf, Onward, Represents, StopsS
 pub fn machine_does_the_reduction()
     ensures comes { (m : Contents) (body : ℕ → Body) (p : Program) (room limit : ℕ) (answers : List ValType) → ValidModule m → AreBodies m body → IsProgramOf m body p → limit ≤ 128 → (start : State) (contexts : List Context) → Represents m body p room limit answers start contexts → (st : State) → Comes p start st → Onward m body p room limit answers start contexts st }
     ensures stops { (m : Contents) (body : ℕ → Body) (p : Program) (room limit : ℕ) (answers : List ValType) → ValidModule m → AreBodies m body → IsProgramOf m body p → limit ≤ 128 → (start : State) (contexts : List Context) → Represents m body p room limit answers start contexts → (e : Flow) (st : State) → Ends p start e st → StopsSo m body p room limit answers start contexts e st }
+{}
+
+/// A law, with nothing to run: where the slot machine stands for contexts of a run, it finds an operation wherever it
+/// comes, with all that the operation needs.
+pub fn represented_states_are_steady()
+    ensures { (m : Contents) (body : ℕ → Body) (p : Program) (room limit : ℕ) (answers : List ValType) → ValidModule m → AreBodies m body → IsProgramOf m body p → limit ≤ 128 → (start : State) (contexts : List Context) → Represents m body p room limit answers start contexts → Steady p start }
 {}

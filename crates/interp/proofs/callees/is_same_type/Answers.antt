@@ -9,5 +9,5 @@ returns-then-are_same c =
 
 pub returns-else-are_same : goal.returns-else-are_same
 returns-else-are_same c =
-    let other = other_params c.in-Some-Some.found.now c.in-Some-Some.wanted.now c.are_same.result (search rules) (search rules) in
+    let other = other_params c.in-Some-Some.found.now c.in-Some-Some.wanted.now c.are_same.result c.are_same.result (search rules) in
     search rules

@@ -42,6 +42,7 @@ static void end(void)
 static void on_check(int32_t handle)
 {
     is(handle == check);
+    is(uv_check_stop(check) == 0);
     if (told == REQUESTS && ticks >= TICKS)
         end();
 }
@@ -53,6 +54,7 @@ static void on_tick(int32_t handle)
         is(uv_timer_stop(timer) == 0);
     is(uv_async_send(async) == 0);
     is(uv_async_send(async) == 0);
+    is(uv_check_start(check, on_check) == 0);
 }
 
 static void on_idle(int32_t handle)
@@ -91,6 +93,7 @@ UV_AFTER_WORK(request, kind, code)
         is(code == n * 1000 + sum);
         is(uv_in_len() == length);
     }
+    is(uv_check_start(check, on_check) == 0);
     if (asked < REQUESTS)
         ask();
 }

@@ -29,6 +29,7 @@ const options = parseArgs({
 // Refusals that are this project's own: limits, the profile, and rules on imports and segments.
 const OWN = [
     [/^decode 1[12] /, "the profile or a limit of the format"],
+    [/^decode [78] /, "an instruction or a form of a later version of the standard"],
     [/^validate (6|10|11) /, "a limit on results, operands or nesting"],
     [/^link [1-4] /, "what a guest may import and export"],
 ];

@@ -315,7 +315,8 @@ class Module {
         this.types = Array.from({ length: 1 + random.below(5) }, () => ({ params: random.types(3), results: random.types(3) }));
         this.imports = random.chance(20) ? Object.entries(UV).filter(() => random.chance(25)) : [];
         this.imports = this.imports.map(([name, [params, results]]) => ({ module: "uv", name, type: this.typeOf(params, results) }));
-        this.memories = one(75, () => ({ min: random.below(3), max: random.chance(50) ? 2 + random.below(3) : undefined }));
+        // Each memory declares its most, since without it this host's limit of 64 pages would show.
+        this.memories = one(75, () => ({ min: random.below(3), max: 2 + random.below(3) }));
         this.tables = one(60, () => ({ min: random.below(6), max: random.chance(30) ? 6 : undefined }));
         this.globals = Array.from({ length: random.below(4) }, () => ({ type: random.type(), mutable: random.chance(60), value: number(random) }));
         this.counter = this.globals.length;

@@ -1,27 +1,26 @@
 #!/usr/bin/env python3
 """Runs the kernels by the program and by wabt's wasm-interp, side by side.
 
-    python3 bench/kernels/run.py [KERNEL..]
+    python3 bench/kernels/run.py [--program PROGRAM] [KERNEL..]
 
 Each KERNEL.c of this folder is compiled by clang, to WebAssembly and natively. A line a kernel: the seconds of both
-interpreters (the best of three runs), and how many times as fast the program is. What the program gives is compared
-with the native run. Without wasm-interp (Debian's package wabt) its column stays empty.
+interpreters (user time, the best of five runs), and how many times as fast the program is. What the program gives is
+compared with the native run. Without wasm-interp (Debian's package wabt) its column stays empty.
 """
+import argparse
 import math
+import os
 import pathlib
 import re
 import shutil
 import subprocess
-import sys
 import tempfile
-import time
 
 FOLDER = pathlib.Path(__file__).resolve().parent
-PROGRAM = FOLDER.parent.parent / "wasmloop"
 WASM = ["--target=wasm32", "-mno-bulk-memory", "-nostdlib", "-ffreestanding", "-fno-builtin",
         "-Wl,--no-entry", "-Wl,--export=run", "-Wl,--strip-all", "-Wl,-z,stack-size=16384"]
 ALL_FUEL = str(2**64 - 1)
-RUNS = 3
+RUNS = 5
 
 
 def compiled(kernel, folder):
@@ -34,12 +33,15 @@ def compiled(kernel, folder):
 
 
 def timed(command):
-    """The least time of some runs in seconds, and what the last one printed."""
+    """The least user time of some runs in seconds, and what the last one printed."""
     least, shown = math.inf, ""
     for _ in range(RUNS):
-        begin = time.monotonic()
-        shown = subprocess.run(command, capture_output=True, text=True).stdout
-        least = min(least, time.monotonic() - begin)
+        with tempfile.TemporaryFile() as out:
+            child = subprocess.Popen(command, stdout=out, stderr=subprocess.STDOUT)
+            _, _, used = os.wait4(child.pid, 0)
+            out.seek(0)
+            shown = out.read().decode()
+        least = min(least, used.ru_utime)
     return least, shown
 
 
@@ -48,10 +50,10 @@ def value_in(pattern, shown):
     return int(found.group(1)) % 2**32 if found else None
 
 
-def measure(kernel, folder):
+def measure(program, kernel, folder):
     module, native = compiled(kernel, folder)
     wanted = int(subprocess.run([native], capture_output=True, text=True, check=True).stdout)
-    ours, shown = timed([PROGRAM, "invoke", module, "run", "--fuel", ALL_FUEL, "--depth", "128"])
+    ours, shown = timed([program, "invoke", module, "run", "--fuel", ALL_FUEL, "--depth", "128"])
     verdict = "right" if value_in(r"^return (-?\d+) ", shown) == wanted else "WRONG: " + shown.strip()
     if not shutil.which("wasm-interp"):
         return ours, None, verdict
@@ -61,14 +63,18 @@ def measure(kernel, folder):
     return ours, theirs, verdict
 
 
-def main(words):
-    kernels = words or sorted(path.stem for path in FOLDER.glob("*.c") if path.stem != "native")
-    subprocess.run([PROGRAM, "--version"], check=True, stdout=subprocess.DEVNULL)
+def main():
+    parser = argparse.ArgumentParser()
+    parser.add_argument("--program", default=FOLDER.parent.parent / "wasmloop")
+    parser.add_argument("kernels", nargs="*")
+    asked = parser.parse_args()
+    kernels = asked.kernels or sorted(path.stem for path in FOLDER.glob("*.c") if path.stem != "native")
+    subprocess.run([asked.program, "--help"], check=True, stdout=subprocess.DEVNULL)
     ratios = []
     print("%-8s %10s %12s %7s" % ("kernel", "wasmloop s", "wasm-interp s", "times"))
     with tempfile.TemporaryDirectory() as folder:
         for kernel in kernels:
-            ours, theirs, verdict = measure(kernel, pathlib.Path(folder))
+            ours, theirs, verdict = measure(asked.program, kernel, pathlib.Path(folder))
             other = "%13.3f %7.2f" % (theirs, theirs / ours) if theirs else "%21s" % ""
             print("%-8s %10.3f %s  %s" % (kernel, ours, other, verdict), flush=True)
             if theirs:
@@ -77,4 +83,4 @@ def main(words):
         print("geometric mean of the times: %.2f" % math.exp(sum(map(math.log, ratios)) / len(ratios)))
 
 
-main(sys.argv[1:])
+main()

@@ -1,7 +1,7 @@
 /* A guest that uses every call of "uv" and looks at each answer: 400 requests, every third of them cancelled at once,
    while a timer, an idle, a check and an async come and go. At the end it emits how many requests it was told of and
    how many answers were wrong: 400 0. */
-#include "../examples/uv.h"
+#include "uv.h"
 
 enum { REQUESTS = 400, AT_ONCE = 24, TICKS = 50 };
 

@@ -10,14 +10,13 @@ wrong. Every minute a line tells the rounds so far and the greatest resident mem
 import argparse
 import os
 import pathlib
+import shutil
 import subprocess
 import sys
 import tempfile
 import time
 
 HERE = pathlib.Path(__file__).resolve().parent
-FLAGS = ["--target=wasm32", "-mcpu=mvp", "-std=c99", "-O2", "-Wall", "-ffreestanding", "-nostdlib",
-         "-Wl,--no-entry,--export-table,--stack-first,--strip-all,-z,stack-size=16384"]
 
 
 def round_of(command, wanted):
@@ -42,7 +41,8 @@ def main():
     options = parser.parse_args()
     with tempfile.TemporaryDirectory() as name:
         guest = f"{name}/long.wasm"
-        subprocess.run(["clang", *FLAGS, "-o", guest, HERE / "long.c", HERE.parent / "examples" / "mem.c"], check=True)
+        shutil.copy(HERE / "long.c", name)
+        subprocess.run(["sh", HERE.parent / "examples" / "build.sh", f"{name}/long"], check=True)
         command = [options.program, "serve", guest, "--loops", str(options.loops), "--workers", str(options.workers)]
         wanted = "".join(f"loop {k} over emits 400 0\n" for k in range(options.loops))
         begin = told = time.monotonic()

@@ -1,6 +1,6 @@
 /* A guest that does what a table says: each of its callbacks has lists of calls of "uv", and emits each answer.
    random_scripts.py writes the table into the module's bytes. */
-#include "../../examples/uv.h"
+#include "uv.h"
 
 enum { CALLBACKS = 6, VARIANTS = 3, LISTS = 24, CALLS = 200, NUMBERS = 32 };
 

@@ -13,6 +13,7 @@ import json
 import pathlib
 import random
 import re
+import shutil
 import struct
 import subprocess
 import sys
@@ -33,11 +34,9 @@ MARK = b"table of calls.\0"
 
 def compiled(folder):
     """The module of guest.c, and where its table begins."""
-    flags = ["--target=wasm32", "-mcpu=mvp", "-std=c99", "-O1", "-ffreestanding", "-nostdlib",
-             "-Wl,--no-entry,--export-table,--stack-first,--strip-all,-z,stack-size=16384"]
-    module = folder / "guest.wasm"
-    subprocess.run(["clang", *flags, "-o", module, HERE / "guest.c", HERE.parent.parent / "examples" / "mem.c"], check=True)
-    data = module.read_bytes()
+    shutil.copy(HERE / "guest.c", folder)
+    subprocess.run(["sh", HERE.parent.parent / "examples" / "build.sh", folder / "guest"], check=True)
+    data = (folder / "guest.wasm").read_bytes()
     return data, data.index(MARK) + len(MARK)
 
 

@@ -1,4 +1,3 @@
 pub mod Counts
-pub mod Rising
 pub mod Slots
 pub mod Steps

@@ -10,8 +10,6 @@ ghost use Rattle.std.specs.Prelude.{◌≡◌, ◌+◌, ◌<◌, IfOk};
 ghost use Rattle.desk.specs.Desk.{new_desk};
 
 mod rule;
-#[cfg(test)]
-mod tests;
 
 use crate::rule::{Agreement, Cancelling, Getting, History, Opening, Sending, Starting, Taking};
 use atomic_table::{Seat, Table};

@@ -45,6 +45,13 @@ impl WorkHost {
         })
     }
 
+    /// The bytes of the reply.
+    pub fn into_reply(self) -> Vec<u8>
+        ensures { result.items ≡ self.reply.items }
+    {
+        self.reply
+    }
+
     fn set_out(&mut self, place: u32, count: u32, memory: &Memory) -> u32
         ensures answer { result ≡ (set_out place count memory.now.bytes self.old.reply.items).0 }
         ensures reply { self.new.reply.items ≡ (set_out place count memory.now.bytes self.old.reply.items).1 }

@@ -18,6 +18,3 @@ mod run;
 
 pub use reply::Reply;
 pub use request::{MAX_BYTES, Order, Outcome};
-
-#[cfg(test)]
-mod tests;

@@ -67,13 +67,28 @@ impl Order {
     {
         let mut instance = self.new_instance(alloc)?;
         let mut host = WorkHost::new(alloc, &self.module, &self.bytes)?;
-        let started = self.start(&mut instance, &mut host);
+        let ending = self.start_and_work(&mut instance, &mut host);
+        Ok(outcome_from(ending, host.into_reply()))
+    }
+
+    /// The start function and, where it returns, `uv_work`.
+    fn start_and_work(&self, instance: &mut Instance, host: &mut WorkHost) -> Ending
+        requires work { (f : ℕ) × ExportsFunction (arc_value self.now.module).contents (codes "uv_work") f }
+        requires valid { ValidModule (arc_value self.now.module).contents }
+        requires fresh { IsFresh (arc_value self.now.module).contents instance.old }
+        requires store { IsStoreOf (arc_value self.now.module).contents instance.old }
+        requires serves { Serves host.old (order_of self.now) }
+        requires empty { host.old.reply.items ≡ [] }
+        requires depth { (1 ≤ self.now.depth) × (self.now.depth ≤ 128) }
+        ensures end { IsEndOf (order_of self.now) (work_end (outcome_of result) host.new.reply.items) }
+        ensures results { AreResults result (valtype.I32 ∷ []) }
+    {
+        let started = self.start(instance, host);
         let Ending::Return(_) = started.ending else {
-            return Ok(outcome_from(started.ending, host.reply));
+            return started.ending;
         };
-        let fuel = self.fuel - started.used;
-        let ended = self.work(&mut instance, &mut host, fuel);
-        Ok(outcome_from(ended.ending, host.reply))
+        let ended = self.work(instance, host, self.fuel - started.used);
+        ended.ending
     }
 
     fn new_instance(&self, alloc: Global) -> Result<Instance, AllocError>

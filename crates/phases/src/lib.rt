@@ -33,6 +33,3 @@ pub use did::{Hint, StepDid};
 pub use entry::{Entry, EntryKind, Phase, Status};
 pub use running::{Accepted, LoopCore};
 pub use shared::{Beside, Shared};
-
-#[cfg(test)]
-mod tests;

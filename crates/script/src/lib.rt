@@ -9,8 +9,6 @@ mod fault;
 mod place;
 mod plan;
 mod reader;
-#[cfg(test)]
-mod tests;
 mod text;
 
 pub use fault::ScriptFault;

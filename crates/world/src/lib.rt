@@ -11,8 +11,6 @@ mod config;
 mod fault;
 mod hand;
 pub mod laws;
-#[cfg(test)]
-mod tests;
 mod world;
 
 pub use config::{Config, LoopConfig};

@@ -1,23 +1,18 @@
 -- What one step of a loop does to the request of one number.
-use Rattle.std.proofs.Common.{◌≡◌, ◌≢◌, ℕ, ◌+◌, ◌≤◌, ◌==◌, Bool, true, false, cond, not, ◌&&◌, inl, inr, ◌⊎◌, List, [], ◌∷◌, ◌++◌, length, Option, Some, None, refl, sym, ap, subst, ◌∙◌, arith, append_assoc, MatchBool, MatchOption, ℤ, negsuc}
+use Rattle.std.proofs.Common.{◌≡◌, ℕ, ◌+◌, ◌≤◌, ◌==◌, Bool, true, false, cond, not, ◌&&◌, inl, inr, ◌⊎◌, List, [], ◌∷◌, ◌++◌, Option, Some, None, refl, sym, ap, subst, ◌∙◌, arith, append_assoc, MatchBool, MatchOption}
 use Rattle.std.specs.List.{Contains}
-use Rattle.std.specs.Prelude.{nat_lt, nat_le, codes, pos}
-use Rattle.std.specs.Int.{w32, cast_signed}
 use Rattle.std.proofs.lemmas.List.Elements.{Contains-append_left, Contains-append_cases, Contains-push, Contains-push_cases}
 use Rattle.syntax.specs.declared.types.Value.{Value}
-use Rattle.syntax.specs.declared.types.Value.TheVariants.{I32, I64}
+use Rattle.syntax.specs.declared.types.Value.TheVariants.{I32}
 use Rattle.handles.specs.declared.handle.Kind.TheVariants as handle_kind
 use Rattle.handles.specs.Table.{after_again}
 use Rattle.interp.specs.Run.{HostCall}
 use Rattle.interp.specs.Hosting.{Lawful}
 use Rattle.interp.specs.declared.ended.Ended.{Ended}
-use Rattle.imports.specs.declared.call.Call.{Call}
-use Rattle.imports.specs.declared.call.Call.TheVariants.{Now, TimerInit, IdleInit, CheckInit, TimerStart, TimerStop, IdleStop, CheckStop, TimerAgain, IdleStart, CheckStart, AsyncInit, AsyncSend, IsActive, Close, QueueWork, Cancel, InLen, InCopy, OutSet, Emit}
-use Rattle.order.specs.Numbers.{not_here, busy, invalid, no_such_export, no_room, none_left, no_memory, outside_memory}
 use Rattle.order.specs.Work.{WorkOrder}
 use Rattle.order.specs.Bytes.{taken_out}
 use Rattle.phases.specs.declared.did.StepDid.{StepDid}
-use Rattle.phases.specs.declared.did.StepDid.TheVariants.{Entered, Ran, Skipped}
+use Rattle.phases.specs.declared.did.StepDid.TheVariants.{Entered, Ran}
 use Rattle.phases.specs.declared.did.StepDid.TheVariants as step
 use Rattle.phases.specs.declared.entry.EntryKind.{EntryKind}
 use Rattle.phases.specs.declared.entry.EntryKind.TheVariants as kind
@@ -25,71 +20,17 @@ use Rattle.phases.specs.declared.entry.Entry.{Entry}
 use Rattle.phases.specs.declared.entry.Entry.TheVariants as entry
 use Rattle.phases.specs.declared.entry.Status.{Status}
 use Rattle.phases.specs.declared.entry.Status.TheVariants.{Running, Over, Failed}
-use Rattle.phases.specs.declared.progress.Standing.{Standing}
-use Rattle.phases.specs.declared.progress.Standing.TheVariants.{Unknown, Pending}
-use Rattle.phases.specs.declared.progress.Standing.TheVariants as standing
 use Rattle.phases.specs.Roster.{async_handle, with_handles, without_handle}
-use Rattle.phases.specs.Requests.{Cancelled, Request, Requests, Tidings, request_of, with_stage, without_request, tidings_of}
+use Rattle.phases.specs.Requests.{Cancelled, Request, Requests, Tidings, request_of, without_request, tidings_of}
 use Rattle.phases.specs.State.{Setting, State, Loop}
-use Rattle.phases.specs.PhaseList.{exports, is_alive, may_end, next_phase, is_active_handle}
+use Rattle.phases.specs.PhaseList.{is_alive, may_end, next_phase, is_active_handle}
 use Rattle.phases.specs.Calls.{Calls}
-use Rattle.phases.specs.Host.{HostStep, CallStep, Cancels, CancelsAt, QueuesWork, Opens, next_work, standing_of, request_standing, emitted_in, with_roster, with_requests}
-use Rattle.phases.specs.Outside.{CancelIn}
+use Rattle.phases.specs.Host.{HostStep, next_work, with_roster, with_requests}
 use Rattle.phases.specs.Step.{LoopStep, StepIn, ListStep, EntryStep, NextPhase, RunsFrom, CallsBack, CallsHandle, Skips, TakesFirst, AfterWork, in_state, sharing, begun, entered, now_in, is_as_listed, handle_function}
 use Rattle.phases.specs.Guests.{GuestCall, named_calls, run_calls, back_calls, calls_if, calls_unless, handle_calls, taking_calls, async_calls, work_calls, after_calls, entry_calls, list_calls, status_calls, loop_calls}
 use Rattle.phases.specs.Laws.{WasAsked, IsCancel}
+use Rattle.phases.proofs.Moving.{CallFate, changes_nothing, opens_one, cancels_one, call_fate}
 use Rattle.phases.proofs.Numbered.{Fits, Covers, Same, Stages, numbered, fits_more, fits_staged, fits_opened, fits_removed, fits_ran, was_given, only_found}
-
--- an answer other than 0, read as unsigned and as signed
-pub record IsRefusal (answer : ℕ) : Type 0 where
-  pub unsigned : answer ≢ 0
-  pub signed : cast_signed w32 answer ≢ pos 0
-
-abbrev is_zero : ℤ → Bool
-is_zero (pos n) = n == 0
-is_zero (negsuc n) = false
-
-refusal : (answer code : ℕ) → answer ≡ code → (code == 0) ≡ false → is_zero (cast_signed w32 code) ≡ false → IsRefusal answer
-refusal answer code e unsigned signed = record {
-  unsigned = λ z. (let it : (code == 0) ≡ true = ap (λ n. n == 0) (sym e ∙ z) in cc);
-  signed = λ z. (let it : is_zero (cast_signed w32 code) ≡ true = ap (λ n. is_zero (cast_signed w32 n)) (sym e) ∙ ap is_zero z in cc);
-}
-
--- how a cancel of a request went
-pub data CancelFate (rs : Requests) (n answer : ℕ) (rs' : Requests) : Type 0 where
-  cancelled : (q : Request) → request_of rs n ≡ Some q → answer ≡ 0 → rs' ≡ with_stage rs n Cancelled → CancelFate rs n answer rs'
-  stayed : IsRefusal answer → rs' ≡ rs → CancelFate rs n answer rs'
-
-module _ {S : Type 0} (calls : Calls S) where
-  fate_at : (st : Standing) (old : Requests × S) (n answer : ℕ) (new : Requests × S) → standing_of old.0 n ≡ st → CancelsAt calls st old n answer new → CancelFate old.0 n answer new.0
-  fate_at Unknown old n answer new is h = stayed (refusal answer invalid h.0 refl refl) (ap (λ p. p.0) h.1)
-  fate_at standing.Answered old n answer new is h = stayed (refusal answer busy h.0 refl refl) (ap (λ p. p.0) h.1)
-  fate_at (Pending slot) old n answer new is h = won h.0 h.2 h.3 where
-    there : (o : Option Request) → request_of old.0 n ≡ o → (q : Request) × (request_of old.0 n ≡ Some q)
-    there None e = absurd (let it : request_standing (request_of old.0 n) ≡ Unknown = ap request_standing e in cc)
-    there (Some q) e = (q, e)
-
-    won : (b : Bool) → answer ≡ cond b 0 busy → new.0 ≡ cond b (with_stage old.0 n Cancelled) old.0 → CancelFate old.0 n answer new.0
-    won true a e = let it = there (request_of old.0 n) refl in cancelled it.0 it.1 a e
-    won false a e = stayed (refusal answer busy a refl refl) e
-
-  pub fate_of : (old : Requests × S) (n answer : ℕ) (new : Requests × S) → Cancels calls old n answer new → CancelFate old.0 n answer new.0
-  fate_of old n answer new h = fate_at (standing_of old.0 n) old n answer new refl h
-
-module _ {S : Type 0} (calls : Calls S) where
-  others : (old : State × S) (n answer : ℕ) (new : State × S)
-      → (requests : Requests) × Cancels calls (old.0.requests, old.1) n answer (requests, new.1) × (new.0 ≡ with_requests old.0 requests) → CancelFate old.0.requests n answer new.0.requests
-  others old n answer new h =
-      subst (CancelFate old.0.requests n answer) (sym (ap (λ s. s.requests) h.2)) (fate_of calls (old.0.requests, old.1) n answer (h.0, new.1) h.1)
-
-  pub fate_in : (status : Status) (old : State × S) (n answer : ℕ) (new : State × S) → CancelIn calls status old n answer new → CancelFate old.0.requests n answer new.0.requests
-  fate_in Failed old n answer new h = stayed (refusal answer not_here h.0 refl refl) (ap (λ p. p.0.requests) h.1)
-  fate_in Running old n answer new h = others old n answer new h
-  fate_in Over old n answer new h = others old n answer new h
-
-abbrev is_cancel_call : Call → Bool
-is_cancel_call Cancel = true
-is_cancel_call _ = false
 
 -- A guest's calls so far; the owner's cancel of the request may have been answered 0.
 module _ (g : Setting) (r : ℕ) (L : Type 0) where
@@ -130,113 +71,37 @@ module _ (g : Setting) (r : ℕ) (L : Type 0) where
       subst (Held ran early (made ++ [])) (sym e)
       (fits_more r (WasAsked g made) (WasAsked g (made ++ [])) (WasWon made) (WasWon (made ++ [])) ran early rs (covers made []) (same_won made [] (λ c none k. omega (arith, none.1))) f)
 
-  other_call : (c : GuestCall) → is_cancel_call c.function ≡ false → IsCancel r c → ⊥
-  other_call c never k = (let is = ap is_cancel_call k.function in cc)
+  -- one call of the guest
+  fate_holds : (ran early : Type 0) (made : List GuestCall) (c : GuestCall) (rs rs' : Requests) → CallFate g rs c rs' → Held ran early made rs → Held ran early (made ++ c ∷ []) rs'
+  fate_holds ran early made c rs rs' (changes_nothing asks never e) f = stays ran early made c rs rs' (never r) e f
+  fate_holds ran early made c rs rs' (opens_one op place count slot is args told e) f =
+      subst (Held ran early (made ++ c ∷ [])) (sym e)
+      (fits_opened r (WasAsked g made) (WasAsked g (made ++ c ∷ [])) (WasWon made) (WasWon (made ++ c ∷ [])) ran early rs o refl (covers made (c ∷ []))
+      (same_won made (c ∷ []) (no_cancel c (λ k. (let it = sym is ∙ k.function in cc)))) asked f) where
+        o : WorkOrder
+        o = next_work g rs slot op (taken_out place count c.call.before)
 
-  -- a guest's cancel
-  cancel_holds : (ran early : Type 0) (made : List GuestCall) (c : GuestCall) (n answer : ℕ) (rs rs' : Requests) → c.function ≡ Cancel → c.call.args ≡ I32 n ∷ [] → c.call.answer ≡ Some (I32 answer)
-      → CancelFate rs n answer rs' → Held ran early made rs → Held ran early (made ++ c ∷ []) rs'
-  cancel_holds ran early made c n answer rs rs' is args told (stayed refused e) f = stays ran early made c rs rs' (λ k. refused.unsigned (let it = sym told ∙ k.answer in cc)) e f
-  cancel_holds ran early made c n answer rs rs' is args told (cancelled q found won e) f =
+        asked : WasAsked g (made ++ c ∷ []) o
+        asked = (c, Contains-push made c, record { op = op; place = place; count = count; function = is; args = args; answer = told; order = refl })
+  fate_holds ran early made c rs rs' (cancels_one n q is args told found e) f =
       subst (Held ran early (made ++ c ∷ [])) (sym e)
       (fits_staged r n Cancelled (WasAsked g made) (WasAsked g (made ++ c ∷ [])) (WasWon made) (WasWon (made ++ c ∷ [])) ran early rs stages f) where
         stages : Stages (WasAsked g made) (WasAsked g (made ++ c ∷ [])) (WasWon made) (WasWon (made ++ c ∷ [])) r n Cancelled rs
         stages = record {
           covers = covers made (c ∷ []);
           apart = λ other. same_won made (c ∷ []) (no_cancel c (λ k. other (let it = sym k.args ∙ args in cc)));
-          here = λ x here only h. inr (c, Contains-push made c, record { function = is; args = args ∙ ap (λ k. I32 k ∷ []) (sym here); answer = told ∙ ap (λ k. Some (I32 k)) won });
+          here = λ x here only h. inr (c, Contains-push made c, record { function = is; args = args ∙ ap (λ k. I32 k ∷ []) (sym here); answer = told });
           given = λ here none. (let it = only_found (WasAsked g made) (WasWon made) r rs q f.owned (ap (request_of rs) here ∙ found) in cc);
         }
 
-  -- a guest asks for work
+  -- and all calls of a callback
   module _ {S : Type 0} (calls : Calls S) where
-    pub data QueueFate (old : Requests × S) (op : ℕ) (bytes : List ℕ) (answer : ℕ) (new : Requests × S) : Type 0 where
-      refused : new.0 ≡ old.0 → QueueFate old op bytes answer new
-      opened : Opens calls g old op bytes answer new → QueueFate old op bytes answer new
-
-    module _ (memory : List ℕ) (old : Requests × S) (op place count answer : ℕ) (new : Requests × S) where
-      abbrev Fate : Type 0
-      Fate = QueueFate old op (taken_out place count memory) answer new
-
-      refuse : (b : Bool) (code : ℕ) {Q : Type 0} → (Q → Fate) → MatchBool b ((answer ≡ code) × (new ≡ old)) Q → Fate
-      refuse true code f h = refused (ap (λ p. p.0) h.1)
-      refuse false code f h = f h
-
-      last : ((answer ≡ no_memory) × (new ≡ old)) ⊎ Opens calls g old op (taken_out place count memory) answer new → Fate
-      last (inl h) = refused (ap (λ p. p.0) h.1)
-      last (inr h) = opened h
-
-      queue_fate : QueuesWork calls g memory old op place count answer new → Fate
-      queue_fate h =
-          refuse (not (exports g.loaded.contents (codes "uv_work") && exports g.loaded.contents (codes "uv_after_work"))) no_such_export
-          (refuse (nat_lt 65536 count) invalid
-          (refuse (nat_lt (length memory) (place + count)) outside_memory
-          (refuse (length old.0.outstanding == 32) no_room
-          (refuse (old.0.last == 2147483647) none_left last)))) h
-
-    queue_holds : (ran early : Type 0) (made : List GuestCall) (c : GuestCall) (op place count answer : ℕ) (old new : Requests × S) → c.function ≡ QueueWork → c.call.args ≡ I32 op ∷ I32 place ∷ I32 count ∷ [] → c.call.answer ≡ Some (I32 answer)
-        → QueueFate old op (taken_out place count c.call.before) answer new → Held ran early made old.0 → Held ran early (made ++ c ∷ []) new.0
-    queue_holds ran early made c op place count answer old new is args told (refused e) f = stays ran early made c old.0 new.0 (other_call c (ap is_cancel_call is)) e f
-    queue_holds ran early made c op place count answer old new is args told (opened h) f =
-        subst (Held ran early (made ++ c ∷ [])) (sym h.kept)
-        (fits_opened r (WasAsked g made) (WasAsked g (made ++ c ∷ [])) (WasWon made) (WasWon (made ++ c ∷ [])) ran early old.0 o refl (covers made (c ∷ []))
-        (same_won made (c ∷ []) (no_cancel c (other_call c (ap is_cancel_call is)))) asked f) where
-          o : WorkOrder
-          o = next_work g old.0 h.slot op (taken_out place count c.call.before)
-
-          asked : WasAsked g (made ++ c ∷ []) o
-          asked = (c, Contains-push made c, record { op = op; place = place; count = count; function = is; args = args; answer = told ∙ ap (λ k. Some (I32 k)) h.answered; order = refl })
-
-    emit_keeps : (value : ℕ) (s : State) → (emitted_in value s).1.requests ≡ s.requests
-    emit_keeps value s = by (nat_le 64 (length s.emits)) where
-      by : (b : Bool) → (cond {A = ℕ × State} b (none_left, s) (0, record s { emits = s.emits ++ value ∷ [] })).1.requests ≡ s.requests
-      by true = refl
-      by false = refl
-
-    -- one call of the guest
-    module _ (ran early : Type 0) (made : List GuestCall) (old : State × S) (call : HostCall) (new : State × S) where
-      abbrev Done : Call → Type 0
-      Done f = Held ran early (made ++ record { function = f; call = call } ∷ []) new.0.requests
-
-      plain : (f : Call) → is_cancel_call f ≡ false → new.0.requests ≡ old.0.requests → Held ran early made old.0.requests → Done f
-      plain f never e h = stays ran early made (record { function = f; call = call }) old.0.requests new.0.requests (other_call (record { function = f; call = call }) never) e h
-
-      call_holds : (f : Call) (args : List Value) → call.args ≡ args → CallStep calls g old call new f args → Held ran early made old.0.requests → Done f
-      call_holds Now [] is h f = plain Now refl (ap (λ p. p.0.requests) h.2) f
-      call_holds TimerInit [] is h f = plain TimerInit refl (ap (λ p. p.0.requests) h.4) f
-      call_holds IdleInit [] is h f = plain IdleInit refl (ap (λ p. p.0.requests) h.4) f
-      call_holds CheckInit [] is h f = plain CheckInit refl (ap (λ p. p.0.requests) h.4) f
-      call_holds TimerStart (I32 handle ∷ I32 callback ∷ I64 timeout ∷ I64 repeat ∷ []) is h f = plain TimerStart refl (ap (λ p. p.0.requests) h.1) f
-      call_holds TimerStop (I32 handle ∷ []) is h f = plain TimerStop refl (ap (λ p. p.0.requests) h.1) f
-      call_holds IdleStop (I32 handle ∷ []) is h f = plain IdleStop refl (ap (λ p. p.0.requests) h.1) f
-      call_holds CheckStop (I32 handle ∷ []) is h f = plain CheckStop refl (ap (λ p. p.0.requests) h.1) f
-      call_holds TimerAgain (I32 handle ∷ []) is h f = plain TimerAgain refl (ap (λ p. p.0.requests) h.1) f
-      call_holds IdleStart (I32 handle ∷ I32 callback ∷ []) is h f = plain IdleStart refl (ap (λ p. p.0.requests) h.1) f
-      call_holds CheckStart (I32 handle ∷ I32 callback ∷ []) is h f = plain CheckStart refl (ap (λ p. p.0.requests) h.1) f
-      call_holds AsyncInit (I32 callback ∷ []) is h f = plain AsyncInit refl (ap (λ p. p.0.requests) h.4) f
-      call_holds AsyncSend (I32 handle ∷ []) is h f = plain AsyncSend refl (ap (λ s. s.requests) h.3) f
-      call_holds IsActive (I32 handle ∷ []) is h f = plain IsActive refl (ap (λ p. p.0.requests) h.1) f
-      call_holds Close (I32 handle ∷ I32 callback ∷ []) is h f = plain Close refl (ap (λ p. p.0.requests) h.1) f
-      call_holds QueueWork (I32 op ∷ I32 place ∷ I32 count ∷ []) is h f =
-          subst (Held ran early (made ++ record { function = QueueWork; call = call } ∷ [])) (sym (ap (λ s. s.requests) h.4))
-          (queue_holds ran early made (record { function = QueueWork; call = call }) op place count h.0 (old.0.requests, old.1) (h.1, new.1) refl is h.3.0
-          (queue_fate call.before (old.0.requests, old.1) op place count h.0 (h.1, new.1) h.2) f)
-      call_holds Cancel (I32 number ∷ []) is h f =
-          subst (Held ran early (made ++ record { function = Cancel; call = call } ∷ [])) (sym (ap (λ s. s.requests) h.4))
-          (cancel_holds ran early made (record { function = Cancel; call = call }) number h.0 old.0.requests h.1 refl is h.3.0
-          (fate_of calls (old.0.requests, old.1) number h.0 (h.1, new.1) h.2) f)
-      call_holds InLen [] is h f = plain InLen refl (ap (λ p. p.0.requests) h.1) f
-      call_holds InCopy (I32 to ∷ I32 from ∷ I32 count ∷ []) is h f = plain InCopy refl (ap (λ p. p.0.requests) h.1) f
-      call_holds OutSet (I32 place ∷ I32 count ∷ []) is h f = plain OutSet refl (ap (λ p. p.0.requests) h.1) f
-      call_holds Emit (I64 value ∷ []) is h f = plain Emit refl (ap (λ p. p.0.requests) h.1 ∙ emit_keeps value old.0) f
-      call_holds _ _ is h f = absurd h
-
     trace_holds : (ran early : Type 0) (made : List GuestCall) (trace : List HostCall) (old new : State × S) (h : Lawful (HostStep calls g) trace old new) → Held ran early made old.0.requests → Held ran early (made ++ named_calls calls g trace old new h) new.0.requests
     trace_holds ran early made [] old new h f = nothing_more ran early made old.0.requests new.0.requests (ap (λ p. p.0.requests) h) f
     trace_holds ran early made (call ∷ trace) old new h f =
         let c : GuestCall = record { function = h.1.0; call = call } in
         subst (λ cs. Held ran early cs new.0.requests) (append_assoc made (c ∷ []) (named_calls calls g trace h.0 new h.2))
-        (trace_holds ran early (made ++ c ∷ []) trace h.0 new h.2 (call_holds ran early made old call h.0 h.1.0 call.args refl h.1.2 f))
+        (trace_holds ran early (made ++ c ∷ []) trace h.0 new h.2 (fate_holds ran early made c old.0.requests h.0.0.requests (call_fate calls g old call h.0 h.1.0 call.args refl h.1.2) f))
 
 -- what a step tells of an after-work callback
 abbrev pub after_of : StepDid → Option ℕ

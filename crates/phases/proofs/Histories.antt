@@ -20,7 +20,8 @@ use Rattle.phases.specs.Outside.{next_order_of, next_in, handing}
 use Rattle.phases.specs.Requests.{Stage, Open, HandedOut, Answered, Cancelled, Request, Requests, Tidings, no_requests, request_of, with_stage, tidings_of, end_tidings, lowest_open}
 use Rattle.phases.specs.State.{Setting, State, Loop}
 use Rattle.phases.specs.Step.{AfterWork, in_state}
-use Rattle.phases.proofs.Held.{Held, WasWon, CancelFate, cancelled, stayed, fate_in, after_of, Steps, step_holds, nothing_more}
+use Rattle.phases.proofs.Cancelling.{CancelFate, cancelled, stayed, fate_in}
+use Rattle.phases.proofs.Held.{Held, WasWon, after_of, Steps, step_holds, nothing_more}
 use Rattle.phases.proofs.Numbered.{Fits, Same, Stages, numbered, Stands, Owned, fits_more, fits_staged, fits_handed, fits_answered, only_found, found_only}
 
 -- some events and then others

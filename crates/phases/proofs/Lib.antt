@@ -1,10 +1,13 @@
+pub mod Asking
 pub mod Booking
+pub mod Cancelling
 pub mod Entering
 pub mod Exporting
 pub mod Filtered
 pub mod Finding
 pub mod Growing
 pub mod Guesting
+pub mod Handing
 pub mod Held
 pub mod Histories
 pub mod Kept
@@ -12,6 +15,7 @@ pub mod Listing
 pub mod Lists
 pub mod Living
 pub mod Lowest
+pub mod Moving
 pub mod Numbered
 pub mod Owning
 pub mod Readying

@@ -1,16 +1,22 @@
 -- A loop is alive exactly where a handle is active, a request is outstanding or a handle is closing.
-use Rattle.std.proofs.Common.{◌≡◌, ◌≢◌, ◌↔◌, ℕ, suc, ◌+◌, Bool, true, false, cond, not, ◌&&◌, ◌||◌, inl, inr, ◌⊎◌, List, [], ◌∷◌, ◌++◌, length, map, Option, Some, None, is_some, Contains, refl, sym, ap, subst, ◌∙◌, arith, eqb-true, IsTrue}
+use Rattle.std.proofs.Common.{◌≡◌, ◌≢◌, ◌↔◌, ℕ, suc, ◌+◌, ◌-◌, ◌<◌, ◌≤◌, Bool, true, false, cond, not, ◌&&◌, ◌||◌, inl, inr, ◌⊎◌, List, [], ◌∷◌, ◌++◌, length, map, Option, Some, None, is_some, Contains, All, refl, sym, ap, subst, ◌∙◌, arith, eqb-true, IsTrue}
 use Rattle.std.specs.List.{list_any, slice_get}
 use Rattle.std.specs.Option.{option_map, option_map_or, option_and_then}
-use Rattle.std.proofs.lemmas.Bool.{and_parts, ne_eqb}
+use Rattle.std.specs.Prelude.{nat_le, IfSome}
+use Rattle.std.proofs.lemmas.Bool.{and_parts, ne_eqb, leb-true, leb-false}
+use Rattle.std.proofs.lemmas.List.Elements.{All-contains}
+use Rattle.phases.specs.declared.did.Hint.{Hint}
+use Rattle.phases.specs.declared.did.Hint.TheVariants.{Now, For, Forever}
+use Rattle.phases.specs.Requests.{settled}
 use Rattle.handles.specs.declared.handle.Kind.{Kind}
 use Rattle.handles.specs.declared.handle.Kind.TheVariants.{Timer, Idle, Check, Async}
 use Rattle.handles.specs.declared.handle.Record.{Record}
 use Rattle.handles.specs.declared.sorted.Place.{Place}
-use Rattle.handles.specs.Table.{Table, record_of, same_kind, place_of, place_in, in_order, entry, kind_list, nearest_due}
+use Rattle.handles.specs.Table.{Table, record_of, same_kind, place_of, place_in, in_order, entry, kind_list, nearest_due, listed}
+use Rattle.handles.proofs.Dues.{first_is_least}
 use Rattle.handles.proofs.Laws.{in_order-place, place-in_order}
 use Rattle.phases.specs.Fitting.{IsKept}
-use Rattle.phases.specs.PhaseList.{is_empty, is_active_handle, active_from, active_asyncs, has_active, is_alive, HasActive, IsAlive}
+use Rattle.phases.specs.PhaseList.{is_empty, is_active_handle, active_from, active_asyncs, has_active, is_alive, HasActive, IsAlive, IsActive, HasActiveOf, IsNextDue, IsAtOnce, IsHint, until_due, hint_of}
 use Rattle.phases.specs.Roster.{Roster, is_handle}
 use Rattle.phases.specs.State.{State}
 
@@ -41,30 +47,70 @@ append_none : {X : Type 0} (xs ys : List X) → xs ++ ys ≡ [] → ys ≡ []
 append_none [] ys h = h
 append_none (x ∷ xs) ys h = absurd (cc)
 
-chosen : (b : Bool) (p q : Place) → cond b (Some p) None ≡ Some q → b ≡ true
-chosen true p q e = refl
+chosen : (b : Bool) (p q : Place) → cond b (Some p) None ≡ Some q → (b ≡ true) × (p ≡ q)
+chosen true p q e = (refl, cc)
 chosen false p q e = absurd (cc)
 
+the_same : (a b : Kind) → same_kind a b ≡ true → a ≡ b
+the_same Timer Timer h = refl
+the_same Timer Idle h = absurd (cc)
+the_same Timer Check h = absurd (cc)
+the_same Timer Async h = absurd (cc)
+the_same Idle Timer h = absurd (cc)
+the_same Idle Idle h = refl
+the_same Idle Check h = absurd (cc)
+the_same Idle Async h = absurd (cc)
+the_same Check Timer h = absurd (cc)
+the_same Check Idle h = absurd (cc)
+the_same Check Check h = refl
+the_same Check Async h = absurd (cc)
+the_same Async Timer h = absurd (cc)
+the_same Async Idle h = absurd (cc)
+the_same Async Check h = absurd (cc)
+the_same Async Async h = refl
+
+abbrev place_at : Kind → ℕ → Record → Place
+place_at k handle r = record { due = cond (same_kind k Timer) r.due 0; start = r.start; handle = handle }
+
 -- what is listed is active
-of_place : (k : Kind) (t : Table) (handle : ℕ) (place : Place) → place_in k t.records handle ≡ Some place → HasActive t
+abbrev Placed : Kind → Table → ℕ → Place → Type 0
+Placed k t handle place = (r : Record) × IsActive t k handle r × (place_at k handle r ≡ place)
+
+of_place : (k : Kind) (t : Table) (handle : ℕ) (place : Place) → place_in k t.records handle ≡ Some place → Placed k t handle place
 of_place k t handle place is = by (record_of t handle) refl is where
-  by : (o : Option Record) → record_of t handle ≡ o → option_and_then (place_of k handle) o ≡ Some place → HasActive t
+  by : (o : Option Record) → record_of t handle ≡ o → option_and_then (place_of k handle) o ≡ Some place → Placed k t handle place
   by None there e = absurd (cc)
-  by (Some r) there e = record { handle = handle; it = r; there = there; active = (and_parts r.active (same_kind r.kind k) (chosen (r.active && same_kind r.kind k) (record { due = cond (same_kind k Timer) r.due 0; start = r.start; handle = handle }) place e)).0 }
+  by (Some r) there e =
+      let it = chosen (r.active && same_kind r.kind k) (place_at k handle r) place e in
+      let both = and_parts r.active (same_kind r.kind k) it.0 in
+      (r, record { there = there; active = both.0; kind = the_same r.kind k both.1 }, it.1)
+
+first_placed : (k : Kind) (t : Table) (p : Place) (ps : List Place) → in_order k t ≡ p ∷ ps → Placed k t p.handle p
+first_placed k t p ps e = of_place k t p.handle p (in_order-place k t p (subst (λ xs. Contains xs p) (sym e) (0, omega arith, refl)))
+
+listed_of : (k : Kind) (t : Table) → in_order k t ≢ [] → HasActiveOf k t
+listed_of k t some = by (in_order k t) refl where
+  by : (xs : List Place) → in_order k t ≡ xs → HasActiveOf k t
+  by [] e = absurd (some e)
+  by (p ∷ ps) e = let it = first_placed k t p ps e in (p.handle, it.0, it.1)
+
+abbrev any_of : (k : Kind) (t : Table) → HasActiveOf k t → HasActive t
+any_of k t h = record { handle = h.0; it = h.1; there = h.2.there; active = h.2.active }
 
 listed_active : (k : Kind) (t : Table) → in_order k t ≢ [] → HasActive t
-listed_active k t some = by (in_order k t) refl where
-  by : (xs : List Place) → in_order k t ≡ xs → HasActive t
-  by [] e = absurd (some e)
-  by (p ∷ ps) e = of_place k t p.handle p (in_order-place k t p (subst (λ xs. Contains xs p) (sym e) (0, omega arith, refl)))
+listed_active k t some = any_of k t (listed_of k t some)
 
 -- and what is active is listed
-active_listed : (k : Kind) (t : Table) (handle : ℕ) (r : Record) → record_of t handle ≡ Some r → r.active ≡ true → same_kind r.kind k ≡ true → in_order k t ≢ []
-active_listed k t handle r there active same none =
-    let place : Place = record { due = cond (same_kind k Timer) r.due 0; start = r.start; handle = handle } in
+is_listed : (k : Kind) (t : Table) (handle : ℕ) (r : Record) → record_of t handle ≡ Some r → r.active ≡ true → same_kind r.kind k ≡ true → Contains (in_order k t) (place_at k handle r)
+is_listed k t handle r there active same =
+    let place = place_at k handle r in
     let both : (r.active && same_kind r.kind k) ≡ true = ap (λ b. b && same_kind r.kind k) active ∙ same in
     let is : place_in k t.records handle ≡ Some place = ap (option_and_then (place_of k handle)) there ∙ ap (λ b. cond b (Some place) None) both in
-    let here = subst (λ xs. Contains xs place) none (place-in_order k t place is) in
+    place-in_order k t place is
+
+active_listed : (k : Kind) (t : Table) (handle : ℕ) (r : Record) → record_of t handle ≡ Some r → r.active ≡ true → same_kind r.kind k ≡ true → in_order k t ≢ []
+active_listed k t handle r there active same none =
+    let here = subst (λ xs. Contains xs (place_at k handle r)) none (is_listed k t handle r there active same) in
     omega (arith, here.1)
 
 kind_active : (k : Kind) (t : Table) → not (is_empty (kind_list k t)) ≡ true → HasActive t
@@ -152,3 +198,90 @@ is_alive_by s kept (inr (inr closing)) = or_right _ _ (or_right _ _ (is_filled s
 
 pub alive_means : (s : State) → IsKept s.roster → IsTrue (is_alive s) ↔ IsAlive s
 alive_means s kept = (alive_is s, is_alive_by s kept)
+
+-- the hint
+kind_some : (k : Kind) (t : Table) → not (is_empty (kind_list k t)) ≡ true → HasActiveOf k t
+kind_some k t h = listed_of k t (λ none. filled (kind_list k t) h (ap (map entry) none))
+
+some_kind : (k : Kind) (t : Table) → HasActiveOf k t → not (is_empty (kind_list k t)) ≡ true
+some_kind k t h = active_kind k t (any_of k t h) (ap (λ a. same_kind a k) h.2.kind ∙ own k) where
+  own : (k : Kind) → same_kind k k ≡ true
+  own Timer = refl
+  own Idle = refl
+  own Check = refl
+  own Async = refl
+
+not_true : (b : Bool) → not b ≡ true → b ≡ true → ⊥
+not_true true h e = (cc)
+not_true false h e = (cc)
+
+is_false : (b : Bool) → (b ≡ true → ⊥) → not b ≡ true
+is_false true h = absurd (h refl)
+is_false false h = refl
+
+-- no active timer is earlier than the first of the list
+no_earlier : (t : Table) (due : ℕ) → nearest_due t ≡ Some due → (other : ℕ) (r : Record) → IsActive t Timer other r → due ≤ r.due
+no_earlier t due is other r timer =
+    let least : All (λ (p : Place). due ≤ p.due) (in_order Timer t) = subst (λ o. IfSome o (λ d. All (λ (p : Place). d ≤ p.due) (in_order Timer t))) is (first_is_least (listed Timer t.records)) in
+    All-contains (λ (p : Place). due ≤ p.due) (in_order Timer t) (place_at Timer other r) least
+    (is_listed Timer t other r timer.there timer.active (ap (λ a. same_kind a Timer) timer.kind))
+
+next_due : (t : Table) (due : ℕ) → nearest_due t ≡ Some due → IsNextDue t due
+next_due t due is = by (in_order Timer t) refl is where
+  by : (xs : List Place) → in_order Timer t ≡ xs → option_map (λ (p : Place). p.due) (slice_get xs 0) ≡ Some due → IsNextDue t due
+  by [] e h = absurd (cc)
+  by (p ∷ ps) e h =
+      let it = first_placed Timer t p ps e in
+      let at : p.due ≡ due = cc in
+      record { handle = p.handle; it = it.0; timer = it.1; is_due = ap (λ (q : Place). q.due) it.2 ∙ at; least = no_earlier t due is }
+
+no_timer : (t : Table) → nearest_due t ≡ None → HasActiveOf Timer t → ⊥
+no_timer t none h =
+    let first = has_first_due (in_order Timer t) (active_listed Timer t h.0 h.1 h.2.there h.2.active (ap (λ a. same_kind a Timer) h.2.kind)) in
+    let it : is_some (nearest_due t) ≡ false = ap is_some none in
+    (cc)
+
+module _ (s : State) (kept : IsKept s.roster) where
+  abbrev at_once : Bool
+  at_once =
+      not (is_alive s) || (not (is_empty (kind_list Idle s.roster.handles)) || (not (is_empty s.roster.closing) || not (is_empty (settled s.requests))))
+
+  is_at_once : at_once ≡ true → IsAtOnce s
+  is_at_once h = elim (or_cases (not (is_alive s)) _ h) [
+    | inl dead ↦ inl (λ alive. not_true (is_alive s) dead (is_alive_by s kept alive))
+    | inr h ↦ elim (or_cases (not (is_empty (kind_list Idle s.roster.handles))) _ h) [
+      | inl idle ↦ inr (inl (kind_some Idle s.roster.handles idle))
+      | inr h ↦ elim (or_cases (not (is_empty s.roster.closing)) _ h) [
+        | inl closing ↦ inr (inr (inl (filled s.roster.closing closing)))
+        | inr done ↦ inr (inr (inr (filled (settled s.requests) done)))
+      ]
+    ]
+  ]
+
+  at_once_is : IsAtOnce s → at_once ≡ true
+  at_once_is (inl dead) = or_left _ _ (is_false (is_alive s) (λ alive. dead (alive_is s alive)))
+  at_once_is (inr (inl idle)) = or_right _ _ (or_left _ _ (some_kind Idle s.roster.handles idle))
+  at_once_is (inr (inr (inl closing))) = or_right _ _ (or_right _ _ (or_left _ _ (is_filled s.roster.closing closing)))
+  at_once_is (inr (inr (inr done))) = or_right _ _ (or_right _ _ (or_right _ _ (is_filled (settled s.requests) done)))
+
+  not_at_once : at_once ≡ false → IsAtOnce s → ⊥
+  not_at_once h at = (let it = at_once_is at in cc)
+
+  due_at : (due : ℕ) (b : Bool) → nat_le due s.now ≡ b → (IsAtOnce s → ⊥) → IsNextDue s.roster.handles due → IsHint s (cond b Now (For (due - s.now)))
+  due_at due true le later next = inr (due, next, leb-true due s.now le)
+  due_at due false gt later next =
+      let past : s.now < due = leb-false due s.now gt in
+      let back : s.now + (due - s.now) ≡ due = omega (arith, past) in
+      (later, omega (arith, past), subst (IsNextDue s.roster.handles) (sym back) next)
+
+  until : (o : Option ℕ) → nearest_due s.roster.handles ≡ o → (IsAtOnce s → ⊥) → IsHint s (until_due o s.now)
+  until None is later = (later, no_timer s.roster.handles is)
+  until (Some due) is later = due_at due (nat_le due s.now) refl later (next_due s.roster.handles due is)
+
+  hint_by : (b : Bool) → at_once ≡ b → IsHint s (cond b Now (until_due (nearest_due s.roster.handles) s.now))
+  hint_by true is = inl (is_at_once is)
+  hint_by false is = until (nearest_due s.roster.handles) refl (not_at_once is)
+
+pub hint_means : (s : State) → IsKept s.roster → IsHint s (hint_of s)
+unfolding hint_of
+hint_means s kept = hint_by s kept (at_once s kept) refl

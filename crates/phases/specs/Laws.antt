@@ -1,6 +1,8 @@
 -- Laws of the histories of a loop.
-use Rattle.std.specs.Prelude.{◌≡◌, ℕ, ◌≤◌, ◌==◌, Bool, true, false, ◌⊎◌, List, [], ◌∷◌, ◌++◌, Contains, count_by, Some}
+use Rattle.std.specs.Prelude.{◌≡◌, ℕ, ◌^◌, ◌<◌, ◌≤◌, ◌==◌, Bool, true, false, ◌&&◌, ◌⊎◌, List, [], ◌∷◌, ◌++◌, Contains, count_by, Option, Some}
+use Rattle.syntax.specs.declared.types.Value.{Value}
 use Rattle.syntax.specs.declared.types.Value.TheVariants.{I32}
+use Rattle.imports.specs.declared.call.Call.{Call}
 use Rattle.imports.specs.declared.call.Call.TheVariants.{QueueWork, Cancel}
 use Rattle.order.specs.Numbers.{cancelled_code}
 use Rattle.order.specs.Bytes.{taken_out}
@@ -12,7 +14,7 @@ use Rattle.phases.specs.declared.entry.Entry.TheVariants as entry
 use Rattle.phases.specs.declared.entry.EntryKind.TheVariants as kind
 use Rattle.phases.specs.Calls.{Calls}
 use Rattle.phases.specs.Guests.{GuestCall}
-use Rattle.phases.specs.History.{Event, Stepped, CancelAnswered, EventStep, History, IsOpening, guest_calls}
+use Rattle.phases.specs.History.{Event, Stepped, OrderAsked, CancelAnswered, EventStep, History, IsOpening, guest_calls}
 use Rattle.phases.specs.Requests.{Request, Tidings, end_tidings, request_of, tidings_of}
 use Rattle.phases.specs.State.{Setting, Loop}
 use Rattle.phases.specs.Step.{AfterWork, in_state}
@@ -55,6 +57,23 @@ pub record IsCancel (request : ℕ) (c : GuestCall) : Type 0 where
 abbrev pub WasCancelled : (request : ℕ) → List Event → Type 0
 WasCancelled request events =
     Contains events (CancelAnswered request 0) ⊎ ((c : GuestCall) × Contains (guest_calls events) c × IsCancel request c)
+
+-- the call asks for work, and is answered this number
+abbrev pub is_queue_work : Call → Bool
+is_queue_work QueueWork = true
+is_queue_work _ = false
+
+abbrev pub is_number : ℕ → Option Value → Bool
+is_number n (Some (I32 answer)) = answer == n
+is_number n _ = false
+
+abbrev pub asks_for : (request : ℕ) → GuestCall → Bool
+asks_for request c = is_queue_work c.function && is_number request c.call.answer
+
+-- the event hands out the order of this request
+abbrev pub hands_out : (request : ℕ) → Event → Bool
+hands_out request (OrderAsked (Some o)) = o.request == request
+hands_out request _ = false
 
 -- as much as the callback of a cancelled request is given
 abbrev pub cancellation : Tidings
@@ -107,3 +126,21 @@ module _ {S : Type 0} (calls : Calls S) where
       (g : Setting) (l l' : Loop S) (before behind : List Event) (e : Event) → IsOpening calls g l → History calls g l (before ++ e ∷ behind) l'
       → (request : ℕ) → is_after_event request e ≡ true
       → WasCancelled request (e ∷ behind) → ⊥
+
+  -- in every history of a loop from its opening the guest is answered each number of a request at most once
+  abbrev pub IsAskedOnce : Type 0
+  IsAskedOnce =
+      (g : Setting) (l l' : Loop S) (events : List Event) → IsOpening calls g l → History calls g l events l'
+      → (request : ℕ) → request < 2 ^ 31 → count_by (asks_for request) (guest_calls events) ≤ 1
+
+  -- and each order is handed out at most once
+  abbrev pub IsHandedOnce : Type 0
+  IsHandedOnce =
+      (g : Setting) (l l' : Loop S) (events : List Event) → IsOpening calls g l → History calls g l events l'
+      → (request : ℕ) → count_by (hands_out request) events ≤ 1
+
+  -- each that is handed out, after any history, is one that the guest had asked for
+  abbrev pub IsHandedOwn : Type 0
+  IsHandedOwn =
+      (g : Setting) (l old new : Loop S) (events : List Event) (o : WorkOrder) → IsOpening calls g l → History calls g l events old
+      → EventStep calls g (OrderAsked (Some o)) old new → WasAsked g (guest_calls events) o

@@ -1,5 +1,5 @@
 -- The list of each phase, and what keeps a loop alive.
-use Rattle.std.specs.Prelude.{◌≡◌, ◌≢◌, ◌⊎◌, ℕ, ◌+◌, ◌-◌, ◌==◌, Bool, true, false, ◌||◌, not, List, [], ◌∷◌, ◌++◌, length, map, nat_le, Option, Some, None, codes, bytes_eq, if◌then◌else◌}
+use Rattle.std.specs.Prelude.{◌≡◌, ◌≢◌, ◌⊎◌, ℕ, ◌+◌, ◌-◌, ◌<◌, ◌≤◌, ◌==◌, Bool, true, false, ◌||◌, not, List, [], ◌∷◌, ◌++◌, length, map, nat_le, Option, Some, None, codes, bytes_eq, if◌then◌else◌}
 use Rattle.std.specs.Option.{option_map_or, is_some}
 use Rattle.std.specs.List.{list_any}
 use Rattle.syntax.specs.declared.module.Contents.{Contents}
@@ -129,3 +129,31 @@ hint_of s =
     || (not (is_empty s.roster.closing) || not (is_empty (settled s.requests))))
     then Now
     else until_due (nearest_due s.roster.handles) s.now
+
+-- this handle is there, active and of this kind
+pub record IsActive (t : Table) (k : Kind) (handle : ℕ) (it : Record) : Type 0 where
+  pub there : record_of t handle ≡ Some it
+  pub active : it.active ≡ true
+  pub kind : it.kind ≡ k
+
+abbrev pub HasActiveOf : Kind → Table → Type 0
+HasActiveOf k t = (handle : ℕ) × (it : Record) × IsActive t k handle it
+
+-- an active timer is due at this moment, and none is earlier
+pub record IsNextDue (t : Table) (due : ℕ) : Type 0 where
+  pub handle : ℕ
+  pub it : Record
+  pub timer : IsActive t kind.Timer handle it
+  pub is_due : it.due ≡ due
+  pub least : (other : ℕ) (r : Record) → IsActive t kind.Timer other r → due ≤ r.due
+
+-- the loop is not alive, or has an active idle handle, a closing handle, or a request that is answered or cancelled
+abbrev pub IsAtOnce : State → Type 0
+IsAtOnce s = (IsAlive s → ⊥) ⊎ (HasActiveOf kind.Idle s.roster.handles ⊎ ((s.roster.closing ≢ []) ⊎ (settled s.requests ≢ [])))
+
+-- the same as `hint_of` without the lists: now, also where the next timer is due; or so long until that; or for ever
+-- where no timer is active
+abbrev pub IsHint : State → Hint → Type 0
+IsHint s Now = IsAtOnce s ⊎ ((due : ℕ) × IsNextDue s.roster.handles due × (due ≤ s.now))
+IsHint s (For ms) = (IsAtOnce s → ⊥) × (0 < ms) × IsNextDue s.roster.handles (s.now + ms)
+IsHint s Forever = (IsAtOnce s → ⊥) × (HasActiveOf kind.Timer s.roster.handles → ⊥)

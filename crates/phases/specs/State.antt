@@ -50,3 +50,8 @@ pub record Loop (S : Type 0) : Type 0 where
   pub state : State
   pub store : Store
   pub shared : S
+
+-- a loop with what it is made of
+pub record Core (S : Type 0) : Type 0 where
+  pub setting : Setting
+  pub loop : Loop S

@@ -1,6 +1,6 @@
 //! Laws of what the owner of a loop does with it. Their functions do nothing: each contract is the law.
 
-ghost use Rattle.phases.specs.Laws.{IsAfterOnce, IsAfterOwn, IsAfterLast};
+ghost use Rattle.phases.specs.Laws.{IsAfterOnce, IsAfterOwn, IsAfterLast, IsAskedOnce, IsHandedOnce, IsHandedOwn};
 
 use crate::shared::Shared;
 
@@ -11,4 +11,12 @@ pub fn after_once<B: Shared>()
     ensures once { IsAfterOnce B.calls }
     ensures own { IsAfterOwn B.calls }
     ensures last { IsAfterLast B.calls }
+{}
+
+/// In every history of a loop each number of a request is given once, so that a number names one order; and that is
+/// handed out once at most, as the guest asked for it. Numbers are 1 to 2,147,483,647.
+pub fn asked_once<B: Shared>()
+    ensures asked { IsAskedOnce B.calls }
+    ensures handed { IsHandedOnce B.calls }
+    ensures own { IsHandedOwn B.calls }
 {}

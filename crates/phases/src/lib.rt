@@ -19,6 +19,7 @@ mod entry;
 mod guest;
 pub mod laws;
 mod machine;
+mod opening;
 mod outstanding;
 mod progress;
 mod requests;

@@ -10,7 +10,7 @@ ghost use Rattle.phases.specs.Host.{with_roster, with_requests, emitted_in};
 ghost use Rattle.phases.specs.Outside.{after_clock, next_order_of, CancelIn, Takes, answered};
 ghost use Rattle.phases.specs.Ready.{Grows};
 ghost use Rattle.phases.specs.Requests.{IsLowestOpen};
-ghost use Rattle.phases.specs.PhaseList.{is_alive, hint_of, until_due, first_list, IsAlive};
+ghost use Rattle.phases.specs.PhaseList.{is_alive, hint_of, until_due, first_list, IsAlive, IsHint};
 ghost use Rattle.phases.specs.State.{opening};
 ghost use Rattle.phases.specs.Roster.{Roster as Handles_of, with_made, stopped_in, started_in, again_in, closed_in, active_answer, Makes, MakesAsync};
 
@@ -287,8 +287,17 @@ impl Machine {
     }
 
     /// How long the loop has nothing to do.
-    #[tactic(auto, unfolding(crate::specs::PhaseList::hint_of))]
     pub fn hint(&self) -> Hint
+        ensures value { result ≡ hint_of self.now }
+        ensures means { IsHint self.now result }
+    {
+        self.roster.keeps();
+        self.listed_hint()
+    }
+
+    // The same, by the lists of the phases.
+    #[tactic(auto, unfolding(crate::specs::PhaseList::hint_of))]
+    fn listed_hint(&self) -> Hint
         ensures { result ≡ hint_of self.now }
     {
         let over = !self.is_alive();

@@ -5,26 +5,24 @@ ghost use Rattle.std.specs.Arc.{arc_value};
 ghost use Rattle.std.specs.Int.{w32, cast_unsigned};
 ghost use Rattle.interp.specs.Invoking.{TakesArguments};
 ghost use Rattle.imports.specs.Linking.{ExportsFunction};
-ghost use Rattle.instance.specs.Fresh.{IsFresh, fresh_store};
-ghost use Rattle.instance.specs.Storing.{IsStoreOf};
+ghost use Rattle.instance.specs.Fresh.{IsFresh};
 ghost use Rattle.order.specs.Orders.{order_of};
 ghost use Rattle.phases.specs.Fitting.{AllRight, IsShort};
 ghost use Rattle.phases.specs.Accepting.{Accepts};
 ghost use Rattle.phases.specs.Outside.{after_clock, is_failed, next_order_of, CancelsLoop, StartsBeside, SendsBeside};
 ghost use Rattle.phases.specs.Keeping.{CanRun};
-ghost use Rattle.phases.specs.PhaseList.{begin_list, hint_of, is_alive, IsAlive};
+ghost use Rattle.phases.specs.PhaseList.{begin_list, hint_of, is_alive, IsAlive, IsHint};
 ghost use Rattle.phases.specs.Ready.{IsReady, Spares};
 ghost use Rattle.phases.specs.Requests.{IsLowestOpen};
-ghost use Rattle.phases.specs.Roster.{opening_roster, callbacks_of};
+ghost use Rattle.phases.specs.Roster.{opening_roster};
 ghost use Rattle.phases.specs.State.{opening};
 ghost use Rattle.phases.specs.Step.{LoopStep, ListStep, EntryStep, CallsBack, CallsHandle, RunsFrom, Skips, TakesFirst, AfterWork, is_as_listed};
 ghost use Rattle.phases.specs.View.{new_view};
 
-use crate::callbacks::callbacks_of;
 use crate::did::{Hint, StepDid};
 use crate::entry::{Entry, EntryKind, Status};
 use crate::guest::Guest;
-use crate::machine::Machine;
+use crate::opening::opened;
 use crate::setting::Setting;
 use crate::shared::{Beside, Shared};
 use handles::Kind;
@@ -62,16 +60,16 @@ impl<B: Shared + Drop> Model for LoopCore<B> {
     ghost use Rattle.handles.specs.Codes.{table_code};
     ghost use Rattle.phases.specs.Codes.{roster_code, requests_code};
     ghost use Rattle.syntax.specs.Loaded.{loaded_coded};
-    ghost use Rattle.phases.specs.State.{Setting, Loop};
+    ghost use Rattle.phases.specs.State.{Core};
     ghost use Rattle.phases.specs.Setting.{setting_of};
     ghost use Rattle.phases.specs.Keeping.{Keeps};
     ghost use Rattle.std.specs.Arc.{arc_value};
 
-    ghost Value = { Setting × Loop B };
+    ghost Value = { Core B };
 
     ghost coded = { Prim.hlevel (codes, loaded_coded, roster_code, requests_code, B.code) };
 
-    ghost view = { λ a. (setting_of a.guest.setting, record { state = a.guest.machine; store = a.instance; shared = a.guest.shared }) };
+    ghost view = { λ a. record { setting = setting_of a.guest.setting; loop = record { state = a.guest.machine; store = a.instance; shared = a.guest.shared } } };
 
     ghost invariant = { λ a. Keeps (arc_value a.linked) (setting_of a.guest.setting) a.guest.machine a.instance };
 }
@@ -91,20 +89,11 @@ impl<B: Shared + Drop> LoopCore<B> {
     ) -> Result<Self, AllocError>
         requires depth { (1 ≤ depth) × (depth ≤ 128) }
         requires shared { B.calls.view shared ≡ new_view loop_no }
-        ensures setting { IfOk result (λ core. core.0 ≡ record { loaded = arc_value linked; loop_no = loop_no; fuel = fuel; work_fuel = work_fuel; depth = depth }) }
-        ensures state { IfOk result (λ core. core.1.state ≡ opening (opening_roster (arc_value linked).contents) (begin_list (arc_value linked).contents)) }
-        ensures store { IfOk result (λ core. IsFresh (arc_value linked).contents core.1.store) }
-        ensures shared { IfOk result (λ core. core.1.shared ≡ shared) }
+        ensures setting { IfOk result (λ core. core.setting ≡ record { loaded = arc_value linked; loop_no = loop_no; fuel = fuel; work_fuel = work_fuel; depth = depth }) }
+        ensures state { IfOk result (λ core. core.loop.state ≡ opening (opening_roster (arc_value linked).contents) (begin_list (arc_value linked).contents)) }
+        ensures store { IfOk result (λ core. IsFresh (arc_value linked).contents core.loop.store) }
+        ensures shared { IfOk result (λ core. core.loop.shared ≡ shared) }
     {
-        let valid = linked.valid();
-        let contents = valid.contents();
-        let Ok(instance) = Instance::new(alloc, valid) else {
-            return Err(AllocError);
-        };
-        let callbacks = callbacks_of(alloc, contents, &instance)?;
-        let start = contents.start.is_some();
-        let main = linked.entry(Export::Main).is_some();
-        let machine = Machine::new(alloc, callbacks, start, main)?;
         let setting = Setting {
             linked: Arc::try_clone(&linked)?,
             loop_no,
@@ -112,6 +101,7 @@ impl<B: Shared + Drop> LoopCore<B> {
             work_fuel,
             depth,
         };
+        let (instance, machine) = opened(alloc, &linked)?;
         let guest = Guest {
             alloc,
             setting,
@@ -128,8 +118,8 @@ impl<B: Shared + Drop> LoopCore<B> {
     /// One step: the front entry of the phase's list runs or is skipped, or, where the list is used up, the loop is
     /// over or enters the next phase. Nothing changes once it is over or has failed.
     pub fn step(&mut self) -> StepDid
-        ensures step { LoopStep B.calls self.old.0 self.old.1 result self.new.1 }
-        ensures setting { self.new.0 ≡ self.old.0 }
+        ensures step { LoopStep B.calls self.old.setting self.old.loop result self.new.loop }
+        ensures setting { self.new.setting ≡ self.old.setting }
     {
         match self.guest.machine.status() {
             Status::Running => self.go_on(),
@@ -139,8 +129,8 @@ impl<B: Shared + Drop> LoopCore<B> {
     }
 
     fn go_on(&mut self) -> StepDid
-        ensures step { ListStep B.calls self.old.0 self.old.1 self.old.1.state.list result self.new.1 }
-        ensures setting { self.new.0 ≡ self.old.0 }
+        ensures step { ListStep B.calls self.old.setting self.old.loop self.old.loop.state.list result self.new.loop }
+        ensures setting { self.new.setting ≡ self.old.setting }
     {
         let Some(entry) = self.guest.machine.front() else {
             return self.guest.machine.turn();
@@ -151,10 +141,10 @@ impl<B: Shared + Drop> LoopCore<B> {
 
     // Runs an entry that was taken off the list.
     fn run(&mut self, entry: Entry) -> StepDid
-        requires ready { IsReady self.old.0.loaded.contents self.old.1.state entry }
-        requires apart { All (Spares entry) self.old.1.state.list }
-        ensures step { EntryStep B.calls self.old.0 self.old.1 entry result self.new.1 }
-        ensures setting { self.new.0 ≡ self.old.0 }
+        requires ready { IsReady self.old.setting.loaded.contents self.old.loop.state entry }
+        requires apart { All (Spares entry) self.old.loop.state.list }
+        ensures step { EntryStep B.calls self.old.setting self.old.loop entry result self.new.loop }
+        ensures setting { self.new.setting ≡ self.old.setting }
     {
         match entry {
             Entry::Start => self.run_start(),
@@ -173,9 +163,9 @@ impl<B: Shared + Drop> LoopCore<B> {
     }
 
     fn run_start(&mut self) -> StepDid
-        requires ready { IsReady self.old.0.loaded.contents self.old.1.state Entry.Start }
-        ensures step { EntryStep B.calls self.old.0 self.old.1 Entry.Start result self.new.1 }
-        ensures setting { self.new.0 ≡ self.old.0 }
+        requires ready { IsReady self.old.setting.loaded.contents self.old.loop.state Entry.Start }
+        ensures step { EntryStep B.calls self.old.setting self.old.loop Entry.Start result self.new.loop }
+        ensures setting { self.new.setting ≡ self.old.setting }
     {
         let Some(function) = self.linked.valid().contents().start else {
             unreachable!();
@@ -184,9 +174,9 @@ impl<B: Shared + Drop> LoopCore<B> {
     }
 
     fn run_main(&mut self) -> StepDid
-        requires ready { IsReady self.old.0.loaded.contents self.old.1.state Entry.Main }
-        ensures step { EntryStep B.calls self.old.0 self.old.1 Entry.Main result self.new.1 }
-        ensures setting { self.new.0 ≡ self.old.0 }
+        requires ready { IsReady self.old.setting.loaded.contents self.old.loop.state Entry.Main }
+        ensures step { EntryStep B.calls self.old.setting self.old.loop Entry.Main result self.new.loop }
+        ensures setting { self.new.setting ≡ self.old.setting }
     {
         let Some(function) = self.linked.entry(Export::Main) else {
             unreachable!();
@@ -195,8 +185,8 @@ impl<B: Shared + Drop> LoopCore<B> {
     }
 
     fn run_timer(&mut self, handle: u32, start: u64) -> StepDid
-        ensures step { EntryStep B.calls self.old.0 self.old.1 (Entry.Timer handle start) result self.new.1 }
-        ensures setting { self.new.0 ≡ self.old.0 }
+        ensures step { EntryStep B.calls self.old.setting self.old.loop (Entry.Timer handle start) result self.new.loop }
+        ensures setting { self.new.setting ≡ self.old.setting }
     {
         match self.guest.machine.fire(handle, start) {
             Some(function) => self.call_handle(EntryKind::Timer, handle, function),
@@ -209,10 +199,10 @@ impl<B: Shared + Drop> LoopCore<B> {
 
     // An idle or a check handle.
     fn run_listed(&mut self, listed: Kind, kind: EntryKind, handle: u32, start: u64) -> StepDid
-        ensures step { MatchBool (is_as_listed listed self.old.1.state.roster handle start)
-            (CallsHandle B.calls self.old.0 self.old.1 self.old.1.state.roster kind handle result self.new.1)
-            (Skips B.calls self.old.0 self.old.1 kind handle result self.new.1) }
-        ensures setting { self.new.0 ≡ self.old.0 }
+        ensures step { MatchBool (is_as_listed listed self.old.loop.state.roster handle start)
+            (CallsHandle B.calls self.old.setting self.old.loop self.old.loop.state.roster kind handle result self.new.loop)
+            (Skips B.calls self.old.setting self.old.loop kind handle result self.new.loop) }
+        ensures setting { self.new.setting ≡ self.old.setting }
     {
         match self.guest.machine.listed_function(listed, handle, start) {
             Some(function) => self.call_handle(kind, handle, function),
@@ -224,10 +214,10 @@ impl<B: Shared + Drop> LoopCore<B> {
     }
 
     fn run_after_work(&mut self, request: u32) -> StepDid
-        requires ready { IsReady self.old.0.loaded.contents self.old.1.state (Entry.After request) }
-        requires apart { All (Spares (Entry.After request)) self.old.1.state.list }
-        ensures step { EntryStep B.calls self.old.0 self.old.1 (Entry.After request) result self.new.1 }
-        ensures setting { self.new.0 ≡ self.old.0 }
+        requires ready { IsReady self.old.setting.loaded.contents self.old.loop.state (Entry.After request) }
+        requires apart { All (Spares (Entry.After request)) self.old.loop.state.list }
+        ensures step { EntryStep B.calls self.old.setting self.old.loop (Entry.After request) result self.new.loop }
+        ensures setting { self.new.setting ≡ self.old.setting }
     {
         let Some(function) = self.linked.entry(Export::AfterWork) else {
             unreachable!();
@@ -249,9 +239,9 @@ impl<B: Shared + Drop> LoopCore<B> {
 
     // What waits at the async is taken first; where that is nothing, no callback runs.
     fn run_async(&mut self, async_no: u32) -> StepDid
-        requires ready { IsReady self.old.0.loaded.contents self.old.1.state (Entry.Async async_no) }
-        ensures step { EntryStep B.calls self.old.0 self.old.1 (Entry.Async async_no) result self.new.1 }
-        ensures setting { self.new.0 ≡ self.old.0 }
+        requires ready { IsReady self.old.setting.loaded.contents self.old.loop.state (Entry.Async async_no) }
+        ensures step { EntryStep B.calls self.old.setting self.old.loop (Entry.Async async_no) result self.new.loop }
+        ensures setting { self.new.setting ≡ self.old.setting }
     {
         let Some(handle) = self.guest.machine.async_at(async_no) else {
             unreachable!();
@@ -274,10 +264,10 @@ impl<B: Shared + Drop> LoopCore<B> {
 
     // The handle is removed first.
     fn run_close(&mut self, handle: u32) -> StepDid
-        requires ready { IsReady self.old.0.loaded.contents self.old.1.state (Entry.Close handle) }
-        requires apart { All (Spares (Entry.Close handle)) self.old.1.state.list }
-        ensures step { EntryStep B.calls self.old.0 self.old.1 (Entry.Close handle) result self.new.1 }
-        ensures setting { self.new.0 ≡ self.old.0 }
+        requires ready { IsReady self.old.setting.loaded.contents self.old.loop.state (Entry.Close handle) }
+        requires apart { All (Spares (Entry.Close handle)) self.old.loop.state.list }
+        ensures step { EntryStep B.calls self.old.setting self.old.loop (Entry.Close handle) result self.new.loop }
+        ensures setting { self.new.setting ≡ self.old.setting }
     {
         let function = self.guest.machine.finish_closing(handle);
         self.call_handle(EntryKind::Close, handle, function)
@@ -285,9 +275,9 @@ impl<B: Shared + Drop> LoopCore<B> {
 
     // A handle's callback is given its number.
     fn call_handle(&mut self, kind: EntryKind, handle: u32, function: u32) -> StepDid
-        requires callback { TakesArguments self.old.0.loaded.contents function (Value.I32 handle ∷ []) }
-        ensures run { RunsFrom B.calls self.old.0 self.old.1 kind handle function (Value.I32 handle ∷ []) None result self.new.1 }
-        ensures setting { self.new.0 ≡ self.old.0 }
+        requires callback { TakesArguments self.old.setting.loaded.contents function (Value.I32 handle ∷ []) }
+        ensures run { RunsFrom B.calls self.old.setting self.old.loop kind handle function (Value.I32 handle ∷ []) None result self.new.loop }
+        ensures setting { self.new.setting ≡ self.old.setting }
     {
         self.call(kind, handle, function, &[Value::I32(handle)], None)
     }
@@ -300,10 +290,10 @@ impl<B: Shared + Drop> LoopCore<B> {
         args: &[Value],
         reply: Option<Vec<u8>>,
     ) -> StepDid
-        requires takes { TakesArguments self.old.0.loaded.contents function args.now }
+        requires takes { TakesArguments self.old.setting.loaded.contents function args.now }
         requires short { IsShort (option_map (λ v. v.items) reply) }
-        ensures run { RunsFrom B.calls self.old.0 self.old.1 kind number function args.now (option_map (λ v. v.items) reply) result self.new.1 }
-        ensures setting { self.new.0 ≡ self.old.0 }
+        ensures run { RunsFrom B.calls self.old.setting self.old.loop kind number function args.now (option_map (λ v. v.items) reply) result self.new.loop }
+        ensures setting { self.new.setting ≡ self.old.setting }
     {
         self.guest.machine.begin_callback(reply);
         let (fuel, depth) = (self.guest.setting.fuel, self.guest.setting.depth);
@@ -328,7 +318,7 @@ impl<B: Shared + Drop> LoopCore<B> {
 
     /// What the last callback put out, 64 values at most.
     pub fn emits(&self) -> &[u64]
-        ensures emits { result.now ≡ self.now.1.state.emits }
+        ensures emits { result.now ≡ self.now.loop.state.emits }
         ensures few { length result.now ≤ 64 }
     {
         self.guest.machine.emits()
@@ -337,16 +327,16 @@ impl<B: Shared + Drop> LoopCore<B> {
     /// Raises the clock to a moment in milliseconds, and answers the clock after it. A smaller moment leaves it, and
     /// so does a loop that has failed.
     pub fn clock(&mut self, ms: u64) -> u64
-        ensures core { self.new.1 ≡ record self.old.1 { state = after_clock self.old.1.state ms } }
-        ensures clock { result ≡ self.new.1.state.clock }
-        ensures setting { self.new.0 ≡ self.old.0 }
+        ensures core { self.new.loop ≡ record self.old.loop { state = after_clock self.old.loop.state ms } }
+        ensures clock { result ≡ self.new.loop.state.clock }
+        ensures setting { self.new.setting ≡ self.old.setting }
     {
         self.guest.machine.raise(ms)
     }
 
     /// Whether a callback did not return, after which the loop does nothing more.
     pub fn failed(&self) -> bool
-        ensures { result ≡ is_failed self.now.1.state.status }
+        ensures { result ≡ is_failed self.now.loop.state.status }
     {
         matches!(self.guest.machine.status(), Status::Failed)
     }
@@ -354,15 +344,15 @@ impl<B: Shared + Drop> LoopCore<B> {
     /// How many requests are outstanding. What is answered is what the request's own order gives, or that there was
     /// no memory.
     pub fn outstanding(&self) -> usize
-        ensures count { result ≡ length self.now.1.state.requests.outstanding }
-        ensures right { AllRight self.now.1.state.requests }
+        ensures count { result ≡ length self.now.loop.state.requests.outstanding }
+        ensures right { AllRight self.now.loop.state.requests }
     {
         self.guest.machine.outstanding()
     }
 
     /// Ends the loop and gives what it shares, as it stands.
     pub fn into_shared(self) -> B
-        ensures { result ≡ self.1.shared }
+        ensures { result ≡ self.loop.shared }
     {
         let guest = self.guest;
         guest.shared
@@ -371,13 +361,13 @@ impl<B: Shared + Drop> LoopCore<B> {
     /// The order of the lowest request that is open and not handed out, which is then handed out. A failed loop has
     /// none. No memory is taken.
     pub fn next_order(&mut self) -> Option<Order>
-        ensures order { option_map order_of result ≡ (next_order_of self.old.1.state).0 }
-        ensures core { self.new.1 ≡ record self.old.1 { state = (next_order_of self.old.1.state).1 } }
-        ensures lowest { IfSome result (λ o. IsLowestOpen o.request self.old.1.state.requests) }
-        ensures own { IfSome result (λ o. o.loop_no ≡ self.old.0.loop_no) }
+        ensures order { option_map order_of result ≡ (next_order_of self.old.loop.state).0 }
+        ensures core { self.new.loop ≡ record self.old.loop { state = (next_order_of self.old.loop.state).1 } }
+        ensures lowest { IfSome result (λ o. IsLowestOpen o.request self.old.loop.state.requests) }
+        ensures own { IfSome result (λ o. o.loop_no ≡ self.old.setting.loop_no) }
         ensures slot { IfSome result (λ o. o.slot < 32) }
         ensures can_run { IfSome result (λ o. CanRun (order_of o)) }
-        ensures setting { self.new.0 ≡ self.old.0 }
+        ensures setting { self.new.setting ≡ self.old.setting }
     {
         self.guest.machine.next_order()
     }
@@ -385,8 +375,8 @@ impl<B: Shared + Drop> LoopCore<B> {
     /// Takes a reply whose order is, in every field and the module's bytes included, that of a request that is
     /// neither answered nor cancelled, unless the loop has failed. Else the reply comes back.
     pub fn accept(&mut self, reply: Reply) -> Accepted
-        ensures told { Accepts reply self.old.1 result self.new.1 }
-        ensures setting { self.new.0 ≡ self.old.0 }
+        ensures told { Accepts reply self.old.loop result self.new.loop }
+        ensures setting { self.new.setting ≡ self.old.setting }
     {
         match self.guest.machine.accept(reply) {
             Ok(()) => Accepted::Accepted,
@@ -397,15 +387,15 @@ impl<B: Shared + Drop> LoopCore<B> {
     /// Cancels a request: 0, or -22 where it is not outstanding or cancelled already, -16 where it is answered or
     /// started, and -1 on a loop that has failed.
     pub fn cancel(&mut self, request: u32) -> i32
-        ensures told { CancelsLoop B.calls self.old.1 request (cast_unsigned w32 result) self.new.1 }
-        ensures setting { self.new.0 ≡ self.old.0 }
+        ensures told { CancelsLoop B.calls self.old.loop request (cast_unsigned w32 result) self.new.loop }
+        ensures setting { self.new.setting ≡ self.old.setting }
     {
         self.cancel_number(request).cast_signed()
     }
 
     fn cancel_number(&mut self, request: u32) -> u32
-        ensures told { CancelsLoop B.calls self.old.1 request result self.new.1 }
-        ensures setting { self.new.0 ≡ self.old.0 }
+        ensures told { CancelsLoop B.calls self.old.loop request result self.new.loop }
+        ensures setting { self.new.setting ≡ self.old.setting }
     {
         let Guest {
             machine,
@@ -417,15 +407,16 @@ impl<B: Shared + Drop> LoopCore<B> {
 
     /// How long the loop has nothing to do, by its cached now.
     pub fn hint(&self) -> Hint
-        ensures { result ≡ hint_of self.now.1.state }
+        ensures value { result ≡ hint_of self.now.loop.state }
+        ensures means { IsHint self.now.loop.state result }
     {
         self.guest.machine.hint()
     }
 
     /// Whether the loop has an active handle, an outstanding request or a closing handle.
     pub fn alive(&self) -> bool
-        ensures value { result ≡ is_alive self.now.1.state }
-        ensures means { IsTrue (is_alive self.now.1.state) ↔ IsAlive self.now.1.state }
+        ensures value { result ≡ is_alive self.now.loop.state }
+        ensures means { IsTrue (is_alive self.now.loop.state) ↔ IsAlive self.now.loop.state }
     {
         self.guest.machine.is_alive()
     }
@@ -436,8 +427,8 @@ impl<B: Beside + Drop> LoopCore<B> {
     /// below 32.
     pub fn start(&mut self, slot: u32, request: u32) -> bool
         requires { slot < 32 }
-        ensures told { StartsBeside B.others self.old.1 slot request result self.new.1 }
-        ensures setting { self.new.0 ≡ self.old.0 }
+        ensures told { StartsBeside B.others self.old.loop slot request result self.new.loop }
+        ensures setting { self.new.setting ≡ self.old.setting }
     {
         self.guest.shared.start(slot, request)
     }
@@ -446,8 +437,8 @@ impl<B: Beside + Drop> LoopCore<B> {
     /// below 16.
     pub fn sent(&mut self, async_no: u32) -> bool
         requires { async_no < 16 }
-        ensures told { SendsBeside B.others self.old.1 async_no result self.new.1 }
-        ensures setting { self.new.0 ≡ self.old.0 }
+        ensures told { SendsBeside B.others self.old.loop async_no result self.new.loop }
+        ensures setting { self.new.setting ≡ self.old.setting }
     {
         self.guest.shared.sent(async_no)
     }

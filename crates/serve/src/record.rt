@@ -27,7 +27,7 @@ pub struct Record<'a> {
     pub(crate) ran: u32,
     emits: Vec<u64>,
     ghost few: { ran ≤ MOST_CALLBACKS },
-    ghost told: { ∥ HasDone core.0 core.1 ran emits.items ∥₁ },
+    ghost told: { ∥ HasDone core.setting core.loop ran emits.items ∥₁ },
 }
 
 fn enters_timers(did: &StepDid) -> bool {
@@ -43,8 +43,8 @@ fn enters_timers(did: &StepDid) -> bool {
 impl<'a> Record<'a> {
     /// Of a loop that has done nothing.
     pub fn new(alloc: Global, core: LoopCore<Seats<'a>>) -> Record<'a>
-        requires { IsOpening thread_calls core.0 core.1 }
-        ensures setting { result.core.0 ≡ core.entry.0 }
+        requires { IsOpening thread_calls core.setting core.loop }
+        ensures setting { result.core.setting ≡ core.entry.setting }
         ensures none { result.ran ≡ 0 }
     {
         Record {
@@ -56,7 +56,7 @@ impl<'a> Record<'a> {
 
     /// Offers a reply to the loop, which drops it where it is not the loop's.
     pub fn accept(&mut self, reply: Reply)
-        ensures setting { self.new.core.0 ≡ self.old.core.0 }
+        ensures setting { self.new.core.setting ≡ self.old.core.setting }
         ensures ran { self.new.ran ≡ self.old.ran }
     {
         match self.core.accept(reply) {
@@ -67,7 +67,7 @@ impl<'a> Record<'a> {
     /// The loop's next order, if there is one.
     pub fn next_order(&mut self) -> Option<Order>
         ensures can_run { IfSome result (λ o. CanRun (order_of o)) }
-        ensures setting { self.new.core.0 ≡ self.old.core.0 }
+        ensures setting { self.new.core.setting ≡ self.old.core.setting }
         ensures ran { self.new.ran ≡ self.old.ran }
     {
         self.core.next_order()
@@ -76,8 +76,8 @@ impl<'a> Record<'a> {
     /// Steps until the timers phase is entered or the loop has ended. How it ended, if it did.
     pub fn step_through<R: Wait>(&mut self, rt: &R) -> Result<Option<Ending>, AllocError>
         requires room { self.old.ran < MOST_CALLBACKS }
-        ensures setting { self.new.core.0 ≡ self.old.core.0 }
-        ensures comes { IfOk result (λ ended. ComesTo ended self.new.core.1 self.new.ran) }
+        ensures setting { self.new.core.setting ≡ self.old.core.setting }
+        ensures comes { IfOk result (λ ended. ComesTo ended self.new.core.loop self.new.ran) }
     {
         for _ in rt.forever() {
             let did = self.step()?;
@@ -93,8 +93,8 @@ impl<'a> Record<'a> {
     // One step of the loop. Where memory for what a callback may put out is refused, it takes none.
     fn step(&mut self) -> Result<StepDid, AllocError>
         requires room { self.old.ran < MOST_CALLBACKS }
-        ensures setting { self.new.core.0 ≡ self.old.core.0 }
-        ensures over { IfOk result (λ did. did ≡ StepDid.Over → self.new.core.1.state.status ≡ status.Over) }
+        ensures setting { self.new.core.setting ≡ self.old.core.setting }
+        ensures over { IfOk result (λ did. did ≡ StepDid.Over → self.new.core.loop.state.status ≡ status.Over) }
     {
         self.emits.reserve(MOST_EMITS)?;
         let did = self.core.step();
@@ -110,8 +110,8 @@ impl<'a> Record<'a> {
     // How the loop has ended with a step, if it has: it is over; the callback failed; or it was the last that the loop
     // may run.
     fn ended(&self, did: &StepDid) -> Option<Ending>
-        requires { did.now ≡ StepDid.Over → self.now.core.1.state.status ≡ status.Over }
-        ensures { ComesTo result self.now.core.1 self.now.ran }
+        requires { did.now ≡ StepDid.Over → self.now.core.loop.state.status ≡ status.Over }
+        ensures { ComesTo result self.now.core.loop self.now.ran }
     {
         match did {
             StepDid::Over => Some(Ending::Over),
@@ -124,9 +124,9 @@ impl<'a> Record<'a> {
     /// Raises the clock to the next timer. Without one the loop waits for ever.
     pub fn wait(&mut self) -> Option<Ending>
         requires room { self.old.ran < MOST_CALLBACKS }
-        requires none { self.old.core.1.state.requests.outstanding ≡ [] }
-        ensures setting { self.new.core.0 ≡ self.old.core.0 }
-        ensures comes { ComesTo result self.new.core.1 self.new.ran }
+        requires none { self.old.core.loop.state.requests.outstanding ≡ [] }
+        ensures setting { self.new.core.setting ≡ self.old.core.setting }
+        ensures comes { ComesTo result self.new.core.loop self.new.ran }
     {
         match self.core.hint() {
             Hint::Now => None,
@@ -140,7 +140,7 @@ impl<'a> Record<'a> {
 
     // Raises the clock by so many milliseconds.
     fn pass(&mut self, ms: u64)
-        ensures setting { self.new.core.0 ≡ self.old.core.0 }
+        ensures setting { self.new.core.setting ≡ self.old.core.setting }
         ensures ran { self.new.ran ≡ self.old.ran }
     {
         let clock = self.core.clock(0);
@@ -149,16 +149,16 @@ impl<'a> Record<'a> {
 
     /// Whether requests are outstanding.
     pub fn has_requests(&self) -> bool
-        ensures { OnFalse result (self.now.core.1.state.requests.outstanding ≡ []) }
+        ensures { OnFalse result (self.now.core.loop.state.requests.outstanding ≡ []) }
     {
         self.core.outstanding() > 0
     }
 
     /// What the loop has done, and how it ended.
     pub fn into_served(self, loop_no: u32, ending: Ending) -> Served
-        requires loop_no { loop_no ≡ self.core.0.loop_no }
-        requires ends { EndsBy ending self.core.1 self.ran }
-        ensures { IsServed self.entry.core.0 result }
+        requires loop_no { loop_no ≡ self.core.setting.loop_no }
+        requires ends { EndsBy ending self.core.loop self.ran }
+        ensures { IsServed self.entry.core.setting result }
     {
         Served {
             loop_no,

@@ -32,7 +32,7 @@ pub struct Turns<'a, J> {
     kept: Option<J>,
     ghost of_board: { IsPassOf board.now pass },
     ghost there: { loop_no < length board.now.replies },
-    ghost numbered: { told.core.0.loop_no ≡ loop_no },
+    ghost numbered: { told.core.setting.loop_no ≡ loop_no },
 }
 
 impl<'a, J: Drop> Turns<'a, J> {
@@ -47,7 +47,7 @@ impl<'a, J: Drop> Turns<'a, J> {
         serving: Serving,
     ) -> Result<Turns<'a, J>, AllocError>
         requires { taker ≡ new_taker marks.now 0 }
-        ensures setting { IfOk result (λ t. t.told.core.0 ≡ setting_at (arc_value «module») serving place.entry.seat.loop_no) }
+        ensures setting { IfOk result (λ t. t.told.core.setting ≡ setting_at (arc_value «module») serving place.entry.seat.loop_no) }
         ensures room { IfOk result (λ t. t.told.ran < MOST_CALLBACKS) }
     {
         let LoopPlace {
@@ -84,7 +84,7 @@ impl<'a, J: Drop> Turns<'a, J> {
     ) -> Result<Served, AllocError>
         requires make { M.IsAlwaysCallable make.now }
         requires room { self.told.ran < MOST_CALLBACKS }
-        ensures { IfOk result (λ served. IsServed self.entry.told.core.0 served) }
+        ensures { IfOk result (λ served. IsServed self.entry.told.core.setting served) }
     {
         let ending = self.until_ended(rt, make)?;
         Ok(self.told.into_served(self.loop_no, ending))
@@ -97,8 +97,8 @@ impl<'a, J: Drop> Turns<'a, J> {
     ) -> Result<Ending, AllocError>
         requires make { M.IsAlwaysCallable make.now }
         requires room { self.old.told.ran < MOST_CALLBACKS }
-        ensures setting { self.new.told.core.0 ≡ self.old.told.core.0 }
-        ensures ends { IfOk result (λ ending. EndsBy ending self.new.told.core.1 self.new.told.ran) }
+        ensures setting { self.new.told.core.setting ≡ self.old.told.core.setting }
+        ensures ends { IfOk result (λ ending. EndsBy ending self.new.told.core.loop self.new.told.ran) }
     {
         for _ in rt.forever() {
             if let Some(ending) = self.turn(rt, make)? {
@@ -116,8 +116,8 @@ impl<'a, J: Drop> Turns<'a, J> {
     ) -> Result<Option<Ending>, AllocError>
         requires make { M.IsAlwaysCallable make.now }
         requires room { self.old.told.ran < MOST_CALLBACKS }
-        ensures setting { self.new.told.core.0 ≡ self.old.told.core.0 }
-        ensures comes { IfOk result (λ ended. ComesTo ended self.new.told.core.1 self.new.told.ran) }
+        ensures setting { self.new.told.core.setting ≡ self.old.told.core.setting }
+        ensures comes { IfOk result (λ ended. ComesTo ended self.new.told.core.loop self.new.told.ran) }
     {
         self.accept_all(rt);
         self.post_all(rt, make)?;
@@ -130,7 +130,7 @@ impl<'a, J: Drop> Turns<'a, J> {
 
     // Accepts all replies that are there.
     fn accept_all<R: Wait>(&mut self, rt: &R)
-        ensures setting { self.new.told.core.0 ≡ self.old.told.core.0 }
+        ensures setting { self.new.told.core.setting ≡ self.old.told.core.setting }
         ensures ran { self.new.told.ran ≡ self.old.told.ran }
     {
         for _ in rt.forever() {
@@ -148,7 +148,7 @@ impl<'a, J: Drop> Turns<'a, J> {
         make: &M,
     ) -> Result<(), AllocError>
         requires make { M.IsAlwaysCallable make.now }
-        ensures setting { self.new.told.core.0 ≡ self.old.told.core.0 }
+        ensures setting { self.new.told.core.setting ≡ self.old.told.core.setting }
         ensures ran { self.new.told.ran ≡ self.old.told.ran }
     {
         for _ in rt.forever() {
@@ -169,7 +169,7 @@ impl<'a, J: Drop> Turns<'a, J> {
         make: &M,
     ) -> Result<Option<J>, AllocError>
         requires make { M.IsAlwaysCallable make.now }
-        ensures setting { self.new.told.core.0 ≡ self.old.told.core.0 }
+        ensures setting { self.new.told.core.setting ≡ self.old.told.core.setting }
         ensures ran { self.new.told.ran ≡ self.old.told.ran }
     {
         if let Some(job) = self.kept.take() {
@@ -185,8 +185,8 @@ impl<'a, J: Drop> Turns<'a, J> {
     // Without one the loop waits for ever.
     fn rest(&mut self, ran: u32) -> Option<Ending>
         requires room { self.old.told.ran < MOST_CALLBACKS }
-        ensures setting { self.new.told.core.0 ≡ self.old.told.core.0 }
-        ensures comes { ComesTo result self.new.told.core.1 self.new.told.ran }
+        ensures setting { self.new.told.core.setting ≡ self.old.told.core.setting }
+        ensures comes { ComesTo result self.new.told.core.loop self.new.told.ran }
     {
         if self.told.has_requests() {
             thread::yield_now();

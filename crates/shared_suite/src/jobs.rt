@@ -1,12 +1,14 @@
-// The jobs of the tests. Their orders are for a module with nothing in it, and each is answered that there was no memory.
-ghost use Rattle.std.specs.Prelude.{◌≡◌, IfOk};
+// The jobs of the tests. Their orders have no fuel, and each is answered that it was spent.
+ghost use Rattle.std.specs.Prelude.{◌≡◌, ℕ, [], IfOk, codes};
+ghost use Rattle.std.specs.Arc.{arc_value};
+ghost use Rattle.imports.specs.Linking.{ExportsFunction};
 ghost use Rattle.board.specs.Jobs.{ticket_of};
 
 use crate::hall::ticket;
 use crate::modules::linked_of;
 use board::JobBox;
 use claims::Ticket;
-use imports::Linked;
+use imports::{Entry, Linked};
 use order::{Order, Reply};
 use std::alloc::{AllocError, Global};
 use std::sync::Arc;
@@ -20,16 +22,22 @@ pub struct Jobs {
     module: Arc<Linked>,
     bytes: Arc<Vec<u8>>,
     pub calls: Arc<AtomicU64>,
+    ghost works: { (f : ℕ) × ExportsFunction (arc_value module).contents (codes "uv_work") f },
+    ghost none: { (arc_value bytes).items ≡ [] },
 }
 
-// A module with nothing in it.
-const EMPTY: &str = "0061736d01000000";
+// A module whose `uv_work` gives its operation.
+const WORKS: &str = "0061736d0100000001060160017f017f03020100070b010775765f776f726b00000a0601040020000b";
 
 impl Jobs {
     pub fn new(alloc: Global) -> Result<Jobs, Fail> {
+        let module = linked_of(alloc, WORKS)?;
+        let Some(_) = module.entry(Entry::Work) else {
+            return Err(Fail::from("no `uv_work`"));
+        };
         Ok(Jobs {
             alloc,
-            module: linked_of(alloc, EMPTY)?,
+            module,
             bytes: Arc::new(alloc, Vec::new(alloc))?,
             calls: Arc::new(alloc, AtomicU64::new(0))?,
         })
@@ -58,7 +66,7 @@ impl Jobs {
             fuel: 0,
             depth: 1,
         };
-        order.out_of_memory()
+        order.run(self.alloc)
     }
 
     // The reply to the ticket's request.

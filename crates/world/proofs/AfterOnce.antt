@@ -16,7 +16,7 @@ use Rattle.phases.specs.Laws.{is_after_event, WasAsked, IsCancel, AreDue, cancel
 use Rattle.phases.specs.Laws.{IsAfterOnce as LoopOnce, IsAfterOwn as LoopOwn, IsAfterLast as LoopLast, IsOwn as LoopIsOwn, WasCancelled as LoopCancelled}
 use Rattle.phases.specs.Outside.{is_failed, next_order_of}
 use Rattle.phases.specs.Requests.{Tidings}
-use Rattle.phases.specs.State.{Setting, State, Loop}
+use Rattle.phases.specs.State.{Setting, State, Loop, Core}
 use Rattle.phases.proofs.Numbered.{Same}
 use Rattle.desk.specs.Desk.{Desk, desk_calls}
 use Rattle.world_log.specs.declared.step.Step.{Step}
@@ -28,9 +28,10 @@ use Rattle.world.specs.Guests.{step_calls, guest_calls}
 use Rattle.world.specs.Histories.{AreTold, HasHistory}
 use Rattle.world.specs.Laws.{is_after, WasCancelled, IsOwn}
 use Rattle.world.proofs.Runs.{Keeps, Told, AllEnds, set_here, either, step_next, run_keeps}
+use Rattle.world.proofs.Sets.{core}
 use Rattle.world.proofs.Telling.{history_join, step_callback, tells_callback}
 
-opening_is : (g : Setting) → IsOpening desk_calls g (opening_loop g).1
+pub opening_is : (g : Setting) → IsOpening desk_calls g (opening_loop g).loop
 opening_is g = record { state = refl; store = refl; shared = refl }
 
 both_true : (a b : Bool) → (a && b) ≡ true → (a ≡ true) × (b ≡ true)
@@ -87,14 +88,14 @@ module _ (j r : ℕ) where
   after_step w w' (step.Clock n ms) entry h is = absurd (let none = unless_silent w w' n h.1 entry _ (λ k. ap (is_after j r) k.0) h.3 in cc)
 
 module _ (settings : List Setting) (j : ℕ) where
-  abbrev Opens : Setting → Loop Desk → Type 0
-  Opens g l = (slice_get settings j ≡ Some g) × (l ≡ (opening_loop g).1)
+  abbrev pub Opens : Setting → Loop Desk → Type 0
+  Opens g l = (slice_get settings j ≡ Some g) × (l ≡ (opening_loop g).loop)
 
-  opens : (gs : List Setting) (n : ℕ) (p : Setting × Loop Desk) → slice_get (map opening_loop gs) n ≡ Some p → (slice_get gs n ≡ Some p.0) × (p.1 ≡ (opening_loop p.0).1)
+  opens : (gs : List Setting) (n : ℕ) (p : Core Desk) → slice_get (map opening_loop gs) n ≡ Some p → (slice_get gs n ≡ Some p.setting) × (p.loop ≡ (opening_loop p.setting).loop)
   opens [] n p h = absurd (cc)
   opens (g ∷ gs) zero p h =
       let is : opening_loop g ≡ p = cc in
-      (ap (λ (x : Setting × Loop Desk). Some x.0) is, subst (λ (x : Setting × Loop Desk). x.1 ≡ (opening_loop x.0).1) is refl)
+      (ap (λ (x : Core Desk). Some x.setting) is, subst (λ (x : Core Desk). x.loop ≡ (opening_loop x.setting).loop) is refl)
   opens (g ∷ gs) (suc n) p h = opens gs n p h
 
   no_replies : (gs : List Setting) (n : ℕ) (xs : List Answer) → slice_get (map (λ _. []) gs) n ≡ Some xs → AllEnds xs
@@ -117,13 +118,13 @@ module _ (settings : List Setting) (j : ℕ) where
     cancels = λ r. (λ h. absurd (none_in _ h), λ h. absurd (none_in _ h));
   }
 
-  abbrev IsThere : (workers : ℕ) → Bool
+  abbrev pub IsThere : (workers : ℕ) → Bool
   IsThere workers = is_some (slice_get (opening_world settings workers).loops j)
 
-  opening_keeps : (workers : ℕ) → Keeps Opens (IsThere workers) j (opening_world settings workers) [] []
+  pub opening_keeps : (workers : ℕ) → Keeps Opens (IsThere workers) j (opening_world settings workers) [] []
   opening_keeps workers = record {
     stays = refl;
-    loops = λ p h. told_none Opens (IsThere workers) p.0 p.1 (opens settings j p h);
+    loops = λ p h. told_none Opens (IsThere workers) p.setting p.loop (opens settings j p h);
     replies = no_replies settings;
   }
 
@@ -134,9 +135,9 @@ module _ (settings : List Setting) (j : ℕ) where
     keeps_after : Keeps Opens (IsThere workers) j w log Made
     keeps_after = run_keeps Opens (IsThere workers) j steps log (opening_world settings workers) w [] [] (opening_keeps workers) run
 
-    pub history_after : (g : Setting) (now : Loop Desk) → HasLoop w j g now → (slice_get settings j ≡ Some g) × HasHistory j g (opening_loop g).1 log Made now
+    pub history_after : (g : Setting) (now : Loop Desk) → HasLoop w j g now → (slice_get settings j ≡ Some g) × HasHistory j g (opening_loop g).loop log Made now
     history_after g now at =
-        let it = keeps_after.loops (g, now) at in
+        let it = keeps_after.loops (core g now) at in
         (it.begins.0, record { events = it.events; history = subst (λ l. History desk_calls g l it.events now) it.begins.1 it.history; told = it.told; calls = it.calls })
 
     -- what was cancelled, in the log and in the history
@@ -161,7 +162,7 @@ module _ (settings : List Setting) (j : ℕ) where
       here = after_step j r w w' s entry h is
 
       before : Told Opens (IsThere workers) j log Made here.setting here.old
-      before = keeps_after.loops (here.setting, here.old) here.at
+      before = keeps_after.loops (core here.setting here.old) here.at
 
       opening : IsOpening desk_calls here.setting before.start
       opening = subst (IsOpening desk_calls here.setting) (sym before.begins.1) (opening_is here.setting)
@@ -183,12 +184,12 @@ module _ (settings : List Setting) (j : ℕ) where
 
       -- from here on
       abbrev From : Setting → Loop Desk → Type 0
-      From g l = ◌≡◌ {A = Setting × Loop Desk} (here.setting, here.old) (g, l)
+      From g l = ◌≡◌ {A = Core Desk} (core here.setting here.old) (core g l)
 
       from_keeps : Keeps From true j w [] []
       from_keeps = record {
         stays = ap is_some here.at;
-        loops = λ p at. told_none From true p.0 p.1 (let it = sym here.at ∙ at in cc);
+        loops = λ p at. told_none From true p.setting p.loop (let it = sym here.at ∙ at in cc);
         replies = keeps_after.replies;
       }
 
@@ -202,7 +203,7 @@ module _ (settings : List Setting) (j : ℕ) where
       late law more (e ∷ events) g start now begins history told cancelled =
           law here.setting before.start now before.events events e opening
           (history_join here.setting before.events (e ∷ events) before.start here.old now before.history
-          (subst (λ (x : Setting × Loop Desk). History desk_calls x.0 x.1 (e ∷ events) now) (sym begins) history))
+          (subst (λ (x : Core Desk). History desk_calls x.setting x.loop (e ∷ events) now) (sym begins) history))
           r (sym (tells_callback j r entry e told.0) ∙ is) cancelled
 
       pub last_after : LoopLast desk_calls → (behind : List Step) (more : List Line) (w'' : World) (rest : WorldRun w' behind more w'')
@@ -223,8 +224,8 @@ module _ (settings : List Setting) (j : ℕ) where
       by : (b : Bool) → is_after j r entry ≡ b → count_by (is_after j r) (log ++ entry ∷ []) ≤ 1
       by true is =
           let here = after_step j r w w' s entry h is in
-          let now : slice_get w'.loops j ≡ Some (here.setting, here.new) = ap (λ x. slice_get x.loops j) here.after ∙ set_here w.loops j (here.setting, here.new) (here.setting, here.old) here.at in
-          let it = (step_next Opens there j w log made keeps s entry w' h).loops (here.setting, here.new) now in
+          let now : slice_get w'.loops j ≡ Some (core here.setting here.new) = ap (λ x. slice_get x.loops j) here.after ∙ set_here w.loops j (core here.setting here.new) (core here.setting here.old) here.at in
+          let it = (step_next Opens there j w log made keeps s entry w' h).loops (core here.setting here.new) now in
           subst (λ n. n ≤ 1) (sym (it.callbacks r))
           (law here.setting it.start here.new it.events (subst (IsOpening desk_calls here.setting) (sym it.begins.1) (opening_is here.setting)) it.history r)
       by false none = subst (λ n. n ≤ 1) (sym (sum_by_push (λ x. cond (is_after j r x) 1 0) log entry ∙ rw none (omega arith))) few

@@ -10,35 +10,34 @@ use Rattle.order.specs.declared.request.Order.{Order}
 use Rattle.order.specs.Orders.{order_of}
 use Rattle.phases.specs.PhaseList.{begin_list}
 use Rattle.phases.specs.Roster.{opening_roster}
-use Rattle.phases.specs.State.{Setting, Loop, State, opening}
+use Rattle.phases.specs.State.{Setting, Loop, State, opening, Core}
 use Rattle.desk.specs.Desk.{Desk, new_desk}
 use Rattle.world.specs.declared.config.LoopConfig.{LoopConfig}
 use Rattle.world.specs.declared.hand.Hand.{Hand as CodeHand}
 use Rattle.world.specs.declared.hand.Hand.TheVariants as hand
 use Rattle.world.specs.Making.{setting_from, settings_from, hand_of, AreNumbered, IsHeld, IsJob, IsKept}
 use Rattle.world.specs.World.{Empty, Answer, opening_loop, opening_world}
+use Rattle.world.proofs.Sets.{core}
 use Rattle.world.proofs.Turning.{world_of}
-
-abbrev Core : Type 0
-Core = Setting × Loop Desk
 
 abbrev made : State → Store → Desk → Loop Desk
 made s t d = record { state = s; store = t; shared = d }
 
-opened : (g : Setting) (core : Core) → core.0 ≡ g → core.1.state ≡ opening (opening_roster g.loaded.contents) (begin_list g.loaded.contents) → IsFresh g.loaded.contents core.1.store → core.1.shared ≡ new_desk g.loop_no → core ≡ opening_loop g
-opened g (h, l) setting state store shared =
-    ap (λ x. (x, l)) setting
-    ∙ ap (λ x. (g, made x l.store l.shared)) state
-    ∙ ap (λ x. (g, made (opening_loop g).1.state x l.shared)) store.store
-    ∙ ap (λ x. (g, made (opening_loop g).1.state (opening_loop g).1.store x)) shared
+opened : (g : Setting) (c : Core Desk) → c.setting ≡ g → c.loop.state ≡ opening (opening_roster g.loaded.contents) (begin_list g.loaded.contents) → IsFresh g.loaded.contents c.loop.store → c.loop.shared ≡ new_desk g.loop_no → c ≡ opening_loop g
+opened g c setting state store shared =
+    let l = c.loop in
+    ap (λ x. core x l) setting
+    ∙ ap (λ x. core g (made x l.store l.shared)) state
+    ∙ ap (λ x. core g (made (opening_loop g).loop.state x l.shared)) store.store
+    ∙ ap (λ x. core g (made (opening_loop g).loop.state (opening_loop g).loop.store x)) shared
 
 -- what a new loop is
-pub opens : {E : Type 0} (g : Setting) (loaded : Loaded) (d : Desk) (r : Result Core E) → loaded ≡ g.loaded → d ≡ new_desk g.loop_no → IfOk r (λ core. core.0 ≡ record g { loaded = loaded })
-    → IfOk r (λ core. core.1.state ≡ opening (opening_roster loaded.contents) (begin_list loaded.contents)) → IfOk r (λ core. IsFresh loaded.contents core.1.store) → IfOk r (λ core. core.1.shared ≡ d)
+pub opens : {E : Type 0} (g : Setting) (loaded : Loaded) (d : Desk) (r : Result (Core Desk) E) → loaded ≡ g.loaded → d ≡ new_desk g.loop_no → IfOk r (λ core. core.setting ≡ record g { loaded = loaded })
+    → IfOk r (λ core. core.loop.state ≡ opening (opening_roster loaded.contents) (begin_list loaded.contents)) → IfOk r (λ core. IsFresh loaded.contents core.loop.store) → IfOk r (λ core. core.loop.shared ≡ d)
     → IfOk r (λ core. core ≡ opening_loop g)
-opens g loaded d (Ok core) same new setting state store shared =
-    opened g core (setting ∙ ap (λ x. record g { loaded = x }) same) (state ∙ ap (λ x. opening (opening_roster x.contents) (begin_list x.contents)) same)
-    (subst (λ x. IsFresh x.contents core.1.store) same store) (shared ∙ new)
+opens g loaded d (Ok c) same new setting state store shared =
+    opened g c (setting ∙ ap (λ x. record g { loaded = x }) same) (state ∙ ap (λ x. opening (opening_roster x.contents) (begin_list x.contents)) same)
+    (subst (λ x. IsFresh x.contents c.loop.store) same store) (shared ∙ new)
 opens g loaded d (Err e) same new setting state store shared = setting
 
 -- one configuration more
@@ -48,7 +47,7 @@ settings_more n zero (x ∷ cs) c at = let same : x ≡ c = cc in ap (λ y. sett
 settings_more n (suc k) (x ∷ cs) c at =
     ap (λ gs. setting_from n x ∷ gs) (settings_more (n + 1) k cs c at ∙ ap (λ m. settings_from (n + 1) (take k cs) ++ setting_from m c ∷ []) (let e : n + 1 + k ≡ n + suc k = omega arith in e))
 
-pub loops_more : (k : ℕ) (cs : List LoopConfig) (c : LoopConfig) (ls : List Core) → slice_get cs k ≡ Some c → ls ≡ map opening_loop (settings_from 0 (take k cs))
+pub loops_more : (k : ℕ) (cs : List LoopConfig) (c : LoopConfig) (ls : List (Core Desk)) → slice_get cs k ≡ Some c → ls ≡ map opening_loop (settings_from 0 (take k cs))
     → ls ++ opening_loop (setting_from k c) ∷ [] ≡ map opening_loop (settings_from 0 (take (k + 1) cs))
 loops_more k cs c ls at is =
     let next : suc k ≡ k + 1 = omega arith in
@@ -77,7 +76,7 @@ replies_opening n [] = refl
 replies_opening n (c ∷ cs) = ap (λ rs. [] ∷ rs) (replies_opening (n + 1) cs)
 
 -- a world that opens keeps what a world keeps
-pub opening_kept : {X : Type 0} (cs : List LoopConfig) (ls : List Core) (js : List Order) (hs : List CodeHand) (lists : List X) (f : X → List Answer) (workers room : ℕ) → ls ≡ map opening_loop (settings_from 0 cs) → js ≡ [] → hs ≡ replicate workers hand.Empty
+pub opening_kept : {X : Type 0} (cs : List LoopConfig) (ls : List (Core Desk)) (js : List Order) (hs : List CodeHand) (lists : List X) (f : X → List Answer) (workers room : ℕ) → ls ≡ map opening_loop (settings_from 0 cs) → js ≡ [] → hs ≡ replicate workers hand.Empty
     → map f lists ≡ replicate (length cs) [] → 256 ≤ room → IsKept ls js hs (length lists) room
 opening_kept cs ls js hs lists f workers room loops none hands replies roomy = record {
   numbered = subst (AreNumbered 0) (sym loops) (opening_numbered 0 cs);
@@ -90,7 +89,7 @@ opening_kept cs ls js hs lists f workers room loops none hands replies roomy = r
   roomy = roomy;
 }
 
-pub opening_is : {X : Type 0} (cs : List LoopConfig) (ls : List Core) (js : List Order) (hs : List CodeHand) (lists : List X) (f : X → List Answer) (workers : ℕ) → ls ≡ map opening_loop (settings_from 0 cs) → js ≡ [] → hs ≡ replicate workers hand.Empty
+pub opening_is : {X : Type 0} (cs : List LoopConfig) (ls : List (Core Desk)) (js : List Order) (hs : List CodeHand) (lists : List X) (f : X → List Answer) (workers : ℕ) → ls ≡ map opening_loop (settings_from 0 cs) → js ≡ [] → hs ≡ replicate workers hand.Empty
     → map f lists ≡ replicate (length cs) [] → world_of ls (map order_of js) (map hand_of hs) (map f lists) ≡ opening_world (settings_from 0 cs) workers
 opening_is cs ls js hs lists f workers loops none hands replies =
     ap (λ x. world_of x (map order_of js) (map hand_of hs) (map f lists)) loops

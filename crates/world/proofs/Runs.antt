@@ -16,7 +16,7 @@ use Rattle.phases.specs.History.{guest_calls as calls_within}
 use Rattle.phases.specs.Laws.{is_after_event}
 use Rattle.phases.specs.Outside.{is_failed, next_order_of, next_in, handing, after_clock}
 use Rattle.phases.specs.Requests.{Request, lowest_open}
-use Rattle.phases.specs.State.{Setting, State, Loop}
+use Rattle.phases.specs.State.{Setting, State, Loop, Core}
 use Rattle.phases.specs.Step.{in_state}
 use Rattle.phases.proofs.Numbered.{Same}
 use Rattle.phases.proofs.Histories.{calls_push}
@@ -32,6 +32,7 @@ use Rattle.world.specs.World.{World, Hand, Empty, Taken, Started, Answer, Only, 
 use Rattle.world.specs.Guests.{calls_of_loop, step_calls, guest_calls}
 use Rattle.world.specs.Histories.{is_of_owner, Tells, AreTold}
 use Rattle.world.specs.Laws.{is_after}
+use Rattle.world.proofs.Sets.{core}
 use Rattle.world.proofs.Telling.{history_push, told_push, tells_callback, tells_cancel, contains_push, count_push}
 
 pub set_here : {X : Type 0} (xs : List X) (n : ℕ) (v x : X) → slice_get xs n ≡ Some x → slice_get (slice_set xs n v) n ≡ Some v
@@ -39,7 +40,7 @@ set_here [] n v x h = absurd (cc)
 set_here (y ∷ ys) zero v x h = refl
 set_here (y ∷ ys) (suc n) v x h = set_here ys n v x h
 
-set_apart : {X : Type 0} (xs : List X) (n k : ℕ) (v : X) → n ≢ k → slice_get (slice_set xs n v) k ≡ slice_get xs k
+pub set_apart : {X : Type 0} (xs : List X) (n k : ℕ) (v : X) → n ≢ k → slice_get (slice_set xs n v) k ≡ slice_get xs k
 set_apart [] n k v apart = refl
 set_apart (y ∷ ys) zero zero v apart = absurd (apart refl)
 set_apart (y ∷ ys) zero (suc k) v apart = refl
@@ -122,7 +123,7 @@ module _ (Begins : Setting → Loop Desk → Type 0) (there : Bool) (j : ℕ) wh
 
   pub record Keeps (w : World) (log : List Line) (made : List GuestCall) : Type 0 where
     pub stays : is_some (slice_get w.loops j) ≡ there
-    pub loops : (p : Setting × Loop Desk) → slice_get w.loops j ≡ Some p → Told log made p.0 p.1
+    pub loops : (p : Core Desk) → slice_get w.loops j ≡ Some p → Told log made p.setting p.loop
     pub replies : (n : ℕ) (xs : List Answer) → slice_get w.replies n ≡ Some xs → AllEnds xs
 
   -- an event of a loop, which the line tells
@@ -147,7 +148,7 @@ module _ (Begins : Setting → Loop Desk → Type 0) (there : Bool) (j : ℕ) wh
         → ((n : ℕ) (xs : List Answer) → slice_get w'.replies n ≡ Some xs → AllEnds xs) → Next w' entry []
     kept w' entry other e replies = record {
       stays = ap (λ ls. is_some (slice_get ls j)) e ∙ keeps.stays;
-      loops = λ p h. told_beside log made p.0 p.1 entry other (keeps.loops p (ap (λ ls. slice_get ls j) (sym e) ∙ h));
+      loops = λ p h. told_beside log made p.setting p.loop entry other (keeps.loops p (ap (λ ls. slice_get ls j) (sym e) ∙ h));
       replies = replies;
     }
 
@@ -156,30 +157,30 @@ module _ (Begins : Setting → Loop Desk → Type 0) (there : Bool) (j : ℕ) wh
 
     -- the loop of a number changes, or it has an event in which it does not
     moved_with : (w' : World) (entry : Line) (more : List GuestCall) (n : ℕ) (g : Setting) (l m : Loop Desk)
-        → slice_get w.loops n ≡ Some (g, l) → w'.loops ≡ slice_set w.loops n (g, m)
+        → slice_get w.loops n ≡ Some (core g l) → w'.loops ≡ slice_set w.loops n (core g m)
         → ((n : ℕ) (xs : List Answer) → slice_get w'.replies n ≡ Some xs → AllEnds xs)
         → (n ≡ j → Happens g l m entry more) → (n ≢ j → (is_of_owner j entry ≡ false) × (more ≡ [])) → Next w' entry more
     moved_with w' entry more n g l m at e replies here apart = record {
-      stays = ap (λ ls. is_some (slice_get ls j)) e ∙ set_there w.loops n j (g, m) ∙ keeps.stays;
+      stays = ap (λ ls. is_some (slice_get ls j)) e ∙ set_there w.loops n j (core g m) ∙ keeps.stays;
       loops = λ p h. elim (cases_eq n j) [
         | inl same ↦
-            let at_j : slice_get w.loops j ≡ Some (g, l) = ap (slice_get w.loops) (sym same) ∙ at in
-            let now : slice_get w'.loops j ≡ Some (g, m) = ap (λ ls. slice_get ls j) e ∙ (ap (λ k. slice_get (slice_set w.loops k (g, m)) j) same ∙ set_here w.loops j (g, m) (g, l) at_j) in
-            let is : (g, m) ≡ p = ap (inner {X = Setting × Loop Desk} p) (sym now ∙ h) in
+            let at_j : slice_get w.loops j ≡ Some (core g l) = ap (slice_get w.loops) (sym same) ∙ at in
+            let now : slice_get w'.loops j ≡ Some (core g m) = ap (λ ls. slice_get ls j) e ∙ (ap (λ k. slice_get (slice_set w.loops k (core g m)) j) same ∙ set_here w.loops j (core g m) (core g l) at_j) in
+            let is : core g m ≡ p = ap (inner {X = Core Desk} p) (sym now ∙ h) in
             let event = here same in
-            subst (λ (x : Setting × Loop Desk). Told (log ++ entry ∷ []) (made ++ more) x.0 x.1) is
-            (told_more log made more g l m entry event.event event.step event.tells event.calls (keeps.loops (g, l) at_j))
+            subst (λ (x : Core Desk). Told (log ++ entry ∷ []) (made ++ more) x.setting x.loop) is
+            (told_more log made more g l m entry event.event event.step event.tells event.calls (keeps.loops (core g l) at_j))
         | inr other ↦
             let no = apart other in
-            subst (λ cs. Told (log ++ entry ∷ []) (made ++ cs) p.0 p.1) (sym no.1)
-            (told_beside log made p.0 p.1 entry no.0 (keeps.loops p (sym (ap (λ ls. slice_get ls j) e ∙ set_apart w.loops n j (g, m) other) ∙ h)))
+            subst (λ cs. Told (log ++ entry ∷ []) (made ++ cs) p.setting p.loop) (sym no.1)
+            (told_beside log made p.setting p.loop entry no.0 (keeps.loops p (sym (ap (λ ls. slice_get ls j) e ∙ set_apart w.loops n j (core g m) other) ∙ h)))
       ];
       replies = replies;
     }
 
     -- the same where the guest calls nothing
     moved : (w' : World) (entry told : Line) (n : ℕ) (g : Setting) (l m : Loop Desk) → entry ≡ told → (is_of_owner j told ≡ (n == j)) ⊎ (is_of_owner j told ≡ false)
-        → slice_get w.loops n ≡ Some (g, l) → w'.loops ≡ slice_set w.loops n (g, m)
+        → slice_get w.loops n ≡ Some (core g l) → w'.loops ≡ slice_set w.loops n (core g m)
         → ((n : ℕ) (xs : List Answer) → slice_get w'.replies n ≡ Some xs → AllEnds xs)
         → (n ≡ j → Happens g l m entry []) → Next w' entry []
     moved w' entry told n g l m is whose at e replies here =
@@ -190,21 +191,21 @@ module _ (Begins : Setting → Loop Desk → Type 0) (there : Bool) (j : ℕ) wh
 
     -- a loop that stays, in an event of its own
     stayed_own : (w' : World) (entry told : Line) (n : ℕ) (g : Setting) (l : Loop Desk) → entry ≡ told → is_of_owner j told ≡ (n == j)
-        → slice_get w.loops n ≡ Some (g, l) → w'.loops ≡ w.loops
+        → slice_get w.loops n ≡ Some (core g l) → w'.loops ≡ w.loops
         → ((n : ℕ) (xs : List Answer) → slice_get w'.replies n ≡ Some xs → AllEnds xs)
         → (n ≡ j → Happens g l l entry []) → Next w' entry []
     stayed_own w' entry told n g l is own at e replies here = record {
       stays = ap (λ ls. is_some (slice_get ls j)) e ∙ keeps.stays;
       loops = λ p h. elim (cases_eq n j) [
         | inl same ↦
-            let now : slice_get w'.loops j ≡ Some (g, l) = ap (λ ls. slice_get ls j) e ∙ (ap (slice_get w.loops) (sym same) ∙ at) in
-            let at_j : slice_get w.loops j ≡ Some (g, l) = ap (slice_get w.loops) (sym same) ∙ at in
-            let is_p : (g, l) ≡ p = ap (inner {X = Setting × Loop Desk} p) (sym now ∙ h) in
+            let now : slice_get w'.loops j ≡ Some (core g l) = ap (λ ls. slice_get ls j) e ∙ (ap (slice_get w.loops) (sym same) ∙ at) in
+            let at_j : slice_get w.loops j ≡ Some (core g l) = ap (slice_get w.loops) (sym same) ∙ at in
+            let is_p : core g l ≡ p = ap (inner {X = Core Desk} p) (sym now ∙ h) in
             let event = here same in
-            subst (λ (x : Setting × Loop Desk). Told (log ++ entry ∷ []) (made ++ []) x.0 x.1) is_p
-            (told_more log made [] g l l entry event.event event.step event.tells event.calls (keeps.loops (g, l) at_j))
+            subst (λ (x : Core Desk). Told (log ++ entry ∷ []) (made ++ []) x.setting x.loop) is_p
+            (told_more log made [] g l l entry event.event event.step event.tells event.calls (keeps.loops (core g l) at_j))
         | inr other ↦
-            told_beside log made p.0 p.1 entry (ap (is_of_owner j) is ∙ own ∙ ne_eqb n j other) (keeps.loops p (ap (λ ls. slice_get ls j) (sym e) ∙ h))
+            told_beside log made p.setting p.loop entry (ap (is_of_owner j) is ∙ own ∙ ne_eqb n j other) (keeps.loops p (ap (λ ls. slice_get ls j) (sym e) ∙ h))
       ];
       replies = replies;
     }
@@ -212,7 +213,7 @@ module _ (Begins : Setting → Loop Desk → Type 0) (there : Bool) (j : ℕ) wh
     unless_next : (w' : World) (n : ℕ) (l : Loop Desk) (entry : Line) (P : Type 0) → (P → Next w' entry []) → UnlessFailed w n l entry w' P → Next w' entry []
     unless_next w' n l entry P f h = either (is_failed l.state.status) _ _ (Next w' entry []) (only w' entry (line.Failed n) refl) f h
 
-    order_next : (w' : World) (n : ℕ) (g : Setting) (l : Loop Desk) (out : Option WorkOrder × State) (entry : Line) → slice_get w.loops n ≡ Some (g, l)
+    order_next : (w' : World) (n : ℕ) (g : Setting) (l : Loop Desk) (out : Option WorkOrder × State) (entry : Line) → slice_get w.loops n ≡ Some (core g l)
         → next_order_of l.state ≡ out → PostsOrder w n g l out entry w' → Next w' entry []
     order_next w' n g l (None, s) entry at is h =
         stayed_own w' entry (line.Post n post.Nothing) n g l h.0 refl at (ap (λ x. x.loops) h.1) (same_replies w' (ap (λ x. x.replies) h.1))
@@ -265,7 +266,7 @@ module _ (Begins : Setting → Loop Desk → Type 0) (there : Bool) (j : ℕ) wh
     finish_next w' n Empty entry h = only w' entry _ refl h
     finish_next w' n (Taken o) entry h = only w' entry _ refl h
 
-    collect_next : (w' : World) (n : ℕ) (g : Setting) (l : Loop Desk) (replies : List Answer) (entry : Line) → slice_get w.loops n ≡ Some (g, l) → AllEnds replies
+    collect_next : (w' : World) (n : ℕ) (g : Setting) (l : Loop Desk) (replies : List Answer) (entry : Line) → slice_get w.loops n ≡ Some (core g l) → AllEnds replies
         → CollectsFrom w n g l replies entry w' → Next w' entry []
     collect_next w' n g l [] entry at all h = only w' entry _ refl h
     collect_next w' n g l (a ∷ replies) entry at all h =

@@ -4,10 +4,14 @@ use Rattle.std.specs.Prelude.{slice_get, slice_set, All}
 use Rattle.std.proofs.lemmas.List.{length-set, length_push}
 use Rattle.std.proofs.lemmas.List.Elements.{All-push}
 use Rattle.order.specs.declared.request.Order.{Order}
-use Rattle.phases.specs.State.{Setting, Loop}
+use Rattle.phases.specs.State.{Setting, Loop, Core}
 use Rattle.desk.specs.Desk.{Desk}
 use Rattle.world.specs.declared.hand.Hand.{Hand}
 use Rattle.world.specs.Making.{AreNumbered, IsJob, IsHeld, IsKept}
+
+-- a loop with what it is made of
+abbrev pub core : Setting → Loop Desk → Core Desk
+core g l = record { setting = g; loop = l }
 
 -- what is put back where it stood changes nothing
 pub set_same : {X : Type 0} (xs : List X) (n : ℕ) (x : X) → slice_get xs n ≡ Some x → slice_set xs n x ≡ xs
@@ -26,17 +30,17 @@ map_get f (y ∷ ys) zero x h = let same : y ≡ x = cc in ap (λ z. Some (f z))
 map_get f (y ∷ ys) (suc n) x h = map_get f ys n x h
 
 -- a loop stands otherwise, under the same number
-numbered_set : (k : ℕ) (ls : List (Setting × Loop Desk)) (n : ℕ) (p q : Setting × Loop Desk) → slice_get ls n ≡ Some p → q.0 ≡ p.0 → AreNumbered k ls → AreNumbered k (slice_set ls n q)
+numbered_set : (k : ℕ) (ls : List (Core Desk)) (n : ℕ) (p q : Core Desk) → slice_get ls n ≡ Some p → q.setting ≡ p.setting → AreNumbered k ls → AreNumbered k (slice_set ls n q)
 numbered_set k [] n p q at e h = h
-numbered_set k (x ∷ xs) zero p q at e h = let same : x ≡ p = cc in (ap (λ g. g.loop_no) (e ∙ ap (λ y. y.0) (sym same)) ∙ h.0, h.1)
+numbered_set k (x ∷ xs) zero p q at e h = let same : x ≡ p = cc in (ap (λ g. g.loop_no) (e ∙ ap (λ y. y.setting) (sym same)) ∙ h.0, h.1)
 numbered_set k (x ∷ xs) (suc n) p q at e h = (h.0, numbered_set (k + 1) xs n p q at e h.1)
 
-pub numbered_at : (k : ℕ) (ls : List (Setting × Loop Desk)) (n : ℕ) (p : Setting × Loop Desk) → slice_get ls n ≡ Some p → AreNumbered k ls → p.0.loop_no ≡ k + n
+pub numbered_at : (k : ℕ) (ls : List (Core Desk)) (n : ℕ) (p : Core Desk) → slice_get ls n ≡ Some p → AreNumbered k ls → p.setting.loop_no ≡ k + n
 numbered_at k [] n p at h = absurd (cc)
-numbered_at k (x ∷ xs) zero p at h = let same : x ≡ p = cc in ap (λ y. y.0.loop_no) (sym same) ∙ h.0 ∙ omega arith
+numbered_at k (x ∷ xs) zero p at h = let same : x ≡ p = cc in ap (λ y. y.setting.loop_no) (sym same) ∙ h.0 ∙ omega arith
 numbered_at k (x ∷ xs) (suc n) p at h = numbered_at (k + 1) xs n p at h.1 ∙ omega arith
 
-pub kept_set : (ls : List (Setting × Loop Desk)) (js : List Order) (hs : List Hand) (lists room : ℕ) (n : ℕ) (p q : Setting × Loop Desk) → slice_get ls n ≡ Some p → q.0 ≡ p.0
+pub kept_set : (ls : List (Core Desk)) (js : List Order) (hs : List Hand) (lists room : ℕ) (n : ℕ) (p q : Core Desk) → slice_get ls n ≡ Some p → q.setting ≡ p.setting
     → IsKept ls js hs lists room → IsKept (slice_set ls n q) js hs lists room
 kept_set ls js hs lists room n p q at e h =
     let long : length (slice_set ls n q) ≡ length ls = length-set ls n q in
@@ -49,7 +53,7 @@ kept_set ls js hs lists room n p q at e h =
       roomy = h.roomy;
     }
 
-pub kept_push : (ls : List (Setting × Loop Desk)) (js js' : List Order) (hs : List Hand) (lists room room' : ℕ) (o : Order) → js' ≡ js ++ o ∷ [] → room' ≡ room → length js ≢ 256 → IsJob (length ls) o
+pub kept_push : (ls : List (Core Desk)) (js js' : List Order) (hs : List Hand) (lists room room' : ℕ) (o : Order) → js' ≡ js ++ o ∷ [] → room' ≡ room → length js ≢ 256 → IsJob (length ls) o
     → IsKept ls js hs lists room → IsKept ls js' hs lists room'
 kept_push ls js js' hs lists room room' o pushed same other job h = record {
   numbered = h.numbered;

@@ -5,7 +5,7 @@ use Rattle.std.proofs.lemmas.List.Elements.{All-set}
 use Rattle.order.specs.Work.{WorkOrder}
 use Rattle.order.specs.Orders.{order_of}
 use Rattle.order.specs.declared.request.Order.{Order}
-use Rattle.phases.specs.State.{Setting, Loop}
+use Rattle.phases.specs.State.{Core}
 use Rattle.desk.specs.Desk.{Desk}
 use Rattle.world_log.specs.declared.entry.Entry.TheVariants as line
 use Rattle.world_log.specs.declared.outcome.Job.{Job}
@@ -38,7 +38,7 @@ none_there : (js : List Order) → length js ≡ 0 → js ≡ []
 none_there [] h = refl
 none_there (o ∷ js) h = absurd (cc)
 
-module _ (w : World) (ls : List (Setting × Loop Desk)) (js : List Order) (hs : List CodeHand) (rs : List (List Answer)) (is : world_of ls (map order_of js) (map hand_of hs) rs ≡ w) (n : ℕ) (h : CodeHand) (at : slice_get hs n ≡ Some h) where
+module _ (w : World) (ls : List (Core Desk)) (js : List Order) (hs : List CodeHand) (rs : List (List Answer)) (is : world_of ls (map order_of js) (map hand_of hs) rs ≡ w) (n : ℕ) (h : CodeHand) (at : slice_get hs n ≡ Some h) where
   there : slice_get w.hands n ≡ Some (hand_of h)
   there = ap (λ x. slice_get x.hands n) (sym is) ∙ map_get hand_of hs n h at
 
@@ -63,7 +63,7 @@ module _ (w : World) (ls : List (Setting × Loop Desk)) (js : List Order) (hs : 
       (taken_one w n (order_of o) (map order_of js') w' (there ∙ ap (λ x. Some (hand_of x)) empty) (jobs_are ∙ ap (map order_of) front)
       (ap (λ x. world_of ls (map order_of js') x rs) (map_set hand_of hs n (code.Taken o)) ∙ ap (λ (x : World). record (with_hand x n (Taken (order_of o))) { jobs = map order_of js' }) is))
 
-pub kept_take : (ls : List (Setting × Loop Desk)) (js js' : List Order) (hs : List CodeHand) (lists room room' n : ℕ) (o : Order) → js ≡ o ∷ js' → room' ≡ room → IsKept ls js hs lists room
+pub kept_take : (ls : List (Core Desk)) (js js' : List Order) (hs : List CodeHand) (lists room room' n : ℕ) (o : Order) → js ≡ o ∷ js' → room' ≡ room → IsKept ls js hs lists room
     → IsKept ls js' (slice_set hs n (code.Taken o)) lists room'
 kept_take ls js js' hs lists room room' n o front same h =
     let jobs : All (IsJob (length ls)) (o ∷ js') = subst (All (IsJob (length ls))) front h.waiting in

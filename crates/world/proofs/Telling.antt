@@ -14,7 +14,7 @@ use Rattle.phases.specs.History.{guest_calls as calls_within}
 use Rattle.phases.specs.Laws.{is_after_event}
 use Rattle.phases.specs.Requests.{Requests}
 use Rattle.phases.specs.State.{Setting, Loop}
-use Rattle.phases.proofs.Held.{CancelFate, cancelled, stayed, fate_in}
+use Rattle.phases.proofs.Cancelling.{CancelFate, cancelled, stayed, fate_in}
 use Rattle.phases.proofs.Numbered.{Same}
 use Rattle.phases.proofs.Histories.{calls_push}
 use Rattle.desk.specs.Desk.{Desk, desk_calls}

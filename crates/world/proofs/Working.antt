@@ -8,7 +8,7 @@ use Rattle.order.specs.declared.request.Order.{Order}
 use Rattle.order.specs.declared.reply.Reply.{Reply}
 use Rattle.order.specs.Work.{WorkOrder, IsEndOf}
 use Rattle.order.specs.Orders.{order_of, end_of}
-use Rattle.phases.specs.State.{Setting, Loop}
+use Rattle.phases.specs.State.{Loop, Core}
 use Rattle.phases.specs.Outside.{StartsBeside}
 use Rattle.desk.specs.Desk.{Desk, desk_others}
 use Rattle.world_log.specs.declared.entry.Entry.TheVariants as line
@@ -20,7 +20,7 @@ use Rattle.world.specs.World.{World, Hand, Answer, Empty, Taken, Started, WithHa
 use Rattle.world.specs.declared.hand.Hand.{Hand as CodeHand}
 use Rattle.world.specs.declared.hand.Hand.TheVariants as hand
 use Rattle.world.specs.Making.{hand_of, answer_of, IsJob, IsHeld, IsKept}
-use Rattle.world.proofs.Sets.{set_same, map_set, map_get}
+use Rattle.world.proofs.Sets.{core, set_same, map_set, map_get}
 use Rattle.world.proofs.Turning.{world_of, moved}
 
 -- what each worker has
@@ -51,7 +51,7 @@ started_same x y h = cc
 pub job_held : (loops n : ℕ) (hs : List CodeHand) (h h' : CodeHand) → All (IsHeld loops) hs → slice_get hs n ≡ Some h → h ≡ h' → IsHeld loops h'
 job_held loops n hs h h' all at is = subst (IsHeld loops) is (holds_at (IsHeld loops) hs n h all at)
 
-pub kept_hand : (ls : List (Setting × Loop Desk)) (js : List Order) (hs : List CodeHand) (lists room n : ℕ) (h : CodeHand) → IsHeld (length ls) h → IsKept ls js hs lists room → IsKept ls js (slice_set hs n h) lists room
+pub kept_hand : (ls : List (Core Desk)) (js : List Order) (hs : List CodeHand) (lists room n : ℕ) (h : CodeHand) → IsHeld (length ls) h → IsKept ls js hs lists room → IsKept ls js (slice_set hs n h) lists room
 kept_hand ls js hs lists room n h job kept = record {
   numbered = kept.numbered;
   waiting = kept.waiting;
@@ -61,7 +61,7 @@ kept_hand ls js hs lists room n h job kept = record {
   roomy = kept.roomy;
 }
 
-pub kept_reply : {D : Type 0} (ls : List (Setting × Loop Desk)) (js : List Order) (hs : List CodeHand) (lists : List D) (room n k : ℕ) (h : CodeHand) (d : D) → h ≡ hand.Empty → IsKept ls js hs (length lists) room
+pub kept_reply : {D : Type 0} (ls : List (Core Desk)) (js : List Order) (hs : List CodeHand) (lists : List D) (room n k : ℕ) (h : CodeHand) (d : D) → h ≡ hand.Empty → IsKept ls js hs (length lists) room
     → IsKept ls js (slice_set hs n h) (length (slice_set lists k d)) room
 kept_reply ls js hs lists room n k h d empty kept =
     subst (λ m. IsKept ls js (slice_set hs n h) m room) (sym (length-set lists k d))
@@ -72,7 +72,7 @@ loop_same l m state store shared =
     ap (λ s. record { state = s; store = l.store; shared = l.shared }) state ∙ ap (λ s. record { state = m.state; store = s; shared = l.shared }) store
     ∙ ap (λ s. record { state = m.state; store = m.store; shared = s }) shared
 
-module _ (w : World) (ls : List (Setting × Loop Desk)) (js : List WorkOrder) (hs : List CodeHand) (rs : List (List Answer)) (is : world_of ls js (hands_in hs) rs ≡ w) (n : ℕ) (h : CodeHand) (at : slice_get hs n ≡ Some h) where
+module _ (w : World) (ls : List (Core Desk)) (js : List WorkOrder) (hs : List CodeHand) (rs : List (List Answer)) (is : world_of ls js (hands_in hs) rs ≡ w) (n : ℕ) (h : CodeHand) (at : slice_get hs n ≡ Some h) where
   has_hand : slice_get w.hands n ≡ Some (hand_of h)
   has_hand = ap (λ x. slice_get x.hands n) (sym is) ∙ map_get hand_of hs n h at
 
@@ -93,24 +93,24 @@ module _ (w : World) (ls : List (Setting × Loop Desk)) (js : List WorkOrder) (h
     by (hand.Taken o) same isnt = (refl, same)
     by (hand.Started o) same isnt = absurd (isnt o refl)
 
-  module _ (o : Order) (job : Job) (p q : Setting × Loop Desk) (ok : Bool) (is_taken : h ≡ hand.Taken o) (told : job ≡ job_of (order_of o)) (at_loop : slice_get ls job.loop_no ≡ Some p) (e : q.0 ≡ p.0) (beside : StartsBeside desk_others p.1 o.slot o.request ok q.1) where
+  module _ (o : Order) (job : Job) (p q : Core Desk) (ok : Bool) (is_taken : h ≡ hand.Taken o) (told : job ≡ job_of (order_of o)) (at_loop : slice_get ls job.loop_no ≡ Some p) (e : q.setting ≡ p.setting) (beside : StartsBeside desk_others p.loop o.slot o.request ok q.loop) where
     has_taken : slice_get w.hands n ≡ Some (Taken (order_of o))
     has_taken = has_hand ∙ ap (λ x. Some (hand_of x)) is_taken
 
     has_loop : slice_get w.loops o.loop_no ≡ Some p
     has_loop = ap (λ x. slice_get x.loops o.loop_no) (sym is) ∙ ap (λ j. slice_get ls j.loop_no) (sym told) ∙ at_loop
 
-    as_told : (b : Bool) → ok ≡ b → StartsBeside desk_others p.1 o.slot o.request b q.1
-    as_told b it = subst (λ x. StartsBeside desk_others p.1 o.slot o.request x q.1) it beside
+    as_told : (b : Bool) → ok ≡ b → StartsBeside desk_others p.loop o.slot o.request b q.loop
+    as_told b it = subst (λ x. StartsBeside desk_others p.loop o.slot o.request x q.loop) it beside
 
     pub begins : (o' : Order) → ok ≡ true → o' ≡ o → WithHand w n (λ x. StartsJob w n x (line.Start n (start.Begun job)) (world_of (slice_set ls job.loop_no q) js (hands_in (slice_set hs n (hand.Started o'))) rs))
     begins o' begun same = (
       Taken (order_of o),
       has_taken,
       (
-        p.0,
-        p.1,
-        q.1,
+        p.setting,
+        p.loop,
+        q.loop,
         true,
         has_loop,
         as_told true begun,
@@ -118,22 +118,22 @@ module _ (w : World) (ls : List (Setting × Loop Desk)) (js : List WorkOrder) (h
           ap (λ j. line.Start n (start.Begun j)) told,
           ap (λ x. world_of (slice_set ls job.loop_no q) js x rs) (map_set hand_of hs n (hand.Started o'))
               ∙ ap (λ x. with_hand x n (Started (order_of o'))) (moved w ls js (hands_in hs) rs is job.loop_no p at_loop q e)
-              ∙ ap (λ j. with_hand (with_loop w j.loop_no p.0 q.1) n (Started (order_of o'))) told
-              ∙ ap (λ y. with_hand (with_loop w o.loop_no p.0 q.1) n (Started (order_of y))) same,
+              ∙ ap (λ j. with_hand (with_loop w j.loop_no p.setting q.loop) n (Started (order_of o'))) told
+              ∙ ap (λ y. with_hand (with_loop w o.loop_no p.setting q.loop) n (Started (order_of y))) same,
         ),
       ),
     )
 
     pub drops : ok ≡ false → WithHand w n (λ x. StartsJob w n x (line.Start n (start.Dropped job)) (world_of (slice_set ls job.loop_no q) js (hands_in (slice_set hs n hand.Empty)) rs))
     drops dropped =
-        let same : q.1 ≡ p.1 = loop_same q.1 p.1 (as_told false dropped).1 (as_told false dropped).2 (as_told false dropped).0.1 in
-        let still : q ≡ p = ap (λ g. (g, q.1)) e ∙ ap (λ l. (p.0, l)) same in (
+        let same : q.loop ≡ p.loop = loop_same q.loop p.loop (as_told false dropped).1 (as_told false dropped).2 (as_told false dropped).0.1 in
+        let still : q ≡ p = ap (λ g. core g q.loop) e ∙ ap (λ l. core p.setting l) same in (
           Taken (order_of o),
           has_taken,
           (
-            p.0,
-            p.1,
-            q.1,
+            p.setting,
+            p.loop,
+            q.loop,
             false,
             has_loop,
             as_told false dropped,
@@ -146,7 +146,7 @@ module _ (w : World) (ls : List (Setting × Loop Desk)) (js : List WorkOrder) (h
           ),
         )
 
-module _ {D : Type 0} (f : D → List Answer) (w : World) (ls : List (Setting × Loop Desk)) (js : List WorkOrder) (hs : List CodeHand) (rs : List D) (is : world_of ls js (hands_in hs) (map f rs) ≡ w) (n : ℕ) (h : CodeHand) (at : slice_get hs n ≡ Some h)
+module _ {D : Type 0} (f : D → List Answer) (w : World) (ls : List (Core Desk)) (js : List WorkOrder) (hs : List CodeHand) (rs : List D) (is : world_of ls js (hands_in hs) (map f rs) ≡ w) (n : ℕ) (h : CodeHand) (at : slice_get hs n ≡ Some h)
     (o : Order) (job : Job) (d d' : D) (is_started : h ≡ hand.Started o) (at_list : slice_get rs job.loop_no ≡ Some d) where
   -- a list with more room reads the same
   pub reserves : f d' ≡ f d → world_of ls js (hands_in (slice_set hs n (hand.Started o))) (map f (slice_set rs job.loop_no d')) ≡ w

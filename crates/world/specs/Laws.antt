@@ -1,5 +1,5 @@
 -- Laws of the runs of a world.
-use Rattle.std.specs.Prelude.{◌≡◌, ℕ, ◌≤◌, ◌==◌, Bool, true, false, ◌&&◌, ◌⊎◌, List, ◌∷◌, ◌++◌, Contains, count_by, pos, Some, slice_get}
+use Rattle.std.specs.Prelude.{◌≡◌, ℕ, ◌+◌, ◌≤◌, ◌==◌, Bool, true, false, ◌&&◌, ◌⊎◌, List, ◌∷◌, ◌++◌, Contains, count_by, pos, Some, slice_get}
 use Rattle.phases.specs.declared.did.StepDid.{StepDid}
 use Rattle.phases.specs.declared.entry.EntryKind.TheVariants as kind
 use Rattle.phases.specs.Guests.{GuestCall}
@@ -11,6 +11,11 @@ use Rattle.desk.specs.Desk.{Desk, desk_calls}
 use Rattle.world_log.specs.declared.step.Step.{Step}
 use Rattle.world_log.specs.declared.entry.Entry.{Entry as Line}
 use Rattle.world_log.specs.declared.entry.Entry.TheVariants as line
+use Rattle.world_log.specs.declared.outcome.Job.{Job}
+use Rattle.world_log.specs.declared.outcome.PostOutcome.TheVariants as post
+use Rattle.world_log.specs.declared.outcome.StartOutcome.TheVariants as start
+use Rattle.world_log.specs.declared.outcome.FinishOutcome.TheVariants as finish
+use Rattle.world_log.specs.declared.outcome.CollectOutcome.TheVariants as collect
 use Rattle.world.specs.World.{World, WorldStep, WorldRun, HasLoop, opening_world, with_loop, told_of}
 use Rattle.world.specs.Guests.{step_calls, guest_calls}
 
@@ -68,6 +73,54 @@ IsAfterLast =
     → (behind : List Step) (more : List Line) (w' : World) (run : WorldRun mid behind more w')
     → (l request : ℕ) → is_after l request entry ≡ true
     → WasCancelled l request (entry ∷ more) (step_calls l w s entry mid step ++ guest_calls l mid behind more w' run) → ⊥
+
+-- the line tells of the job of this loop and request: that it was posted, taken, begun, dropped, finished, collected
+abbrev pub is_of_job : (l request : ℕ) → Job → Bool
+is_of_job l request job = (job.loop_no == l) && (job.request == request)
+
+abbrev pub is_posted : (l request : ℕ) → Line → Bool
+is_posted l request (line.Post n (post.Request number)) = (n == l) && (number == request)
+is_posted l request _ = false
+
+abbrev pub is_taken : (l request : ℕ) → Line → Bool
+is_taken l request (line.Take n (Some job)) = is_of_job l request job
+is_taken l request _ = false
+
+abbrev pub is_begun : (l request : ℕ) → Line → Bool
+is_begun l request (line.Start n (start.Begun job)) = is_of_job l request job
+is_begun l request _ = false
+
+abbrev pub is_dropped : (l request : ℕ) → Line → Bool
+is_dropped l request (line.Start n (start.Dropped job)) = is_of_job l request job
+is_dropped l request _ = false
+
+abbrev pub is_finished : (l request : ℕ) → Line → Bool
+is_finished l request (line.Finish n (finish.Ended job ending)) = is_of_job l request job
+is_finished l request _ = false
+
+abbrev pub is_collected : (l request : ℕ) → Line → Bool
+is_collected l request (line.Collect n (collect.Request number)) = (n == l) && (number == request)
+is_collected l request _ = false
+
+-- The job was posted at most once, and got no further more often than as far as that: it was taken where it was posted,
+-- begun or dropped where it was taken, finished where it was begun, and collected where it was finished.
+pub record GoesOnce (l request : ℕ) (log : List Line) : Type 0 where
+  pub posted : count_by (is_posted l request) log ≤ 1
+  pub taken : count_by (is_taken l request) log ≤ count_by (is_posted l request) log
+  pub started : count_by (is_begun l request) log + count_by (is_dropped l request) log ≤ count_by (is_taken l request) log
+  pub finished : count_by (is_finished l request) log ≤ count_by (is_begun l request) log
+  pub collected : count_by (is_collected l request) log ≤ count_by (is_finished l request) log
+
+-- each loop's number is its place
+abbrev pub AreInPlace : List Setting → Type 0
+AreInPlace settings = (n : ℕ) (g : Setting) → slice_get settings n ≡ Some g → g.loop_no ≡ n
+
+-- In every run from an opening world each job goes its way so, of loops whose numbers are their places. Since a run's
+-- beginnings are runs, each line of the way stands behind the one before it.
+abbrev pub IsOneWay : Type 0
+IsOneWay =
+    (settings : List Setting) (workers : ℕ) (steps : List Step) (log : List Line) (w : World) → AreInPlace settings
+    → WorldRun (opening_world settings workers) steps log w → (l request : ℕ) → GoesOnce l request log
 
 -- a run, and a run from where it ended, are one run
 abbrev pub RunsJoin : Type 0

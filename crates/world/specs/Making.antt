@@ -5,7 +5,7 @@ use Rattle.order.specs.declared.request.Order.{Order}
 use Rattle.order.specs.declared.reply.Reply.{Reply}
 use Rattle.order.specs.Orders.{order_of, end_of}
 use Rattle.phases.specs.Keeping.{CanRun}
-use Rattle.phases.specs.State.{Setting, Loop}
+use Rattle.phases.specs.State.{Setting, Core}
 use Rattle.desk.specs.Desk.{Desk}
 use Rattle.world_log.specs.declared.step.Step.{Step}
 use Rattle.world_log.specs.declared.step.Step.TheVariants as step
@@ -56,13 +56,13 @@ IsHeld loops (hand.Taken o) = IsJob loops o
 IsHeld loops (hand.Started o) = IsJob loops o
 
 -- each loop's number is its place, counted from here
-abbrev pub AreNumbered : ℕ → List (Setting × Loop Desk) → Type 0
+abbrev pub AreNumbered : ℕ → List (Core Desk) → Type 0
 AreNumbered n [] = Unit {0}
-AreNumbered n (p ∷ ps) = (p.0.loop_no ≡ n) × AreNumbered (n + 1) ps
+AreNumbered n (p ∷ ps) = (p.setting.loop_no ≡ n) × AreNumbered (n + 1) ps
 
 -- Each loop's number is its place, each job is one of these loops' and can be started and run, each loop has a list of
 -- replies, and so many jobs have room at least.
-pub record IsKept (loops : List (Setting × Loop Desk)) (jobs : List Order) (hands : List CodeHand) (lists room : ℕ) : Type 0 where
+pub record IsKept (loops : List (Core Desk)) (jobs : List Order) (hands : List CodeHand) (lists room : ℕ) : Type 0 where
   pub numbered : AreNumbered 0 loops
   pub waiting : All (IsJob (length loops)) jobs
   pub held : All (IsHeld (length loops)) hands

@@ -7,7 +7,7 @@ use Rattle.order.specs.Work.{WorkOrder, WorkEnd, Done, Trap, Depth, Spent, NoMem
 use Rattle.phases.specs.declared.did.StepDid.{StepDid}
 use Rattle.phases.specs.declared.did.StepDid.TheVariants as did
 use Rattle.phases.specs.Roster.{opening_roster}
-use Rattle.phases.specs.State.{Setting, Loop, State, opening}
+use Rattle.phases.specs.State.{Setting, Loop, State, opening, Core}
 use Rattle.phases.specs.PhaseList.{begin_list}
 use Rattle.phases.specs.Host.{with_requests}
 use Rattle.phases.specs.Step.{LoopStep, in_state}
@@ -39,21 +39,21 @@ pub record Answer : Type 0 where
 -- The loops, each with what it is made of; the jobs that no worker took, the oldest first; what each worker has; and
 -- for each loop the replies that it was not offered yet, the oldest first.
 pub record World : Type 0 where
-  pub loops : List (Setting × Loop Desk)
+  pub loops : List (Core Desk)
   pub jobs : List WorkOrder
   pub hands : List Hand
   pub replies : List (List Answer)
 
 -- a loop that has done nothing
-abbrev pub opening_loop : Setting → Setting × Loop Desk
-opening_loop g = (
-  g,
-  record {
+abbrev pub opening_loop : Setting → Core Desk
+opening_loop g = record {
+  setting = g;
+  loop = record {
     state = opening (opening_roster g.loaded.contents) (begin_list g.loaded.contents);
     store = fresh_store g.loaded.contents;
     shared = new_desk g.loop_no;
-  },
-)
+  };
+}
 
 -- each loop as it opens, workers with empty hands, and no job and no reply
 abbrev pub opening_world : List Setting → (workers : ℕ) → World
@@ -66,10 +66,10 @@ opening_world settings workers = record {
 
 -- the loop of a number, and the world with that loop as it stands after a step
 abbrev pub HasLoop : World → ℕ → Setting → Loop Desk → Type 0
-HasLoop w n g l = slice_get w.loops n ≡ Some (g, l)
+HasLoop w n g l = slice_get w.loops n ≡ Some (record { setting = g; loop = l })
 
 abbrev pub with_loop : World → ℕ → Setting → Loop Desk → World
-with_loop w n g l = record w { loops = slice_set w.loops n (g, l) }
+with_loop w n g l = record w { loops = slice_set w.loops n (record { setting = g; loop = l }) }
 
 abbrev pub with_hand : World → ℕ → Hand → World
 with_hand w n hand = record w { hands = slice_set w.hands n hand }

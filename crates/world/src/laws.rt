@@ -1,7 +1,7 @@
 //! Laws of the runs of a world. Their functions do nothing: each contract is the law.
 
 ghost use Rattle.world.specs.Histories.{IsHistory};
-ghost use Rattle.world.specs.Laws.{IsAfterOnce, IsAfterOwn, IsAfterLast, RunsJoin};
+ghost use Rattle.world.specs.Laws.{IsAfterOnce, IsAfterOwn, IsAfterLast, IsOneWay, RunsJoin};
 
 use desk::Desk;
 
@@ -15,6 +15,14 @@ pub fn after_once()
     ensures last { IsAfterLast }
 {
     phases::laws::after_once::<Desk>();
+}
+
+/// In every run of a world, of loops whose numbers are their places, each job goes its way at most once and in order:
+/// it is posted, taken, begun or dropped, and where it was begun finished and collected.
+pub fn one_way()
+    ensures { IsOneWay }
+{
+    phases::laws::asked_once::<Desk>();
 }
 
 /// A run of some steps, and a run of more from the world in which it ended, are one run of them all. So a world that

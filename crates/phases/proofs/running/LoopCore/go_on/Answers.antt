@@ -67,6 +67,6 @@ returns-clause-step g c =
     let s = c.self.inside.guest.machine in
     let is = front_of s.list c.in-Some.entry (sym c.front.ensures ∙ c.in-Some.is) in
     let set = setting_of c.self.inside.guest.setting in
-    subst (λ now. ListStep g.B.Shared.calls now.0 now.1 now.1.state.list c.run.result c.run.new.self.1) c.self.view_is
-    (subst (λ (list : List Entry). ListStep g.B.Shared.calls set (record { state = s; store = c.self.inside.instance; shared = c.self.inside.guest.shared }) list c.run.result c.run.new.self.1) (sym is)
-    (subst (λ (u : State). EntryStep g.B.Shared.calls set (record { state = u; store = c.self.inside.instance; shared = c.self.inside.guest.shared }) c.in-Some.entry c.run.result c.run.new.self.1) c.pop.ensures c.run.ensures.step))
+    subst (λ now. ListStep g.B.Shared.calls now.setting now.loop now.loop.state.list c.run.result c.run.new.self.loop) c.self.view_is
+    (subst (λ (list : List Entry). ListStep g.B.Shared.calls set (record { state = s; store = c.self.inside.instance; shared = c.self.inside.guest.shared }) list c.run.result c.run.new.self.loop) (sym is)
+    (subst (λ (u : State). EntryStep g.B.Shared.calls set (record { state = u; store = c.self.inside.instance; shared = c.self.inside.guest.shared }) c.in-Some.entry c.run.result c.run.new.self.loop) c.pop.ensures c.run.ensures.step))

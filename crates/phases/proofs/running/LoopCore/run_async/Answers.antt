@@ -43,7 +43,7 @@ returns-clause-step g c =
     let same = same_some (async_handle s.roster c.args.async_no) c.in-Some-active_async.field-0-0 handle c.in-Some-active_async.ensures.some.1 is in
     let active = subst (λ n. is_active_handle s.roster.handles (Some n) ≡ true) same c.in-Some-active_async.ensures.some.0 in
     let function = subst (λ n. handle_function s.roster n ≡ Some c.in-Some-active_async.function) same c.in-Some-active_async.ensures.some.2 in
-    let run : CallsHandle g.B.Shared.calls set (sharing old c.take.new.self) s.roster Async handle c.call_handle.result c.call_handle.new.self.1 =
-    called (handle_function s.roster handle) c.in-Some-active_async.function (λ f. RunsFrom g.B.Shared.calls set (sharing old c.take.new.self) Async handle f (I32 handle ∷ []) None c.call_handle.result c.call_handle.new.self.1) function c.call_handle.ensures.run in
-    rw (← c.self.view_is) (active_step (async_handle s.roster c.args.async_no) handle (λ h. is_active_handle s.roster.handles (Some h)) (λ h. TakesFirst g.B.Shared.calls set old c.args.async_no h c.call_handle.result c.call_handle.new.self.1) (λ h. Skips g.B.Shared.calls set old Async h c.call_handle.result c.call_handle.new.self.1) is active
+    let run : CallsHandle g.B.Shared.calls set (sharing old c.take.new.self) s.roster Async handle c.call_handle.result c.call_handle.new.self.loop =
+    called (handle_function s.roster handle) c.in-Some-active_async.function (λ f. RunsFrom g.B.Shared.calls set (sharing old c.take.new.self) Async handle f (I32 handle ∷ []) None c.call_handle.result c.call_handle.new.self.loop) function c.call_handle.ensures.run in
+    rw (← c.self.view_is) (active_step (async_handle s.roster c.args.async_no) handle (λ h. is_active_handle s.roster.handles (Some h)) (λ h. TakesFirst g.B.Shared.calls set old c.args.async_no h c.call_handle.result c.call_handle.new.self.loop) (λ h. Skips g.B.Shared.calls set old Async h c.call_handle.result c.call_handle.new.self.loop) is active
     (c.take.result, c.take.new.self, c.take.ensures, some_taken c.take.result _ _ c.if-take-eq0.false run))

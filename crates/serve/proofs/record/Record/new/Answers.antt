@@ -3,4 +3,4 @@ use Rattle.serve.proofs.Recording.{does_nothing}
 use Rattle.serve.proofs.record.Record.new.Goals as goal
 
 pub invariant_of-result : goal.invariant_of-result
-invariant_of-result c = record { few = omega arith; told = does_nothing c.args.core.0 c.args.core.1 c.new.result.items c.new.ensures.items c.requires }
+invariant_of-result c = record { few = omega arith; told = does_nothing c.args.core.setting c.args.core.loop c.new.result.items c.new.ensures.items c.requires }

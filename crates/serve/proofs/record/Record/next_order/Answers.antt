@@ -7,5 +7,5 @@ invariant_of-self c =
     let r = c.args.self.now in
     record {
       few = r.few;
-      told = does_order r.core.0 c.next_order.new.self.0 r.core.1 c.next_order.new.self.1 r.ran r.emits.items r.emits.items c.next_order.ensures.setting c.next_order.ensures.core refl r.told;
+      told = does_order r.core.setting c.next_order.new.self.setting r.core.loop c.next_order.new.self.loop r.ran r.emits.items r.emits.items c.next_order.ensures.setting c.next_order.ensures.core refl r.told;
     }

@@ -13,7 +13,7 @@ invariant_of-self-in-Ran c =
     let more : c.extend_from_slice.new.self.items ≡ was.items ++ put = c.extend_from_slice.ensures.items ∙ ap (λ b. cond b (was.items ++ put) was.items) ok in
     record {
       few = omega arith;
-      told = does_run r.core.0 c.step-did.new.self.0 r.core.1 c.step-did.new.self.1 r.ran (r.ran + 1) r.emits.items c.extend_from_slice.new.self.items _ _ _ c.step-did.result c.in-Ran.is c.step-did.ensures.setting c.step-did.ensures.step refl
+      told = does_run r.core.setting c.step-did.new.self.setting r.core.loop c.step-did.new.self.loop r.ran (r.ran + 1) r.emits.items c.extend_from_slice.new.self.items _ _ _ c.step-did.result c.in-Ran.is c.step-did.ensures.setting c.step-did.ensures.step refl
           (more ∙ ap (λ xs. xs ++ put) c.reserve.ensures.items ∙ ap (λ xs. r.emits.items ++ xs) c.emits.ensures.emits) r.told;
     }
 
@@ -22,6 +22,6 @@ invariant_of-self-in_default c =
     let r = c.args.self.now in
     record {
       few = r.few;
-      told = does_other r.core.0 c.step-did.new.self.0 r.core.1 c.step-did.new.self.1 r.ran r.emits.items c.reserve.new.self.items c.step-did.result c.step-did.ensures.setting c.step-did.ensures.step
+      told = does_other r.core.setting c.step-did.new.self.setting r.core.loop c.step-did.new.self.loop r.ran r.emits.items c.reserve.new.self.items c.step-did.result c.step-did.ensures.setting c.step-did.ensures.step
           c.reserve.ensures.items c.in_default.not-Ran r.told;
     }

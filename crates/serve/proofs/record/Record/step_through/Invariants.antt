@@ -6,5 +6,5 @@ abbrev pub invariant-loop : goal.invariant-loop
 invariant-loop g l =
     (goal.iterator-loop g).can_next l.iterator'
     × (goal.iterator-loop g).is_finite l.iterator'
-    × (l.self.core.0 ≡ l.fn.self.core.0)
+    × (l.self.core.setting ≡ l.fn.self.core.setting)
     × (l.self.ran < MOST_CALLBACKS)

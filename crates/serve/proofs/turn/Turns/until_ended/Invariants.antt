@@ -6,5 +6,5 @@ abbrev pub invariant-loop : goal.invariant-loop
 invariant-loop g l =
     (goal.iterator-loop g).can_next l.iterator'
     × (goal.iterator-loop g).is_finite l.iterator'
-    × (l.self.told.core.0 ≡ l.fn.self.told.core.0)
+    × (l.self.told.core.setting ≡ l.fn.self.told.core.setting)
     × (l.self.told.ran < MOST_CALLBACKS)

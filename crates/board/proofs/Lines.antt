@@ -4,7 +4,8 @@ use Rattle.std.specs.List.{slice_get}
 use Rattle.std.proofs.lemmas.List.{length-map}
 use Rattle.std.proofs.lemmas.Option.{same_Some}
 use Rattle.order.specs.declared.reply.Reply.{Reply}
-use Rattle.board.specs.Views.{HandView}
+use Rattle.board.specs.Views.{LineView, HandView}
+use Rattle.board.proofs.Makers.{same_part}
 use Rattle.board.specs.Boards.{BoardView, PassView, IsPassOf, OnReplies}
 
 pub some_then : {A : Type 0} (P Q : A → Type 0) (o : Option A) → ((x : A) → P x → Q x) → IfSome o P → IfSome o Q
@@ -27,9 +28,22 @@ lines_set (x ∷ xs) (suc k) a b e same = ap (λ ls. x.line ∷ ls) (lines_set x
 pub there : {J : Type 0} (old : PassView J) (jobs : HandView J) (replies : List (HandView Reply)) → record { jobs = jobs; replies = replies } ≡ old → (board : BoardView) → IsPassOf board old → (k : ℕ)
     → k < length board.replies → k < length replies
 there old jobs replies was board own k below =
-    let same : length board.replies ≡ length (map (λ (h : HandView Reply). h.line) replies) = ap length (sym own.replies) ∙ ap (λ (p : PassView _). length (map (λ (h : HandView Reply). h.line) p.replies)) (sym was) in
+    let ids = length-map board.replies (λ (l : LineView). l.id) in
+    let same : length (map (λ (l : LineView). l.id) board.replies) ≡ length (map (λ (h : HandView Reply). h.line) replies) = ap length (sym own.replies) ∙ ap (λ (p : PassView _). length (map (λ (h : HandView Reply). h.line) p.replies)) (sym was) in
     let size = length-map replies (λ (h : HandView Reply). h.line) in
     omega arith
+
+-- the hand and the line of one loop's replies belong together
+pub line_there : {J : Type 0} (old : PassView J) (jobs : HandView J) (replies : List (HandView Reply)) → record { jobs = jobs; replies = replies } ≡ old → (board : BoardView) → IsPassOf board old
+    → (line : LineView) (lines : List LineView) → record { jobs = line; replies = lines } ≡ board → (k : ℕ) (h : HandView Reply) (l : LineView) → slice_get replies k ≡ Some h → slice_get lines k ≡ Some l → h.line ≡ l.id
+line_there old jobs replies was board own line lines is k h l at on =
+    same_part (λ (h : HandView Reply). h.line) (λ (l : LineView). l.id) replies lines k h l
+    (ap (λ (p : PassView _). map (λ h. h.line) p.replies) was ∙ own.replies ∙ ap (λ (b : BoardView). map (λ l. l.id) b.replies) (sym is)) at on
+
+set_same : {A : Type 0} (xs : List A) (k : ℕ) (a b : A) → slice_get xs k ≡ Some a → b ≡ a → set xs k b ≡ xs
+set_same [] k a b e same = refl
+set_same (x ∷ xs) zero a b e same = ap (λ y. y ∷ xs) (same ∙ sym (same_Some x a e))
+set_same (x ∷ xs) (suc k) a b e same = ap (λ ys. x ∷ ys) (set_same xs k a b e same)
 
 module _ {J : Type 0} (old : PassView J) (jobs : HandView J) (replies : List (HandView Reply)) (was : record { jobs = jobs; replies = replies } ≡ old) (k : ℕ) (a b : HandView Reply) (at : slice_get replies k ≡ Some a) where
   pub still_own : (board : BoardView) → IsPassOf board old → b.line ≡ a.line → IsPassOf board (record { jobs = jobs; replies = set replies k b })
@@ -38,6 +52,9 @@ module _ {J : Type 0} (old : PassView J) (jobs : HandView J) (replies : List (Ha
         jobs = ap (λ (p : PassView J). p.jobs.line) was ∙ own.jobs;
         replies = lines_set replies k a b at same ∙ ap (λ (p : PassView J). map (λ h. h.line) p.replies) was ∙ own.replies;
       }
+
+  pub still_same : b ≡ a → record { jobs = jobs; replies = set replies k b } ≡ old
+  still_same same = ap (λ (rs : List (HandView Reply)). record { jobs = jobs; replies = rs }) (set_same replies k a b at same) ∙ was
 
   pub on_replies : (P : HandView Reply → HandView Reply → Type 0) → P a b → OnReplies P old (record { jobs = jobs; replies = set replies k b }) k
   on_replies P did =

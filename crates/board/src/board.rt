@@ -1,8 +1,10 @@
 // The board that loops and workers share, and the passes with which they step.
 ghost use Rattle.std.specs.Prelude.{◌≡◌, ◌<◌, ◌≤◌, ◌∷◌, ◌++◌, ℕ, length, map, All, IfOk, OnOk, IfErr, IfSome, IfNone};
-ghost use Rattle.board.specs.Views.{IsIdle, IsNewHand};
-ghost use Rattle.board.specs.Boards.{IsPassOf, IsNewPass, Posts, TakesJob, FindsNoJob, Puts, Collects, FindsNoReply};
+ghost use Rattle.board.specs.Views.{IsIdle, maker_at, one_later};
+ghost use Rattle.board.specs.Boards.{IsPassOf, IsNewPass, AreNumbered, IsEventOf, Posts, TakesJob, Puts, Collects};
 
+use crate::bell::Bell;
+use crate::event::{Event, Heard};
 use crate::job::JobBox;
 use crate::line::{Hand, Line, Maker};
 use order::Reply;
@@ -19,7 +21,7 @@ pub const REPLIES: usize = 64;
 
 /// A board: a bounded queue of jobs, one of replies for each loop, and whether it was closed.
 ///
-/// To a contract it is a `BoardView`: its lines.
+/// To a contract it is a `BoardView`: its lines, each with how many it has places for.
 #[derive(Drop)]
 pub struct Board<J = JobBox> {
     jobs: Line<J>,
@@ -59,7 +61,8 @@ impl<J> Model for Pass<J> {
 }
 
 impl<J: Drop> Board<J> {
-    /// A board for 1 to 8 loops, with all its lines empty, and passes that have done nothing. There is at least one.
+    /// A board for 1 to 8 loops, with all its lines empty, and passes that have done nothing, numbered from 1. There is at
+    /// least one.
     ///
     /// The only error is that memory ran out; no later call takes any.
     pub fn new(
@@ -69,9 +72,11 @@ impl<J: Drop> Board<J> {
     ) -> Result<(Board<J>, Vec<Pass<J>>), AllocError>
         requires loops { (0 < loops) × (loops ≤ 8) }
         requires passes { 0 < passes }
-        ensures board { IfOk result (λ b. length b.0.replies ≡ loops) }
+        ensures jobs { IfOk result (λ b. b.0.jobs.places ≡ JOBS) }
+        ensures replies { IfOk result (λ b. (length b.0.replies ≡ loops) × All (λ l. l.places ≡ REPLIES) b.0.replies) }
         ensures count { IfOk result (λ b. length b.1.items ≡ passes) }
         ensures passes { IfOk result (λ b. All (IsNewPass b.0) b.1.items) }
+        ensures numbers { IfOk result (λ b. AreNumbered b.1.items) }
     {
         let (jobs, mut jobs_maker) = Line::new(alloc, JOBS)?;
         let (replies, mut makers) = reply_lines(alloc, loops)?;
@@ -106,7 +111,7 @@ impl<J: Drop> Board<J> {
         requires { IsPassOf self.now pass.old }
         ensures own { IsPassOf self.now pass.new }
         ensures taken { IfSome result (λ job. TakesJob pass.old pass.new job) }
-        ensures none { IfNone result (FindsNoJob pass.old pass.new) }
+        ensures none { IfNone result (pass.new ≡ pass.old) }
     {
         self.jobs.take(rt, &mut pass.jobs)
     }
@@ -129,15 +134,49 @@ impl<J: Drop> Board<J> {
         requires there { loop_no < length self.now.replies }
         ensures own { IsPassOf self.now pass.new }
         ensures collected { IfSome result (λ r. Collects pass.old pass.new loop_no r) }
-        ensures none { IfNone result (FindsNoReply pass.old pass.new loop_no) }
+        ensures none { IfNone result (pass.new ≡ pass.old) }
     {
         let loop_no = loop_no as usize;
         self.replies[loop_no].take(rt, &mut pass.replies[loop_no])
     }
 
-    /// Tells workers to end. The other calls go on as before.
+    /// Tells workers to end, and wakes all that wait. The other calls go on as before.
     pub fn close(&self) {
         self.closed.store(true, Ordering::SeqCst);
+        self.jobs.wake();
+        for line in &self.replies {
+            line.wake();
+        }
+    }
+
+    // The bell that rings for it.
+    fn bell(&self, event: Event) -> &Bell
+        requires { IsEventOf self.now event }
+    {
+        match event {
+            Event::Posted => &self.jobs.given,
+            Event::Taken => &self.jobs.taken,
+            Event::Put(loop_no) => &self.replies[loop_no as usize].given,
+            Event::Collected(loop_no) => &self.replies[loop_no as usize].taken,
+        }
+    }
+
+    /// How often it was done up to now. Ask before looking for what is waited for, and then `wait`.
+    pub fn listen(&self, event: Event) -> Heard
+        requires { IsEventOf self.now event }
+        ensures { result.event ≡ event }
+    {
+        Heard {
+            event,
+            rings: self.bell(event).rings(),
+        }
+    }
+
+    /// Sleeps until it was done again or the board is closed, unless that was so since `listen`.
+    pub fn wait<R: Wait>(&self, rt: &R, heard: Heard)
+        requires { IsEventOf self.now heard.event }
+    {
+        self.bell(heard.event).wait(rt, heard.rings);
     }
 
     /// Whether it was closed.
@@ -158,7 +197,8 @@ fn reply_lines(
     alloc: Global,
     loops: u32,
 ) -> Result<(Vec<Line<Reply>>, Vec<Maker<Reply>>), AllocError>
-    ensures { IfOk result (λ r. (length r.0.items ≡ loops) × (r.1.items ≡ r.0.items)) }
+    ensures lines { IfOk result (λ r. (length r.0.items ≡ loops) × All (λ l. l.places ≡ REPLIES) r.0.items) }
+    ensures makers { IfOk result (λ r. r.1.items ≡ map (maker_at 1) r.0.items) }
 {
     let mut lines = Vec::with_capacity(alloc, loops as usize)?;
     let mut makers = Vec::with_capacity(alloc, loops as usize)?;
@@ -176,9 +216,11 @@ fn hands_of(
     lines: &[Line<Reply>],
     makers: &mut Vec<Maker<Reply>>,
 ) -> Result<Vec<Hand<Reply>>, AllocError>
-    requires { makers.old.items ≡ lines.now }
-    ensures makers { makers.new.items ≡ makers.old.items }
-    ensures hands { IfOk result (λ hands. (map (λ h. h.line) hands.items ≡ lines.now) × All IsIdle hands.items) }
+    requires { map (λ m. m.line) makers.old.items ≡ map (λ l. l.id) lines.now }
+    ensures makers { IfOk result (λ _. makers.new.items ≡ map one_later makers.old.items) }
+    ensures lines { IfOk result (λ hands. map (λ h. h.line) hands.items ≡ map (λ m. m.line) makers.old.items) }
+    ensures numbers { IfOk result (λ hands. map (λ h. h.number) hands.items ≡ map (λ m. m.next) makers.old.items) }
+    ensures idle { IfOk result (λ hands. All IsIdle hands.items) }
 {
     let mut hands = Vec::with_capacity(alloc, lines.len())?;
     for i in 0..lines.len() {

@@ -1,0 +1,63 @@
+-- Each step keeps the rule: loops that aren't there open nothing.
+use Rattle.std.proofs.Common.{◌≡◌, ℕ, ◌+◌, ◌*◌, ◌<◌, ◌≤◌, List, [], ◌∷◌, ◌++◌, set, get_or, All, replicate, refl, sym, ap, ◌∙◌, subst, arith}
+use Rattle.std.proofs.Math.Nat.{lt_of_not-le}
+use mathlib.Core.Option.{some}
+use lib.ListN.{get_elem?}
+use Rattle.claims.specs.declared.rule.View.{View}
+use Rattle.claims.specs.Views.{last_in}
+use Rattle.claims.specs.Rule.{IsWorker, with_worker, spent, seat_of, maker_of, next_maker, next_seat, place, of_loop, IsKept, IsClaimed}
+use Rattle.claims.specs.Steps.{with_opened}
+use Rattle.claims.proofs.Lists.{part_set, part_push, set_apart}
+use Rattle.claims.proofs.Moves.{begins, hit, no_list, own, opens, makes_seat, joins_worker}
+
+no_last : (views : List View) (l slot : ℕ) → (of_loop views l).opened ≡ [] → last_in slot (of_loop views l).opened ≡ 0
+no_last views l slot none = ap (λ cs. last_in slot cs) none
+
+-- a loop whose request can be started is there
+pub hit_there : {loops : ℕ} {words : List ℕ} {views : List View} → IsClaimed loops words views → (l slot r : ℕ) → l < 8 → slot < 32 → get_or words (place l slot) 0 ≡ 4 * r + 1 → l < loops
+hit_there {loops} {words} {views} claimed l slot r real low found =
+    let facts = hit claimed.kept l slot r real low found in
+    let last = facts.last in
+    let above = facts.above in
+    lt_of_not-le (λ (far : loops ≤ l). let none = no_last views l slot (claimed.others l far) in omega arith)
+
+module _ {loops : ℕ} {words : List ℕ} {views : List View} (claimed : IsClaimed loops words views) (id : ℕ) (v : View) (at : get_elem? views id ≡ some v) where
+  -- a step after which the seat has opened no more
+  pub still_claimed : {ws : List ℕ} (w : View) → w.opened ≡ v.opened → IsKept 8 ws (set views id w) → IsClaimed loops ws (set views id w)
+  still_claimed w same kept = record { kept = kept; others = λ l far. part_set (λ u. u.opened) views id (l + 1) v w (seat_of 0) at same ∙ claimed.others l far }
+
+  pub opens_claimed : (l slot r : ℕ) → v.number ≡ l + 1 → l < loops → l < 8 → slot < 32 → 0 < r → All (λ c. c.1 < r) v.opened
+      → IsClaimed loops (set words (place l slot) (4 * r + 1)) (set views id (with_opened v (slot, r)))
+  opens_claimed l slot r number there real low above rising =
+      record {
+        kept = opens claimed.kept id v at l slot r number real low above rising;
+        others =
+            λ m far.
+            let here = own claimed.kept id v at l number in
+            ap (λ (u : View). u.opened) (set_apart views id (m + 1) (with_opened v (slot, r)) (seat_of 0) (λ e. omega arith)) ∙ claimed.others m far;
+      }
+
+  pub makes_claimed : (n : ℕ) → v ≡ maker_of n → 0 < n → IsClaimed loops words (set views id (maker_of (n + 1)) ++ seat_of n ∷ [])
+  makes_claimed n is some_made =
+      record {
+        kept = makes_seat claimed.kept id v at n is some_made;
+        others =
+            λ l far.
+            part_push (λ u. u.opened) (set views id (maker_of (n + 1))) (seat_of n) (seat_of 0) (l + 1) refl
+            ∙ part_set (λ u. u.opened) views id (l + 1) v (maker_of (n + 1)) (seat_of 0) at (sym (ap (λ u. u.opened) is)) ∙ claimed.others l far;
+      }
+
+  pub joins_claimed : (other : ℕ) (o : View) → ¬ (other ≡ id) → get_elem? (set views id (with_worker v o)) other ≡ some o → IsWorker o
+      → IsClaimed loops words (set (set views id (with_worker v o)) other spent)
+  joins_claimed other o apart there idle =
+      record {
+        kept = joins_worker claimed.kept id v at other o apart there idle;
+        others =
+            λ l far.
+            part_set (λ u. u.opened) (set views id (with_worker v o)) other (l + 1) o spent (seat_of 0) there (sym idle.opened)
+            ∙ part_set (λ u. u.opened) views id (l + 1) v (with_worker v o) (seat_of 0) at refl ∙ claimed.others l far;
+      }
+
+-- the words at first
+pub begins_claimed : (loops : ℕ) → IsClaimed loops (replicate 256 0) (maker_of 1 ∷ [])
+begins_claimed loops = record { kept = begins 8; others = λ l far. no_list (λ u. u.opened) refl l }

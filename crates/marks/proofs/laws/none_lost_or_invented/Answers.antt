@@ -1,0 +1,21 @@
+use Rattle.std.proofs.Common.{◌≡◌, ◌+◌, ◌*◌, ◌≤◌, slice_index, sum_by, arith}
+use Rattle.marks.specs.declared.TheConstants.{SEND_SEATS, SENDS_OF_A_SEAT}
+use Rattle.marks.specs.Rule.{sent, taken_from}
+use Rattle.marks.specs.Laws.{Always, SentIsTakenOrWaits, EachIsCounted, WordsFit}
+use Rattle.marks.proofs.Moves.{at-le-sum_by, sent-within}
+use Rattle.marks.proofs.laws.none_lost_or_invented.Goals as goal
+
+each : Always EachIsCounted
+each words views kept a seat v at =
+    let all : sum_by (sent a) views ≡ taken_from a views + slice_index words a = kept.sends a in
+    let part : sent a v ≤ sum_by (sent a) views = at-le-sum_by (sent a) views seat v at in
+    omega arith
+
+fit : Always WordsFit
+fit words views kept a =
+    let all : sum_by (sent a) views ≡ taken_from a views + slice_index words a = kept.sends a in
+    let most : sum_by (sent a) views ≤ (SEND_SEATS + 1) * SENDS_OF_A_SEAT = sent-within words views kept a in
+    omega arith
+
+pub returns : goal.returns
+returns c = record { all = λ words views kept. kept.sends; each = each; fit = fit }

@@ -8,5 +8,5 @@ returns-in_err-tables-clause-invalid c =
     let m = c.args.module.contents in
     let e = c.in_err-tables.field-0.0 in
     let p = err_from_is_err_and c.from_residual.result c.from_residual.ensures.1 in
-    let refutes : Refutes m e = rw (← c.contents.ensures.value) c.in_err-tables.ensures.refused in
+    let refutes : Refutes m e = c.in_err-tables.ensures.refused in
     rw (p.1, p.2) (refuted m e refutes)

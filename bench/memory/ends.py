@@ -22,6 +22,9 @@ MOST_RUNS = 5000
 
 SECONDS = 60
 
+# The allocations of `serve` come in another order each time, so that it is gone through more than once.
+SERVE_ROUNDS = 3
+
 End = collections.namedtuple("End", "out err status")
 
 Command = collections.namedtuple("Command", "name words whole others")
@@ -90,6 +93,25 @@ COMMANDS = [
     ),
 ]
 
+
+
+def serve_lines(*values):
+    """What `serve` prints of loops that emit these values: 6, or -12 where the work had no memory, or none."""
+    return done("".join(f"loop {loop} over emits{value}\n" for loop, value in enumerate(values)))
+
+
+SERVE = Command(
+    "serve m6",
+    ["serve", "m6.wasm", "--loops", "2", "--workers", "2"],
+    serve_lines(" 6", " 6"),
+    {
+        "loop 0 nomemory": serve_lines(" -12", " 6"),
+        "loop 1 nomemory": serve_lines(" 6", " -12"),
+        "loop 0 queue_work answers -12": serve_lines("", " 6"),
+        "loop 1 queue_work answers -12": serve_lines(" 6", ""),
+    },
+)
+
 SCRIPTS = [
     Command(
         "script work",
@@ -110,9 +132,12 @@ def run(program, refuse, words, number):
     with tempfile.TemporaryDirectory() as folder:
         mark = os.path.join(folder, "mark")
         given = {"LD_PRELOAD": refuse, "REFUSED": str(number), "REFUSED_MARK": mark}
-        ran = subprocess.run(
-            [program, *words], cwd=EXAMPLES, env=given, capture_output=True, timeout=SECONDS
-        )
+        try:
+            ran = subprocess.run(
+                [program, *words], cwd=EXAMPLES, env=given, capture_output=True, timeout=SECONDS
+            )
+        except subprocess.TimeoutExpired as hangs:
+            raise Wrong(f"{words}: allocation {number} refused: no end in {SECONDS} seconds") from hangs
         end = End(ran.stdout.decode(), ran.stderr.decode(), ran.returncode)
         return end, os.path.exists(mark)
 
@@ -179,6 +204,10 @@ def refuse_all(program, going_on, refuse):
         names = refuse_in_turn(program, refuse, command, False)
         tell(command, names)
         expect(command, names, ["memory", *command.others])
+    for _ in range(SERVE_ROUNDS):
+        names = refuse_in_turn(program, refuse, SERVE, False)
+        tell(SERVE, names)
+        expect(SERVE, names, ["memory"])
     for command in SCRIPTS:
         names = refuse_in_turn(program, refuse, command, True)
         tell(command, names)

@@ -4,13 +4,9 @@ use Rattle.claims.specs.declared.seats.Ticket.{Ticket}
 use Rattle.claims.specs.Views.{WorkerView, Starts, Notes, open_word}
 use Rattle.order.specs.declared.reply.Reply.{Reply}
 use Rattle.board.specs.Jobs.{ticket_of}
-use Rattle.board.specs.Boards.{BoardView, PassView, TakesJob, FindsNoJob, Puts}
+use Rattle.board.specs.Boards.{BoardView, PassView, TakesJob, Puts}
 use Rattle.pool.specs.declared.work.Did.{Did}
 use Rattle.pool.specs.declared.work.Did.TheVariants.{Nothing, Dropped, Replied, Stuck}
-
--- the ticket's loop and slot are there
-abbrev pub IsThere : ℕ → Ticket → Type 0
-IsThere loops t = (t.loop_no < loops) × (t.slot < 32)
 
 -- the word of the ticket was found not to be open, and is noted
 pub record FindsNotOpen (old new : WorkerView) (t : Ticket) : Type 0 where
@@ -33,11 +29,10 @@ module _ {J : Type 0} (ticket : J → Ticket) where
     pub of_ticket : ticket_of reply.order ≡ t
     pub put : Puts between new reply
 
-  -- Nothing: no job was there. Dropped: one was taken, and not started. Replied: it was taken and started, and its reply was put.
+  -- Nothing: no job was taken. Dropped: one was taken, and its start was answered false. Replied: it was taken and started, and its reply was put.
   -- Stuck: it was taken and started, and its reply is given back
   abbrev pub Outcome : BoardView → (old new : PassView J) → (before after : WorkerView) → Did → Type 0
-  Outcome board old new before after Nothing = FindsNoJob old new × (after ≡ before)
-  Outcome board old new before after (Dropped t) =
-      Takes old new t × (after.started ≡ before.started) × (IsThere (length board.replies) t → FindsNotOpen before after t)
+  Outcome board old new before after Nothing = (new ≡ old) × (after ≡ before)
+  Outcome board old new before after (Dropped t) = Takes old new t × FindsNotOpen before after t
   Outcome board old new before after (Replied t) = TakesAndPuts old new t × Starts before after t
   Outcome board old new before after (Stuck reply) = Takes old new (ticket_of reply.order) × Starts before after (ticket_of reply.order) × (reply.order.loop_no < length board.replies)

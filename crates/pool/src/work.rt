@@ -1,15 +1,13 @@
 // One job's way, and a worker's.
-ghost use Rattle.std.specs.Prelude.{◌≡◌, ◌<◌, length, IsTrue, IsFalse};
+ghost use Rattle.std.specs.Prelude.{◌≡◌, ◌<◌, length};
 ghost use Rattle.board.specs.Boards.{IsPassOf};
-ghost use Rattle.claims.specs.Views.{Starts};
-ghost use Rattle.pool.specs.Work.{Outcome, IsThere, FindsNotOpen};
+ghost use Rattle.pool.specs.Work.{Outcome};
 
 use crate::gate::{Gate, Point};
-use board::{Board, Pass};
-use claims::{Claims, SLOTS, Ticket, WorkerSeat};
+use board::{Board, Event, Pass};
+use claims::{Claims, Ticket, WorkerSeat};
 use order::Reply;
 use std::sync::Wait;
-use std::thread;
 
 /// What became of a job.
 #[derive(Drop)]
@@ -43,7 +41,7 @@ pub fn work_one<G: Gate, R: Wait>(
     };
     let ticket = job.ticket;
     gate.at(Point::Taken, ticket);
-    if !start(claims, seat, ticket) {
+    if !claims.start(seat, ticket) {
         return Did::Dropped(ticket);
     }
     gate.at(Point::Started, ticket);
@@ -58,19 +56,8 @@ pub fn work_one<G: Gate, R: Wait>(
     }
 }
 
-// Starts the ticket. One that is not there can't be started.
-fn start(claims: &Claims, seat: &mut WorkerSeat, ticket: Ticket) -> bool
-    requires { seat.old.claims ≡ claims.now.id }
-    ensures own { seat.new.claims ≡ seat.old.claims }
-    ensures started { IsTrue result → Starts seat.old seat.new ticket × IsThere claims.now.loops ticket }
-    ensures dropped { IsFalse result → (seat.new.started ≡ seat.old.started) × (IsThere claims.now.loops ticket → FindsNotOpen seat.old seat.new ticket) }
-{
-    let is_there = ticket.loop_no < claims.loops() && ticket.slot < SLOTS;
-    is_there && claims.start(seat, ticket)
-}
-
-/// Works until the board is found closed, with no job in hand. A reply that the board refuses is put again until that
-/// works or the board is closed.
+/// Works until the board is found closed, with no job in hand, and sleeps while no job is there. A reply that the board
+/// refuses is put again, each time that one of its loop is collected, until that works or the board is closed.
 pub fn work_until_closed<G: Gate, R: Wait>(
     rt: &R,
     board: &Board,
@@ -83,11 +70,12 @@ pub fn work_until_closed<G: Gate, R: Wait>(
     requires loops { length board.now.replies ≡ claims.now.loops }
 {
     for _ in rt.forever() {
+        let heard = board.listen(Event::Posted);
         if board.is_closed() {
             return;
         }
         match work_one(rt, board, pass, claims, seat, gate) {
-            Did::Nothing => thread::yield_now(),
+            Did::Nothing => board.wait(rt, heard),
             Did::Stuck(reply) => put_until_closed(rt, board, pass, gate, reply),
             Did::Dropped(_) | Did::Replied(_) => {}
         }
@@ -112,6 +100,7 @@ fn put_until_closed<G: Gate, R: Wait>(
         request: reply.order.request,
     };
     for _ in rt.forever() {
+        let heard = board.listen(Event::Collected(ticket.loop_no));
         match board.put_reply(rt, pass, reply) {
             Ok(()) => {
                 gate.at(Point::Replied, ticket);
@@ -122,6 +111,6 @@ fn put_until_closed<G: Gate, R: Wait>(
         if board.is_closed() {
             return;
         }
-        thread::yield_now();
+        board.wait(rt, heard);
     }
 }

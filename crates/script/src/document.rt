@@ -81,14 +81,8 @@ impl<'de> Deserialize<'de> for Ranged<Step> {
         from.expect_item()?;
         let name = from.variant(&STEP_NAMES.map(Name::exact))?;
         let step = match name {
-            0 => item(alloc, from)?.map(Step::Loop),
-            1 => item(alloc, from)?.map(Step::Post),
-            2 => item(alloc, from)?.map(Step::Take),
-            3 => item(alloc, from)?.map(Step::Start),
-            4 => item(alloc, from)?.map(Step::Finish),
-            5 => item(alloc, from)?.map(Step::Collect),
-            6 => pair(alloc, from)?.map(|(loop_no, async_no)| Step::Send(loop_no, async_no)),
-            7 => pair(alloc, from)?.map(|(loop_no, request)| Step::Cancel(loop_no, request)),
+            0..=5 => item(alloc, from)?.map(|number| step_of_one(name, number)),
+            6 | 7 => pair(alloc, from)?.map(|(loop_no, number)| step_of_two(name, loop_no, number)),
             8 => pair(alloc, from)?.map(|(loop_no, clock)| Step::Clock(loop_no, clock)),
             _ => return Err(from.unknown_variant()),
         };
@@ -100,6 +94,26 @@ impl<'de> Deserialize<'de> for Ranged<Step> {
 const STEP_NAMES: [&str; 9] = [
     "loop", "post", "take", "start", "finish", "collect", "send", "cancel", "clock",
 ];
+
+// The step of this name, which has one number.
+fn step_of_one(name: usize, number: u32) -> Step {
+    match name {
+        0 => Step::Loop(number),
+        1 => Step::Post(number),
+        2 => Step::Take(number),
+        3 => Step::Start(number),
+        4 => Step::Finish(number),
+        _ => Step::Collect(number),
+    }
+}
+
+// The step of this name, which has the loop's number and one more.
+fn step_of_two(name: usize, loop_no: u32, number: u32) -> Step {
+    match name {
+        6 => Step::Send(loop_no, number),
+        _ => Step::Cancel(loop_no, number),
+    }
+}
 
 // The next item of an array.
 fn item<'de, T: Drop, F: Format>(

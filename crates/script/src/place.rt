@@ -8,7 +8,7 @@ use std::alloc::Global;
 use std::fmt;
 
 /// Where a script is refused. It prints as words.
-#[derive(Clone, Copy, Debug, PartialEq, Eq)]
+#[derive(Clone, Copy, Debug)]
 pub enum Place {
     /// Near this character of a line, both counted from 1.
     Character { line: usize, column: usize },

@@ -20,7 +20,7 @@ const MAX_STEPS: usize = 65_536;
 const MAX_DEPTH: u32 = 128;
 
 /// A loop of a script.
-#[derive(Clone, Copy, Debug, PartialEq, Eq)]
+#[derive(Clone, Copy, Debug)]
 pub struct LoopPlan {
     /// Which of the script's modules the loop runs, counted from 0.
     pub module: u32,

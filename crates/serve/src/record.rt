@@ -67,6 +67,8 @@ impl<'a> Record<'a> {
     /// The loop's next order, if there is one.
     pub fn next_order(&mut self) -> Option<Order>
         ensures can_run { IfSome result (λ o. CanRun (order_of o)) }
+        ensures own { IfSome result (λ o. o.loop_no ≡ self.old.core.setting.loop_no) }
+        ensures slot { IfSome result (λ o. o.slot < 32) }
         ensures setting { self.new.core.setting ≡ self.old.core.setting }
         ensures ran { self.new.ran ≡ self.old.ran }
     {
@@ -119,6 +121,11 @@ impl<'a> Record<'a> {
             _ if self.ran == MOST_CALLBACKS => Some(Ending::Limit),
             _ => None,
         }
+    }
+
+    /// Whether the loop has something to do at its cached now, with no reply.
+    pub fn is_due(&self) -> bool {
+        matches!(self.core.hint(), Hint::Now)
     }
 
     /// Raises the clock to the next timer. Without one the loop waits for ever.

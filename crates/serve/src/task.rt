@@ -1,5 +1,6 @@
 // What jobs are made of.
-ghost use Rattle.std.specs.Prelude.{◌≡◌};
+ghost use Rattle.std.specs.Prelude.{◌≡◌, ◌<◌};
+ghost use Rattle.claims.specs.declared.claim.TheConstants.{MOST_LOOPS, SLOTS};
 ghost use Rattle.board.specs.Jobs.{ticket_of};
 ghost use Rattle.order.specs.Orders.{order_of};
 ghost use Rattle.phases.specs.Keeping.{CanRun};
@@ -9,13 +10,14 @@ use order::{Order, Reply};
 use std::alloc::Global;
 use std::marker::Model;
 
-/// An order that can be run. To a contract it is the order.
+/// An order that can be run, of a loop and a slot that can be. To a contract it is the order.
 #[derive(Drop)]
 pub struct Task {
     order: Order,
 }
 
 impl Model for Task {
+    ghost use Rattle.std.specs.Prelude.{◌<◌};
     ghost use Rattle.std.specs.Coded.{codes};
     ghost use Rattle.order.specs.Orders.{order_of};
     ghost use Rattle.order.specs.declared.request.Order.{Order};
@@ -28,21 +30,23 @@ impl Model for Task {
 
     ghost view = { λ t. t.order };
 
-    ghost invariant = { λ t. CanRun (order_of t.order) };
+    ghost invariant = { λ t. CanRun (order_of t.order) × (t.order.loop_no < 8) × (t.order.slot < 32) };
 }
 
 impl Task {
     /// The order as a task.
     pub fn new(order: Order) -> Task
-        requires { CanRun (order_of order) }
+        requires runs { CanRun (order_of order) }
+        requires there { (order.loop_no < MOST_LOOPS) × (order.slot < SLOTS) }
         ensures { result ≡ order }
     {
         Task { order }
     }
 
-    /// The ticket of its request.
+    /// The ticket of its request, whose loop is below 8 and whose slot is below 32.
     pub fn ticket(&self) -> Ticket
-        ensures { result ≡ ticket_of self.now }
+        ensures ticket { result ≡ ticket_of self.now }
+        ensures there { (result.loop_no < MOST_LOOPS) × (result.slot < SLOTS) }
     {
         Ticket {
             loop_no: self.order.loop_no,

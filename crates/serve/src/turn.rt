@@ -2,6 +2,7 @@
 ghost use Rattle.std.specs.Prelude.{◌≡◌, ◌<◌, ◌≤◌, length, IfOk};
 ghost use Rattle.std.specs.Arc.{arc_value};
 ghost use Rattle.board.specs.Boards.{IsPassOf};
+ghost use Rattle.claims.specs.declared.claim.TheConstants.{MOST_LOOPS};
 ghost use Rattle.marks.specs.Counts.{new_taker};
 ghost use Rattle.serve.specs.declared.ended.TheConstants.{MOST_CALLBACKS};
 ghost use Rattle.serve.specs.Answers.{IsServed};
@@ -12,14 +13,13 @@ use crate::place::LoopPlace;
 use crate::record::Record;
 use crate::settings::Serving;
 use crate::task::Task;
-use board::{Board, Pass};
+use board::{Board, Event, Pass};
 use imports::Linked;
 use marks::{Marks, TakeSeat};
 use phases::LoopCore;
 use pool::Seats;
 use std::alloc::{AllocError, Global};
 use std::sync::{Arc, Wait};
-use std::thread;
 
 /// A loop with what it has put out, and its pass.
 #[derive(Drop)]
@@ -32,6 +32,7 @@ pub struct Turns<'a, J> {
     kept: Option<J>,
     ghost of_board: { IsPassOf board.now pass },
     ghost there: { loop_no < length board.now.replies },
+    ghost below: { loop_no < MOST_LOOPS },
     ghost numbered: { told.core.setting.loop_no ≡ loop_no },
 }
 
@@ -108,7 +109,10 @@ impl<'a, J: Drop> Turns<'a, J> {
         unreachable!()
     }
 
-    // One turn. How the loop ended, if it did.
+    // One turn. How the loop ended, if it did. Where no callback ran since there were so many, and requests are
+    // outstanding, the loop sleeps until one is answered, or, where a job is kept, until there is room for it: a worker
+    // that has put a reply takes a job next. Without requests the clock is raised to the next timer, and without a timer
+    // the loop waits for ever.
     fn turn<R: Wait, M: Fn(Task) -> Result<J, AllocError>>(
         &mut self,
         rt: &R,
@@ -119,13 +123,24 @@ impl<'a, J: Drop> Turns<'a, J> {
         ensures setting { self.new.told.core.setting ≡ self.old.told.core.setting }
         ensures comes { IfOk result (λ ended. ComesTo ended self.new.told.core.loop self.new.told.ran) }
     {
+        let board = self.board;
+        let reply = board.listen(Event::Put(self.loop_no));
+        let room = board.listen(Event::Taken);
         self.accept_all(rt);
         self.post_all(rt, make)?;
+        let heard = if self.kept.is_some() { room } else { reply };
         let ran = self.told.ran;
-        match self.told.step_through(rt)? {
-            Some(ending) => Ok(Some(ending)),
-            None => Ok(self.rest(ran)),
+        if let Some(ending) = self.told.step_through(rt)? {
+            return Ok(Some(ending));
         }
+        if self.told.ran > ran || self.told.is_due() {
+            return Ok(None);
+        }
+        if self.told.has_requests() {
+            board.wait(rt, heard);
+            return Ok(None);
+        }
+        Ok(self.told.wait())
     }
 
     // Accepts all replies that are there.
@@ -179,22 +194,5 @@ impl<'a, J: Drop> Turns<'a, J> {
             return Ok(None);
         };
         Ok(Some(make(Task::new(order))?))
-    }
-
-    // Where no callback ran since there were so many, and no reply will come, the clock is raised to the next timer.
-    // Without one the loop waits for ever.
-    fn rest(&mut self, ran: u32) -> Option<Ending>
-        requires room { self.old.told.ran < MOST_CALLBACKS }
-        ensures setting { self.new.told.core.setting ≡ self.old.told.core.setting }
-        ensures comes { ComesTo result self.new.told.core.loop self.new.told.ran }
-    {
-        if self.told.has_requests() {
-            thread::yield_now();
-            return None;
-        }
-        if self.told.ran > ran {
-            return None;
-        }
-        self.told.wait()
     }
 }

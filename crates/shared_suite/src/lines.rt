@@ -1,5 +1,5 @@
 // Jobs that two threads take while two others post.
-ghost use Rattle.std.specs.Prelude.{◌≡◌, All};
+ghost use Rattle.std.specs.Prelude.{◌≡◌, ◌<◌, All};
 ghost use Rattle.std.specs.Thread.{IsSync};
 ghost use Rattle.board.specs.Boards.{IsPassOf, IsNewPass};
 
@@ -128,7 +128,9 @@ fn are_in_order(left: &Taken, right: &Taken) -> bool {
     left.rises && right.rises
 }
 
-fn hundred_jobs(alloc: Global, jobs: &Jobs, loop_no: u32) -> Result<Vec<JobBox>, AllocError> {
+fn hundred_jobs(alloc: Global, jobs: &Jobs, loop_no: u32) -> Result<Vec<JobBox>, AllocError>
+    requires { loop_no < 8 }
+{
     let mut made = Vec::new(alloc);
     for request in 0..EACH as u32 {
         let ticket = Ticket {

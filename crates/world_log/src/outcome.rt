@@ -3,7 +3,7 @@
 use interp::trap::TrapCode;
 
 /// A job, by the loop that asked for it and that loop's request.
-#[derive(Clone, Copy, Debug, PartialEq, Eq)]
+#[derive(Clone, Copy, Debug)]
 pub struct Job {
     /// The loop, counted from 0.
     pub loop_no: u32,
@@ -12,7 +12,7 @@ pub struct Job {
 }
 
 /// How a job ended.
-#[derive(Clone, Copy, Debug, PartialEq, Eq)]
+#[derive(Clone, Copy, Debug)]
 pub enum WorkEnding {
     /// The work function returned this i32, here as an unsigned number.
     Done(u32),
@@ -27,7 +27,7 @@ pub enum WorkEnding {
 }
 
 /// What a post did.
-#[derive(Clone, Copy, Debug, PartialEq, Eq)]
+#[derive(Clone, Copy, Debug)]
 pub enum PostOutcome {
     /// The order of this request stands at the back of the job list.
     Request(u32),
@@ -38,7 +38,7 @@ pub enum PostOutcome {
 }
 
 /// What a start did.
-#[derive(Clone, Copy, Debug, PartialEq, Eq)]
+#[derive(Clone, Copy, Debug)]
 pub enum StartOutcome {
     /// The job may be run.
     Begun(Job),
@@ -49,7 +49,7 @@ pub enum StartOutcome {
 }
 
 /// What a finish did.
-#[derive(Clone, Copy, Debug, PartialEq, Eq)]
+#[derive(Clone, Copy, Debug)]
 pub enum FinishOutcome {
     /// The job ran, and ended like this.
     Ended(Job, WorkEnding),
@@ -58,7 +58,7 @@ pub enum FinishOutcome {
 }
 
 /// What a collect did.
-#[derive(Clone, Copy, Debug, PartialEq, Eq)]
+#[derive(Clone, Copy, Debug)]
 pub enum CollectOutcome {
     /// The loop accepted the reply to this request.
     Request(u32),

@@ -11,4 +11,4 @@ new-requires-2 g c =
     let taker = c.new-seats.ensures.taker ∙ c.requires in
     let view : thread_calls.view c.new-seats.result ≡ new_view c.args.place.seat.loop_no = (λ i. view_by (seat i) (taker i)) in
     opens_new c.in_ok-core.core.setting c.in_ok-core.core.loop _ _ _ _ _ c.new-seats.result c.in_ok-core.ensures.setting c.in_ok-core.ensures.state c.in_ok-core.ensures.store c.in_ok-core.ensures.shared
-    (view ∙ ap new_view (sym c.loop_no-loop_no.ensures))
+    (view ∙ ap new_view (sym c.loop_no-loop_no.ensures.number))

@@ -8,12 +8,10 @@ ghost use Rattle.decode.specs.Locals.{LocalsOf, as_pair};
 use crate::fault::DecodeFault;
 use crate::integers::unsigned;
 use crate::spelled::Spelled;
+use limits::MAX_LOCALS;
 use std::alloc::Global;
 use syntax::items::Items;
 use syntax::types::ValType;
-
-/// How many locals a body may declare.
-const LOCALS: usize = 256;
 
 /// So many locals of one type.
 #[derive(Clone, Copy)]
@@ -45,7 +43,7 @@ fn read_groups(
     let mut rest = bytes;
     for _ in 0..groups {
         let (next, behind) = group(alloc, rest)?;
-        if next.count as usize > LOCALS - all.len() {
+        if next.count as usize > MAX_LOCALS - all.len() {
             return Err(DecodeFault::Limit);
         }
         all.resize(all.len() + next.count as usize, next.value_type)?;

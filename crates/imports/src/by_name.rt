@@ -7,12 +7,12 @@ use crate::call::Call;
 use crate::entry::Entry;
 use syntax::module::Contents;
 
-/// How many functions a module may import.
-pub(crate) const MAX_IMPORTS: usize = 64;
+/// How many functions a module may import, as a length.
+pub(crate) const MAX_IMPORTS: usize = limits::MAX_IMPORTS as usize;
 
 /// The functions of the host behind the imports, in their order. What stands behind the last of them says nothing.
 pub(crate) fn calls_of(contents: &Contents) -> [Call; MAX_IMPORTS]
-    requires few { length contents.now.imports ≤ 64 }
+    requires few { length contents.now.imports ≤ MAX_IMPORTS }
     requires known { All (IsKnown contents.now) contents.now.imports }
     ensures { AreCalls contents.now result }
 {

@@ -4,7 +4,7 @@ use decode::decode;
 use desk::Desk;
 use imports::{Linked, link};
 use phases::LoopCore;
-use std::alloc::{AllocError, Global};
+use std::alloc::Global;
 use std::sync::Arc;
 use std::test::Fail;
 use validate::validate;
@@ -44,13 +44,9 @@ pub fn with_custom_section(alloc: Global, guest: &Linked) -> Result<Arc<Linked>,
     link_bytes(alloc, bytes)
 }
 
-/// A loop over a desk, which has done nothing.
-pub fn loop_at_desk(
-    alloc: Global,
-    guest: &Arc<Linked>,
-    loop_no: u32,
-) -> Result<LoopCore<Desk>, AllocError> {
+/// A loop of the guest with these sections over a desk, which has done nothing.
+pub fn loop_at_desk(alloc: Global, sections: &str, loop_no: u32) -> Result<LoopCore<Desk>, Fail> {
     let desk = Desk::new(alloc, loop_no)?;
-    let guest = Arc::try_clone(guest)?;
-    LoopCore::new(alloc, guest, desk, loop_no, FUEL, FUEL, DEPTH)
+    let guest = linked_of(alloc, sections)?;
+    Ok(LoopCore::new(alloc, guest, desk, loop_no, FUEL, FUEL, DEPTH)?)
 }

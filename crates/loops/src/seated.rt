@@ -102,7 +102,6 @@ fn seated(
     count: u32,
     behind: u32,
 ) -> Result<String, Fail> {
-    let guest = linked_of(alloc, guest)?;
     let (claims, loop_seat) = claims_of_one(alloc)?;
     let (marks, taker, mut sender) = marks_of_one(alloc)?;
     let noted = Noted {
@@ -110,17 +109,28 @@ fn seated(
         taken: [0; 4],
         takes: 0,
     };
+    let guest = linked_of(alloc, guest)?;
     let mut core = LoopCore::new(alloc, guest, noted, 0, FUEL, FUEL, DEPTH)?;
-    let mut text = String::new(alloc);
     let first = sends(&marks, &mut sender, before);
-    steps(&mut core, count, &mut text)?;
+    let text = told(alloc, &mut core, count)?;
     let last = sends(&marks, &mut sender, behind);
     let noted = core.into_shared();
-    let Some(taken) = noted.taken.get(..noted.takes) else {
-        return Err(Fail::from("more takes than there is room for"));
-    };
-    write!(text, "; sent {first} {last}; taken {taken:?}")?;
+    Ok(noted.tell(text, first, last)?)
+}
+
+fn told(alloc: Global, core: &mut LoopCore<Noted<'_>>, count: u32) -> Result<String, AllocError> {
+    let mut text = String::new(alloc);
+    steps(core, count, &mut text)?;
     Ok(text)
+}
+
+impl Noted<'_> {
+    // Tells whether the sends were taken in, and what the first takes answered.
+    fn tell(&self, mut text: String, first: bool, last: bool) -> Result<String, AllocError> {
+        let taken = self.taken.get(..self.takes).unwrap_or(&[]);
+        write!(text, "; sent {first} {last}; taken {taken:?}")?;
+        Ok(text)
+    }
 }
 
 /// `uv_main` makes async 0 with handle 0, and asks whether it is active. The async's callback emits its handle.

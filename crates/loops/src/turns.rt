@@ -1,6 +1,6 @@
 // A loop over a desk that is told turn by turn what to do.
 
-use crate::guests::{linked_of, loop_at_desk, with_custom_section};
+use crate::guests::{loop_at_desk, with_custom_section};
 use crate::telling::{next, steps};
 use desk::Desk;
 use imports::Entry;
@@ -56,11 +56,9 @@ struct Driven {
 
 /// What a loop of a guest does in these turns.
 pub fn told(alloc: Global, guest: &str, turns: &[Turn]) -> Result<String, Fail> {
-    let guest = linked_of(alloc, guest)?;
-    let core = loop_at_desk(alloc, &guest, LOOP_NO)?;
     let mut driven = Driven {
         alloc,
-        core,
+        core: loop_at_desk(alloc, guest, LOOP_NO)?,
         order: None,
         text: String::new(alloc),
     };
@@ -99,7 +97,8 @@ impl Driven {
         Ok(())
     }
 
-    fn answer(&mut self, field: Option<Field>) -> Result<(), Fail> {
+    // The reply of the order that was handed out last, or of that order with another value in this field.
+    fn reply(&self, field: Option<Field>) -> Result<Reply, Fail> {
         let Some(order) = &self.order else {
             return Err(Fail::from("no order"));
         };
@@ -107,12 +106,17 @@ impl Driven {
         if let Some(field) = field {
             change(self.alloc, &mut copy, field)?;
         }
-        let reply = run(self.alloc, copy)?;
+        run(self.alloc, copy)
+    }
+
+    fn answer(&mut self, field: Option<Field>) -> Result<(), Fail> {
+        let reply = self.reply(field)?;
+        let word = match self.core.accept(reply) {
+            Accepted::Accepted => "accepted",
+            Accepted::Stranger(_) => "stranger",
+        };
         next(&mut self.text)?;
-        match self.core.accept(reply) {
-            Accepted::Accepted => self.text.push_str("accepted")?,
-            Accepted::Stranger(_) => self.text.push_str("stranger")?,
-        }
+        self.text.push_str(word)?;
         Ok(())
     }
 }

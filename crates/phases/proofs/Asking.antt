@@ -47,8 +47,9 @@ module _ (g : Setting) where
         by : (rs.last + 1 ≡ r) ⊎ (rs.last + 1 ≢ r) → IsAsked (made ++ c ∷ []) (rs.last + 1) r
         by (inl same) =
             let none = (h r few).later (omega (arith, same)) in
+            let one : count_by (asks_for r) (made ++ c ∷ []) ≡ 1 = counted r made c ∙ rw (names ∙ eq-eqb (rs.last + 1) r same, none) refl in
             record {
-              once = subst (λ n. n ≤ 1) (sym (counted r made c ∙ rw (names ∙ eq-eqb (rs.last + 1) r same, none) refl)) (omega arith);
+              once = omega (arith, one);
               later = λ low. absurd (omega (arith, low, same));
             }
         by (inr other) = more r rs.last (rs.last + 1) made c (names ∙ ne_eqb (rs.last + 1) r other) (omega arith) (h r few)

@@ -180,7 +180,9 @@ module _ {S : Type 0} (calls : Calls S) (g : Setting) (r : ℕ) where
         first : (rs : Requests) → (0 < count_by (hands_out r) events) ⊎ (count_by (hands_out r) events ≤ 0) → (q : Request) → lowest_open old.state.requests ≡ Some q → q.order.request ≡ r
             → count_by (hands_out r) (events ++ OrderAsked (Some o) ∷ []) ≤ 1
         first rs (inl some) q lowest mine = absurd (found_open r old.state.requests.outstanding q lowest (was.handed.shut some).1 mine)
-        first rs (inr none) q lowest mine = subst (λ n. n ≤ 1) (sym (counted events (OrderAsked (Some o)) ∙ rw is refl)) (omega (arith, none))
+        first rs (inr none) q lowest mine =
+            let one : count_by (hands_out r) (events ++ OrderAsked (Some o) ∷ []) ≡ count_by (hands_out r) events + 1 = counted events (OrderAsked (Some o)) ∙ rw is refl in
+            omega (arith, none, one)
 
   event_next : (events : List Event) (e : Event) (old new : Loop S) → EventStep calls g e old new → Holds events old → Holds (events ++ e ∷ []) new
   event_next events (OrderAsked (Some o)) old new h was = by (hands_out r (OrderAsked (Some o))) refl where

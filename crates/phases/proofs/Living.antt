@@ -259,10 +259,14 @@ module _ (s : State) (kept : IsKept s.roster) where
   ]
 
   at_once_is : IsAtOnce s → at_once ≡ true
-  at_once_is (inl dead) = or_left _ _ (is_false (is_alive s) (λ alive. dead (alive_is s alive)))
-  at_once_is (inr (inl idle)) = or_right _ _ (or_left _ _ (some_kind Idle s.roster.handles idle))
-  at_once_is (inr (inr (inl closing))) = or_right _ _ (or_right _ _ (or_left _ _ (is_filled s.roster.closing closing)))
-  at_once_is (inr (inr (inr done))) = or_right _ _ (or_right _ _ (or_right _ _ (is_filled (settled s.requests) done)))
+  at_once_is (inl dead) = or_left (not (is_alive s)) _ (is_false (is_alive s) (λ alive. dead (alive_is s alive)))
+  at_once_is (inr (inl idle)) = or_right (not (is_alive s)) _ (or_left (not (is_empty (kind_list Idle s.roster.handles))) _ (some_kind Idle s.roster.handles idle))
+  at_once_is (inr (inr (inl closing))) =
+      or_right (not (is_alive s)) _ (or_right (not (is_empty (kind_list Idle s.roster.handles))) _ (or_left (not (is_empty s.roster.closing)) _ (is_filled s.roster.closing closing)))
+  at_once_is (inr (inr (inr done))) =
+      or_right (not (is_alive s)) _
+      (or_right (not (is_empty (kind_list Idle s.roster.handles))) _
+      (or_right (not (is_empty s.roster.closing)) _ (is_filled (settled s.requests) done)))
 
   not_at_once : at_once ≡ false → IsAtOnce s → ⊥
   not_at_once h at = (let it = at_once_is at in cc)

@@ -22,12 +22,13 @@ pub struct Jobs {
     module: Arc<Linked>,
     bytes: Arc<Vec<u8>>,
     pub calls: Arc<AtomicU64>,
-    ghost works: { (f : ℕ) × ExportsFunction (arc_value module).contents (codes "uv_work") f },
+    ghost works: { (f : ℕ) × ExportsFunction (arc_value «module»).contents (codes "uv_work") f },
     ghost none: { (arc_value bytes).items ≡ [] },
 }
 
 // A module whose `uv_work` gives its operation.
-const WORKS: &str = "0061736d0100000001060160017f017f03020100070b010775765f776f726b00000a0601040020000b";
+const WORKS: &str =
+    "0061736d0100000001060160017f017f03020100070b010775765f776f726b00000a0601040020000b";
 
 impl Jobs {
     pub fn new(alloc: Global) -> Result<Jobs, Fail> {

@@ -1,5 +1,6 @@
 -- Why the check of one operation refuses it.
 use Rattle.std.specs.Prelude.{◌≡◌, ℕ, ◌^◌, ◌<◌, List, [], ◌∷◌, Some, None, length, slice_get}
+use Rattle.limits.specs.declared.TheConstants.{MAX_HEIGHT, MAX_NESTING}
 use Rattle.syntax.specs.declared.types.ValType.{ValType}
 use Rattle.syntax.specs.declared.types.ValType.TheVariants.{I32}
 use Rattle.syntax.specs.declared.types.BlockType.{BlockType}
@@ -55,7 +56,7 @@ RefusesEntry params c fault.Label = ⊥
 RefusesEntry params c fault.Align = ⊥
 RefusesEntry params c fault.Mutability = ⊥
 RefusesEntry params c fault.Height = ⊥
-RefusesEntry params c fault.Nesting = 256 < length c.frames
+RefusesEntry params c fault.Nesting = MAX_NESTING < length c.frames
 RefusesEntry params c fault.Memory = Unit {0}
 
 -- the stack has the parameters of a block of this type on top
@@ -85,6 +86,6 @@ Rejects o c fault.Index = Obeys Indexes (context_at c) o → ⊥
 Rejects o c fault.Label = Obeys Labels (context_at c) o → ⊥
 Rejects o c fault.Align = Obeys Alignments (context_at c) o → ⊥
 Rejects o c fault.Mutability = Obeys Mutabilities (context_at c) o → ⊥
-Rejects o c fault.Height = (after : Checker) × Steps o c after × (256 < height_of after.operands)
-Rejects o c fault.Nesting = IsOpening o × (256 < length c.frames)
+Rejects o c fault.Height = (after : Checker) × Steps o c after × (MAX_HEIGHT < height_of after.operands)
+Rejects o c fault.Nesting = IsOpening o × (MAX_NESTING < length c.frames)
 Rejects o c fault.Memory = Unit {0}

@@ -23,6 +23,7 @@ use Rattle.world_log.specs.declared.outcome.PostOutcome.TheVariants as post
 use Rattle.world_log.specs.declared.outcome.StartOutcome.TheVariants as start
 use Rattle.world_log.specs.declared.outcome.FinishOutcome.TheVariants as finish
 use Rattle.world_log.specs.declared.outcome.CollectOutcome.TheVariants as collect
+use Rattle.world.specs.Guests.{step_calls}
 use Rattle.world.specs.Histories.{Tells, AreTold, is_of_owner}
 use Rattle.world.specs.Laws.{is_of_job, is_posted, is_taken, is_begun, is_dropped, is_finished, is_collected, GoesOnce, AreInPlace}
 use Rattle.world.specs.World.{World, Hand, Empty, Taken, Started, Answer, Only, UnlessFailed, PostsOrder, Posts, TakesJob, StartsJob, FinishesJob, CollectsFrom, StepsLoop, WorldStep, WorldRun, HasLoop, opening_world, job_of, told_of}
@@ -164,7 +165,7 @@ module _ (l r : ℕ) where
             let same : is_order o ≡ ((n == l) && (o.request == r)) = ap (λ k. (k == l) && (o.request == r)) (own o refl) in
             let equal = ap (λ b. cond {A = ℕ} b 1 0) same in
             omega (arith, more, counted, equal)
-        );
+            );
         taken = rw (ap (λ x. x.hands) h.1) (omega arith);
         started = rw (ap (λ x. x.hands) h.1) (omega arith);
         ended = rw (ap (λ x. x.replies) h.1) (omega arith);
@@ -259,7 +260,7 @@ module _ (l r : ℕ) where
             let apart = split (o.loop_no == l) (count_by is_answer h.replies) (cond (o.request == r) 1 0) in
             let told = both (o.loop_no == l) (o.request == r) in
             omega (arith, it, one, apart, told)
-        );
+            );
       };
       there = inl refl;
     })
@@ -280,7 +281,7 @@ module _ (l r : ℕ) where
                 let apart = split (n == l) (cond (is_answer a) 1 0) (count_by is_answer replies) in
                 let told = both (n == l) (a.order.request == r) in
                 omega (arith, it, apart, told)
-            );
+                );
           };
           there = inl refl;
         }))
@@ -293,14 +294,14 @@ module _ (l r : ℕ) where
                 let it = replies_set n (a ∷ replies) replies at (ap (λ x. x.replies) k.2) in
                 let apart = split (n == l) (cond (is_answer a) 1 0) (count_by is_answer replies) in
                 omega (arith, it, apart)
-            );
+                );
           };
           there = inl refl;
         }))
         h.1
 
   -- one step
-  pub step_goes : (w w' : World) (s : Step) (entry : Line) → ((n : ℕ) (g : Setting) (m : Loop Desk) (o : WorkOrder) → HasLoop w n g m → (next_order_of m.state).0 ≡ Some o → o.loop_no ≡ n)
+  step_goes : (w w' : World) (s : Step) (entry : Line) → ((n : ℕ) (g : Setting) (m : Loop Desk) (o : WorkOrder) → HasLoop w n g m → (next_order_of m.state).0 ≡ Some o → o.loop_no ≡ n)
       → WorldStep w s entry w' → Goes w w' entry
   step_goes w w' (step.Loop n) entry own h = loop_goes w w' n entry h
   step_goes w w' (step.Post n) entry own h =
@@ -361,7 +362,7 @@ some_of (Some x) h = (x, refl)
 
 module _ (settings : List Setting) (placed : AreInPlace settings) (workers : ℕ) (l r : ℕ) (once : LoopHandedOnce desk_calls) (own : LoopHandedOwn desk_calls) where
   -- each loop has a history from its opening
-  Histories : World → List Line → Type 0
+  abbrev Histories : World → List Line → Type 0
   Histories w log = (j : ℕ) → (made : List GuestCall) × Keeps (Opens settings j) (IsThere settings j workers) j w log made
 
   opens_so : (j : ℕ) (g : Setting) (start : Loop Desk) → Opens settings j g start → IsOpening desk_calls g start
@@ -388,7 +389,7 @@ module _ (settings : List Setting) (placed : AreInPlace settings) (workers : ℕ
     goes = step_goes l r w w' s entry (own_orders w log kept.told) h
 
     next : Histories w' (log ++ entry ∷ [])
-    next j = (_, step_next (Opens settings j) (IsThere settings j workers) j w log (kept.told j).0 (kept.told j).1 s entry w' h)
+    next j = ((kept.told j).0 ++ step_calls j w s entry w' h, step_next (Opens settings j) (IsThere settings j workers) j w log (kept.told j).0 (kept.told j).1 s entry w' h)
 
     by : (is_posted l r entry ≡ false) ⊎ (is_some (slice_get w.loops l) ≡ true) → count_by (is_posted l r) (log ++ entry ∷ []) ≤ 1
     by (inl none) = subst (λ n. n ≤ 1) (sym (pushed l r (is_posted l r) log entry ∙ rw none (omega arith))) kept.posted

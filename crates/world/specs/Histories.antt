@@ -57,4 +57,5 @@ abbrev pub IsHistory : Type 0
 IsHistory =
     (settings : List Setting) (workers : ℕ) (steps : List Step) (log : List Line) (w : World) (run : WorldRun (opening_world settings workers) steps log w)
     → (l : ℕ) (g : Setting) (now : Loop Desk) → HasLoop w l g now
-    → (slice_get settings l ≡ Some g) × HasHistory l g (opening_loop g).loop log (guest_calls l (opening_world settings workers) steps log w run) now
+    → (slice_get settings l ≡ Some g)
+    × HasHistory l g (opening_loop g).loop log (guest_calls l (opening_world settings workers) steps log w run) now

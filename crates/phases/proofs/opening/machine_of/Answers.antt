@@ -1,14 +1,21 @@
-use Rattle.std.proofs.Common.{ap, ◌∙◌, codes}
+use Rattle.std.proofs.Common.{◌≡◌, refl, ap, subst, ◌∙◌}
+use Rattle.std.specs.Prelude.{IfOk}
 use Rattle.std.specs.Option.{is_some}
-use Rattle.syntax.specs.declared.module.Contents.{Contents}
 use Rattle.syntax.specs.Loaded.{Loaded}
+use Rattle.syntax.specs.declared.module.Contents.{Contents}
 use Rattle.imports.specs.declared.entry.Entry.TheVariants.{Main}
 use Rattle.imports.specs.Uv.{name_of_entry}
-use Rattle.phases.specs.PhaseList.{exports}
 use Rattle.phases.specs.Roster.{callbacks_of}
+use Rattle.phases.specs.State.{State}
 use Rattle.phases.proofs.Exporting.{found_exports}
 use Rattle.phases.proofs.Kept.{new_state}
 use Rattle.phases.proofs.opening.machine_of.Goals as goal
 
 pub returns : goal.returns
-returns c = ?
+returns c =
+    let l = c.args.linked.now in
+    let k = c.contents-contents.ensures.same ∙ ap (λ (x : Loaded). x.contents) c.valid.ensures.same in
+    let start = c.is_some-start.ensures ∙ ap (λ (m : Contents). is_some m.start) k in
+    let main = c.is_some-main.ensures ∙ found_exports l.contents (name_of_entry Main) c.entry.result c.entry.ensures.found in
+    let state = new_state l.contents _ c.in_ok-callbacks.callbacks.items c.is_some-start.result c.is_some-main.result refl (c.in_ok-callbacks.ensures ∙ ap callbacks_of k) start main in
+    subst (λ (s : State). IfOk c.new.result (λ made. made ≡ s)) state c.new.ensures

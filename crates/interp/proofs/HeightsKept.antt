@@ -3,7 +3,7 @@ use Rattle.std.proofs.Common.{◌≡◌, ◌==◌, map, ℕ, zero, suc, ◌+◌,
 use Rattle.std.specs.Prelude.{slice_get, is_some, if◌then◌else◌}
 use Rattle.std.proofs.lemmas.List.{length-take-le, length-map}
 use Rattle.validate.specs.Typing.{type_of, type_of_function}
-use Rattle.interp.proofs.SameTypes.{same_valtypes-is}
+use Rattle.validate.proofs.SameTypes.{same_valtypes-is}
 use Rattle.std.proofs.lemmas.Grind.{common_steps}
 use Rattle.syntax.specs.declared.types.ValType.{ValType}
 use Rattle.syntax.specs.declared.types.Value.{Value}
@@ -16,7 +16,8 @@ use Rattle.syntax.specs.Code.{Code, Done, Plain, Block, Loop, If}
 use Rattle.validate.specs.Height.{Effect, Changes, Ends, named, calls}
 use Rattle.instance.specs.Store.{Store as Memory_and_globals}
 use Rattle.interp.specs.Configuration.{Context, Label, Frame, locals_of, with_locals, going_on, receiving, continuing, branched, returned}
-use Rattle.interp.specs.Step.{Move, Goes, Traps, Calls, Stuck, Turn, Leaves, Fails, Lacks, turn, turned, plain, at_code, next, on_contexts, label_for, takes_topmost, call_typed, left_with, call_element, same_valtype, same_valtypes, same_type, entering, chosen}
+use Rattle.interp.specs.Step.{Move, Goes, Traps, Calls, Stuck, Turn, Leaves, Fails, Lacks, turn, turned, plain, at_code, next, on_contexts, label_for, takes_topmost, call_typed, left_with, call_element, entering, chosen}
+use Rattle.validate.specs.SameTypes.{same_valtype, same_valtypes, same_type}
 use Rattle.interp.specs.Typed.{code_of, operands_of}
 use Rattle.interp.specs.Heights.{Fits, tests, counts, Follows, Counted, labels_of, height_of, base_of, Beneath, IsWithin}
 use Rattle.interp.proofs.HeightsOfTurns.{Counts, turn_counts}

@@ -19,7 +19,8 @@ use Rattle.interp.specs.Configuration.{Context, Label, Frame, locals_of, with_lo
 use Rattle.validate.specs.Typing.{block_type, type_of_function}
 use Rattle.syntax.specs.declared.types.BlockType.{BlockType}
 use Rattle.std.proofs.lemmas.Option.{slice_get_past}
-use Rattle.interp.specs.Step.{block, Goes, Traps, Stuck, Turn, Leaves, Fails, Lacks, turn, turned, plain, at_code, next, on_contexts, label_for, takes_topmost, call_typed, left_with, call_element, same_valtypes, same_type, entering, chosen}
+use Rattle.interp.specs.Step.{block, Goes, Traps, Stuck, Turn, Leaves, Fails, Lacks, turn, turned, plain, at_code, next, on_contexts, label_for, takes_topmost, call_typed, left_with, call_element, entering, chosen}
+use Rattle.validate.specs.SameTypes.{same_valtypes, same_type}
 use Rattle.interp.specs.Typed.{code_of, operands_of}
 use Rattle.interp.specs.Heights.{counts, Follows, height_of}
 use Rattle.interp.specs.Places.{Body, Place, keeps, ClosesTo, Guided, GoesOn, Over, IsPlaced, jumped, stepped, Leads}

@@ -13,7 +13,8 @@ use Rattle.syntax.specs.Code.{Code, Done, Plain, Block, Loop, If}
 use Rattle.validate.specs.Typing.{block_type, type_of_function}
 use Rattle.instance.specs.Store.{Store as Memory_and_globals}
 use Rattle.interp.specs.Configuration.{Context, Label, Frame, locals_of, with_locals, going_on, receiving, continuing, branched, returned}
-use Rattle.interp.specs.Step.{Goes, Traps, Stuck, Turn, Leaves, Fails, Lacks, turn, turned, plain, at_code, next, on_contexts, label_for, takes_topmost, call_typed, call_element, same_type, entering, block, loop, chosen}
+use Rattle.interp.specs.Step.{Goes, Traps, Stuck, Turn, Leaves, Fails, Lacks, turn, turned, plain, at_code, next, on_contexts, label_for, takes_topmost, call_typed, call_element, entering, block, loop, chosen}
+use Rattle.validate.specs.SameTypes.{same_type}
 use Rattle.validate.specs.declared.table.Target.{Target}
 use Rattle.interp.specs.Typed.{operands_of}
 use Rattle.interp.specs.Heights.{height_of, base_of}

@@ -20,7 +20,8 @@ use Rattle.validate.specs.Typing.{HasFunctionType, block_type, bytes_of_type, by
 use Rattle.instance.specs.Store.{Store as Stored, page_limit, pages, grown, with_memory, bytes_at, written_at, bytes_of}
 use Rattle.interp.specs.Operators.{Computed, Number, TrapOf, binary, converted}
 use Rattle.interp.specs.Configuration.{Context, Label, Frame, locals_of, branched, returned}
-use Rattle.interp.specs.Step.{Move, Goes, Traps, Calls, Ends, Stuck, Turn, Leaves, Fails, Lacks, turn, turned, plain, at_code, next, branch_if, on_contexts, label_for, takes_topmost, call_typed, call_element, same_type, entering, block, loop, chosen, giving, loaded, stored, computed, is_of, alike, replaces}
+use Rattle.interp.specs.Step.{Move, Goes, Traps, Calls, Ends, Stuck, Turn, Leaves, Fails, Lacks, turn, turned, plain, at_code, next, branch_if, on_contexts, label_for, takes_topmost, call_typed, call_element, entering, block, loop, chosen, giving, loaded, stored, computed, is_of, alike, replaces}
+use Rattle.validate.specs.SameTypes.{same_type}
 use Rattle.interp.specs.Typed.{types_of}
 use Rattle.interp.specs.HeightsTyped.{Bounded, AwaitsWithin, SoundWithin}
 use Rattle.instance.specs.Storing.{NamesFunction, HasPages, IsStoreOf}

@@ -18,7 +18,8 @@ use Rattle.interp.specs.Operators.{Computed, Number, TrapOf, binary, converted}
 use Rattle.interp.specs.Configuration.{Context, Label, Frame, locals_of, branched, returned}
 use Rattle.interp.specs.Invoking.{Invokes, defined, imported}
 use Rattle.interp.specs.Run.{HostCall, Outcome, Run, RunsWithin, ends, traps, spent, too_deep, goes, calls, asks}
-use Rattle.interp.specs.Step.{Move, Goes, Traps, Calls, Ends, Stuck, Turn, Leaves, Fails, Lacks, turn, turned, plain, next, at_code, block, loop, entering, chosen, left_with, on_contexts, branch_if, label_for, call_typed, call_element, same_type, takes_topmost, giving, loaded, stored, computed, is_of, alike, replaces}
+use Rattle.interp.specs.Step.{Move, Goes, Traps, Calls, Ends, Stuck, Turn, Leaves, Fails, Lacks, turn, turned, plain, next, at_code, block, loop, entering, chosen, left_with, on_contexts, branch_if, label_for, call_typed, call_element, takes_topmost, giving, loaded, stored, computed, is_of, alike, replaces}
+use Rattle.validate.specs.SameTypes.{same_type}
 
 -- the store that is left has this table
 abbrev Leaving : List (Option ℕ) → Turn → Type 0

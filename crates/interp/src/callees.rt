@@ -1,12 +1,10 @@
 // Which function a call is of (WebAssembly Core 1.0, 4.4.7).
 
 ghost use Rattle.std.specs.Prelude.{◌≡◌, ◌+◌, List, Some, slice_get};
-ghost use Rattle.std.specs.Option.{option_copied};
 ghost use Rattle.syntax.specs.declared.instruction.Op.TheVariants as op;
 ghost use Rattle.syntax.specs.declared.instruction.Instr.TheVariants as instr;
 ghost use Rattle.validate.specs.declared.table.SideTable.{SideTable as Table};
 ghost use Rattle.instance.specs.Store.{Store};
-ghost use Rattle.interp.specs.Step.{same_type};
 ghost use Rattle.interp.specs.Bodies.{op_before};
 ghost use Rattle.interp.specs.Moving.{Does};
 ghost use Rattle.interp.specs.Jumping.{Chooses};
@@ -16,22 +14,8 @@ use crate::moved::Moved;
 use crate::trap::TrapCode;
 use instance::machine::Machine;
 use instance::state::State;
-use syntax::module::{Contents, FuncType};
-use syntax::types::are_same;
-use validate::{type_at, type_of_function};
-
-/// Whether both types are there and the same.
-fn is_same_type(found: Option<&FuncType>, wanted: Option<&FuncType>) -> bool
-    ensures { result ≡ same_type (option_copied found.entry) (option_copied wanted.entry) }
-{
-    match (found, wanted) {
-        (Some(found), Some(wanted)) => {
-            are_same(found.params.as_slice(), wanted.params.as_slice())
-                && are_same(found.results.as_slice(), wanted.results.as_slice())
-        }
-        _ => false,
-    }
-}
+use syntax::module::Contents;
+use validate::is_of_type;
 
 /// The function that the table has at an index, where it is of this type.
 fn function_at(
@@ -47,8 +31,7 @@ fn function_at(
         Some(None) => return Err(TrapCode::EmptyElement),
         None => return Err(TrapCode::Table),
     };
-    let found = type_of_function(contents, function);
-    if !is_same_type(found, type_at(contents, type_index)) {
+    if !is_of_type(contents, function, type_index) {
         return Err(TrapCode::OtherType);
     }
     Ok(function)

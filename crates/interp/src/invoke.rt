@@ -111,7 +111,7 @@ pub fn invoke<H: Host>(
     ensures types { H.types host.new ≡ H.types host.old }
 {
     let contents = valid.contents();
-    let Instance { state, machine } = instance;
+    let Instance { state, machine, .. } = instance;
     if (function as usize) < contents.imports.len() {
         return invoke_import(contents, state, host, function, args, fuel, depth);
     }

@@ -20,4 +20,4 @@ pub mod Simulating
 pub mod Running
 pub mod Steadying
 pub mod Closing
-pub mod Building
+pub mod Viewed

@@ -2,4 +2,3 @@ pub mod Holding
 pub mod Turning
 pub mod Lying
 pub mod Simulating
-pub mod Building

@@ -1,6 +1,4 @@
-//! The slot machine does what the reduction rules do. Its functions are made from those of a module.
+//! The slot machine does what the reduction rules do.
 #![tactic(auto)]
 
-pub mod copies;
 pub mod laws;
-pub mod program;

@@ -3,7 +3,11 @@ use Rattle.std.proofs.Common.{◌≡◌, List, [], ◌∷◌, Bool, true, false,
 use Rattle.syntax.specs.declared.types.ValType.{ValType}
 use Rattle.syntax.specs.declared.types.ValType.TheVariants.{I32, I64}
 use Rattle.syntax.specs.declared.module.FuncType.{FuncType}
-use Rattle.interp.specs.Step.{same_valtype, same_valtypes, same_type}
+use Rattle.syntax.specs.declared.module.Contents.{Contents}
+use Rattle.std.specs.Prelude.{slice_get, Option, ℕ}
+use Rattle.std.specs.Option.{option_and_then}
+use Rattle.validate.specs.Typing.{function_types, type_of_function}
+use Rattle.validate.specs.SameTypes.{same_valtype, same_valtypes, same_type}
 
 same_valtype-is : (t u : ValType) → same_valtype t u ≡ true → t ≡ u
 same_valtype-is I32 I32 e = refl
@@ -46,3 +50,15 @@ module _ (a b : FuncType) (params results : Bool) where
 
   pub other_params : params ≡ false → IsTrue params ↔ (a.params ≡ b.params) → params ≡ same_type (Some a) (Some b)
   other_params e p = e ∙ ap (λ (x : Bool). x && same_valtypes a.results b.results) (sym e ∙ same_when a.params b.params params p)
+
+-- a type is the same as itself
+same_as_itself : (t : FuncType) → same_type (Some t) (Some t) ≡ true
+same_as_itself t = ap (λ (b : Bool). b && same_valtypes t.results t.results) (same_itself t.params) ∙ same_itself t.results
+
+-- a function whose type has this index is of the type of this index
+pub same_index : (m : Contents) (func index t : ℕ) (found : FuncType) → Some index ≡ slice_get (function_types m) func → Some found ≡ slice_get m.types index → index ≡ t
+    → true ≡ same_type (type_of_function m func) (slice_get m.types t)
+same_index m func index t found e k same =
+    let here : slice_get m.types t ≡ Some found = ap (λ (i : ℕ). slice_get m.types i) (sym same) ∙ sym k in
+    let its : type_of_function m func ≡ Some found = ap (λ (o : Option ℕ). option_and_then (slice_get m.types) o) (sym e) ∙ sym k in
+    sym (ap (λ (o : Option FuncType). same_type o (slice_get m.types t)) its ∙ ap (λ (o : Option FuncType). same_type (Some found) o) here ∙ same_as_itself found)

@@ -213,8 +213,8 @@ module _ (settings : List Setting) (j : ℕ) where
           let then_on = run_keeps From true j behind more w' w'' (entry ∷ []) (step_calls j w s entry w' h) next rest in
           let at = some_of (slice_get w''.loops j) then_on.stays in
           let it = then_on.loops at.0 at.1 in
-          late law more it.events at.0.0 it.start at.0.1 it.begins it.history it.told
-          ((cancelled_same From true r (entry ∷ more) (step_calls j w s entry w' h ++ guest_calls j w' behind more w'' rest) at.0.0 at.0.1 it).1 cancelled)
+          late law more it.events at.0.setting it.start at.0.loop it.begins it.history it.told
+          ((cancelled_same From true r (entry ∷ more) (step_calls j w s entry w' h ++ guest_calls j w' behind more w'' rest) at.0.setting at.0.loop it).1 cancelled)
 
   -- how often a callback was told
   module _ (r : ℕ) (law : LoopOnce desk_calls) where

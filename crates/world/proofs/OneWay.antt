@@ -3,7 +3,7 @@ use Rattle.std.proofs.Common.{◌≡◌, ◌≢◌, ℕ, zero, suc, ◌+◌, ◌
 use Rattle.std.specs.Prelude.{slice_get, slice_set}
 use Rattle.std.specs.List.{count_by}
 use Rattle.std.proofs.lemmas.Bool.{cases_eq, eq-eqb, ne_eqb}
-use Rattle.std.proofs.lemmas.List.Sums.{sum_by_push}
+use Rattle.std.proofs.lemmas.List.Sums.{sum_by_push, sum_by-cons}
 use Rattle.order.specs.Work.{WorkOrder}
 use Rattle.phases.specs.declared.did.StepDid.{StepDid}
 use Rattle.phases.specs.declared.did.StepDid.TheVariants as did
@@ -31,13 +31,24 @@ use Rattle.world.proofs.AfterOnce.{Opens, IsThere, opening_keeps, opening_is}
 use Rattle.world.proofs.Runs.{Keeps, Told, set_here, set_apart, either, step_next}
 use Rattle.world.proofs.Sets.{core}
 
+-- how many of a list pass, with one more in front
+counted : {X : Type 0} (p : X → Bool) (x : X) (xs : List X) → count_by p (x ∷ xs) ≡ cond (p x) 1 0 + count_by p xs
+counted p x xs = sum_by-cons (λ y. cond (p y) 1 0) x xs
+
 -- one place of a list is set
 set_counted : {X : Type 0} (p : X → Bool) (xs : List X) (n : ℕ) (v x : X) → slice_get xs n ≡ Some x → count_by p (slice_set xs n v) + cond (p x) 1 0 ≡ count_by p xs + cond (p v) 1 0
 set_counted p [] n v x h = absurd (cc)
 set_counted p (y ∷ ys) zero v x h =
     let same : y ≡ x = cc in
-    subst (λ z. cond (p v) 1 0 + count_by p ys + cond (p x) 1 0 ≡ cond (p z) 1 0 + count_by p ys + cond (p v) 1 0) (sym same) (omega arith)
-set_counted p (y ∷ ys) (suc n) v x h = let rest = set_counted p ys n v x h in omega (arith, rest)
+    let one = ap (λ z. cond {A = ℕ} (p z) 1 0) same in
+    let new = counted p v ys in
+    let old = counted p y ys in
+    omega (arith, one, new, old)
+set_counted p (y ∷ ys) (suc n) v x h =
+    let rest = set_counted p ys n v x h in
+    let new = counted p y (slice_set ys n v) in
+    let old = counted p y ys in
+    omega (arith, rest, new, old)
 
 -- what stands at a place, or nothing
 abbrev list_at : {X : Type 0} → Option (List X) → List X
@@ -132,7 +143,7 @@ module _ (l r : ℕ) where
   }
 
   only : (w w' : World) (entry told : Line) → IsQuiet told → Only w entry told w' → Goes w w' entry
-  only w w' entry told q h = as_told w w' entry told h.0 (stays w w' told q (ap (λ x. x.jobs) h.1) (ap (λ x. x.hands) h.1) (ap (λ x. x.replies) h.1))
+  only w w' entry told q h = as_told w w' entry told h.0 (stays w w' told q (ap (λ (x : World). x.jobs) h.1) (ap (λ (x : World). x.hands) h.1) (ap (λ (x : World). x.replies) h.1))
 
   failed_quiet : (n : ℕ) → IsQuiet (line.Failed n)
   failed_quiet n = record { posted = refl; taken = refl; begun = refl; dropped = refl; finished = refl; collected = refl }
@@ -151,7 +162,7 @@ module _ (l r : ℕ) where
     loop_goes : (n : ℕ) (entry : Line) → StepsLoop w n entry w' → Goes w w' entry
     loop_goes n entry h =
         as_told w w' entry _ h.told
-        (stays w w' _ (step_quiet n h.did h.new.state.emits) (ap (λ x. x.jobs) h.after) (ap (λ x. x.hands) h.after) (ap (λ x. x.replies) h.after))
+        (stays w w' _ (step_quiet n h.did h.new.state.emits) (ap (λ (x : World). x.jobs) h.after) (ap (λ (x : World). x.hands) h.after) (ap (λ (x : World). x.replies) h.after))
 
     -- of a loop whose orders have its number
     order_goes : (n : ℕ) (g : Setting) (m : Loop Desk) (out : Option WorkOrder × State) (entry : Line) → is_some (slice_get w.loops n) ≡ true → ((o : WorkOrder) → out.0 ≡ Some o → o.loop_no ≡ n)
@@ -160,15 +171,15 @@ module _ (l r : ℕ) where
     order_goes n g m (Some o, s) entry at own h = as_told w w' entry _ h.0 (record {
       moves = record {
         jobs = (
-            let more = ap (λ x. count_by is_order x.jobs) h.1 in
+            let more = ap (λ (x : World). count_by is_order x.jobs) h.1 in
             let counted = sum_by_push (λ x. cond (is_order x) 1 0) w.jobs o in
             let same : is_order o ≡ ((n == l) && (o.request == r)) = ap (λ k. (k == l) && (o.request == r)) (own o refl) in
             let equal = ap (λ b. cond {A = ℕ} b 1 0) same in
             omega (arith, more, counted, equal)
             );
-        taken = rw (ap (λ x. x.hands) h.1) (omega arith);
-        started = rw (ap (λ x. x.hands) h.1) (omega arith);
-        ended = rw (ap (λ x. x.replies) h.1) (omega arith);
+        taken = rw (ap (λ (x : World). x.hands) h.1) (omega arith);
+        started = rw (ap (λ (x : World). x.hands) h.1) (omega arith);
+        ended = rw (ap (λ (x : World). x.replies) h.1) (omega arith);
       };
       there = elim (cases_eq n l) [
         | inl same ↦ inr (ap (λ k. is_some (slice_get w.loops k)) (sym same) ∙ at)
@@ -188,10 +199,10 @@ module _ (l r : ℕ) where
     take_goes : (n : ℕ) (hand : Hand) (jobs : List WorkOrder) (entry : Line) → w.jobs ≡ jobs → slice_get w.hands n ≡ Some hand → TakesJob w n hand jobs entry w' → Goes w w' entry
     take_goes n Empty (o ∷ jobs) entry is at h = as_told w w' entry _ h.0 (record {
       moves = record {
-        jobs = (let old = ap (count_by is_order) is in let new = ap (λ x. count_by is_order x.jobs) h.1 in omega (arith, old, new));
-        taken = (let it = hand_taken n Empty (Taken o) at (ap (λ x. x.hands) h.1) in omega (arith, it));
-        started = (let it = hand_started n Empty (Taken o) at (ap (λ x. x.hands) h.1) in omega (arith, it));
-        ended = rw (ap (λ x. x.replies) h.1) (omega arith);
+        jobs = (let old = ap (count_by is_order) is in let new = ap (λ (x : World). count_by is_order x.jobs) h.1 in let front = counted is_order o jobs in omega (arith, old, new, front));
+        taken = (let it = hand_taken n Empty (Taken o) at (ap (λ (x : World). x.hands) h.1) in omega (arith, it));
+        started = (let it = hand_started n Empty (Taken o) at (ap (λ (x : World). x.hands) h.1) in omega (arith, it));
+        ended = rw (ap (λ (x : World). x.replies) h.1) (omega arith);
       };
       there = inl refl;
     })
@@ -204,19 +215,19 @@ module _ (l r : ℕ) where
         either h.3 _ _ (Goes w w' entry)
         (λ k. as_told w w' entry _ k.0 (record {
           moves = record {
-            jobs = rw (ap (λ x. x.jobs) k.1) (omega arith);
-            taken = (let it = hand_taken n (Taken o) (Started o) at (ap (λ x. x.hands) k.1) in omega (arith, it));
-            started = (let it = hand_started n (Taken o) (Started o) at (ap (λ x. x.hands) k.1) in omega (arith, it));
-            ended = rw (ap (λ x. x.replies) k.1) (omega arith);
+            jobs = rw (ap (λ (x : World). x.jobs) k.1) (omega arith);
+            taken = (let it = hand_taken n (Taken o) (Started o) at (ap (λ (x : World). x.hands) k.1) in omega (arith, it));
+            started = (let it = hand_started n (Taken o) (Started o) at (ap (λ (x : World). x.hands) k.1) in omega (arith, it));
+            ended = rw (ap (λ (x : World). x.replies) k.1) (omega arith);
           };
           there = inl refl;
         }))
         (λ k. as_told w w' entry _ k.0 (record {
           moves = record {
-            jobs = rw (ap (λ x. x.jobs) k.1) (omega arith);
-            taken = (let it = hand_taken n (Taken o) Empty at (ap (λ x. x.hands) k.1) in omega (arith, it));
-            started = (let it = hand_started n (Taken o) Empty at (ap (λ x. x.hands) k.1) in omega (arith, it));
-            ended = rw (ap (λ x. x.replies) k.1) (omega arith);
+            jobs = rw (ap (λ (x : World). x.jobs) k.1) (omega arith);
+            taken = (let it = hand_taken n (Taken o) Empty at (ap (λ (x : World). x.hands) k.1) in omega (arith, it));
+            started = (let it = hand_started n (Taken o) Empty at (ap (λ (x : World). x.hands) k.1) in omega (arith, it));
+            ended = rw (ap (λ (x : World). x.replies) k.1) (omega arith);
           };
           there = inl refl;
         }))
@@ -243,20 +254,20 @@ module _ (l r : ℕ) where
     split true p q = refl
     split false p q = refl
 
-    both : (a b : Bool) → cond (a && b) 1 0 ≡ cond a (cond b 1 0) 0
+    both : (a b : Bool) → ◌≡◌ {A = ℕ} (cond (a && b) 1 0) (cond a (cond b 1 0) 0)
     both true b = refl
     both false b = refl
 
     finish_goes : (n : ℕ) (hand : Hand) (entry : Line) → slice_get w.hands n ≡ Some hand → FinishesJob w n hand entry w' → Goes w w' entry
     finish_goes n (Started o) entry at h = as_told w w' entry _ h.told (record {
       moves = record {
-        jobs = rw (ap (λ x. x.jobs) h.after) (omega arith);
-        taken = (let it = hand_taken n (Started o) Empty at (ap (λ x. x.hands) h.after) in omega (arith, it));
-        started = (let it = hand_started n (Started o) Empty at (ap (λ x. x.hands) h.after) in omega (arith, it));
+        jobs = rw (ap (λ (x : World). x.jobs) h.after) (omega arith);
+        taken = (let it = hand_taken n (Started o) Empty at (ap (λ (x : World). x.hands) h.after) in omega (arith, it));
+        started = (let it = hand_started n (Started o) Empty at (ap (λ (x : World). x.hands) h.after) in omega (arith, it));
         ended = (
             let new : Answer = record { order = o; end = h.end } in
-            let it = replies_set o.loop_no h.replies (h.replies ++ new ∷ []) h.waiting (ap (λ x. x.replies) h.after) in
-            let one = ap (λ k. cond (o.loop_no == l) k 0) (sum_by_push (λ a. cond (is_answer a) 1 0) h.replies new) in
+            let it = replies_set o.loop_no h.replies (h.replies ++ new ∷ []) h.waiting (ap (λ (x : World). x.replies) h.after) in
+            let one = ap (λ k. cond {A = ℕ} (o.loop_no == l) k 0) (sum_by_push (λ a. cond (is_answer a) 1 0) h.replies new) in
             let apart = split (o.loop_no == l) (count_by is_answer h.replies) (cond (o.request == r) 1 0) in
             let told = both (o.loop_no == l) (o.request == r) in
             omega (arith, it, one, apart, told)
@@ -273,27 +284,29 @@ module _ (l r : ℕ) where
         either h.0 _ _ (Goes w w' entry)
         (λ k. as_told w w' entry _ k.1 (record {
           moves = record {
-            jobs = rw (ap (λ x. x.jobs) k.2) (omega arith);
-            taken = rw (ap (λ x. x.hands) k.2) (omega arith);
-            started = rw (ap (λ x. x.hands) k.2) (omega arith);
+            jobs = rw (ap (λ (x : World). x.jobs) k.2) (omega arith);
+            taken = rw (ap (λ (x : World). x.hands) k.2) (omega arith);
+            started = rw (ap (λ (x : World). x.hands) k.2) (omega arith);
             ended = (
-                let it = replies_set n (a ∷ replies) replies at (ap (λ x. x.replies) k.2) in
+                let it = replies_set n (a ∷ replies) replies at (ap (λ (x : World). x.replies) k.2) in
                 let apart = split (n == l) (cond (is_answer a) 1 0) (count_by is_answer replies) in
+                let front = ap (λ k. cond {A = ℕ} (n == l) k 0) (counted is_answer a replies) in
                 let told = both (n == l) (a.order.request == r) in
-                omega (arith, it, apart, told)
+                omega (arith, it, apart, front, told)
                 );
           };
           there = inl refl;
         }))
         (λ k. as_told w w' entry _ k.1 (record {
           moves = record {
-            jobs = rw (ap (λ x. x.jobs) k.2) (omega arith);
-            taken = rw (ap (λ x. x.hands) k.2) (omega arith);
-            started = rw (ap (λ x. x.hands) k.2) (omega arith);
+            jobs = rw (ap (λ (x : World). x.jobs) k.2) (omega arith);
+            taken = rw (ap (λ (x : World). x.hands) k.2) (omega arith);
+            started = rw (ap (λ (x : World). x.hands) k.2) (omega arith);
             ended = (
-                let it = replies_set n (a ∷ replies) replies at (ap (λ x. x.replies) k.2) in
+                let it = replies_set n (a ∷ replies) replies at (ap (λ (x : World). x.replies) k.2) in
                 let apart = split (n == l) (cond (is_answer a) 1 0) (count_by is_answer replies) in
-                omega (arith, it, apart)
+                let front = ap (λ k. cond {A = ℕ} (n == l) k 0) (counted is_answer a replies) in
+                omega (arith, it, apart, front)
                 );
           };
           there = inl refl;
@@ -314,14 +327,14 @@ module _ (l r : ℕ) where
   step_goes w w' (step.Finish n) entry own h = finish_goes w w' n h.0 entry h.1 h.2
   step_goes w w' (step.Collect n) entry own h = unless_goes w w' n h.1 entry _ (collect_goes w w' n h.0 h.1 h.2 entry h.4) h.5
   step_goes w w' (step.Send n a) entry own h =
-      as_told w w' entry _ h.7 (stays w w' _ (record { posted = refl; taken = refl; begun = refl; dropped = refl; finished = refl; collected = refl }) (ap (λ x. x.jobs) h.8) (ap (λ x. x.hands) h.8) (ap (λ x. x.replies) h.8))
+      as_told w w' entry _ h.7 (stays w w' _ (record { posted = refl; taken = refl; begun = refl; dropped = refl; finished = refl; collected = refl }) (ap (λ (x : World). x.jobs) h.8) (ap (λ (x : World). x.hands) h.8) (ap (λ (x : World). x.replies) h.8))
   step_goes w w' (step.Cancel n request) entry own h =
       unless_goes w w' n h.1 entry _
-      (λ k. as_told w w' entry _ k.2 (stays w w' _ (record { posted = refl; taken = refl; begun = refl; dropped = refl; finished = refl; collected = refl }) (ap (λ x. x.jobs) k.3) (ap (λ x. x.hands) k.3) (ap (λ x. x.replies) k.3)))
+      (λ k. as_told w w' entry _ k.2 (stays w w' _ (record { posted = refl; taken = refl; begun = refl; dropped = refl; finished = refl; collected = refl }) (ap (λ (x : World). x.jobs) k.3) (ap (λ (x : World). x.hands) k.3) (ap (λ (x : World). x.replies) k.3)))
       h.5
   step_goes w w' (step.Clock n ms) entry own h =
       unless_goes w w' n h.1 entry _
-      (λ k. as_told w w' entry _ k.0 (stays w w' _ (record { posted = refl; taken = refl; begun = refl; dropped = refl; finished = refl; collected = refl }) (ap (λ x. x.jobs) k.1) (ap (λ x. x.hands) k.1) (ap (λ x. x.replies) k.1)))
+      (λ k. as_told w w' entry _ k.0 (stays w w' _ (record { posted = refl; taken = refl; begun = refl; dropped = refl; finished = refl; collected = refl }) (ap (λ (x : World). x.jobs) k.1) (ap (λ (x : World). x.hands) k.1) (ap (λ (x : World). x.replies) k.1)))
       h.3
 
 -- what a log and the history that it tells hand out
@@ -354,7 +367,9 @@ module _ (l r : ℕ) where
   told_posted (entry ∷ log) (e ∷ events) h =
       let one = ap (λ b. cond {A = ℕ} b 1 0) (tells_posted entry e h.0) in
       let rest = told_posted log events h.1 in
-      omega (arith, one, rest)
+      let lines = counted (is_posted l r) entry log in
+      let told = counted (hands_out r) e events in
+      omega (arith, one, rest, lines, told)
 
 some_of : {X : Type 0} (o : Option X) → is_some o ≡ true → (x : X) × (o ≡ Some x)
 some_of None h = absurd (cc)
@@ -408,7 +423,11 @@ module _ (settings : List Setting) (placed : AreInPlace settings) (workers : ℕ
 
   no_hands : (p : Hand → Bool) (k : ℕ) → p Empty ≡ false → count_by p (replicate k Empty) ≡ 0
   no_hands p zero e = refl
-  no_hands p (suc k) e = rw e (no_hands p k e)
+  no_hands p (suc k) e =
+      let rest = no_hands p k e in
+      let one = ap (λ b. cond {A = ℕ} b 1 0) e in
+      let all = counted p Empty (replicate k Empty) in
+      omega (arith, rest, one, all)
 
   no_replies : (gs : List Setting) (n : ℕ) → count_by (is_answer l r) (list_at (slice_get (map (λ _. []) gs) n)) ≡ 0
   no_replies [] n = refl
@@ -420,8 +439,8 @@ module _ (settings : List Setting) (placed : AreInPlace settings) (workers : ℕ
     told = λ j. ([], opening_keeps settings j workers);
     balanced = record {
       posted = refl;
-      taken = no_hands (is_taken_hand l r) workers refl;
-      begun = no_hands (is_started_hand l r) workers refl;
+      taken = ap (λ n. 0 + n) (no_hands (is_taken_hand l r) workers refl);
+      begun = ap (λ n. 0 + n) (no_hands (is_started_hand l r) workers refl);
       ended = (let none = no_replies settings l in omega (arith, none));
     };
     posted = omega arith;

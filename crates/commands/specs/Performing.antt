@@ -29,7 +29,8 @@ pub record HasInvoked (gives : List ℕ → ℕ → List ℕ → Type 0) (i : In
 
 -- what is written behind what the output held is given where that is known
 abbrev pub IsDone : (List ℕ → ℕ → List ℕ → Type 0) → Option (List ℕ) → Option (List ℕ) → Command → Type 0
-IsDone gives before after (Check file) = ((contents : Contents) × Holds gives (string_bytes file) contents) × Appends before after (codes "accepted\n")
+IsDone gives before after (Check file) = ((contents : Contents) × Holds gives (string_bytes file) contents)
+    × Appends before after (codes "accepted\n")
 IsDone gives before after (Invoke invocation) = HasInvoked gives invocation
 -- what comes of a work order is the reply's own fact
 IsDone gives before after (Work order) = Unit {0}

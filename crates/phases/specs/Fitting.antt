@@ -1,5 +1,6 @@
 -- What the parts of a loop keep.
-use Rattle.std.specs.Prelude.{◌≡◌, ℕ, ◌<◌, ◌≤◌, ◌^◌, ◌==◌, Bool, true, false, ◌||◌, not, List, [], ◌∷◌, length, map, All, Option, Some, None}
+use Rattle.std.specs.Prelude.{◌≡◌, ℕ, ◌<◌, ◌≤◌, ◌^◌, ◌==◌, Bool, true, false, ◌||◌, not, List, [], ◌∷◌, length, map, All}
+use Rattle.std.specs.Prelude.{Option, Some, None}
 use Rattle.std.specs.List.{list_any}
 use Rattle.std.specs.FinMap as finite
 use Rattle.handles.specs.declared.handle.Record.{Record}
@@ -26,7 +27,8 @@ pub record IsKept (r : Roster) : Type 0 where
   pub few : finite.len r.handles.records ≤ 64
   pub callbacks : (handle : ℕ) (it : Record) → record_of r.handles handle ≡ Some it → has_duty it ≡ true → is_callback r it.callback ≡ true
   pub closing_handles : AreClosing r.handles r.closing
-  pub numbered : (handle : ℕ) (it : Record) → record_of r.handles handle ≡ Some it → it.kind ≡ kind.Async → list_any (is_handle handle) r.asyncs ≡ true
+  pub numbered : (handle : ℕ) (it : Record) → record_of r.handles handle ≡ Some it → it.kind ≡ kind.Async
+      → list_any (is_handle handle) r.asyncs ≡ true
 
 -- the numbers rise, from above one to another at most
 abbrev pub AreRising : (low : ℕ) → List ℕ → (high : ℕ) → Type 0

@@ -20,7 +20,8 @@ use Rattle.phases.specs.State.{Setting, State, Loop}
 use Rattle.phases.specs.PhaseList.{is_active_handle}
 use Rattle.phases.specs.Calls.{Calls}
 use Rattle.phases.specs.Host.{HostStep, with_roster, with_requests}
-use Rattle.phases.specs.Step.{LoopStep, StepIn, ListStep, EntryStep, RunsFrom, CallsBack, CallsHandle, Skips, TakesFirst, AfterWork, in_state, sharing, begun, is_as_listed, handle_function}
+use Rattle.phases.specs.Step.{LoopStep, StepIn, ListStep, EntryStep, RunsFrom, CallsBack, CallsHandle, Skips, TakesFirst}
+use Rattle.phases.specs.Step.{AfterWork, in_state, sharing, begun, is_as_listed, handle_function}
 
 -- a call of a guest, with the function of "uv" that it names
 pub record GuestCall : Type 0 where
@@ -42,11 +43,14 @@ module _ {S : Type 0} (calls : Calls S) (g : Setting) where
   named_calls [] old new h = []
   named_calls (call ∷ trace) old new h = record { function = h.1.0; call = call } ∷ named_calls trace h.0 new h.2
 
-  abbrev pub run_calls : (old : Loop S) (kind : EntryKind) (number function : ℕ) (args : List Value) (reply : Option (List ℕ)) (did : StepDid) (new : Loop S)
+  abbrev pub run_calls : (old : Loop S) (kind : EntryKind) (number function : ℕ) (args : List Value) (reply : Option (List ℕ))
+      (did : StepDid) (new : Loop S)
       → RunsFrom calls g old kind number function args reply did new → List GuestCall
-  run_calls old kind number function args reply did new h = named_calls h.trace (begun old.state reply, old.shared) (h.state, new.shared) h.answers
+  run_calls old kind number function args reply did new h = named_calls h.trace (begun old.state reply, old.shared)
+      (h.state, new.shared) h.answers
 
-  abbrev pub back_calls : (old : Loop S) (kind : EntryKind) (number : ℕ) (function : Option ℕ) (args : List Value) (did : StepDid) (new : Loop S)
+  abbrev pub back_calls : (old : Loop S) (kind : EntryKind) (number : ℕ) (function : Option ℕ) (args : List Value)
+      (did : StepDid) (new : Loop S)
       → CallsBack calls g old kind number function args did new → List GuestCall
   back_calls old kind number None args did new h = []
   back_calls old kind number (Some f) args did new h = run_calls old kind number f args None did new h
@@ -55,7 +59,8 @@ module _ {S : Type 0} (calls : Calls S) (g : Setting) where
       → CallsHandle calls g old r kind handle did new → List GuestCall
   handle_calls old r kind handle did new h = back_calls old kind handle (handle_function r handle) (I32 handle ∷ []) did new h
 
-  abbrev pub taking_calls : (old : Loop S) (async_no handle : ℕ) (did : StepDid) (new : Loop S) → TakesFirst calls g old async_no handle did new → List GuestCall
+  abbrev pub taking_calls : (old : Loop S) (async_no handle : ℕ) (did : StepDid) (new : Loop S)
+      → TakesFirst calls g old async_no handle did new → List GuestCall
   taking_calls old async_no handle did new h =
       calls_unless (h.0 == 0)
       (Skips calls g (sharing old h.1) kind.Async handle did new)
@@ -64,11 +69,13 @@ module _ {S : Type 0} (calls : Calls S) (g : Setting) where
       h.3
 
   abbrev pub async_calls : (old : Loop S) (async_no : ℕ) (handle : Option ℕ) (did : StepDid) (new : Loop S)
-      → MatchOption handle ⊥ (λ handle. MatchBool (is_active_handle old.state.roster.handles (Some handle)) (TakesFirst calls g old async_no handle did new) (Skips calls g old kind.Async handle did new))
+      → MatchOption handle ⊥ (λ handle. MatchBool (is_active_handle old.state.roster.handles (Some handle))
+          (TakesFirst calls g old async_no handle did new) (Skips calls g old kind.Async handle did new))
       → List GuestCall
   async_calls old async_no None did new h = []
   async_calls old async_no (Some handle) did new h =
-      calls_if (is_active_handle old.state.roster.handles (Some handle)) (TakesFirst calls g old async_no handle did new) (Skips calls g old kind.Async handle did new)
+      calls_if (is_active_handle old.state.roster.handles (Some handle)) (TakesFirst calls g old async_no handle did new)
+          (Skips calls g old kind.Async handle did new)
       (taking_calls old async_no handle did new) h
 
   abbrev pub work_calls : (old : Loop S) (number : ℕ) (tidings : Option Tidings) (did : StepDid) (new : Loop S)
@@ -87,7 +94,8 @@ module _ {S : Type 0} (calls : Calls S) (g : Setting) where
   entry_calls old entry.Start did new h = back_calls old kind.Start 0 g.loaded.contents.start [] did new h
   entry_calls old entry.Main did new h = run_calls old kind.Main 0 h.0 [] None did new h.2
   entry_calls old (entry.Timer handle start) did new h =
-      let fired = in_state old (with_roster old.state (with_handles old.state.roster (after_again old.state.roster.handles handle old.state.now))) in
+      let fired = in_state old (with_roster old.state (with_handles old.state.roster
+          (after_again old.state.roster.handles handle old.state.now))) in
       calls_if (is_as_listed handle_kind.Timer old.state.roster handle start)
       (CallsHandle calls g fired old.state.roster kind.Timer handle did new)
       (Skips calls g old kind.Timer handle did new)
@@ -107,11 +115,13 @@ module _ {S : Type 0} (calls : Calls S) (g : Setting) where
   entry_calls old (entry.Close handle) did new h =
       handle_calls (in_state old (with_roster old.state (without_handle old.state.roster handle))) old.state.roster kind.Close handle did new h
 
-  abbrev pub list_calls : (old : Loop S) (list : List Entry) (did : StepDid) (new : Loop S) → ListStep calls g old list did new → List GuestCall
+  abbrev pub list_calls : (old : Loop S) (list : List Entry) (did : StepDid) (new : Loop S) → ListStep calls g old list did new
+      → List GuestCall
   list_calls old [] did new h = []
   list_calls old (e ∷ rest) did new h = entry_calls (in_state old (record old.state { list = rest })) e did new h
 
-  abbrev pub status_calls : (status : Status) (old : Loop S) (did : StepDid) (new : Loop S) → StepIn calls g status old did new → List GuestCall
+  abbrev pub status_calls : (status : Status) (old : Loop S) (did : StepDid) (new : Loop S) → StepIn calls g status old did new
+      → List GuestCall
   status_calls Running old did new h = list_calls old old.state.list did new h
   status_calls Over old did new h = []
   status_calls Failed old did new h = []

@@ -14,7 +14,8 @@ use Rattle.phases.specs.State.{Setting, Loop, opening}
 use Rattle.phases.specs.Step.{LoopStep, in_state}
 use Rattle.phases.specs.View.{new_view}
 
--- A step, with what it did, what the last callback put out, and what the guest called in it; an order that was asked for, if there was one; an order
+-- A step, with what it did, what the last callback put out, and what the guest called in it; an order that was asked for, if
+-- there was one; an order
 -- that was offered with its end, and whether it was taken; a cancel, and its answer; a moment of the clock; and what
 -- others do to the shared object.
 pub data Event : Type 0 where

@@ -1,12 +1,15 @@
 -- What a loop answers to a guest in a callback: each function of "uv".
-use Rattle.std.specs.Prelude.{◌≡◌, ℕ, ◌+◌, ◌<◌, ◌==◌, Bool, true, ◌&&◌, not, MatchBool, ◌⊎◌, List, [], ◌∷◌, ◌++◌, length, nat_le, nat_lt, Option, Some, None, codes, if◌then◌else◌}
+use Rattle.std.specs.Prelude.{◌≡◌, ℕ, ◌+◌, ◌<◌, ◌==◌, Bool, true, ◌&&◌, not, MatchBool, ◌⊎◌, List, [], ◌∷◌, ◌++◌, length}
+use Rattle.std.specs.Prelude.{nat_le, nat_lt, Option, Some, None, codes, if◌then◌else◌}
 use Rattle.syntax.specs.declared.types.Value.{Value}
 use Rattle.syntax.specs.declared.types.Value.TheVariants.{I32, I64}
 use Rattle.handles.specs.declared.handle.Kind.TheVariants as kind
 use Rattle.handles.specs.Table.{saturated}
 use Rattle.interp.specs.Run.{HostCall}
 use Rattle.imports.specs.declared.call.Call.{Call}
-use Rattle.imports.specs.declared.call.Call.TheVariants.{Now, TimerInit, IdleInit, CheckInit, TimerStart, TimerStop, IdleStop, CheckStop, TimerAgain, IdleStart, CheckStart, AsyncInit, AsyncSend, IsActive, Close, QueueWork, Cancel, InLen, InCopy, OutSet, Emit}
+use Rattle.imports.specs.declared.call.Call.TheVariants.{Now, TimerInit, IdleInit, CheckInit, TimerStart, TimerStop, IdleStop}
+use Rattle.imports.specs.declared.call.Call.TheVariants.{CheckStop, TimerAgain, IdleStart, CheckStart, AsyncInit, AsyncSend}
+use Rattle.imports.specs.declared.call.Call.TheVariants.{IsActive, Close, QueueWork, Cancel, InLen, InCopy, OutSet, Emit}
 use Rattle.imports.specs.Linking.{Imports}
 use Rattle.order.specs.Numbers.{not_here, no_room, no_memory, outside_memory, busy, invalid, none_left, no_such_export}
 use Rattle.order.specs.Bytes.{input_length, copied_in, taken_out}
@@ -14,8 +17,10 @@ use Rattle.order.specs.Work.{WorkOrder}
 use Rattle.phases.specs.declared.progress.Standing.{Standing}
 use Rattle.phases.specs.declared.progress.Standing.TheVariants.{Unknown, Pending}
 use Rattle.phases.specs.declared.progress.Standing.TheVariants as standing
-use Rattle.phases.specs.Roster.{Roster, is_open_of, async_number, with_made, Makes, MakesAsync, stopped_in, started_in, again_in, closed_in, active_answer}
-use Rattle.phases.specs.Requests.{Requests, Request, Stage, Open, HandedOut, Answered, Cancelled, request_of, with_stage, with_work, is_free_slot}
+use Rattle.phases.specs.Roster.{Roster, is_open_of, async_number, with_made, Makes, MakesAsync, stopped_in, started_in}
+use Rattle.phases.specs.Roster.{again_in, closed_in, active_answer}
+use Rattle.phases.specs.Requests.{Requests, Request, Stage, Open, HandedOut, Answered, Cancelled, request_of, with_stage}
+use Rattle.phases.specs.Requests.{with_work, is_free_slot}
 use Rattle.phases.specs.PhaseList.{exports}
 use Rattle.phases.specs.State.{Setting, State}
 use Rattle.phases.specs.Calls.{Calls}

@@ -1,5 +1,6 @@
 -- Laws of the histories of a loop.
-use Rattle.std.specs.Prelude.{◌≡◌, ℕ, ◌^◌, ◌<◌, ◌≤◌, ◌==◌, Bool, true, false, ◌&&◌, ◌⊎◌, List, [], ◌∷◌, ◌++◌, Contains, count_by, Option, Some}
+use Rattle.std.specs.Prelude.{◌≡◌, ℕ, ◌^◌, ◌<◌, ◌≤◌, ◌==◌, Bool, true, false, ◌&&◌, ◌⊎◌, List, [], ◌∷◌, ◌++◌, Contains}
+use Rattle.std.specs.Prelude.{count_by, Option, Some}
 use Rattle.syntax.specs.declared.types.Value.{Value}
 use Rattle.syntax.specs.declared.types.Value.TheVariants.{I32}
 use Rattle.imports.specs.declared.call.Call.{Call}
@@ -115,7 +116,8 @@ module _ {S : Type 0} (calls : Calls S) where
   -- each that runs, after any history, is given what is due to its own order
   abbrev pub IsAfterOwn : Type 0
   IsAfterOwn =
-      (g : Setting) (l old new : Loop S) (events : List Event) (did : StepDid) (emits : List ℕ) (made : List GuestCall) → IsOpening calls g l → History calls g l events old
+      (g : Setting) (l old new : Loop S) (events : List Event) (did : StepDid) (emits : List ℕ) (made : List GuestCall)
+          → IsOpening calls g l → History calls g l events old
       → EventStep calls g (Stepped did emits made) old new
       → (request : ℕ) → is_after_event request (Stepped did emits made) ≡ true
       → IsOwn calls g events old request did new
@@ -123,7 +125,8 @@ module _ {S : Type 0} (calls : Calls S) where
   -- from the callback on no cancel of its request is answered 0, in the callback or behind it
   abbrev pub IsAfterLast : Type 0
   IsAfterLast =
-      (g : Setting) (l l' : Loop S) (before behind : List Event) (e : Event) → IsOpening calls g l → History calls g l (before ++ e ∷ behind) l'
+      (g : Setting) (l l' : Loop S) (before behind : List Event) (e : Event) → IsOpening calls g l
+          → History calls g l (before ++ e ∷ behind) l'
       → (request : ℕ) → is_after_event request e ≡ true
       → WasCancelled request (e ∷ behind) → ⊥
 

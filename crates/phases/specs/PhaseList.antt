@@ -1,5 +1,6 @@
 -- The list of each phase, and what keeps a loop alive.
-use Rattle.std.specs.Prelude.{◌≡◌, ◌≢◌, ◌⊎◌, ℕ, ◌+◌, ◌-◌, ◌<◌, ◌≤◌, ◌==◌, Bool, true, false, ◌||◌, not, List, [], ◌∷◌, ◌++◌, length, map, nat_le, Option, Some, None, codes, bytes_eq, if◌then◌else◌}
+use Rattle.std.specs.Prelude.{◌≡◌, ◌≢◌, ◌⊎◌, ℕ, ◌+◌, ◌-◌, ◌<◌, ◌≤◌, ◌==◌, Bool, true, false, ◌||◌, not, List, [], ◌∷◌, ◌++◌}
+use Rattle.std.specs.Prelude.{length, map, nat_le, Option, Some, None, codes, bytes_eq, if◌then◌else◌}
 use Rattle.std.specs.Option.{option_map_or, is_some}
 use Rattle.std.specs.List.{list_any}
 use Rattle.syntax.specs.declared.module.Contents.{Contents}

@@ -1,5 +1,6 @@
 -- The handles of a loop, and what a guest is answered who makes, starts, stops or closes one.
-use Rattle.std.specs.Prelude.{◌≡◌, ℕ, ◌^◌, ◌<◌, ◌==◌, Bool, true, false, ◌&&◌, not, MatchBool, List, [], ◌∷◌, ◌++◌, length, map, filter, Option, Some, None, slice_get, if◌then◌else◌}
+use Rattle.std.specs.Prelude.{◌≡◌, ℕ, ◌^◌, ◌<◌, ◌==◌, Bool, true, false, ◌&&◌, not, MatchBool, List, [], ◌∷◌, ◌++◌, length, map}
+use Rattle.std.specs.Prelude.{filter, Option, Some, None, slice_get, if◌then◌else◌}
 use Rattle.std.specs.Option.{option_map_or, is_some}
 use Rattle.std.specs.List.{position_or_len}
 use Rattle.std.specs.FinMap as finite
@@ -10,7 +11,8 @@ use Rattle.validate.specs.Typing.{type_of_function}
 use Rattle.instance.specs.Fresh.{fresh_store}
 use Rattle.handles.specs.declared.handle.Kind.{Kind}
 use Rattle.handles.specs.declared.handle.Kind.TheVariants as kind
-use Rattle.handles.specs.Table.{Table, empty_table, record_of, new_record, with_record, same_kind, was_started, after_start, after_stop, after_again, after_close, after_remove}
+use Rattle.handles.specs.Table.{Table, empty_table, record_of, new_record, with_record, same_kind, was_started, after_start}
+use Rattle.handles.specs.Table.{after_stop, after_again, after_close, after_remove}
 use Rattle.order.specs.Numbers.{no_room, invalid, none_left}
 
 -- The handles by their numbers; for each async made, in order, its handle, until that is removed; the closing

@@ -1,5 +1,6 @@
 -- One step of a loop.
-use Rattle.std.specs.Prelude.{◌≡◌, ℕ, ◌==◌, Bool, true, false, ◌&&◌, not, MatchBool, MatchOption, List, [], ◌∷◌, Option, Some, None, codes, if◌then◌else◌}
+use Rattle.std.specs.Prelude.{◌≡◌, ℕ, ◌==◌, Bool, true, false, ◌&&◌, not, MatchBool, MatchOption, List, [], ◌∷◌, Option, Some}
+use Rattle.std.specs.Prelude.{None, codes, if◌then◌else◌}
 use Rattle.std.specs.Option.{option_map_or, option_and_then}
 use Rattle.syntax.specs.declared.types.Value.{Value}
 use Rattle.syntax.specs.declared.types.Value.TheVariants.{I32}
@@ -84,7 +85,8 @@ module _ {S : Type 0} where
 
 module _ {S : Type 0} (calls : Calls S) (g : Setting) where
   -- From this loop a callback runs, which may read these bytes. Where it does not return, the loop has failed.
-  pub record RunsFrom (old : Loop S) (kind : EntryKind) (number function : ℕ) (args : List Value) (reply : Option (List ℕ)) (did : StepDid) (new : Loop S) : Type 0 where
+  pub record RunsFrom (old : Loop S) (kind : EntryKind) (number function : ℕ) (args : List Value) (reply : Option (List ℕ))
+      (did : StepDid) (new : Loop S) : Type 0 where
     pub trace : List HostCall
     pub ended : Ended
     pub state : State
@@ -128,7 +130,8 @@ module _ {S : Type 0} (calls : Calls S) (g : Setting) where
   -- a timer is first made inactive, or started again where it repeats
   EntryStep old (entry.Timer handle start) did new =
       MatchBool (is_as_listed handle_kind.Timer old.state.roster handle start)
-      (CallsHandle (in_state old (with_roster old.state (with_handles old.state.roster (after_again old.state.roster.handles handle old.state.now)))) old.state.roster kind.Timer handle did new)
+      (CallsHandle (in_state old (with_roster old.state (with_handles old.state.roster
+          (after_again old.state.roster.handles handle old.state.now)))) old.state.roster kind.Timer handle did new)
       (Skips old kind.Timer handle did new)
   EntryStep old (entry.Idle handle start) did new =
       MatchBool (is_as_listed handle_kind.Idle old.state.roster handle start)
@@ -144,7 +147,8 @@ module _ {S : Type 0} (calls : Calls S) (g : Setting) where
   EntryStep old (entry.Async async_no) did new =
       MatchOption (async_handle old.state.roster async_no)
       ⊥
-      (λ handle. MatchBool (is_active_handle old.state.roster.handles (Some handle)) (TakesFirst old async_no handle did new) (Skips old kind.Async handle did new))
+      (λ handle. MatchBool (is_active_handle old.state.roster.handles (Some handle)) (TakesFirst old async_no handle did new)
+          (Skips old kind.Async handle did new))
   -- the handle is removed before the callback of its close
   EntryStep old (entry.Close handle) did new =
       CallsHandle (in_state old (with_roster old.state (without_handle old.state.roster handle))) old.state.roster kind.Close handle did new

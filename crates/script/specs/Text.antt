@@ -11,7 +11,8 @@ use Rattle.phases.specs.declared.entry.Phase.TheVariants as phase
 use Rattle.phases.specs.declared.entry.EntryKind.{EntryKind}
 use Rattle.phases.specs.declared.entry.EntryKind.TheVariants as kind
 use Rattle.world_log.specs.declared.outcome.WorkEnding.{WorkEnding}
-use Rattle.world_log.specs.declared.outcome.WorkEnding.TheVariants.{Done, Trap as WorkTrap, Depth as WorkDepth, Spent as WorkSpent, NoMemory}
+use Rattle.world_log.specs.declared.outcome.WorkEnding.TheVariants.{Done, Trap as WorkTrap, Depth as WorkDepth}
+use Rattle.world_log.specs.declared.outcome.WorkEnding.TheVariants.{Spent as WorkSpent, NoMemory}
 use Rattle.world_log.specs.declared.outcome.Job.{Job}
 use Rattle.world_log.specs.declared.outcome.PostOutcome.{PostOutcome}
 use Rattle.world_log.specs.declared.outcome.PostOutcome.TheVariants.{Request as Posted, Nothing as NoOrder, Full}

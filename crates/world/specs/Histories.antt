@@ -55,7 +55,8 @@ pub record HasHistory (l : ℕ) (g : Setting) (start : Loop Desk) (log : List Li
 -- in every run from an opening world each loop has such a history, from its opening
 abbrev pub IsHistory : Type 0
 IsHistory =
-    (settings : List Setting) (workers : ℕ) (steps : List Step) (log : List Line) (w : World) (run : WorldRun (opening_world settings workers) steps log w)
+    (settings : List Setting) (workers : ℕ) (steps : List Step) (log : List Line) (w : World)
+        (run : WorldRun (opening_world settings workers) steps log w)
     → (l : ℕ) (g : Setting) (now : Loop Desk) → HasLoop w l g now
     → (slice_get settings l ≡ Some g)
     × HasHistory l g (opening_loop g).loop log (guest_calls l (opening_world settings workers) steps log w run) now

@@ -1,5 +1,6 @@
 -- Laws of the runs of a world.
-use Rattle.std.specs.Prelude.{◌≡◌, ℕ, ◌+◌, ◌≤◌, ◌==◌, Bool, true, false, ◌&&◌, ◌⊎◌, List, ◌∷◌, ◌++◌, Contains, count_by, pos, Some, slice_get}
+use Rattle.std.specs.Prelude.{◌≡◌, ℕ, ◌+◌, ◌≤◌, ◌==◌, Bool, true, false, ◌&&◌, ◌⊎◌, List, ◌∷◌, ◌++◌, Contains, count_by, pos}
+use Rattle.std.specs.Prelude.{Some, slice_get}
 use Rattle.phases.specs.declared.did.StepDid.{StepDid}
 use Rattle.phases.specs.declared.entry.EntryKind.TheVariants as kind
 use Rattle.phases.specs.Guests.{GuestCall}
@@ -27,7 +28,8 @@ is_after l request _ = false
 -- in every run from an opening world each loop and request have at most one after-work callback
 abbrev pub IsAfterOnce : Type 0
 IsAfterOnce =
-    (settings : List Setting) (workers : ℕ) (steps : List Step) (log : List Line) (w : World) → WorldRun (opening_world settings workers) steps log w
+    (settings : List Setting) (workers : ℕ) (steps : List Step) (log : List Line) (w : World)
+        → WorldRun (opening_world settings workers) steps log w
     → (l request : ℕ) → count_by (is_after l request) log ≤ 1
 
 -- a cancel of the request was answered 0: the owner's, which is in the log, or a guest's
@@ -47,7 +49,8 @@ pub record RunsAfter (w : World) (l : ℕ) (q : Request) (g : Setting) (tidings 
 
 -- The callback of this loop and request was given what is due to the order that the guest had asked for under that
 -- request's number, which is the very order of the request that the step removed.
-pub record IsOwn (settings : List Setting) (log : List Line) (made : List GuestCall) (w : World) (l number : ℕ) (entry : Line) (w' : World) : Type 0 where
+pub record IsOwn (settings : List Setting) (log : List Line) (made : List GuestCall) (w : World) (l number : ℕ) (entry : Line)
+    (w' : World) : Type 0 where
   pub setting : Setting
   pub request : Request
   pub tidings : Tidings
@@ -60,7 +63,8 @@ pub record IsOwn (settings : List Setting) (log : List Line) (made : List GuestC
 -- each step that runs an after-work callback, after any run from an opening world, gives it what is due to its own order
 abbrev pub IsAfterOwn : Type 0
 IsAfterOwn =
-    (settings : List Setting) (workers : ℕ) (steps : List Step) (log : List Line) (w : World) (run : WorldRun (opening_world settings workers) steps log w)
+    (settings : List Setting) (workers : ℕ) (steps : List Step) (log : List Line) (w : World)
+        (run : WorldRun (opening_world settings workers) steps log w)
     → (s : Step) (entry : Line) (w' : World) → WorldStep w s entry w'
     → (l request : ℕ) → is_after l request entry ≡ true
     → IsOwn settings log (guest_calls l (opening_world settings workers) steps log w run) w l request entry w'
@@ -68,7 +72,8 @@ IsAfterOwn =
 -- from the callback on no cancel of its request is answered 0, in the callback or behind it
 abbrev pub IsAfterLast : Type 0
 IsAfterLast =
-    (settings : List Setting) (workers : ℕ) (steps : List Step) (log : List Line) (w : World) → WorldRun (opening_world settings workers) steps log w
+    (settings : List Setting) (workers : ℕ) (steps : List Step) (log : List Line) (w : World)
+        → WorldRun (opening_world settings workers) steps log w
     → (s : Step) (entry : Line) (mid : World) (step : WorldStep w s entry mid)
     → (behind : List Step) (more : List Line) (w' : World) (run : WorldRun mid behind more w')
     → (l request : ℕ) → is_after l request entry ≡ true

@@ -22,7 +22,8 @@ number_of NoSuch = 1
 number_of Memory = 2
 
 abbrev pub setting_from : ℕ → LoopConfig → Setting
-setting_from n c = record { loaded = arc_value c.linked; loop_no = n; fuel = c.settings.fuel; work_fuel = c.settings.work_fuel; depth = c.settings.depth }
+setting_from n c = record { loaded = arc_value c.linked; loop_no = n; fuel = c.settings.fuel; work_fuel = c.settings.work_fuel;
+    depth = c.settings.depth }
 
 -- each loop's number is its place
 abbrev pub settings_from : ℕ → List LoopConfig → List Setting

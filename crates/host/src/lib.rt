@@ -27,4 +27,7 @@ pub use refusal::Refusal;
 pub use serve::{Ending, Job, Served, Serving, Task, serve};
 pub use validate::ValidFault;
 pub use world::{Config, LoopConfig, World, WorldFault};
-pub use world_log::{Entry, Log, LoopSettings, Step};
+pub use world_log::{
+    CollectOutcome, Entry, FinishOutcome, Log, LoopSettings, PostOutcome, StartOutcome, Step,
+    WorkEnding,
+};

@@ -39,7 +39,7 @@ fn cancelled(claims: &Claims, mut seat: LoopSeat, ticket: Ticket) -> (bool, Loop
 
 fn started(claims: &Claims, mut seat: WorkerSeat, ticket: Ticket) -> (bool, WorkerSeat)
     requires own { seat.claims ≡ claims.now.id }
-    requires there { (ticket.loop_no < claims.now.loops) × (ticket.slot < 32) }
+    requires there { (ticket.loop_no < 8) × (ticket.slot < 32) }
     ensures { result.1.claims ≡ seat.claims }
 {
     let answer = claims.start(&mut seat, ticket);
@@ -55,7 +55,7 @@ fn race<R: Threads + Wait>(
     ticket: Ticket,
 ) -> Option<((bool, LoopSeat), (bool, WorkerSeat))>
     requires own { (loop_seat.claims ≡ claims.now.id) × (worker_seat.claims ≡ claims.now.id) }
-    requires there { (ticket.loop_no ≡ loop_seat.loop_no) × (ticket.loop_no < claims.now.loops) × (ticket.slot < 32) }
+    requires there { (ticket.loop_no ≡ loop_seat.loop_no) × (ticket.loop_no < 8) × (ticket.slot < 32) }
     ensures loops { IfSome result (λ r. (r.0.1.claims ≡ loop_seat.claims) × (r.0.1.loop_no ≡ loop_seat.loop_no) × (r.0.1.opened ≡ loop_seat.opened)) }
     ensures workers { IfSome result (λ r. r.1.1.claims ≡ worker_seat.claims) }
 {
@@ -66,7 +66,7 @@ fn race<R: Threads + Wait>(
         rt,
         move |scope| -> Option<((bool, LoopSeat), (bool, WorkerSeat))>
             requires own { (loop_seat.claims ≡ claims.now.id) × (worker_seat.claims ≡ claims.now.id) }
-            requires there { (ticket.loop_no ≡ loop_seat.loop_no) × (ticket.loop_no < claims.now.loops) × (ticket.slot < 32) }
+            requires there { (ticket.loop_no ≡ loop_seat.loop_no) × (ticket.loop_no < 8) × (ticket.slot < 32) }
             requires same { (same_loop.0.value ≡ loop_seat) × (same_worker.0.value ≡ worker_seat) }
             ensures loops { IfSome result (λ r. (r.0.1.claims ≡ loop_seat.claims) × (r.0.1.loop_no ≡ loop_seat.loop_no) × (r.0.1.opened ≡ loop_seat.opened)) }
             ensures workers { IfSome result (λ r. r.1.1.claims ≡ worker_seat.claims) }
@@ -131,7 +131,7 @@ fn again(
     ticket: Ticket,
 ) -> (bool, bool)
     requires own { (loop_seat.old.claims ≡ claims.now.id) × (worker_seat.old.claims ≡ claims.now.id) }
-    requires there { (ticket.loop_no ≡ loop_seat.old.loop_no) × (ticket.loop_no < claims.now.loops) × (ticket.slot < 32) }
+    requires there { (ticket.loop_no ≡ loop_seat.old.loop_no) × (ticket.loop_no < 8) × (ticket.slot < 32) }
     ensures loops { (loop_seat.new.claims ≡ loop_seat.old.claims) × (loop_seat.new.loop_no ≡ loop_seat.old.loop_no) × (loop_seat.new.opened ≡ loop_seat.old.opened) }
     ensures workers { worker_seat.new.claims ≡ worker_seat.old.claims }
 {

@@ -108,7 +108,14 @@ fn text_of(alloc: Global, served: &[Served]) -> Result<String, Fail> {
 
 #[test]
 fn a_job_that_a_full_board_refused_is_posted_again(rt: HostRuntime) -> Result<(), Fail> {
-    let one = lines(&rt, FILLS, ample(1, 1))?;
+    let serving = Serving {
+        loops: 1,
+        workers: 1,
+        fuel: 1_000_000,
+        work_fuel: 100_000,
+        depth: 64,
+    };
+    let one = lines(&rt, FILLS, serving)?;
     assert_eq!(rt; one.as_str(), "loop 0 over emits 361\n");
     Ok(())
 }

@@ -12,6 +12,7 @@ pub mod Returns
 pub mod Calling
 pub mod Targets
 pub mod Following
+pub mod Taking
 pub mod FollowingTests
 pub mod FollowingCalls
 pub mod Readying
@@ -21,3 +22,4 @@ pub mod Running
 pub mod Steadying
 pub mod Closing
 pub mod Viewed
+pub mod Resuming

@@ -2,3 +2,4 @@ pub mod Holding
 pub mod Turning
 pub mod Lying
 pub mod Simulating
+pub mod Resuming

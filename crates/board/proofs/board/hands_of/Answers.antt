@@ -42,9 +42,9 @@ loop-i-preserved c =
       ap (λ x. set c.loop-i.makers.items i x) c.hand.ensures.maker ∙ ap (λ ms. set ms i (one_later m)) known.0 ∙ advanced_next i makers m was ∙ ap (λ k. advanced k makers) (sym (add-one i)),
       omega arith,
       map-append (λ (h : HandView Reply). h.line) hands (hand ∷ []) ∙ ap (λ xs. xs ++ hand.line ∷ []) known.2 ∙ ap (λ id. take i (map (λ (m : MakerView). m.line) makers) ++ id ∷ []) made.0
-      ∙ sym (taken_next (λ (m : MakerView). m.line) i makers m was) ∙ ap (λ k. take k (map (λ (m : MakerView). m.line) makers)) (sym (add-one i)),
+          ∙ sym (taken_next (λ (m : MakerView). m.line) i makers m was) ∙ ap (λ k. take k (map (λ (m : MakerView). m.line) makers)) (sym (add-one i)),
       map-append (λ (h : HandView Reply). h.number) hands (hand ∷ []) ∙ ap (λ xs. xs ++ hand.number ∷ []) known.3 ∙ ap (λ n. take i (map (λ (m : MakerView). m.next) makers) ++ n ∷ []) made.1
-      ∙ sym (taken_next (λ (m : MakerView). m.next) i makers m was) ∙ ap (λ k. take k (map (λ (m : MakerView). m.next) makers)) (sym (add-one i)),
+          ∙ sym (taken_next (λ (m : MakerView). m.next) i makers m was) ∙ ap (λ k. take k (map (λ (m : MakerView). m.next) makers)) (sym (add-one i)),
       All-push IsIdle hands hand known.4 made.2,
     )
 

@@ -13,6 +13,6 @@ loop-preserved c =
     rw c.in_ok-push.ensures.items (
       omega (arith, length-append c.loop.lines.items (line ∷ []), known.0),
       c.in_ok-push-2.ensures.items ∙ ap (λ ms. ms ++ c.in_ok-line.maker ∷ []) known.1 ∙ ap (λ m. map (maker_at 1) c.loop.lines.items ++ m ∷ []) made.maker
-      ∙ sym (map-append (maker_at 1) c.loop.lines.items (line ∷ [])),
+          ∙ sym (map-append (maker_at 1) c.loop.lines.items (line ∷ [])),
       All-push (λ (l : LineView). l.places ≡ REPLIES) c.loop.lines.items line known.2 made.places,
     )

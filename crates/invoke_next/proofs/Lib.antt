@@ -1,0 +1,3 @@
+pub mod ValuesRead
+pub mod Hosted
+pub mod Beginning

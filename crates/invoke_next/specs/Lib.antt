@@ -1,0 +1,4 @@
+pub mod ValuesRead
+pub mod HostAsked
+pub mod Hosted
+pub mod CallsBegun

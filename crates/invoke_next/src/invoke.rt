@@ -1,0 +1,140 @@
+// Calls of functions from outside (WebAssembly Core 1.0, 4.5.5).
+
+ghost use Rattle.std.specs.Prelude.{◌≡◌, ◌+◌, ◌≤◌, ◌<◌, length};
+ghost use Rattle.validate.specs.Valid.{ValidModule};
+ghost use Rattle.validate.specs.Targets.{AreTables};
+ghost use Rattle.instance.specs.Storing.{IsStoreOf};
+ghost use Rattle.interp.specs.Run.{as_operands};
+ghost use Rattle.interp.specs.Hosting.{Names};
+ghost use Rattle.interp.specs.Invoking.{TakesArguments, Invoked, ReturnsTyped};
+
+use crate::opening::open;
+use crate::running::run_over_host;
+use engine::program::Program;
+use instance::stack::{Frame, Slots};
+use instance::state::{Instance, State};
+use interp::ended::{Ended, Ending};
+use interp::host::{Args, Host};
+use interp::values::Values;
+use syntax::module::Contents;
+use syntax::types::Value;
+use validate::{SideTable, Valid, type_of_function};
+
+/// The results that an answer of the host makes.
+fn answered(answer: Option<Value>) -> Values
+    ensures { result ≡ as_operands answer }
+{
+    match answer {
+        Some(value) => Values::from_slice(&[value]),
+        None => Values::from_slice(&[]),
+    }
+}
+
+/// Asks the host for an import.
+fn invoke_import<H: Host>(
+    contents: &Contents,
+    state: &mut State,
+    host: &mut H,
+    import: u32,
+    args: &[Value],
+    fuel: u64,
+    depth: u32,
+) -> Ended
+    requires store { IsStoreOf contents.now state.old }
+    requires names { Names contents.now (H.types host.old) }
+    requires typed { TakesArguments contents.now import args.now }
+    requires imported { import < length contents.now.imports }
+    ensures runs { Invoked contents.now depth fuel H.moves state.old host.old import args.now result state.new host.new }
+    ensures within { result.used ≤ fuel }
+    ensures results { ReturnsTyped contents.now import result.ending }
+    ensures kept { IsStoreOf contents.now state.new }
+    ensures types { H.types host.new ≡ H.types host.old }
+{
+    let answer = host.call(import, &Args::new(args), state.memory_mut());
+    Ended {
+        ending: Ending::Return(answered(answer)),
+        used: 0,
+    }
+}
+
+/// Calls a defined function.
+fn invoke_defined<H: Host>(
+    contents: &Contents,
+    tables: &[SideTable],
+    state: &mut State,
+    host: &mut H,
+    slots: &mut Slots,
+    frames: &mut [Frame],
+    function: u32,
+    args: &[Value],
+    fuel: u64,
+) -> Ended
+    requires valid { ValidModule contents.now }
+    requires agree { AreTables contents.now tables.now }
+    requires store { IsStoreOf contents.now state.old }
+    requires names { Names contents.now (H.types host.old) }
+    requires typed { TakesArguments contents.now function args.now }
+    requires defined { length contents.now.imports ≤ function }
+    requires deep { length frames.old + 1 ≤ 128 }
+    ensures runs { Invoked contents.now (length frames.old + 1) fuel H.moves state.old host.old function args.now result state.new host.new }
+    ensures within { result.used ≤ fuel }
+    ensures results { ReturnsTyped contents.now function result.ending }
+    ensures kept { IsStoreOf contents.now state.new }
+    ensures types { H.types host.new ≡ H.types host.old }
+{
+    let Some(func_type) = type_of_function(contents, function) else {
+        unreachable!()
+    };
+    let program = Program::new(contents, tables);
+    let start = open(contents, slots, function, args);
+    run_over_host(
+        contents,
+        &program,
+        func_type.results.as_slice(),
+        slots,
+        frames,
+        state,
+        host,
+        start,
+        fuel,
+    )
+}
+
+/// Calls a function of a module on one of its instances, with these arguments and so much fuel. At most `depth`
+/// calls stand open, this one among them; calls of the host are not counted. A call of an imported function is one
+/// call of the host, and uses no fuel. No memory is taken: the instance has room for the slots of all calls.
+pub fn invoke<H: Host>(
+    valid: &Valid,
+    instance: &mut Instance,
+    host: &mut H,
+    function: u32,
+    args: &[Value],
+    fuel: u64,
+    depth: u32,
+) -> Ended
+    requires store { IsStoreOf valid.now.contents instance.old }
+    requires names { Names valid.now.contents (H.types host.old) }
+    requires typed { TakesArguments valid.now.contents function args.now }
+    requires depth { (1 ≤ depth) × (depth ≤ 128) }
+    ensures runs { Invoked valid.now.contents depth fuel H.moves instance.old host.old function args.now result instance.new host.new }
+    ensures within { result.used ≤ fuel }
+    ensures results { ReturnsTyped valid.now.contents function result.ending }
+    ensures kept { IsStoreOf valid.now.contents instance.new }
+    ensures types { H.types host.new ≡ H.types host.old }
+{
+    let contents = valid.contents();
+    let Instance {
+        state,
+        slots,
+        frames,
+        ..
+    } = instance;
+    if (function as usize) < contents.imports.len() {
+        return invoke_import(contents, state, host, function, args, fuel, depth);
+    }
+    let tables = valid.tables();
+    let callers = frames.first(depth as usize - 1);
+    invoke_defined(
+        contents, tables, state, host, slots, callers, function, args, fuel,
+    )
+}

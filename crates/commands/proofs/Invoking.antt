@@ -1,9 +1,9 @@
 -- What the parts of an invocation come to.
 use Rattle.std.proofs.Common.{◌≡◌, ℕ, List, Some, map, string_bytes}
 use Rattle.syntax.specs.declared.types.Value.{Value}
-use Rattle.syntax.specs.declared.module.Contents.{Contents}
-use Rattle.syntax.specs.declared.module.FuncType.{FuncType}
-use Rattle.syntax.specs.declared.module.ExternKind.TheVariants.{Func}
+use Rattle.syntax.specs.declared.contents.Contents.{Contents}
+use Rattle.syntax.specs.declared.contents.FuncType.{FuncType}
+use Rattle.syntax.specs.declared.contents.ExternKind.TheVariants.{Func}
 use Rattle.syntax.specs.Exporting.{IsFirst}
 use Rattle.validate.specs.Typing.{HasFunctionType, type_of}
 use Rattle.interp.specs.Invoking.{TakesArguments}

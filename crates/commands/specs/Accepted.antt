@@ -1,6 +1,6 @@
 -- When the file of a command holds an accepted module.
 use Rattle.std.specs.Prelude.{ℕ, List}
-use Rattle.syntax.specs.declared.module.Contents.{Contents}
+use Rattle.syntax.specs.declared.contents.Contents.{Contents}
 use Rattle.host.specs.Loading.{IsAccepted}
 
 -- how many bytes of a file are read: one more than a module may have

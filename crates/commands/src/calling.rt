@@ -4,7 +4,7 @@ ghost use Rattle.std.specs.Prelude.{◌≡◌, ◌≤◌, ◌↔◌, Some, IfOk,
 ghost use Rattle.instance.specs.Fresh.{IsFresh};
 ghost use Rattle.instance.specs.Storing.{IsStoreOf};
 ghost use Rattle.interp.specs.Invoking.{TakesArguments};
-ghost use Rattle.syntax.specs.declared.module.ExternKind.TheVariants.{Func};
+ghost use Rattle.syntax.specs.declared.contents.ExternKind.TheVariants.{Func};
 ghost use Rattle.syntax.specs.Exporting.{IsFirst};
 ghost use Rattle.validate.specs.Typing.{HasFunctionType};
 ghost use Rattle.commands.specs.Calling.{Runs, Starts, HasReturned, IsCalled};
@@ -16,7 +16,7 @@ use interp::ended::{Ended, Ending};
 use interp::invoke::invoke;
 use interp::values::Values;
 use std::alloc::Global;
-use syntax::module::{ExternKind, FuncType};
+use syntax::contents::{ExternKind, FuncType};
 use syntax::types::Value;
 use validate::{Valid, type_of_function};
 use words::Budget;

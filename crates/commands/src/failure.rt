@@ -29,7 +29,7 @@ pub enum Failure<'a> {
     /// The file is no script.
     Script {
         fault: ScriptFault,
-        place: Option<script::Place>,
+        place: Option<script::ScriptPlace>,
     },
     /// The module exports no function of this name.
     NoFunction(&'a str),

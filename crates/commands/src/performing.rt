@@ -2,7 +2,7 @@
 
 ghost use Rattle.std.specs.Prelude.{◌≡◌, ◌≢◌, ◌≤◌, ◌⊎◌, OnOk, IfOk, codes};
 ghost use Rattle.std.specs.Io.KnownBytes.{Appends};
-ghost use Rattle.syntax.specs.declared.module.Contents.{Contents};
+ghost use Rattle.syntax.specs.declared.contents.Contents.{Contents};
 ghost use Rattle.commands.specs.Accepted.{Holds};
 ghost use Rattle.commands.specs.Calling.{HasFunctionReturned};
 ghost use Rattle.commands.specs.Performing.{HasInvoked, IsDone};

@@ -9,8 +9,8 @@ use crate::failure::Failure;
 use crate::file::Reader;
 use crate::loading::accept;
 use crate::status::Status;
-use host::{Config, Entry, Linked, Log, LoopConfig, World};
-use script::{LoopPlan, Place, Plan, ScriptFault, print, read};
+use host::{Config, Linked, Log, LogEntry, LoopConfig, World};
+use script::{LoopPlan, Plan, ScriptFault, ScriptPlace, print, read};
 use std::alloc::{AllocError, Global};
 use std::io::Write;
 use std::str;
@@ -36,7 +36,7 @@ fn plan_of<R: Reader>(alloc: Global, file: &str, reader: &R) -> Result<Plan, Fai
     }
 }
 
-fn no_script(fault: ScriptFault, place: Option<Place>) -> Failure<'static> {
+fn no_script(fault: ScriptFault, place: Option<ScriptPlace>) -> Failure<'static> {
     match fault {
         ScriptFault::Memory => Failure::Memory,
         _ => Failure::Script { fault, place },
@@ -98,8 +98,8 @@ fn loops_of(
 }
 
 /// A callback ended otherwise than by return, so that its loop failed.
-fn is_failure(entry: &Entry) -> bool {
-    matches!(entry, Entry::Ran { ended, .. } if !has_returned(&ended.ending))
+fn is_failure(entry: &LogEntry) -> bool {
+    matches!(entry, LogEntry::Ran { ended, .. } if !has_returned(&ended.ending))
 }
 
 fn status_of(log: &Log) -> Status {

@@ -1,14 +1,14 @@
 // What comes of loops and workers in threads.
 
 ghost use Rattle.std.specs.Prelude.{OnOk, string_bytes};
-ghost use Rattle.syntax.specs.declared.module.Contents.{Contents};
+ghost use Rattle.syntax.specs.declared.contents.Contents.{Contents};
 ghost use Rattle.commands.specs.Accepted.{Holds};
 
 use crate::failure::Failure;
 use crate::file::Reader;
 use crate::loading::load;
 use crate::status::Status;
-use host::{Ending, Job, Served, Serving, Task, serve};
+use host::{Job, LoopEnding, Served, Serving, Task, serve};
 use std::alloc::{AllocError, Global};
 use std::io::{self, BufWriter, Write};
 use std::sync::{Arc, Wait};
@@ -35,7 +35,7 @@ fn tell_served<O: Write>(served: &[Served], out: &mut O) -> io::Result<()> {
 }
 
 fn status_of(served: &[Served]) -> Status {
-    if served.iter().any(|one| one.ending == Ending::Failed) {
+    if served.iter().any(|one| one.ending == LoopEnding::Failed) {
         return Status::Ended;
     }
     Status::Done

@@ -8,14 +8,14 @@ use crate::file::Reader;
 use crate::loading::load;
 use crate::status::Status;
 use host::{Linked, Order, Outcome};
-use imports::Entry;
+use imports::EntryPoint;
 use std::alloc::{AllocError, Global};
 use std::io::Write;
 use std::sync::Arc;
-use words::WorkOrder;
+use words::WorkRequest;
 
 /// The order as request 1 of loop 0, in slot 0.
-fn request(alloc: Global, linked: Linked, work: &WorkOrder) -> Result<Order, AllocError>
+fn request(alloc: Global, linked: Linked, work: &WorkRequest) -> Result<Order, AllocError>
     ensures module { IfOk result (λ order. arc_value order.«module» ≡ linked) }
     ensures operation { IfOk result (λ order. order.op ≡ work.now.operation) }
     ensures bytes { IfOk result (λ order. (arc_value order.bytes).items ≡ work.now.bytes.items) }
@@ -77,13 +77,13 @@ fn tell_outcome<O: Write>(
 /// Lets the module of the file compute the reply of a work order, and tells what came of it.
 pub fn work<R: Reader, O: Write>(
     alloc: Global,
-    work: &WorkOrder,
+    work: &WorkRequest,
     reader: &R,
     out: &mut O,
 ) -> Result<Status, Failure<'static>> {
     let linked = load(alloc, reader, work.file.as_str())?;
-    let Some(_function) = linked.entry(Entry::Work) else {
-        return Err(Failure::NoFunction(Entry::Work.name()));
+    let Some(_function) = linked.entry(EntryPoint::Work) else {
+        return Err(Failure::NoFunction(EntryPoint::Work.name()));
     };
     let order = request(alloc, linked, work)?;
     let reply = order.run(alloc);

@@ -1,6 +1,6 @@
 -- When bytes are a guest, and why they are none.
 use Rattle.std.specs.Prelude.{ℕ, List}
-use Rattle.syntax.specs.declared.module.Contents.{Contents}
+use Rattle.syntax.specs.declared.contents.Contents.{Contents}
 use Rattle.syntax.specs.Binary.{Spells}
 use Rattle.decode.specs.Modules.{SpellsNothing}
 use Rattle.validate.specs.Valid.{ValidModule}

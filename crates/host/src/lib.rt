@@ -24,10 +24,10 @@ pub use order::{Order, Outcome, Reply};
 pub use phases::{Accepted, Beside, EntryKind, Hint, LoopCore, Phase, Shared, StepDid};
 pub use place::Place;
 pub use refusal::Refusal;
-pub use serve::{Ending, Job, Served, Serving, Task, serve};
+pub use serve::{Job, LoopEnding, Served, Serving, Task, serve};
 pub use validate::ValidFault;
 pub use world::{Config, LoopConfig, World, WorldFault};
 pub use world_log::{
-    CollectOutcome, Entry, FinishOutcome, Log, LoopSettings, PostOutcome, StartOutcome, Step,
+    CollectOutcome, FinishOutcome, Log, LogEntry, LoopSettings, PostOutcome, StartOutcome, Step,
     WorkEnding,
 };

@@ -9,7 +9,7 @@ use crate::refusal::Refusal;
 use decode::{DecodeFault, decode};
 use imports::{Linked, link};
 use std::alloc::Global;
-use syntax::binary::Module;
+use syntax::module::Module;
 use validate::{Valid, ValidFault, validate};
 
 /// The module that the bytes spell.

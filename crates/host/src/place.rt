@@ -5,11 +5,11 @@ use crate::parts::{body_alone, first_bodies, section_alone};
 use crate::refusal::Refusal;
 use crate::spans::{Span, bodies, count_of, section_of, sections};
 use decode::{DecodeFault, decode};
-use imports::{Call, Entry, LinkFault, Signature};
+use imports::{Call, EntryPoint, LinkFault, Signature};
 use std::alloc::{AllocError, Global};
 use std::{fmt, str};
+use syntax::contents::{Contents, ExternKind, FuncType, Import, ModuleExport};
 use syntax::items::Items;
-use syntax::module::{Contents, ExternKind, FuncType, Import, ModuleExport};
 use validate::{ValidFault, type_at, type_of_function, validate};
 
 const IMPORTS: u8 = 2;
@@ -232,7 +232,7 @@ fn wrong_import(alloc: Global, contents: &Contents, fault: LinkFault) -> Option<
 
 /// Whether the host can't call the export, though it has a name that the host calls.
 fn is_uncallable(contents: &Contents, export: &ModuleExport) -> bool {
-    match Entry::from_name(export.name.as_slice()) {
+    match EntryPoint::from_name(export.name.as_slice()) {
         Some(entry) => {
             export.kind != ExternKind::Func
                 || !has_type(type_of_function(contents, export.index), entry.signature())

@@ -9,9 +9,9 @@ use std::alloc::{AllocError, Global};
 use std::process::Abort;
 use std::test::Fail;
 use syntax::items::Items;
-use world_log::{CollectOutcome, Entry, FinishOutcome, Job, Log, WorkEnding};
+use world_log::{CollectOutcome, FinishOutcome, JobId, Log, LogEntry, WorkEnding};
 
-fn line_of(alloc: Global, entry: Entry) -> Result<String, AllocError> {
+fn line_of(alloc: Global, entry: LogEntry) -> Result<String, AllocError> {
     let mut log = Log::new(alloc);
     log.push(entry)?;
     print(alloc, &log)
@@ -19,7 +19,7 @@ fn line_of(alloc: Global, entry: Entry) -> Result<String, AllocError> {
 
 fn check_line(
     rt: &(impl Abort + AllocGlobal),
-    entry: Entry,
+    entry: LogEntry,
     expected: &str,
 ) -> Result<(), AllocError> {
     assert_eq!(rt; line_of(rt.alloc(), entry)?.as_str(), expected);
@@ -27,9 +27,9 @@ fn check_line(
 }
 
 // A callback of loop 3 under number 8, of the least and the greatest numbers.
-fn ran(alloc: Global, kind: EntryKind, ending: Ending) -> Result<Entry, AllocError> {
+fn ran(alloc: Global, kind: EntryKind, ending: Ending) -> Result<LogEntry, AllocError> {
     let emits = Vec::from_slice(alloc, &[1 << 63, (1 << 63) - 1])?;
-    Ok(Entry::Ran {
+    Ok(LogEntry::Ran {
         loop_no: 3,
         kind,
         number: 8,
@@ -92,10 +92,10 @@ fn prints_each_ending_of_a_callback(rt: HostRuntime) -> Result<(), Fail> {
     Ok(())
 }
 
-const FINISH: Entry = Entry::Finish {
+const FINISH: LogEntry = LogEntry::Finish {
     worker: 15,
     outcome: FinishOutcome::Ended(
-        Job {
+        JobId {
             loop_no: 1,
             request: 2_147_483_647,
         },
@@ -103,12 +103,12 @@ const FINISH: Entry = Entry::Finish {
     ),
 };
 
-const COLLECT: Entry = Entry::Collect {
+const COLLECT: LogEntry = LogEntry::Collect {
     loop_no: 2,
     outcome: CollectOutcome::Stranger,
 };
 
-const SEND: Entry = Entry::Send {
+const SEND: LogEntry = LogEntry::Send {
     loop_no: 0,
     async_no: 2,
     is_refused: true,

@@ -4,8 +4,8 @@ ghost use Rattle.std.specs.Prelude.{◌≤◌, length, All};
 ghost use Rattle.imports.specs.Linking.{IsKnown, IsCallable, IsEntry, AreCalls};
 
 use crate::call::Call;
-use crate::entry::Entry;
-use syntax::module::Contents;
+use crate::entry_point::EntryPoint;
+use syntax::contents::Contents;
 
 /// How many functions a module may import, as a length.
 pub(crate) const MAX_IMPORTS: usize = limits::MAX_IMPORTS as usize;
@@ -25,7 +25,7 @@ pub(crate) fn calls_of(contents: &Contents) -> [Call; MAX_IMPORTS]
 
 /// The index of the function that is exported for the host under this name, where there is one. No two exports have
 /// one name.
-pub(crate) fn entry_of(contents: &Contents, entry: Entry) -> Option<u32>
+pub(crate) fn entry_of(contents: &Contents, entry: EntryPoint) -> Option<u32>
     requires { All (IsCallable contents.now) contents.now.exports }
     ensures { IsEntry contents.now entry result }
 {

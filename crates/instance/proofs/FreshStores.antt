@@ -3,9 +3,9 @@ use Rattle.std.proofs.Common.{◌≡◌, ℕ, ◌+◌, ◌*◌, ◌<◌, ◌≤�
 use Rattle.std.specs.Prelude.{All}
 use Rattle.std.proofs.lemmas.List.{length-take-le, length-replicate, length-map}
 use Rattle.std.proofs.lemmas.List.Elements.{All-append, All-take, All-drop, All-tail, All-cons, All-nil, All-replicate}
-use Rattle.syntax.specs.declared.module.Contents.{Contents}
-use Rattle.syntax.specs.declared.module.Element.{Element}
-use Rattle.syntax.specs.declared.module.Data.{Data}
+use Rattle.syntax.specs.declared.contents.Contents.{Contents}
+use Rattle.syntax.specs.declared.contents.Element.{Element}
+use Rattle.syntax.specs.declared.contents.Data.{Data}
 use Rattle.validate.specs.Typing.{function_types}
 use Rattle.validate.specs.Valid.{ValidModule, ValidElement}
 use Rattle.validate.specs.Segments.{ElementFits, DataFits, offset_in, minimum, page_size}

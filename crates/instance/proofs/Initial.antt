@@ -1,7 +1,7 @@
 -- The initial values of globals have the globals' types.
 use Rattle.std.proofs.Common.{◌≡◌, suc, List, [], ◌∷◌, map, All, refl, ap, ◌∙◌, arith}
 use Rattle.syntax.specs.declared.types.ValType.{ValType}
-use Rattle.syntax.specs.declared.module.Global.{Global}
+use Rattle.syntax.specs.declared.contents.Global.{Global}
 use Rattle.syntax.specs.Code.{Code}
 use Rattle.validate.specs.Typing.{type_of}
 use Rattle.validate.specs.Segments.{constant_in}

@@ -1,6 +1,6 @@
 -- Why there is no instance of a module.
 use Rattle.std.specs.Prelude.{ℕ, All}
-use Rattle.syntax.specs.declared.module.Contents.{Contents}
+use Rattle.syntax.specs.declared.contents.Contents.{Contents}
 use Rattle.validate.specs.Segments.{ElementFits, DataFits, SegmentsFit}
 use Rattle.instance.specs.declared.fault.InstFault.{InstFault}
 use Rattle.instance.specs.declared.fault.InstFault.TheVariants.{ElementRange, DataRange, Memory}

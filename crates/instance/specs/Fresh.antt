@@ -1,9 +1,9 @@
 -- The store of a new instance, before its start function (WebAssembly Core 1.0, 4.5.4).
 use Rattle.std.specs.Prelude.{◌≡◌, ℕ, ◌+◌, ◌*◌, List, [], ◌∷◌, ◌++◌, length, map, take, drop, replicate, Option, Some, None}
-use Rattle.syntax.specs.declared.module.Contents.{Contents}
+use Rattle.syntax.specs.declared.contents.Contents.{Contents}
 use Rattle.syntax.specs.declared.types.Value.{Value}
-use Rattle.syntax.specs.declared.module.Element.{Element}
-use Rattle.syntax.specs.declared.module.Data.{Data}
+use Rattle.syntax.specs.declared.contents.Element.{Element}
+use Rattle.syntax.specs.declared.contents.Data.{Data}
 use Rattle.validate.specs.Segments.{SegmentsFit, constant_in, offset_in, minimum, page_size}
 use Rattle.instance.specs.Store.{Store, page_limit}
 

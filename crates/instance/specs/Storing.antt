@@ -1,7 +1,7 @@
 -- Which stores are of a module (WebAssembly Core 1.0, appendix, store validity).
 use Rattle.std.specs.Prelude.{◌≡◌, ℕ, ◌*◌, ◌<◌, ◌≤◌, max, List, length, map, Option, Some, None, All}
 use Rattle.syntax.specs.declared.types.Value.{Value}
-use Rattle.syntax.specs.declared.module.Contents.{Contents}
+use Rattle.syntax.specs.declared.contents.Contents.{Contents}
 use Rattle.validate.specs.Typing.{type_of, function_types}
 use Rattle.validate.specs.Segments.{minimum, page_size}
 use Rattle.instance.specs.Store.{Store, page_limit}

@@ -10,7 +10,7 @@ ghost use Rattle.instance.specs.Fresh.{with_element, with_data, fresh_globals, f
 
 use crate::memory::Memory;
 use std::alloc::{AllocError, Global};
-use syntax::module::{Contents, Data, Element};
+use syntax::contents::{Contents, Data, Element};
 use syntax::types::Value;
 use validate::{constant_of, offset_of};
 

@@ -9,7 +9,7 @@ use Rattle.syntax.specs.declared.operator.Extension.{Extension}
 use Rattle.syntax.specs.declared.operator.Extension.TheVariants.{Unsigned}
 use Rattle.syntax.specs.declared.instruction.Instr.{Instr}
 use Rattle.syntax.specs.declared.instruction.Instr.TheVariants.{Unreachable, Nop, Br, BrIf, BrTable, Return, Call, CallIndirect, Drop, Select, LocalGet, LocalSet, LocalTee, GlobalGet, GlobalSet, Load, LoadNarrow, Store, StoreNarrow, MemorySize, MemoryGrow, Const, Eqz, Unary, Binary, Compare, Convert}
-use Rattle.syntax.specs.declared.module.Contents.{Contents}
+use Rattle.syntax.specs.declared.contents.Contents.{Contents}
 use Rattle.validate.specs.Typing.{bytes_of_type, bytes_of_width}
 use Rattle.validate.specs.Height.{Effect, Changes, Ends}
 use Rattle.instance.specs.Store.{Store as Memory_and_globals}

@@ -1,6 +1,6 @@
 -- The operands, the contexts and the locals of contexts within the limits.
 use Rattle.std.proofs.Common.{ℕ, suc, ◌+◌, ◌*◌, ◌≤◌, List, [], ◌∷◌, length, arith, length-append}
-use Rattle.syntax.specs.declared.module.Contents.{Contents}
+use Rattle.syntax.specs.declared.contents.Contents.{Contents}
 use Rattle.syntax.specs.Code.{Code, Done, Plain, Block, Loop, If}
 use Rattle.interp.specs.Configuration.{Context, Label, Frame, frames}
 use Rattle.interp.specs.Typed.{code_of, operands_of}

@@ -3,9 +3,9 @@ use Rattle.std.proofs.Common.{◌≡◌, ℕ, ◌+◌, ◌≤◌, List, [], ◌�
 use Rattle.std.specs.Prelude.{slice_get, Option}
 use Rattle.std.proofs.lemmas.Option.{slice_get_within, get_or_from_slice_get}
 use Rattle.syntax.specs.declared.types.Value.{Value}
-use Rattle.syntax.specs.declared.module.Contents.{Contents}
-use Rattle.syntax.specs.declared.module.FuncType.{FuncType}
-use Rattle.syntax.specs.declared.module.Func.{Func}
+use Rattle.syntax.specs.declared.contents.Contents.{Contents}
+use Rattle.syntax.specs.declared.contents.FuncType.{FuncType}
+use Rattle.syntax.specs.declared.contents.Func.{Func}
 use Rattle.validate.specs.Typing.{HasFunctionType, type_of, type_of_function}
 use Rattle.validate.specs.Valid.{ValidModule}
 use Rattle.instance.specs.Store.{Store}
@@ -34,7 +34,7 @@ use Rattle.syntax.specs.declared.types.ValType.{ValType}
 use Rattle.interp.proofs.StandingCalls.{starts}
 use Rattle.interp.specs.Bodies.{bodies}
 use Rattle.instance.specs.declared.calls.OpenCall.{OpenCall}
-use Rattle.validate.specs.declared.table.SideTable.{SideTable}
+use Rattle.validate.specs.declared.side_table.SideTable.{SideTable}
 use Rattle.validate.specs.Targets.{AreTables}
 use Rattle.interp.proofs.CallsMade.{is_defined, arguments, are_bodies}
 

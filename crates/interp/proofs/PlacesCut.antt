@@ -9,10 +9,10 @@ use Rattle.syntax.specs.declared.types.Value.{Value}
 use Rattle.syntax.specs.declared.types.Value.TheVariants.{I32}
 use Rattle.syntax.specs.declared.instruction.Instr.{Instr}
 use Rattle.syntax.specs.declared.instruction.Instr.TheVariants.{Br, BrIf, BrTable}
-use Rattle.syntax.specs.declared.instruction.Op.TheVariants as op
-use Rattle.syntax.specs.declared.module.Contents.{Contents}
+use Rattle.syntax.specs.declared.instruction.Operation.TheVariants as op
+use Rattle.syntax.specs.declared.contents.Contents.{Contents}
 use Rattle.syntax.specs.Code.{Code, Done, Plain, Block, Loop, If}
-use Rattle.validate.specs.declared.table.Target.{Target}
+use Rattle.validate.specs.declared.side_table.Target.{Target}
 use Rattle.validate.specs.Targets.{Tells}
 use Rattle.instance.specs.Store.{Store}
 use Rattle.interp.specs.Configuration.{Context, Label, Frame, locals_of, continuing, branched}

@@ -2,13 +2,13 @@
 use Rattle.std.proofs.Common.{◌≡◌, ℕ, zero, suc, ◌+◌, ◌-◌, max, List, [], ◌∷◌, length, drop, Some, sym, ap, ◌∙◌, subst, arith}
 use Rattle.std.specs.Prelude.{slice_get}
 use Rattle.syntax.specs.declared.types.ValType.{ValType}
-use Rattle.syntax.specs.declared.instruction.Op.{Op}
-use Rattle.syntax.specs.declared.instruction.Op.TheVariants as op
+use Rattle.syntax.specs.declared.instruction.Operation.{Operation}
+use Rattle.syntax.specs.declared.instruction.Operation.TheVariants as op
 use Rattle.syntax.specs.Code.{Code, Done, Plain, Block, Loop, If, operations_to}
 use Rattle.validate.specs.Stack.{pushed}
 use Rattle.validate.specs.Typing.{Context, inside, Typed}
 use Rattle.validate.specs.Height.{Effect, Changes, Ends, effect_of, after_effect}
-use Rattle.validate.specs.declared.table.Target.{Target}
+use Rattle.validate.specs.declared.side_table.Target.{Target}
 use Rattle.validate.specs.Targets.{size, Agrees}
 use Rattle.validate.specs.Writing.{target}
 use Rattle.interp.specs.Heights.{counts, Follows}
@@ -17,7 +17,7 @@ use Rattle.interp.proofs.Lists.{length-pushed}
 use Rattle.interp.proofs.Heights.{Agrees as SameEffect, agrees, arities}
 
 -- the operation at a place, and what is behind it
-first_at : (ops : List Op) (at : ℕ) (o : Op) (rest : List Op) → drop at ops ≡ o ∷ rest → (slice_get ops at ≡ Some o) × (drop (at + 1) ops ≡ rest)
+first_at : (ops : List Operation) (at : ℕ) (o : Operation) (rest : List Operation) → drop at ops ≡ o ∷ rest → (slice_get ops at ≡ Some o) × (drop (at + 1) ops ≡ rest)
 first_at [] zero o rest e = absurd (cc)
 first_at [] (suc at) o rest e = absurd (cc)
 first_at (x ∷ ops) zero o rest e = (cc, cc)
@@ -27,7 +27,7 @@ first_at (x ∷ ops) (suc at) o rest e =
     (r.0, subst (λ (k : ℕ). drop k (x ∷ ops) ≡ rest) same r.1)
 
 -- what is behind a sequence
-behind_code : (ops : List Op) (close : Op) (c : Code) (at : ℕ) (after : List Op) → drop at ops ≡ operations_to close c after → drop (at + size c) ops ≡ after
+behind_code : (ops : List Operation) (close : Operation) (c : Code) (at : ℕ) (after : List Operation) → drop at ops ≡ operations_to close c after → drop (at + size c) ops ≡ after
 behind_code ops close Done at after e = (first_at ops at close after e).1
 behind_code ops close (Plain i rest) at after e =
     let r = behind_code ops close rest (at + 1) after (first_at ops at (op.Plain i) (operations_to close rest after) e).1 in
@@ -78,7 +78,7 @@ module _ (b : Body) where
       subst (λ (n : ℕ). Guided c.module_contents b labels base n after at behind rest) (length-pushed results below)
       (go (subst (λ (n : ℕ). Agrees c b.table labels at base n rest) (omega (arith, length-pushed results below)) a))
 
-  pub guided : (c : Context) (labels : List Target) (base at end behind : ℕ) (close : Op) (tail : List Op) (code : Code) (before after : List ValType)
+  pub guided : (c : Context) (labels : List Target) (base at end behind : ℕ) (close : Operation) (tail : List Operation) (code : Code) (before after : List ValType)
       → keeps labels ≡ arities c → Typed c code before after → Agrees c b.table labels at base (base + length before) code
       → drop at b.operations ≡ operations_to close code tail → end + 1 ≡ at + size code → ClosesTo b base (length after) end behind (Some close)
       → Guided c.module_contents b labels base (length before) (length after) at behind code

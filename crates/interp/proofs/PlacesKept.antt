@@ -6,13 +6,13 @@ use Rattle.syntax.specs.declared.types.Value.{Value}
 use Rattle.syntax.specs.declared.types.Value.TheVariants.{I32, I64}
 use Rattle.syntax.specs.declared.instruction.Instr.{Instr}
 use Rattle.syntax.specs.declared.instruction.Instr.TheVariants.{Br, BrIf, BrTable, Return, Call, CallIndirect}
-use Rattle.syntax.specs.declared.instruction.Op.{Op}
-use Rattle.syntax.specs.declared.instruction.Op.TheVariants as op
-use Rattle.syntax.specs.declared.module.Contents.{Contents}
-use Rattle.syntax.specs.declared.module.FuncType.{FuncType}
+use Rattle.syntax.specs.declared.instruction.Operation.{Operation}
+use Rattle.syntax.specs.declared.instruction.Operation.TheVariants as op
+use Rattle.syntax.specs.declared.contents.Contents.{Contents}
+use Rattle.syntax.specs.declared.contents.FuncType.{FuncType}
 use Rattle.syntax.specs.Code.{Code, Done, Plain, Block, Loop, If}
 use Rattle.validate.specs.Height.{Effect, Changes, Ends, named, calls}
-use Rattle.validate.specs.declared.table.Target.{Target}
+use Rattle.validate.specs.declared.side_table.Target.{Target}
 use Rattle.validate.specs.Targets.{pc_of, size, Lists, Tells}
 use Rattle.instance.specs.Store.{Store as Memory_and_globals}
 use Rattle.interp.specs.Configuration.{Context, Label, Frame, locals_of, with_locals, going_on, receiving, continuing, branched, returned}
@@ -319,7 +319,7 @@ module _ (m : Contents) (body : ℕ → Body) (function : ℕ) (callers : List P
       beneath (t ∷ labels) (keep, height, later, end, h, k, n) =
           received m body (here behind) callers after below values (record { labels = labels; after = later; behind = end; over = h; code = k }) e
 
-      closing : (o : Option Op) → ClosesTo (body function) (height_of below) after at behind o
+      closing : (o : Option Operation) → ClosesTo (body function) (height_of below) after at behind o
           → Leads m body (stepped (body function) (here at) values callers o) (Goes 0 s (receiving values below))
       closing None c = absurd c
       closing (Some op.End) c = subst (λ (to : ℕ). IsPlaced m body (here to) callers (receiving values below) 0) c (beneath labels h)

@@ -3,16 +3,16 @@ use Rattle.std.proofs.Common.{◌≡◌, ℕ, ◌+◌, List, [], ◌∷◌, ◌+
 use Rattle.std.specs.Prelude.{slice_get}
 use Rattle.std.proofs.lemmas.List.{length-map}
 use Rattle.syntax.specs.declared.types.Value.{Value}
-use Rattle.syntax.specs.declared.instruction.Op.{Op}
-use Rattle.syntax.specs.declared.instruction.Op.TheVariants as op
-use Rattle.syntax.specs.declared.module.Contents.{Contents}
-use Rattle.syntax.specs.declared.module.FuncType.{FuncType}
-use Rattle.syntax.specs.declared.module.Func.{Func}
+use Rattle.syntax.specs.declared.instruction.Operation.{Operation}
+use Rattle.syntax.specs.declared.instruction.Operation.TheVariants as op
+use Rattle.syntax.specs.declared.contents.Contents.{Contents}
+use Rattle.syntax.specs.declared.contents.FuncType.{FuncType}
+use Rattle.syntax.specs.declared.contents.Func.{Func}
 use Rattle.syntax.specs.Code.{Code, Done, Plain, Block, Loop, If}
 use Rattle.validate.specs.Stack.{pushed}
 use Rattle.validate.specs.Typing.{type_of}
 use Rattle.validate.specs.Valid.{ValidModule, body_context}
-use Rattle.validate.specs.declared.table.Target.{Target}
+use Rattle.validate.specs.declared.side_table.Target.{Target}
 use Rattle.validate.specs.Targets.{size}
 use Rattle.instance.specs.Store.{Store, value_of}
 use Rattle.validate.proofs.Tables.{length-operations}
@@ -59,7 +59,7 @@ module _ (m : Contents) (body : ℕ → Body) (valid : ValidModule m) (bodies : 
       → Awaiting places below (length type.results) → IsPlaced m body (record { function = defined.0; pc = 0 }) places (entered type f args below) 0
   enters function type f args places below (index, e, at, known) w =
       let size_of : size f.body ≡ length (body index).operations =
-      omega (arith, length-operations op.End f.body [], ap (λ (ops : List Op). length ops) (bodies index f type at known).0) in
+      omega (arith, length-operations op.End f.body [], ap (λ (ops : List Operation). length ops) (bodies index f type at known).0) in
       record {
         labels = record { pc = size f.body; keep = length type.results; height = 0 } ∷ [];
         after = length type.results;

@@ -5,8 +5,8 @@ use Rattle.syntax.specs.declared.instruction.Instr.TheVariants.{Unreachable, Nop
 use Rattle.syntax.specs.declared.instruction.Instr.TheVariants.{Select, LocalGet, LocalSet, LocalTee, GlobalGet, GlobalSet, Load}
 use Rattle.syntax.specs.declared.instruction.Instr.TheVariants.{LoadNarrow, Store, StoreNarrow, MemorySize, MemoryGrow, Const, Eqz, Unary}
 use Rattle.syntax.specs.declared.instruction.Instr.TheVariants.{Binary, Compare, Convert}
-use Rattle.syntax.specs.declared.module.Contents.{Contents}
-use Rattle.syntax.specs.declared.module.FuncType.{FuncType}
+use Rattle.syntax.specs.declared.contents.Contents.{Contents}
+use Rattle.syntax.specs.declared.contents.FuncType.{FuncType}
 use Rattle.syntax.specs.Code.{Code, Done, Plain, Block, Loop, If}
 use Rattle.validate.specs.Typing.{block_type, type_of_function}
 use Rattle.validate.specs.Height.{Effect, Changes, Ends, named, calls}

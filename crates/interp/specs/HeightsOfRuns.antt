@@ -1,9 +1,9 @@
 -- What a run comes to, and how many operands and locals there are.
 use Rattle.std.specs.Prelude.{◌≡◌, ℕ, ◌<◌, List, [], ◌∷◌, ◌++◌}
 use Rattle.syntax.specs.declared.types.Value.{Value}
-use Rattle.syntax.specs.declared.module.Contents.{Contents}
-use Rattle.syntax.specs.declared.module.FuncType.{FuncType}
-use Rattle.syntax.specs.declared.module.Func.{Func}
+use Rattle.syntax.specs.declared.contents.Contents.{Contents}
+use Rattle.syntax.specs.declared.contents.FuncType.{FuncType}
+use Rattle.syntax.specs.declared.contents.Func.{Func}
 use Rattle.instance.specs.Store.{Store, with_memory}
 use Rattle.validate.specs.Typing.{type_of_function}
 use Rattle.interp.specs.Configuration.{Context, Label, Frame, entered, frames, receiving}

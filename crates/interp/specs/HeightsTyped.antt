@@ -1,8 +1,8 @@
 -- Typed contexts within the limits of the bodies that they run.
 use Rattle.std.specs.Prelude.{◌≡◌, ℕ, ◌≤◌, List, [], length}
 use Rattle.syntax.specs.declared.types.ValType.{ValType}
-use Rattle.syntax.specs.declared.module.Contents.{Contents}
-use Rattle.syntax.specs.declared.module.FuncType.{FuncType}
+use Rattle.syntax.specs.declared.contents.Contents.{Contents}
+use Rattle.syntax.specs.declared.contents.FuncType.{FuncType}
 use Rattle.validate.specs.Stack.{pushed}
 use Rattle.validate.specs.Typing.{HasFunctionType}
 use Rattle.interp.specs.Configuration.{Context, frames}

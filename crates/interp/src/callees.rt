@@ -1,9 +1,9 @@
 // Which function a call is of (WebAssembly Core 1.0, 4.4.7).
 
 ghost use Rattle.std.specs.Prelude.{◌≡◌, ◌+◌, List, Some, slice_get};
-ghost use Rattle.syntax.specs.declared.instruction.Op.TheVariants as op;
+ghost use Rattle.syntax.specs.declared.instruction.Operation.TheVariants as op;
 ghost use Rattle.syntax.specs.declared.instruction.Instr.TheVariants as instr;
-ghost use Rattle.validate.specs.declared.table.SideTable.{SideTable as Table};
+ghost use Rattle.validate.specs.declared.side_table.SideTable.{SideTable as Table};
 ghost use Rattle.instance.specs.Store.{Store};
 ghost use Rattle.interp.specs.Bodies.{op_before};
 ghost use Rattle.interp.specs.Moving.{Does};
@@ -14,7 +14,7 @@ use crate::moved::Moved;
 use crate::trap::TrapCode;
 use instance::machine::Machine;
 use instance::state::State;
-use syntax::module::Contents;
+use syntax::contents::Contents;
 use validate::is_of_type;
 
 /// The function that the table has at an index, where it is of this type.

@@ -11,7 +11,7 @@ use crate::trap::TrapCode;
 use instance::calls::OpenCall;
 use instance::machine::Machine;
 use instance::state::State;
-use syntax::module::Contents;
+use syntax::contents::Contents;
 use validate::{SideTable, type_of_function};
 
 /// What a step that costs fuel did: the run goes on, it trapped, or a call would have opened one more than the limit.

@@ -15,7 +15,7 @@ use crate::run::run;
 use crate::values::Values;
 use instance::machine::Machine;
 use instance::state::{Instance, State};
-use syntax::module::Contents;
+use syntax::contents::Contents;
 use syntax::types::Value;
 use validate::{SideTable, Valid};
 

@@ -15,7 +15,7 @@ use crate::host::Host;
 use crate::moved::Moved;
 use instance::machine::Machine;
 use instance::state::State;
-use syntax::module::Contents;
+use syntax::contents::Contents;
 use validate::SideTable;
 
 /// Does the next operation, which costs fuel.

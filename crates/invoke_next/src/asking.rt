@@ -11,7 +11,7 @@ use crate::reading::{number_of, read};
 use engine::at::At;
 use instance::state::State;
 use interp::host::{Args, Host};
-use syntax::module::Contents;
+use syntax::contents::Contents;
 use syntax::types::Value;
 use validate::type_of_function;
 

@@ -16,7 +16,7 @@ use instance::state::{Instance, State};
 use interp::ended::{Ended, Ending};
 use interp::host::{Args, Host};
 use interp::values::Values;
-use syntax::module::Contents;
+use syntax::contents::Contents;
 use syntax::types::Value;
 use validate::{SideTable, Valid, type_of_function};
 

@@ -8,7 +8,7 @@ use crate::reading::number_of;
 use engine::at::At;
 use engine::calls::zero;
 use instance::stack::Slots;
-use syntax::module::Contents;
+use syntax::contents::Contents;
 use syntax::types::Value;
 
 /// How many slots there are from the first call on: enough for every function called from outside.

@@ -3,7 +3,7 @@
 use crate::guests::{loop_at_desk, with_custom_section};
 use crate::telling::{next, steps};
 use desk::Desk;
-use imports::Entry;
+use imports::EntryPoint;
 use order::{MAX_BYTES, Order, Reply};
 use phases::{Accepted, LoopCore};
 use std::alloc::{AllocError, Global};
@@ -123,7 +123,7 @@ impl Driven {
 
 // Runs the order, where it can be run.
 fn run(alloc: Global, order: Order) -> Result<Reply, Fail> {
-    let Some(_work) = order.module.entry(Entry::Work) else {
+    let Some(_work) = order.module.entry(EntryPoint::Work) else {
         return Err(Fail::from("no `uv_work`"));
     };
     if order.bytes.len() > MAX_BYTES || order.depth < 1 || order.depth > 128 {

@@ -1,6 +1,6 @@
 -- Modules with the same bytes are the same.
 use Rattle.std.proofs.Common.{◌≡◌, ℕ, List, subst}
-use Rattle.syntax.specs.declared.module.Contents.{Contents}
+use Rattle.syntax.specs.declared.contents.Contents.{Contents}
 use Rattle.syntax.specs.Loaded.{Loaded}
 use Rattle.syntax.specs.Binary.{Spells}
 

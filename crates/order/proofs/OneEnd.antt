@@ -4,9 +4,9 @@ use Rattle.std.specs.Prelude.{codes}
 use Rattle.std.specs.List.{slice_get}
 use Rattle.syntax.specs.declared.types.Value.{Value}
 use Rattle.syntax.specs.declared.types.Value.TheVariants.{I32}
-use Rattle.syntax.specs.declared.module.Contents.{Contents}
-use Rattle.syntax.specs.declared.module.Import.{Import}
-use Rattle.syntax.specs.declared.module.ModuleExport.{ModuleExport}
+use Rattle.syntax.specs.declared.contents.Contents.{Contents}
+use Rattle.syntax.specs.declared.contents.Import.{Import}
+use Rattle.syntax.specs.declared.contents.ModuleExport.{ModuleExport}
 use Rattle.validate.specs.Valid.{ValidModule, DistinctNames}
 use Rattle.instance.specs.Store.{Store}
 use Rattle.instance.specs.Fresh.{IsFresh}

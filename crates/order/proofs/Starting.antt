@@ -3,9 +3,9 @@ use Rattle.std.proofs.Common.{◌≡◌, ◌≢◌, ◌<◌, ℕ, List, length, 
 use Rattle.std.specs.List.{slice_get}
 use Rattle.std.specs.Option.{option_and_then}
 use Rattle.std.proofs.lemmas.Option.{slice_get_within, get_or_from_slice_get}
-use Rattle.syntax.specs.declared.module.Contents.{Contents}
-use Rattle.syntax.specs.declared.module.FuncType.{FuncType}
-use Rattle.syntax.specs.declared.module.ModuleExport.{ModuleExport}
+use Rattle.syntax.specs.declared.contents.Contents.{Contents}
+use Rattle.syntax.specs.declared.contents.FuncType.{FuncType}
+use Rattle.syntax.specs.declared.contents.ModuleExport.{ModuleExport}
 use Rattle.syntax.specs.declared.types.Value.{Value}
 use Rattle.validate.specs.Typing.{function_types, type_of, HasFunctionType}
 use Rattle.validate.specs.Typing.{type_of_function}

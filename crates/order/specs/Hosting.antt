@@ -1,8 +1,8 @@
 -- The imports of a linked module, as a host answers them.
 use Rattle.std.specs.Prelude.{List, [], map}
-use Rattle.syntax.specs.declared.module.Contents.{Contents}
-use Rattle.syntax.specs.declared.module.FuncType.{FuncType}
-use Rattle.syntax.specs.declared.module.Import.{Import}
+use Rattle.syntax.specs.declared.contents.Contents.{Contents}
+use Rattle.syntax.specs.declared.contents.FuncType.{FuncType}
+use Rattle.syntax.specs.declared.contents.Import.{Import}
 use Rattle.std.specs.Prelude.{slice_get, unwrap_or}
 
 -- the types of a module's imports, in order

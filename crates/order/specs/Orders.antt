@@ -1,9 +1,9 @@
 -- Orders and outcomes, as definitions speak of them.
 use Rattle.std.specs.Arc.{arc_value}
 use Rattle.interp.specs.Traps.{trap_number}
-use Rattle.order.specs.declared.request.Order.{Order}
-use Rattle.order.specs.declared.request.Outcome.{Outcome}
-use Rattle.order.specs.declared.request.Outcome.TheVariants as outcome
+use Rattle.order.specs.declared.order.Order.{Order}
+use Rattle.order.specs.declared.order.Outcome.{Outcome}
+use Rattle.order.specs.declared.order.Outcome.TheVariants as outcome
 use Rattle.order.specs.Work.{WorkOrder, WorkEnd, Done, Trap, Depth, Spent, NoMemory}
 
 abbrev pub order_of : Order → WorkOrder

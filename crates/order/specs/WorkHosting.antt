@@ -1,7 +1,7 @@
 -- How the host of a work function moves.
 use Rattle.std.specs.Prelude.{◌≡◌, List}
 use Rattle.std.specs.Arc.{arc_value}
-use Rattle.syntax.specs.declared.module.FuncType.{FuncType}
+use Rattle.syntax.specs.declared.contents.FuncType.{FuncType}
 use Rattle.interp.specs.Run.{HostCall}
 use Rattle.imports.specs.declared.call.Call.{Call}
 use Rattle.imports.specs.Linking.{Imports}

@@ -6,7 +6,7 @@ ghost use Rattle.order.specs.Bytes.{set_out};
 
 use crate::answers::{INVALID, NOT_HERE, OUTSIDE_MEMORY};
 use crate::calls::{called, copy_in, three, two};
-use crate::request::MAX_BYTES;
+use crate::order::MAX_BYTES;
 use imports::{Call, Linked};
 use instance::memory::Memory;
 use interp::host::{Args, Host};

@@ -12,9 +12,9 @@ pub mod answers;
 pub mod calls;
 mod host;
 pub mod laws;
+mod order;
 mod reply;
-mod request;
 mod run;
 
+pub use order::{MAX_BYTES, Order, Outcome};
 pub use reply::Reply;
-pub use request::{MAX_BYTES, Order, Outcome};

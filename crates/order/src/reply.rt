@@ -3,7 +3,7 @@
 ghost use Rattle.order.specs.Work.{IsEndOf};
 ghost use Rattle.order.specs.Orders.{order_of, end_of};
 
-use crate::request::{Order, Outcome};
+use crate::order::{Order, Outcome};
 
 /// An order with what became of it: its end, which is all that one thread computes from the order alone, or that there
 /// was no memory. `Order::run` alone makes one.

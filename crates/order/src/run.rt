@@ -14,9 +14,9 @@ ghost use Rattle.order.specs.Serving.{Serves};
 ghost use Rattle.order.specs.Work.{WorkRun, StartRun, IsEndOf, work_end};
 
 use crate::host::WorkHost;
+use crate::order::{Order, Outcome};
 use crate::reply::Reply;
-use crate::request::{Order, Outcome};
-use imports::Entry;
+use imports::EntryPoint;
 use instance::state::Instance;
 use interp::ended::{Ended, Ending};
 use interp::invoke::invoke;
@@ -135,7 +135,7 @@ impl Order {
             × WorkRun (order_of self.now) fuel instance.old host.old.reply.items f (Value.I32 self.now.op ∷ []) (outcome_of result.ending) result.used instance.new host.new.reply.items }
         ensures results { AreResults result.ending (valtype.I32 ∷ []) }
     {
-        let Some(function) = self.module.entry(Entry::Work) else {
+        let Some(function) = self.module.entry(EntryPoint::Work) else {
             unreachable!();
         };
         self.call(instance, host, function, &[Value::I32(self.op)], fuel)

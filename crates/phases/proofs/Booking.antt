@@ -6,7 +6,7 @@ use Rattle.std.proofs.lemmas.List.Elements.{All-filter, All-push, All-set}
 use Rattle.std.proofs.lemmas.Option.{get_or_from_slice_get, slice_get_within}
 use Rattle.order.specs.Numbers.{cancelled_code}
 use Rattle.order.specs.Work.{WorkOrder, WorkEnd, Done, Trap, Depth, Spent, NoMemory, IsEndOf, IsShortEnd}
-use Rattle.phases.specs.Requests.{Request, Stage, Open, HandedOut, Answered, Cancelled, has_number, in_stage, Tidings, tidings_of, end_tidings}
+use Rattle.phases.specs.Requests.{Request, Stage, Open, HandedOut, Answered, Cancelled, has_number, in_stage, Completion, completion_of, end_completion}
 use Rattle.std.proofs.Common.{eqb}
 use Rattle.phases.specs.PhaseList.{is_empty}
 use Rattle.phases.specs.Fitting.{AreRising, IsRight, IsTrueTo, AreKept}
@@ -220,19 +220,19 @@ removed_there xs last kept p bs at item same h is =
     }
 
 -- what a callback may read of a request is as short as a reply
-short_end : (end : WorkEnd) → IsShortEnd end → length (end_tidings end).bytes ≤ 65536
+short_end : (end : WorkEnd) → IsShortEnd end → length (end_completion end).bytes ≤ 65536
 short_end (Done value bytes) h = h
 short_end (Trap code) h = omega arith
 short_end Depth h = omega arith
 short_end Spent h = omega arith
 short_end NoMemory h = omega arith
 
-pub short_tidings : ((o : WorkOrder) (end : WorkEnd) → ∥ IsEndOf o end ∥₁ → IsShortEnd end) → (o : WorkOrder) (stage : Stage) (t : Tidings)
-    → IsTrueTo o stage → tidings_of stage ≡ Some t → length t.bytes ≤ 65536
-short_tidings short o Open t right h = absurd (cc)
-short_tidings short o HandedOut t right h = absurd (cc)
-short_tidings short o (Answered end) t right h = let is : end_tidings end ≡ t = cc in subst (λ (u : Tidings). length u.bytes ≤ 65536) is (short_end end (short o end right))
-short_tidings short o Cancelled t right h = let is : record { kind = 5; code = cancelled_code; bytes = [] } ≡ t = cc in subst (λ (u : Tidings). length u.bytes ≤ 65536) is (omega arith)
+pub short_completion : ((o : WorkOrder) (end : WorkEnd) → ∥ IsEndOf o end ∥₁ → IsShortEnd end) → (o : WorkOrder) (stage : Stage) (t : Completion)
+    → IsTrueTo o stage → completion_of stage ≡ Some t → length t.bytes ≤ 65536
+short_completion short o Open t right h = absurd (cc)
+short_completion short o HandedOut t right h = absurd (cc)
+short_completion short o (Answered end) t right h = let is : end_completion end ≡ t = cc in subst (λ (u : Completion). length u.bytes ≤ 65536) is (short_end end (short o end right))
+short_completion short o Cancelled t right h = let is : record { kind = 5; code = cancelled_code; bytes = [] } ≡ t = cc in subst (λ (u : Completion). length u.bytes ≤ 65536) is (omega arith)
 
 -- where no request has the number, nothing is changed
 pub untouched_all : (stage : Stage) (n : ℕ) (xs : List Request) → find (has_number n) xs ≡ None → map (in_stage n stage) xs ≡ xs

@@ -5,13 +5,13 @@ use Rattle.std.specs.Int.{w32, cast_signed}
 use Rattle.order.specs.Numbers.{not_here, busy, invalid}
 use Rattle.phases.specs.declared.entry.Status.{Status}
 use Rattle.phases.specs.declared.entry.Status.TheVariants.{Running, Over, Failed}
-use Rattle.phases.specs.declared.progress.Standing.{Standing}
-use Rattle.phases.specs.declared.progress.Standing.TheVariants.{Unknown, Pending}
-use Rattle.phases.specs.declared.progress.Standing.TheVariants as standing
+use Rattle.phases.specs.declared.progress.CancelState.{CancelState}
+use Rattle.phases.specs.declared.progress.CancelState.TheVariants.{Unknown, Pending}
+use Rattle.phases.specs.declared.progress.CancelState.TheVariants as cancel_state
 use Rattle.phases.specs.Requests.{Cancelled, Request, Requests, request_of, with_stage}
 use Rattle.phases.specs.State.{State}
 use Rattle.phases.specs.Calls.{Calls}
-use Rattle.phases.specs.Host.{Cancels, CancelsAt, standing_of, request_standing, with_requests}
+use Rattle.phases.specs.Host.{Cancels, CancelsAt, cancel_state_of, request_cancel_state, with_requests}
 use Rattle.phases.specs.Outside.{CancelIn}
 
 -- an answer other than 0, read as unsigned and as signed
@@ -35,12 +35,12 @@ pub data CancelFate (rs : Requests) (n answer : ℕ) (rs' : Requests) : Type 0 w
   stayed : IsRefusal answer → rs' ≡ rs → CancelFate rs n answer rs'
 
 module _ {S : Type 0} (calls : Calls S) where
-  fate_at : (st : Standing) (old : Requests × S) (n answer : ℕ) (new : Requests × S) → standing_of old.0 n ≡ st → CancelsAt calls st old n answer new → CancelFate old.0 n answer new.0
+  fate_at : (st : CancelState) (old : Requests × S) (n answer : ℕ) (new : Requests × S) → cancel_state_of old.0 n ≡ st → CancelsAt calls st old n answer new → CancelFate old.0 n answer new.0
   fate_at Unknown old n answer new is h = stayed (refusal answer invalid h.0 refl refl) (ap (λ p. p.0) h.1)
-  fate_at standing.Answered old n answer new is h = stayed (refusal answer busy h.0 refl refl) (ap (λ p. p.0) h.1)
+  fate_at cancel_state.Answered old n answer new is h = stayed (refusal answer busy h.0 refl refl) (ap (λ p. p.0) h.1)
   fate_at (Pending slot) old n answer new is h = won h.0 h.2 h.3 where
     there : (o : Option Request) → request_of old.0 n ≡ o → (q : Request) × (request_of old.0 n ≡ Some q)
-    there None e = absurd (let it : request_standing (request_of old.0 n) ≡ Unknown = ap request_standing e in cc)
+    there None e = absurd (let it : request_cancel_state (request_of old.0 n) ≡ Unknown = ap request_cancel_state e in cc)
     there (Some q) e = (q, e)
 
     won : (b : Bool) → answer ≡ cond b 0 busy → new.0 ≡ cond b (with_stage old.0 n Cancelled) old.0 → CancelFate old.0 n answer new.0
@@ -48,7 +48,7 @@ module _ {S : Type 0} (calls : Calls S) where
     won false a e = stayed (refusal answer busy a refl refl) e
 
   pub fate_of : (old : Requests × S) (n answer : ℕ) (new : Requests × S) → Cancels calls old n answer new → CancelFate old.0 n answer new.0
-  fate_of old n answer new h = fate_at (standing_of old.0 n) old n answer new refl h
+  fate_of old n answer new h = fate_at (cancel_state_of old.0 n) old n answer new refl h
 
 module _ {S : Type 0} (calls : Calls S) where
   others : (old : State × S) (n answer : ℕ) (new : State × S)

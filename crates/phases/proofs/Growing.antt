@@ -16,9 +16,9 @@ use Rattle.imports.specs.declared.call.Call.TheVariants.{Now, TimerInit, IdleIni
 use Rattle.order.specs.Numbers.{invalid, none_left}
 use Rattle.order.specs.Bytes.{taken_out}
 use Rattle.order.specs.Work.{WorkOrder}
-use Rattle.phases.specs.declared.progress.Standing.{Standing}
-use Rattle.phases.specs.declared.progress.Standing.TheVariants.{Unknown, Pending}
-use Rattle.phases.specs.declared.progress.Standing.TheVariants as standing
+use Rattle.phases.specs.declared.progress.CancelState.{CancelState}
+use Rattle.phases.specs.declared.progress.CancelState.TheVariants.{Unknown, Pending}
+use Rattle.phases.specs.declared.progress.CancelState.TheVariants as cancel_state
 use Rattle.phases.specs.PhaseList.{exports}
 use Rattle.phases.specs.Requests.{Requests, Request, Stage, Open, Cancelled, has_number, in_stage, with_stage, with_work, is_settled}
 use Rattle.phases.specs.Roster.{Roster, in_table, async_handle, is_open, is_open_of, is_callback, with_handles, with_made, with_async, Makes, MakesAsync, stopped_in, started_in, again_in, closed_in}
@@ -250,9 +250,9 @@ module _ {S : Type 0} (calls : Calls S) where
   won_or_not rs us number true e = subst (Settles rs) (sym e) (settles_stage rs number Cancelled refl)
   won_or_not rs us number false e = settles_same rs us e
 
-  cancels_at : (at : Standing) (old : Requests × S) (number answer : ℕ) (new : Requests × S) → CancelsAt calls at old number answer new → Settles old.0 new.0
+  cancels_at : (at : CancelState) (old : Requests × S) (number answer : ℕ) (new : Requests × S) → CancelsAt calls at old number answer new → Settles old.0 new.0
   cancels_at Unknown old number answer new h = settles_same old.0 new.0 (ap (λ p. p.0) h.1)
-  cancels_at standing.Answered old number answer new h = settles_same old.0 new.0 (ap (λ p. p.0) h.1)
+  cancels_at cancel_state.Answered old number answer new h = settles_same old.0 new.0 (ap (λ p. p.0) h.1)
   cancels_at (Pending slot) old number answer new h = won_or_not old.0 new.0 number h.0 h.3
 
   pub settles_cancel : (old : Requests × S) (number answer : ℕ) (new : Requests × S) → Cancels calls old number answer new → Settles old.0 new.0

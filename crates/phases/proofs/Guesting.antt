@@ -10,9 +10,9 @@ use Rattle.interp.specs.Run.{HostCall}
 use Rattle.interp.specs.Hosting.{Lawful}
 use Rattle.imports.specs.declared.call.Call.{Call}
 use Rattle.imports.specs.declared.call.Call.TheVariants.{Now, TimerInit, IdleInit, CheckInit, TimerStart, TimerStop, IdleStop, CheckStop, TimerAgain, IdleStart, CheckStart, AsyncInit, AsyncSend, IsActive, Close, QueueWork, Cancel, InLen, InCopy, OutSet, Emit}
-use Rattle.phases.specs.declared.progress.Standing.{Standing}
-use Rattle.phases.specs.declared.progress.Standing.TheVariants.{Unknown, Pending}
-use Rattle.phases.specs.declared.progress.Standing.TheVariants as standing
+use Rattle.phases.specs.declared.progress.CancelState.{CancelState}
+use Rattle.phases.specs.declared.progress.CancelState.TheVariants.{Unknown, Pending}
+use Rattle.phases.specs.declared.progress.CancelState.TheVariants as cancel_state
 use Rattle.phases.specs.View.{View, AreOpenedUpTo, is_request, times, Opened, Cancelled, Sent}
 use Rattle.phases.specs.Calls.{Calls, IsLawful}
 use Rattle.phases.specs.Requests.{Requests, Cancelled as cancelled, with_stage}
@@ -22,7 +22,7 @@ use Rattle.order.specs.Bytes.{taken_out}
 use Rattle.phases.specs.PhaseList.{exports}
 use Rattle.phases.specs.Roster.{Roster, is_open_of, async_number}
 use Rattle.phases.specs.State.{Setting, State}
-use Rattle.phases.specs.Host.{HostStep, CallStep, standing_of, CancelsAt, Opens, QueuesWork, Sends, emitted_in}
+use Rattle.phases.specs.Host.{HostStep, CallStep, cancel_state_of, CancelsAt, Opens, QueuesWork, Sends, emitted_in}
 use Rattle.phases.specs.Hosting.{Answered, Replies}
 
 -- the calls of a whole run are those of the loop that the host stands for
@@ -106,9 +106,9 @@ module _ {S : Type 0} (calls : Calls S) (lawful : IsLawful calls) where
     either_way true = refl
     either_way false = refl
 
-  pub cancels_at_upto : (stands : Standing) (old new : Requests × S) (number answer : ℕ) → CancelsAt calls stands old number answer new → UpTo old → UpTo new
+  pub cancels_at_upto : (stands : CancelState) (old new : Requests × S) (number answer : ℕ) → CancelsAt calls stands old number answer new → UpTo old → UpTo new
   cancels_at_upto Unknown old new number answer h upto = upto_same old new h.1 upto
-  cancels_at_upto standing.Answered old new number answer h upto = upto_same old new h.1 upto
+  cancels_at_upto cancel_state.Answered old new number answer h upto = upto_same old new h.1 upto
   cancels_at_upto (Pending slot) old new number answer h upto =
       let last : new.0.last ≡ old.0.last = ap (λ (rs : Requests). rs.last) h.3 ∙ kept_last h.0 in
       rw last (upto_view old.0.last (calls.view old.1) (calls.view new.1) (cancelled_opened (calls.view old.1) (calls.view new.1) (slot, number) h.0 (lawful.cancels old.1 new.1 slot number h.0 h.1)) upto) where
@@ -167,7 +167,7 @@ module _ {S : Type 0} (calls : Calls S) (lawful : IsLawful calls) where
     call_upto QueueWork (I32 op ∷ I32 place ∷ I32 count ∷ []) h =
         works h.1 (ap (λ s. s.requests) h.4) (queues_upto g (old.0.requests, old.1) (h.1, new.1) op h.0 upto call.before place count h.2)
     call_upto Cancel (I32 number ∷ []) h =
-        works h.1 (ap (λ s. s.requests) h.4) (cancels_at_upto (standing_of old.0.requests number) (old.0.requests, old.1) (h.1, new.1) number h.0 h.2 upto)
+        works h.1 (ap (λ s. s.requests) h.4) (cancels_at_upto (cancel_state_of old.0.requests number) (old.0.requests, old.1) (h.1, new.1) number h.0 h.2 upto)
     call_upto InLen [] h = does _ refl h.1
     call_upto InCopy (I32 to ∷ I32 from ∷ I32 count ∷ []) h = rw h.1 upto
     call_upto OutSet (I32 place ∷ I32 count ∷ []) h = does _ refl h.1

@@ -21,7 +21,7 @@ use Rattle.phases.specs.declared.entry.Entry.TheVariants as entry
 use Rattle.phases.specs.declared.entry.Status.{Status}
 use Rattle.phases.specs.declared.entry.Status.TheVariants.{Running, Over, Failed}
 use Rattle.phases.specs.Roster.{async_handle, with_handles, without_handle}
-use Rattle.phases.specs.Requests.{Cancelled, Request, Requests, Tidings, request_of, without_request, tidings_of}
+use Rattle.phases.specs.Requests.{Cancelled, Request, Requests, Completion, request_of, without_request, completion_of}
 use Rattle.phases.specs.State.{Setting, State, Loop}
 use Rattle.phases.specs.PhaseList.{is_alive, may_end, next_phase, is_active_handle}
 use Rattle.phases.specs.Calls.{Calls}
@@ -121,7 +121,7 @@ module _ {S : Type 0} (calls : Calls S) (g : Setting) (r : ℕ) (L : Type 0) whe
   pub record WorkedAfter (base : Loop S) (did : StepDid) (new : Loop S) : Type 0 where
     pub request : Request
     pub only : numbered r base.state.requests ≡ request ∷ []
-    pub work : AfterWork calls g base r (tidings_of request.stage) did new
+    pub work : AfterWork calls g base r (completion_of request.stage) did new
 
   -- what a callback of the request leaves: it is gone for good, and is not cancelled any more
   pub record Leaves (made more : List GuestCall) (new : Loop S) : Type 0 where
@@ -194,9 +194,9 @@ module _ {S : Type 0} (calls : Calls S) (g : Setting) (r : ℕ) (L : Type 0) whe
         (λ p. taking_passes old async_no handle did new p f)
         (λ q. skips_pass old old kind.Async handle did new q f) h
 
-  work_passes : (ran early : Type 0) (made : List GuestCall) (old : Loop S) (number : ℕ) (q : Request) (tidings : Option Tidings) (did : StepDid) (new : Loop S)
-      → request_of old.state.requests number ≡ Some q → tidings_of q.stage ≡ tidings
-      → (h : AfterWork calls g old number tidings did new) → Held g r L ran early made old.state.requests → Passes (entry.After number) ran early made (work_calls calls g old number tidings did new h) old did new
+  work_passes : (ran early : Type 0) (made : List GuestCall) (old : Loop S) (number : ℕ) (q : Request) (completion : Option Completion) (did : StepDid) (new : Loop S)
+      → request_of old.state.requests number ≡ Some q → completion_of q.stage ≡ completion
+      → (h : AfterWork calls g old number completion did new) → Held g r L ran early made old.state.requests → Passes (entry.After number) ran early made (work_calls calls g old number completion did new h) old did new
   work_passes ran early made old number q None did new found told h f = absurd h
   work_passes ran early made old number q (Some t) did new found told h f = record {
     held = runs L ran early made (fits_removed r number (WasAsked g made) (WasWon g r L made) ran early old.state.requests f);
@@ -228,9 +228,9 @@ module _ {S : Type 0} (calls : Calls S) (g : Setting) (r : ℕ) (L : Type 0) whe
     never (inr a) = omega (arith, a.1.1)
 
   after_passes : (ran early : Type 0) (made : List GuestCall) (old : Loop S) (number : ℕ) (request : Option Request) (did : StepDid) (new : Loop S) → request_of old.state.requests number ≡ request
-      → (h : MatchOption request ⊥ (λ q. AfterWork calls g old number (tidings_of q.stage) did new)) → Held g r L ran early made old.state.requests → Passes (entry.After number) ran early made (after_calls calls g old number request did new h) old did new
+      → (h : MatchOption request ⊥ (λ q. AfterWork calls g old number (completion_of q.stage) did new)) → Held g r L ran early made old.state.requests → Passes (entry.After number) ran early made (after_calls calls g old number request did new h) old did new
   after_passes ran early made old number None did new found h f = absurd h
-  after_passes ran early made old number (Some q) did new found h f = work_passes ran early made old number q (tidings_of q.stage) did new found refl h f
+  after_passes ran early made old number (Some q) did new found h f = work_passes ran early made old number q (completion_of q.stage) did new found refl h f
 
   entry_passes : (ran early : Type 0) (made : List GuestCall) (old : Loop S) (e : Entry) (did : StepDid) (new : Loop S) (h : EntryStep calls g old e did new) → Held g r L ran early made old.state.requests
       → Passes e ran early made (entry_calls calls g old e did new h) old did new

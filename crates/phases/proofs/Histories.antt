@@ -17,7 +17,7 @@ use Rattle.phases.specs.Guests.{GuestCall, loop_calls}
 use Rattle.phases.specs.History.{Event, Stepped, OrderAsked, EndOffered, CancelAnswered, ClockRaised, MovedBeside, EventStep, Offers, History, IsOpening, calls_in, guest_calls}
 use Rattle.phases.specs.Laws.{WasAsked, WasCancelled, is_after_event, cancellation, AreDue, IsOwn}
 use Rattle.phases.specs.Outside.{next_order_of, next_in, handing}
-use Rattle.phases.specs.Requests.{Stage, Open, HandedOut, Answered, Cancelled, Request, Requests, Tidings, no_requests, request_of, with_stage, tidings_of, end_tidings, lowest_open}
+use Rattle.phases.specs.Requests.{Stage, Open, HandedOut, Answered, Cancelled, Request, Requests, Completion, no_requests, request_of, with_stage, completion_of, end_completion, lowest_open}
 use Rattle.phases.specs.State.{Setting, State, Loop}
 use Rattle.phases.specs.Step.{AfterWork, in_state}
 use Rattle.phases.proofs.Cancelling.{CancelFate, cancelled, stayed, fate_in}
@@ -201,10 +201,10 @@ module _ {S : Type 0} (calls : Calls S) (g : Setting) (r : ℕ) where
           never : ByOwner (Stepped did emits made ∷ []) → ⊥
           never k = elim (Contains-push_cases [] (Stepped did emits made) (CancelAnswered r 0) k) [ inl none ↦ omega (arith, none.1) | inr e ↦ no_cancel (Stepped did emits made) refl e ]
 
-    stage_due : (o : WorkOrder) (won : Type 0) (s : Stage) → Stands o won s → (t : Tidings) → tidings_of s ≡ Some t → AreDue o t won
+    stage_due : (o : WorkOrder) (won : Type 0) (s : Stage) → Stands o won s → (t : Completion) → completion_of s ≡ Some t → AreDue o t won
     stage_due o won Open k t e = absurd (cc)
     stage_due o won HandedOut k t e = absurd (cc)
-    stage_due o won (Answered end) k t e = inr (k.1, (end, k.0, (let it : end_tidings end ≡ t = cc in sym it)))
+    stage_due o won (Answered end) k t e = inr (k.1, (end, k.0, (let it : end_completion end ≡ t = cc in sym it)))
     stage_due o won Cancelled k t e = inl (k, (let it : cancellation ≡ t = cc in sym it))
 
     owned_one : (rs : Requests) (q : Request) → numbered r rs ≡ q ∷ [] → Owned (WasAsked g (guest_calls events)) (WasWon g r (ByOwner events) (guest_calls events)) (numbered r rs)
@@ -214,8 +214,8 @@ module _ {S : Type 0} (calls : Calls S) (g : Setting) (r : ℕ) where
     ran_own : IsOwn calls g events old r did new
     ran_own =
         let it = stepped.after (after_told did emits made is) in
-        own it.0 it.1 it.2.request it.2.only (tidings_of it.2.request.stage) refl it.2.work where
-          own : (rest : List Entry) → old.state.list ≡ entry.After r ∷ rest → (q : Request) → numbered r old.state.requests ≡ q ∷ [] → (t : Option Tidings) → tidings_of q.stage ≡ t
+        own it.0 it.1 it.2.request it.2.only (completion_of it.2.request.stage) refl it.2.work where
+          own : (rest : List Entry) → old.state.list ≡ entry.After r ∷ rest → (q : Request) → numbered r old.state.requests ≡ q ∷ [] → (t : Option Completion) → completion_of q.stage ≡ t
               → AfterWork calls g (in_state old (record old.state { list = rest })) r t did new → IsOwn calls g events old r did new
           own rest listed q only None told work = absurd work
           own rest listed q only (Some t) told work =
@@ -223,7 +223,7 @@ module _ {S : Type 0} (calls : Calls S) (g : Setting) (r : ℕ) where
               let mine = owned_one old.state.requests q only was.good.owned in
               record {
                 request = q;
-                tidings = t;
+                completion = t;
                 numbered = found.1;
                 asked = mine.0;
                 runs = record {

@@ -4,8 +4,8 @@ use Rattle.std.proofs.lemmas.Bool.{eqb-true}
 use Rattle.std.specs.Option.{option_map, option_map_or, option_and_then, is_some}
 use Rattle.std.proofs.lemmas.Option.{slice_get-map}
 use Rattle.syntax.specs.Loaded.{Loaded}
-use Rattle.syntax.specs.declared.module.Contents.{Contents}
-use Rattle.syntax.specs.declared.module.FuncType.{FuncType}
+use Rattle.syntax.specs.declared.contents.Contents.{Contents}
+use Rattle.syntax.specs.declared.contents.FuncType.{FuncType}
 use Rattle.syntax.specs.declared.types.ValType.{ValType}
 use Rattle.syntax.specs.declared.types.ValType.TheVariants as valtype
 use Rattle.syntax.specs.declared.types.Value.{Value}
@@ -24,16 +24,16 @@ use Rattle.interp.specs.declared.ended.Ended.{Ended}
 use Rattle.imports.specs.Linking.{IsLinked, ExportsFunction, ExportsNothing}
 use Rattle.order.specs.Hosting.{import_types}
 use Rattle.order.specs.Orders.{order_of}
-use Rattle.order.specs.declared.request.Order.{Order}
+use Rattle.order.specs.declared.order.Order.{Order}
 use Rattle.phases.specs.declared.did.StepDid.TheVariants.{Ran}
 use Rattle.phases.specs.declared.entry.EntryKind.{EntryKind}
 use Rattle.phases.specs.declared.entry.Status.{Status}
 use Rattle.phases.specs.declared.entry.Status.TheVariants.{Running, Over, Failed}
 use Rattle.phases.specs.Calls.{Calls, IsLawful}
 use Rattle.phases.specs.Outside.{CancelIn, next_in, next_of, next_order_of}
-use Rattle.phases.specs.Requests.{Requests, Request, Tidings, tidings_of}
+use Rattle.phases.specs.Requests.{Requests, Request, Completion, completion_of}
 use Rattle.phases.specs.View.{AreOpenedUpTo}
-use Rattle.phases.specs.Host.{HostStep, Cancels, standing_of, with_requests}
+use Rattle.phases.specs.Host.{HostStep, Cancels, cancel_state_of, with_requests}
 use Rattle.phases.specs.Hosting.{Answered}
 use Rattle.phases.specs.Keeping.{Keeps, IsOrderOf, AreOrdersOf}
 use Rattle.phases.specs.PhaseList.{may_end, is_alive, exports, first_list, begin_list}
@@ -188,20 +188,20 @@ module _ {S : Type 0} (calls : Calls S) (lawful : IsLawful calls) where
   cancel_upto Failed old new number answer h upto = subst (λ (p : State × S). AreOpenedUpTo p.0.requests.last (calls.view p.1)) (sym h.1) upto
   cancel_upto Running old new number answer h upto =
       subst (λ (s : State). AreOpenedUpTo s.requests.last (calls.view new.1)) (sym h.2)
-      (cancels_at_upto calls lawful (standing_of old.0.requests number) (old.0.requests, old.1) (h.0, new.1) number answer h.1 upto)
+      (cancels_at_upto calls lawful (cancel_state_of old.0.requests number) (old.0.requests, old.1) (h.0, new.1) number answer h.1 upto)
   cancel_upto Over old new number answer h upto =
       subst (λ (s : State). AreOpenedUpTo s.requests.last (calls.view new.1)) (sym h.2)
-      (cancels_at_upto calls lawful (standing_of old.0.requests number) (old.0.requests, old.1) (h.0, new.1) number answer h.1 upto)
+      (cancels_at_upto calls lawful (cancel_state_of old.0.requests number) (old.0.requests, old.1) (h.0, new.1) number answer h.1 upto)
 
 pub cancel_orders : {S : Type 0} (calls : Calls S) (g : Setting) (status : Status) (old new : State × S) (number answer : ℕ) → CancelIn calls status old number answer new
     → AreOrdersOf g old.0.requests → AreOrdersOf g new.0.requests
 cancel_orders {S} calls g Failed old new number answer h k = subst (λ (p : State × S). AreOrdersOf g p.0.requests) (sym h.1) k
 cancel_orders calls g Running old new number answer h k =
     subst (λ (s : State). AreOrdersOf g s.requests) (sym h.2)
-    (cancelled_orders g calls (standing_of old.0.requests number) (old.0.requests, old.1) (h.0, new.1) number answer h.1 k)
+    (cancelled_orders g calls (cancel_state_of old.0.requests number) (old.0.requests, old.1) (h.0, new.1) number answer h.1 k)
 cancel_orders calls g Over old new number answer h k =
     subst (λ (s : State). AreOrdersOf g s.requests) (sym h.2)
-    (cancelled_orders g calls (standing_of old.0.requests number) (old.0.requests, old.1) (h.0, new.1) number answer h.1 k)
+    (cancelled_orders g calls (cancel_state_of old.0.requests number) (old.0.requests, old.1) (h.0, new.1) number answer h.1 k)
 
 -- what is exported is found
 pub not_missing : (d l : Loaded) (g : Setting) → d ≡ l → l ≡ g.loaded → (name : List ℕ) (o : Option ℕ) → MatchOption o (ExportsNothing d.contents name) (ExportsFunction d.contents name)
@@ -213,7 +213,7 @@ not_missing d l g a b name o found none there =
     absurd (let it : false ≡ true = nothing ∙ (known ∙ (same ∙ there)) in cc)
 
 -- an after-work callback is told what became of its request
-pub told_of : (o : Option Request) (t : Tidings) (A : Option Tidings → Type 0) → MatchOption o ⊥ (λ r. tidings_of r.stage ≡ Some t) → A (Some t) → MatchOption o ⊥ (λ r. A (tidings_of r.stage))
+pub told_of : (o : Option Request) (t : Completion) (A : Option Completion → Type 0) → MatchOption o ⊥ (λ r. completion_of r.stage ≡ Some t) → A (Some t) → MatchOption o ⊥ (λ r. A (completion_of r.stage))
 told_of None t A h a = absurd h
 told_of (Some r) t A h a = subst A (sym h) a
 

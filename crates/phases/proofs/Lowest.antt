@@ -3,7 +3,7 @@ use Rattle.std.proofs.Common.{◌≡◌, ℕ, zero, suc, ◌<◌, ◌≤◌, Boo
 use Rattle.std.specs.List.{find, slice_get}
 use Rattle.std.specs.Option.{option_map}
 use Rattle.std.proofs.lemmas.Option.{slice_get-get_or}
-use Rattle.order.specs.declared.request.Order.{Order}
+use Rattle.order.specs.declared.order.Order.{Order}
 use Rattle.order.specs.Orders.{order_of}
 use Rattle.phases.specs.Fitting.{AreRising, AreKept}
 use Rattle.phases.specs.Outside.{handing, next_of}

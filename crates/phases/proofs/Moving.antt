@@ -23,7 +23,7 @@ use Rattle.phases.specs.declared.entry.Entry.TheVariants as entry
 use Rattle.phases.specs.declared.entry.Status.{Status}
 use Rattle.phases.specs.declared.entry.Status.TheVariants.{Running, Over, Failed}
 use Rattle.phases.specs.Roster.{async_handle, with_handles, without_handle}
-use Rattle.phases.specs.Requests.{Stage, HandedOut, Answered, Cancelled, Request, Requests, Tidings, request_of, with_stage, without_request, with_work, is_open_stage, lowest_open, tidings_of, no_requests}
+use Rattle.phases.specs.Requests.{Stage, HandedOut, Answered, Cancelled, Request, Requests, Completion, request_of, with_stage, without_request, with_work, is_open_stage, lowest_open, completion_of, no_requests}
 use Rattle.phases.specs.State.{Setting, State, Loop}
 use Rattle.phases.specs.PhaseList.{exports, is_alive, may_end, next_phase, is_active_handle}
 use Rattle.phases.specs.Calls.{Calls}
@@ -194,17 +194,17 @@ module _ {S : Type 0} (calls : Calls S) (g : Setting) (P : List GuestCall → Re
         (λ x. taking_keeps old async_no handle did new x p)
         (λ y. skip_keeps old kind.Async handle did new y p) h
 
-    work_keeps : (old : Loop S) (number : ℕ) (tidings : Option Tidings) (did : StepDid) (new : Loop S) (h : AfterWork calls g old number tidings did new) → P made old.state.requests
-        → P (made ++ work_calls calls g old number tidings did new h) new.state.requests
+    work_keeps : (old : Loop S) (number : ℕ) (completion : Option Completion) (did : StepDid) (new : Loop S) (h : AfterWork calls g old number completion did new) → P made old.state.requests
+        → P (made ++ work_calls calls g old number completion did new h) new.state.requests
     work_keeps old number None did new h p = absurd h
     work_keeps old number (Some t) did new h p =
         run_keeps (in_state old (with_requests old.state (without_request old.state.requests number))) kind.After number h.0
         (I32 number ∷ I32 t.kind ∷ I32 t.code ∷ []) (Some t.bytes) did new h.2 (keeps.removed made old.state.requests number p)
 
-    after_keeps : (old : Loop S) (number : ℕ) (request : Option Request) (did : StepDid) (new : Loop S) (h : MatchOption request ⊥ (λ q. AfterWork calls g old number (tidings_of q.stage) did new))
+    after_keeps : (old : Loop S) (number : ℕ) (request : Option Request) (did : StepDid) (new : Loop S) (h : MatchOption request ⊥ (λ q. AfterWork calls g old number (completion_of q.stage) did new))
         → P made old.state.requests → P (made ++ after_calls calls g old number request did new h) new.state.requests
     after_keeps old number None did new h p = absurd h
-    after_keeps old number (Some q) did new h p = work_keeps old number (tidings_of q.stage) did new h p
+    after_keeps old number (Some q) did new h p = work_keeps old number (completion_of q.stage) did new h p
 
     entry_keeps : (old : Loop S) (e : Entry) (did : StepDid) (new : Loop S) (h : EntryStep calls g old e did new) → P made old.state.requests → P (made ++ entry_calls calls g old e did new h) new.state.requests
     entry_keeps old entry.Start did new h p = back_keeps old kind.Start 0 g.loaded.contents.start [] did new h p

@@ -2,7 +2,7 @@
 use Rattle.std.proofs.Common.{◌≡◌, ◌≢◌, ℕ, true, false, cond, not, inl, inr, List, [], ◌∷◌, filter, find, All, get_or, Option, Some, None, refl, sym, ap, subst, ◌∙◌, suc, arith, IsSomeAnd, eqb-true, ne_eqb}
 use Rattle.std.specs.Option.{is_some}
 use Rattle.std.proofs.lemmas.List.Elements.{All-weaker, All-head, All-tail}
-use Rattle.syntax.specs.declared.module.Contents.{Contents}
+use Rattle.syntax.specs.declared.contents.Contents.{Contents}
 use Rattle.handles.specs.declared.handle.Record.{Record}
 use Rattle.handles.specs.Table.{after_again}
 use Rattle.phases.specs.declared.entry.Entry.{Entry}

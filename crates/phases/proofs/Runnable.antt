@@ -9,20 +9,20 @@ use Rattle.std.proofs.lemmas.List.Elements.{All-append, All-map, All-weaker, All
 use Rattle.std.proofs.lemmas.Option.{slice_get_within, get_or_from_slice_get}
 use Rattle.syntax.specs.declared.types.Value.{Value}
 use Rattle.syntax.specs.declared.types.Value.TheVariants.{I32, I64}
-use Rattle.syntax.specs.declared.module.Contents.{Contents}
-use Rattle.syntax.specs.declared.module.ModuleExport.{ModuleExport}
+use Rattle.syntax.specs.declared.contents.Contents.{Contents}
+use Rattle.syntax.specs.declared.contents.ModuleExport.{ModuleExport}
 use Rattle.interp.specs.Run.{HostCall}
 use Rattle.interp.specs.Hosting.{Lawful}
 use Rattle.imports.specs.declared.call.Call.{Call}
 use Rattle.imports.specs.declared.call.Call.TheVariants.{Now, TimerInit, IdleInit, CheckInit, TimerStart, TimerStop, IdleStop, CheckStop, TimerAgain, IdleStart, CheckStart, AsyncInit, AsyncSend, IsActive, Close, QueueWork, Cancel, InLen, InCopy, OutSet, Emit}
-use Rattle.imports.specs.declared.entry.Entry.TheVariants.{Work}
+use Rattle.imports.specs.declared.entry_point.EntryPoint.TheVariants.{Work}
 use Rattle.imports.specs.Linking.{IsLinked, IsCallable, ExportsFunction}
 use Rattle.order.specs.Numbers.{none_left}
 use Rattle.order.specs.Bytes.{taken_out}
 use Rattle.order.specs.Work.{WorkOrder}
-use Rattle.phases.specs.declared.progress.Standing.{Standing}
-use Rattle.phases.specs.declared.progress.Standing.TheVariants.{Unknown, Pending}
-use Rattle.phases.specs.declared.progress.Standing.TheVariants as standing
+use Rattle.phases.specs.declared.progress.CancelState.{CancelState}
+use Rattle.phases.specs.declared.progress.CancelState.TheVariants.{Unknown, Pending}
+use Rattle.phases.specs.declared.progress.CancelState.TheVariants as cancel_state
 use Rattle.phases.specs.PhaseList.{exports}
 use Rattle.phases.specs.Requests.{Requests, Request, Stage, Open, HandedOut, Cancelled, in_stage, has_number, with_stage, with_work, without_request, lowest_open, is_open_stage, is_settled, request_of}
 use Rattle.phases.specs.State.{Setting, State}
@@ -52,9 +52,9 @@ module _ {S : Type 0} (calls : Calls S) (g : Setting) (P : Requests → Type 0)
     won_or_not rs us number true e h = subst P (sym e) (cancelled rs number h)
     won_or_not rs us number false e h = subst P (sym e) h
 
-    cancels_at : (at : Standing) (old : Requests × S) (number answer : ℕ) (new : Requests × S) → CancelsAt calls at old number answer new → P old.0 → P new.0
+    cancels_at : (at : CancelState) (old : Requests × S) (number answer : ℕ) (new : Requests × S) → CancelsAt calls at old number answer new → P old.0 → P new.0
     cancels_at Unknown old number answer new h = same old.0 new.0 (ap (λ p. p.0) h.1)
-    cancels_at standing.Answered old number answer new h = same old.0 new.0 (ap (λ p. p.0) h.1)
+    cancels_at cancel_state.Answered old number answer new h = same old.0 new.0 (ap (λ p. p.0) h.1)
     cancels_at (Pending slot) old number answer new h = won_or_not old.0 new.0 number h.0 h.3
 
     after_cancel : (old : Requests × S) (number answer : ℕ) (new : Requests × S) → Cancels calls old number answer new → P old.0 → P new.0
@@ -171,9 +171,9 @@ module _ (g : Setting) where
   won_orders rs us number true e h = subst (AreOrdersOf g) (sym e) (staged_orders rs number Cancelled h)
   won_orders rs us number false e h = subst (AreOrdersOf g) (sym e) h
 
-  pub cancelled_orders : {S : Type 0} (calls : Calls S) (at : Standing) (old new : Requests × S) (number answer : ℕ) → CancelsAt calls at old number answer new → AreOrdersOf g old.0 → AreOrdersOf g new.0
+  pub cancelled_orders : {S : Type 0} (calls : Calls S) (at : CancelState) (old new : Requests × S) (number answer : ℕ) → CancelsAt calls at old number answer new → AreOrdersOf g old.0 → AreOrdersOf g new.0
   cancelled_orders calls Unknown old new number answer h k = subst (AreOrdersOf g) (sym (ap (λ p. p.0) h.1)) k
-  cancelled_orders calls standing.Answered old new number answer h k = subst (AreOrdersOf g) (sym (ap (λ p. p.0) h.1)) k
+  cancelled_orders calls cancel_state.Answered old new number answer h k = subst (AreOrdersOf g) (sym (ap (λ p. p.0) h.1)) k
   cancelled_orders calls (Pending slot) old new number answer h k = won_orders old.0 new.0 number h.0 h.3 k
 
   pub next_orders : (s : State) → AreOrdersOf g s.requests → AreOrdersOf g (next_order_of s).1.requests

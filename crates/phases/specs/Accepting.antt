@@ -2,8 +2,8 @@
 use Rattle.std.specs.Prelude.{◌≡◌}
 use Rattle.order.specs.declared.reply.Reply.{Reply}
 use Rattle.order.specs.Orders.{order_of, end_of}
-use Rattle.phases.specs.declared.running.Accepted.{Accepted}
-use Rattle.phases.specs.declared.running.Accepted.TheVariants as accepted
+use Rattle.phases.specs.declared.loop_core.Accepted.{Accepted}
+use Rattle.phases.specs.declared.loop_core.Accepted.TheVariants as accepted
 use Rattle.phases.specs.Host.{with_requests}
 use Rattle.phases.specs.Outside.{Takes, answered}
 use Rattle.phases.specs.State.{Loop}

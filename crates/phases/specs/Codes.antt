@@ -32,7 +32,7 @@ end_from-end_parts NoMemory = refl
 abbrev pub end_code : Coded WorkEnd
 end_code =
     code_by (ℕ × (ℕ × List ℕ)) (coded× coded_ℕ (coded× coded_ℕ (coded_list coded_ℕ))) end_parts
-        (λ p. end_from p.0 p.1.0 p.1.1) end_from-end_parts
+    (λ p. end_from p.0 p.1.0 p.1.1) end_from-end_parts
 
 -- a stage as its kind and the end of an answer
 abbrev pub stage_parts : Stage → ℕ × Option WorkEnd
@@ -61,10 +61,18 @@ abbrev pub order_code : Coded WorkOrder
 order_code =
     code_by ((ℕ × (ℕ × ℕ)) × (_ × (ℕ × (List ℕ × (ℕ × ℕ)))))
     (coded× (coded× coded_ℕ (coded× coded_ℕ coded_ℕ)) (coded× loaded_coded
-        (coded× coded_ℕ (coded× (coded_list coded_ℕ) (coded× coded_ℕ coded_ℕ)))))
+    (coded× coded_ℕ (coded× (coded_list coded_ℕ) (coded× coded_ℕ coded_ℕ)))))
     (λ o. ((o.loop_no, (o.request, o.slot)), (o.loaded, (o.op, (o.bytes, (o.fuel, o.depth))))))
-    (λ p. record { loop_no = p.0.0; request = p.0.1.0; slot = p.0.1.1; loaded = p.1.0; op = p.1.1.0; bytes = p.1.1.1.0;
-        fuel = p.1.1.1.1.0; depth = p.1.1.1.1.1 })
+    (λ p. record {
+      loop_no = p.0.0;
+      request = p.0.1.0;
+      slot = p.0.1.1;
+      loaded = p.1.0;
+      op = p.1.1.0;
+      bytes = p.1.1.1.0;
+      fuel = p.1.1.1.1.0;
+      depth = p.1.1.1.1.1;
+    })
     (λ _. refl)
 
 abbrev pub request_code : Coded Request
@@ -74,7 +82,7 @@ request_code = code_by (WorkOrder × Stage) (coded× order_code stage_code) (λ 
 abbrev pub requests_code : Coded Requests
 requests_code =
     code_by (List Request × ℕ) (coded× (coded_list request_code) coded_ℕ) (λ rs. (rs.outstanding, rs.last))
-        (λ p. record { outstanding = p.0; last = p.1 }) (λ _. refl)
+    (λ p. record { outstanding = p.0; last = p.1 }) (λ _. refl)
 
 abbrev pub roster_code : Coded Roster
 roster_code =

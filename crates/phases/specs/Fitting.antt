@@ -7,8 +7,8 @@ use Rattle.handles.specs.declared.handle.Record.{Record}
 use Rattle.handles.specs.declared.handle.Kind.TheVariants as kind
 use Rattle.handles.specs.Table.{Table, record_of, IsClosing}
 use Rattle.order.specs.Work.{WorkOrder, IsEndOf}
-use Rattle.phases.specs.declared.progress.Standing.{Standing}
-use Rattle.phases.specs.declared.progress.Standing.TheVariants.{Pending}
+use Rattle.phases.specs.declared.progress.CancelState.{CancelState}
+use Rattle.phases.specs.declared.progress.CancelState.TheVariants.{Pending}
 use Rattle.phases.specs.Roster.{Roster, is_handle, is_callback}
 use Rattle.phases.specs.Requests.{Requests, Request, Stage, Answered}
 
@@ -57,7 +57,7 @@ abbrev pub AllRight : Requests → Type 0
 AllRight rs = All IsRight rs.outstanding
 
 -- a slot in which a request may be cancelled is one of 32
-abbrev pub IsSlotBelow : Standing → Type 0
+abbrev pub IsSlotBelow : CancelState → Type 0
 IsSlotBelow (Pending slot) = slot < 32
 IsSlotBelow _ = Unit {0}
 

@@ -15,7 +15,7 @@ use Rattle.phases.specs.declared.entry.Entry.TheVariants as entry
 use Rattle.phases.specs.declared.entry.Status.{Status}
 use Rattle.phases.specs.declared.entry.Status.TheVariants.{Running, Over, Failed}
 use Rattle.phases.specs.Roster.{Roster, async_handle, with_handles, without_handle}
-use Rattle.phases.specs.Requests.{Request, Tidings, request_of, without_request, tidings_of}
+use Rattle.phases.specs.Requests.{Request, Completion, request_of, without_request, completion_of}
 use Rattle.phases.specs.State.{Setting, State, Loop}
 use Rattle.phases.specs.PhaseList.{is_active_handle}
 use Rattle.phases.specs.Calls.{Calls}
@@ -70,32 +70,32 @@ module _ {S : Type 0} (calls : Calls S) (g : Setting) where
 
   abbrev pub async_calls : (old : Loop S) (async_no : ℕ) (handle : Option ℕ) (did : StepDid) (new : Loop S)
       → MatchOption handle ⊥ (λ handle. MatchBool (is_active_handle old.state.roster.handles (Some handle))
-          (TakesFirst calls g old async_no handle did new) (Skips calls g old kind.Async handle did new))
+      (TakesFirst calls g old async_no handle did new) (Skips calls g old kind.Async handle did new))
       → List GuestCall
   async_calls old async_no None did new h = []
   async_calls old async_no (Some handle) did new h =
       calls_if (is_active_handle old.state.roster.handles (Some handle)) (TakesFirst calls g old async_no handle did new)
-          (Skips calls g old kind.Async handle did new)
+      (Skips calls g old kind.Async handle did new)
       (taking_calls old async_no handle did new) h
 
-  abbrev pub work_calls : (old : Loop S) (number : ℕ) (tidings : Option Tidings) (did : StepDid) (new : Loop S)
-      → AfterWork calls g old number tidings did new → List GuestCall
+  abbrev pub work_calls : (old : Loop S) (number : ℕ) (completion : Option Completion) (did : StepDid) (new : Loop S)
+      → AfterWork calls g old number completion did new → List GuestCall
   work_calls old number None did new h = []
-  work_calls old number (Some tidings) did new h =
+  work_calls old number (Some completion) did new h =
       run_calls (in_state old (with_requests old.state (without_request old.state.requests number))) kind.After number h.0
-      (I32 number ∷ I32 tidings.kind ∷ I32 tidings.code ∷ []) (Some tidings.bytes) did new h.2
+      (I32 number ∷ I32 completion.kind ∷ I32 completion.code ∷ []) (Some completion.bytes) did new h.2
 
   abbrev pub after_calls : (old : Loop S) (number : ℕ) (request : Option Request) (did : StepDid) (new : Loop S)
-      → MatchOption request ⊥ (λ r. AfterWork calls g old number (tidings_of r.stage) did new) → List GuestCall
+      → MatchOption request ⊥ (λ r. AfterWork calls g old number (completion_of r.stage) did new) → List GuestCall
   after_calls old number None did new h = []
-  after_calls old number (Some r) did new h = work_calls old number (tidings_of r.stage) did new h
+  after_calls old number (Some r) did new h = work_calls old number (completion_of r.stage) did new h
 
   abbrev pub entry_calls : (old : Loop S) (e : Entry) (did : StepDid) (new : Loop S) → EntryStep calls g old e did new → List GuestCall
   entry_calls old entry.Start did new h = back_calls old kind.Start 0 g.loaded.contents.start [] did new h
   entry_calls old entry.Main did new h = run_calls old kind.Main 0 h.0 [] None did new h.2
   entry_calls old (entry.Timer handle start) did new h =
       let fired = in_state old (with_roster old.state (with_handles old.state.roster
-          (after_again old.state.roster.handles handle old.state.now))) in
+      (after_again old.state.roster.handles handle old.state.now))) in
       calls_if (is_as_listed handle_kind.Timer old.state.roster handle start)
       (CallsHandle calls g fired old.state.roster kind.Timer handle did new)
       (Skips calls g old kind.Timer handle did new)

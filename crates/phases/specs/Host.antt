@@ -14,9 +14,9 @@ use Rattle.imports.specs.Linking.{Imports}
 use Rattle.order.specs.Numbers.{not_here, no_room, no_memory, outside_memory, busy, invalid, none_left, no_such_export}
 use Rattle.order.specs.Bytes.{input_length, copied_in, taken_out}
 use Rattle.order.specs.Work.{WorkOrder}
-use Rattle.phases.specs.declared.progress.Standing.{Standing}
-use Rattle.phases.specs.declared.progress.Standing.TheVariants.{Unknown, Pending}
-use Rattle.phases.specs.declared.progress.Standing.TheVariants as standing
+use Rattle.phases.specs.declared.progress.CancelState.{CancelState}
+use Rattle.phases.specs.declared.progress.CancelState.TheVariants.{Unknown, Pending}
+use Rattle.phases.specs.declared.progress.CancelState.TheVariants as cancel_state
 use Rattle.phases.specs.Roster.{Roster, is_open_of, async_number, with_made, Makes, MakesAsync, stopped_in, started_in}
 use Rattle.phases.specs.Roster.{again_in, closed_in, active_answer}
 use Rattle.phases.specs.Requests.{Requests, Request, Stage, Open, HandedOut, Answered, Cancelled, request_of, with_stage}
@@ -49,32 +49,32 @@ next_work g rs slot op bytes = record {
 }
 
 -- whether a request can be cancelled
-abbrev pub stage_standing : (slot : ℕ) → Stage → Standing
-stage_standing slot Open = Pending slot
-stage_standing slot HandedOut = Pending slot
-stage_standing slot (Answered end) = standing.Answered
-stage_standing slot Cancelled = Unknown
+abbrev pub stage_cancel_state : (slot : ℕ) → Stage → CancelState
+stage_cancel_state slot Open = Pending slot
+stage_cancel_state slot HandedOut = Pending slot
+stage_cancel_state slot (Answered end) = cancel_state.Answered
+stage_cancel_state slot Cancelled = Unknown
 
 -- a request that is not outstanding or is cancelled already is unknown
-abbrev pub request_standing : Option Request → Standing
-request_standing None = Unknown
-request_standing (Some r) = stage_standing r.order.slot r.stage
+abbrev pub request_cancel_state : Option Request → CancelState
+request_cancel_state None = Unknown
+request_cancel_state (Some r) = stage_cancel_state r.order.slot r.stage
 
-abbrev pub standing_of : Requests → ℕ → Standing
-standing_of rs number = request_standing (request_of rs number)
+abbrev pub cancel_state_of : Requests → ℕ → CancelState
+cancel_state_of rs number = request_cancel_state (request_of rs number)
 
 module _ {S : Type 0} (calls : Calls S) where
   -- A pending request is cancelled where the shared object says so; else a worker has started it.
-  abbrev pub CancelsAt : Standing → Requests × S → (number answer : ℕ) → Requests × S → Type 0
+  abbrev pub CancelsAt : CancelState → Requests × S → (number answer : ℕ) → Requests × S → Type 0
   CancelsAt Unknown old number answer new = (answer ≡ invalid) × (new ≡ old)
-  CancelsAt standing.Answered old number answer new = (answer ≡ busy) × (new ≡ old)
+  CancelsAt cancel_state.Answered old number answer new = (answer ≡ busy) × (new ≡ old)
   CancelsAt (Pending slot) old number answer new =
       (won : Bool) × calls.cancels old.1 slot number won new.1
       × (answer ≡ (if won then 0 else busy))
       × (new.0 ≡ (if won then with_stage old.0 number Cancelled else old.0))
 
   abbrev pub Cancels : Requests × S → (number answer : ℕ) → Requests × S → Type 0
-  Cancels old number answer new = CancelsAt (standing_of old.0 number) old number answer new
+  Cancels old number answer new = CancelsAt (cancel_state_of old.0 number) old number answer new
 
   -- the request is opened in any free slot
   pub record Opens (g : Setting) (old : Requests × S) (op : ℕ) (bytes : List ℕ) (answer : ℕ) (new : Requests × S) : Type 0 where

@@ -12,8 +12,13 @@ use Rattle.phases.specs.Host.{CallStep, HostStep}
 abbrev pub Replies : {S : Type 0} (calls : Calls S) (g : Setting) (old : State × S) (f : Call) (args : List Value)
     (memory : List ℕ) (answer : Value) (memory' : List ℕ) (new : State × S) → Type 0
 Replies calls g old f args memory answer memory' new =
-    (import : ℕ) → CallStep calls g old (record { function = import; args = args; before = memory; answer = Some answer;
-        after = memory' }) new f args
+    (import : ℕ) → CallStep calls g old (record {
+      function = import;
+      args = args;
+      before = memory;
+      answer = Some answer;
+      after = memory';
+    }) new f args
 
 -- A host of which this is what its loop is made of, and how the loop stands: it answers as a loop does, and what the loop is
 -- made of stays.

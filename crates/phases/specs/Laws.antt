@@ -16,7 +16,7 @@ use Rattle.phases.specs.declared.entry.EntryKind.TheVariants as kind
 use Rattle.phases.specs.Calls.{Calls}
 use Rattle.phases.specs.Guests.{GuestCall}
 use Rattle.phases.specs.History.{Event, Stepped, OrderAsked, CancelAnswered, EventStep, History, IsOpening, guest_calls}
-use Rattle.phases.specs.Requests.{Request, Tidings, end_tidings, request_of, tidings_of}
+use Rattle.phases.specs.Requests.{Request, Completion, end_completion, request_of, completion_of}
 use Rattle.phases.specs.State.{Setting, Loop}
 use Rattle.phases.specs.Step.{AfterWork, in_state}
 
@@ -77,34 +77,35 @@ hands_out request (OrderAsked (Some o)) = o.request == request
 hands_out request _ = false
 
 -- as much as the callback of a cancelled request is given
-abbrev pub cancellation : Tidings
+abbrev pub cancellation : Completion
 cancellation = record { kind = 5; code = cancelled_code; bytes = [] }
 
 -- Once cancelled, it is told that alone; else what one thread computes from the order alone, or that there was no
 -- memory.
-abbrev pub AreDue : WorkOrder → Tidings → (cancelled : Type 0) → Type 0
-AreDue o tidings cancelled =
-    (cancelled × (tidings ≡ cancellation)) ⊎ ((cancelled → ⊥) × ((end : WorkEnd) × ∥ IsEndOf o end ∥₁ × (tidings ≡ end_tidings end)))
+abbrev pub AreDue : WorkOrder → Completion → (cancelled : Type 0) → Type 0
+AreDue o completion cancelled =
+    (cancelled × (completion ≡ cancellation))
+    ⊎ ((cancelled → ⊥) × ((end : WorkEnd) × ∥ IsEndOf o end ∥₁ × (completion ≡ end_completion end)))
 
 module _ {S : Type 0} (calls : Calls S) (g : Setting) where
   -- The step takes this request off the list of the phase, where it stands first, removes it, and runs its
-  -- after-work callback with the tidings of the stage that it has come to.
-  pub record RunsAfter (old : Loop S) (q : Request) (tidings : Tidings) (did : StepDid) (new : Loop S) : Type 0 where
+  -- after-work callback with the completion of the stage that it has come to.
+  pub record RunsAfter (old : Loop S) (q : Request) (completion : Completion) (did : StepDid) (new : Loop S) : Type 0 where
     pub rest : List Entry
     pub listed : old.state.list ≡ entry.After q.order.request ∷ rest
     pub stood : request_of old.state.requests q.order.request ≡ Some q
-    pub given : tidings_of q.stage ≡ Some tidings
-    pub runs : AfterWork calls g (in_state old (record old.state { list = rest })) q.order.request (Some tidings) did new
+    pub given : completion_of q.stage ≡ Some completion
+    pub runs : AfterWork calls g (in_state old (record old.state { list = rest })) q.order.request (Some completion) did new
 
   -- The callback of this request is given what is due to the order that the guest had asked for, which is the very
   -- order of the request that the step removes.
   pub record IsOwn (events : List Event) (old : Loop S) (number : ℕ) (did : StepDid) (new : Loop S) : Type 0 where
     pub request : Request
-    pub tidings : Tidings
+    pub completion : Completion
     pub numbered : request.order.request ≡ number
     pub asked : WasAsked g (guest_calls events) request.order
-    pub runs : RunsAfter old request tidings did new
-    pub due : AreDue request.order tidings (WasCancelled number events)
+    pub runs : RunsAfter old request completion did new
+    pub due : AreDue request.order completion (WasCancelled number events)
 
 module _ {S : Type 0} (calls : Calls S) where
   -- in every history of a loop from its opening each request has at most one after-work callback
@@ -117,7 +118,7 @@ module _ {S : Type 0} (calls : Calls S) where
   abbrev pub IsAfterOwn : Type 0
   IsAfterOwn =
       (g : Setting) (l old new : Loop S) (events : List Event) (did : StepDid) (emits : List ℕ) (made : List GuestCall)
-          → IsOpening calls g l → History calls g l events old
+      → IsOpening calls g l → History calls g l events old
       → EventStep calls g (Stepped did emits made) old new
       → (request : ℕ) → is_after_event request (Stepped did emits made) ≡ true
       → IsOwn calls g events old request did new
@@ -126,7 +127,7 @@ module _ {S : Type 0} (calls : Calls S) where
   abbrev pub IsAfterLast : Type 0
   IsAfterLast =
       (g : Setting) (l l' : Loop S) (before behind : List Event) (e : Event) → IsOpening calls g l
-          → History calls g l (before ++ e ∷ behind) l'
+      → History calls g l (before ++ e ∷ behind) l'
       → (request : ℕ) → is_after_event request e ≡ true
       → WasCancelled request (e ∷ behind) → ⊥
 

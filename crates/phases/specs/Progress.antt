@@ -4,8 +4,8 @@ use Rattle.order.specs.Orders.{order_of, end_of}
 use Rattle.order.specs.Work.{WorkOrder}
 use Rattle.phases.specs.declared.progress.Progress.{Progress}
 use Rattle.phases.specs.declared.progress.Progress.TheVariants as progress
-use Rattle.phases.specs.Requests.{Stage, Open, HandedOut, Answered, Cancelled, Tidings}
-use Rattle.phases.specs.declared.progress.Tidings.{Tidings as CodeTidings}
+use Rattle.phases.specs.Requests.{Stage, Open, HandedOut, Answered, Cancelled, Completion}
+use Rattle.phases.specs.declared.progress.Completion.{Completion as CodeCompletion}
 
 abbrev pub stage_of : Progress → Stage
 stage_of (progress.Open copy) = Open
@@ -18,5 +18,5 @@ abbrev pub IsCopyOf : WorkOrder → Progress → Type 0
 IsCopyOf o (progress.Open copy) = order_of copy ≡ o
 IsCopyOf o _ = Unit {0}
 
-abbrev pub tidings_in : CodeTidings → Tidings
-tidings_in t = record { kind = t.kind; code = t.code; bytes = t.bytes.items }
+abbrev pub completion_in : CodeCompletion → Completion
+completion_in t = record { kind = t.kind; code = t.code; bytes = t.bytes.items }

@@ -1,7 +1,7 @@
 -- What a loop has listed is there as the list comes to it.
 use Rattle.std.specs.Prelude.{◌≡◌, ◌≢◌, ℕ, true, List, All, AllPairs, Some, MatchOption, codes}
 use Rattle.std.specs.Option.{is_some}
-use Rattle.syntax.specs.declared.module.Contents.{Contents}
+use Rattle.syntax.specs.declared.contents.Contents.{Contents}
 use Rattle.handles.specs.Table.{IsClosing}
 use Rattle.phases.specs.declared.entry.Entry.{Entry}
 use Rattle.phases.specs.declared.entry.Entry.TheVariants as entry

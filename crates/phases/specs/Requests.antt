@@ -72,21 +72,21 @@ abbrev pub IsLowestOpen : ℕ → Requests → Type 0
 IsLowestOpen number rs = All (λ r. is_open_stage r.stage ≡ true → number ≤ r.order.request) rs.outstanding
 
 -- kind and code that an after-work callback is given, and the bytes that it may read
-pub record Tidings : Type 0 where
+pub record Completion : Type 0 where
   pub kind : ℕ
   pub code : ℕ
   pub bytes : List ℕ
 
-abbrev pub end_tidings : WorkEnd → Tidings
-end_tidings (Done value bytes) = record { kind = 0; code = value; bytes = bytes }
-end_tidings (Trap code) = record { kind = 1; code = code; bytes = [] }
-end_tidings Depth = record { kind = 2; code = 0; bytes = [] }
-end_tidings Spent = record { kind = 3; code = 0; bytes = [] }
-end_tidings NoMemory = record { kind = 4; code = no_memory; bytes = [] }
+abbrev pub end_completion : WorkEnd → Completion
+end_completion (Done value bytes) = record { kind = 0; code = value; bytes = bytes }
+end_completion (Trap code) = record { kind = 1; code = code; bytes = [] }
+end_completion Depth = record { kind = 2; code = 0; bytes = [] }
+end_completion Spent = record { kind = 3; code = 0; bytes = [] }
+end_completion NoMemory = record { kind = 4; code = no_memory; bytes = [] }
 
 -- as much as an after-work callback is told of a settled request
-abbrev pub tidings_of : Stage → Option Tidings
-tidings_of Open = None
-tidings_of HandedOut = None
-tidings_of (Answered end) = Some (end_tidings end)
-tidings_of Cancelled = Some (record { kind = 5; code = cancelled_code; bytes = [] })
+abbrev pub completion_of : Stage → Option Completion
+completion_of Open = None
+completion_of HandedOut = None
+completion_of (Answered end) = Some (end_completion end)
+completion_of Cancelled = Some (record { kind = 5; code = cancelled_code; bytes = [] })

@@ -6,7 +6,7 @@ use Rattle.std.specs.List.{position_or_len}
 use Rattle.std.specs.FinMap as finite
 use Rattle.syntax.specs.declared.types.ValType.{ValType}
 use Rattle.syntax.specs.declared.types.ValType.TheVariants as type
-use Rattle.syntax.specs.declared.module.Contents.{Contents}
+use Rattle.syntax.specs.declared.contents.Contents.{Contents}
 use Rattle.validate.specs.Typing.{type_of_function}
 use Rattle.instance.specs.Fresh.{fresh_store}
 use Rattle.handles.specs.declared.handle.Kind.{Kind}

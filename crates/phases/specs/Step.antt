@@ -27,7 +27,7 @@ use Rattle.phases.specs.declared.entry.Entry.TheVariants as entry
 use Rattle.phases.specs.declared.entry.Status.{Status}
 use Rattle.phases.specs.declared.entry.Status.TheVariants.{Running, Over, Failed}
 use Rattle.phases.specs.Roster.{Roster, callback_function, async_handle, with_handles, without_handle}
-use Rattle.phases.specs.Requests.{Tidings, request_of, without_request, tidings_of}
+use Rattle.phases.specs.Requests.{Completion, request_of, without_request, completion_of}
 use Rattle.phases.specs.State.{Setting, Loop, State}
 use Rattle.phases.specs.PhaseList.{phase_list, next_phase, may_end, is_alive, is_active_handle}
 use Rattle.phases.specs.Calls.{Calls}
@@ -115,12 +115,12 @@ module _ {S : Type 0} (calls : Calls S) (g : Setting) where
       (Skips (sharing old shared) kind.Async handle did new)
       (CallsHandle (sharing old shared) old.state.roster kind.Async handle did new)
 
-  abbrev pub AfterWork : Loop S → ℕ → Option Tidings → StepDid → Loop S → Type 0
+  abbrev pub AfterWork : Loop S → ℕ → Option Completion → StepDid → Loop S → Type 0
   AfterWork old number None did new = ⊥
-  AfterWork old number (Some tidings) did new =
+  AfterWork old number (Some completion) did new =
       (f : ℕ) × ExportsFunction g.loaded.contents (codes "uv_after_work") f
       × RunsFrom (in_state old (with_requests old.state (without_request old.state.requests number))) kind.After number f
-      (I32 number ∷ I32 tidings.kind ∷ I32 tidings.code ∷ []) (Some tidings.bytes) did new
+      (I32 number ∷ I32 completion.kind ∷ I32 completion.code ∷ []) (Some completion.bytes) did new
 
   -- What an entry of a list does, which is taken off the list before.
   abbrev pub EntryStep : Loop S → Entry → StepDid → Loop S → Type 0
@@ -131,7 +131,7 @@ module _ {S : Type 0} (calls : Calls S) (g : Setting) where
   EntryStep old (entry.Timer handle start) did new =
       MatchBool (is_as_listed handle_kind.Timer old.state.roster handle start)
       (CallsHandle (in_state old (with_roster old.state (with_handles old.state.roster
-          (after_again old.state.roster.handles handle old.state.now)))) old.state.roster kind.Timer handle did new)
+      (after_again old.state.roster.handles handle old.state.now)))) old.state.roster kind.Timer handle did new)
       (Skips old kind.Timer handle did new)
   EntryStep old (entry.Idle handle start) did new =
       MatchBool (is_as_listed handle_kind.Idle old.state.roster handle start)
@@ -143,12 +143,12 @@ module _ {S : Type 0} (calls : Calls S) (g : Setting) where
       (Skips old kind.Check handle did new)
   -- the request is removed, and its slot is free, before the callback
   EntryStep old (entry.After number) did new =
-      MatchOption (request_of old.state.requests number) ⊥ (λ r. AfterWork old number (tidings_of r.stage) did new)
+      MatchOption (request_of old.state.requests number) ⊥ (λ r. AfterWork old number (completion_of r.stage) did new)
   EntryStep old (entry.Async async_no) did new =
       MatchOption (async_handle old.state.roster async_no)
       ⊥
       (λ handle. MatchBool (is_active_handle old.state.roster.handles (Some handle)) (TakesFirst old async_no handle did new)
-          (Skips old kind.Async handle did new))
+      (Skips old kind.Async handle did new))
   -- the handle is removed before the callback of its close
   EntryStep old (entry.Close handle) did new =
       CallsHandle (in_state old (with_roster old.state (without_handle old.state.roster handle))) old.state.roster kind.Close handle did new

@@ -6,7 +6,7 @@ ghost use Rattle.phases.specs.Roster.{callback_in, callbacks_of, takes_one_numbe
 
 use instance::state::Instance;
 use std::alloc::{AllocError, Global};
-use syntax::module::{Contents, FuncType};
+use syntax::contents::{Contents, FuncType};
 use syntax::types::ValType;
 use validate::type_of_function;
 

@@ -8,20 +8,20 @@ ghost use Rattle.phases.specs.Roster.{opening_roster};
 ghost use Rattle.phases.specs.State.{opening};
 
 use crate::callbacks::callbacks_of;
-use crate::machine::Machine;
-use imports::{Entry as Export, Linked};
+use crate::loop_state::LoopState;
+use imports::{EntryPoint, Linked};
 use instance::state::Instance;
 use std::alloc::{AllocError, Global};
 
 /// A new instance of a module, and the state of a loop over it that has done nothing.
-pub fn opened(alloc: Global, linked: &Linked) -> Result<(Instance, Machine), AllocError>
+pub fn opened(alloc: Global, linked: &Linked) -> Result<(Instance, LoopState), AllocError>
     ensures fresh { IfOk result (λ made. IsFresh linked.now.contents made.0) }
     ensures store { IfOk result (λ made. IsStoreOf linked.now.contents made.0) }
     ensures state { IfOk result (λ made. made.1 ≡ opening (opening_roster linked.now.contents) (begin_list linked.now.contents)) }
 {
     let instance = instance_of(alloc, linked)?;
-    let machine = machine_of(alloc, linked, &instance)?;
-    Ok((instance, machine))
+    let state = machine_of(alloc, linked, &instance)?;
+    Ok((instance, state))
 }
 
 fn instance_of(alloc: Global, linked: &Linked) -> Result<Instance, AllocError>
@@ -34,13 +34,13 @@ fn instance_of(alloc: Global, linked: &Linked) -> Result<Instance, AllocError>
     }
 }
 
-fn machine_of(alloc: Global, linked: &Linked, instance: &Instance) -> Result<Machine, AllocError>
+fn machine_of(alloc: Global, linked: &Linked, instance: &Instance) -> Result<LoopState, AllocError>
     requires { IsFresh linked.now.contents instance.now }
     ensures { IfOk result (λ made. made ≡ opening (opening_roster linked.now.contents) (begin_list linked.now.contents)) }
 {
     let contents = linked.valid().contents();
     let callbacks = callbacks_of(alloc, contents, instance)?;
     let start = contents.start.is_some();
-    let main = linked.entry(Export::Main).is_some();
-    Machine::new(alloc, callbacks, start, main)
+    let main = linked.entry(EntryPoint::Main).is_some();
+    LoopState::new(alloc, callbacks, start, main)
 }

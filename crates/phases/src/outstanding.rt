@@ -1,12 +1,12 @@
 // One outstanding request.
 
 ghost use Rattle.std.specs.Prelude.{◌≡◌, ◌↔◌, [], Some, None, true, false, IsTrue, MatchOption};
-ghost use Rattle.phases.specs.Progress.{tidings_in};
+ghost use Rattle.phases.specs.Progress.{completion_in};
 ghost use Rattle.order.specs.Orders.{order_of, end_of};
-ghost use Rattle.phases.specs.Host.{stage_standing};
-ghost use Rattle.phases.specs.Requests.{Stage, HandedOut, Answered, Cancelled, is_open_stage, is_settled, tidings_of, end_tidings};
+ghost use Rattle.phases.specs.Host.{stage_cancel_state};
+ghost use Rattle.phases.specs.Requests.{Stage, HandedOut, Answered, Cancelled, is_open_stage, is_settled, completion_of, end_completion};
 
-use crate::progress::{Progress, Standing, Tidings};
+use crate::progress::{CancelState, Completion, Progress};
 use order::answers::{CANCELLED_CODE, NO_MEMORY};
 use order::{Order, Outcome};
 use std::alloc::Global;
@@ -76,15 +76,15 @@ impl Outstanding {
     }
 
     /// Whether it can be cancelled.
-    pub fn standing(&self) -> Standing
-        ensures { result ≡ stage_standing self.now.order.slot self.now.stage }
+    pub fn cancel_state(&self) -> CancelState
+        ensures { result ≡ stage_cancel_state self.now.order.slot self.now.stage }
     {
         match self.progress {
-            Progress::Open(_) | Progress::HandedOut => Standing::Pending {
+            Progress::Open(_) | Progress::HandedOut => CancelState::Pending {
                 slot: self.order.slot,
             },
-            Progress::Answered(_) => Standing::Answered,
-            Progress::Cancelled => Standing::Unknown,
+            Progress::Answered(_) => CancelState::Answered,
+            Progress::Cancelled => CancelState::Unknown,
         }
     }
 
@@ -122,40 +122,40 @@ impl Outstanding {
     }
 
     /// What its after-work callback is told.
-    pub fn into_tidings(self, alloc: Global) -> Tidings
+    pub fn into_completion(self, alloc: Global) -> Completion
         requires { is_settled self.stage ≡ true }
-        ensures { tidings_of self.stage ≡ Some (tidings_in result) }
+        ensures { completion_of self.stage ≡ Some (completion_in result) }
     {
         let Outstanding { order: _, progress } = self;
         match progress {
-            Progress::Answered(outcome) => outcome_tidings(alloc, outcome),
-            Progress::Cancelled => Tidings::without_bytes(alloc, 5, CANCELLED_CODE),
+            Progress::Answered(outcome) => outcome_completion(alloc, outcome),
+            Progress::Cancelled => Completion::without_bytes(alloc, 5, CANCELLED_CODE),
             Progress::Open(_) | Progress::HandedOut => unreachable!(),
         }
     }
 }
 
-fn outcome_tidings(alloc: Global, outcome: Outcome) -> Tidings
-    ensures { tidings_in result ≡ end_tidings (end_of outcome) }
+fn outcome_completion(alloc: Global, outcome: Outcome) -> Completion
+    ensures { completion_in result ≡ end_completion (end_of outcome) }
 {
     match outcome {
-        Outcome::Done(value, bytes) => Tidings {
+        Outcome::Done(value, bytes) => Completion {
             kind: 0,
             code: value,
             bytes,
         },
-        Outcome::Trap(trap) => Tidings::without_bytes(alloc, 1, trap.code()),
-        Outcome::Depth => Tidings::without_bytes(alloc, 2, 0),
-        Outcome::Spent => Tidings::without_bytes(alloc, 3, 0),
-        Outcome::NoMemory => Tidings::without_bytes(alloc, 4, NO_MEMORY),
+        Outcome::Trap(trap) => Completion::without_bytes(alloc, 1, trap.code()),
+        Outcome::Depth => Completion::without_bytes(alloc, 2, 0),
+        Outcome::Spent => Completion::without_bytes(alloc, 3, 0),
+        Outcome::NoMemory => Completion::without_bytes(alloc, 4, NO_MEMORY),
     }
 }
 
-impl Tidings {
-    fn without_bytes(alloc: Global, kind: u32, code: u32) -> Tidings
-        ensures { tidings_in result ≡ record { kind = kind; code = code; bytes = [] } }
+impl Completion {
+    fn without_bytes(alloc: Global, kind: u32, code: u32) -> Completion
+        ensures { completion_in result ≡ record { kind = kind; code = code; bytes = [] } }
     {
-        Tidings {
+        Completion {
             kind,
             code,
             bytes: Vec::new(alloc),

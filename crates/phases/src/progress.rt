@@ -17,7 +17,7 @@ pub enum Progress {
 
 /// Whether a request can be cancelled.
 #[derive(Clone, Copy, Debug, PartialEq, Eq)]
-pub enum Standing {
+pub enum CancelState {
     /// It is not outstanding, or cancelled already.
     Unknown,
     /// It is answered.
@@ -28,7 +28,7 @@ pub enum Standing {
 
 /// What an after-work callback is told of a request.
 #[derive(Drop)]
-pub struct Tidings {
+pub struct Completion {
     /// 0 done, 1 a trap, 2 too many calls, 3 fuel spent, 4 no memory, 5 cancelled.
     pub kind: u32,
     /// The result, the trap's number, or why it was not done.

@@ -3,15 +3,15 @@
 ghost use Rattle.std.specs.Prelude.{◌≡◌, ◌≢◌, ◌+◌, ◌<◌, ◌≤◌, ◌^◌, ◌==◌, ◌↔◌, [], Some, None, true, false, length, find, filter, slice_get, not, IfOk, IfErr, OnOk, IfSome, IfNone, MatchOption, MatchResult, option_map};
 ghost use Rattle.std.specs.List.{list_any};
 ghost use Rattle.order.specs.Orders.{order_of, end_of};
-ghost use Rattle.phases.specs.Host.{standing_of};
+ghost use Rattle.phases.specs.Host.{cancel_state_of};
 ghost use Rattle.phases.specs.Outside.{IsOneOf, next_of, answered};
-ghost use Rattle.phases.specs.Progress.{tidings_in};
-ghost use Rattle.phases.specs.Requests.{Request, Cancelled, no_requests, has_number, request_of, with_stage, with_work, without_request, is_free_slot, is_settled, is_open_stage, settled, tidings_of};
+ghost use Rattle.phases.specs.Progress.{completion_in};
+ghost use Rattle.phases.specs.Requests.{Request, Cancelled, no_requests, has_number, request_of, with_stage, with_work, without_request, is_free_slot, is_settled, is_open_stage, settled, completion_of};
 ghost use Rattle.phases.specs.Fitting.{AllRight, AreKept, IsSlotBelow};
 ghost use Rattle.phases.specs.PhaseList.{is_empty};
 
 use crate::outstanding::Outstanding;
-use crate::progress::{Standing, Tidings};
+use crate::progress::{CancelState, Completion};
 use order::laws::ends_are_short;
 use order::{Order, Reply};
 use std::alloc::{AllocError, Global};
@@ -191,14 +191,14 @@ impl Requests {
     }
 
     /// Whether a request can be cancelled.
-    pub fn standing(&self, number: u32) -> Standing
-        ensures value { result ≡ standing_of self.now number }
+    pub fn cancel_state(&self, number: u32) -> CancelState
+        ensures value { result ≡ cancel_state_of self.now number }
         ensures below { IsSlotBelow result }
     {
         let items = self.items.as_slice();
         match position_of(items, number) {
-            Some(at) => items[at].standing(),
-            None => Standing::Unknown,
+            Some(at) => items[at].cancel_state(),
+            None => CancelState::Unknown,
         }
     }
 
@@ -242,16 +242,16 @@ impl Requests {
     }
 
     /// Removes a request that is answered or cancelled, and tells what came of it.
-    pub fn take(&mut self, alloc: Global, number: u32) -> Tidings
+    pub fn take(&mut self, alloc: Global, number: u32) -> Completion
         requires { MatchOption (request_of self.old number) ⊥ (λ r. is_settled r.stage ≡ true) }
-        ensures tidings { MatchOption (request_of self.old number) ⊥ (λ r. tidings_of r.stage ≡ Some (tidings_in result)) }
-        ensures short { length (tidings_in result).bytes ≤ 65536 }
+        ensures completion { MatchOption (request_of self.old number) ⊥ (λ r. completion_of r.stage ≡ Some (completion_in result)) }
+        ensures short { length (completion_in result).bytes ≤ 65536 }
         ensures removed { self.new ≡ without_request self.old number }
     {
         ends_are_short();
         let Some(at) = position_of(self.items.as_slice(), number) else {
             unreachable!();
         };
-        self.items.remove(at).into_tidings(alloc)
+        self.items.remove(at).into_completion(alloc)
     }
 }

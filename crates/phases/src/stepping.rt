@@ -5,23 +5,23 @@ ghost use Rattle.handles.specs.Table.{IsClosing, IsOpen, record_of, after_again}
 ghost use Rattle.phases.specs.Fitting.{IsShort};
 ghost use Rattle.phases.specs.Host.{with_roster, with_requests};
 ghost use Rattle.phases.specs.PhaseList.{is_active_handle, is_alive, phase_list};
-ghost use Rattle.phases.specs.Progress.{tidings_in};
-ghost use Rattle.syntax.specs.declared.module.Contents.{Contents};
+ghost use Rattle.phases.specs.Progress.{completion_in};
+ghost use Rattle.syntax.specs.declared.contents.Contents.{Contents};
 ghost use Rattle.phases.specs.Ready.{AreReady};
-ghost use Rattle.phases.specs.Requests.{request_of, without_request, is_settled, tidings_of};
+ghost use Rattle.phases.specs.Requests.{request_of, without_request, is_settled, completion_of};
 ghost use Rattle.phases.specs.Roster.{async_handle, with_handles, without_handle};
 ghost use Rattle.phases.specs.Step.{turn, in_phase, now_in, moment_in, begun, finished, returns, is_as_listed, handle_function};
 
 use crate::did::StepDid;
 use crate::entries::Entries;
 use crate::entry::{Entry, Phase, Status};
-use crate::machine::Machine;
-use crate::progress::Tidings;
+use crate::loop_state::LoopState;
+use crate::progress::Completion;
 use handles::Kind;
 use interp::ended::{Ended, Ending};
 use std::alloc::Global;
 
-impl Machine {
+impl LoopState {
     /// Whether the loop goes on.
     pub fn status(&self) -> Status
         ensures { result ≡ self.now.status }
@@ -134,11 +134,11 @@ impl Machine {
     }
 
     /// Removes a request that is answered or cancelled, and tells what came of it.
-    pub fn take_request(&mut self, alloc: Global, number: u32) -> Tidings
+    pub fn take_request(&mut self, alloc: Global, number: u32) -> Completion
         requires { MatchOption (request_of self.old.requests number) ⊥ (λ r. is_settled r.stage ≡ true) }
-        ensures tidings { MatchOption (request_of self.old.requests number) ⊥ (λ r. tidings_of r.stage ≡ Some (tidings_in result)) }
+        ensures completion { MatchOption (request_of self.old.requests number) ⊥ (λ r. completion_of r.stage ≡ Some (completion_in result)) }
         ensures removed { self.new ≡ with_requests self.old (without_request self.old.requests number) }
-        ensures short { length (tidings_in result).bytes ≤ 65536 }
+        ensures short { length (completion_in result).bytes ≤ 65536 }
     {
         self.requests.take(alloc, number)
     }

@@ -8,12 +8,12 @@ ghost use Rattle.phases.specs.PhaseList.{exports};
 ghost use Rattle.phases.specs.Setting.{setting_of};
 ghost use Rattle.phases.specs.View.{AreOpenedUpTo};
 
-use crate::progress::Standing;
+use crate::progress::CancelState;
 use crate::requests::{LAST_REQUEST, MAX_REQUESTS, Requests};
 use crate::roster::Roster;
 use crate::setting::Setting;
 use crate::shared::Shared;
-use imports::{Entry, Linked};
+use imports::{EntryPoint, Linked};
 use instance::memory::Memory;
 use order::MAX_BYTES;
 use order::answers::{
@@ -25,10 +25,10 @@ use std::alloc::Global;
 pub fn cancel<B: Shared>(requests: &mut Requests, shared: &mut B, number: u32) -> u32
     ensures { Cancels B.calls (requests.old, shared.old) number result (requests.new, shared.new) }
 {
-    match requests.standing(number) {
-        Standing::Unknown => INVALID,
-        Standing::Answered => BUSY,
-        Standing::Pending { slot } => {
+    match requests.cancel_state(number) {
+        CancelState::Unknown => INVALID,
+        CancelState::Answered => BUSY,
+        CancelState::Pending { slot } => {
             if !shared.cancel(slot, number) {
                 return BUSY;
             }
@@ -59,7 +59,7 @@ pub struct Asked {
     pub count: u32,
 }
 
-fn exports(linked: &Linked, entry: Entry) -> bool
+fn exports(linked: &Linked, entry: EntryPoint) -> bool
     ensures { result ≡ exports linked.now.contents (name_of_entry entry) }
 {
     linked.entry(entry).is_some()
@@ -80,7 +80,7 @@ pub fn queue_work<B: Shared>(
     ensures { QueuesWork B.calls (setting_of setting.now) memory.now.bytes (requests.old, shared.old) asked.op asked.place asked.count result (requests.new, shared.new) }
 {
     let linked: &Linked = &setting.linked;
-    if !(exports(linked, Entry::Work) && exports(linked, Entry::AfterWork)) {
+    if !(exports(linked, EntryPoint::Work) && exports(linked, EntryPoint::AfterWork)) {
         return NO_SUCH_EXPORT;
     }
     if asked.count as usize > MAX_BYTES {

@@ -3,7 +3,7 @@ use Rattle.std.proofs.Common.{◌≡◌, ℕ, List, [], ◌∷◌, ◌++◌, cod
 use Rattle.std.specs.List.{join_with_byte}
 use Rattle.interp.specs.declared.ended.Ended.{Ended}
 use Rattle.phases.specs.declared.entry.EntryKind.{EntryKind}
-use Rattle.world_log.specs.declared.entry.Entry.TheVariants.{Ran}
+use Rattle.world_log.specs.declared.entry.LogEntry.TheVariants.{Ran}
 use Rattle.script.specs.Text.{spaced, callback_words, ending_words, emit_words, line_of}
 
 -- words with a space between are the first word and the others, each behind a space

@@ -13,7 +13,7 @@ use Rattle.phases.specs.declared.entry.EntryKind.TheVariants as kind
 use Rattle.world_log.specs.declared.outcome.WorkEnding.{WorkEnding}
 use Rattle.world_log.specs.declared.outcome.WorkEnding.TheVariants.{Done, Trap as WorkTrap, Depth as WorkDepth}
 use Rattle.world_log.specs.declared.outcome.WorkEnding.TheVariants.{Spent as WorkSpent, NoMemory}
-use Rattle.world_log.specs.declared.outcome.Job.{Job}
+use Rattle.world_log.specs.declared.outcome.JobId.{JobId}
 use Rattle.world_log.specs.declared.outcome.PostOutcome.{PostOutcome}
 use Rattle.world_log.specs.declared.outcome.PostOutcome.TheVariants.{Request as Posted, Nothing as NoOrder, Full}
 use Rattle.world_log.specs.declared.outcome.StartOutcome.{StartOutcome}
@@ -22,8 +22,8 @@ use Rattle.world_log.specs.declared.outcome.FinishOutcome.{FinishOutcome}
 use Rattle.world_log.specs.declared.outcome.FinishOutcome.TheVariants.{Ended as Finished, Nothing as NothingStarted}
 use Rattle.world_log.specs.declared.outcome.CollectOutcome.{CollectOutcome}
 use Rattle.world_log.specs.declared.outcome.CollectOutcome.TheVariants.{Request as Collected, Stranger, Nothing as NoReply}
-use Rattle.world_log.specs.declared.entry.Entry.{Entry}
-use Rattle.world_log.specs.declared.entry.Entry.TheVariants as entry
+use Rattle.world_log.specs.declared.entry.LogEntry.{LogEntry}
+use Rattle.world_log.specs.declared.entry.LogEntry.TheVariants as entry
 
 -- the name of a phase; the first one is never entered
 abbrev pub phase_word : Phase → List ℕ
@@ -80,7 +80,7 @@ request_words request = codes "request" ∷ decimal request ∷ []
 abbrev pub loop_words : ℕ → List (List ℕ)
 loop_words loop_no = codes "loop" ∷ decimal loop_no ∷ []
 
-abbrev pub job_words : Job → List (List ℕ)
+abbrev pub job_words : JobId → List (List ℕ)
 job_words job = loop_words job.loop_no ++ request_words job.request
 
 abbrev pub post_words : PostOutcome → List (List ℕ)
@@ -88,7 +88,7 @@ post_words (Posted request) = request_words request
 post_words NoOrder = codes "none" ∷ []
 post_words Full = codes "full" ∷ []
 
-abbrev pub take_words : Option Job → List (List ℕ)
+abbrev pub take_words : Option JobId → List (List ℕ)
 take_words (Some job) = job_words job
 take_words None = codes "none" ∷ []
 
@@ -115,7 +115,7 @@ abbrev pub spaced : List (List ℕ) → List ℕ
 spaced words = flat_map (λ word. 32 ∷ word) words
 
 -- the words of an entry
-abbrev pub entry_words : Entry → List (List ℕ)
+abbrev pub entry_words : LogEntry → List (List ℕ)
 entry_words (entry.Entered loop_no phase now) =
     loop_words loop_no ++ codes "enter" ∷ phase_word phase ∷ decimal now ∷ []
 entry_words (entry.Ran loop_no kind number ended emits) =
@@ -138,9 +138,9 @@ entry_words (entry.Cancel loop_no request answer) =
 entry_words (entry.Clock loop_no clock) = codes "clock" ∷ decimal loop_no ∷ decimal clock ∷ []
 
 -- the line of an entry
-abbrev pub line_of : Entry → List ℕ
+abbrev pub line_of : LogEntry → List ℕ
 line_of e = join_with_byte 32 (entry_words e) ++ codes "\n"
 
 -- the text of a log
-abbrev pub log_text : List Entry → List ℕ
+abbrev pub log_text : List LogEntry → List ℕ
 log_text log = flat_map line_of log

@@ -12,7 +12,7 @@ mod reader;
 mod text;
 
 pub use fault::ScriptFault;
-pub use place::Place;
+pub use place::ScriptPlace;
 pub use plan::{LoopPlan, Plan};
 pub use reader::read;
 pub use text::print;

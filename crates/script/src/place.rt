@@ -9,7 +9,7 @@ use std::fmt;
 
 /// Where a script is refused. It prints as words.
 #[derive(Clone, Copy, Debug)]
-pub enum Place {
+pub enum ScriptPlace {
     /// Near this character of a line, both counted from 1.
     Character { line: usize, column: usize },
     /// At a module, by its number.
@@ -22,21 +22,21 @@ pub enum Place {
     Step(usize),
 }
 
-impl fmt::Display for Place {
+impl fmt::Display for ScriptPlace {
     fn fmt<W: fmt::Write>(&self, f: &mut fmt::Formatter<W>) -> fmt::Result {
         match self {
-            Place::Character { line, column } => write!(f, "line {line}, column {column}"),
-            Place::Module(number) => write!(f, "module {number}"),
-            Place::Loop(number) => write!(f, "loop {number}"),
-            Place::Workers => f.write_str("the number of workers"),
-            Place::Step(number) => write!(f, "step {number}"),
+            ScriptPlace::Character { line, column } => write!(f, "line {line}, column {column}"),
+            ScriptPlace::Module(number) => write!(f, "module {number}"),
+            ScriptPlace::Loop(number) => write!(f, "loop {number}"),
+            ScriptPlace::Workers => f.write_str("the number of workers"),
+            ScriptPlace::Step(number) => write!(f, "step {number}"),
         }
     }
 }
 
 impl ScriptFault {
     /// Where this text has the fault, as far as that can be told of a part of it. It reads the text anew.
-    pub fn place(self, alloc: Global, text: &str) -> Option<Place> {
+    pub fn place(self, alloc: Global, text: &str) -> Option<ScriptPlace> {
         match self {
             ScriptFault::Json => no_json(alloc, text),
             ScriptFault::Shape => misshapen(alloc, text),
@@ -47,21 +47,21 @@ impl ScriptFault {
     }
 }
 
-fn character(error: &serde_json::Error) -> Place {
-    Place::Character {
+fn character(error: &serde_json::Error) -> ScriptPlace {
+    ScriptPlace::Character {
         line: error.line(),
         column: error.column(),
     }
 }
 
-fn no_json(alloc: Global, text: &str) -> Option<Place> {
+fn no_json(alloc: Global, text: &str) -> Option<ScriptPlace> {
     match serde_json::from_str::<Value>(alloc, text) {
         Ok(_) => None,
         Err(error) => Some(character(&error)),
     }
 }
 
-fn misshapen(alloc: Global, text: &str) -> Option<Place> {
+fn misshapen(alloc: Global, text: &str) -> Option<ScriptPlace> {
     match serde_json::from_str::<Object<Document>>(alloc, text) {
         Ok(_) => None,
         Err(error) => Some(character(&error)),
@@ -76,32 +76,32 @@ fn document(alloc: Global, text: &str) -> Option<Document> {
     )
 }
 
-fn no_digits(alloc: Global, modules: &[String]) -> Option<Place> {
+fn no_digits(alloc: Global, modules: &[String]) -> Option<ScriptPlace> {
     for (number, module) in modules.iter().enumerate() {
         match hex::decode(alloc, module.as_str()) {
             Ok(_) | Err(FromHexError::OutOfMemory) => {}
-            Err(_) => return Some(Place::Module(number)),
+            Err(_) => return Some(ScriptPlace::Module(number)),
         }
     }
     None
 }
 
 /// The first number that no u32 or u64 holds. Other numbers are out of range with all of the script in view.
-fn out_of_range(document: &Document) -> Option<Place> {
+fn out_of_range(document: &Document) -> Option<ScriptPlace> {
     for (number, Object(planned)) in document.loops.as_slice().iter().enumerate() {
         let numbers = [planned.fuel.0, planned.work_fuel.0];
         let small = [planned.module.0, planned.depth.0];
         if numbers.contains(&None) || small.contains(&None) {
-            return Some(Place::Loop(number));
+            return Some(ScriptPlace::Loop(number));
         }
     }
     if document.workers.0.is_none() {
-        return Some(Place::Workers);
+        return Some(ScriptPlace::Workers);
     }
     wrong_step(document.steps.as_slice())
 }
 
-fn wrong_step<T>(steps: &[Ranged<T>]) -> Option<Place> {
+fn wrong_step<T>(steps: &[Ranged<T>]) -> Option<ScriptPlace> {
     let number = steps.iter().position(|step| step.0.is_none())?;
-    Some(Place::Step(number))
+    Some(ScriptPlace::Step(number))
 }

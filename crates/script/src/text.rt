@@ -7,7 +7,7 @@ use interp::ended::{Ended, Ending};
 use phases::{EntryKind, Phase};
 use std::alloc::{AllocError, Global};
 use world_log::{
-    CollectOutcome, Entry, FinishOutcome, Job, Log, PostOutcome, StartOutcome, WorkEnding,
+    CollectOutcome, FinishOutcome, JobId, Log, LogEntry, PostOutcome, StartOutcome, WorkEnding,
 };
 
 /// The text of a log: a line for each entry, the oldest first.
@@ -25,45 +25,45 @@ pub fn print(alloc: Global, log: &Log) -> Result<String, AllocError>
     Ok(text)
 }
 
-fn write_line(text: &mut String, entry: &Entry) -> Result<(), AllocError>
+fn write_line(text: &mut String, entry: &LogEntry) -> Result<(), AllocError>
     ensures { OnOk result (string_bytes text.new ≡ string_bytes text.old ++ line_of entry.now) }
 {
     match entry {
-        Entry::Entered {
+        LogEntry::Entered {
             loop_no,
             phase,
             now,
         } => { writeln!(text, "loop {loop_no} enter {} {now}", phase_word(*phase)) }
-        Entry::Ran {
+        LogEntry::Ran {
             loop_no,
             kind,
             number,
             ended,
             emits,
         } => { write_run(text, *loop_no, *kind, *number, ended, emits.as_slice()) }
-        Entry::Skipped {
+        LogEntry::Skipped {
             loop_no,
             kind,
             number,
         } => { write_skip(text, *loop_no, *kind, *number) }
-        Entry::Over { loop_no } => writeln!(text, "loop {loop_no} over"),
-        Entry::Failed { loop_no } => writeln!(text, "loop {loop_no} failed"),
-        Entry::Post { loop_no, outcome } => write_post(text, *loop_no, *outcome),
-        Entry::Take { worker, job } => write_take(text, *worker, *job),
-        Entry::Start { worker, outcome } => write_start(text, *worker, *outcome),
-        Entry::Finish { worker, outcome } => write_finish(text, *worker, *outcome),
-        Entry::Collect { loop_no, outcome } => write_collect(text, *loop_no, *outcome),
-        Entry::Send {
+        LogEntry::Over { loop_no } => writeln!(text, "loop {loop_no} over"),
+        LogEntry::Failed { loop_no } => writeln!(text, "loop {loop_no} failed"),
+        LogEntry::Post { loop_no, outcome } => write_post(text, *loop_no, *outcome),
+        LogEntry::Take { worker, job } => write_take(text, *worker, *job),
+        LogEntry::Start { worker, outcome } => write_start(text, *worker, *outcome),
+        LogEntry::Finish { worker, outcome } => write_finish(text, *worker, *outcome),
+        LogEntry::Collect { loop_no, outcome } => write_collect(text, *loop_no, *outcome),
+        LogEntry::Send {
             loop_no,
             async_no,
             is_refused,
         } => { write_send(text, *loop_no, *async_no, *is_refused) }
-        Entry::Cancel {
+        LogEntry::Cancel {
             loop_no,
             request,
             answer,
         } => { writeln!(text, "cancel {loop_no} {request} answer {answer}") }
-        Entry::Clock { loop_no, clock } => writeln!(text, "clock {loop_no} {clock}"),
+        LogEntry::Clock { loop_no, clock } => writeln!(text, "clock {loop_no} {clock}"),
     }
 }
 
@@ -104,7 +104,7 @@ fn write_run(
     emits: &[u64],
 ) -> Result<(), AllocError>
     ensures { OnOk result (string_bytes text.new ≡ string_bytes text.old
-        ++ line_of (Entry.Ran loop_no kind number ended.now emits.now)) }
+        ++ line_of (LogEntry.Ran loop_no kind number ended.now emits.now)) }
 {
     write_callback(text, loop_no, "run", kind, number)?;
     write_ending(text, &ended.ending)?;
@@ -120,7 +120,7 @@ fn write_skip(
     number: u32,
 ) -> Result<(), AllocError>
     ensures { OnOk result (string_bytes text.new ≡ string_bytes text.old
-        ++ line_of (Entry.Skipped loop_no kind number)) }
+        ++ line_of (LogEntry.Skipped loop_no kind number)) }
 {
     write_callback(text, loop_no, "skip", kind, number)?;
     text.push_str("\n")
@@ -168,7 +168,7 @@ fn write_emits(text: &mut String, values: &[u64]) -> Result<(), AllocError>
 
 fn write_post(text: &mut String, loop_no: u32, outcome: PostOutcome) -> Result<(), AllocError>
     ensures { OnOk result (string_bytes text.new
-        ≡ string_bytes text.old ++ line_of (Entry.Post loop_no outcome)) }
+        ≡ string_bytes text.old ++ line_of (LogEntry.Post loop_no outcome)) }
 {
     match outcome {
         PostOutcome::Request(request) => writeln!(text, "post {loop_no} request {request}"),
@@ -177,12 +177,12 @@ fn write_post(text: &mut String, loop_no: u32, outcome: PostOutcome) -> Result<(
     }
 }
 
-fn write_take(text: &mut String, worker: u32, job: Option<Job>) -> Result<(), AllocError>
+fn write_take(text: &mut String, worker: u32, job: Option<JobId>) -> Result<(), AllocError>
     ensures { OnOk result (string_bytes text.new
-        ≡ string_bytes text.old ++ line_of (Entry.Take worker job)) }
+        ≡ string_bytes text.old ++ line_of (LogEntry.Take worker job)) }
 {
     match job {
-        Some(Job { loop_no, request }) => {
+        Some(JobId { loop_no, request }) => {
             writeln!(text, "take {worker} loop {loop_no} request {request}")
         }
         None => writeln!(text, "take {worker} none"),
@@ -191,16 +191,16 @@ fn write_take(text: &mut String, worker: u32, job: Option<Job>) -> Result<(), Al
 
 fn write_start(text: &mut String, worker: u32, outcome: StartOutcome) -> Result<(), AllocError>
     ensures { OnOk result (string_bytes text.new
-        ≡ string_bytes text.old ++ line_of (Entry.Start worker outcome)) }
+        ≡ string_bytes text.old ++ line_of (LogEntry.Start worker outcome)) }
 {
     match outcome {
-        StartOutcome::Begun(Job { loop_no, request }) => {
+        StartOutcome::Begun(JobId { loop_no, request }) => {
             writeln!(
                 text,
                 "start {worker} loop {loop_no} request {request} begun"
             )
         }
-        StartOutcome::Dropped(Job { loop_no, request }) => {
+        StartOutcome::Dropped(JobId { loop_no, request }) => {
             writeln!(
                 text,
                 "start {worker} loop {loop_no} request {request} dropped"
@@ -212,10 +212,10 @@ fn write_start(text: &mut String, worker: u32, outcome: StartOutcome) -> Result<
 
 fn write_finish(text: &mut String, worker: u32, outcome: FinishOutcome) -> Result<(), AllocError>
     ensures { OnOk result (string_bytes text.new
-        ≡ string_bytes text.old ++ line_of (Entry.Finish worker outcome)) }
+        ≡ string_bytes text.old ++ line_of (LogEntry.Finish worker outcome)) }
 {
     match outcome {
-        FinishOutcome::Ended(Job { loop_no, request }, ending) => {
+        FinishOutcome::Ended(JobId { loop_no, request }, ending) => {
             write!(text, "finish {worker} loop {loop_no} request {request}")?;
             write_work_ending(text, ending)?;
             text.push_str("\n")
@@ -239,7 +239,7 @@ fn write_work_ending(text: &mut String, ending: WorkEnding) -> Result<(), AllocE
 
 fn write_collect(text: &mut String, loop_no: u32, outcome: CollectOutcome) -> Result<(), AllocError>
     ensures { OnOk result (string_bytes text.new
-        ≡ string_bytes text.old ++ line_of (Entry.Collect loop_no outcome)) }
+        ≡ string_bytes text.old ++ line_of (LogEntry.Collect loop_no outcome)) }
 {
     match outcome {
         CollectOutcome::Request(request) => writeln!(text, "collect {loop_no} request {request}"),
@@ -255,7 +255,7 @@ fn write_send(
     is_refused: bool,
 ) -> Result<(), AllocError>
     ensures { OnOk result (string_bytes text.new
-        ≡ string_bytes text.old ++ line_of (Entry.Send loop_no async_no is_refused)) }
+        ≡ string_bytes text.old ++ line_of (LogEntry.Send loop_no async_no is_refused)) }
 {
     if is_refused {
         writeln!(text, "send {loop_no} {async_no} refused")

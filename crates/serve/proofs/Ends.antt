@@ -10,7 +10,7 @@ use Rattle.phases.specs.declared.entry.Status.{Status}
 use Rattle.phases.specs.declared.entry.Status.TheVariants as status
 use Rattle.phases.specs.Calls.{Calls}
 use Rattle.phases.specs.PhaseList.{is_alive, is_active_handle, may_end, next_phase}
-use Rattle.phases.specs.Requests.{Request, Tidings, request_of, tidings_of}
+use Rattle.phases.specs.Requests.{Request, Completion, request_of, completion_of}
 use Rattle.phases.specs.Roster.{Roster, async_handle, with_handles, without_handle}
 use Rattle.phases.specs.Host.{with_roster}
 use Rattle.handles.specs.declared.handle.Kind.TheVariants as handle_kind
@@ -32,13 +32,13 @@ module _ {S : Type 0} (calls : Calls S) (g : Setting) where
   back_goes_on old kind number None args d new h = absurd h
   back_goes_on old kind number (Some f) args d new h = ap tells_over h.told
 
-  work_goes_on : (old : Loop S) (number : ℕ) (tidings : Option Tidings) (d : StepDid) (new : Loop S) → AfterWork calls g old number tidings d new → GoesOn d
+  work_goes_on : (old : Loop S) (number : ℕ) (completion : Option Completion) (d : StepDid) (new : Loop S) → AfterWork calls g old number completion d new → GoesOn d
   work_goes_on old number None d new h = absurd h
   work_goes_on old number (Some t) d new h = ap tells_over h.2.told
 
-  after_goes_on : (old : Loop S) (number : ℕ) (request : Option Request) (d : StepDid) (new : Loop S) → MatchOption request ⊥ (λ r. AfterWork calls g old number (tidings_of r.stage) d new) → GoesOn d
+  after_goes_on : (old : Loop S) (number : ℕ) (request : Option Request) (d : StepDid) (new : Loop S) → MatchOption request ⊥ (λ r. AfterWork calls g old number (completion_of r.stage) d new) → GoesOn d
   after_goes_on old number None d new h = absurd h
-  after_goes_on old number (Some r) d new h = work_goes_on old number (tidings_of r.stage) d new h
+  after_goes_on old number (Some r) d new h = work_goes_on old number (completion_of r.stage) d new h
 
   -- a callback of a handle, or nothing
   runs_or_skips : (b : Bool) (base old : Loop S) (r : Roster) (kind : EntryKind) (handle : ℕ) (d : StepDid) (new : Loop S)

@@ -1,7 +1,7 @@
 -- What a thread that keeps its promise gives.
 use Rattle.std.proofs.Common.{ℕ, subst}
 use Rattle.std.specs.Arc.{arc_value}
-use Rattle.serve.specs.declared.ended.Served.{Served}
+use Rattle.serve.specs.declared.served.Served.{Served}
 use Rattle.serve.specs.declared.plan.OfLoop.{OfLoop}
 use Rattle.serve.specs.declared.plan.Plan.{Plan}
 use Rattle.serve.specs.Answers.{IsServed}

@@ -10,8 +10,8 @@ use Rattle.phases.specs.declared.did.StepDid.{StepDid}
 use Rattle.phases.specs.declared.did.StepDid.TheVariants as did
 use Rattle.phases.specs.declared.entry.EntryKind.{EntryKind}
 use Rattle.interp.specs.declared.ended.Ended.{Ended}
-use Rattle.phases.specs.declared.running.Accepted.{Accepted}
-use Rattle.phases.specs.declared.running.Accepted.TheVariants as accepted
+use Rattle.phases.specs.declared.loop_core.Accepted.{Accepted}
+use Rattle.phases.specs.declared.loop_core.Accepted.TheVariants as accepted
 use Rattle.phases.specs.Accepting.{Accepts}
 use Rattle.phases.specs.Guests.{GuestCall, loop_calls}
 use Rattle.phases.specs.History.{Event, Stepped, OrderAsked, EndOffered, ClockRaised, EventStep, History, IsOpening, emits_in, emitted}
@@ -22,8 +22,8 @@ use Rattle.phases.specs.State.{Setting, Loop, opening}
 use Rattle.phases.specs.Step.{LoopStep}
 use Rattle.phases.specs.View.{new_view}
 use Rattle.pool.specs.declared.seats.Seats.{Seats}
-use Rattle.serve.specs.declared.ended.TheConstants.{MOST_CALLBACKS}
-use Rattle.serve.specs.declared.ended.Ending.{Ending}
+use Rattle.serve.specs.declared.served.TheConstants.{MOST_CALLBACKS}
+use Rattle.serve.specs.declared.served.LoopEnding.{LoopEnding}
 use Rattle.serve.specs.Histories.{HasDone, HasEnded, HasServed, EndsBy, thread_calls, is_callback, callbacks_in}
 
 push : (g : Setting) (events : List Event) (e : Event) (start old new : Loop Seats) → History thread_calls g start events old → EventStep thread_calls g e old new → History thread_calls g start (events ++ e ∷ []) new
@@ -105,9 +105,9 @@ opens_new g l loaded loop_no fuel work_fuel depth seats is state store shared vi
     subst (λ x. IsOpening thread_calls x l) (sym is) (record { state = state; store = store.store; shared = ap thread_calls.view shared ∙ view })
 
 -- what is done is ended
-pub ended_by : (g : Setting) (l : Loop Seats) (ran : ℕ) (ending : Ending) (emits : List ℕ) → ran ≤ MOST_CALLBACKS → EndsBy ending l ran → Does g l ran emits → ∥ HasEnded g ending emits ∥₁
+pub ended_by : (g : Setting) (l : Loop Seats) (ran : ℕ) (ending : LoopEnding) (emits : List ℕ) → ran ≤ MOST_CALLBACKS → EndsBy ending l ran → Does g l ran emits → ∥ HasEnded g ending emits ∥₁
 ended_by g l ran ending emits few ends was = ∥∥₁_map was (λ done. record { now = l; ran = ran; few = few; done = done; ends = ends })
 
 -- and is that of a loop of this number
-pub served_by : (g : Setting) (loop_no : ℕ) (ending : Ending) (emits : List ℕ) → loop_no ≡ g.loop_no → ∥ HasEnded g ending emits ∥₁ → ∥ HasServed loop_no ending emits ∥₁
+pub served_by : (g : Setting) (loop_no : ℕ) (ending : LoopEnding) (emits : List ℕ) → loop_no ≡ g.loop_no → ∥ HasEnded g ending emits ∥₁ → ∥ HasServed loop_no ending emits ∥₁
 served_by g loop_no ending emits same was = ∥∥₁_map was (λ ended. record { setting = g; numbered = sym same; ended = ended })

@@ -2,8 +2,8 @@
 use Rattle.std.specs.Prelude.{◌≡◌, ℕ, List, Some, slice_get}
 use Rattle.syntax.specs.Loaded.{Loaded}
 use Rattle.phases.specs.State.{Setting}
-use Rattle.serve.specs.declared.ended.Served.{Served}
-use Rattle.serve.specs.declared.settings.Serving.{Serving}
+use Rattle.serve.specs.declared.served.Served.{Served}
+use Rattle.serve.specs.declared.serving.Serving.{Serving}
 use Rattle.serve.specs.Histories.{HasEnded, setting_at}
 
 -- The answer has the loop's number, and the loop has a history from its opening, in which its callbacks put out just

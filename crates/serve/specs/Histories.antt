@@ -10,10 +10,10 @@ use Rattle.phases.specs.PhaseList.{hint_of}
 use Rattle.phases.specs.State.{Setting, Loop}
 use Rattle.pool.specs.declared.seats.Seats.{Seats}
 use Rattle.pool.specs.Share.{seats_calls}
-use Rattle.serve.specs.declared.ended.TheConstants.{MOST_CALLBACKS}
-use Rattle.serve.specs.declared.ended.Ending.{Ending}
-use Rattle.serve.specs.declared.ended.Ending.TheVariants as ending
-use Rattle.serve.specs.declared.settings.Serving.{Serving}
+use Rattle.serve.specs.declared.served.TheConstants.{MOST_CALLBACKS}
+use Rattle.serve.specs.declared.served.LoopEnding.{LoopEnding}
+use Rattle.serve.specs.declared.served.LoopEnding.TheVariants as ending
+use Rattle.serve.specs.declared.serving.Serving.{Serving}
 
 -- how a loop's calls move its seats
 abbrev pub thread_calls : Calls Seats
@@ -48,20 +48,20 @@ pub record HasDone (g : Setting) (now : Loop Seats) (ran : ℕ) (emits : List �
 
 -- Why a loop has ended: it is over; it has failed; it has no request outstanding and nothing to do for ever; or it ran
 -- as many callbacks as it may.
-abbrev pub EndsBy : Ending → (now : Loop Seats) → (ran : ℕ) → Type 0
+abbrev pub EndsBy : LoopEnding → (now : Loop Seats) → (ran : ℕ) → Type 0
 EndsBy ending.Over now ran = now.state.status ≡ status.Over
 EndsBy ending.Failed now ran = now.state.status ≡ status.Failed
 EndsBy ending.Waiting now ran = (now.state.requests.outstanding ≡ []) × (hint_of now.state ≡ Forever)
 EndsBy ending.Limit now ran = ran ≡ MOST_CALLBACKS
 
 -- the loop has ended so, or may run callbacks yet
-abbrev pub ComesTo : Option Ending → (now : Loop Seats) → (ran : ℕ) → Type 0
+abbrev pub ComesTo : Option LoopEnding → (now : Loop Seats) → (ran : ℕ) → Type 0
 ComesTo None now ran = ran < MOST_CALLBACKS
 ComesTo (Some ending) now ran = EndsBy ending now ran
 
 -- A history of a loop of this setting from its opening, in which its callbacks put out these values, in order, and at
 -- whose end the loop has ended so.
-pub record HasEnded (g : Setting) (ending : Ending) (emits : List ℕ) : Type 0 where
+pub record HasEnded (g : Setting) (ending : LoopEnding) (emits : List ℕ) : Type 0 where
   pub now : Loop Seats
   pub ran : ℕ
   pub few : ran ≤ MOST_CALLBACKS
@@ -69,7 +69,7 @@ pub record HasEnded (g : Setting) (ending : Ending) (emits : List ℕ) : Type 0 
   pub ends : EndsBy ending now ran
 
 -- the same of some loop of this number
-pub record HasServed (loop_no : ℕ) (ending : Ending) (emits : List ℕ) : Type 0 where
+pub record HasServed (loop_no : ℕ) (ending : LoopEnding) (emits : List ℕ) : Type 0 where
   pub setting : Setting
   pub numbered : setting.loop_no ≡ loop_no
   pub ended : HasEnded setting ending emits

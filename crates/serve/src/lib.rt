@@ -4,19 +4,19 @@
 //! waits for ever or has run as many callbacks as it may. The board is closed once all loops have ended.
 #![tactic(auto)]
 
-mod ended;
 mod job;
 pub mod laws;
 mod place;
 mod plan;
 mod record;
-mod settings;
+mod served;
+mod serving;
 mod task;
 mod threads;
 mod turn;
 
-pub use ended::{Ending, MOST_CALLBACKS, Served};
 pub use job::Job;
-pub use settings::Serving;
+pub use served::{LoopEnding, MOST_CALLBACKS, Served};
+pub use serving::Serving;
 pub use task::Task;
 pub use threads::serve;

@@ -4,9 +4,9 @@ ghost use Rattle.std.specs.Arc.{arc_value};
 ghost use Rattle.serve.specs.Answers.{IsServed};
 ghost use Rattle.serve.specs.Histories.{setting_at};
 
-use crate::ended::Served;
 use crate::place::LoopPlace;
-use crate::settings::Serving;
+use crate::served::Served;
+use crate::serving::Serving;
 use crate::task::Task;
 use crate::turn::Turns;
 use imports::Linked;

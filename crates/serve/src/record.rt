@@ -5,11 +5,11 @@ ghost use Rattle.order.specs.Orders.{order_of};
 ghost use Rattle.phases.specs.History.{IsOpening};
 ghost use Rattle.phases.specs.Keeping.{CanRun};
 ghost use Rattle.phases.specs.declared.entry.Status.TheVariants as status;
-ghost use Rattle.serve.specs.declared.ended.TheConstants.{MOST_CALLBACKS};
+ghost use Rattle.serve.specs.declared.served.TheConstants.{MOST_CALLBACKS};
 ghost use Rattle.serve.specs.Answers.{IsServed};
 ghost use Rattle.serve.specs.Histories.{HasDone, EndsBy, ComesTo, thread_calls};
 
-use crate::ended::{Ending, MOST_CALLBACKS, Served};
+use crate::served::{LoopEnding, MOST_CALLBACKS, Served};
 use order::{Order, Reply};
 use phases::{Accepted, Hint, LoopCore, Phase, StepDid};
 use pool::Seats;
@@ -76,7 +76,7 @@ impl<'a> Record<'a> {
     }
 
     /// Steps until the timers phase is entered or the loop has ended. How it ended, if it did.
-    pub fn step_through<R: Wait>(&mut self, rt: &R) -> Result<Option<Ending>, AllocError>
+    pub fn step_through<R: Wait>(&mut self, rt: &R) -> Result<Option<LoopEnding>, AllocError>
         requires room { self.old.ran < MOST_CALLBACKS }
         ensures setting { self.new.core.setting ≡ self.old.core.setting }
         ensures comes { IfOk result (λ ended. ComesTo ended self.new.core.loop self.new.ran) }
@@ -111,14 +111,14 @@ impl<'a> Record<'a> {
 
     // How the loop has ended with a step, if it has: it is over; the callback failed; or it was the last that the loop
     // may run.
-    fn ended(&self, did: &StepDid) -> Option<Ending>
+    fn ended(&self, did: &StepDid) -> Option<LoopEnding>
         requires { did.now ≡ StepDid.Over → self.now.core.loop.state.status ≡ status.Over }
         ensures { ComesTo result self.now.core.loop self.now.ran }
     {
         match did {
-            StepDid::Over => Some(Ending::Over),
-            _ if self.core.failed() => Some(Ending::Failed),
-            _ if self.ran == MOST_CALLBACKS => Some(Ending::Limit),
+            StepDid::Over => Some(LoopEnding::Over),
+            _ if self.core.failed() => Some(LoopEnding::Failed),
+            _ if self.ran == MOST_CALLBACKS => Some(LoopEnding::Limit),
             _ => None,
         }
     }
@@ -129,7 +129,7 @@ impl<'a> Record<'a> {
     }
 
     /// Raises the clock to the next timer. Without one the loop waits for ever.
-    pub fn wait(&mut self) -> Option<Ending>
+    pub fn wait(&mut self) -> Option<LoopEnding>
         requires room { self.old.ran < MOST_CALLBACKS }
         requires none { self.old.core.loop.state.requests.outstanding ≡ [] }
         ensures setting { self.new.core.setting ≡ self.old.core.setting }
@@ -141,7 +141,7 @@ impl<'a> Record<'a> {
                 self.pass(ms);
                 None
             }
-            Hint::Forever => Some(Ending::Waiting),
+            Hint::Forever => Some(LoopEnding::Waiting),
         }
     }
 
@@ -162,7 +162,7 @@ impl<'a> Record<'a> {
     }
 
     /// What the loop has done, and how it ended.
-    pub fn into_served(self, loop_no: u32, ending: Ending) -> Served
+    pub fn into_served(self, loop_no: u32, ending: LoopEnding) -> Served
         requires loop_no { loop_no ≡ self.core.setting.loop_no }
         requires ends { EndsBy ending self.core.loop self.ran }
         ensures { IsServed self.entry.core.setting result }

@@ -1,6 +1,6 @@
 // What jobs are made of.
 ghost use Rattle.std.specs.Prelude.{◌≡◌, ◌<◌};
-ghost use Rattle.claims.specs.declared.claim.TheConstants.{MOST_LOOPS, SLOTS};
+ghost use Rattle.claims.specs.declared.claims.TheConstants.{MOST_LOOPS, SLOTS};
 ghost use Rattle.board.specs.Jobs.{ticket_of};
 ghost use Rattle.order.specs.Orders.{order_of};
 ghost use Rattle.phases.specs.Keeping.{CanRun};
@@ -20,8 +20,8 @@ impl Model for Task {
     ghost use Rattle.std.specs.Prelude.{◌<◌};
     ghost use Rattle.std.specs.Coded.{codes};
     ghost use Rattle.order.specs.Orders.{order_of};
-    ghost use Rattle.order.specs.declared.request.Order.{Order};
-    ghost use Rattle.order.specs.contracts.request.Order as request;
+    ghost use Rattle.order.specs.declared.order.Order.{Order};
+    ghost use Rattle.order.specs.contracts.order.Order as request;
     ghost use Rattle.phases.specs.Keeping.{CanRun};
 
     ghost Value = { Order };

@@ -7,11 +7,11 @@ ghost use Rattle.serve.specs.Histories.{setting_at};
 ghost use Rattle.serve.specs.Places.{EachFrom};
 ghost use Rattle.serve.specs.Promises.{IsThreadOf};
 
-use crate::ended::Served;
 use crate::job::Job;
 use crate::place::{LoopPlace, WorkerPlace, loop_places, worker_places};
 use crate::plan::{OfLoop, Outcome, Plan};
-use crate::settings::Serving;
+use crate::served::Served;
+use crate::serving::Serving;
 use crate::task::Task;
 use board::Board;
 use claims::{Claims, NewClaims};

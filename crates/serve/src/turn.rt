@@ -2,16 +2,16 @@
 ghost use Rattle.std.specs.Prelude.{◌≡◌, ◌<◌, ◌≤◌, length, IfOk};
 ghost use Rattle.std.specs.Arc.{arc_value};
 ghost use Rattle.board.specs.Boards.{IsPassOf};
-ghost use Rattle.claims.specs.declared.claim.TheConstants.{MOST_LOOPS};
+ghost use Rattle.claims.specs.declared.claims.TheConstants.{MOST_LOOPS};
 ghost use Rattle.marks.specs.Counts.{new_taker};
-ghost use Rattle.serve.specs.declared.ended.TheConstants.{MOST_CALLBACKS};
+ghost use Rattle.serve.specs.declared.served.TheConstants.{MOST_CALLBACKS};
 ghost use Rattle.serve.specs.Answers.{IsServed};
 ghost use Rattle.serve.specs.Histories.{ComesTo, EndsBy, setting_at};
 
-use crate::ended::{Ending, Served};
 use crate::place::LoopPlace;
 use crate::record::Record;
-use crate::settings::Serving;
+use crate::served::{LoopEnding, Served};
+use crate::serving::Serving;
 use crate::task::Task;
 use board::{Board, Event, Pass};
 use imports::Linked;
@@ -95,7 +95,7 @@ impl<'a, J: Drop> Turns<'a, J> {
         &mut self,
         rt: &R,
         make: &M,
-    ) -> Result<Ending, AllocError>
+    ) -> Result<LoopEnding, AllocError>
         requires make { M.IsAlwaysCallable make.now }
         requires room { self.old.told.ran < MOST_CALLBACKS }
         ensures setting { self.new.told.core.setting ≡ self.old.told.core.setting }
@@ -117,7 +117,7 @@ impl<'a, J: Drop> Turns<'a, J> {
         &mut self,
         rt: &R,
         make: &M,
-    ) -> Result<Option<Ending>, AllocError>
+    ) -> Result<Option<LoopEnding>, AllocError>
         requires make { M.IsAlwaysCallable make.now }
         requires room { self.old.told.ran < MOST_CALLBACKS }
         ensures setting { self.new.told.core.setting ≡ self.old.told.core.setting }

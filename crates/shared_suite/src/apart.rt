@@ -2,7 +2,7 @@
 ghost use Rattle.std.specs.Prelude.{◌≡◌};
 
 use crate::serving::{ample, served};
-use serve::Ending;
+use serve::LoopEnding;
 use std::sync::Wait;
 use std::test::Fail;
 use std::thread::Threads;
@@ -57,7 +57,7 @@ fn keeps_the_law<R: Threads + Wait + Sync + AllocGlobal>(rt: &R) -> Result<bool,
     for _ in 0..TIMES {
         let all = served(rt, CANCELS_APART, ample(1, 1))?;
         for one in all.as_slice() {
-            if one.ending != Ending::Over || !may_emit(one.emits.as_slice()) {
+            if one.ending != LoopEnding::Over || !may_emit(one.emits.as_slice()) {
                 return Ok(false);
             }
         }

@@ -8,7 +8,7 @@ use crate::hall::ticket;
 use crate::modules::linked_of;
 use board::JobBox;
 use claims::Ticket;
-use imports::{Entry, Linked};
+use imports::{EntryPoint, Linked};
 use order::{Order, Reply};
 use std::alloc::{AllocError, Global};
 use std::sync::Arc;
@@ -33,7 +33,7 @@ const WORKS: &str =
 impl Jobs {
     pub fn new(alloc: Global) -> Result<Jobs, Fail> {
         let module = linked_of(alloc, WORKS)?;
-        let Some(_) = module.entry(Entry::Work) else {
+        let Some(_) = module.entry(EntryPoint::Work) else {
             return Err(Fail::from("no `uv_work`"));
         };
         Ok(Jobs {

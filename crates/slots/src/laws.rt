@@ -2,12 +2,12 @@
 
 ghost use Rattle.std.specs.Prelude.{◌≡◌, ℕ, ◌+◌, ◌≤◌, List, [], ◌++◌, length, replicate, Option, Some};
 ghost use Rattle.syntax.specs.declared.types.Value.{Value};
-ghost use Rattle.validate.specs.declared.table.SideTable.{SideTable};
+ghost use Rattle.validate.specs.declared.side_table.SideTable.{SideTable};
 ghost use Rattle.validate.specs.Targets.{AreTables};
 ghost use Rattle.syntax.specs.declared.types.ValType.{ValType};
-ghost use Rattle.syntax.specs.declared.module.Contents.{Contents};
-ghost use Rattle.syntax.specs.declared.module.FuncType.{FuncType};
-ghost use Rattle.syntax.specs.declared.module.Func.{Func};
+ghost use Rattle.syntax.specs.declared.contents.Contents.{Contents};
+ghost use Rattle.syntax.specs.declared.contents.FuncType.{FuncType};
+ghost use Rattle.syntax.specs.declared.contents.Func.{Func};
 ghost use Rattle.validate.specs.Valid.{ValidModule};
 ghost use Rattle.instance.specs.Store.{Store};
 ghost use Rattle.instance.specs.Storing.{IsStoreOf};

@@ -1,6 +1,6 @@
 use crate::modules::{check_sections, module_of};
 use decode::decode;
-use imports::{Call, Entry, Linked, link};
+use imports::{Call, EntryPoint, Linked, link};
 use std::alloc::Global;
 use std::process::Abort;
 use std::test::Fail;
@@ -57,9 +57,9 @@ fn finds(rt: &impl Abort, linked: &Linked) {
     let calls = (linked.call(0), linked.call(1), linked.call(2));
     assert!(rt; calls == (Some(Call::QueueWork), Some(Call::Emit), None));
     let entries = (
-        linked.entry(Entry::Main),
-        linked.entry(Entry::Work),
-        linked.entry(Entry::AfterWork),
+        linked.entry(EntryPoint::Main),
+        linked.entry(EntryPoint::Work),
+        linked.entry(EntryPoint::AfterWork),
     );
     assert_eq!(rt; entries, (Some(2), Some(3), Some(4)));
 }

@@ -4,12 +4,12 @@ use Rattle.syntax.specs.declared.types.ValType.{ValType}
 use Rattle.syntax.specs.declared.types.BlockType.{BlockType}
 use Rattle.syntax.specs.declared.instruction.Instr.{Instr}
 use Rattle.syntax.specs.declared.instruction.Instr.TheVariants.{Br, BrIf, BrTable, Call, CallIndirect, LocalGet, LocalSet, LocalTee, GlobalGet, GlobalSet, Load, LoadNarrow, Store, StoreNarrow, MemorySize, MemoryGrow}
-use Rattle.syntax.specs.declared.module.Contents.{Contents}
-use Rattle.syntax.specs.declared.module.FuncType.{FuncType}
-use Rattle.syntax.specs.declared.module.Func.{Func}
-use Rattle.syntax.specs.declared.module.Import.{Import}
-use Rattle.syntax.specs.declared.module.Global.{Global}
-use Rattle.syntax.specs.declared.module.Mutability.TheVariants.{Var}
+use Rattle.syntax.specs.declared.contents.Contents.{Contents}
+use Rattle.syntax.specs.declared.contents.FuncType.{FuncType}
+use Rattle.syntax.specs.declared.contents.Func.{Func}
+use Rattle.syntax.specs.declared.contents.Import.{Import}
+use Rattle.syntax.specs.declared.contents.Global.{Global}
+use Rattle.syntax.specs.declared.contents.Mutability.TheVariants.{Var}
 use Rattle.syntax.specs.Code.{Code, Done, Plain, Block, Loop, If}
 use Rattle.validate.specs.declared.fault.ValidFault.{ValidFault}
 use Rattle.validate.specs.declared.fault.ValidFault.TheVariants as fault

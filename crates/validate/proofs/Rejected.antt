@@ -5,7 +5,7 @@ use Rattle.syntax.specs.declared.types.ValType.{ValType}
 use Rattle.syntax.specs.declared.types.ValType.TheVariants.{I32}
 use Rattle.syntax.specs.declared.instruction.Instr.{Instr}
 use Rattle.syntax.specs.declared.instruction.Instr.TheVariants as instr
-use Rattle.syntax.specs.declared.instruction.Op.TheVariants as op
+use Rattle.syntax.specs.declared.instruction.Operation.TheVariants as op
 use Rattle.validate.specs.declared.operands.Operand.{Operand}
 use Rattle.validate.specs.declared.checker.Checker.{Checker}
 use Rattle.validate.specs.declared.fault.BodyFault.{BodyFault}

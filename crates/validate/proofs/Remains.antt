@@ -1,8 +1,8 @@
 -- What the rest of a body keeps where the whole does: the rules of what is named, the height and the nesting.
 use Rattle.std.proofs.Common.{◌≡◌, ℕ, ◌+◌, ◌≤◌, ◌<◌, List, [], ◌∷◌, length, Option, Some, None, subst, arith}
-use Rattle.syntax.specs.declared.instruction.Op.{Op}
-use Rattle.syntax.specs.declared.instruction.Op.TheVariants as op
-use Rattle.syntax.specs.declared.module.FuncType.{FuncType}
+use Rattle.syntax.specs.declared.instruction.Operation.{Operation}
+use Rattle.syntax.specs.declared.instruction.Operation.TheVariants as op
+use Rattle.syntax.specs.declared.contents.FuncType.{FuncType}
 use Rattle.syntax.specs.Code.{Code, Done, Plain, Block, Loop, If}
 use Rattle.validate.specs.declared.frames.Frame.{Frame}
 use Rattle.validate.specs.declared.scope.Scope.{Scope}
@@ -69,22 +69,22 @@ now_low scope (f ∷ fs) h (o ∷ os) low =
     let l : greatest_height (context_in scope (f ∷ fs)) (length h.below) (height_of h) o.code ≤ 256 = low.0 in
     omega arith
 
-obeyed_first : (r : Rule) (c : Context) (o : Op) (rest : List Op) (code : Code) (other : Option Code) (os : List Open)
+obeyed_first : (r : Rule) (c : Context) (o : Operation) (rest : List Operation) (code : Code) (other : Option Code) (os : List Open)
     → o ∷ rest ≡ flat_of (open_of code other ∷ os) → Kept r c code → Obeys r c o
-obeyed_first r c o rest Done None os flat k = let e : op.End ≡ o = cc in subst (λ (x : Op). Obeys r c x) e tt
-obeyed_first r c o rest Done (Some second) os flat k = let e : op.Else ≡ o = cc in subst (λ (x : Op). Obeys r c x) e tt
-obeyed_first r c o rest (Plain i code) other os flat k = let e : op.Plain i ≡ o = cc in subst (λ (x : Op). Obeys r c x) e k.0
-obeyed_first r c o rest (Block type body code) other os flat k = let e : op.Block type ≡ o = cc in subst (λ (x : Op). Obeys r c x) e k.0
-obeyed_first r c o rest (Loop type body code) other os flat k = let e : op.Loop type ≡ o = cc in subst (λ (x : Op). Obeys r c x) e k.0
-obeyed_first r c o rest (If type first second code) other os flat k = let e : op.If type ≡ o = cc in subst (λ (x : Op). Obeys r c x) e k.0
+obeyed_first r c o rest Done None os flat k = let e : op.End ≡ o = cc in subst (λ (x : Operation). Obeys r c x) e tt
+obeyed_first r c o rest Done (Some second) os flat k = let e : op.Else ≡ o = cc in subst (λ (x : Operation). Obeys r c x) e tt
+obeyed_first r c o rest (Plain i code) other os flat k = let e : op.Plain i ≡ o = cc in subst (λ (x : Operation). Obeys r c x) e k.0
+obeyed_first r c o rest (Block type body code) other os flat k = let e : op.Block type ≡ o = cc in subst (λ (x : Operation). Obeys r c x) e k.0
+obeyed_first r c o rest (Loop type body code) other os flat k = let e : op.Loop type ≡ o = cc in subst (λ (x : Operation). Obeys r c x) e k.0
+obeyed_first r c o rest (If type first second code) other os flat k = let e : op.If type ≡ o = cc in subst (λ (x : Operation). Obeys r c x) e k.0
 
-pub obeyed : (r : Rule) (scope : Scope) (frames : List Frame) (o : Op) (rest : List Op) (opens : List Open)
+pub obeyed : (r : Rule) (scope : Scope) (frames : List Frame) (o : Operation) (rest : List Operation) (opens : List Open)
     → o ∷ rest ≡ flat_of opens → length frames ≡ length opens → KeptOpens r scope frames opens → Obeys r (context_in scope frames) o
 obeyed r scope frames o rest [] flat same k = absurd cc
 obeyed r scope [] o rest (x ∷ os) flat same k = absurd (omega arith)
 obeyed r scope (f ∷ fs) o rest (x ∷ os) flat same k = obeyed_first r (context_in scope (f ∷ fs)) o rest x.code x.other os flat k.0
 
-shallow_first : (depth : ℕ) (o : Op) (rest : List Op) (code : Code) (other : Option Code) (os : List Open)
+shallow_first : (depth : ℕ) (o : Operation) (rest : List Operation) (code : Code) (other : Option Code) (os : List Open)
     → o ∷ rest ≡ flat_of (open_of code other ∷ os) → IsOpening o → nesting code + depth ≤ 256 → depth < 256
 shallow_first depth o rest Done None os flat opening n = let e : o ≡ op.End = cc in absurd (subst IsOpening e opening)
 shallow_first depth o rest Done (Some second) os flat opening n = let e : o ≡ op.Else = cc in absurd (subst IsOpening e opening)
@@ -93,7 +93,7 @@ shallow_first depth o rest (Block type body code) other os flat opening n = omeg
 shallow_first depth o rest (Loop type body code) other os flat opening n = omega arith
 shallow_first depth o rest (If type first second code) other os flat opening n = omega arith
 
-pub shallow_now : (frames : List Frame) (o : Op) (rest : List Op) (opens : List Open)
+pub shallow_now : (frames : List Frame) (o : Operation) (rest : List Operation) (opens : List Open)
     → o ∷ rest ≡ flat_of opens → length frames ≡ length opens → IsOpening o → NestedOpens frames opens → length frames ≤ 256
 shallow_now frames o rest [] flat same opening n = absurd cc
 shallow_now [] o rest (x ∷ os) flat same opening n = omega arith

@@ -4,9 +4,9 @@ use Rattle.syntax.specs.declared.types.ValType.{ValType}
 use Rattle.syntax.specs.declared.types.ValType.TheVariants.{I32}
 use Rattle.syntax.specs.declared.types.BlockType.{BlockType}
 use Rattle.syntax.specs.declared.instruction.Instr.{Instr}
-use Rattle.syntax.specs.declared.instruction.Op.{Op}
-use Rattle.syntax.specs.declared.instruction.Op.TheVariants as op
-use Rattle.syntax.specs.declared.module.FuncType.{FuncType}
+use Rattle.syntax.specs.declared.instruction.Operation.{Operation}
+use Rattle.syntax.specs.declared.instruction.Operation.TheVariants as op
+use Rattle.syntax.specs.declared.contents.FuncType.{FuncType}
 use Rattle.syntax.specs.Code.{Code, Done, Plain, Block, Loop, If}
 use Rattle.validate.specs.declared.operands.Operand.{Operand}
 use Rattle.validate.specs.declared.frames.Frame.{Frame}
@@ -45,15 +45,15 @@ TypedOpens scope (f ∷ fs) h (o ∷ os) =
 -- ---- what follows for the next operation
 
 -- a typing rule lets the operation follow something that the operands stand for
-pub record Follows (scope : Scope) (frames : List Frame) (h : Held) (o : Op) : Type 0 where
+pub record Follows (scope : Scope) (frames : List Frame) (h : Held) (o : Operation) : Type 0 where
   pub from : List ValType
   pub fits : Fits h from
   pub rule : MayFollow o (record { scope = scope; frames = frames; operands = h }) from
 
-follows_at : (scope : Scope) (frames : List Frame) (h : Held) (o p : Op) → p ≡ o → Follows scope frames h p → Follows scope frames h o
-follows_at scope frames h o p e n = subst (λ (x : Op). Follows scope frames h x) e n
+follows_at : (scope : Scope) (frames : List Frame) (h : Held) (o p : Operation) → p ≡ o → Follows scope frames h p → Follows scope frames h o
+follows_at scope frames h o p e n = subst (λ (x : Operation). Follows scope frames h x) e n
 
-follows_first : (scope : Scope) (f : Frame) (fs : List Frame) (h : Held) (o : Op) (rest : List Op) (code : Code) (other : Option Code) (os : List Open)
+follows_first : (scope : Scope) (f : Frame) (fs : List Frame) (h : Held) (o : Operation) (rest : List Operation) (code : Code) (other : Option Code) (os : List Open)
     → o ∷ rest ≡ flat_of (open_of code other ∷ os)
     → TypedFrom (context_in scope (f ∷ fs)) (shape_in scope f).results h code
     → Follows scope (f ∷ fs) h o
@@ -81,7 +81,7 @@ follows_first scope f fs h o rest (If type first second code) other os flat p =
     follows_at scope (f ∷ fs) h o (op.If type) e
     (record { from = p.from; fits = p.fits; rule = (pushed t.0.params t.2, t.3, (t.0, t.1, t.2, refl)) })
 
-pub follows_now : (scope : Scope) (frames : List Frame) (h : Held) (o : Op) (rest : List Op) (opens : List Open)
+pub follows_now : (scope : Scope) (frames : List Frame) (h : Held) (o : Operation) (rest : List Operation) (opens : List Open)
     → o ∷ rest ≡ flat_of opens → length frames ≡ length opens → TypedOpens scope frames h opens → Follows scope frames h o
 follows_now scope frames h o rest [] flat same k = absurd cc
 follows_now scope [] h o rest (x ∷ os) flat same k = absurd (omega arith)

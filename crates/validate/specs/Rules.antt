@@ -5,8 +5,8 @@ use Rattle.syntax.specs.declared.instruction.Instr.{Instr}
 use Rattle.syntax.specs.declared.instruction.Instr.TheVariants.{Br, BrIf, BrTable, Call, CallIndirect, LocalGet, LocalSet, LocalTee}
 use Rattle.syntax.specs.declared.instruction.Instr.TheVariants.{GlobalGet, GlobalSet, Load, LoadNarrow, Store, StoreNarrow, MemorySize}
 use Rattle.syntax.specs.declared.instruction.Instr.TheVariants.{MemoryGrow}
-use Rattle.syntax.specs.declared.module.Global.{Global}
-use Rattle.syntax.specs.declared.module.Mutability.TheVariants.{Var}
+use Rattle.syntax.specs.declared.contents.Global.{Global}
+use Rattle.syntax.specs.declared.contents.Mutability.TheVariants.{Var}
 use Rattle.syntax.specs.Code.{Code, Done, Plain, Block, Loop, If}
 use Rattle.validate.specs.Typing.{Context, inside, block_type, bytes_of_type, bytes_of_width, type_of_function}
 use Rattle.validate.specs.Height.{shape_of}

@@ -5,7 +5,7 @@ ghost use Rattle.validate.specs.Typing.{type_of_function};
 ghost use Rattle.validate.specs.SameTypes.{same_type};
 
 use crate::scope::{type_at, type_index_of};
-use syntax::module::{Contents, FuncType};
+use syntax::contents::{Contents, FuncType};
 use syntax::types::are_same;
 
 /// Whether both types are the same.

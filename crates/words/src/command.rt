@@ -27,7 +27,7 @@ pub struct Invocation {
 
 /// A work order for a module.
 #[derive(Drop)]
-pub struct WorkOrder {
+pub struct WorkRequest {
     /// The file of the module.
     pub file: String,
     /// What `uv_work` is given.
@@ -64,7 +64,7 @@ pub enum Command {
     /// Calls an exported function of a module.
     Invoke(Invocation),
     /// Lets a module compute a reply.
-    Work(WorkOrder),
+    Work(WorkRequest),
     /// Takes the steps of a script.
     Script { file: String },
     /// Runs loops of a module and workers in threads.

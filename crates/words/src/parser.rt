@@ -2,7 +2,7 @@
 
 ghost use Rattle.std.specs.Prelude.{◌≤◌, IfOk, vec_len};
 
-use crate::command::{Budget, Command, Invocation, Service, WorkOrder};
+use crate::command::{Budget, Command, Invocation, Service, WorkRequest};
 use crate::grammar;
 use crate::number::{decimal, small_decimal};
 use crate::refused::Refused;
@@ -103,7 +103,7 @@ fn bytes(alloc: Global, word: &str) -> Result<Vec<u8>, Refused>
 fn work(alloc: Global, matches: &ArgMatches<'_>) -> Result<Command, Refused> {
     let operation = small_decimal(word(matches, "operation")?).ok_or(Refused::Arguments)?;
     let bytes = bytes(alloc, matches.get_str("bytes").unwrap_or(""))?;
-    Ok(Command::Work(WorkOrder {
+    Ok(Command::Work(WorkRequest {
         budget: budget(alloc, matches)?,
         file: text(alloc, matches, "file")?,
         operation,

@@ -15,15 +15,15 @@ use Rattle.phases.specs.History.{guest_calls as calls_within}
 use Rattle.phases.specs.Laws.{is_after_event, WasAsked, IsCancel, AreDue, cancellation}
 use Rattle.phases.specs.Laws.{IsAfterOnce as LoopOnce, IsAfterOwn as LoopOwn, IsAfterLast as LoopLast, IsOwn as LoopIsOwn, WasCancelled as LoopCancelled}
 use Rattle.phases.specs.Outside.{is_failed, next_order_of}
-use Rattle.phases.specs.Requests.{Tidings}
+use Rattle.phases.specs.Requests.{Completion}
 use Rattle.phases.specs.State.{Setting, State, Loop, Core}
 use Rattle.phases.proofs.Numbered.{Same}
 use Rattle.desk.specs.Desk.{Desk, desk_calls}
 use Rattle.world_log.specs.declared.step.Step.{Step}
 use Rattle.world_log.specs.declared.step.Step.TheVariants as step
-use Rattle.world_log.specs.declared.entry.Entry.{Entry as Line}
-use Rattle.world_log.specs.declared.entry.Entry.TheVariants as line
-use Rattle.world.specs.World.{World, Hand, Empty, Taken, Started, Answer, UnlessFailed, PostsOrder, TakesJob, StartsJob, FinishesJob, CollectsFrom, StepsLoop, WorldStep, WorldRun, HasLoop, opening_world, opening_loop, told_of}
+use Rattle.world_log.specs.declared.entry.LogEntry.{LogEntry}
+use Rattle.world_log.specs.declared.entry.LogEntry.TheVariants as line
+use Rattle.world.specs.World.{World, Worker, Idle, Taken, Started, Answer, UnlessFailed, PostsOrder, TakesJob, StartsJob, FinishesJob, CollectsFrom, StepsLoop, WorldStep, WorldRun, HasLoop, opening_world, opening_loop, told_of}
 use Rattle.world.specs.Guests.{step_calls, guest_calls}
 use Rattle.world.specs.Histories.{AreTold, HasHistory}
 use Rattle.world.specs.Laws.{is_after, WasCancelled, IsOwn}
@@ -44,37 +44,37 @@ module _ (j r : ℕ) where
   after_told n (did.Ran kind.After number ended) emits h = eqb-true n j (both_true (n == j) (number == r) h).0
   after_told n _ emits h = absurd (cc)
 
-  abbrev Silent : Line → Type 0
+  abbrev Silent : LogEntry → Type 0
   Silent entry = is_after j r entry ≡ false
 
-  unless_silent : (w w' : World) (n : ℕ) (l : Loop Desk) (entry : Line) (P : Type 0) → (P → Silent entry) → UnlessFailed w n l entry w' P → Silent entry
+  unless_silent : (w w' : World) (n : ℕ) (l : Loop Desk) (entry : LogEntry) (P : Type 0) → (P → Silent entry) → UnlessFailed w n l entry w' P → Silent entry
   unless_silent w w' n l entry P f h = either (is_failed l.state.status) _ _ (Silent entry) (λ k. ap (is_after j r) k.0) f h
 
-  order_silent : (w w' : World) (n : ℕ) (g : Setting) (l : Loop Desk) (out : Option WorkOrder × State) (entry : Line) → PostsOrder w n g l out entry w' → Silent entry
+  order_silent : (w w' : World) (n : ℕ) (g : Setting) (l : Loop Desk) (out : Option WorkOrder × State) (entry : LogEntry) → PostsOrder w n g l out entry w' → Silent entry
   order_silent w w' n g l (None, s) entry h = ap (is_after j r) h.0
   order_silent w w' n g l (Some o, s) entry h = ap (is_after j r) h.0
 
-  take_silent : (w w' : World) (n : ℕ) (hand : Hand) (jobs : List WorkOrder) (entry : Line) → TakesJob w n hand jobs entry w' → Silent entry
-  take_silent w w' n Empty (o ∷ jobs) entry h = ap (is_after j r) h.0
-  take_silent w w' n Empty [] entry h = ap (is_after j r) h.0
+  take_silent : (w w' : World) (n : ℕ) (state : Worker) (jobs : List WorkOrder) (entry : LogEntry) → TakesJob w n state jobs entry w' → Silent entry
+  take_silent w w' n Idle (o ∷ jobs) entry h = ap (is_after j r) h.0
+  take_silent w w' n Idle [] entry h = ap (is_after j r) h.0
   take_silent w w' n (Taken o) jobs entry h = ap (is_after j r) h.0
   take_silent w w' n (Started o) jobs entry h = ap (is_after j r) h.0
 
-  start_silent : (w w' : World) (n : ℕ) (hand : Hand) (entry : Line) → StartsJob w n hand entry w' → Silent entry
+  start_silent : (w w' : World) (n : ℕ) (state : Worker) (entry : LogEntry) → StartsJob w n state entry w' → Silent entry
   start_silent w w' n (Taken o) entry h = either h.3 _ _ (Silent entry) (λ k. ap (is_after j r) k.0) (λ k. ap (is_after j r) k.0) h.6
-  start_silent w w' n Empty entry h = ap (is_after j r) h.0
+  start_silent w w' n Idle entry h = ap (is_after j r) h.0
   start_silent w w' n (Started o) entry h = ap (is_after j r) h.0
 
-  finish_silent : (w w' : World) (n : ℕ) (hand : Hand) (entry : Line) → FinishesJob w n hand entry w' → Silent entry
+  finish_silent : (w w' : World) (n : ℕ) (state : Worker) (entry : LogEntry) → FinishesJob w n state entry w' → Silent entry
   finish_silent w w' n (Started o) entry h = ap (is_after j r) h.told
-  finish_silent w w' n Empty entry h = ap (is_after j r) h.0
+  finish_silent w w' n Idle entry h = ap (is_after j r) h.0
   finish_silent w w' n (Taken o) entry h = ap (is_after j r) h.0
 
-  collect_silent : (w w' : World) (n : ℕ) (g : Setting) (l : Loop Desk) (replies : List Answer) (entry : Line) → CollectsFrom w n g l replies entry w' → Silent entry
+  collect_silent : (w w' : World) (n : ℕ) (g : Setting) (l : Loop Desk) (replies : List Answer) (entry : LogEntry) → CollectsFrom w n g l replies entry w' → Silent entry
   collect_silent w w' n g l [] entry h = ap (is_after j r) h.0
   collect_silent w w' n g l (a ∷ replies) entry h = either h.0 _ _ (Silent entry) (λ k. ap (is_after j r) k.1) (λ k. ap (is_after j r) k.1) h.1
 
-  after_step : (w w' : World) (s : Step) (entry : Line) → WorldStep w s entry w' → is_after j r entry ≡ true → StepsLoop w j entry w'
+  after_step : (w w' : World) (s : Step) (entry : LogEntry) → WorldStep w s entry w' → is_after j r entry ≡ true → StepsLoop w j entry w'
   after_step w w' (step.Loop n) entry h is =
       subst (λ k. StepsLoop w k entry w') (after_told n h.did h.new.state.emits (ap (is_after j r) (sym h.told) ∙ is)) h
   after_step w w' (step.Post n) entry h is =
@@ -128,7 +128,7 @@ module _ (settings : List Setting) (j : ℕ) where
     replies = no_replies settings;
   }
 
-  module _ (workers : ℕ) (steps : List Step) (log : List Line) (w : World) (run : WorldRun (opening_world settings workers) steps log w) where
+  module _ (workers : ℕ) (steps : List Step) (log : List LogEntry) (w : World) (run : WorldRun (opening_world settings workers) steps log w) where
     abbrev Made : List GuestCall
     Made = guest_calls j (opening_world settings workers) steps log w run
 
@@ -141,7 +141,7 @@ module _ (settings : List Setting) (j : ℕ) where
         (it.begins.0, record { events = it.events; history = subst (λ l. History desk_calls g l it.events now) it.begins.1 it.history; told = it.told; calls = it.calls })
 
     -- what was cancelled, in the log and in the history
-    cancelled_same : (Begins : Setting → Loop Desk → Type 0) (there : Bool) (r : ℕ) (lines : List Line) (made : List GuestCall) (g : Setting) (l : Loop Desk) (it : Told Begins there j lines made g l)
+    cancelled_same : (Begins : Setting → Loop Desk → Type 0) (there : Bool) (r : ℕ) (lines : List LogEntry) (made : List GuestCall) (g : Setting) (l : Loop Desk) (it : Told Begins there j lines made g l)
         → Same (LoopCancelled r it.events) (WasCancelled j r lines made)
     cancelled_same Begins there r lines made g l it = (to, back) where
       to : LoopCancelled r it.events → WasCancelled j r lines made
@@ -152,12 +152,12 @@ module _ (settings : List Setting) (j : ℕ) where
       back (inl h) = inl ((it.cancels r).0 h)
       back (inr a) = inr (a.0, subst (λ cs. Contains cs a.0) (sym it.calls) a.1, a.2)
 
-    due_same : (o : WorkOrder) (t : Tidings) (P Q : Type 0) → Same P Q → AreDue o t P → AreDue o t Q
+    due_same : (o : WorkOrder) (t : Completion) (P Q : Type 0) → Same P Q → AreDue o t P → AreDue o t Q
     due_same o t P Q same (inl h) = inl (same.0 h.0, h.1)
     due_same o t P Q same (inr h) = inr (λ q. h.0 (same.1 q), h.1)
 
     -- a callback after the run
-    module _ (r : ℕ) (s : Step) (entry : Line) (w' : World) (h : WorldStep w s entry w') (is : is_after j r entry ≡ true) where
+    module _ (r : ℕ) (s : Step) (entry : LogEntry) (w' : World) (h : WorldStep w s entry w') (is : is_after j r entry ≡ true) where
       here : StepsLoop w j entry w'
       here = after_step j r w w' s entry h is
 
@@ -174,12 +174,12 @@ module _ (settings : List Setting) (j : ℕ) where
           record {
             setting = here.setting;
             request = it.request;
-            tidings = it.tidings;
+            completion = it.completion;
             of_loop = before.begins.0;
             numbered = it.numbered;
             asked = subst (λ cs. WasAsked here.setting cs it.request.order) before.calls it.asked;
             runs = record { old = here.old; new = here.new; did = here.did; at = here.at; runs = it.runs; told = here.told; after = here.after };
-            due = due_same it.request.order it.tidings _ _ (cancelled_same Opens (IsThere workers) r log Made here.setting here.old before) it.due;
+            due = due_same it.request.order it.completion _ _ (cancelled_same Opens (IsThere workers) r log Made here.setting here.old before) it.due;
           }
 
       -- from here on
@@ -197,7 +197,7 @@ module _ (settings : List Setting) (j : ℕ) where
       some_of None h = absurd (cc)
       some_of (Some x) h = (x, refl)
 
-      late : LoopLast desk_calls → (more : List Line) (events : List Event) (g : Setting) (start now : Loop Desk) → From g start → History desk_calls g start events now → AreTold j (entry ∷ more) events
+      late : LoopLast desk_calls → (more : List LogEntry) (events : List Event) (g : Setting) (start now : Loop Desk) → From g start → History desk_calls g start events now → AreTold j (entry ∷ more) events
           → LoopCancelled r events → ⊥
       late law more [] g start now begins history told cancelled = absurd told
       late law more (e ∷ events) g start now begins history told cancelled =
@@ -206,7 +206,7 @@ module _ (settings : List Setting) (j : ℕ) where
           (subst (λ (x : Core Desk). History desk_calls x.setting x.loop (e ∷ events) now) (sym begins) history))
           r (sym (tells_callback j r entry e told.0) ∙ is) cancelled
 
-      pub last_after : LoopLast desk_calls → (behind : List Step) (more : List Line) (w'' : World) (rest : WorldRun w' behind more w'')
+      pub last_after : LoopLast desk_calls → (behind : List Step) (more : List LogEntry) (w'' : World) (rest : WorldRun w' behind more w'')
           → WasCancelled j r (entry ∷ more) (step_calls j w s entry w' h ++ guest_calls j w' behind more w'' rest) → ⊥
       last_after law behind more w'' rest cancelled =
           let next = step_next From true j w [] [] from_keeps s entry w' h in
@@ -218,7 +218,7 @@ module _ (settings : List Setting) (j : ℕ) where
 
   -- how often a callback was told
   module _ (r : ℕ) (law : LoopOnce desk_calls) where
-    once_step : (there : Bool) (w : World) (log : List Line) (made : List GuestCall) → Keeps Opens there j w log made → (s : Step) (entry : Line) (w' : World) → WorldStep w s entry w'
+    once_step : (there : Bool) (w : World) (log : List LogEntry) (made : List GuestCall) → Keeps Opens there j w log made → (s : Step) (entry : LogEntry) (w' : World) → WorldStep w s entry w'
         → count_by (is_after j r) log ≤ 1 → count_by (is_after j r) (log ++ entry ∷ []) ≤ 1
     once_step there w log made keeps s entry w' h few = by (is_after j r entry) refl where
       by : (b : Bool) → is_after j r entry ≡ b → count_by (is_after j r) (log ++ entry ∷ []) ≤ 1
@@ -230,7 +230,7 @@ module _ (settings : List Setting) (j : ℕ) where
           (law here.setting it.start here.new it.events (subst (IsOpening desk_calls here.setting) (sym it.begins.1) (opening_is here.setting)) it.history r)
       by false none = subst (λ n. n ≤ 1) (sym (sum_by_push (λ x. cond (is_after j r x) 1 0) log entry ∙ rw none (omega arith))) few
 
-    once_run : (there : Bool) (steps : List Step) (told : List Line) (w w' : World) (log : List Line) (made : List GuestCall) → Keeps Opens there j w log made → count_by (is_after j r) log ≤ 1
+    once_run : (there : Bool) (steps : List Step) (told : List LogEntry) (w w' : World) (log : List LogEntry) (made : List GuestCall) → Keeps Opens there j w log made → count_by (is_after j r) log ≤ 1
         → WorldRun w steps told w' → count_by (is_after j r) (log ++ told) ≤ 1
     once_run there [] [] w w' log made keeps few run = subst (λ xs. count_by (is_after j r) xs ≤ 1) (sym (append-nil log)) few
     once_run there [] (e ∷ told) w w' log made keeps few run = absurd run
@@ -239,5 +239,5 @@ module _ (settings : List Setting) (j : ℕ) where
         subst (λ xs. count_by (is_after j r) xs ≤ 1) (append_assoc log (e ∷ []) told)
         (once_run there steps told run.0 w' (log ++ e ∷ []) (made ++ step_calls j w s e run.0 run.1) (step_next Opens there j w log made keeps s e run.0 run.1) (once_step there w log made keeps s e run.0 run.1 few) run.2)
 
-    pub once_after : (workers : ℕ) (steps : List Step) (log : List Line) (w : World) → WorldRun (opening_world settings workers) steps log w → count_by (is_after j r) log ≤ 1
+    pub once_after : (workers : ℕ) (steps : List Step) (log : List LogEntry) (w : World) → WorldRun (opening_world settings workers) steps log w → count_by (is_after j r) log ≤ 1
     once_after workers steps log w run = once_run (IsThere workers) steps log (opening_world settings workers) w [] [] (opening_keeps workers) (omega arith) run

@@ -4,17 +4,17 @@ use Rattle.std.specs.Prelude.{slice_get, slice_set}
 use Rattle.std.proofs.lemmas.Option.{slice_get-get_or}
 use Rattle.order.specs.Work.{WorkOrder}
 use Rattle.order.specs.declared.reply.Reply.{Reply}
-use Rattle.phases.specs.declared.running.Accepted.{Accepted}
-use Rattle.phases.specs.declared.running.Accepted.TheVariants as accept
+use Rattle.phases.specs.declared.loop_core.Accepted.{Accepted}
+use Rattle.phases.specs.declared.loop_core.Accepted.TheVariants as accept
 use Rattle.phases.specs.Accepting.{Accepts}
 use Rattle.phases.specs.State.{Loop, Core}
 use Rattle.phases.specs.Outside.{is_failed}
 use Rattle.desk.specs.Desk.{Desk}
-use Rattle.world_log.specs.declared.entry.Entry.TheVariants as line
+use Rattle.world_log.specs.declared.entry.LogEntry.TheVariants as line
 use Rattle.world_log.specs.declared.outcome.CollectOutcome.{CollectOutcome}
 use Rattle.world_log.specs.declared.outcome.CollectOutcome.TheVariants as collect
 use Rattle.world.specs.Making.{answer_of}
-use Rattle.world.specs.World.{World, Hand, Answer, Collects, with_loop, with_replies}
+use Rattle.world.specs.World.{World, Worker, Answer, Collects, with_loop, with_replies}
 use Rattle.world.proofs.Sets.{set_same, map_get}
 use Rattle.world.proofs.Turning.{world_of, here, untouched, moved, failing, going_on}
 
@@ -26,7 +26,7 @@ pub emptied : {X : Type 0} (xs : List X) → length xs ≡ 0 → xs ≡ []
 emptied [] e = refl
 emptied (x ∷ xs) e = absurd (omega (arith, e))
 
-module _ (w : World) (ls : List (Core Desk)) (js : List WorkOrder) (hs : List Hand) (rs : List (List Answer)) (is : world_of ls js hs rs ≡ w) (n : ℕ) (p : Core Desk) (at : slice_get ls n ≡ Some p) where
+module _ (w : World) (ls : List (Core Desk)) (js : List WorkOrder) (hs : List Worker) (rs : List (List Answer)) (is : world_of ls js hs rs ≡ w) (n : ℕ) (p : Core Desk) (at : slice_get ls n ≡ Some p) where
   there : (replies : List Answer) → slice_get rs n ≡ Some replies → slice_get w.replies n ≡ Some replies
   there replies waits = ap (λ x. slice_get x.replies n) (sym is) ∙ waits
 

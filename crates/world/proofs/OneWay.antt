@@ -17,8 +17,8 @@ use Rattle.phases.specs.Step.{in_state}
 use Rattle.desk.specs.Desk.{Desk, desk_calls}
 use Rattle.world_log.specs.declared.step.Step.{Step}
 use Rattle.world_log.specs.declared.step.Step.TheVariants as step
-use Rattle.world_log.specs.declared.entry.Entry.{Entry as Line}
-use Rattle.world_log.specs.declared.entry.Entry.TheVariants as line
+use Rattle.world_log.specs.declared.entry.LogEntry.{LogEntry}
+use Rattle.world_log.specs.declared.entry.LogEntry.TheVariants as line
 use Rattle.world_log.specs.declared.outcome.PostOutcome.TheVariants as post
 use Rattle.world_log.specs.declared.outcome.StartOutcome.TheVariants as start
 use Rattle.world_log.specs.declared.outcome.FinishOutcome.TheVariants as finish
@@ -26,7 +26,7 @@ use Rattle.world_log.specs.declared.outcome.CollectOutcome.TheVariants as collec
 use Rattle.world.specs.Guests.{step_calls}
 use Rattle.world.specs.Histories.{Tells, AreTold, is_of_owner}
 use Rattle.world.specs.Laws.{is_of_job, is_posted, is_taken, is_begun, is_dropped, is_finished, is_collected, GoesOnce, AreInPlace}
-use Rattle.world.specs.World.{World, Hand, Empty, Taken, Started, Answer, Only, UnlessFailed, PostsOrder, Posts, TakesJob, StartsJob, FinishesJob, CollectsFrom, StepsLoop, WorldStep, WorldRun, HasLoop, opening_world, job_of, told_of}
+use Rattle.world.specs.World.{World, Worker, Idle, Taken, Started, Answer, Only, UnlessFailed, PostsOrder, Posts, TakesJob, StartsJob, FinishesJob, CollectsFrom, StepsLoop, WorldStep, WorldRun, HasLoop, opening_world, job_of, told_of}
 use Rattle.world.proofs.AfterOnce.{Opens, IsThere, opening_keeps, opening_is}
 use Rattle.world.proofs.Runs.{Keeps, Told, set_here, set_apart, either, step_next}
 use Rattle.world.proofs.Sets.{core}
@@ -59,13 +59,13 @@ module _ (l r : ℕ) where
   abbrev is_order : WorkOrder → Bool
   is_order o = is_of_job l r (job_of o)
 
-  abbrev is_taken_hand : Hand → Bool
-  is_taken_hand (Taken o) = is_order o
-  is_taken_hand _ = false
+  abbrev is_taken_worker : Worker → Bool
+  is_taken_worker (Taken o) = is_order o
+  is_taken_worker _ = false
 
-  abbrev is_started_hand : Hand → Bool
-  is_started_hand (Started o) = is_order o
-  is_started_hand _ = false
+  abbrev is_started_worker : Worker → Bool
+  is_started_worker (Started o) = is_order o
+  is_started_worker _ = false
 
   abbrev is_answer : Answer → Bool
   is_answer a = a.order.request == r
@@ -74,23 +74,23 @@ module _ (l r : ℕ) where
   replies_at replies = count_by is_answer (list_at (slice_get replies l))
 
   -- each line of the way, and where the job is between it and the next
-  record Balanced (w : World) (log : List Line) : Type 0 where
+  record Balanced (w : World) (log : List LogEntry) : Type 0 where
     pub posted : count_by (is_taken l r) log + count_by is_order w.jobs ≡ count_by (is_posted l r) log
-    pub taken : count_by (is_begun l r) log + count_by (is_dropped l r) log + count_by is_taken_hand w.hands ≡ count_by (is_taken l r) log
-    pub begun : count_by (is_finished l r) log + count_by is_started_hand w.hands ≡ count_by (is_begun l r) log
+    pub taken : count_by (is_begun l r) log + count_by (is_dropped l r) log + count_by is_taken_worker w.workers ≡ count_by (is_taken l r) log
+    pub begun : count_by (is_finished l r) log + count_by is_started_worker w.workers ≡ count_by (is_begun l r) log
     pub ended : count_by (is_collected l r) log + replies_at w.replies ≤ count_by (is_finished l r) log
 
-  pushed : (p : Line → Bool) (log : List Line) (entry : Line) → count_by p (log ++ entry ∷ []) ≡ count_by p log + cond (p entry) 1 0
+  pushed : (p : LogEntry → Bool) (log : List LogEntry) (entry : LogEntry) → count_by p (log ++ entry ∷ []) ≡ count_by p log + cond (p entry) 1 0
   pushed p log entry = sum_by_push (λ x. cond (p x) 1 0) log entry
 
   -- how much of each kind one line is, and what it moves
-  record Moves (w w' : World) (told : Line) : Type 0 where
+  record Moves (w w' : World) (told : LogEntry) : Type 0 where
     pub jobs : cond (is_taken l r told) 1 0 + count_by is_order w'.jobs ≡ count_by is_order w.jobs + cond (is_posted l r told) 1 0
-    pub taken : cond (is_begun l r told) 1 0 + cond (is_dropped l r told) 1 0 + count_by is_taken_hand w'.hands ≡ count_by is_taken_hand w.hands + cond (is_taken l r told) 1 0
-    pub started : cond (is_finished l r told) 1 0 + count_by is_started_hand w'.hands ≡ count_by is_started_hand w.hands + cond (is_begun l r told) 1 0
+    pub taken : cond (is_begun l r told) 1 0 + cond (is_dropped l r told) 1 0 + count_by is_taken_worker w'.workers ≡ count_by is_taken_worker w.workers + cond (is_taken l r told) 1 0
+    pub started : cond (is_finished l r told) 1 0 + count_by is_started_worker w'.workers ≡ count_by is_started_worker w.workers + cond (is_begun l r told) 1 0
     pub ended : cond (is_collected l r told) 1 0 + replies_at w'.replies ≤ replies_at w.replies + cond (is_finished l r told) 1 0
 
-  balanced_on : (w w' : World) (log : List Line) (told : Line) → Moves w w' told → Balanced w log → Balanced w' (log ++ told ∷ [])
+  balanced_on : (w w' : World) (log : List LogEntry) (told : LogEntry) → Moves w w' told → Balanced w log → Balanced w' (log ++ told ∷ [])
   balanced_on w w' log told m b =
       let p = pushed (is_posted l r) log told in
       let t = pushed (is_taken l r) log told in
@@ -114,7 +114,7 @@ module _ (l r : ℕ) where
       }
 
   -- a line that is none of them
-  record IsQuiet (told : Line) : Type 0 where
+  record IsQuiet (told : LogEntry) : Type 0 where
     pub posted : is_posted l r told ≡ false
     pub taken : is_taken l r told ≡ false
     pub begun : is_begun l r told ≡ false
@@ -123,27 +123,27 @@ module _ (l r : ℕ) where
     pub collected : is_collected l r told ≡ false
 
   -- what one step did: how the job moved, and that its loop is there where it was posted
-  record Goes (w w' : World) (entry : Line) : Type 0 where
+  record Goes (w w' : World) (entry : LogEntry) : Type 0 where
     pub moves : Moves w w' entry
     pub there : (is_posted l r entry ≡ false) ⊎ (is_some (slice_get w.loops l) ≡ true)
 
   -- the same by what is told
-  as_told : (w w' : World) (entry told : Line) → entry ≡ told → Goes w w' told → Goes w w' entry
+  as_told : (w w' : World) (entry told : LogEntry) → entry ≡ told → Goes w w' told → Goes w w' entry
   as_told w w' entry told is h = subst (Goes w w') (sym is) h
 
-  stays : (w w' : World) (told : Line) → IsQuiet told → w'.jobs ≡ w.jobs → w'.hands ≡ w.hands → w'.replies ≡ w.replies → Goes w w' told
-  stays w w' told q jobs hands replies = record {
+  stays : (w w' : World) (told : LogEntry) → IsQuiet told → w'.jobs ≡ w.jobs → w'.workers ≡ w.workers → w'.replies ≡ w.replies → Goes w w' told
+  stays w w' told q jobs states replies = record {
     moves = record {
       jobs = rw (q.taken, q.posted, jobs) (omega arith);
-      taken = rw (q.begun, q.dropped, q.taken, hands) (omega arith);
-      started = rw (q.finished, q.begun, hands) (omega arith);
+      taken = rw (q.begun, q.dropped, q.taken, states) (omega arith);
+      started = rw (q.finished, q.begun, states) (omega arith);
       ended = rw (q.collected, q.finished, replies) (omega arith);
     };
     there = inl q.posted;
   }
 
-  only : (w w' : World) (entry told : Line) → IsQuiet told → Only w entry told w' → Goes w w' entry
-  only w w' entry told q h = as_told w w' entry told h.0 (stays w w' told q (ap (λ (x : World). x.jobs) h.1) (ap (λ (x : World). x.hands) h.1) (ap (λ (x : World). x.replies) h.1))
+  only : (w w' : World) (entry told : LogEntry) → IsQuiet told → Only w entry told w' → Goes w w' entry
+  only w w' entry told q h = as_told w w' entry told h.0 (stays w w' told q (ap (λ (x : World). x.jobs) h.1) (ap (λ (x : World). x.workers) h.1) (ap (λ (x : World). x.replies) h.1))
 
   failed_quiet : (n : ℕ) → IsQuiet (line.Failed n)
   failed_quiet n = record { posted = refl; taken = refl; begun = refl; dropped = refl; finished = refl; collected = refl }
@@ -156,16 +156,16 @@ module _ (l r : ℕ) where
   step_quiet n did.Failed emits = record { posted = refl; taken = refl; begun = refl; dropped = refl; finished = refl; collected = refl }
 
   module _ (w w' : World) where
-    unless_goes : (n : ℕ) (m : Loop Desk) (entry : Line) (P : Type 0) → (P → Goes w w' entry) → UnlessFailed w n m entry w' P → Goes w w' entry
+    unless_goes : (n : ℕ) (m : Loop Desk) (entry : LogEntry) (P : Type 0) → (P → Goes w w' entry) → UnlessFailed w n m entry w' P → Goes w w' entry
     unless_goes n m entry P f h = either (is_failed m.state.status) _ _ (Goes w w' entry) (only w w' entry (line.Failed n) (failed_quiet n)) f h
 
-    loop_goes : (n : ℕ) (entry : Line) → StepsLoop w n entry w' → Goes w w' entry
+    loop_goes : (n : ℕ) (entry : LogEntry) → StepsLoop w n entry w' → Goes w w' entry
     loop_goes n entry h =
         as_told w w' entry _ h.told
-        (stays w w' _ (step_quiet n h.did h.new.state.emits) (ap (λ (x : World). x.jobs) h.after) (ap (λ (x : World). x.hands) h.after) (ap (λ (x : World). x.replies) h.after))
+        (stays w w' _ (step_quiet n h.did h.new.state.emits) (ap (λ (x : World). x.jobs) h.after) (ap (λ (x : World). x.workers) h.after) (ap (λ (x : World). x.replies) h.after))
 
     -- of a loop whose orders have its number
-    order_goes : (n : ℕ) (g : Setting) (m : Loop Desk) (out : Option WorkOrder × State) (entry : Line) → is_some (slice_get w.loops n) ≡ true → ((o : WorkOrder) → out.0 ≡ Some o → o.loop_no ≡ n)
+    order_goes : (n : ℕ) (g : Setting) (m : Loop Desk) (out : Option WorkOrder × State) (entry : LogEntry) → is_some (slice_get w.loops n) ≡ true → ((o : WorkOrder) → out.0 ≡ Some o → o.loop_no ≡ n)
         → PostsOrder w n g m out entry w' → Goes w w' entry
     order_goes n g m (None, s) entry at own h = only w w' entry (line.Post n post.Nothing) (record { posted = refl; taken = refl; begun = refl; dropped = refl; finished = refl; collected = refl }) h
     order_goes n g m (Some o, s) entry at own h = as_told w w' entry _ h.0 (record {
@@ -177,8 +177,8 @@ module _ (l r : ℕ) where
             let equal = ap (λ b. cond {A = ℕ} b 1 0) same in
             omega (arith, more, counted, equal)
             );
-        taken = rw (ap (λ (x : World). x.hands) h.1) (omega arith);
-        started = rw (ap (λ (x : World). x.hands) h.1) (omega arith);
+        taken = rw (ap (λ (x : World). x.workers) h.1) (omega arith);
+        started = rw (ap (λ (x : World). x.workers) h.1) (omega arith);
         ended = rw (ap (λ (x : World). x.replies) h.1) (omega arith);
       };
       there = elim (cases_eq n l) [
@@ -187,37 +187,37 @@ module _ (l r : ℕ) where
       ];
     })
 
-    -- one worker's hand
-    hand_taken : (n : ℕ) (old new : Hand) → slice_get w.hands n ≡ Some old → w'.hands ≡ slice_set w.hands n new
-        → count_by is_taken_hand w'.hands + cond (is_taken_hand old) 1 0 ≡ count_by is_taken_hand w.hands + cond (is_taken_hand new) 1 0
-    hand_taken n old new at e = ap (λ hs. count_by is_taken_hand hs + cond (is_taken_hand old) 1 0) e ∙ set_counted is_taken_hand w.hands n new old at
+    -- one worker
+    worker_taken : (n : ℕ) (old new : Worker) → slice_get w.workers n ≡ Some old → w'.workers ≡ slice_set w.workers n new
+        → count_by is_taken_worker w'.workers + cond (is_taken_worker old) 1 0 ≡ count_by is_taken_worker w.workers + cond (is_taken_worker new) 1 0
+    worker_taken n old new at e = ap (λ hs. count_by is_taken_worker hs + cond (is_taken_worker old) 1 0) e ∙ set_counted is_taken_worker w.workers n new old at
 
-    hand_started : (n : ℕ) (old new : Hand) → slice_get w.hands n ≡ Some old → w'.hands ≡ slice_set w.hands n new
-        → count_by is_started_hand w'.hands + cond (is_started_hand old) 1 0 ≡ count_by is_started_hand w.hands + cond (is_started_hand new) 1 0
-    hand_started n old new at e = ap (λ hs. count_by is_started_hand hs + cond (is_started_hand old) 1 0) e ∙ set_counted is_started_hand w.hands n new old at
+    worker_started : (n : ℕ) (old new : Worker) → slice_get w.workers n ≡ Some old → w'.workers ≡ slice_set w.workers n new
+        → count_by is_started_worker w'.workers + cond (is_started_worker old) 1 0 ≡ count_by is_started_worker w.workers + cond (is_started_worker new) 1 0
+    worker_started n old new at e = ap (λ hs. count_by is_started_worker hs + cond (is_started_worker old) 1 0) e ∙ set_counted is_started_worker w.workers n new old at
 
-    take_goes : (n : ℕ) (hand : Hand) (jobs : List WorkOrder) (entry : Line) → w.jobs ≡ jobs → slice_get w.hands n ≡ Some hand → TakesJob w n hand jobs entry w' → Goes w w' entry
-    take_goes n Empty (o ∷ jobs) entry is at h = as_told w w' entry _ h.0 (record {
+    take_goes : (n : ℕ) (state : Worker) (jobs : List WorkOrder) (entry : LogEntry) → w.jobs ≡ jobs → slice_get w.workers n ≡ Some state → TakesJob w n state jobs entry w' → Goes w w' entry
+    take_goes n Idle (o ∷ jobs) entry is at h = as_told w w' entry _ h.0 (record {
       moves = record {
         jobs = (let old = ap (count_by is_order) is in let new = ap (λ (x : World). count_by is_order x.jobs) h.1 in let front = counted is_order o jobs in omega (arith, old, new, front));
-        taken = (let it = hand_taken n Empty (Taken o) at (ap (λ (x : World). x.hands) h.1) in omega (arith, it));
-        started = (let it = hand_started n Empty (Taken o) at (ap (λ (x : World). x.hands) h.1) in omega (arith, it));
+        taken = (let it = worker_taken n Idle (Taken o) at (ap (λ (x : World). x.workers) h.1) in omega (arith, it));
+        started = (let it = worker_started n Idle (Taken o) at (ap (λ (x : World). x.workers) h.1) in omega (arith, it));
         ended = rw (ap (λ (x : World). x.replies) h.1) (omega arith);
       };
       there = inl refl;
     })
-    take_goes n Empty [] entry is at h = only w w' entry (line.Take n None) (record { posted = refl; taken = refl; begun = refl; dropped = refl; finished = refl; collected = refl }) h
+    take_goes n Idle [] entry is at h = only w w' entry (line.Take n None) (record { posted = refl; taken = refl; begun = refl; dropped = refl; finished = refl; collected = refl }) h
     take_goes n (Taken o) jobs entry is at h = only w w' entry (line.Take n None) (record { posted = refl; taken = refl; begun = refl; dropped = refl; finished = refl; collected = refl }) h
     take_goes n (Started o) jobs entry is at h = only w w' entry (line.Take n None) (record { posted = refl; taken = refl; begun = refl; dropped = refl; finished = refl; collected = refl }) h
 
-    start_goes : (n : ℕ) (hand : Hand) (entry : Line) → slice_get w.hands n ≡ Some hand → StartsJob w n hand entry w' → Goes w w' entry
+    start_goes : (n : ℕ) (state : Worker) (entry : LogEntry) → slice_get w.workers n ≡ Some state → StartsJob w n state entry w' → Goes w w' entry
     start_goes n (Taken o) entry at h =
         either h.3 _ _ (Goes w w' entry)
         (λ k. as_told w w' entry _ k.0 (record {
           moves = record {
             jobs = rw (ap (λ (x : World). x.jobs) k.1) (omega arith);
-            taken = (let it = hand_taken n (Taken o) (Started o) at (ap (λ (x : World). x.hands) k.1) in omega (arith, it));
-            started = (let it = hand_started n (Taken o) (Started o) at (ap (λ (x : World). x.hands) k.1) in omega (arith, it));
+            taken = (let it = worker_taken n (Taken o) (Started o) at (ap (λ (x : World). x.workers) k.1) in omega (arith, it));
+            started = (let it = worker_started n (Taken o) (Started o) at (ap (λ (x : World). x.workers) k.1) in omega (arith, it));
             ended = rw (ap (λ (x : World). x.replies) k.1) (omega arith);
           };
           there = inl refl;
@@ -225,14 +225,14 @@ module _ (l r : ℕ) where
         (λ k. as_told w w' entry _ k.0 (record {
           moves = record {
             jobs = rw (ap (λ (x : World). x.jobs) k.1) (omega arith);
-            taken = (let it = hand_taken n (Taken o) Empty at (ap (λ (x : World). x.hands) k.1) in omega (arith, it));
-            started = (let it = hand_started n (Taken o) Empty at (ap (λ (x : World). x.hands) k.1) in omega (arith, it));
+            taken = (let it = worker_taken n (Taken o) Idle at (ap (λ (x : World). x.workers) k.1) in omega (arith, it));
+            started = (let it = worker_started n (Taken o) Idle at (ap (λ (x : World). x.workers) k.1) in omega (arith, it));
             ended = rw (ap (λ (x : World). x.replies) k.1) (omega arith);
           };
           there = inl refl;
         }))
         h.6
-    start_goes n Empty entry at h = only w w' entry (line.Start n start.Nothing) (record { posted = refl; taken = refl; begun = refl; dropped = refl; finished = refl; collected = refl }) h
+    start_goes n Idle entry at h = only w w' entry (line.Start n start.Nothing) (record { posted = refl; taken = refl; begun = refl; dropped = refl; finished = refl; collected = refl }) h
     start_goes n (Started o) entry at h = only w w' entry (line.Start n start.Nothing) (record { posted = refl; taken = refl; begun = refl; dropped = refl; finished = refl; collected = refl }) h
 
     -- one loop's replies
@@ -258,12 +258,12 @@ module _ (l r : ℕ) where
     both true b = refl
     both false b = refl
 
-    finish_goes : (n : ℕ) (hand : Hand) (entry : Line) → slice_get w.hands n ≡ Some hand → FinishesJob w n hand entry w' → Goes w w' entry
+    finish_goes : (n : ℕ) (state : Worker) (entry : LogEntry) → slice_get w.workers n ≡ Some state → FinishesJob w n state entry w' → Goes w w' entry
     finish_goes n (Started o) entry at h = as_told w w' entry _ h.told (record {
       moves = record {
         jobs = rw (ap (λ (x : World). x.jobs) h.after) (omega arith);
-        taken = (let it = hand_taken n (Started o) Empty at (ap (λ (x : World). x.hands) h.after) in omega (arith, it));
-        started = (let it = hand_started n (Started o) Empty at (ap (λ (x : World). x.hands) h.after) in omega (arith, it));
+        taken = (let it = worker_taken n (Started o) Idle at (ap (λ (x : World). x.workers) h.after) in omega (arith, it));
+        started = (let it = worker_started n (Started o) Idle at (ap (λ (x : World). x.workers) h.after) in omega (arith, it));
         ended = (
             let new : Answer = record { order = o; end = h.end } in
             let it = replies_set o.loop_no h.replies (h.replies ++ new ∷ []) h.waiting (ap (λ (x : World). x.replies) h.after) in
@@ -275,18 +275,18 @@ module _ (l r : ℕ) where
       };
       there = inl refl;
     })
-    finish_goes n Empty entry at h = only w w' entry (line.Finish n finish.Nothing) (record { posted = refl; taken = refl; begun = refl; dropped = refl; finished = refl; collected = refl }) h
+    finish_goes n Idle entry at h = only w w' entry (line.Finish n finish.Nothing) (record { posted = refl; taken = refl; begun = refl; dropped = refl; finished = refl; collected = refl }) h
     finish_goes n (Taken o) entry at h = only w w' entry (line.Finish n finish.Nothing) (record { posted = refl; taken = refl; begun = refl; dropped = refl; finished = refl; collected = refl }) h
 
-    collect_goes : (n : ℕ) (g : Setting) (m : Loop Desk) (replies : List Answer) (entry : Line) → slice_get w.replies n ≡ Some replies → CollectsFrom w n g m replies entry w' → Goes w w' entry
+    collect_goes : (n : ℕ) (g : Setting) (m : Loop Desk) (replies : List Answer) (entry : LogEntry) → slice_get w.replies n ≡ Some replies → CollectsFrom w n g m replies entry w' → Goes w w' entry
     collect_goes n g m [] entry at h = only w w' entry (line.Collect n collect.Nothing) (record { posted = refl; taken = refl; begun = refl; dropped = refl; finished = refl; collected = refl }) h
     collect_goes n g m (a ∷ replies) entry at h =
         either h.0 _ _ (Goes w w' entry)
         (λ k. as_told w w' entry _ k.1 (record {
           moves = record {
             jobs = rw (ap (λ (x : World). x.jobs) k.2) (omega arith);
-            taken = rw (ap (λ (x : World). x.hands) k.2) (omega arith);
-            started = rw (ap (λ (x : World). x.hands) k.2) (omega arith);
+            taken = rw (ap (λ (x : World). x.workers) k.2) (omega arith);
+            started = rw (ap (λ (x : World). x.workers) k.2) (omega arith);
             ended = (
                 let it = replies_set n (a ∷ replies) replies at (ap (λ (x : World). x.replies) k.2) in
                 let apart = split (n == l) (cond (is_answer a) 1 0) (count_by is_answer replies) in
@@ -300,8 +300,8 @@ module _ (l r : ℕ) where
         (λ k. as_told w w' entry _ k.1 (record {
           moves = record {
             jobs = rw (ap (λ (x : World). x.jobs) k.2) (omega arith);
-            taken = rw (ap (λ (x : World). x.hands) k.2) (omega arith);
-            started = rw (ap (λ (x : World). x.hands) k.2) (omega arith);
+            taken = rw (ap (λ (x : World). x.workers) k.2) (omega arith);
+            started = rw (ap (λ (x : World). x.workers) k.2) (omega arith);
             ended = (
                 let it = replies_set n (a ∷ replies) replies at (ap (λ (x : World). x.replies) k.2) in
                 let apart = split (n == l) (cond (is_answer a) 1 0) (count_by is_answer replies) in
@@ -314,7 +314,7 @@ module _ (l r : ℕ) where
         h.1
 
   -- one step
-  step_goes : (w w' : World) (s : Step) (entry : Line) → ((n : ℕ) (g : Setting) (m : Loop Desk) (o : WorkOrder) → HasLoop w n g m → (next_order_of m.state).0 ≡ Some o → o.loop_no ≡ n)
+  step_goes : (w w' : World) (s : Step) (entry : LogEntry) → ((n : ℕ) (g : Setting) (m : Loop Desk) (o : WorkOrder) → HasLoop w n g m → (next_order_of m.state).0 ≡ Some o → o.loop_no ≡ n)
       → WorldStep w s entry w' → Goes w w' entry
   step_goes w w' (step.Loop n) entry own h = loop_goes w w' n entry h
   step_goes w w' (step.Post n) entry own h =
@@ -327,14 +327,14 @@ module _ (l r : ℕ) where
   step_goes w w' (step.Finish n) entry own h = finish_goes w w' n h.0 entry h.1 h.2
   step_goes w w' (step.Collect n) entry own h = unless_goes w w' n h.1 entry _ (collect_goes w w' n h.0 h.1 h.2 entry h.4) h.5
   step_goes w w' (step.Send n a) entry own h =
-      as_told w w' entry _ h.7 (stays w w' _ (record { posted = refl; taken = refl; begun = refl; dropped = refl; finished = refl; collected = refl }) (ap (λ (x : World). x.jobs) h.8) (ap (λ (x : World). x.hands) h.8) (ap (λ (x : World). x.replies) h.8))
+      as_told w w' entry _ h.7 (stays w w' _ (record { posted = refl; taken = refl; begun = refl; dropped = refl; finished = refl; collected = refl }) (ap (λ (x : World). x.jobs) h.8) (ap (λ (x : World). x.workers) h.8) (ap (λ (x : World). x.replies) h.8))
   step_goes w w' (step.Cancel n request) entry own h =
       unless_goes w w' n h.1 entry _
-      (λ k. as_told w w' entry _ k.2 (stays w w' _ (record { posted = refl; taken = refl; begun = refl; dropped = refl; finished = refl; collected = refl }) (ap (λ (x : World). x.jobs) k.3) (ap (λ (x : World). x.hands) k.3) (ap (λ (x : World). x.replies) k.3)))
+      (λ k. as_told w w' entry _ k.2 (stays w w' _ (record { posted = refl; taken = refl; begun = refl; dropped = refl; finished = refl; collected = refl }) (ap (λ (x : World). x.jobs) k.3) (ap (λ (x : World). x.workers) k.3) (ap (λ (x : World). x.replies) k.3)))
       h.5
   step_goes w w' (step.Clock n ms) entry own h =
       unless_goes w w' n h.1 entry _
-      (λ k. as_told w w' entry _ k.0 (stays w w' _ (record { posted = refl; taken = refl; begun = refl; dropped = refl; finished = refl; collected = refl }) (ap (λ (x : World). x.jobs) k.1) (ap (λ (x : World). x.hands) k.1) (ap (λ (x : World). x.replies) k.1)))
+      (λ k. as_told w w' entry _ k.0 (stays w w' _ (record { posted = refl; taken = refl; begun = refl; dropped = refl; finished = refl; collected = refl }) (ap (λ (x : World). x.jobs) k.1) (ap (λ (x : World). x.workers) k.1) (ap (λ (x : World). x.replies) k.1)))
       h.3
 
 -- what a log and the history that it tells hand out
@@ -346,11 +346,11 @@ module _ (l r : ℕ) where
   step_posted did.Over emits = refl
   step_posted did.Failed emits = refl
 
-  others_posted : (entry : Line) → is_of_owner l entry ≡ false → is_posted l r entry ≡ false
+  others_posted : (entry : LogEntry) → is_of_owner l entry ≡ false → is_posted l r entry ≡ false
   others_posted (line.Post n (post.Request request)) h = ap (λ b. b && (request == r)) h
   others_posted _ h = refl
 
-  tells_posted : (entry : Line) (e : Event) → Tells l entry e → is_posted l r entry ≡ hands_out r e
+  tells_posted : (entry : LogEntry) (e : Event) → Tells l entry e → is_posted l r entry ≡ hands_out r e
   tells_posted entry (Stepped did emits made) h = ap (is_posted l r) h ∙ step_posted did emits
   tells_posted entry (OrderAsked None) h = ap (is_posted l r) h
   tells_posted entry (OrderAsked (Some o)) h = ap (is_posted l r) h ∙ ap (λ b. b && (o.request == r)) (eq-eqb l l refl)
@@ -360,7 +360,7 @@ module _ (l r : ℕ) where
   tells_posted entry (ClockRaised ms) h = ap (is_posted l r) h.1
   tells_posted entry MovedBeside h = others_posted entry h
 
-  told_posted : (log : List Line) (events : List Event) → AreTold l log events → count_by (is_posted l r) log ≡ count_by (hands_out r) events
+  told_posted : (log : List LogEntry) (events : List Event) → AreTold l log events → count_by (is_posted l r) log ≡ count_by (hands_out r) events
   told_posted [] [] h = refl
   told_posted [] (e ∷ events) h = absurd h
   told_posted (entry ∷ log) [] h = absurd h
@@ -377,24 +377,24 @@ some_of (Some x) h = (x, refl)
 
 module _ (settings : List Setting) (placed : AreInPlace settings) (workers : ℕ) (l r : ℕ) (once : LoopHandedOnce desk_calls) (own : LoopHandedOwn desk_calls) where
   -- each loop has a history from its opening
-  abbrev Histories : World → List Line → Type 0
+  abbrev Histories : World → List LogEntry → Type 0
   Histories w log = (j : ℕ) → (made : List GuestCall) × Keeps (Opens settings j) (IsThere settings j workers) j w log made
 
   opens_so : (j : ℕ) (g : Setting) (start : Loop Desk) → Opens settings j g start → IsOpening desk_calls g start
   opens_so j g start begins = subst (IsOpening desk_calls g) (sym begins.1) (opening_is g)
 
-  own_orders : (w : World) (log : List Line) → Histories w log → (n : ℕ) (g : Setting) (m : Loop Desk) (o : WorkOrder) → HasLoop w n g m → (next_order_of m.state).0 ≡ Some o → o.loop_no ≡ n
+  own_orders : (w : World) (log : List LogEntry) → Histories w log → (n : ℕ) (g : Setting) (m : Loop Desk) (o : WorkOrder) → HasLoop w n g m → (next_order_of m.state).0 ≡ Some o → o.loop_no ≡ n
   own_orders w log told n g m o at out =
       let it = (told n).1.loops (core g m) at in
       let asked = own g it.start m (in_state m (next_order_of m.state).1) it.events o (opens_so n g it.start it.begins) it.history (sym out, refl) in
       ap (λ (x : WorkOrder). x.loop_no) asked.2.order ∙ placed n g it.begins.0
 
-  record Kept (w : World) (log : List Line) : Type 0 where
+  record Kept (w : World) (log : List LogEntry) : Type 0 where
     pub told : Histories w log
     pub balanced : Balanced l r w log
     pub posted : count_by (is_posted l r) log ≤ 1
 
-  step_kept : (w w' : World) (log : List Line) (s : Step) (entry : Line) → WorldStep w s entry w' → Kept w log → Kept w' (log ++ entry ∷ [])
+  step_kept : (w w' : World) (log : List LogEntry) (s : Step) (entry : LogEntry) → WorldStep w s entry w' → Kept w log → Kept w' (log ++ entry ∷ [])
   step_kept w w' log s entry h kept = record {
     told = next;
     balanced = balanced_on l r w w' log entry goes.moves kept.balanced;
@@ -414,19 +414,19 @@ module _ (settings : List Setting) (placed : AreInPlace settings) (workers : ℕ
         subst (λ n. n ≤ 1) (sym (told_posted l r (log ++ entry ∷ []) it.events it.told))
         (once at.0.setting it.start at.0.loop it.events (opens_so l at.0.setting it.start it.begins) it.history r)
 
-  run_kept : (steps : List Step) (told : List Line) (w w' : World) (log : List Line) → Kept w log → WorldRun w steps told w' → Kept w' (log ++ told)
+  run_kept : (steps : List Step) (told : List LogEntry) (w w' : World) (log : List LogEntry) → Kept w log → WorldRun w steps told w' → Kept w' (log ++ told)
   run_kept [] [] w w' log kept run = subst (λ x. Kept x (log ++ [])) (sym run) (subst (Kept w) (sym (append-nil log)) kept)
   run_kept [] (e ∷ told) w w' log kept run = absurd run
   run_kept (s ∷ steps) [] w w' log kept run = absurd run
   run_kept (s ∷ steps) (e ∷ told) w w' log kept run =
       subst (Kept w') (append_assoc log (e ∷ []) told) (run_kept steps told run.0 w' (log ++ e ∷ []) (step_kept w run.0 log s e run.1 kept) run.2)
 
-  no_hands : (p : Hand → Bool) (k : ℕ) → p Empty ≡ false → count_by p (replicate k Empty) ≡ 0
-  no_hands p zero e = refl
-  no_hands p (suc k) e =
-      let rest = no_hands p k e in
+  no_workers : (p : Worker → Bool) (k : ℕ) → p Idle ≡ false → count_by p (replicate k Idle) ≡ 0
+  no_workers p zero e = refl
+  no_workers p (suc k) e =
+      let rest = no_workers p k e in
       let one = ap (λ b. cond {A = ℕ} b 1 0) e in
-      let all = counted p Empty (replicate k Empty) in
+      let all = counted p Idle (replicate k Idle) in
       omega (arith, rest, one, all)
 
   no_replies : (gs : List Setting) (n : ℕ) → count_by (is_answer l r) (list_at (slice_get (map (λ _. []) gs) n)) ≡ 0
@@ -439,14 +439,14 @@ module _ (settings : List Setting) (placed : AreInPlace settings) (workers : ℕ
     told = λ j. ([], opening_keeps settings j workers);
     balanced = record {
       posted = refl;
-      taken = ap (λ n. 0 + n) (no_hands (is_taken_hand l r) workers refl);
-      begun = ap (λ n. 0 + n) (no_hands (is_started_hand l r) workers refl);
+      taken = ap (λ n. 0 + n) (no_workers (is_taken_worker l r) workers refl);
+      begun = ap (λ n. 0 + n) (no_workers (is_started_worker l r) workers refl);
       ended = (let none = no_replies settings l in omega (arith, none));
     };
     posted = omega arith;
   }
 
-  pub one_way_after : (steps : List Step) (log : List Line) (w : World) → WorldRun (opening_world settings workers) steps log w → GoesOnce l r log
+  pub one_way_after : (steps : List Step) (log : List LogEntry) (w : World) → WorldRun (opening_world settings workers) steps log w → GoesOnce l r log
   one_way_after steps log w run =
       let it = run_kept steps log (opening_world settings workers) w [] opening_kept run in
       let posted = it.balanced.posted in

@@ -6,17 +6,17 @@ use Rattle.std.proofs.lemmas.List.{map-append, length-map, length-replicate}
 use Rattle.syntax.specs.Loaded.{Loaded}
 use Rattle.instance.specs.Store.{Store}
 use Rattle.instance.specs.Fresh.{IsFresh}
-use Rattle.order.specs.declared.request.Order.{Order}
+use Rattle.order.specs.declared.order.Order.{Order}
 use Rattle.order.specs.Orders.{order_of}
 use Rattle.phases.specs.PhaseList.{begin_list}
 use Rattle.phases.specs.Roster.{opening_roster}
 use Rattle.phases.specs.State.{Setting, Loop, State, opening, Core}
 use Rattle.desk.specs.Desk.{Desk, new_desk}
 use Rattle.world.specs.declared.config.LoopConfig.{LoopConfig}
-use Rattle.world.specs.declared.hand.Hand.{Hand as CodeHand}
-use Rattle.world.specs.declared.hand.Hand.TheVariants as hand
-use Rattle.world.specs.Making.{setting_from, settings_from, hand_of, AreNumbered, IsHeld, IsJob, IsKept}
-use Rattle.world.specs.World.{Empty, Answer, opening_loop, opening_world}
+use Rattle.world.specs.declared.worker.Worker.{Worker as CodeWorker}
+use Rattle.world.specs.declared.worker.Worker.TheVariants as worker
+use Rattle.world.specs.Making.{setting_from, settings_from, worker_of, AreNumbered, IsHeld, IsJob, IsKept}
+use Rattle.world.specs.World.{Idle, Answer, opening_loop, opening_world}
 use Rattle.world.proofs.Sets.{core}
 use Rattle.world.proofs.Turning.{world_of}
 
@@ -64,9 +64,9 @@ opening_numbered : (n : ℕ) (cs : List LoopConfig) → AreNumbered n (map openi
 opening_numbered n [] = tt
 opening_numbered n (c ∷ cs) = (refl, opening_numbered (n + 1) cs)
 
-pub hands_opening : (n : ℕ) → map hand_of (replicate n hand.Empty) ≡ replicate n Empty
-hands_opening zero = refl
-hands_opening (suc n) = ap (λ hs. Empty ∷ hs) (hands_opening n)
+pub workers_opening : (n : ℕ) → map worker_of (replicate n worker.Idle) ≡ replicate n Idle
+workers_opening zero = refl
+workers_opening (suc n) = ap (λ hs. Idle ∷ hs) (workers_opening n)
 
 abbrev none_waits : List Answer
 none_waits = []
@@ -76,12 +76,12 @@ replies_opening n [] = refl
 replies_opening n (c ∷ cs) = ap (λ rs. [] ∷ rs) (replies_opening (n + 1) cs)
 
 -- a world that opens keeps what a world keeps
-pub opening_kept : {X : Type 0} (cs : List LoopConfig) (ls : List (Core Desk)) (js : List Order) (hs : List CodeHand) (lists : List X) (f : X → List Answer) (workers room : ℕ) → ls ≡ map opening_loop (settings_from 0 cs) → js ≡ [] → hs ≡ replicate workers hand.Empty
+pub opening_kept : {X : Type 0} (cs : List LoopConfig) (ls : List (Core Desk)) (js : List Order) (hs : List CodeWorker) (lists : List X) (f : X → List Answer) (workers room : ℕ) → ls ≡ map opening_loop (settings_from 0 cs) → js ≡ [] → hs ≡ replicate workers worker.Idle
     → map f lists ≡ replicate (length cs) [] → 256 ≤ room → IsKept ls js hs (length lists) room
-opening_kept cs ls js hs lists f workers room loops none hands replies roomy = record {
+opening_kept cs ls js hs lists f workers room loops none states replies roomy = record {
   numbered = subst (AreNumbered 0) (sym loops) (opening_numbered 0 cs);
   waiting = subst (All (IsJob (length ls))) (sym none) (All-nil (IsJob (length ls)));
-  held = subst (All (IsHeld (length ls))) (sym hands) (All-replicate (IsHeld (length ls)) workers hand.Empty tt);
+  held = subst (All (IsHeld (length ls))) (sym states) (All-replicate (IsHeld (length ls)) workers worker.Idle tt);
   paired =
       sym (length-map lists f) ∙ ap length replies ∙ length-replicate (length cs) []
       ∙ sym (ap length loops ∙ length-map (settings_from 0 cs) opening_loop ∙ settings_long 0 cs);
@@ -89,10 +89,10 @@ opening_kept cs ls js hs lists f workers room loops none hands replies roomy = r
   roomy = roomy;
 }
 
-pub opening_is : {X : Type 0} (cs : List LoopConfig) (ls : List (Core Desk)) (js : List Order) (hs : List CodeHand) (lists : List X) (f : X → List Answer) (workers : ℕ) → ls ≡ map opening_loop (settings_from 0 cs) → js ≡ [] → hs ≡ replicate workers hand.Empty
-    → map f lists ≡ replicate (length cs) [] → world_of ls (map order_of js) (map hand_of hs) (map f lists) ≡ opening_world (settings_from 0 cs) workers
-opening_is cs ls js hs lists f workers loops none hands replies =
-    ap (λ x. world_of x (map order_of js) (map hand_of hs) (map f lists)) loops
-    ∙ ap (λ x. world_of (map opening_loop (settings_from 0 cs)) (map order_of x) (map hand_of hs) (map f lists)) none
-    ∙ ap (λ x. world_of (map opening_loop (settings_from 0 cs)) [] x (map f lists)) (ap (map hand_of) hands ∙ hands_opening workers)
-    ∙ ap (λ x. world_of (map opening_loop (settings_from 0 cs)) [] (replicate workers Empty) x) (replies ∙ replies_opening 0 cs)
+pub opening_is : {X : Type 0} (cs : List LoopConfig) (ls : List (Core Desk)) (js : List Order) (hs : List CodeWorker) (lists : List X) (f : X → List Answer) (workers : ℕ) → ls ≡ map opening_loop (settings_from 0 cs) → js ≡ [] → hs ≡ replicate workers worker.Idle
+    → map f lists ≡ replicate (length cs) [] → world_of ls (map order_of js) (map worker_of hs) (map f lists) ≡ opening_world (settings_from 0 cs) workers
+opening_is cs ls js hs lists f workers loops none states replies =
+    ap (λ x. world_of x (map order_of js) (map worker_of hs) (map f lists)) loops
+    ∙ ap (λ x. world_of (map opening_loop (settings_from 0 cs)) (map order_of x) (map worker_of hs) (map f lists)) none
+    ∙ ap (λ x. world_of (map opening_loop (settings_from 0 cs)) [] x (map f lists)) (ap (map worker_of) states ∙ workers_opening workers)
+    ∙ ap (λ x. world_of (map opening_loop (settings_from 0 cs)) [] (replicate workers Idle) x) (replies ∙ replies_opening 0 cs)

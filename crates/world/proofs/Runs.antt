@@ -24,11 +24,11 @@ use Rattle.desk.specs.Desk.{Desk, desk_calls}
 use Rattle.desk.specs.Law.{desk_beside}
 use Rattle.world_log.specs.declared.step.Step.{Step}
 use Rattle.world_log.specs.declared.step.Step.TheVariants as step
-use Rattle.world_log.specs.declared.entry.Entry.{Entry as Line}
-use Rattle.world_log.specs.declared.entry.Entry.TheVariants as line
+use Rattle.world_log.specs.declared.entry.LogEntry.{LogEntry}
+use Rattle.world_log.specs.declared.entry.LogEntry.TheVariants as line
 use Rattle.world_log.specs.declared.outcome.PostOutcome.TheVariants as post
 use Rattle.world_log.specs.declared.outcome.CollectOutcome.TheVariants as collect
-use Rattle.world.specs.World.{World, Hand, Empty, Taken, Started, Answer, Only, UnlessFailed, StepsLoop, Posts, PostsOrder, TakesJob, StartsJob, FinishesJob, CollectsFrom, WorldStep, WorldRun, told_of}
+use Rattle.world.specs.World.{World, Worker, Idle, Taken, Started, Answer, Only, UnlessFailed, StepsLoop, Posts, PostsOrder, TakesJob, StartsJob, FinishesJob, CollectsFrom, WorldStep, WorldRun, told_of}
 use Rattle.world.specs.Guests.{calls_of_loop, step_calls, guest_calls}
 use Rattle.world.specs.Histories.{is_of_owner, Tells, AreTold}
 use Rattle.world.specs.Laws.{is_after}
@@ -93,7 +93,7 @@ none_handed Over s h = by (lowest_open s.requests) h where
 
 -- A history of the loop of a number, which may be there, from where it began.
 module _ (Begins : Setting → Loop Desk → Type 0) (there : Bool) (j : ℕ) where
-  pub record Told (log : List Line) (made : List GuestCall) (g : Setting) (l : Loop Desk) : Type 0 where
+  pub record Told (log : List LogEntry) (made : List GuestCall) (g : Setting) (l : Loop Desk) : Type 0 where
     pub start : Loop Desk
     pub begins : Begins g start
     pub events : List Event
@@ -104,7 +104,7 @@ module _ (Begins : Setting → Loop Desk → Type 0) (there : Bool) (j : ℕ) wh
     pub cancels : (r : ℕ) → Same (Contains log (line.Cancel j r (pos 0))) (Contains events (CancelAnswered r 0))
 
   -- one event more
-  told_more : (log : List Line) (made more : List GuestCall) (g : Setting) (l m : Loop Desk) (entry : Line) (e : Event) → EventStep desk_calls g e l m → Tells j entry e → calls_in e ≡ more
+  told_more : (log : List LogEntry) (made more : List GuestCall) (g : Setting) (l m : Loop Desk) (entry : LogEntry) (e : Event) → EventStep desk_calls g e l m → Tells j entry e → calls_in e ≡ more
       → Told log made g l → Told (log ++ entry ∷ []) (made ++ more) g m
   told_more log made more g l m entry e step tells is was = record {
     start = was.start;
@@ -118,23 +118,23 @@ module _ (Begins : Setting → Loop Desk → Type 0) (there : Bool) (j : ℕ) wh
   }
 
   -- what others do
-  told_beside : (log : List Line) (made : List GuestCall) (g : Setting) (l : Loop Desk) (entry : Line) → is_of_owner j entry ≡ false → Told log made g l → Told (log ++ entry ∷ []) (made ++ []) g l
+  told_beside : (log : List LogEntry) (made : List GuestCall) (g : Setting) (l : Loop Desk) (entry : LogEntry) → is_of_owner j entry ≡ false → Told log made g l → Told (log ++ entry ∷ []) (made ++ []) g l
   told_beside log made g l entry other was = told_more log made [] g l l entry MovedBeside (record { view = refl; state = refl; store = refl }) other refl was
 
-  pub record Keeps (w : World) (log : List Line) (made : List GuestCall) : Type 0 where
+  pub record Keeps (w : World) (log : List LogEntry) (made : List GuestCall) : Type 0 where
     pub stays : is_some (slice_get w.loops j) ≡ there
     pub loops : (p : Core Desk) → slice_get w.loops j ≡ Some p → Told log made p.setting p.loop
     pub replies : (n : ℕ) (xs : List Answer) → slice_get w.replies n ≡ Some xs → AllEnds xs
 
   -- an event of a loop, which the line tells
-  record Happens (g : Setting) (l m : Loop Desk) (entry : Line) (more : List GuestCall) : Type 0 where
+  record Happens (g : Setting) (l m : Loop Desk) (entry : LogEntry) (more : List GuestCall) : Type 0 where
     pub event : Event
     pub step : EventStep desk_calls g event l m
     pub tells : Tells j entry event
     pub calls : calls_in event ≡ more
 
-  module _ (w : World) (log : List Line) (made : List GuestCall) (keeps : Keeps w log made) where
-    abbrev Next : World → Line → List GuestCall → Type 0
+  module _ (w : World) (log : List LogEntry) (made : List GuestCall) (keeps : Keeps w log made) where
+    abbrev Next : World → LogEntry → List GuestCall → Type 0
     Next w' entry more = Keeps w' (log ++ entry ∷ []) (made ++ more)
 
     same_replies : (w' : World) → w'.replies ≡ w.replies → (n : ℕ) (xs : List Answer) → slice_get w'.replies n ≡ Some xs → AllEnds xs
@@ -144,7 +144,7 @@ module _ (Begins : Setting → Loop Desk → Type 0) (there : Bool) (j : ℕ) wh
     set_replies w' k ys e all n xs h = set_all AllEnds w.replies k ys all keeps.replies n xs (ap (λ x. slice_get x n) (sym e) ∙ h)
 
     -- no loop changes
-    kept : (w' : World) (entry : Line) → is_of_owner j entry ≡ false → w'.loops ≡ w.loops
+    kept : (w' : World) (entry : LogEntry) → is_of_owner j entry ≡ false → w'.loops ≡ w.loops
         → ((n : ℕ) (xs : List Answer) → slice_get w'.replies n ≡ Some xs → AllEnds xs) → Next w' entry []
     kept w' entry other e replies = record {
       stays = ap (λ ls. is_some (slice_get ls j)) e ∙ keeps.stays;
@@ -152,11 +152,11 @@ module _ (Begins : Setting → Loop Desk → Type 0) (there : Bool) (j : ℕ) wh
       replies = replies;
     }
 
-    only : (w' : World) (entry told : Line) → is_of_owner j told ≡ false → Only w entry told w' → Next w' entry []
+    only : (w' : World) (entry told : LogEntry) → is_of_owner j told ≡ false → Only w entry told w' → Next w' entry []
     only w' entry told other h = kept w' entry (ap (is_of_owner j) h.0 ∙ other) (ap (λ x. x.loops) h.1) (same_replies w' (ap (λ x. x.replies) h.1))
 
     -- the loop of a number changes, or it has an event in which it does not
-    moved_with : (w' : World) (entry : Line) (more : List GuestCall) (n : ℕ) (g : Setting) (l m : Loop Desk)
+    moved_with : (w' : World) (entry : LogEntry) (more : List GuestCall) (n : ℕ) (g : Setting) (l m : Loop Desk)
         → slice_get w.loops n ≡ Some (core g l) → w'.loops ≡ slice_set w.loops n (core g m)
         → ((n : ℕ) (xs : List Answer) → slice_get w'.replies n ≡ Some xs → AllEnds xs)
         → (n ≡ j → Happens g l m entry more) → (n ≢ j → (is_of_owner j entry ≡ false) × (more ≡ [])) → Next w' entry more
@@ -179,7 +179,7 @@ module _ (Begins : Setting → Loop Desk → Type 0) (there : Bool) (j : ℕ) wh
     }
 
     -- the same where the guest calls nothing
-    moved : (w' : World) (entry told : Line) (n : ℕ) (g : Setting) (l m : Loop Desk) → entry ≡ told → (is_of_owner j told ≡ (n == j)) ⊎ (is_of_owner j told ≡ false)
+    moved : (w' : World) (entry told : LogEntry) (n : ℕ) (g : Setting) (l m : Loop Desk) → entry ≡ told → (is_of_owner j told ≡ (n == j)) ⊎ (is_of_owner j told ≡ false)
         → slice_get w.loops n ≡ Some (core g l) → w'.loops ≡ slice_set w.loops n (core g m)
         → ((n : ℕ) (xs : List Answer) → slice_get w'.replies n ≡ Some xs → AllEnds xs)
         → (n ≡ j → Happens g l m entry []) → Next w' entry []
@@ -190,7 +190,7 @@ module _ (Begins : Setting → Loop Desk → Type 0) (there : Bool) (j : ℕ) wh
           apart other (inr none) = none
 
     -- a loop that stays, in an event of its own
-    stayed_own : (w' : World) (entry told : Line) (n : ℕ) (g : Setting) (l : Loop Desk) → entry ≡ told → is_of_owner j told ≡ (n == j)
+    stayed_own : (w' : World) (entry told : LogEntry) (n : ℕ) (g : Setting) (l : Loop Desk) → entry ≡ told → is_of_owner j told ≡ (n == j)
         → slice_get w.loops n ≡ Some (core g l) → w'.loops ≡ w.loops
         → ((n : ℕ) (xs : List Answer) → slice_get w'.replies n ≡ Some xs → AllEnds xs)
         → (n ≡ j → Happens g l l entry []) → Next w' entry []
@@ -210,10 +210,10 @@ module _ (Begins : Setting → Loop Desk → Type 0) (there : Bool) (j : ℕ) wh
       replies = replies;
     }
 
-    unless_next : (w' : World) (n : ℕ) (l : Loop Desk) (entry : Line) (P : Type 0) → (P → Next w' entry []) → UnlessFailed w n l entry w' P → Next w' entry []
+    unless_next : (w' : World) (n : ℕ) (l : Loop Desk) (entry : LogEntry) (P : Type 0) → (P → Next w' entry []) → UnlessFailed w n l entry w' P → Next w' entry []
     unless_next w' n l entry P f h = either (is_failed l.state.status) _ _ (Next w' entry []) (only w' entry (line.Failed n) refl) f h
 
-    order_next : (w' : World) (n : ℕ) (g : Setting) (l : Loop Desk) (out : Option WorkOrder × State) (entry : Line) → slice_get w.loops n ≡ Some (core g l)
+    order_next : (w' : World) (n : ℕ) (g : Setting) (l : Loop Desk) (out : Option WorkOrder × State) (entry : LogEntry) → slice_get w.loops n ≡ Some (core g l)
         → next_order_of l.state ≡ out → PostsOrder w n g l out entry w' → Next w' entry []
     order_next w' n g l (None, s) entry at is h =
         stayed_own w' entry (line.Post n post.Nothing) n g l h.0 refl at (ap (λ x. x.loops) h.1) (same_replies w' (ap (λ x. x.replies) h.1))
@@ -232,41 +232,41 @@ module _ (Begins : Setting → Loop Desk → Type 0) (there : Bool) (j : ℕ) wh
           calls = refl;
         })
 
-    posts_next : (w' : World) (n : ℕ) (entry : Line) → Posts w n entry w' → Next w' entry []
+    posts_next : (w' : World) (n : ℕ) (entry : LogEntry) → Posts w n entry w' → Next w' entry []
     posts_next w' n entry h =
         unless_next w' n h.1 entry _
         (λ k. either (length w.jobs == 256) _ _ (Next w' entry []) (only w' entry (line.Post n post.Full) refl)
         (order_next w' n h.0 h.1 (next_order_of h.1.state) entry h.2 refl) k)
         h.3
 
-    take_next : (w' : World) (n : ℕ) (hand : Hand) (jobs : List WorkOrder) (entry : Line) → TakesJob w n hand jobs entry w' → Next w' entry []
-    take_next w' n Empty (o ∷ jobs) entry h = kept w' entry (ap (is_of_owner j) h.0) (ap (λ x. x.loops) h.1) (same_replies w' (ap (λ x. x.replies) h.1))
-    take_next w' n Empty [] entry h = only w' entry _ refl h
+    take_next : (w' : World) (n : ℕ) (state : Worker) (jobs : List WorkOrder) (entry : LogEntry) → TakesJob w n state jobs entry w' → Next w' entry []
+    take_next w' n Idle (o ∷ jobs) entry h = kept w' entry (ap (is_of_owner j) h.0) (ap (λ x. x.loops) h.1) (same_replies w' (ap (λ x. x.replies) h.1))
+    take_next w' n Idle [] entry h = only w' entry _ refl h
     take_next w' n (Taken o) jobs entry h = only w' entry _ refl h
     take_next w' n (Started o) jobs entry h = only w' entry _ refl h
 
     -- a worker's start, and another's send
-    beside : (g : Setting) (l m : Loop Desk) (entry told : Line) → entry ≡ told → is_of_owner j told ≡ false → desk_calls.view m.shared ≡ desk_calls.view l.shared → m.state ≡ l.state → m.store ≡ l.store → Happens g l m entry []
+    beside : (g : Setting) (l m : Loop Desk) (entry told : LogEntry) → entry ≡ told → is_of_owner j told ≡ false → desk_calls.view m.shared ≡ desk_calls.view l.shared → m.state ≡ l.state → m.store ≡ l.store → Happens g l m entry []
     beside g l m entry told is none view state store = record { event = MovedBeside; step = record { view = view; state = state; store = store }; tells = ap (is_of_owner j) is ∙ none; calls = refl }
 
-    start_next : (w' : World) (n : ℕ) (hand : Hand) (entry : Line) → StartsJob w n hand entry w' → Next w' entry []
+    start_next : (w' : World) (n : ℕ) (state : Worker) (entry : LogEntry) → StartsJob w n state entry w' → Next w' entry []
     start_next w' n (Taken o) entry h =
         either h.3 _ _ (Next w' entry [])
         (λ k. moved w' entry _ o.loop_no h.0 h.1 h.2 k.0 (inr refl) h.4 (ap (λ x. x.loops) k.1) (same_replies w' (ap (λ x. x.replies) k.1))
         (λ same. beside h.0 h.1 h.2 entry _ k.0 refl (desk_beside.starts h.1.shared h.2.shared o.slot o.request h.3 h.5.0) h.5.1 h.5.2))
         (λ k. kept w' entry (ap (is_of_owner j) k.0) (ap (λ x. x.loops) k.1) (same_replies w' (ap (λ x. x.replies) k.1)))
         h.6
-    start_next w' n Empty entry h = only w' entry _ refl h
+    start_next w' n Idle entry h = only w' entry _ refl h
     start_next w' n (Started o) entry h = only w' entry _ refl h
 
-    finish_next : (w' : World) (n : ℕ) (hand : Hand) (entry : Line) → FinishesJob w n hand entry w' → Next w' entry []
+    finish_next : (w' : World) (n : ℕ) (state : Worker) (entry : LogEntry) → FinishesJob w n state entry w' → Next w' entry []
     finish_next w' n (Started o) entry h =
         kept w' entry (ap (is_of_owner j) h.told) (ap (λ x. x.loops) h.after)
         (set_replies w' o.loop_no _ (ap (λ x. x.replies) h.after) (ends_more h.replies (record { order = o; end = h.end }) h.right (keeps.replies o.loop_no h.replies h.waiting)))
-    finish_next w' n Empty entry h = only w' entry _ refl h
+    finish_next w' n Idle entry h = only w' entry _ refl h
     finish_next w' n (Taken o) entry h = only w' entry _ refl h
 
-    collect_next : (w' : World) (n : ℕ) (g : Setting) (l : Loop Desk) (replies : List Answer) (entry : Line) → slice_get w.loops n ≡ Some (core g l) → AllEnds replies
+    collect_next : (w' : World) (n : ℕ) (g : Setting) (l : Loop Desk) (replies : List Answer) (entry : LogEntry) → slice_get w.loops n ≡ Some (core g l) → AllEnds replies
         → CollectsFrom w n g l replies entry w' → Next w' entry []
     collect_next w' n g l [] entry at all h = only w' entry _ refl h
     collect_next w' n g l (a ∷ replies) entry at all h =
@@ -285,7 +285,7 @@ module _ (Begins : Setting → Loop Desk → Type 0) (there : Bool) (j : ℕ) wh
     told_elsewhere n did.Over emits other = ne_eqb n j other
     told_elsewhere n did.Failed emits other = refl
 
-    loop_next : (w' : World) (n : ℕ) (entry : Line) (h : StepsLoop w n entry w') → Next w' entry (calls_of_loop j n w entry w' h)
+    loop_next : (w' : World) (n : ℕ) (entry : LogEntry) (h : StepsLoop w n entry w') → Next w' entry (calls_of_loop j n w entry w' h)
     loop_next w' n entry h =
         moved_with w' entry (calls_of_loop j n w entry w' h) n h.setting h.old h.new h.at (ap (λ x. x.loops) h.after) (same_replies w' (ap (λ x. x.replies) h.after))
         (λ same. record {
@@ -296,7 +296,7 @@ module _ (Begins : Setting → Loop Desk → Type 0) (there : Bool) (j : ℕ) wh
         })
         (λ other. (ap (is_of_owner j) h.told ∙ told_elsewhere n h.did h.new.state.emits other, rw (ne_eqb n j other) refl))
 
-    pub step_next : (s : Step) (entry : Line) (w' : World) (h : WorldStep w s entry w') → Next w' entry (step_calls j w s entry w' h)
+    pub step_next : (s : Step) (entry : LogEntry) (w' : World) (h : WorldStep w s entry w') → Next w' entry (step_calls j w s entry w' h)
     step_next (step.Loop n) entry w' h = loop_next w' n entry h
     step_next (step.Post n) entry w' h = posts_next w' n entry h
     step_next (step.Take n) entry w' h = take_next w' n h.0 w.jobs entry h.2
@@ -315,7 +315,7 @@ module _ (Begins : Setting → Loop Desk → Type 0) (there : Bool) (j : ℕ) wh
         (λ k. moved w' entry _ n h.0 h.1 _ k.0 (inl refl) h.2 (ap (λ x. x.loops) k.1) (same_replies w' (ap (λ x. x.replies) k.1))
         (λ same. record { event = ClockRaised ms; step = refl; tells = ((after_clock h.1.state ms).clock, k.0 ∙ ap (λ i. line.Clock i (after_clock h.1.state ms).clock) same); calls = refl })) h.3
 
-  pub run_keeps : (steps : List Step) (told : List Line) (w w' : World) (log : List Line) (made : List GuestCall) → Keeps w log made → (run : WorldRun w steps told w') → Keeps w' (log ++ told) (made ++ guest_calls j w steps told w' run)
+  pub run_keeps : (steps : List Step) (told : List LogEntry) (w w' : World) (log : List LogEntry) (made : List GuestCall) → Keeps w log made → (run : WorldRun w steps told w') → Keeps w' (log ++ told) (made ++ guest_calls j w steps told w' run)
   run_keeps [] [] w w' log made keeps run =
       subst (λ x. Keeps x (log ++ []) (made ++ [])) (sym run) (rw (append-nil log, append-nil made) keeps)
   run_keeps [] (e ∷ told) w w' log made keeps run = absurd run

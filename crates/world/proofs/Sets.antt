@@ -3,10 +3,10 @@ use Rattle.std.proofs.Common.{◌≡◌, ◌≢◌, ℕ, zero, suc, ◌+◌, Lis
 use Rattle.std.specs.Prelude.{slice_get, slice_set, All}
 use Rattle.std.proofs.lemmas.List.{length-set, length_push}
 use Rattle.std.proofs.lemmas.List.Elements.{All-push}
-use Rattle.order.specs.declared.request.Order.{Order}
+use Rattle.order.specs.declared.order.Order.{Order}
 use Rattle.phases.specs.State.{Setting, Loop, Core}
 use Rattle.desk.specs.Desk.{Desk}
-use Rattle.world.specs.declared.hand.Hand.{Hand}
+use Rattle.world.specs.declared.worker.Worker.{Worker}
 use Rattle.world.specs.Making.{AreNumbered, IsJob, IsHeld, IsKept}
 
 -- a loop with what it is made of
@@ -40,7 +40,7 @@ numbered_at k [] n p at h = absurd (cc)
 numbered_at k (x ∷ xs) zero p at h = let same : x ≡ p = cc in ap (λ y. y.setting.loop_no) (sym same) ∙ h.0 ∙ omega arith
 numbered_at k (x ∷ xs) (suc n) p at h = numbered_at (k + 1) xs n p at h.1 ∙ omega arith
 
-pub kept_set : (ls : List (Core Desk)) (js : List Order) (hs : List Hand) (lists room : ℕ) (n : ℕ) (p q : Core Desk) → slice_get ls n ≡ Some p → q.setting ≡ p.setting
+pub kept_set : (ls : List (Core Desk)) (js : List Order) (hs : List Worker) (lists room : ℕ) (n : ℕ) (p q : Core Desk) → slice_get ls n ≡ Some p → q.setting ≡ p.setting
     → IsKept ls js hs lists room → IsKept (slice_set ls n q) js hs lists room
 kept_set ls js hs lists room n p q at e h =
     let long : length (slice_set ls n q) ≡ length ls = length-set ls n q in
@@ -53,7 +53,7 @@ kept_set ls js hs lists room n p q at e h =
       roomy = h.roomy;
     }
 
-pub kept_push : (ls : List (Core Desk)) (js js' : List Order) (hs : List Hand) (lists room room' : ℕ) (o : Order) → js' ≡ js ++ o ∷ [] → room' ≡ room → length js ≢ 256 → IsJob (length ls) o
+pub kept_push : (ls : List (Core Desk)) (js js' : List Order) (hs : List Worker) (lists room room' : ℕ) (o : Order) → js' ≡ js ++ o ∷ [] → room' ≡ room → length js ≢ 256 → IsJob (length ls) o
     → IsKept ls js hs lists room → IsKept ls js' hs lists room'
 kept_push ls js js' hs lists room room' o pushed same other job h = record {
   numbered = h.numbered;

@@ -4,45 +4,45 @@ use Rattle.std.proofs.lemmas.Grind.{take_at_read}
 use Rattle.std.proofs.lemmas.List.{take_all, append_assoc}
 use Rattle.std.proofs.lemmas.Option.{slice_get-get_or}
 use Rattle.world_log.specs.declared.step.Step.{Step}
-use Rattle.world_log.specs.declared.entry.Entry.{Entry}
+use Rattle.world_log.specs.declared.entry.LogEntry.{LogEntry}
 use Rattle.world.specs.World.{World, WorldStep, WorldRun}
 use Rattle.world.specs.declared.fault.WorldFault.{WorldFault}
 use Rattle.world.specs.Making.{MayFault, Stops}
 
 -- one step more at the end
-pub run_more : (steps : List Step) (told : List Entry) (w mid w' : World) (s : Step) (entry : Entry) → WorldRun w steps told mid → WorldStep mid s entry w' → WorldRun w (steps ++ s ∷ []) (told ++ entry ∷ []) w'
+pub run_more : (steps : List Step) (told : List LogEntry) (w mid w' : World) (s : Step) (entry : LogEntry) → WorldRun w steps told mid → WorldStep mid s entry w' → WorldRun w (steps ++ s ∷ []) (told ++ entry ∷ []) w'
 run_more [] [] w mid w' s entry run h = (w', subst (λ x. WorldStep x s entry w') run h, refl)
 run_more [] (e ∷ told) w mid w' s entry run h = absurd run
 run_more (x ∷ steps) [] w mid w' s entry run h = absurd run
 run_more (x ∷ steps) (e ∷ told) w mid w' s entry run h = (run.0, run.1, run_more steps told run.0 mid w' s entry run.2 h)
 
 -- more steps from where some ended
-pub runs_join : (w mid w' : World) (steps more : List Step) (told lines : List Entry) → WorldRun w steps told mid → WorldRun mid more lines w' → WorldRun w (steps ++ more) (told ++ lines) w'
+pub runs_join : (w mid w' : World) (steps more : List Step) (told lines : List LogEntry) → WorldRun w steps told mid → WorldRun mid more lines w' → WorldRun w (steps ++ more) (told ++ lines) w'
 runs_join w mid w' [] more [] lines run behind = subst (λ x. WorldRun x more lines w') run behind
 runs_join w mid w' [] more (e ∷ told) lines run behind = absurd run
 runs_join w mid w' (s ∷ steps) more [] lines run behind = absurd run
 runs_join w mid w' (s ∷ steps) more (e ∷ told) lines run behind = (run.0, run.1, runs_join run.0 mid w' steps more told lines run.2 behind)
 
 -- some steps were taken, and what they told stands behind the old entries
-abbrev pub HasRun : World → List Step → (old : List Entry) → World → (new : List Entry) → Type 0
-HasRun w steps old w' new = (told : List Entry) × (new ≡ old ++ told) × WorldRun w steps told w'
+abbrev pub HasRun : World → List Step → (old : List LogEntry) → World → (new : List LogEntry) → Type 0
+HasRun w steps old w' new = (told : List LogEntry) × (new ≡ old ++ told) × WorldRun w steps told w'
 
-pub has_begun : (w : World) (steps : List Step) (old : List Entry) → HasRun w (take 0 steps) old w old
+pub has_begun : (w : World) (steps : List Step) (old : List LogEntry) → HasRun w (take 0 steps) old w old
 has_begun w steps old = ([], search rules, refl)
 
-pub has_run_more : (w mid w' : World) (steps : List Step) (i : ℕ) (d : Step) (old new new' : List Entry) → i < length steps → HasRun w (take i steps) old mid new
-    → ((entry : Entry) × (new' ≡ new ++ entry ∷ []) × WorldStep mid (slice_index_or steps i d) entry w') → HasRun w (take (i + 1) steps) old w' new'
+pub has_run_more : (w mid w' : World) (steps : List Step) (i : ℕ) (d : Step) (old new new' : List LogEntry) → i < length steps → HasRun w (take i steps) old mid new
+    → ((entry : LogEntry) × (new' ≡ new ++ entry ∷ []) × WorldStep mid (slice_index_or steps i d) entry w') → HasRun w (take (i + 1) steps) old w' new'
 has_run_more w mid w' steps i d old new new' below (told, written, run) (entry, more, h) = (
   told ++ entry ∷ [],
   more ∙ ap (λ es. es ++ entry ∷ []) written ∙ append_assoc old told (entry ∷ []),
   subst (λ xs. WorldRun w xs (told ++ entry ∷ []) w') (sym (take_at_read steps i d below).1) (run_more (take i steps) told w mid w' (slice_index_or steps i d) entry run h),
 )
 
-pub has_run_all : (w w' : World) (steps : List Step) (i : ℕ) (old new : List Entry) → length steps ≤ i → HasRun w (take i steps) old w' new → HasRun w steps old w' new
+pub has_run_all : (w w' : World) (steps : List Step) (i : ℕ) (old new : List LogEntry) → length steps ≤ i → HasRun w (take i steps) old w' new → HasRun w steps old w' new
 has_run_all w w' steps i old new past run = subst (λ xs. HasRun w xs old w' new) (take_all i steps past) run
 
-pub has_stopped : (w mid w' : World) (steps : List Step) (i : ℕ) (d : Step) (old new new' : List Entry) (fault : WorldFault) → i < length steps → HasRun w (take i steps) old mid new
-    → MayFault mid (slice_index_or steps i d) fault → w' ≡ mid → new' ≡ new → (told : List Entry) × (new' ≡ old ++ told) × Stops w steps fault told w'
+pub has_stopped : (w mid w' : World) (steps : List Step) (i : ℕ) (d : Step) (old new new' : List LogEntry) (fault : WorldFault) → i < length steps → HasRun w (take i steps) old mid new
+    → MayFault mid (slice_index_or steps i d) fault → w' ≡ mid → new' ≡ new → (told : List LogEntry) × (new' ≡ old ++ told) × Stops w steps fault told w'
 has_stopped w mid w' steps i d old new new' fault below (told, written, run) why same kept = (
   told,
   kept ∙ written,

@@ -4,33 +4,33 @@ use Rattle.std.specs.Prelude.{slice_get, slice_set, All}
 use Rattle.std.proofs.lemmas.List.Elements.{All-set}
 use Rattle.order.specs.Work.{WorkOrder}
 use Rattle.order.specs.Orders.{order_of}
-use Rattle.order.specs.declared.request.Order.{Order}
+use Rattle.order.specs.declared.order.Order.{Order}
 use Rattle.phases.specs.State.{Core}
 use Rattle.desk.specs.Desk.{Desk}
-use Rattle.world_log.specs.declared.entry.Entry.TheVariants as line
-use Rattle.world_log.specs.declared.outcome.Job.{Job}
-use Rattle.world.specs.World.{World, Hand, Answer, Empty, Taken, Started, WithHand, TakesJob, job_of, with_hand}
-use Rattle.world.specs.declared.hand.Hand.{Hand as CodeHand}
-use Rattle.world.specs.declared.hand.Hand.TheVariants as code
-use Rattle.world.specs.Making.{hand_of, IsJob, IsHeld, IsKept}
+use Rattle.world_log.specs.declared.entry.LogEntry.TheVariants as line
+use Rattle.world_log.specs.declared.outcome.JobId.{JobId}
+use Rattle.world.specs.World.{World, Worker, Answer, Idle, Taken, Started, WithWorker, TakesJob, job_of, with_worker}
+use Rattle.world.specs.declared.worker.Worker.{Worker as CodeWorker}
+use Rattle.world.specs.declared.worker.Worker.TheVariants as code
+use Rattle.world.specs.Making.{worker_of, IsJob, IsHeld, IsKept}
 use Rattle.world.proofs.Sets.{set_same, map_set, map_get}
 use Rattle.world.proofs.Turning.{world_of}
 
-taken_none : (w : World) (n : ℕ) (hand : Hand) (w' : World) → slice_get w.hands n ≡ Some hand → w' ≡ w → (hand ≢ Empty) ⊎ (w.jobs ≡ []) → WithHand w n (λ h. TakesJob w n h w.jobs (line.Take n None) w')
-taken_none w n hand w' at same why = (hand, at, by hand w.jobs why) where
-  by : (hand : Hand) (jobs : List WorkOrder) → (hand ≢ Empty) ⊎ (jobs ≡ []) → TakesJob w n hand jobs (line.Take n None) w'
-  by Empty [] why = (refl, same)
-  by Empty (o ∷ jobs) (inl no_hand) = absurd (no_hand refl)
-  by Empty (o ∷ jobs) (inr none) = absurd (cc)
+taken_none : (w : World) (n : ℕ) (state : Worker) (w' : World) → slice_get w.workers n ≡ Some state → w' ≡ w → (state ≢ Idle) ⊎ (w.jobs ≡ []) → WithWorker w n (λ h. TakesJob w n h w.jobs (line.Take n None) w')
+taken_none w n state w' at same why = (state, at, by state w.jobs why) where
+  by : (state : Worker) (jobs : List WorkOrder) → (state ≢ Idle) ⊎ (jobs ≡ []) → TakesJob w n state jobs (line.Take n None) w'
+  by Idle [] why = (refl, same)
+  by Idle (o ∷ jobs) (inl no_worker) = absurd (no_worker refl)
+  by Idle (o ∷ jobs) (inr none) = absurd (cc)
   by (Taken o) jobs why = (refl, same)
   by (Started o) jobs why = (refl, same)
 
-taken_one : (w : World) (n : ℕ) (o : WorkOrder) (rest : List WorkOrder) (w' : World) → slice_get w.hands n ≡ Some Empty → w.jobs ≡ o ∷ rest → w' ≡ record (with_hand w n (Taken o)) { jobs = rest }
-    → WithHand w n (λ h. TakesJob w n h w.jobs (line.Take n (Some (job_of o))) w')
-taken_one w n o rest w' at front after = (Empty, at, subst (λ js. TakesJob w n Empty js (line.Take n (Some (job_of o))) w') (sym front) (refl, after))
+taken_one : (w : World) (n : ℕ) (o : WorkOrder) (rest : List WorkOrder) (w' : World) → slice_get w.workers n ≡ Some Idle → w.jobs ≡ o ∷ rest → w' ≡ record (with_worker w n (Taken o)) { jobs = rest }
+    → WithWorker w n (λ h. TakesJob w n h w.jobs (line.Take n (Some (job_of o))) w')
+taken_one w n o rest w' at front after = (Idle, at, subst (λ js. TakesJob w n Idle js (line.Take n (Some (job_of o))) w') (sym front) (refl, after))
 
-not_empty : (h : CodeHand) → h ≢ code.Empty → hand_of h ≢ Empty
-not_empty code.Empty other same = other refl
+not_empty : (h : CodeWorker) → h ≢ code.Idle → worker_of h ≢ Idle
+not_empty code.Idle other same = other refl
 not_empty (code.Taken o) other same = absurd (cc)
 not_empty (code.Started o) other same = absurd (cc)
 
@@ -38,32 +38,32 @@ none_there : (js : List Order) → length js ≡ 0 → js ≡ []
 none_there [] h = refl
 none_there (o ∷ js) h = absurd (cc)
 
-module _ (w : World) (ls : List (Core Desk)) (js : List Order) (hs : List CodeHand) (rs : List (List Answer)) (is : world_of ls (map order_of js) (map hand_of hs) rs ≡ w) (n : ℕ) (h : CodeHand) (at : slice_get hs n ≡ Some h) where
-  there : slice_get w.hands n ≡ Some (hand_of h)
-  there = ap (λ x. slice_get x.hands n) (sym is) ∙ map_get hand_of hs n h at
+module _ (w : World) (ls : List (Core Desk)) (js : List Order) (hs : List CodeWorker) (rs : List (List Answer)) (is : world_of ls (map order_of js) (map worker_of hs) rs ≡ w) (n : ℕ) (h : CodeWorker) (at : slice_get hs n ≡ Some h) where
+  there : slice_get w.workers n ≡ Some (worker_of h)
+  there = ap (λ x. slice_get x.workers n) (sym is) ∙ map_get worker_of hs n h at
 
-  back : world_of ls (map order_of js) (map hand_of (slice_set hs n h)) rs ≡ w
-  back = ap (λ x. world_of ls (map order_of js) (map hand_of x) rs) (set_same hs n h at) ∙ is
+  back : world_of ls (map order_of js) (map worker_of (slice_set hs n h)) rs ≡ w
+  back = ap (λ x. world_of ls (map order_of js) (map worker_of x) rs) (set_same hs n h at) ∙ is
 
   jobs_are : w.jobs ≡ map order_of js
   jobs_are = ap (λ x. x.jobs) (sym is)
 
-  pub takes_busy : h ≢ code.Empty → WithHand w n (λ x. TakesJob w n x w.jobs (line.Take n None) (world_of ls (map order_of js) (map hand_of (slice_set hs n h)) rs))
-  takes_busy other = taken_none w n (hand_of h) _ there back (inl (not_empty h other))
+  pub takes_busy : h ≢ code.Idle → WithWorker w n (λ x. TakesJob w n x w.jobs (line.Take n None) (world_of ls (map order_of js) (map worker_of (slice_set hs n h)) rs))
+  takes_busy other = taken_none w n (worker_of h) _ there back (inl (not_empty h other))
 
-  pub takes_nothing : (js' : List Order) → length js ≡ 0 → js ≡ js' → WithHand w n (λ x. TakesJob w n x w.jobs (line.Take n None) (world_of ls (map order_of js') (map hand_of (slice_set hs n h)) rs))
+  pub takes_nothing : (js' : List Order) → length js ≡ 0 → js ≡ js' → WithWorker w n (λ x. TakesJob w n x w.jobs (line.Take n None) (world_of ls (map order_of js') (map worker_of (slice_set hs n h)) rs))
   takes_nothing js' none same =
-      taken_none w n (hand_of h) _ there (ap (λ x. world_of ls (map order_of x) (map hand_of (slice_set hs n h)) rs) (sym same) ∙ back) (inr (jobs_are ∙ ap (map order_of) (none_there js none)))
+      taken_none w n (worker_of h) _ there (ap (λ x. world_of ls (map order_of x) (map worker_of (slice_set hs n h)) rs) (sym same) ∙ back) (inr (jobs_are ∙ ap (map order_of) (none_there js none)))
 
-  pub takes_one : (o : Order) (js' : List Order) (job : Job) → h ≡ code.Empty → js ≡ o ∷ js' → job ≡ job_of (order_of o)
-      → WithHand w n (λ x. TakesJob w n x w.jobs (line.Take n (Some job)) (world_of ls (map order_of js') (map hand_of (slice_set hs n (code.Taken o))) rs))
+  pub takes_one : (o : Order) (js' : List Order) (job : JobId) → h ≡ code.Idle → js ≡ o ∷ js' → job ≡ job_of (order_of o)
+      → WithWorker w n (λ x. TakesJob w n x w.jobs (line.Take n (Some job)) (world_of ls (map order_of js') (map worker_of (slice_set hs n (code.Taken o))) rs))
   takes_one o js' job empty front told =
-      let w' = world_of ls (map order_of js') (map hand_of (slice_set hs n (code.Taken o))) rs in
-      subst (λ k. WithHand w n (λ x. TakesJob w n x w.jobs (line.Take n (Some k)) w')) (sym told)
-      (taken_one w n (order_of o) (map order_of js') w' (there ∙ ap (λ x. Some (hand_of x)) empty) (jobs_are ∙ ap (map order_of) front)
-      (ap (λ x. world_of ls (map order_of js') x rs) (map_set hand_of hs n (code.Taken o)) ∙ ap (λ (x : World). record (with_hand x n (Taken (order_of o))) { jobs = map order_of js' }) is))
+      let w' = world_of ls (map order_of js') (map worker_of (slice_set hs n (code.Taken o))) rs in
+      subst (λ k. WithWorker w n (λ x. TakesJob w n x w.jobs (line.Take n (Some k)) w')) (sym told)
+      (taken_one w n (order_of o) (map order_of js') w' (there ∙ ap (λ x. Some (worker_of x)) empty) (jobs_are ∙ ap (map order_of) front)
+      (ap (λ x. world_of ls (map order_of js') x rs) (map_set worker_of hs n (code.Taken o)) ∙ ap (λ (x : World). record (with_worker x n (Taken (order_of o))) { jobs = map order_of js' }) is))
 
-pub kept_take : (ls : List (Core Desk)) (js js' : List Order) (hs : List CodeHand) (lists room room' n : ℕ) (o : Order) → js ≡ o ∷ js' → room' ≡ room → IsKept ls js hs lists room
+pub kept_take : (ls : List (Core Desk)) (js js' : List Order) (hs : List CodeWorker) (lists room room' n : ℕ) (o : Order) → js ≡ o ∷ js' → room' ≡ room → IsKept ls js hs lists room
     → IsKept ls js' (slice_set hs n (code.Taken o)) lists room'
 kept_take ls js js' hs lists room room' n o front same h =
     let jobs : All (IsJob (length ls)) (o ∷ js') = subst (All (IsJob (length ls))) front h.waiting in

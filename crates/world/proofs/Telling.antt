@@ -18,8 +18,8 @@ use Rattle.phases.proofs.Cancelling.{CancelFate, cancelled, stayed, fate_in}
 use Rattle.phases.proofs.Numbered.{Same}
 use Rattle.phases.proofs.Histories.{calls_push}
 use Rattle.desk.specs.Desk.{Desk, desk_calls}
-use Rattle.world_log.specs.declared.entry.Entry.{Entry as Line}
-use Rattle.world_log.specs.declared.entry.Entry.TheVariants as line
+use Rattle.world_log.specs.declared.entry.LogEntry.{LogEntry}
+use Rattle.world_log.specs.declared.entry.LogEntry.TheVariants as line
 use Rattle.world.specs.World.{told_of}
 use Rattle.world.specs.Histories.{is_of_owner, Tells, AreTold}
 use Rattle.world.specs.Laws.{is_after}
@@ -33,7 +33,7 @@ history_join g [] ys start mid new h k = subst (λ l. History desk_calls g l ys 
 history_join g (x ∷ xs) ys start mid new h k = (h.0, h.1, history_join g xs ys h.0 mid new h.2 k)
 
 module _ (j : ℕ) where
-  pub told_push : (log : List Line) (events : List Event) (entry : Line) (e : Event) → AreTold j log events → Tells j entry e → AreTold j (log ++ entry ∷ []) (events ++ e ∷ [])
+  pub told_push : (log : List LogEntry) (events : List Event) (entry : LogEntry) (e : Event) → AreTold j log events → Tells j entry e → AreTold j (log ++ entry ∷ []) (events ++ e ∷ [])
   told_push [] [] entry e all h = (h, tt)
   told_push [] (x ∷ events) entry e all h = absurd all
   told_push (y ∷ log) [] entry e all h = absurd all
@@ -58,11 +58,11 @@ module _ (j : ℕ) where
   and_none true b h = absurd (cc)
   and_none false b h = refl
 
-  others_callback : (r : ℕ) (entry : Line) → is_of_owner j entry ≡ false → is_after j r entry ≡ false
+  others_callback : (r : ℕ) (entry : LogEntry) → is_of_owner j entry ≡ false → is_after j r entry ≡ false
   others_callback r (line.Ran n kind.After number ended emits) h = and_none (n == j) (number == r) h
   others_callback r _ h = refl
 
-  pub tells_callback : (r : ℕ) (entry : Line) (e : Event) → Tells j entry e → is_after j r entry ≡ is_after_event r e
+  pub tells_callback : (r : ℕ) (entry : LogEntry) (e : Event) → Tells j entry e → is_after j r entry ≡ is_after_event r e
   tells_callback r entry (Stepped did emits made) h = ap (is_after j r) h ∙ step_callback r did emits made
   tells_callback r entry (OrderAsked None) h = ap (is_after j r) h
   tells_callback r entry (OrderAsked (Some o)) h = ap (is_after j r) h
@@ -73,13 +73,13 @@ module _ (j : ℕ) where
   tells_callback r entry MovedBeside h = others_callback r entry h
 
   -- a cancel that was answered 0
-  abbrev pub IsLine : (r : ℕ) → Line → Type 0
+  abbrev pub IsLine : (r : ℕ) → LogEntry → Type 0
   IsLine r entry = entry ≡ line.Cancel j r (pos 0)
 
   abbrev pub IsEvent : (r : ℕ) → Event → Type 0
   IsEvent r e = e ≡ CancelAnswered r 0
 
-  abbrev is_cancel_line : Line → Bool
+  abbrev is_cancel_line : LogEntry → Bool
   is_cancel_line (line.Cancel n request answer) = true
   is_cancel_line _ = false
 
@@ -87,7 +87,7 @@ module _ (j : ℕ) where
   is_cancel_event (CancelAnswered request answer) = true
   is_cancel_event _ = false
 
-  neither : (r : ℕ) (entry told : Line) (e : Event) → entry ≡ told → is_cancel_line told ≡ false → is_cancel_event e ≡ false → Same (IsLine r entry) (IsEvent r e)
+  neither : (r : ℕ) (entry told : LogEntry) (e : Event) → entry ≡ told → is_cancel_line told ≡ false → is_cancel_event e ≡ false → Same (IsLine r entry) (IsEvent r e)
   neither r entry told e h l k = (
     λ is. absurd (let it : is_cancel_line told ≡ true = ap is_cancel_line (sym h ∙ is) in cc),
     λ is. absurd (let it : is_cancel_event e ≡ true = ap is_cancel_event is in cc),
@@ -104,7 +104,7 @@ module _ (j : ℕ) where
   zero_both rs rs' n answer (stayed refused e) h = absurd (refused.signed h)
   zero_both rs rs' n answer (cancelled q found is e) h = is
 
-  pub tells_cancel : (g : Setting) (r : ℕ) (entry : Line) (e : Event) (old new : Loop Desk) → EventStep desk_calls g e old new → Tells j entry e → Same (IsLine r entry) (IsEvent r e)
+  pub tells_cancel : (g : Setting) (r : ℕ) (entry : LogEntry) (e : Event) (old new : Loop Desk) → EventStep desk_calls g e old new → Tells j entry e → Same (IsLine r entry) (IsEvent r e)
   tells_cancel g r entry (Stepped did emits made) old new step h = neither r entry (told_of j did emits) (Stepped did emits made) h (step_is_none did emits) refl
   tells_cancel g r entry (OrderAsked None) old new step h = neither r entry _ (OrderAsked None) h refl refl
   tells_cancel g r entry (OrderAsked (Some o)) old new step h = neither r entry _ (OrderAsked (Some o)) h refl refl
@@ -129,7 +129,7 @@ module _ (j : ℕ) where
       | inr is ↦ subst (Contains (ys ++ y ∷ [])) (one is) (Contains-push ys y)
     ]
 
-  pub count_push : (r : ℕ) (log : List Line) (events : List Event) (entry : Line) (e : Event) → count_by (is_after j r) log ≡ count_by (is_after_event r) events → is_after j r entry ≡ is_after_event r e
+  pub count_push : (r : ℕ) (log : List LogEntry) (events : List Event) (entry : LogEntry) (e : Event) → count_by (is_after j r) log ≡ count_by (is_after_event r) events → is_after j r entry ≡ is_after_event r e
       → count_by (is_after j r) (log ++ entry ∷ []) ≡ count_by (is_after_event r) (events ++ e ∷ [])
   count_push r log events entry e all one =
       sum_by_push (λ x. cond (is_after j r x) 1 0) log entry

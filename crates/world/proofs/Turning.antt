@@ -14,19 +14,19 @@ use Rattle.phases.specs.Requests.{Request, Requests, lowest_open}
 use Rattle.phases.specs.Host.{with_requests}
 use Rattle.phases.specs.Outside.{is_failed, next_order_of, next_in, handing, after_clock, CancelsLoop, SendsBeside}
 use Rattle.desk.specs.Desk.{Desk, desk_calls, desk_others}
-use Rattle.world_log.specs.declared.entry.Entry.{Entry}
-use Rattle.world_log.specs.declared.entry.Entry.TheVariants as line
+use Rattle.world_log.specs.declared.entry.LogEntry.{LogEntry}
+use Rattle.world_log.specs.declared.entry.LogEntry.TheVariants as line
 use Rattle.world_log.specs.declared.outcome.PostOutcome.TheVariants as post
-use Rattle.world.specs.World.{World, Hand, Answer, UnlessFailed, StepsLoop, Posts, PostsOrder, SendsTo, Cancels, Clocks, with_loop, told_of}
+use Rattle.world.specs.World.{World, Worker, Answer, UnlessFailed, StepsLoop, Posts, PostsOrder, SendsTo, Cancels, Clocks, with_loop, told_of}
 use Rattle.world.proofs.Sets.{core, set_same}
 
 pub read : {X : Type 0} (xs : List X) (n : ℕ) (x : X) → n < length xs → ((d : X) → x ≡ get_or xs n d) → slice_get xs n ≡ Some x
 read xs n x within is = slice_get-get_or xs n x within ∙ ap Some (sym (is x))
 
-abbrev pub world_of : List (Core Desk) → List WorkOrder → List Hand → List (List Answer) → World
-world_of ls js hs rs = record { loops = ls; jobs = js; hands = hs; replies = rs }
+abbrev pub world_of : List (Core Desk) → List WorkOrder → List Worker → List (List Answer) → World
+world_of ls js hs rs = record { loops = ls; jobs = js; workers = hs; replies = rs }
 
-module _ (w : World) (ls : List (Core Desk)) (js : List WorkOrder) (hs : List Hand) (rs : List (List Answer)) (is : world_of ls js hs rs ≡ w) (n : ℕ) (p : Core Desk) (at : slice_get ls n ≡ Some p) where
+module _ (w : World) (ls : List (Core Desk)) (js : List WorkOrder) (hs : List Worker) (rs : List (List Answer)) (is : world_of ls js hs rs ≡ w) (n : ℕ) (p : Core Desk) (at : slice_get ls n ≡ Some p) where
   pub here : slice_get w.loops n ≡ Some p
   here = ap (λ x. slice_get x.loops n) (sym is) ∙ at
 
@@ -39,7 +39,7 @@ module _ (w : World) (ls : List (Core Desk)) (js : List WorkOrder) (hs : List Ha
   pub failing : (P : Type 0) → is_failed p.loop.state.status ≡ true → UnlessFailed w n p.loop (line.Failed n) (world_of (slice_set ls n p) js hs rs) P
   failing P f = rw f (refl, untouched)
 
-  pub going_on : (entry : Entry) (w' : World) (P : Type 0) → is_failed p.loop.state.status ≡ false → P → UnlessFailed w n p.loop entry w' P
+  pub going_on : (entry : LogEntry) (w' : World) (P : Type 0) → is_failed p.loop.state.status ≡ false → P → UnlessFailed w n p.loop entry w' P
   going_on entry w' P f h = rw f h
 
   pub clock_failed : (ms : ℕ) → is_failed p.loop.state.status ≡ true → Clocks w n ms (line.Failed n) (world_of (slice_set ls n p) js hs rs)
@@ -60,7 +60,7 @@ module _ (w : World) (ls : List (Core Desk)) (js : List WorkOrder) (hs : List Ha
   pub sends : (a : ℕ) (ok : Bool) (q : Core Desk) → a < 16 → q.setting ≡ p.setting → SendsBeside desk_others p.loop a ok q.loop → SendsTo w n a (line.Send n a (not ok)) (world_of (slice_set ls n q) js hs rs)
   sends a ok q few e h = (p.setting, p.loop, q.loop, ok, few, here, h, refl, moved q e)
 
-  pub steps : (did : StepDid) (q : Core Desk) (entry : Entry) → q.setting ≡ p.setting → LoopStep desk_calls p.setting p.loop did q.loop → entry ≡ told_of n did q.loop.state.emits → StepsLoop w n entry (world_of (slice_set ls n q) js hs rs)
+  pub steps : (did : StepDid) (q : Core Desk) (entry : LogEntry) → q.setting ≡ p.setting → LoopStep desk_calls p.setting p.loop did q.loop → entry ≡ told_of n did q.loop.state.emits → StepsLoop w n entry (world_of (slice_set ls n q) js hs rs)
   steps did q entry e h told = record { setting = p.setting; old = p.loop; new = q.loop; did = did; at = here; steps = h; told = told; after = moved q e }
 
 -- where no order is open, nothing is handed out
@@ -73,7 +73,7 @@ nothing_in Failed s h = refl
 nothing_in Running s h = ap (with_requests s) (handed_none s.requests (lowest_open s.requests) h)
 nothing_in Over s h = ap (with_requests s) (handed_none s.requests (lowest_open s.requests) h)
 
-module _ (w : World) (ls : List (Core Desk)) (js : List WorkOrder) (hs : List Hand) (rs : List (List Answer)) (is : world_of ls js hs rs ≡ w) (n : ℕ) (p : Core Desk) (at : slice_get ls n ≡ Some p) where
+module _ (w : World) (ls : List (Core Desk)) (js : List WorkOrder) (hs : List Worker) (rs : List (List Answer)) (is : world_of ls js hs rs ≡ w) (n : ℕ) (p : Core Desk) (at : slice_get ls n ≡ Some p) where
   pub posts_failed : is_failed p.loop.state.status ≡ true → Posts w n (line.Failed n) (world_of (slice_set ls n p) js hs rs)
   posts_failed f = (p.setting, p.loop, here w ls js hs rs is n p at, failing w ls js hs rs is n p at _ f)
 

@@ -4,18 +4,19 @@ use Rattle.phases.specs.Guests.{GuestCall, loop_calls}
 use Rattle.desk.specs.Desk.{desk_calls}
 use Rattle.world_log.specs.declared.step.Step.{Step}
 use Rattle.world_log.specs.declared.step.Step.TheVariants as step
-use Rattle.world_log.specs.declared.entry.Entry.{Entry as Line}
+use Rattle.world_log.specs.declared.entry.LogEntry.{LogEntry}
 use Rattle.world.specs.World.{World, StepsLoop, WorldStep, WorldRun}
 
 -- the calls of one loop's guest in a step
-abbrev pub calls_of_loop : (l n : ℕ) (w : World) (entry : Line) (w' : World) → StepsLoop w n entry w' → List GuestCall
+abbrev pub calls_of_loop : (l n : ℕ) (w : World) (entry : LogEntry) (w' : World) → StepsLoop w n entry w' → List GuestCall
 calls_of_loop l n w entry w' h = if n == l then loop_calls desk_calls h.setting h.old h.did h.new h.steps else []
 
-abbrev pub step_calls : (l : ℕ) (w : World) (s : Step) (entry : Line) (w' : World) → WorldStep w s entry w' → List GuestCall
+abbrev pub step_calls : (l : ℕ) (w : World) (s : Step) (entry : LogEntry) (w' : World) → WorldStep w s entry w' → List GuestCall
 step_calls l w (step.Loop n) entry w' h = calls_of_loop l n w entry w' h
 step_calls l w _ entry w' h = []
 
 -- the calls of one loop's guest in a run, in order
-abbrev pub guest_calls : (l : ℕ) (w : World) (steps : List Step) (log : List Line) (w' : World) → WorldRun w steps log w' → List GuestCall
+abbrev pub guest_calls : (l : ℕ) (w : World) (steps : List Step) (log : List LogEntry) (w' : World) → WorldRun w steps log w'
+    → List GuestCall
 guest_calls l w (s ∷ steps) (entry ∷ log) w' h = step_calls l w s entry h.0 h.1 ++ guest_calls l h.0 steps log w' h.2
 guest_calls l w _ _ w' h = []

@@ -6,8 +6,8 @@ use Rattle.phases.specs.History.{Event, Stepped, OrderAsked, EndOffered, CancelA
 use Rattle.phases.specs.History.{guest_calls as calls_within}
 use Rattle.phases.specs.State.{Setting, Loop}
 use Rattle.desk.specs.Desk.{Desk, desk_calls}
-use Rattle.world_log.specs.declared.entry.Entry.{Entry as Line}
-use Rattle.world_log.specs.declared.entry.Entry.TheVariants as line
+use Rattle.world_log.specs.declared.entry.LogEntry.{LogEntry}
+use Rattle.world_log.specs.declared.entry.LogEntry.TheVariants as line
 use Rattle.world_log.specs.declared.step.Step.{Step}
 use Rattle.world_log.specs.declared.outcome.PostOutcome.TheVariants as post
 use Rattle.world_log.specs.declared.outcome.CollectOutcome.TheVariants as collect
@@ -15,7 +15,7 @@ use Rattle.world.specs.World.{World, WorldRun, HasLoop, opening_world, opening_l
 use Rattle.world.specs.Guests.{guest_calls}
 
 -- the line tells what the owner of this loop did with it
-abbrev pub is_of_owner : (l : ℕ) → Line → Bool
+abbrev pub is_of_owner : (l : ℕ) → LogEntry → Bool
 is_of_owner l (line.Entered n phase now) = n == l
 is_of_owner l (line.Ran n kind number ended emits) = n == l
 is_of_owner l (line.Skipped n kind number) = n == l
@@ -29,7 +29,7 @@ is_of_owner l (line.Clock n ms) = n == l
 is_of_owner l _ = false
 
 -- the line by which an event of this loop is told
-abbrev pub Tells : (l : ℕ) → Line → Event → Type 0
+abbrev pub Tells : (l : ℕ) → LogEntry → Event → Type 0
 Tells l entry (Stepped did emits made) = entry ≡ told_of l did emits
 Tells l entry (OrderAsked None) = entry ≡ line.Post l post.Nothing
 Tells l entry (OrderAsked (Some o)) = entry ≡ line.Post l (post.Request o.request)
@@ -40,13 +40,14 @@ Tells l entry (ClockRaised ms) = (clock : ℕ) × (entry ≡ line.Clock l clock)
 Tells l entry MovedBeside = is_of_owner l entry ≡ false
 
 -- each line tells its event
-abbrev pub AreTold : (l : ℕ) → List Line → List Event → Type 0
+abbrev pub AreTold : (l : ℕ) → List LogEntry → List Event → Type 0
 AreTold l [] [] = Unit {0}
 AreTold l (entry ∷ log) (e ∷ events) = Tells l entry e × AreTold l log events
 AreTold l _ _ = ⊥
 
 -- A history of a loop from where it began, which the log tells, and in which the guest made these calls.
-pub record HasHistory (l : ℕ) (g : Setting) (start : Loop Desk) (log : List Line) (made : List GuestCall) (now : Loop Desk) : Type 0 where
+pub record HasHistory (l : ℕ) (g : Setting) (start : Loop Desk) (log : List LogEntry) (made : List GuestCall)
+    (now : Loop Desk) : Type 0 where
   pub events : List Event
   pub history : History desk_calls g start events now
   pub told : AreTold l log events
@@ -55,8 +56,8 @@ pub record HasHistory (l : ℕ) (g : Setting) (start : Loop Desk) (log : List Li
 -- in every run from an opening world each loop has such a history, from its opening
 abbrev pub IsHistory : Type 0
 IsHistory =
-    (settings : List Setting) (workers : ℕ) (steps : List Step) (log : List Line) (w : World)
-        (run : WorldRun (opening_world settings workers) steps log w)
+    (settings : List Setting) (workers : ℕ) (steps : List Step) (log : List LogEntry) (w : World)
+    (run : WorldRun (opening_world settings workers) steps log w)
     → (l : ℕ) (g : Setting) (now : Loop Desk) → HasLoop w l g now
     → (slice_get settings l ≡ Some g)
     × HasHistory l g (opening_loop g).loop log (guest_calls l (opening_world settings workers) steps log w run) now

@@ -6,13 +6,13 @@ use Rattle.phases.specs.declared.entry.EntryKind.TheVariants as kind
 use Rattle.phases.specs.Guests.{GuestCall}
 use Rattle.phases.specs.Laws.{WasAsked, IsCancel, AreDue}
 use Rattle.phases.specs.Laws.{RunsAfter as LoopRunsAfter}
-use Rattle.phases.specs.Requests.{Request, Tidings}
+use Rattle.phases.specs.Requests.{Request, Completion}
 use Rattle.phases.specs.State.{Setting, Loop}
 use Rattle.desk.specs.Desk.{Desk, desk_calls}
 use Rattle.world_log.specs.declared.step.Step.{Step}
-use Rattle.world_log.specs.declared.entry.Entry.{Entry as Line}
-use Rattle.world_log.specs.declared.entry.Entry.TheVariants as line
-use Rattle.world_log.specs.declared.outcome.Job.{Job}
+use Rattle.world_log.specs.declared.entry.LogEntry.{LogEntry}
+use Rattle.world_log.specs.declared.entry.LogEntry.TheVariants as line
+use Rattle.world_log.specs.declared.outcome.JobId.{JobId}
 use Rattle.world_log.specs.declared.outcome.PostOutcome.TheVariants as post
 use Rattle.world_log.specs.declared.outcome.StartOutcome.TheVariants as start
 use Rattle.world_log.specs.declared.outcome.FinishOutcome.TheVariants as finish
@@ -21,95 +21,96 @@ use Rattle.world.specs.World.{World, WorldStep, WorldRun, HasLoop, opening_world
 use Rattle.world.specs.Guests.{step_calls, guest_calls}
 
 -- the entry tells an after-work callback of this loop and request
-abbrev pub is_after : (l request : ℕ) → Line → Bool
+abbrev pub is_after : (l request : ℕ) → LogEntry → Bool
 is_after l request (line.Ran n kind.After number ended emits) = (n == l) && (number == request)
 is_after l request _ = false
 
 -- in every run from an opening world each loop and request have at most one after-work callback
 abbrev pub IsAfterOnce : Type 0
 IsAfterOnce =
-    (settings : List Setting) (workers : ℕ) (steps : List Step) (log : List Line) (w : World)
-        → WorldRun (opening_world settings workers) steps log w
+    (settings : List Setting) (workers : ℕ) (steps : List Step) (log : List LogEntry) (w : World)
+    → WorldRun (opening_world settings workers) steps log w
     → (l request : ℕ) → count_by (is_after l request) log ≤ 1
 
 -- a cancel of the request was answered 0: the owner's, which is in the log, or a guest's
-abbrev pub WasCancelled : (l request : ℕ) → List Line → List GuestCall → Type 0
+abbrev pub WasCancelled : (l request : ℕ) → List LogEntry → List GuestCall → Type 0
 WasCancelled l request log made = Contains log (line.Cancel l request (pos 0)) ⊎ ((c : GuestCall) × Contains made c × IsCancel request c)
 
 -- The step took this request off its loop's list and removed it, ran its after-work callback, and gave it these
--- tidings, which are those of the stage that it had come to.
-pub record RunsAfter (w : World) (l : ℕ) (q : Request) (g : Setting) (tidings : Tidings) (entry : Line) (w' : World) : Type 0 where
+-- completion, which are those of the stage that it had come to.
+pub record RunsAfter (w : World) (l : ℕ) (q : Request) (g : Setting) (completion : Completion) (entry : LogEntry)
+    (w' : World) : Type 0 where
   pub old : Loop Desk
   pub new : Loop Desk
   pub did : StepDid
   pub at : HasLoop w l g old
-  pub runs : LoopRunsAfter desk_calls g old q tidings did new
+  pub runs : LoopRunsAfter desk_calls g old q completion did new
   pub told : entry ≡ told_of l did new.state.emits
   pub after : w' ≡ with_loop w l g new
 
 -- The callback of this loop and request was given what is due to the order that the guest had asked for under that
 -- request's number, which is the very order of the request that the step removed.
-pub record IsOwn (settings : List Setting) (log : List Line) (made : List GuestCall) (w : World) (l number : ℕ) (entry : Line)
+pub record IsOwn (settings : List Setting) (log : List LogEntry) (made : List GuestCall) (w : World) (l number : ℕ) (entry : LogEntry)
     (w' : World) : Type 0 where
   pub setting : Setting
   pub request : Request
-  pub tidings : Tidings
+  pub completion : Completion
   pub of_loop : slice_get settings l ≡ Some setting
   pub numbered : request.order.request ≡ number
   pub asked : WasAsked setting made request.order
-  pub runs : RunsAfter w l request setting tidings entry w'
-  pub due : AreDue request.order tidings (WasCancelled l number log made)
+  pub runs : RunsAfter w l request setting completion entry w'
+  pub due : AreDue request.order completion (WasCancelled l number log made)
 
 -- each step that runs an after-work callback, after any run from an opening world, gives it what is due to its own order
 abbrev pub IsAfterOwn : Type 0
 IsAfterOwn =
-    (settings : List Setting) (workers : ℕ) (steps : List Step) (log : List Line) (w : World)
-        (run : WorldRun (opening_world settings workers) steps log w)
-    → (s : Step) (entry : Line) (w' : World) → WorldStep w s entry w'
+    (settings : List Setting) (workers : ℕ) (steps : List Step) (log : List LogEntry) (w : World)
+    (run : WorldRun (opening_world settings workers) steps log w)
+    → (s : Step) (entry : LogEntry) (w' : World) → WorldStep w s entry w'
     → (l request : ℕ) → is_after l request entry ≡ true
     → IsOwn settings log (guest_calls l (opening_world settings workers) steps log w run) w l request entry w'
 
 -- from the callback on no cancel of its request is answered 0, in the callback or behind it
 abbrev pub IsAfterLast : Type 0
 IsAfterLast =
-    (settings : List Setting) (workers : ℕ) (steps : List Step) (log : List Line) (w : World)
-        → WorldRun (opening_world settings workers) steps log w
-    → (s : Step) (entry : Line) (mid : World) (step : WorldStep w s entry mid)
-    → (behind : List Step) (more : List Line) (w' : World) (run : WorldRun mid behind more w')
+    (settings : List Setting) (workers : ℕ) (steps : List Step) (log : List LogEntry) (w : World)
+    → WorldRun (opening_world settings workers) steps log w
+    → (s : Step) (entry : LogEntry) (mid : World) (step : WorldStep w s entry mid)
+    → (behind : List Step) (more : List LogEntry) (w' : World) (run : WorldRun mid behind more w')
     → (l request : ℕ) → is_after l request entry ≡ true
     → WasCancelled l request (entry ∷ more) (step_calls l w s entry mid step ++ guest_calls l mid behind more w' run) → ⊥
 
 -- the line tells of the job of this loop and request: that it was posted, taken, begun, dropped, finished, collected
-abbrev pub is_of_job : (l request : ℕ) → Job → Bool
+abbrev pub is_of_job : (l request : ℕ) → JobId → Bool
 is_of_job l request job = (job.loop_no == l) && (job.request == request)
 
-abbrev pub is_posted : (l request : ℕ) → Line → Bool
+abbrev pub is_posted : (l request : ℕ) → LogEntry → Bool
 is_posted l request (line.Post n (post.Request number)) = (n == l) && (number == request)
 is_posted l request _ = false
 
-abbrev pub is_taken : (l request : ℕ) → Line → Bool
+abbrev pub is_taken : (l request : ℕ) → LogEntry → Bool
 is_taken l request (line.Take n (Some job)) = is_of_job l request job
 is_taken l request _ = false
 
-abbrev pub is_begun : (l request : ℕ) → Line → Bool
+abbrev pub is_begun : (l request : ℕ) → LogEntry → Bool
 is_begun l request (line.Start n (start.Begun job)) = is_of_job l request job
 is_begun l request _ = false
 
-abbrev pub is_dropped : (l request : ℕ) → Line → Bool
+abbrev pub is_dropped : (l request : ℕ) → LogEntry → Bool
 is_dropped l request (line.Start n (start.Dropped job)) = is_of_job l request job
 is_dropped l request _ = false
 
-abbrev pub is_finished : (l request : ℕ) → Line → Bool
+abbrev pub is_finished : (l request : ℕ) → LogEntry → Bool
 is_finished l request (line.Finish n (finish.Ended job ending)) = is_of_job l request job
 is_finished l request _ = false
 
-abbrev pub is_collected : (l request : ℕ) → Line → Bool
+abbrev pub is_collected : (l request : ℕ) → LogEntry → Bool
 is_collected l request (line.Collect n (collect.Request number)) = (n == l) && (number == request)
 is_collected l request _ = false
 
 -- The job was posted at most once, and got no further more often than as far as that: it was taken where it was posted,
 -- begun or dropped where it was taken, finished where it was begun, and collected where it was finished.
-pub record GoesOnce (l request : ℕ) (log : List Line) : Type 0 where
+pub record GoesOnce (l request : ℕ) (log : List LogEntry) : Type 0 where
   pub posted : count_by (is_posted l request) log ≤ 1
   pub taken : count_by (is_taken l request) log ≤ count_by (is_posted l request) log
   pub started : count_by (is_begun l request) log + count_by (is_dropped l request) log ≤ count_by (is_taken l request) log
@@ -124,11 +125,11 @@ AreInPlace settings = (n : ℕ) (g : Setting) → slice_get settings n ≡ Some 
 -- beginnings are runs, each line of the way stands behind the one before it.
 abbrev pub IsOneWay : Type 0
 IsOneWay =
-    (settings : List Setting) (workers : ℕ) (steps : List Step) (log : List Line) (w : World) → AreInPlace settings
+    (settings : List Setting) (workers : ℕ) (steps : List Step) (log : List LogEntry) (w : World) → AreInPlace settings
     → WorldRun (opening_world settings workers) steps log w → (l request : ℕ) → GoesOnce l request log
 
 -- a run, and a run from where it ended, are one run
 abbrev pub RunsJoin : Type 0
 RunsJoin =
-    (w mid w' : World) (steps more : List Step) (log lines : List Line) → WorldRun w steps log mid → WorldRun mid more lines w'
+    (w mid w' : World) (steps more : List Step) (log lines : List LogEntry) → WorldRun w steps log mid → WorldRun mid more lines w'
     → WorldRun w (steps ++ more) (log ++ lines) w'

@@ -1,7 +1,7 @@
 -- What a world is made of, and how its code reads.
 use Rattle.std.specs.Prelude.{◌≡◌, ◌≤◌, ℕ, ◌+◌, ◌<◌, ◌⊎◌, List, [], ◌∷◌, All, Some, length, map, slice_get, take}
 use Rattle.std.specs.Arc.{arc_value}
-use Rattle.order.specs.declared.request.Order.{Order}
+use Rattle.order.specs.declared.order.Order.{Order}
 use Rattle.order.specs.declared.reply.Reply.{Reply}
 use Rattle.order.specs.Orders.{order_of, end_of}
 use Rattle.phases.specs.Keeping.{CanRun}
@@ -9,31 +9,36 @@ use Rattle.phases.specs.State.{Setting, Core}
 use Rattle.desk.specs.Desk.{Desk}
 use Rattle.world_log.specs.declared.step.Step.{Step}
 use Rattle.world_log.specs.declared.step.Step.TheVariants as step
-use Rattle.world_log.specs.declared.entry.Entry.{Entry}
+use Rattle.world_log.specs.declared.entry.LogEntry.{LogEntry}
 use Rattle.world.specs.declared.config.LoopConfig.{LoopConfig}
-use Rattle.world.specs.declared.hand.Hand.{Hand as CodeHand}
-use Rattle.world.specs.declared.hand.Hand.TheVariants as hand
+use Rattle.world.specs.declared.worker.Worker.{Worker as CodeWorker}
+use Rattle.world.specs.declared.worker.Worker.TheVariants as worker
 use Rattle.world.specs.declared.fault.WorldFault.{WorldFault}
 use Rattle.world.specs.declared.fault.WorldFault.TheVariants.{NoSuch, Memory}
-use Rattle.world.specs.World.{World, Hand, Empty, Taken, Started, Answer, WorldRun}
+use Rattle.world.specs.World.{World, Worker, Idle, Taken, Started, Answer, WorldRun}
 
 abbrev pub number_of : WorldFault → ℕ
 number_of NoSuch = 1
 number_of Memory = 2
 
 abbrev pub setting_from : ℕ → LoopConfig → Setting
-setting_from n c = record { loaded = arc_value c.linked; loop_no = n; fuel = c.settings.fuel; work_fuel = c.settings.work_fuel;
-    depth = c.settings.depth }
+setting_from n c = record {
+  loaded = arc_value c.linked;
+  loop_no = n;
+  fuel = c.settings.fuel;
+  work_fuel = c.settings.work_fuel;
+  depth = c.settings.depth;
+}
 
 -- each loop's number is its place
 abbrev pub settings_from : ℕ → List LoopConfig → List Setting
 settings_from n [] = []
 settings_from n (c ∷ cs) = setting_from n c ∷ settings_from (n + 1) cs
 
-abbrev pub hand_of : CodeHand → Hand
-hand_of hand.Empty = Empty
-hand_of (hand.Taken o) = Taken (order_of o)
-hand_of (hand.Started o) = Started (order_of o)
+abbrev pub worker_of : CodeWorker → Worker
+worker_of worker.Idle = Idle
+worker_of (worker.Taken o) = Taken (order_of o)
+worker_of (worker.Started o) = Started (order_of o)
 
 abbrev pub answer_of : Reply → Answer
 answer_of r = record { order = order_of r.order; end = end_of r.outcome }
@@ -51,10 +56,10 @@ pub record IsJob (loops : ℕ) (o : Order) : Type 0 where
   pub slot : o.slot < 32
   pub runs : CanRun (order_of o)
 
-abbrev pub IsHeld : ℕ → CodeHand → Type 0
-IsHeld loops hand.Empty = Unit {0}
-IsHeld loops (hand.Taken o) = IsJob loops o
-IsHeld loops (hand.Started o) = IsJob loops o
+abbrev pub IsHeld : ℕ → CodeWorker → Type 0
+IsHeld loops worker.Idle = Unit {0}
+IsHeld loops (worker.Taken o) = IsJob loops o
+IsHeld loops (worker.Started o) = IsJob loops o
 
 -- each loop's number is its place, counted from here
 abbrev pub AreNumbered : ℕ → List (Core Desk) → Type 0
@@ -63,10 +68,10 @@ AreNumbered n (p ∷ ps) = (p.setting.loop_no ≡ n) × AreNumbered (n + 1) ps
 
 -- Each loop's number is its place, each job is one of these loops' and can be started and run, each loop has a list of
 -- replies, and so many jobs have room at least.
-pub record IsKept (loops : List (Core Desk)) (jobs : List Order) (hands : List CodeHand) (lists room : ℕ) : Type 0 where
+pub record IsKept (loops : List (Core Desk)) (jobs : List Order) (states : List CodeWorker) (lists room : ℕ) : Type 0 where
   pub numbered : AreNumbered 0 loops
   pub waiting : All (IsJob (length loops)) jobs
-  pub held : All (IsHeld (length loops)) hands
+  pub held : All (IsHeld (length loops)) states
   pub paired : lists ≡ length loops
   pub few : length jobs ≤ 256
   pub roomy : 256 ≤ room
@@ -75,9 +80,9 @@ pub record IsKept (loops : List (Core Desk)) (jobs : List Order) (hands : List C
 abbrev pub NamesNothing : World → Step → Type 0
 NamesNothing w (step.Loop n) = length w.loops ≤ n
 NamesNothing w (step.Post n) = length w.loops ≤ n
-NamesNothing w (step.Take n) = length w.hands ≤ n
-NamesNothing w (step.Start n) = length w.hands ≤ n
-NamesNothing w (step.Finish n) = length w.hands ≤ n
+NamesNothing w (step.Take n) = length w.workers ≤ n
+NamesNothing w (step.Start n) = length w.workers ≤ n
+NamesNothing w (step.Finish n) = length w.workers ≤ n
 NamesNothing w (step.Collect n) = length w.loops ≤ n
 NamesNothing w (step.Send n a) = (length w.loops ≤ n) ⊎ (16 ≤ a)
 NamesNothing w (step.Cancel n request) = length w.loops ≤ n
@@ -89,7 +94,7 @@ MayFault w s NoSuch = NamesNothing w s
 MayFault w s Memory = Unit {0}
 
 -- the steps before a fault told this, and left this world
-pub record Stops (w : World) (steps : List Step) (fault : WorldFault) (told : List Entry) (w' : World) : Type 0 where
+pub record Stops (w : World) (steps : List Step) (fault : WorldFault) (told : List LogEntry) (w' : World) : Type 0 where
   pub done : ℕ
   pub next : Step
   pub at : slice_get steps done ≡ Some next

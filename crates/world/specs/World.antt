@@ -16,9 +16,9 @@ use Rattle.phases.specs.Outside.{is_failed, next_order_of, Takes, answered, afte
 use Rattle.desk.specs.Desk.{Desk, new_desk, desk_calls, desk_others}
 use Rattle.world_log.specs.declared.step.Step.{Step}
 use Rattle.world_log.specs.declared.step.Step.TheVariants as step
-use Rattle.world_log.specs.declared.entry.Entry.{Entry}
-use Rattle.world_log.specs.declared.entry.Entry.TheVariants as line
-use Rattle.world_log.specs.declared.outcome.Job.{Job}
+use Rattle.world_log.specs.declared.entry.LogEntry.{LogEntry}
+use Rattle.world_log.specs.declared.entry.LogEntry.TheVariants as line
+use Rattle.world_log.specs.declared.outcome.JobId.{JobId}
 use Rattle.world_log.specs.declared.outcome.WorkEnding.{WorkEnding}
 use Rattle.world_log.specs.declared.outcome.WorkEnding.TheVariants as ending
 use Rattle.world_log.specs.declared.outcome.PostOutcome.TheVariants as post
@@ -26,23 +26,23 @@ use Rattle.world_log.specs.declared.outcome.StartOutcome.TheVariants as start
 use Rattle.world_log.specs.declared.outcome.FinishOutcome.TheVariants as finish
 use Rattle.world_log.specs.declared.outcome.CollectOutcome.TheVariants as collect
 
--- what a worker has: nothing, a job that it took, or one that it started
-pub data Hand : Type 0 where
-  Empty : Hand
-  Taken : (o : WorkOrder) → Hand
-  Started : (o : WorkOrder) → Hand
+-- what a worker is at: nothing, a job that it took, or one that it started
+pub data Worker : Type 0 where
+  Idle : Worker
+  Taken : (o : WorkOrder) → Worker
+  Started : (o : WorkOrder) → Worker
 
 -- an order, and what became of it
 pub record Answer : Type 0 where
   pub order : WorkOrder
   pub end : WorkEnd
 
--- The loops, each with what it is made of; the jobs that no worker took, the oldest first; what each worker has; and
+-- The loops, each with what it is made of; the jobs that no worker took, the oldest first; what each worker is at; and
 -- for each loop the replies that it was not offered yet, the oldest first.
 pub record World : Type 0 where
   pub loops : List (Core Desk)
   pub jobs : List WorkOrder
-  pub hands : List Hand
+  pub workers : List Worker
   pub replies : List (List Answer)
 
 -- a loop that has done nothing
@@ -56,12 +56,12 @@ opening_loop g = record {
   };
 }
 
--- each loop as it opens, workers with empty hands, and no job and no reply
+-- each loop as it opens, idle workers, and no job and no reply
 abbrev pub opening_world : List Setting → (workers : ℕ) → World
 opening_world settings workers = record {
   loops = map opening_loop settings;
   jobs = [];
-  hands = replicate workers Empty;
+  workers = replicate workers Idle;
   replies = map (λ _. []) settings;
 }
 
@@ -72,29 +72,29 @@ HasLoop w n g l = slice_get w.loops n ≡ Some (record { setting = g; loop = l }
 abbrev pub with_loop : World → ℕ → Setting → Loop Desk → World
 with_loop w n g l = record w { loops = slice_set w.loops n (record { setting = g; loop = l }) }
 
-abbrev pub with_hand : World → ℕ → Hand → World
-with_hand w n hand = record w { hands = slice_set w.hands n hand }
+abbrev pub with_worker : World → ℕ → Worker → World
+with_worker w n state = record w { workers = slice_set w.workers n state }
 
 abbrev pub with_replies : World → ℕ → List Answer → World
 with_replies w n replies = record w { replies = slice_set w.replies n replies }
 
 -- this is told, and nothing changes
-abbrev pub Only : World → Entry → Entry → World → Type 0
+abbrev pub Only : World → LogEntry → LogEntry → World → Type 0
 Only w entry told w' = (entry ≡ told) × (w' ≡ w)
 
 -- on a failed loop nothing changes
-abbrev pub UnlessFailed : World → ℕ → Loop Desk → Entry → World → Type 0 → Type 0
+abbrev pub UnlessFailed : World → ℕ → Loop Desk → LogEntry → World → Type 0 → Type 0
 UnlessFailed w n l entry w' goes_on = MatchBool (is_failed l.state.status) (Only w entry (line.Failed n) w') goes_on
 
 -- what is told of a loop's step
-abbrev pub told_of : (n : ℕ) → StepDid → (emits : List ℕ) → Entry
+abbrev pub told_of : (n : ℕ) → StepDid → (emits : List ℕ) → LogEntry
 told_of n (did.Entered phase now) emits = line.Entered n phase now
 told_of n (did.Ran kind number ended) emits = line.Ran n kind number ended emits
 told_of n (did.Skipped kind number) emits = line.Skipped n kind number
 told_of n did.Over emits = line.Over n
 told_of n did.Failed emits = line.Failed n
 
-pub record StepsLoop (w : World) (n : ℕ) (entry : Entry) (w' : World) : Type 0 where
+pub record StepsLoop (w : World) (n : ℕ) (entry : LogEntry) (w' : World) : Type 0 where
   pub setting : Setting
   pub old : Loop Desk
   pub new : Loop Desk
@@ -105,32 +105,32 @@ pub record StepsLoop (w : World) (n : ℕ) (entry : Entry) (w' : World) : Type 0
   pub after : w' ≡ with_loop w n setting new
 
 -- A failed loop is told first, then a full list, then that there is no order.
-abbrev pub PostsOrder : World → ℕ → Setting → Loop Desk → Option WorkOrder × State → Entry → World → Type 0
+abbrev pub PostsOrder : World → ℕ → Setting → Loop Desk → Option WorkOrder × State → LogEntry → World → Type 0
 PostsOrder w n g l (None, s) entry w' = Only w entry (line.Post n post.Nothing) w'
 PostsOrder w n g l (Some o, s) entry w' =
     (entry ≡ line.Post n (post.Request o.request)) × (w' ≡ record (with_loop w n g (in_state l s)) { jobs = w.jobs ++ o ∷ [] })
 
-abbrev pub Posts : World → ℕ → Entry → World → Type 0
+abbrev pub Posts : World → ℕ → LogEntry → World → Type 0
 Posts w n entry w' =
     (g : Setting) × (l : Loop Desk) × HasLoop w n g l
     × UnlessFailed w n l entry w'
     (MatchBool (length w.jobs == 256) (Only w entry (line.Post n post.Full) w') (PostsOrder w n g l (next_order_of l.state) entry w'))
 
-abbrev pub job_of : WorkOrder → Job
+abbrev pub job_of : WorkOrder → JobId
 job_of o = record { loop_no = o.loop_no; request = o.request }
 
--- an empty hand takes the front job
-abbrev pub TakesJob : World → ℕ → Hand → List WorkOrder → Entry → World → Type 0
-TakesJob w n Empty (o ∷ jobs) entry w' = (entry ≡ line.Take n (Some (job_of o))) × (w' ≡ record (with_hand w n (Taken o)) { jobs = jobs })
+-- an idle worker takes the front job
+abbrev pub TakesJob : World → ℕ → Worker → List WorkOrder → LogEntry → World → Type 0
+TakesJob w n Idle (o ∷ jobs) entry w' = (entry ≡ line.Take n (Some (job_of o))) × (w' ≡ record (with_worker w n (Taken o)) { jobs = jobs })
 TakesJob w n _ _ entry w' = Only w entry (line.Take n None) w'
 
 -- a job that was taken is started at what its loop shares, or dropped
-abbrev pub StartsJob : World → ℕ → Hand → Entry → World → Type 0
+abbrev pub StartsJob : World → ℕ → Worker → LogEntry → World → Type 0
 StartsJob w n (Taken o) entry w' =
     (g : Setting) × (l l' : Loop Desk) × (ok : Bool) × HasLoop w o.loop_no g l × StartsBeside desk_others l o.slot o.request ok l'
     × MatchBool ok
-    ((entry ≡ line.Start n (start.Begun (job_of o))) × (w' ≡ with_hand (with_loop w o.loop_no g l') n (Started o)))
-    ((entry ≡ line.Start n (start.Dropped (job_of o))) × (w' ≡ with_hand w n Empty))
+    ((entry ≡ line.Start n (start.Begun (job_of o))) × (w' ≡ with_worker (with_loop w o.loop_no g l') n (Started o)))
+    ((entry ≡ line.Start n (start.Dropped (job_of o))) × (w' ≡ with_worker w n Idle))
 StartsJob w n _ entry w' = Only w entry (line.Start n start.Nothing) w'
 
 -- how an end is told
@@ -143,7 +143,7 @@ Tells told NoMemory = told ≡ ending.NoMemory
 Tells _ _ = ⊥
 
 -- a job that was started is run, and its reply goes to the back of its loop's list
-pub record RunsJob (w : World) (n : ℕ) (o : WorkOrder) (entry : Entry) (w' : World) : Type 0 where
+pub record RunsJob (w : World) (n : ℕ) (o : WorkOrder) (entry : LogEntry) (w' : World) : Type 0 where
   pub end : WorkEnd
   pub ending : WorkEnding
   pub replies : List Answer
@@ -151,17 +151,17 @@ pub record RunsJob (w : World) (n : ℕ) (o : WorkOrder) (entry : Entry) (w' : W
   pub tells : Tells ending end
   pub waiting : slice_get w.replies o.loop_no ≡ Some replies
   pub told : entry ≡ line.Finish n (finish.Ended (job_of o) ending)
-  pub after : w' ≡ with_hand (with_replies w o.loop_no (replies ++ record { order = o; end = end } ∷ [])) n Empty
+  pub after : w' ≡ with_worker (with_replies w o.loop_no (replies ++ record { order = o; end = end } ∷ [])) n Idle
 
-abbrev pub FinishesJob : World → ℕ → Hand → Entry → World → Type 0
+abbrev pub FinishesJob : World → ℕ → Worker → LogEntry → World → Type 0
 FinishesJob w n (Started o) entry w' = RunsJob w n o entry w'
 FinishesJob w n _ entry w' = Only w entry (line.Finish n finish.Nothing) w'
 
-abbrev pub WithHand : World → ℕ → (Hand → Type 0) → Type 0
-WithHand w n P = (hand : Hand) × (slice_get w.hands n ≡ Some hand) × P hand
+abbrev pub WithWorker : World → ℕ → (Worker → Type 0) → Type 0
+WithWorker w n P = (state : Worker) × (slice_get w.workers n ≡ Some state) × P state
 
 -- the front reply leaves the list, and is taken or is a stranger
-abbrev pub CollectsFrom : World → ℕ → Setting → Loop Desk → List Answer → Entry → World → Type 0
+abbrev pub CollectsFrom : World → ℕ → Setting → Loop Desk → List Answer → LogEntry → World → Type 0
 CollectsFrom w n g l [] entry w' = Only w entry (line.Collect n collect.Nothing) w'
 CollectsFrom w n g l (a ∷ replies) entry w' =
     (one : Bool)
@@ -170,44 +170,44 @@ CollectsFrom w n g l (a ∷ replies) entry w' =
     × (w' ≡ with_replies (with_loop w n g (in_state l (with_requests l.state (answered l.state.requests a.order a.end)))) n replies))
     ((Takes a.order l.state → ⊥) × (entry ≡ line.Collect n collect.Stranger) × (w' ≡ with_replies w n replies))
 
-abbrev pub Collects : World → ℕ → Entry → World → Type 0
+abbrev pub Collects : World → ℕ → LogEntry → World → Type 0
 Collects w n entry w' =
     (g : Setting) × (l : Loop Desk) × (replies : List Answer) × HasLoop w n g l × (slice_get w.replies n ≡ Some replies)
     × UnlessFailed w n l entry w' (CollectsFrom w n g l replies entry w')
 
 -- a failed loop's sends are still counted
-abbrev pub SendsTo : World → ℕ → (async_no : ℕ) → Entry → World → Type 0
+abbrev pub SendsTo : World → ℕ → (async_no : ℕ) → LogEntry → World → Type 0
 SendsTo w n a entry w' =
     (g : Setting) × (l l' : Loop Desk) × (ok : Bool) × (a < 16) × HasLoop w n g l × SendsBeside desk_others l a ok l'
     × (entry ≡ line.Send n a (not ok)) × (w' ≡ with_loop w n g l')
 
-abbrev pub Cancels : World → ℕ → (request : ℕ) → Entry → World → Type 0
+abbrev pub Cancels : World → ℕ → (request : ℕ) → LogEntry → World → Type 0
 Cancels w n request entry w' =
     (g : Setting) × (l l' : Loop Desk) × (answer : ℕ) × HasLoop w n g l
     × UnlessFailed w n l entry w'
     (CancelIn desk_calls l.state.status (l.state, l.shared) request answer (l'.state, l'.shared) × (l'.store ≡ l.store)
     × (entry ≡ line.Cancel n request (cast_signed w32 answer)) × (w' ≡ with_loop w n g l'))
 
-abbrev pub Clocks : World → ℕ → (ms : ℕ) → Entry → World → Type 0
+abbrev pub Clocks : World → ℕ → (ms : ℕ) → LogEntry → World → Type 0
 Clocks w n ms entry w' =
     (g : Setting) × (l : Loop Desk) × HasLoop w n g l
     × UnlessFailed w n l entry w'
     ((entry ≡ line.Clock n (after_clock l.state ms).clock) × (w' ≡ with_loop w n g (in_state l (after_clock l.state ms))))
 
 -- one step, and what is told of it; a step of a loop, worker or async that is not there is none
-abbrev pub WorldStep : World → Step → Entry → World → Type 0
+abbrev pub WorldStep : World → Step → LogEntry → World → Type 0
 WorldStep w (step.Loop n) entry w' = StepsLoop w n entry w'
 WorldStep w (step.Post n) entry w' = Posts w n entry w'
-WorldStep w (step.Take n) entry w' = WithHand w n (λ hand. TakesJob w n hand w.jobs entry w')
-WorldStep w (step.Start n) entry w' = WithHand w n (λ hand. StartsJob w n hand entry w')
-WorldStep w (step.Finish n) entry w' = WithHand w n (λ hand. FinishesJob w n hand entry w')
+WorldStep w (step.Take n) entry w' = WithWorker w n (λ state. TakesJob w n state w.jobs entry w')
+WorldStep w (step.Start n) entry w' = WithWorker w n (λ state. StartsJob w n state entry w')
+WorldStep w (step.Finish n) entry w' = WithWorker w n (λ state. FinishesJob w n state entry w')
 WorldStep w (step.Collect n) entry w' = Collects w n entry w'
 WorldStep w (step.Send n a) entry w' = SendsTo w n a entry w'
 WorldStep w (step.Cancel n request) entry w' = Cancels w n request entry w'
 WorldStep w (step.Clock n ms) entry w' = Clocks w n ms entry w'
 
 -- some steps, one after another, and what is told of them
-abbrev pub WorldRun : World → List Step → List Entry → World → Type 0
+abbrev pub WorldRun : World → List Step → List LogEntry → World → Type 0
 WorldRun w [] [] w' = w' ≡ w
 WorldRun w (s ∷ steps) (entry ∷ entries) w' = (mid : World) × WorldStep w s entry mid × WorldRun mid steps entries w'
 WorldRun w _ _ w' = ⊥

@@ -9,8 +9,8 @@
 
 mod config;
 mod fault;
-mod hand;
 pub mod laws;
+mod worker;
 mod world;
 
 pub use config::{Config, LoopConfig};

@@ -2,12 +2,12 @@
 
 ghost use Rattle.std.specs.Prelude.{◌≡◌, ◌++◌, ◌∷◌, [], ◌≤◌, ◌<◌, All, IfOk, IfErr, OnOk, OnErr, length, map, replicate, take};
 ghost use Rattle.world.specs.Making.{setting_from, settings_from, answers_of, HasDepth, MayFault, Stops};
-ghost use Rattle.world.specs.World.{opening_world, opening_loop, WorldStep, WorldRun, told_of, job_of, Tells, StepsLoop, Posts, WithHand, TakesJob, StartsJob, FinishesJob, Collects, SendsTo, Cancels, Clocks};
+ghost use Rattle.world.specs.World.{opening_world, opening_loop, WorldStep, WorldRun, told_of, job_of, Tells, StepsLoop, Posts, WithWorker, TakesJob, StartsJob, FinishesJob, Collects, SendsTo, Cancels, Clocks};
 ghost use Rattle.order.specs.Orders.{order_of, end_of};
 
 use crate::config::{Config, LoopConfig};
 use crate::fault::WorldFault;
-use crate::hand::Hand;
+use crate::worker::Worker;
 use desk::Desk;
 use order::{Order, Outcome, Reply};
 use phases::{Accepted, LoopCore, StepDid};
@@ -18,7 +18,8 @@ use std::mem;
 use std::sync::Arc;
 use syntax::items::Items;
 use world_log::{
-    CollectOutcome, Entry, FinishOutcome, Job, Log, PostOutcome, StartOutcome, Step, WorkEnding,
+    CollectOutcome, FinishOutcome, JobId, Log, LogEntry, PostOutcome, StartOutcome, Step,
+    WorkEnding,
 };
 
 /// How many jobs may wait for a worker.
@@ -37,7 +38,7 @@ pub struct World {
     alloc: Global,
     loops: Vec<LoopCore<Desk>>,
     jobs: VecDeque<Order>,
-    hands: Vec<Hand>,
+    workers: Vec<Worker>,
     replies: Vec<VecDeque<Reply>>,
 }
 
@@ -50,23 +51,23 @@ impl Model for World {
     ghost use Rattle.phases.specs.Codes.{roster_code, requests_code};
     ghost use Rattle.order.specs.Orders.{order_of};
     ghost use Rattle.world.specs.World.{World as Value_of};
-    ghost use Rattle.world.specs.Making.{answers_of, hand_of, IsKept};
+    ghost use Rattle.world.specs.Making.{answers_of, worker_of, IsKept};
 
     ghost Value = { Value_of };
 
     ghost coded = { Prim.hlevel (codes, loaded_coded, table_code, roster_code, requests_code) };
 
-    ghost view = { λ a. record { loops = a.loops.items; jobs = map order_of a.jobs.items; hands = map hand_of a.hands.items; replies = map (λ d. answers_of d.items) a.replies.items } };
+    ghost view = { λ a. record { loops = a.loops.items; jobs = map order_of a.jobs.items; workers = map worker_of a.workers.items; replies = map (λ d. answers_of d.items) a.replies.items } };
 
-    ghost invariant = { λ a. IsKept a.loops.items a.jobs.items a.hands.items (length a.replies.items) (deque_capacity a.jobs) };
+    ghost invariant = { λ a. IsKept a.loops.items a.jobs.items a.workers.items (length a.replies.items) (deque_capacity a.jobs) };
 }
 
 // What is told of a loop's step.
-fn told(loop_no: u32, did: StepDid, emits: Items<u64>) -> Entry
+fn told(loop_no: u32, did: StepDid, emits: Items<u64>) -> LogEntry
     ensures { result ≡ told_of loop_no did emits }
 {
     match did {
-        StepDid::Entered { phase, now } => Entry::Entered {
+        StepDid::Entered { phase, now } => LogEntry::Entered {
             loop_no,
             phase,
             now,
@@ -75,27 +76,27 @@ fn told(loop_no: u32, did: StepDid, emits: Items<u64>) -> Entry
             kind,
             number,
             ended,
-        } => Entry::Ran {
+        } => LogEntry::Ran {
             loop_no,
             kind,
             number,
             ended,
             emits,
         },
-        StepDid::Skipped { kind, number } => Entry::Skipped {
+        StepDid::Skipped { kind, number } => LogEntry::Skipped {
             loop_no,
             kind,
             number,
         },
-        StepDid::Over => Entry::Over { loop_no },
-        StepDid::Failed => Entry::Failed { loop_no },
+        StepDid::Over => LogEntry::Over { loop_no },
+        StepDid::Failed => LogEntry::Failed { loop_no },
     }
 }
 
-fn job_of(order: &Order) -> Job
+fn job_of(order: &Order) -> JobId
     ensures { result ≡ job_of (order_of order.now) }
 {
-    Job {
+    JobId {
         loop_no: order.loop_no,
         request: order.request,
     }
@@ -160,14 +161,14 @@ fn no_replies(alloc: Global, loops: usize) -> Result<Vec<VecDeque<Reply>>, Alloc
     Ok(lists)
 }
 
-fn empty_hands(alloc: Global, workers: u32) -> Result<Vec<Hand>, AllocError>
-    ensures { IfOk result (λ hands. hands.items ≡ replicate workers Hand.Empty) }
+fn idle_workers(alloc: Global, count: u32) -> Result<Vec<Worker>, AllocError>
+    ensures { IfOk result (λ workers. workers.items ≡ replicate count Worker.Idle) }
 {
-    let mut hands = Vec::new(alloc);
-    for _ in 0..workers {
-        hands.push(Hand::Empty)?;
+    let mut workers = Vec::new(alloc);
+    for _ in 0..count {
+        workers.push(Worker::Idle)?;
     }
-    Ok(hands)
+    Ok(workers)
 }
 
 impl World {
@@ -185,7 +186,7 @@ impl World {
             alloc,
             loops: opening_loops(alloc, config.loops.as_slice())?,
             jobs: VecDeque::with_capacity(alloc, MAX_JOBS)?,
-            hands: empty_hands(alloc, config.workers)?,
+            workers: idle_workers(alloc, config.workers)?,
             replies: no_replies(alloc, config.loops.len())?,
         })
     }
@@ -215,7 +216,7 @@ impl World {
         Ok(())
     }
 
-    fn take_step(&mut self, step: Step) -> Result<Entry, WorldFault>
+    fn take_step(&mut self, step: Step) -> Result<LogEntry, WorldFault>
         ensures ran { IfOk result (λ entry. WorldStep self.old step entry self.new) }
         ensures fault { IfErr result (λ fault. MayFault self.old step fault) }
         ensures kept { OnErr result (self.new ≡ self.old) }
@@ -233,7 +234,7 @@ impl World {
         }
     }
 
-    fn step_loop(&mut self, loop_no: u32) -> Result<Entry, WorldFault>
+    fn step_loop(&mut self, loop_no: u32) -> Result<LogEntry, WorldFault>
         ensures ran { IfOk result (λ entry. StepsLoop self.old loop_no entry self.new) }
         ensures fault { IfErr result (λ fault. MayFault self.old (Step.Loop loop_no) fault) }
         ensures kept { OnErr result (self.new ≡ self.old) }
@@ -249,7 +250,7 @@ impl World {
         Ok(told(loop_no, did, Items::from_vec(emits)))
     }
 
-    fn post(&mut self, loop_no: u32) -> Result<Entry, WorldFault>
+    fn post(&mut self, loop_no: u32) -> Result<LogEntry, WorldFault>
         ensures ran { IfOk result (λ entry. Posts self.old loop_no entry self.new) }
         ensures fault { IfErr result (λ fault. MayFault self.old (Step.Post loop_no) fault) }
         ensures kept { OnErr result (self.new ≡ self.old) }
@@ -258,54 +259,54 @@ impl World {
             return Err(WorldFault::NoSuch);
         };
         if core.failed() {
-            return Ok(Entry::Failed { loop_no });
+            return Ok(LogEntry::Failed { loop_no });
         }
         if self.jobs.len() == MAX_JOBS {
-            return Ok(Entry::Post {
+            return Ok(LogEntry::Post {
                 loop_no,
                 outcome: PostOutcome::Full,
             });
         }
         let Some(order) = core.next_order() else {
-            return Ok(Entry::Post {
+            return Ok(LogEntry::Post {
                 loop_no,
                 outcome: PostOutcome::Nothing,
             });
         };
         let outcome = PostOutcome::Request(order.request);
         self.jobs.push_back_reserved(order);
-        Ok(Entry::Post { loop_no, outcome })
+        Ok(LogEntry::Post { loop_no, outcome })
     }
 
-    fn take(&mut self, worker: u32) -> Result<Entry, WorldFault>
+    fn take(&mut self, worker: u32) -> Result<LogEntry, WorldFault>
         ensures ran { IfOk result (λ entry. WorldStep self.old (Step.Take worker) entry self.new) }
         ensures fault { IfErr result (λ fault. MayFault self.old (Step.Take worker) fault) }
         ensures kept { OnErr result (self.new ≡ self.old) }
     {
-        let Some(hand) = self.hands.get_mut(worker as usize) else {
+        let Some(state) = self.workers.get_mut(worker as usize) else {
             return Err(WorldFault::NoSuch);
         };
-        let Hand::Empty = hand else {
-            return Ok(Entry::Take { worker, job: None });
+        let Worker::Idle = state else {
+            return Ok(LogEntry::Take { worker, job: None });
         };
         let Some(order) = self.jobs.pop_front() else {
-            return Ok(Entry::Take { worker, job: None });
+            return Ok(LogEntry::Take { worker, job: None });
         };
         let job = Some(job_of(&order));
-        *hand = Hand::Taken(order);
-        Ok(Entry::Take { worker, job })
+        *state = Worker::Taken(order);
+        Ok(LogEntry::Take { worker, job })
     }
 
-    fn start(&mut self, worker: u32) -> Result<Entry, WorldFault>
+    fn start(&mut self, worker: u32) -> Result<LogEntry, WorldFault>
         ensures ran { IfOk result (λ entry. WorldStep self.old (Step.Start worker) entry self.new) }
         ensures fault { IfErr result (λ fault. MayFault self.old (Step.Start worker) fault) }
         ensures kept { OnErr result (self.new ≡ self.old) }
     {
-        let Some(hand) = self.hands.get_mut(worker as usize) else {
+        let Some(state) = self.workers.get_mut(worker as usize) else {
             return Err(WorldFault::NoSuch);
         };
-        let Hand::Taken(order) = hand else {
-            return Ok(Entry::Start {
+        let Worker::Taken(order) = state else {
+            return Ok(LogEntry::Start {
                 worker,
                 outcome: StartOutcome::Nothing,
             });
@@ -313,32 +314,32 @@ impl World {
         let job = job_of(order);
         let core = &mut self.loops[job.loop_no as usize];
         if !core.start(order.slot, order.request) {
-            *hand = Hand::Empty;
-            return Ok(Entry::Start {
+            *state = Worker::Idle;
+            return Ok(LogEntry::Start {
                 worker,
                 outcome: StartOutcome::Dropped(job),
             });
         }
-        let Hand::Taken(order) = mem::replace(hand, Hand::Empty) else {
+        let Worker::Taken(order) = mem::replace(state, Worker::Idle) else {
             unreachable!();
         };
-        *hand = Hand::Started(order);
-        Ok(Entry::Start {
+        *state = Worker::Started(order);
+        Ok(LogEntry::Start {
             worker,
             outcome: StartOutcome::Begun(job),
         })
     }
 
-    fn finish(&mut self, worker: u32) -> Result<Entry, WorldFault>
+    fn finish(&mut self, worker: u32) -> Result<LogEntry, WorldFault>
         ensures ran { IfOk result (λ entry. WorldStep self.old (Step.Finish worker) entry self.new) }
         ensures fault { IfErr result (λ fault. MayFault self.old (Step.Finish worker) fault) }
         ensures kept { OnErr result (self.new ≡ self.old) }
     {
-        let Some(hand) = self.hands.get_mut(worker as usize) else {
+        let Some(state) = self.workers.get_mut(worker as usize) else {
             return Err(WorldFault::NoSuch);
         };
-        let Hand::Started(order) = hand else {
-            return Ok(Entry::Finish {
+        let Worker::Started(order) = state else {
+            return Ok(LogEntry::Finish {
                 worker,
                 outcome: FinishOutcome::Nothing,
             });
@@ -346,19 +347,19 @@ impl World {
         let job = job_of(order);
         let replies = &mut self.replies[job.loop_no as usize];
         replies.reserve(1)?;
-        let Hand::Started(order) = mem::replace(hand, Hand::Empty) else {
+        let Worker::Started(order) = mem::replace(state, Worker::Idle) else {
             unreachable!();
         };
         let reply = order.run(self.alloc);
         let ending = ending_of(&reply.outcome);
         replies.push_back_reserved(reply);
-        Ok(Entry::Finish {
+        Ok(LogEntry::Finish {
             worker,
             outcome: FinishOutcome::Ended(job, ending),
         })
     }
 
-    fn collect(&mut self, loop_no: u32) -> Result<Entry, WorldFault>
+    fn collect(&mut self, loop_no: u32) -> Result<LogEntry, WorldFault>
         ensures ran { IfOk result (λ entry. Collects self.old loop_no entry self.new) }
         ensures fault { IfErr result (λ fault. MayFault self.old (Step.Collect loop_no) fault) }
         ensures kept { OnErr result (self.new ≡ self.old) }
@@ -367,10 +368,10 @@ impl World {
             return Err(WorldFault::NoSuch);
         };
         if core.failed() {
-            return Ok(Entry::Failed { loop_no });
+            return Ok(LogEntry::Failed { loop_no });
         }
         let Some(reply) = self.replies[loop_no as usize].pop_front() else {
-            return Ok(Entry::Collect {
+            return Ok(LogEntry::Collect {
                 loop_no,
                 outcome: CollectOutcome::Nothing,
             });
@@ -380,10 +381,10 @@ impl World {
             Accepted::Accepted => CollectOutcome::Request(request),
             Accepted::Stranger(_) => CollectOutcome::Stranger,
         };
-        Ok(Entry::Collect { loop_no, outcome })
+        Ok(LogEntry::Collect { loop_no, outcome })
     }
 
-    fn send(&mut self, loop_no: u32, async_no: u32) -> Result<Entry, WorldFault>
+    fn send(&mut self, loop_no: u32, async_no: u32) -> Result<LogEntry, WorldFault>
         ensures ran { IfOk result (λ entry. SendsTo self.old loop_no async_no entry self.new) }
         ensures fault { IfErr result (λ fault. MayFault self.old (Step.Send loop_no async_no) fault) }
         ensures kept { OnErr result (self.new ≡ self.old) }
@@ -395,14 +396,14 @@ impl World {
             return Err(WorldFault::NoSuch);
         };
         let is_refused = !core.sent(async_no);
-        Ok(Entry::Send {
+        Ok(LogEntry::Send {
             loop_no,
             async_no,
             is_refused,
         })
     }
 
-    fn cancel(&mut self, loop_no: u32, request: u32) -> Result<Entry, WorldFault>
+    fn cancel(&mut self, loop_no: u32, request: u32) -> Result<LogEntry, WorldFault>
         ensures ran { IfOk result (λ entry. Cancels self.old loop_no request entry self.new) }
         ensures fault { IfErr result (λ fault. MayFault self.old (Step.Cancel loop_no request) fault) }
         ensures kept { OnErr result (self.new ≡ self.old) }
@@ -411,17 +412,17 @@ impl World {
             return Err(WorldFault::NoSuch);
         };
         if core.failed() {
-            return Ok(Entry::Failed { loop_no });
+            return Ok(LogEntry::Failed { loop_no });
         }
         let answer = core.cancel(request);
-        Ok(Entry::Cancel {
+        Ok(LogEntry::Cancel {
             loop_no,
             request,
             answer,
         })
     }
 
-    fn clock(&mut self, loop_no: u32, ms: u64) -> Result<Entry, WorldFault>
+    fn clock(&mut self, loop_no: u32, ms: u64) -> Result<LogEntry, WorldFault>
         ensures ran { IfOk result (λ entry. Clocks self.old loop_no ms entry self.new) }
         ensures fault { IfErr result (λ fault. MayFault self.old (Step.Clock loop_no ms) fault) }
         ensures kept { OnErr result (self.new ≡ self.old) }
@@ -430,9 +431,9 @@ impl World {
             return Err(WorldFault::NoSuch);
         };
         if core.failed() {
-            return Ok(Entry::Failed { loop_no });
+            return Ok(LogEntry::Failed { loop_no });
         }
         let clock = core.clock(ms);
-        Ok(Entry::Clock { loop_no, clock })
+        Ok(LogEntry::Clock { loop_no, clock })
     }
 }

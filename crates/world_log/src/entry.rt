@@ -1,13 +1,13 @@
 // What one step of a world did.
 
-use crate::outcome::{CollectOutcome, FinishOutcome, Job, PostOutcome, StartOutcome};
+use crate::outcome::{CollectOutcome, FinishOutcome, JobId, PostOutcome, StartOutcome};
 use interp::ended::Ended;
 use phases::{EntryKind, Phase};
 use syntax::items::Items;
 
 /// What one step of a world did. Loops, workers and the asyncs of a loop are numbered from 0.
 #[derive(Drop)]
-pub enum Entry {
+pub enum LogEntry {
     /// A loop entered a phase, with its cached now in milliseconds.
     Entered {
         loop_no: u32,
@@ -45,7 +45,7 @@ pub enum Entry {
     /// A worker took this job, or none.
     Take {
         worker: u32,
-        job: Option<Job>,
+        job: Option<JobId>,
     },
     /// A worker started the job that it had taken, or dropped it.
     Start {

@@ -2,7 +2,7 @@
 
 ghost use Rattle.std.specs.Prelude.{◌≡◌, ◌++◌, ◌∷◌, ◌≤◌, [], OnOk, OnErr};
 
-use crate::entry::Entry;
+use crate::entry::LogEntry;
 use std::alloc::{AllocError, Global};
 use std::marker::Model;
 
@@ -10,7 +10,7 @@ use std::marker::Model;
 /// more there is room.
 #[derive(Drop)]
 pub struct Log {
-    entries: Vec<Entry>,
+    entries: Vec<LogEntry>,
 }
 
 impl Model for Log {
@@ -41,7 +41,7 @@ impl Log {
     }
 
     /// Writes an entry behind the others, where there is room for it.
-    pub fn push_reserved(&mut self, entry: Entry)
+    pub fn push_reserved(&mut self, entry: LogEntry)
         requires room { 1 ≤ self.old.room }
         ensures { self.new.entries ≡ self.old.entries ++ entry ∷ [] }
     {
@@ -49,7 +49,7 @@ impl Log {
     }
 
     /// Writes an entry behind the others. Where memory is refused, the entries are as they were.
-    pub fn push(&mut self, entry: Entry) -> Result<(), AllocError>
+    pub fn push(&mut self, entry: LogEntry) -> Result<(), AllocError>
         ensures written { OnOk result (self.new.entries ≡ self.old.entries ++ entry ∷ []) }
         ensures unchanged { OnErr result (self.new.entries ≡ self.old.entries) }
     {
@@ -59,7 +59,7 @@ impl Log {
     }
 
     /// The entries, the oldest first.
-    pub fn entries(&self) -> &[Entry]
+    pub fn entries(&self) -> &[LogEntry]
         ensures { result.now ≡ self.now.entries }
     {
         self.entries.as_slice()

@@ -4,7 +4,7 @@ use interp::trap::TrapCode;
 
 /// A job, by the loop that asked for it and that loop's request.
 #[derive(Clone, Copy, Debug)]
-pub struct Job {
+pub struct JobId {
     /// The loop, counted from 0.
     pub loop_no: u32,
     /// The loop's request, from 1 on.
@@ -41,9 +41,9 @@ pub enum PostOutcome {
 #[derive(Clone, Copy, Debug)]
 pub enum StartOutcome {
     /// The job may be run.
-    Begun(Job),
+    Begun(JobId),
     /// The job's loop had cancelled it.
-    Dropped(Job),
+    Dropped(JobId),
     /// The worker had taken no job.
     Nothing,
 }
@@ -52,7 +52,7 @@ pub enum StartOutcome {
 #[derive(Clone, Copy, Debug)]
 pub enum FinishOutcome {
     /// The job ran, and ended like this.
-    Ended(Job, WorkEnding),
+    Ended(JobId, WorkEnding),
     /// The worker had started no job.
     Nothing,
 }

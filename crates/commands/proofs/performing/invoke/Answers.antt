@@ -1,5 +1,5 @@
 use Rattle.std.proofs.Common.{ℕ, List, Some, map, string_bytes, ◌∙◌}
-use Rattle.syntax.specs.declared.module.ExternKind.TheVariants.{Func}
+use Rattle.syntax.specs.declared.contents.ExternKind.TheVariants.{Func}
 use Rattle.syntax.specs.Exporting.{IsFirst}
 use Rattle.commands.specs.Accepted.{Holds}
 use Rattle.commands.specs.Calling.{IsCalled}

@@ -1,8 +1,8 @@
 use Rattle.std.proofs.Common.{◌≤◌, length, All, ap, sym, subst, ◌∙◌}
-use Rattle.syntax.specs.declared.module.Contents.{Contents}
+use Rattle.syntax.specs.declared.contents.Contents.{Contents}
 use Rattle.syntax.specs.Loaded.{Loaded}
 use Rattle.imports.specs.Linking.{IsKnown, IsCallable, AreCalls, IsEntry}
-use Rattle.imports.specs.declared.entry.Entry.TheVariants.{Main, Work, AfterWork}
+use Rattle.imports.specs.declared.entry_point.EntryPoint.TheVariants.{Main, Work, AfterWork}
 use Rattle.imports.proofs.linked.found.Goals as goal
 
 pub calls_of-calls-requires-clause-few : goal.calls_of-calls-requires-clause-few

@@ -1,4 +1,4 @@
-use Rattle.syntax.specs.declared.instruction.Op.TheVariants as op
+use Rattle.syntax.specs.declared.instruction.Operation.TheVariants as op
 use Rattle.interp.proofs.Moves.{did_block}
 use Rattle.interp.proofs.blocks.enter_block.Goals as goal
 

@@ -1,5 +1,5 @@
 use Rattle.std.proofs.Common.{subst, Option}
-use Rattle.validate.specs.declared.table.Target.{Target}
+use Rattle.validate.specs.declared.side_table.Target.{Target}
 use Rattle.interp.specs.Jumping.{Branches}
 use Rattle.interp.specs.declared.moved.Moved.TheVariants as moved
 use Rattle.interp.proofs.Branching.{br_if_untested, did_br_if, passed_br_if}

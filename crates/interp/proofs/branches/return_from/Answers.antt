@@ -1,5 +1,5 @@
 use Rattle.std.proofs.Common.{arith, length, ap, List}
-use Rattle.syntax.specs.declared.instruction.Op.{Op}
+use Rattle.syntax.specs.declared.instruction.Operation.{Operation}
 use Rattle.interp.specs.declared.moved.Moved.TheVariants as moved
 use Rattle.interp.proofs.Branching.{did_return, too_few_results}
 use Rattle.interp.proofs.Moves.{no_step_alone}
@@ -18,4 +18,4 @@ returns-then-call-count c = λ tables.
 pub returns : goal.returns
 returns c = λ tables.
     let f = c.in-Some.ensures in
-    did_return c.args.contents.now tables c.args.machine.now c.in-Some.call f.0 c.keep.new.self (length c.body-ops.result.now) c.requires f.1 c.keep.ensures (ap (λ (ops : List Op). length ops) c.body-ops.ensures)
+    did_return c.args.contents.now tables c.args.machine.now c.in-Some.call f.0 c.keep.new.self (length c.body-ops.result.now) c.requires f.1 c.keep.ensures (ap (λ (ops : List Operation). length ops) c.body-ops.ensures)

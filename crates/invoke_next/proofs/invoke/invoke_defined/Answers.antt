@@ -1,6 +1,6 @@
 use Rattle.std.proofs.Common.{◌≡◌, length, ap, ◌∙◌, arith, List}
 use Rattle.syntax.specs.declared.types.ValType.{ValType}
-use Rattle.syntax.specs.declared.module.FuncType.{FuncType}
+use Rattle.syntax.specs.declared.contents.FuncType.{FuncType}
 use Rattle.invoke_next.proofs.Beginning.{found_type, can_open, few_results, under_way, invoked, used_within, returns_typed, store_kept}
 use Rattle.invoke_next.proofs.invoke.invoke_defined.Goals as goal
 

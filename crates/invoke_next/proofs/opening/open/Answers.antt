@@ -2,8 +2,8 @@ use Rattle.std.proofs.Common.{◌≡◌, ℕ, ◌+◌, ◌-◌, ◌≤◌, ◌++
 use Rattle.std.specs.Prelude.{slice_get}
 use Rattle.std.specs.List.{refill}
 use Rattle.std.proofs.lemmas.List.{length-replicate}
-use Rattle.syntax.specs.declared.module.FuncType.{FuncType}
-use Rattle.syntax.specs.declared.module.Func.{Func}
+use Rattle.syntax.specs.declared.contents.FuncType.{FuncType}
+use Rattle.syntax.specs.declared.contents.Func.{Func}
 use Rattle.slots.specs.Holding.{erased}
 use Rattle.interp.proofs.OneRun.{one_function}
 use Rattle.invoke_next.proofs.Hosted.{refilled}

@@ -9,7 +9,7 @@ use Rattle.phases.proofs.guest.answer.Goals as goal
 
 pub queue_work-answer-requires : goal.queue_work-answer-requires
 queue_work-answer-requires g c =
-    subst (λ (s : State). AreOpenedUpTo s.requests.last (g.B.Shared.calls.view c.args.shared.now)) (sym c.machine-in-QueueWork.view_is) c.requires.opened
+    subst (λ (s : State). AreOpenedUpTo s.requests.last (g.B.Shared.calls.view c.args.shared.now)) (sym c.state-in-QueueWork.view_is) c.requires.opened
 
 pub returns-in-TimerInit-clause-replies : goal.returns-in-TimerInit-clause-replies
 returns-in-TimerInit-clause-replies g c =
@@ -36,5 +36,5 @@ returns-in-AsyncInit-clause-replies g c =
 
 pub returns-in-QueueWork-clause-replies : goal.returns-in-QueueWork-clause-replies
 returns-in-QueueWork-clause-replies g c =
-    let queued = subst (λ (a : Asked). QueuesWork g.B.Shared.calls (setting_of c.args.setting.now) c.args.memory.now.bytes (c.machine-in-QueueWork.inside.requests, c.args.shared.now) a.op a.place a.count c.queue_work-answer.result (c.queue_work-answer.new.requests, c.queue_work-answer.new.shared)) c.asked-asked.ensures c.queue_work-answer.ensures in
-    rw (c.in-QueueWork.is, c.three.ensures, ← c.machine-in-QueueWork.view_is) (λ import. (c.queue_work-answer.result, c.queue_work-answer.new.requests, queued, (refl, refl), refl))
+    let queued = subst (λ (a : Asked). QueuesWork g.B.Shared.calls (setting_of c.args.setting.now) c.args.memory.now.bytes (c.state-in-QueueWork.inside.requests, c.args.shared.now) a.op a.place a.count c.queue_work-answer.result (c.queue_work-answer.new.requests, c.queue_work-answer.new.shared)) c.asked-asked.ensures c.queue_work-answer.ensures in
+    rw (c.in-QueueWork.is, c.three.ensures, ← c.state-in-QueueWork.view_is) (λ import. (c.queue_work-answer.result, c.queue_work-answer.new.requests, queued, (refl, refl), refl))

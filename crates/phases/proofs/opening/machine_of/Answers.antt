@@ -2,8 +2,8 @@ use Rattle.std.proofs.Common.{◌≡◌, refl, ap, subst, ◌∙◌}
 use Rattle.std.specs.Prelude.{IfOk}
 use Rattle.std.specs.Option.{is_some}
 use Rattle.syntax.specs.Loaded.{Loaded}
-use Rattle.syntax.specs.declared.module.Contents.{Contents}
-use Rattle.imports.specs.declared.entry.Entry.TheVariants.{Main}
+use Rattle.syntax.specs.declared.contents.Contents.{Contents}
+use Rattle.imports.specs.declared.entry_point.EntryPoint.TheVariants.{Main}
 use Rattle.imports.specs.Uv.{name_of_entry}
 use Rattle.phases.specs.Roster.{callbacks_of}
 use Rattle.phases.specs.State.{State}

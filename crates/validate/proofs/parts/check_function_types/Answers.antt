@@ -1,6 +1,6 @@
 use Rattle.std.proofs.Common.{rules}
 use Rattle.std.specs.Prelude.{IsSome, slice_get}
-use Rattle.syntax.specs.declared.module.Func.{Func}
+use Rattle.syntax.specs.declared.contents.Func.{Func}
 use Rattle.validate.proofs.Items.{all_more, all_at_end}
 use Rattle.validate.proofs.parts.check_function_types.Goals as goal
 

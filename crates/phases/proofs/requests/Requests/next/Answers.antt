@@ -5,7 +5,7 @@ use Rattle.phases.proofs.Booking.{Staged, staged_there, same_item, found_passes}
 use Rattle.phases.proofs.requests.Requests.next.Goals as goal
 use Rattle.std.proofs.Common.{MatchOption}
 use Rattle.std.specs.Option.{option_map}
-use Rattle.order.specs.declared.request.Order.{Order}
+use Rattle.order.specs.declared.order.Order.{Order}
 use Rattle.order.specs.Work.{WorkOrder}
 use Rattle.order.specs.Orders.{order_of}
 

@@ -1,12 +1,12 @@
 use Rattle.std.proofs.Common.{ap, ◌∙◌, filter, List}
 use Rattle.std.proofs.lemmas.Bool.{eqb-true}
 use Rattle.phases.specs.Requests.{Request, Requests, has_number}
-use Rattle.phases.specs.Progress.{tidings_in}
-use Rattle.phases.proofs.Booking.{Removed, removed_there, short_tidings}
+use Rattle.phases.specs.Progress.{completion_in}
+use Rattle.phases.proofs.Booking.{Removed, removed_there, short_completion}
 use Rattle.phases.proofs.requests.Requests.take.Goals as goal
 use Rattle.std.proofs.Common.{arith, not}
 
-there : (c : goal.After-into_tidings) → Removed c.self.inside.items.items c.self.inside.last (has_number c.args.number) c.in-Some.at c.remove.result
+there : (c : goal.After-into_completion) → Removed c.self.inside.items.items c.self.inside.last (has_number c.args.number) c.in-Some.at c.remove.result
 there c =
     removed_there c.self.inside.items.items c.self.inside.last c.self.invariant.0 (has_number c.args.number) c.as_slice.result.now c.in-Some.at c.remove.result
     c.as_slice.ensures.value c.in-Some.ensures.some c.remove.ensures.value
@@ -15,8 +15,8 @@ pub invariant_of-self : goal.invariant_of-self
 invariant_of-self c =
     (rw c.remove.ensures.items (there c).kept, (let before = c.self.invariant.1 in let same = c.remove.ensures.capacity in omega arith))
 
-pub returns-clause-tidings : goal.returns-clause-tidings
-returns-clause-tidings c = rw (← c.self.view_is, (there c).there) c.into_tidings.ensures
+pub returns-clause-completion : goal.returns-clause-completion
+returns-clause-completion c = rw (← c.self.view_is, (there c).there) c.into_completion.ensures
 
 pub returns-clause-removed : goal.returns-clause-removed
 returns-clause-removed c =
@@ -25,4 +25,4 @@ returns-clause-removed c =
     ((there c).removed ∙ ap (λ n. filter (λ r. not (has_number n r)) c.self.inside.items.items) (eqb-true _ _ (there c).passes)))
 
 pub returns-clause-short : goal.returns-clause-short
-returns-clause-short c = short_tidings c.ends_are_short.ensures c.remove.result.order c.remove.result.stage (tidings_in c.into_tidings.result) (there c).right c.into_tidings.ensures
+returns-clause-short c = short_completion c.ends_are_short.ensures c.remove.result.order c.remove.result.stage (completion_in c.into_completion.result) (there c).right c.into_completion.ensures

@@ -1,5 +1,5 @@
 use Rattle.std.proofs.Common.{◌≡◌, ◌<◌}
-use Rattle.serve.specs.declared.ended.TheConstants.{MOST_CALLBACKS}
+use Rattle.serve.specs.declared.served.TheConstants.{MOST_CALLBACKS}
 use Rattle.serve.proofs.turn.Turns.until_ended.Given as goal
 
 abbrev pub invariant-loop : goal.invariant-loop

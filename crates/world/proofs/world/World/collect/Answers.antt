@@ -27,7 +27,7 @@ returns-in_default-pop_front-clause-ran c =
 
 pub invariant_of-self-2 : goal.invariant_of-self-2
 invariant_of-self-2 c =
-    subst (λ k. IsKept (slice_set c.self.inside.loops.items c.args.loop_no c.accept.new.self) c.self.inside.jobs.items c.self.inside.hands.items k (deque_capacity c.self.inside.jobs)) (sym (length-set c.self.inside.replies.items c.args.loop_no c.pop_front.new.self))
+    subst (λ k. IsKept (slice_set c.self.inside.loops.items c.args.loop_no c.accept.new.self) c.self.inside.jobs.items c.self.inside.workers.items k (deque_capacity c.self.inside.jobs)) (sym (length-set c.self.inside.replies.items c.args.loop_no c.pop_front.new.self))
     (kept_set c.self.inside.loops.items _ _ _ _ c.args.loop_no c.in-Some.core.now c.accept.new.self
     (read c.self.inside.loops.items c.args.loop_no c.in-Some.core.now c.in-Some.ensures.item.3.0 c.in-Some.ensures.item.3.1) c.accept.ensures.setting c.self.invariant)
 

@@ -1,49 +1,49 @@
 use Rattle.std.proofs.Common.{◌≡◌, ◌<◌, ◌++◌, ◌∷◌, [], length, ◌∙◌, ap, sym, subst}
 use Rattle.std.proofs.lemmas.List.{map-append}
 use Rattle.world.specs.Making.{IsJob, answer_of, answers_of}
-use Rattle.world.specs.declared.hand.Hand.TheVariants as hand
+use Rattle.world.specs.declared.worker.Worker.TheVariants as worker
 use Rattle.world.proofs.Turning.{read}
 use Rattle.world.proofs.Working.{read_or, loop_there, on_err, started_same, job_held, kept_reply, finishes_nothing, reserves, finishes}
 use Rattle.world.proofs.world.World.finish.Goals as goal
 
-pub returns-in_default-hand : goal.returns-in_default-hand
-returns-in_default-hand c = record {
+pub returns-in_default-state : goal.returns-in_default-state
+returns-in_default-state c = record {
   ran =
-      finishes_nothing c.args.self.now c.self.inside.loops.items _ c.self.inside.hands.items _ c.self.view_is c.args.worker c.in-Some.hand.now
-      (read c.self.inside.hands.items c.args.worker c.in-Some.hand.now c.in-Some.ensures.item.3.0 c.in-Some.ensures.item.3.1) c.in_default-hand.not-Started;
+      finishes_nothing c.args.self.now c.self.inside.loops.items _ c.self.inside.workers.items _ c.self.view_is c.args.worker c.in-Some.state.now
+      (read c.self.inside.workers.items c.args.worker c.in-Some.state.now c.in-Some.ensures.item.3.0 c.in-Some.ensures.item.3.1) c.in_default-state.not-Started;
   fault = tt;
   kept = tt;
 }
 
 pub returns-in_err-reserve-clause-kept : goal.returns-in_err-reserve-clause-kept
 returns-in_err-reserve-clause-kept c =
-    let at = read c.self.inside.hands.items c.args.worker c.in-Some.hand.now c.in-Some.ensures.item.3.0 c.in-Some.ensures.item.3.1 in
-    let held : IsJob (length c.self.inside.loops.items) c.in-Started.order = job_held (length c.self.inside.loops.items) c.args.worker c.self.inside.hands.items c.in-Some.hand.now (hand.Started c.in-Started.order) c.self.invariant.held at c.in-Started.is in
+    let at = read c.self.inside.workers.items c.args.worker c.in-Some.state.now c.in-Some.ensures.item.3.0 c.in-Some.ensures.item.3.1 in
+    let held : IsJob (length c.self.inside.loops.items) c.in-Started.order = job_held (length c.self.inside.loops.items) c.args.worker c.self.inside.workers.items c.in-Some.state.now (worker.Started c.in-Started.order) c.self.invariant.held at c.in-Started.is in
     let there = subst (λ m. c.job_of-job.result.loop_no < m) (sym c.self.invariant.paired) (loop_there (length c.self.inside.loops.items) c.in-Started.order c.job_of-job.result c.job_of-job.ensures held) in
     let at_list = read_or c.self.inside.replies.items c.job_of-job.result.loop_no c.index_mut-replies.result.now _ there c.index_mut-replies.ensures.value in
     on_err c.from_residual.result _
-    (reserves (λ d. answers_of d.items) c.args.self.now c.self.inside.loops.items _ c.self.inside.hands.items c.self.inside.replies.items c.self.view_is c.args.worker c.in-Some.hand.now at
+    (reserves (λ d. answers_of d.items) c.args.self.now c.self.inside.loops.items _ c.self.inside.workers.items c.self.inside.replies.items c.self.view_is c.args.worker c.in-Some.state.now at
     c.in-Started.order c.job_of-job.result c.index_mut-replies.result.now c.reserve.new.self c.in-Started.is at_list (ap answers_of c.reserve.ensures.items))
 
 pub run-reply-requires-clause-work : goal.run-reply-requires-clause-work
 run-reply-requires-clause-work c =
-    let at = read c.self.inside.hands.items c.args.worker c.in-Some.hand.now c.in-Some.ensures.item.3.0 c.in-Some.ensures.item.3.1 in
-    let held : IsJob (length c.self.inside.loops.items) c.in-Started.order = job_held (length c.self.inside.loops.items) c.args.worker c.self.inside.hands.items c.in-Some.hand.now (hand.Started c.in-Started.order) c.self.invariant.held at c.in-Started.is in
+    let at = read c.self.inside.workers.items c.args.worker c.in-Some.state.now c.in-Some.ensures.item.3.0 c.in-Some.ensures.item.3.1 in
+    let held : IsJob (length c.self.inside.loops.items) c.in-Started.order = job_held (length c.self.inside.loops.items) c.args.worker c.self.inside.workers.items c.in-Some.state.now (worker.Started c.in-Started.order) c.self.invariant.held at c.in-Started.is in
     let same : c.in-Started-replace.order ≡ c.in-Started.order = started_same c.in-Started-replace.order c.in-Started.order (sym c.in-Started-replace.is ∙ c.replace.ensures.value) in
     (subst (IsJob (length c.self.inside.loops.items)) (sym same) held).runs.work
 
 pub invariant_of-self-2 : goal.invariant_of-self-2
 invariant_of-self-2 c =
-    kept_reply c.self.inside.loops.items _ c.self.inside.hands.items c.self.inside.replies.items _ c.args.worker c.job_of-job.result.loop_no c.replace.new.dest c.push_back_reserved.new.self c.replace.ensures.after c.self.invariant
+    kept_reply c.self.inside.loops.items _ c.self.inside.workers.items c.self.inside.replies.items _ c.args.worker c.job_of-job.result.loop_no c.replace.new.dest c.push_back_reserved.new.self c.replace.ensures.after c.self.invariant
 
 pub returns-clause-ran : goal.returns-clause-ran
 returns-clause-ran c =
-    let at = read c.self.inside.hands.items c.args.worker c.in-Some.hand.now c.in-Some.ensures.item.3.0 c.in-Some.ensures.item.3.1 in
-    let held : IsJob (length c.self.inside.loops.items) c.in-Started.order = job_held (length c.self.inside.loops.items) c.args.worker c.self.inside.hands.items c.in-Some.hand.now (hand.Started c.in-Started.order) c.self.invariant.held at c.in-Started.is in
+    let at = read c.self.inside.workers.items c.args.worker c.in-Some.state.now c.in-Some.ensures.item.3.0 c.in-Some.ensures.item.3.1 in
+    let held : IsJob (length c.self.inside.loops.items) c.in-Started.order = job_held (length c.self.inside.loops.items) c.args.worker c.self.inside.workers.items c.in-Some.state.now (worker.Started c.in-Started.order) c.self.invariant.held at c.in-Started.is in
     let there = subst (λ m. c.job_of-job.result.loop_no < m) (sym c.self.invariant.paired) (loop_there (length c.self.inside.loops.items) c.in-Started.order c.job_of-job.result c.job_of-job.ensures held) in
     let at_list = read_or c.self.inside.replies.items c.job_of-job.result.loop_no c.index_mut-replies.result.now _ there c.index_mut-replies.ensures.value in
     let same : c.in-Started-replace.order ≡ c.in-Started.order = started_same c.in-Started-replace.order c.in-Started.order (sym c.in-Started-replace.is ∙ c.replace.ensures.value) in
-    finishes (λ d. answers_of d.items) c.args.self.now c.self.inside.loops.items _ c.self.inside.hands.items c.self.inside.replies.items c.self.view_is c.args.worker c.in-Some.hand.now at
+    finishes (λ d. answers_of d.items) c.args.self.now c.self.inside.loops.items _ c.self.inside.workers.items c.self.inside.replies.items c.self.view_is c.args.worker c.in-Some.state.now at
     c.in-Started.order c.job_of-job.result c.index_mut-replies.result.now c.push_back_reserved.new.self c.in-Started.is at_list c.run-reply.result c.ending_of-ending.result c.replace.new.dest
     c.job_of-job.ensures c.replace.ensures.after (c.run-reply.ensures ∙ same)
     (ap answers_of (c.push_back_reserved.ensures.items ∙ ap (λ xs. xs ++ c.run-reply.result ∷ []) c.reserve.ensures.items) ∙ map-append answer_of c.index_mut-replies.result.now.items (c.run-reply.result ∷ []))

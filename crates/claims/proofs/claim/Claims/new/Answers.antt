@@ -1,5 +1,0 @@
-use Rattle.claims.proofs.Others.{begins_claimed}
-use Rattle.claims.proofs.claim.Claims.new.Goals as goal
-
-pub vacant-requires : goal.vacant-requires
-vacant-requires c = begins_claimed _

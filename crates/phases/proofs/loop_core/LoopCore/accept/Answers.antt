@@ -1,0 +1,35 @@
+use Rattle.std.specs.Arc.{arc_value}
+use Rattle.order.specs.Orders.{order_of, end_of}
+use Rattle.phases.specs.Host.{with_requests}
+use Rattle.phases.specs.Keeping.{Keeps}
+use Rattle.phases.specs.Outside.{answered}
+use Rattle.phases.specs.Requests.{Answered}
+use Rattle.phases.specs.Setting.{setting_of}
+use Rattle.phases.specs.State.{State}
+use Rattle.phases.specs.View.{AreOpenedUpTo}
+use Rattle.phases.proofs.Kept.{by_reply, kept_on}
+use Rattle.phases.proofs.Owning.{grows_answered}
+use Rattle.phases.proofs.Runnable.{staged_orders}
+use Rattle.phases.proofs.loop_core.LoopCore.accept.Goals as goal
+
+pub invariant_of-self-inside : goal.invariant_of-self-inside
+invariant_of-self-inside g c =
+    let s = c.self.inside.guest.state in
+    let o = order_of c.args.reply.order in
+    let end = end_of c.args.reply.outcome in
+    let taken : State = with_requests s (answered s.requests o end) in
+    record {
+      opened = by_reply (λ (u : State). AreOpenedUpTo u.requests.last (g.B.Shared.calls.view c.self.inside.guest.shared)) _ _ c.accept.result taken s c.accept.new.self c.self.inside.guest.opened c.self.inside.guest.opened c.accept.ensures.answered c.accept.ensures.refused;
+    }
+
+pub invariant_of-self : goal.invariant_of-self
+invariant_of-self g c =
+    let l = arc_value c.self.inside.linked in
+    let set = setting_of c.self.inside.guest.setting in
+    let s = c.self.inside.guest.state in
+    let o = order_of c.args.reply.order in
+    let end = end_of c.args.reply.outcome in
+    let taken : State = with_requests s (answered s.requests o end) in
+    by_reply (λ (u : State). Keeps l set u c.self.inside.instance) _ _ c.accept.result taken s c.accept.new.self
+    (kept_on l set s taken c.self.inside.instance c.self.invariant (grows_answered s o end) (staged_orders set s.requests o.request (Answered end) c.self.invariant.orders))
+    c.self.invariant c.accept.ensures.answered c.accept.ensures.refused

@@ -1,0 +1,4 @@
+use Rattle.phases.proofs.loop_core.LoopCore.alive.Goals as goal
+
+pub returns-clause-means : goal.returns-clause-means
+returns-clause-means g c = rw (← c.self.view_is) c.is_alive.ensures.means

@@ -1,0 +1,31 @@
+use Rattle.std.proofs.Common.{refl, sym, subst}
+use Rattle.std.specs.Arc.{arc_value}
+use Rattle.phases.specs.Host.{with_roster}
+use Rattle.phases.specs.Keeping.{Keeps}
+use Rattle.phases.specs.Roster.{without_handle}
+use Rattle.phases.specs.Setting.{setting_of}
+use Rattle.phases.specs.State.{State}
+use Rattle.phases.specs.View.{AreOpenedUpTo}
+use Rattle.phases.proofs.Kept.{handle_takes, kept_with}
+use Rattle.phases.proofs.Readying.{ready_without_handle}
+use Rattle.phases.proofs.loop_core.LoopCore.run_close.Goals as goal
+
+pub invariant_of-self-inside : goal.invariant_of-self-inside
+invariant_of-self-inside g c = record {
+  opened = subst (λ (s : State). AreOpenedUpTo s.requests.last (g.B.Shared.calls.view c.self.inside.guest.shared)) (sym c.finish_closing-function.ensures.removed) c.self.inside.guest.opened;
+}
+
+pub invariant_of-self : goal.invariant_of-self
+invariant_of-self g c =
+    let l = arc_value c.self.inside.linked in
+    let set = setting_of c.self.inside.guest.setting in
+    let s = c.self.inside.guest.state in
+    let closed : State = with_roster s (without_handle s.roster c.args.handle) in
+    let apart = rw (← c.self.view_is) at c.requires.apart in
+    subst (λ (u : State). Keeps l set u c.self.inside.instance) (sym c.finish_closing-function.ensures.removed)
+    (kept_with l set s closed c.self.inside.instance c.self.invariant refl (ready_without_handle set.loaded.contents s c.args.handle c.self.invariant.ready apart) c.self.invariant.orders)
+
+pub call_handle-requires : goal.call_handle-requires
+call_handle-requires g c = record {
+  callback = handle_takes _ c.finish_closing-function.result c.args.handle c.self.inside.guest.state.roster c.args.handle c.self.invariant.callbacks c.finish_closing-function.ensures.function;
+}

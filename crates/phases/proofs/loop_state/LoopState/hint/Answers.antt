@@ -1,0 +1,7 @@
+use Rattle.std.proofs.Common.{sym, subst}
+use Rattle.phases.specs.PhaseList.{IsHint}
+use Rattle.phases.proofs.Living.{hint_means}
+use Rattle.phases.proofs.loop_state.LoopState.hint.Goals as goal
+
+pub returns-clause-means : goal.returns-clause-means
+returns-clause-means c = rw c.listed_hint.ensures (rw (← c.self.view_is) (hint_means _ c.keeps.ensures))

@@ -1,0 +1,21 @@
+use Rattle.std.proofs.Common.{sym, subst, ap, ◌∙◌}
+use Rattle.std.specs.Option.{option_map}
+use Rattle.phases.specs.Host.{with_requests}
+use Rattle.phases.specs.Ready.{Grows}
+use Rattle.phases.specs.State.{State}
+use Rattle.phases.proofs.Kept.{next_unfailed}
+use Rattle.phases.proofs.Lowest.{lowest_next}
+use Rattle.phases.proofs.Owning.{grows_next}
+use Rattle.phases.proofs.loop_state.LoopState.next_order.Goals as goal
+
+pub returns-in-Running : goal.returns-in-Running
+returns-in-Running c =
+    let s : State = record { roster = c.self.inside.roster; requests = c.self.inside.requests; clock = c.self.inside.clock; now = c.self.inside.time; phase = c.self.inside.phase; list = c.self.inside.entries; reply = option_map (λ v. v.items) c.self.inside.reply; emits = c.self.inside.emits.items; status = c.self.inside.status } in
+    let next = next_unfailed s c.in-Running.is in
+    let state = ap (with_requests s) c.next.ensures.requests ∙ sym (ap (λ p. p.1) next) in
+    rw (← c.self.view_is) (record {
+      order = c.next.ensures.order ∙ sym (ap (λ p. p.0) next);
+      state = state;
+      lowest = lowest_next s.requests c.keeps.ensures c.next.result c.next.ensures.order;
+      grows = subst (Grows s) (sym state) (grows_next s c.keeps.ensures);
+    })

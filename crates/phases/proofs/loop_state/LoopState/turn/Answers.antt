@@ -1,0 +1,11 @@
+use Rattle.std.proofs.Common.{sym, subst}
+use Rattle.phases.specs.Fitting.{IsKept, AreKept}
+use Rattle.phases.specs.Ready.{AreReady}
+use Rattle.phases.specs.State.{State}
+use Rattle.phases.proofs.Entering.{ready_entered}
+use Rattle.phases.proofs.loop_state.LoopState.turn.Goals as goal
+
+pub returns-clause-ready : goal.returns-clause-ready
+returns-clause-ready c = λ m empty.
+    subst (AreReady m) (sym c.enter-2.ensures.state)
+    (ready_entered m c.args.self.now (subst (λ (u : State). IsKept u.roster) c.self.view_is c.keeps.ensures) (subst (λ (u : State). AreKept u.requests) c.self.view_is c.keeps-2.ensures) c.next.result)

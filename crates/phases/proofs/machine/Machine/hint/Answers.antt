@@ -1,7 +1,0 @@
-use Rattle.std.proofs.Common.{sym, subst}
-use Rattle.phases.specs.PhaseList.{IsHint}
-use Rattle.phases.proofs.Living.{hint_means}
-use Rattle.phases.proofs.machine.Machine.hint.Goals as goal
-
-pub returns-clause-means : goal.returns-clause-means
-returns-clause-means c = rw c.listed_hint.ensures (rw (← c.self.view_is) (hint_means _ c.keeps.ensures))

@@ -1,4 +1,0 @@
-use Rattle.phases.proofs.running.LoopCore.alive.Goals as goal
-
-pub returns-clause-means : goal.returns-clause-means
-returns-clause-means g c = rw (← c.self.view_is) c.is_alive.ensures.means

@@ -1,0 +1,441 @@
+//! One event loop.
+
+ghost use Rattle.std.specs.Prelude.{◌≡◌, ◌↔◌, ◌≤◌, ℕ, [], ◌∷◌, Some, None, true, false, All, codes, length, ◌<◌, MatchBool, IsTrue, IfOk, IfSome, option_map};
+ghost use Rattle.std.specs.Arc.{arc_value};
+ghost use Rattle.std.specs.Int.{w32, cast_unsigned};
+ghost use Rattle.interp.specs.Invoking.{TakesArguments};
+ghost use Rattle.imports.specs.Linking.{ExportsFunction};
+ghost use Rattle.instance.specs.Fresh.{IsFresh};
+ghost use Rattle.order.specs.Orders.{order_of};
+ghost use Rattle.phases.specs.Fitting.{AllRight, IsShort};
+ghost use Rattle.phases.specs.Accepting.{Accepts};
+ghost use Rattle.phases.specs.Outside.{after_clock, is_failed, next_order_of, CancelsLoop, StartsBeside, SendsBeside};
+ghost use Rattle.phases.specs.Keeping.{CanRun};
+ghost use Rattle.phases.specs.PhaseList.{begin_list, hint_of, is_alive, IsAlive, IsHint};
+ghost use Rattle.phases.specs.Ready.{IsReady, Spares};
+ghost use Rattle.phases.specs.Requests.{IsLowestOpen};
+ghost use Rattle.phases.specs.Roster.{opening_roster};
+ghost use Rattle.phases.specs.State.{opening};
+ghost use Rattle.phases.specs.Step.{LoopStep, ListStep, EntryStep, CallsBack, CallsHandle, RunsFrom, Skips, TakesFirst, AfterWork, is_as_listed};
+ghost use Rattle.phases.specs.View.{new_view};
+
+use crate::did::{Hint, StepDid};
+use crate::entry::{Entry, EntryKind, Status};
+use crate::guest::Guest;
+use crate::opening::opened;
+use crate::setting::Setting;
+use crate::shared::{Beside, Shared};
+use handles::Kind;
+use imports::{EntryPoint, Linked};
+use instance::state::Instance;
+use interp::invoke::invoke;
+use order::laws::imports_are_named;
+use order::{Order, Reply};
+use std::alloc::{AllocError, Global};
+use std::marker::Model;
+use std::sync::Arc;
+use syntax::types::Value;
+
+/// What became of a reply that was offered to a loop.
+#[derive(Drop)]
+pub enum Accepted {
+    /// It was taken: its order is, in every field, that of a request that was neither answered nor cancelled.
+    Accepted,
+    /// It was not, and comes back.
+    Stranger(Reply),
+}
+
+/// One event loop, over what it shares with other threads.
+///
+/// Contracts see what it is made of, and the loop as it stands.
+#[derive(Drop)]
+pub struct LoopCore<B: Shared + Drop> {
+    linked: Arc<Linked, Global>,
+    instance: Instance,
+    guest: Guest<B>,
+}
+
+impl<B: Shared + Drop> Model for LoopCore<B> {
+    ghost use Rattle.std.specs.Coded.{codes};
+    ghost use Rattle.handles.specs.Codes.{table_code};
+    ghost use Rattle.phases.specs.Codes.{roster_code, requests_code};
+    ghost use Rattle.syntax.specs.Loaded.{loaded_coded};
+    ghost use Rattle.phases.specs.State.{Core};
+    ghost use Rattle.phases.specs.Setting.{setting_of};
+    ghost use Rattle.phases.specs.Keeping.{Keeps};
+    ghost use Rattle.std.specs.Arc.{arc_value};
+
+    ghost Value = { Core B };
+
+    ghost coded = { Prim.hlevel (codes, loaded_coded, roster_code, requests_code, B.code) };
+
+    ghost view = { λ a. record { setting = setting_of a.guest.setting; loop = record { state = a.guest.state; store = a.instance; shared = a.guest.shared } } };
+
+    ghost invariant = { λ a. Keeps (arc_value a.linked) (setting_of a.guest.setting) a.guest.state a.instance };
+}
+
+impl<B: Shared + Drop> LoopCore<B> {
+    /// A loop that has done nothing, over a new instance of its module. Callbacks and work functions may use so much
+    /// fuel each, and so many calls may stand open in them, 1 to 128. `AllocError` comes only where memory was
+    /// refused, or as of the handle table.
+    pub fn new(
+        alloc: Global,
+        linked: Arc<Linked, Global>,
+        shared: B,
+        loop_no: u32,
+        fuel: u64,
+        work_fuel: u64,
+        depth: u32,
+    ) -> Result<Self, AllocError>
+        requires depth { (1 ≤ depth) × (depth ≤ 128) }
+        requires shared { B.calls.view shared ≡ new_view loop_no }
+        ensures setting { IfOk result (λ core. core.setting ≡ record { loaded = arc_value linked; loop_no = loop_no; fuel = fuel; work_fuel = work_fuel; depth = depth }) }
+        ensures state { IfOk result (λ core. core.loop.state ≡ opening (opening_roster (arc_value linked).contents) (begin_list (arc_value linked).contents)) }
+        ensures store { IfOk result (λ core. IsFresh (arc_value linked).contents core.loop.store) }
+        ensures shared { IfOk result (λ core. core.loop.shared ≡ shared) }
+    {
+        let setting = Setting {
+            linked: Arc::try_clone(&linked)?,
+            loop_no,
+            fuel,
+            work_fuel,
+            depth,
+        };
+        let (instance, state) = opened(alloc, &linked)?;
+        let guest = Guest {
+            alloc,
+            setting,
+            state,
+            shared,
+        };
+        Ok(LoopCore {
+            linked,
+            instance,
+            guest,
+        })
+    }
+
+    /// One step: the front entry of the phase's list runs or is skipped, or, where the list is used up, the loop is
+    /// over or enters the next phase. Nothing changes once it is over or has failed.
+    pub fn step(&mut self) -> StepDid
+        ensures step { LoopStep B.calls self.old.setting self.old.loop result self.new.loop }
+        ensures setting { self.new.setting ≡ self.old.setting }
+    {
+        match self.guest.state.status() {
+            Status::Running => self.go_on(),
+            Status::Over => StepDid::Over,
+            Status::Failed => StepDid::Failed,
+        }
+    }
+
+    fn go_on(&mut self) -> StepDid
+        ensures step { ListStep B.calls self.old.setting self.old.loop self.old.loop.state.list result self.new.loop }
+        ensures setting { self.new.setting ≡ self.old.setting }
+    {
+        let Some(entry) = self.guest.state.front() else {
+            return self.guest.state.turn();
+        };
+        self.guest.state.pop();
+        self.run(entry)
+    }
+
+    // Runs an entry that was taken off the list.
+    fn run(&mut self, entry: Entry) -> StepDid
+        requires ready { IsReady self.old.setting.loaded.contents self.old.loop.state entry }
+        requires apart { All (Spares entry) self.old.loop.state.list }
+        ensures step { EntryStep B.calls self.old.setting self.old.loop entry result self.new.loop }
+        ensures setting { self.new.setting ≡ self.old.setting }
+    {
+        match entry {
+            Entry::Start => self.run_start(),
+            Entry::Main => self.run_main(),
+            Entry::Timer { handle, start } => self.run_timer(handle, start),
+            Entry::Idle { handle, start } => {
+                self.run_listed(Kind::Idle, EntryKind::Idle, handle, start)
+            }
+            Entry::Check { handle, start } => {
+                self.run_listed(Kind::Check, EntryKind::Check, handle, start)
+            }
+            Entry::After { request } => self.run_after_work(request),
+            Entry::Async { async_no } => self.run_async(async_no),
+            Entry::Close { handle } => self.run_close(handle),
+        }
+    }
+
+    fn run_start(&mut self) -> StepDid
+        requires ready { IsReady self.old.setting.loaded.contents self.old.loop.state Entry.Start }
+        ensures step { EntryStep B.calls self.old.setting self.old.loop Entry.Start result self.new.loop }
+        ensures setting { self.new.setting ≡ self.old.setting }
+    {
+        let Some(function) = self.linked.valid().contents().start else {
+            unreachable!();
+        };
+        self.call(EntryKind::Start, 0, function, &[], None)
+    }
+
+    fn run_main(&mut self) -> StepDid
+        requires ready { IsReady self.old.setting.loaded.contents self.old.loop.state Entry.Main }
+        ensures step { EntryStep B.calls self.old.setting self.old.loop Entry.Main result self.new.loop }
+        ensures setting { self.new.setting ≡ self.old.setting }
+    {
+        let Some(function) = self.linked.entry(EntryPoint::Main) else {
+            unreachable!();
+        };
+        self.call(EntryKind::Main, 0, function, &[], None)
+    }
+
+    fn run_timer(&mut self, handle: u32, start: u64) -> StepDid
+        ensures step { EntryStep B.calls self.old.setting self.old.loop (Entry.Timer handle start) result self.new.loop }
+        ensures setting { self.new.setting ≡ self.old.setting }
+    {
+        match self.guest.state.fire(handle, start) {
+            Some(function) => self.call_handle(EntryKind::Timer, handle, function),
+            None => StepDid::Skipped {
+                kind: EntryKind::Timer,
+                number: handle,
+            },
+        }
+    }
+
+    // An idle or a check handle.
+    fn run_listed(&mut self, listed: Kind, kind: EntryKind, handle: u32, start: u64) -> StepDid
+        ensures step { MatchBool (is_as_listed listed self.old.loop.state.roster handle start)
+            (CallsHandle B.calls self.old.setting self.old.loop self.old.loop.state.roster kind handle result self.new.loop)
+            (Skips B.calls self.old.setting self.old.loop kind handle result self.new.loop) }
+        ensures setting { self.new.setting ≡ self.old.setting }
+    {
+        match self.guest.state.listed_function(listed, handle, start) {
+            Some(function) => self.call_handle(kind, handle, function),
+            None => StepDid::Skipped {
+                kind,
+                number: handle,
+            },
+        }
+    }
+
+    fn run_after_work(&mut self, request: u32) -> StepDid
+        requires ready { IsReady self.old.setting.loaded.contents self.old.loop.state (Entry.After request) }
+        requires apart { All (Spares (Entry.After request)) self.old.loop.state.list }
+        ensures step { EntryStep B.calls self.old.setting self.old.loop (Entry.After request) result self.new.loop }
+        ensures setting { self.new.setting ≡ self.old.setting }
+    {
+        let Some(function) = self.linked.entry(EntryPoint::AfterWork) else {
+            unreachable!();
+        };
+        let completion = self.guest.state.take_request(self.guest.alloc, request);
+        let args = [
+            Value::I32(request),
+            Value::I32(completion.kind),
+            Value::I32(completion.code),
+        ];
+        self.call(
+            EntryKind::After,
+            request,
+            function,
+            &args,
+            Some(completion.bytes),
+        )
+    }
+
+    // What waits at the async is taken first; where that is nothing, no callback runs.
+    fn run_async(&mut self, async_no: u32) -> StepDid
+        requires ready { IsReady self.old.setting.loaded.contents self.old.loop.state (Entry.Async async_no) }
+        ensures step { EntryStep B.calls self.old.setting self.old.loop (Entry.Async async_no) result self.new.loop }
+        ensures setting { self.new.setting ≡ self.old.setting }
+    {
+        let Some(handle) = self.guest.state.async_at(async_no) else {
+            unreachable!();
+        };
+        let kind = EntryKind::Async;
+        let Some((_, function)) = self.guest.state.active_async(async_no) else {
+            return StepDid::Skipped {
+                kind,
+                number: handle,
+            };
+        };
+        if self.guest.shared.take(async_no) == 0 {
+            return StepDid::Skipped {
+                kind,
+                number: handle,
+            };
+        }
+        self.call_handle(kind, handle, function)
+    }
+
+    // The handle is removed first.
+    fn run_close(&mut self, handle: u32) -> StepDid
+        requires ready { IsReady self.old.setting.loaded.contents self.old.loop.state (Entry.Close handle) }
+        requires apart { All (Spares (Entry.Close handle)) self.old.loop.state.list }
+        ensures step { EntryStep B.calls self.old.setting self.old.loop (Entry.Close handle) result self.new.loop }
+        ensures setting { self.new.setting ≡ self.old.setting }
+    {
+        let function = self.guest.state.finish_closing(handle);
+        self.call_handle(EntryKind::Close, handle, function)
+    }
+
+    // A handle's callback is given its number.
+    fn call_handle(&mut self, kind: EntryKind, handle: u32, function: u32) -> StepDid
+        requires callback { TakesArguments self.old.setting.loaded.contents function (Value.I32 handle ∷ []) }
+        ensures run { RunsFrom B.calls self.old.setting self.old.loop kind handle function (Value.I32 handle ∷ []) None result self.new.loop }
+        ensures setting { self.new.setting ≡ self.old.setting }
+    {
+        self.call(kind, handle, function, &[Value::I32(handle)], None)
+    }
+
+    fn call(
+        &mut self,
+        kind: EntryKind,
+        number: u32,
+        function: u32,
+        args: &[Value],
+        reply: Option<Vec<u8>>,
+    ) -> StepDid
+        requires takes { TakesArguments self.old.setting.loaded.contents function args.now }
+        requires short { IsShort (option_map (λ v. v.items) reply) }
+        ensures run { RunsFrom B.calls self.old.setting self.old.loop kind number function args.now (option_map (λ v. v.items) reply) result self.new.loop }
+        ensures setting { self.new.setting ≡ self.old.setting }
+    {
+        self.guest.state.begin_callback(reply);
+        let (fuel, depth) = (self.guest.setting.fuel, self.guest.setting.depth);
+        imports_are_named(&self.linked);
+        let valid = self.linked.valid();
+        let ended = invoke(
+            valid,
+            &mut self.instance,
+            &mut self.guest,
+            function,
+            args,
+            fuel,
+            depth,
+        );
+        self.guest.state.end_callback(&ended);
+        StepDid::Ran {
+            kind,
+            number,
+            ended,
+        }
+    }
+
+    /// What the last callback put out, 64 values at most.
+    pub fn emits(&self) -> &[u64]
+        ensures emits { result.now ≡ self.now.loop.state.emits }
+        ensures few { length result.now ≤ 64 }
+    {
+        self.guest.state.emits()
+    }
+
+    /// Raises the clock to a moment in milliseconds, and answers the clock after it. A smaller moment leaves it, and
+    /// so does a loop that has failed.
+    pub fn clock(&mut self, ms: u64) -> u64
+        ensures core { self.new.loop ≡ record self.old.loop { state = after_clock self.old.loop.state ms } }
+        ensures clock { result ≡ self.new.loop.state.clock }
+        ensures setting { self.new.setting ≡ self.old.setting }
+    {
+        self.guest.state.raise(ms)
+    }
+
+    /// Whether a callback did not return, after which the loop does nothing more.
+    pub fn failed(&self) -> bool
+        ensures { result ≡ is_failed self.now.loop.state.status }
+    {
+        matches!(self.guest.state.status(), Status::Failed)
+    }
+
+    /// How many requests are outstanding. What is answered is what the request's own order gives, or that there was
+    /// no memory.
+    pub fn outstanding(&self) -> usize
+        ensures count { result ≡ length self.now.loop.state.requests.outstanding }
+        ensures right { AllRight self.now.loop.state.requests }
+    {
+        self.guest.state.outstanding()
+    }
+
+    /// Ends the loop and gives what it shares, as it stands.
+    pub fn into_shared(self) -> B
+        ensures { result ≡ self.loop.shared }
+    {
+        let guest = self.guest;
+        guest.shared
+    }
+
+    /// The order of the lowest request that is open and not handed out, which is then handed out. A failed loop has
+    /// none. No memory is taken.
+    pub fn next_order(&mut self) -> Option<Order>
+        ensures order { option_map order_of result ≡ (next_order_of self.old.loop.state).0 }
+        ensures core { self.new.loop ≡ record self.old.loop { state = (next_order_of self.old.loop.state).1 } }
+        ensures lowest { IfSome result (λ o. IsLowestOpen o.request self.old.loop.state.requests) }
+        ensures own { IfSome result (λ o. o.loop_no ≡ self.old.setting.loop_no) }
+        ensures slot { IfSome result (λ o. o.slot < 32) }
+        ensures can_run { IfSome result (λ o. CanRun (order_of o)) }
+        ensures setting { self.new.setting ≡ self.old.setting }
+    {
+        self.guest.state.next_order()
+    }
+
+    /// Takes a reply whose order is, in every field and the module's bytes included, that of a request that is
+    /// neither answered nor cancelled, unless the loop has failed. Else the reply comes back.
+    pub fn accept(&mut self, reply: Reply) -> Accepted
+        ensures told { Accepts reply self.old.loop result self.new.loop }
+        ensures setting { self.new.setting ≡ self.old.setting }
+    {
+        match self.guest.state.accept(reply) {
+            Ok(()) => Accepted::Accepted,
+            Err(reply) => Accepted::Stranger(reply),
+        }
+    }
+
+    /// Cancels a request: 0, or -22 where it is not outstanding or cancelled already, -16 where it is answered or
+    /// started, and -1 on a loop that has failed.
+    pub fn cancel(&mut self, request: u32) -> i32
+        ensures told { CancelsLoop B.calls self.old.loop request (cast_unsigned w32 result) self.new.loop }
+        ensures setting { self.new.setting ≡ self.old.setting }
+    {
+        self.cancel_number(request).cast_signed()
+    }
+
+    fn cancel_number(&mut self, request: u32) -> u32
+        ensures told { CancelsLoop B.calls self.old.loop request result self.new.loop }
+        ensures setting { self.new.setting ≡ self.old.setting }
+    {
+        let Guest { state, shared, .. } = &mut self.guest;
+        state.cancel(shared, request)
+    }
+
+    /// How long the loop has nothing to do, by its cached now.
+    pub fn hint(&self) -> Hint
+        ensures value { result ≡ hint_of self.now.loop.state }
+        ensures means { IsHint self.now.loop.state result }
+    {
+        self.guest.state.hint()
+    }
+
+    /// Whether the loop has an active handle, an outstanding request or a closing handle.
+    pub fn alive(&self) -> bool
+        ensures value { result ≡ is_alive self.now.loop.state }
+        ensures means { IsTrue (is_alive self.now.loop.state) ↔ IsAlive self.now.loop.state }
+    {
+        self.guest.state.is_alive()
+    }
+}
+
+impl<B: Beside + Drop> LoopCore<B> {
+    /// A worker's start of a request, where all stands in one thread; whether it is started by this call. Slots are
+    /// below 32.
+    pub fn start(&mut self, slot: u32, request: u32) -> bool
+        requires { slot < 32 }
+        ensures told { StartsBeside B.others self.old.loop slot request result self.new.loop }
+        ensures setting { self.new.setting ≡ self.old.setting }
+    {
+        self.guest.shared.start(slot, request)
+    }
+
+    /// Another's send to an async, where all stands in one thread; `false` where its sends are used up. Asyncs are
+    /// below 16.
+    pub fn sent(&mut self, async_no: u32) -> bool
+        requires { async_no < 16 }
+        ensures told { SendsBeside B.others self.old.loop async_no result self.new.loop }
+        ensures setting { self.new.setting ≡ self.old.setting }
+    {
+        self.guest.shared.sent(async_no)
+    }
+}

@@ -1,0 +1,310 @@
+// The state of a loop, and what it answers to its guest.
+
+ghost use Rattle.std.specs.Prelude.{◌≡◌, ◌≢◌, ◌↔◌, ◌≤◌, ◌<◌, ◌+◌, ◌^◌, ◌||◌, if◌then◌else◌, [], Some, None, true, false, length, max, IsTrue, IfOk, IfErr, IfSome, OnOk, option_map};
+ghost use Rattle.handles.specs.Table.{saturated, empty_table};
+ghost use Rattle.instance.specs.Reads.{with_bytes};
+ghost use Rattle.order.specs.Bytes.{input_length, copied_in};
+ghost use Rattle.order.specs.Orders.{order_of, end_of};
+ghost use Rattle.phases.specs.Fitting.{AllRight};
+ghost use Rattle.phases.specs.Host.{with_roster, with_requests, emitted_in};
+ghost use Rattle.phases.specs.Outside.{after_clock, next_order_of, CancelIn, Takes, answered};
+ghost use Rattle.phases.specs.Ready.{Grows};
+ghost use Rattle.phases.specs.Requests.{IsLowestOpen};
+ghost use Rattle.phases.specs.PhaseList.{is_alive, hint_of, until_due, first_list, IsAlive, IsHint};
+ghost use Rattle.phases.specs.State.{opening};
+ghost use Rattle.phases.specs.Roster.{Roster as Handles_of, with_made, stopped_in, started_in, again_in, closed_in, active_answer, Makes, MakesAsync};
+
+use crate::did::Hint;
+use crate::entries::Entries;
+use crate::entry::{Phase, Status};
+use crate::requests::Requests;
+use crate::roster::Roster;
+use crate::shared::Shared;
+use crate::work::cancel;
+use arrayvec::ArrayVec;
+use handles::Kind;
+use instance::memory::Memory;
+use order::answers::{NONE_LEFT, NOT_HERE};
+use order::calls::copy_in;
+use order::{Order, Reply};
+use std::alloc::{AllocError, Global};
+use std::marker::Model;
+
+/// How many values a callback may emit.
+pub const MAX_EMITS: usize = 64;
+
+/// The state of a loop.
+#[derive(Drop)]
+pub struct LoopState {
+    pub(crate) roster: Roster,
+    pub(crate) requests: Requests,
+    pub(crate) clock: u64,
+    pub(crate) time: u64,
+    pub(crate) phase: Phase,
+    pub(crate) entries: Entries,
+    pub(crate) reply: Option<Vec<u8>>,
+    pub(crate) emits: ArrayVec<u64, MAX_EMITS>,
+    pub(crate) status: Status,
+}
+
+impl Model for LoopState {
+    ghost use Rattle.std.specs.Coded.{codes};
+    ghost use Rattle.std.specs.Prelude.{option_map};
+    ghost use Rattle.phases.specs.Codes.{roster_code, requests_code};
+    ghost use Rattle.phases.specs.State.{State};
+
+    ghost Value = { State };
+
+    ghost coded = { Prim.hlevel (codes, roster_code, requests_code) };
+
+    ghost use Rattle.phases.specs.Fitting.{IsShort};
+
+    ghost view = { λ a. record { roster = a.roster; requests = a.requests; clock = a.clock; now = a.time; phase = a.phase; list = a.entries; reply = option_map (λ v. v.items) a.reply; emits = a.emits.items; status = a.status } };
+
+    ghost invariant = { λ a. IsShort (option_map (λ v. v.items) a.reply) };
+}
+
+fn any(a: bool, b: bool, c: bool) -> bool
+    ensures { result ≡ (a || (b || c)) }
+{
+    a || b || c
+}
+
+fn until(busy: bool, due: Option<u64>, now: u64) -> Hint
+    ensures { result ≡ (if busy then Hint.Now else until_due due now) }
+{
+    match due {
+        _ if busy => Hint::Now,
+        None => Hint::Forever,
+        Some(due) if due <= now => Hint::Now,
+        Some(due) => Hint::For(due - now),
+    }
+}
+
+impl LoopState {
+    /// A loop that has done nothing, over the functions that callbacks name.
+    pub fn new(
+        alloc: Global,
+        callbacks: Vec<Option<u32>>,
+        start: bool,
+        main: bool,
+    ) -> Result<Self, AllocError>
+        ensures { IfOk result (λ made. made ≡ opening (record { handles = empty_table; asyncs = []; closing = []; callbacks = callbacks.items }) (first_list start main)) }
+    {
+        Ok(LoopState {
+            roster: Roster::new(alloc, callbacks)?,
+            requests: Requests::new(alloc)?,
+            clock: 0,
+            time: 0,
+            phase: Phase::Begin,
+            entries: Entries::first(start, main),
+            reply: None,
+            emits: ArrayVec::new(),
+            status: Status::Running,
+        })
+    }
+
+    /// The moment that the loop has cached, in milliseconds.
+    pub fn time(&self) -> u64
+        ensures { result ≡ self.now.«now» }
+    {
+        self.time
+    }
+
+    /// Makes a timer, an idle or a check handle.
+    pub fn init(&mut self, kind: Kind) -> u32
+        requires { kind ≢ Kind.Async }
+        ensures { (roster : Handles_of) × Makes (with_made kind) self.old.roster result roster × (self.new ≡ with_roster self.old roster) }
+    {
+        self.roster.init(kind)
+    }
+
+    /// Makes an async.
+    pub fn init_async(&mut self, callback: u32) -> u32
+        ensures { (roster : Handles_of) × MakesAsync callback self.old.roster result roster × (self.new ≡ with_roster self.old roster) }
+    {
+        self.roster.init_async(callback)
+    }
+
+    /// Starts a timer, whose timeout and repeat are in milliseconds.
+    pub fn start_timer(&mut self, handle: u32, callback: u32, timeout: u64, repeat: u64) -> u32
+        ensures answer { result ≡ (started_in Kind.Timer handle callback (saturated (self.old.«now» + timeout)) repeat self.old.roster).0 }
+        ensures state { self.new ≡ with_roster self.old (started_in Kind.Timer handle callback (saturated (self.old.«now» + timeout)) repeat self.old.roster).1 }
+    {
+        let due = self.time.saturating_add(timeout);
+        self.roster
+            .start(Kind::Timer, handle, callback, due, repeat)
+    }
+
+    /// Starts an idle or a check handle.
+    pub fn start(&mut self, kind: Kind, handle: u32, callback: u32) -> u32
+        ensures answer { result ≡ (started_in kind handle callback 0 0 self.old.roster).0 }
+        ensures state { self.new ≡ with_roster self.old (started_in kind handle callback 0 0 self.old.roster).1 }
+    {
+        self.roster.start(kind, handle, callback, 0, 0)
+    }
+
+    /// Stops a handle.
+    pub fn stop(&mut self, kind: Kind, handle: u32) -> u32
+        ensures answer { result ≡ (stopped_in kind handle self.old.roster).0 }
+        ensures state { self.new ≡ with_roster self.old (stopped_in kind handle self.old.roster).1 }
+    {
+        self.roster.stop(kind, handle)
+    }
+
+    /// Starts a timer again by its repeat.
+    pub fn again(&mut self, handle: u32) -> u32
+        ensures answer { result ≡ (again_in handle self.old.«now» self.old.roster).0 }
+        ensures state { self.new ≡ with_roster self.old (again_in handle self.old.«now» self.old.roster).1 }
+    {
+        self.roster.again(handle, self.time)
+    }
+
+    /// Closes a handle.
+    pub fn close(&mut self, handle: u32, callback: u32) -> u32
+        ensures answer { result ≡ (closed_in handle callback self.old.roster).0 }
+        ensures state { self.new ≡ with_roster self.old (closed_in handle callback self.old.roster).1 }
+    {
+        self.roster.close(handle, callback)
+    }
+
+    /// Whether a handle is active: 1 or 0.
+    pub fn active_answer(&self, handle: u32) -> u32
+        ensures { result ≡ active_answer self.now.roster handle }
+    {
+        self.roster.active_answer(handle)
+    }
+
+    /// How many bytes an after-work callback may read.
+    pub fn input_length(&self) -> u32
+        ensures { result ≡ input_length self.now.reply }
+    {
+        match &self.reply {
+            Some(bytes) => bytes.len() as u32,
+            None => NOT_HERE,
+        }
+    }
+
+    /// Copies bytes of a reply into the guest's memory.
+    pub fn copy_in(&self, to: u32, from: u32, count: u32, memory: &mut Memory) -> u32
+        ensures answer { result ≡ (copied_in self.now.reply to from count memory.old.bytes).0 }
+        ensures memory { memory.new ≡ with_bytes (copied_in self.now.reply to from count memory.old.bytes).1 memory.old }
+    {
+        match &self.reply {
+            Some(bytes) => copy_in(bytes.as_slice(), to, from, count, memory),
+            None => NOT_HERE,
+        }
+    }
+
+    /// Puts out a number.
+    pub fn emit(&mut self, value: u64) -> u32
+        ensures answer { result ≡ (emitted_in value self.old).0 }
+        ensures state { self.new ≡ (emitted_in value self.old).1 }
+    {
+        if self.emits.is_full() {
+            return NONE_LEFT;
+        }
+        self.emits.push(value);
+        0
+    }
+
+    /// What the last callback put out.
+    pub fn emits(&self) -> &[u64]
+        ensures value { result.now ≡ self.now.emits }
+        ensures few { length result.now ≤ 64 }
+    {
+        self.emits.as_slice()
+    }
+
+    /// Raises the clock to a moment, unless the loop has failed, and answers it.
+    pub fn raise(&mut self, ms: u64) -> u64
+        ensures state { self.new ≡ after_clock self.old ms }
+        ensures clock { result ≡ self.new.clock }
+    {
+        if self.status != Status::Failed {
+            self.clock = self.clock.max(ms);
+        }
+        self.clock
+    }
+
+    /// The order of the lowest request that is not handed out. A failed loop hands out none.
+    pub fn next_order(&mut self) -> Option<Order>
+        ensures order { option_map order_of result ≡ (next_order_of self.old).0 }
+        ensures state { self.new ≡ (next_order_of self.old).1 }
+        ensures lowest { IfSome result (λ o. IsLowestOpen o.request self.old.requests) }
+        ensures grows { Grows self.old self.new }
+    {
+        self.requests.keeps();
+        match self.status {
+            Status::Failed => None,
+            Status::Running | Status::Over => self.requests.next(),
+        }
+    }
+
+    /// Takes a reply whose order is, in every field, that of a request that is neither answered nor cancelled, unless
+    /// the loop has failed. Else the reply comes back.
+    pub fn accept(&mut self, reply: Reply) -> Result<(), Reply>
+        ensures taken { OnOk result (Takes (order_of reply.order) self.old) }
+        ensures answered { OnOk result (self.new ≡ with_requests self.old (answered self.old.requests (order_of reply.order) (end_of reply.outcome))) }
+        ensures refused { IfErr result (λ other. (other ≡ reply) × (self.new ≡ self.old) × (Takes (order_of reply.order) self.old → ⊥)) }
+    {
+        match self.status {
+            Status::Failed => Err(reply),
+            Status::Running | Status::Over => self.requests.answer(reply),
+        }
+    }
+
+    /// Cancels a request: -22 where it is not outstanding or cancelled already, -16 where it is answered or started,
+    /// and -1 where the loop has failed.
+    pub fn cancel<B: Shared>(&mut self, shared: &mut B, number: u32) -> u32
+        ensures { CancelIn B.calls self.old.status (self.old, shared.old) number result (self.new, shared.new) }
+    {
+        match self.status {
+            Status::Failed => NOT_HERE,
+            Status::Running | Status::Over => cancel(&mut self.requests, shared, number),
+        }
+    }
+
+    /// How many requests are outstanding. What is answered is what the request's own order gives, or that there was no
+    /// memory.
+    pub fn outstanding(&self) -> usize
+        ensures count { result ≡ length self.now.requests.outstanding }
+        ensures right { AllRight self.now.requests }
+    {
+        self.requests.len()
+    }
+
+    /// Whether there is an active handle, an outstanding request or a closing handle.
+    #[tactic(auto, unfolding(crate::specs::PhaseList::is_alive))]
+    pub fn is_alive(&self) -> bool
+        ensures value { result ≡ is_alive self.now }
+        ensures means { IsTrue (is_alive self.now) ↔ IsAlive self.now }
+    {
+        self.roster.keeps();
+        let requests = !self.requests.is_empty();
+        let closing = !self.roster.closing().is_empty();
+        any(self.roster.has_active(), requests, closing)
+    }
+
+    /// How long the loop has nothing to do.
+    pub fn hint(&self) -> Hint
+        ensures value { result ≡ hint_of self.now }
+        ensures means { IsHint self.now result }
+    {
+        self.roster.keeps();
+        self.listed_hint()
+    }
+
+    // The same, by the lists of the phases.
+    #[tactic(auto, unfolding(crate::specs::PhaseList::hint_of))]
+    fn listed_hint(&self) -> Hint
+        ensures { result ≡ hint_of self.now }
+    {
+        let over = !self.is_alive();
+        let idle = !self.roster.of_kind(Kind::Idle).is_empty();
+        let closing = !self.roster.closing().is_empty();
+        let settled = self.requests.has_settled();
+        let busy = any(over, idle, closing || settled);
+        until(busy, self.roster.nearest(), self.time)
+    }
+}

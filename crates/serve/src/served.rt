@@ -1,0 +1,59 @@
+// What became of a loop.
+ghost use Rattle.serve.specs.Histories.{HasServed};
+
+use std::fmt;
+
+/// How many callbacks a loop may run.
+pub const MOST_CALLBACKS: u32 = 100_000;
+
+/// How a loop ended.
+#[derive(Clone, Copy, Debug, PartialEq, Eq)]
+pub enum LoopEnding {
+    /// Nothing was left to do.
+    Over,
+    /// A callback did not return.
+    Failed,
+    /// What is left to do waits for what no one does.
+    Waiting,
+    /// It ran as many callbacks as it may.
+    Limit,
+}
+
+impl LoopEnding {
+    /// The word that is printed.
+    pub fn word(self) -> &'static str {
+        match self {
+            LoopEnding::Over => "over",
+            LoopEnding::Failed => "failed",
+            LoopEnding::Waiting => "waiting",
+            LoopEnding::Limit => "limit",
+        }
+    }
+}
+
+/// What one loop did. It prints as a line, as in `loop 0 over emits 6`.
+///
+/// A loop of this number has a history from its opening, over its seats, in which its callbacks put out just this, and
+/// at whose end it has ended so.
+#[derive(Drop)]
+pub struct Served {
+    /// The loop's number, from 0.
+    pub loop_no: u32,
+    /// How it ended.
+    pub ending: LoopEnding,
+    /// What its callbacks put out, in order.
+    pub emits: Vec<u64>,
+    pub ghost told: { ∥ HasServed loop_no ending emits.items ∥₁ },
+}
+
+impl fmt::Display for Served {
+    fn fmt<W: fmt::Write>(&self, f: &mut fmt::Formatter<W>) -> fmt::Result {
+        let (loop_no, word) = (self.loop_no, self.ending.word());
+        write!(f, "loop {loop_no} {word} emits")?;
+        for value in self.emits.as_slice() {
+            let signed = value.cast_signed();
+            write!(f, " {signed}")?;
+        }
+        Ok(())
+    }
+}

@@ -1,8 +1,0 @@
-use Rattle.std.proofs.Common.{nat_eq}
-use Rattle.std.specs.Cmp.Lexicographic.{pointwise}
-use Rattle.indexmap.specs.IndexMap.{get_by}
-use Rattle.syntax.proofs.ExportLaws.{TellsBefore}
-use Rattle.syntax.proofs.exports.places_of.Given as goal
-
-abbrev pub invariant-loop-place : goal.invariant-loop-place
-invariant-loop-place l = TellsBefore l.exports l.place (λ name. get_by (λ key. pointwise nat_eq name key.items) l.places)

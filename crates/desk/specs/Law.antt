@@ -17,8 +17,13 @@ sends d e a true h = (ap (λ x. x.view) h.1, h.0)
 sends d e a false h = (ap (λ x. x.view) h.1, h.0)
 
 takes : (d e : Desk) (a n : ℕ) → DeskTakes d a n e → Taken d.view e.view a n
-takes d e a n h = (ap (λ x. x.view) h.1 ∙ ap (λ k. record d.view { takes = raised d.view.takes a 1;
-    taken = raised d.view.taken a k }) (sym h.0), h.2)
+takes d e a n h = (
+  ap (λ x. x.view) h.1 ∙ ap (λ k. record d.view {
+    takes = raised d.view.takes a 1;
+    taken = raised d.view.taken a k;
+  }) (sym h.0),
+  h.2,
+)
 
 starts : (d e : Desk) (c : ℕ × ℕ) (ok : Bool) → DeskStarts d c ok e → e.view ≡ d.view
 starts d e c true h = ap (λ x. x.view) h.1

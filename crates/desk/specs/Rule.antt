@@ -8,8 +8,15 @@ use Rattle.desk.specs.Desk.{Desk, is_open}
 -- what contracts see of a history
 abbrev pub desk_of : History → Desk
 desk_of h = record {
-  view = record { loop_no = h.loop_no; opened = h.opened; cancelled = h.cancelled; found_started = h.found_started;
-      takes = h.takes; taken = h.taken; own = h.own };
+  view = record {
+    loop_no = h.loop_no;
+    opened = h.opened;
+    cancelled = h.cancelled;
+    found_started = h.found_started;
+    takes = h.takes;
+    taken = h.taken;
+    own = h.own;
+  };
   started = h.started;
   waiting = h.waiting;
   sent = h.sent;

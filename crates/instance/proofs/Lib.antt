@@ -2,4 +2,3 @@ pub mod Overwriting
 pub mod Initial
 pub mod FreshStores
 pub mod Keeping
-pub mod Holding

@@ -5,5 +5,4 @@ pub mod Faults
 pub mod Storing
 pub mod Fresh
 pub mod Lending
-pub mod Frames
 pub mod LendingStack

@@ -8,14 +8,9 @@ pub mod Heights
 pub mod HeightsOfRuns
 pub mod HeightsTyped
 pub mod Places
-pub mod Room
-pub mod Turning
 pub mod Plainly
 pub mod Running
-pub mod Calling
 pub mod Hosting
 pub mod Invoking
-pub mod Moving
 pub mod Bodies
-pub mod Standing
-pub mod Jumping
+pub mod Slots

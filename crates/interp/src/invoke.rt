@@ -1,23 +1,24 @@
 // Calls of functions from outside (WebAssembly Core 1.0, 4.5.5).
 
-ghost use Rattle.std.specs.Prelude.{◌≡◌, ◌≤◌, ◌<◌, length};
+ghost use Rattle.std.specs.Prelude.{◌≡◌, ◌+◌, ◌≤◌, ◌<◌, length};
 ghost use Rattle.validate.specs.Valid.{ValidModule};
 ghost use Rattle.validate.specs.Targets.{AreTables};
-ghost use Rattle.interp.specs.Hosting.{Names};
-ghost use Rattle.interp.specs.Run.{as_operands};
 ghost use Rattle.instance.specs.Storing.{IsStoreOf};
+ghost use Rattle.interp.specs.Run.{as_operands};
+ghost use Rattle.interp.specs.Hosting.{Names};
 ghost use Rattle.interp.specs.Invoking.{TakesArguments, Invoked, ReturnsTyped};
 
-use crate::calls::enter_function;
 use crate::ended::{Ended, Ending};
 use crate::host::{Args, Host};
-use crate::run::run;
+use crate::opening::open;
+use crate::over_host::run_over_host;
 use crate::values::Values;
-use instance::machine::Machine;
+use engine::program::Program;
+use instance::stack::{Frame, Slots};
 use instance::state::{Instance, State};
 use syntax::contents::Contents;
 use syntax::types::Value;
-use validate::{SideTable, Valid};
+use validate::{SideTable, Valid, type_of_function};
 
 /// The results that an answer of the host makes.
 fn answered(answer: Option<Value>) -> Values
@@ -62,11 +63,11 @@ fn invoke_defined<H: Host>(
     tables: &[SideTable],
     state: &mut State,
     host: &mut H,
-    machine: &mut Machine,
+    slots: &mut Slots,
+    frames: &mut [Frame],
     function: u32,
     args: &[Value],
     fuel: u64,
-    depth: u32,
 ) -> Ended
     requires valid { ValidModule contents.now }
     requires agree { AreTables contents.now tables.now }
@@ -74,23 +75,34 @@ fn invoke_defined<H: Host>(
     requires names { Names contents.now (H.types host.old) }
     requires typed { TakesArguments contents.now function args.now }
     requires defined { length contents.now.imports ≤ function }
-    requires deep { depth ≤ 128 }
-    ensures runs { Invoked contents.now depth fuel H.moves state.old host.old function args.now result state.new host.new }
+    requires deep { length frames.old + 1 ≤ 128 }
+    ensures runs { Invoked contents.now (length frames.old + 1) fuel H.moves state.old host.old function args.now result state.new host.new }
     ensures within { result.used ≤ fuel }
     ensures results { ReturnsTyped contents.now function result.ending }
     ensures kept { IsStoreOf contents.now state.new }
     ensures types { H.types host.new ≡ H.types host.old }
 {
-    machine.clear();
-    machine.operands.push_all(args);
-    let index = function as usize - contents.imports.len();
-    enter_function(contents, machine, index);
-    run(contents, tables, state, host, machine, fuel, depth)
+    let Some(func_type) = type_of_function(contents, function) else {
+        unreachable!()
+    };
+    let program = Program::new(contents, tables);
+    let start = open(contents, slots, function, args);
+    run_over_host(
+        contents,
+        &program,
+        func_type.results.as_slice(),
+        slots,
+        frames,
+        state,
+        host,
+        start,
+        fuel,
+    )
 }
 
 /// Calls a function of a module on one of its instances, with these arguments and so much fuel. At most `depth`
 /// calls stand open, this one among them; calls of the host are not counted. A call of an imported function is one
-/// call of the host, and uses no fuel. No memory is taken: the instance's machine has room for all calls.
+/// call of the host, and uses no fuel. No memory is taken: the instance has room for the slots of all calls.
 pub fn invoke<H: Host>(
     valid: &Valid,
     instance: &mut Instance,
@@ -111,12 +123,18 @@ pub fn invoke<H: Host>(
     ensures types { H.types host.new ≡ H.types host.old }
 {
     let contents = valid.contents();
-    let Instance { state, machine, .. } = instance;
+    let Instance {
+        state,
+        slots,
+        frames,
+        ..
+    } = instance;
     if (function as usize) < contents.imports.len() {
         return invoke_import(contents, state, host, function, args, fuel, depth);
     }
     let tables = valid.tables();
+    let callers = frames.first(depth as usize - 1);
     invoke_defined(
-        contents, tables, state, host, machine, function, args, fuel, depth,
+        contents, tables, state, host, slots, callers, function, args, fuel,
     )
 }

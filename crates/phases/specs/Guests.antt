@@ -113,7 +113,8 @@ module _ {S : Type 0} (calls : Calls S) (g : Setting) where
   entry_calls old (entry.After number) did new h = after_calls old number (request_of old.state.requests number) did new h
   entry_calls old (entry.Async async_no) did new h = async_calls old async_no (async_handle old.state.roster async_no) did new h
   entry_calls old (entry.Close handle) did new h =
-      handle_calls (in_state old (with_roster old.state (without_handle old.state.roster handle))) old.state.roster kind.Close handle did new h
+      handle_calls (in_state old (with_roster old.state (without_handle old.state.roster handle)))
+      old.state.roster kind.Close handle did new h
 
   abbrev pub list_calls : (old : Loop S) (list : List Entry) (did : StepDid) (new : Loop S) → ListStep calls g old list did new
       → List GuestCall

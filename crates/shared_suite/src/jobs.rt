@@ -11,6 +11,7 @@ use claims::Ticket;
 use imports::{EntryPoint, Linked};
 use order::{Order, Reply};
 use std::alloc::{AllocError, Global};
+use std::marker::Model;
 use std::sync::Arc;
 use std::sync::atomic::{AtomicU64, Ordering};
 use std::test::Fail;
@@ -22,8 +23,19 @@ pub struct Jobs {
     module: Arc<Linked>,
     bytes: Arc<Vec<u8>>,
     pub calls: Arc<AtomicU64>,
-    ghost works: { (f : ℕ) × ExportsFunction (arc_value «module»).contents (codes "uv_work") f },
-    ghost none: { (arc_value bytes).items ≡ [] },
+}
+
+// Their module has a work function, and their bytes are none. A test needs to know nothing of them.
+impl Model for Jobs {
+    ghost use Rattle.std.specs.Prelude.{◌≡◌, ℕ, [], codes};
+    ghost use Rattle.std.specs.Arc.{arc_value};
+    ghost use Rattle.imports.specs.Linking.{ExportsFunction};
+
+    ghost Value = { Unit {0} };
+
+    ghost view = { λ _. tt };
+
+    ghost invariant = { λ j. ((f : ℕ) × ExportsFunction (arc_value j.«module»).contents (codes "uv_work") f) × ((arc_value j.bytes).items ≡ []) };
 }
 
 // A module whose `uv_work` gives its operation.

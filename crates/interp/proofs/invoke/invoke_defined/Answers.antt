@@ -1,49 +1,49 @@
-use Rattle.std.proofs.Common.{◌≡◌, ◌+◌, ◌-◌, length, arith}
-use Rattle.interp.specs.Calling.{Entered}
-use Rattle.interp.proofs.Outside.{waiting, few_args, can_start, is_typed, invoked, used_within, returns_typed, store_kept}
+use Rattle.std.proofs.Common.{◌≡◌, length, ap, ◌∙◌, arith, List}
+use Rattle.syntax.specs.declared.types.ValType.{ValType}
+use Rattle.syntax.specs.declared.contents.FuncType.{FuncType}
+use Rattle.interp.proofs.Slots.Beginning.{found_type, can_open, few_results, under_way, invoked, used_within, returns_typed, store_kept}
 use Rattle.interp.proofs.invoke.invoke_defined.Goals as goal
 
-pub push_all-requires : goal.push_all-requires
-push_all-requires g c =
-    let e : c.args.function ≡ length c.args.contents.now.imports + (c.args.function - length c.args.contents.now.imports) = omega arith in
-    let few = few_args c.args.contents.now c.args.function (c.args.function - length c.args.contents.now.imports) c.args.args.now e c.requires.typed c.requires.valid in
-    rw c.clear.ensures (omega (arith, few))
+pub open-start-requires : goal.open-start-requires
+open-start-requires g c =
+    can_open c.args.contents.now c.args.function c.args.args.now c.requires.typed c.requires.valid c.requires.defined
 
-pub enter_function-requires : goal.enter_function-requires
-enter_function-requires g c =
-    let e : c.args.function ≡ length c.args.contents.now.imports + (c.args.function - c.len.result) = omega arith in
-    rw (c.push_all.ensures, c.clear.ensures) (can_start c.args.contents.now c.args.function (c.args.function - c.len.result) c.args.args.now e c.requires.typed c.requires.valid)
+pub run_over_host-requires-clause-few : goal.run_over_host-requires-clause-few
+run_over_host-requires-clause-few g c =
+    let type = found_type c.args.contents.now c.args.function c.args.args.now c.requires.typed c.in-Some.func_type.now c.in-Some.ensures in
+    let same : c.as_slice.result.now ≡ c.requires.typed.type.results = c.as_slice.ensures ∙ ap (λ (t : FuncType). t.results) type in
+    omega (arith, few_results c.args.contents.now c.args.function c.args.args.now c.requires.typed c.requires.valid c.requires.defined, ap (λ (ts : List ValType). length ts) same)
 
-pub run-requires-clause-typed : goal.run-requires-clause-typed
-run-requires-clause-typed g c =
-    let e : c.args.function ≡ length c.args.contents.now.imports + (c.args.function - c.len.result) = omega arith in
-    let en : Entered c.args.contents.now (c.args.function - c.len.result) (waiting c.args.args.now) c.enter_function.new.machine = rw (c.push_all.ensures, c.clear.ensures) at c.enter_function.ensures in
-    is_typed c.args.contents.now c.args.function (c.args.function - c.len.result) c.args.args.now e c.requires.typed c.requires.valid c.args.tables.now c.requires.agree c.enter_function.new.machine en c.args.state.now c.requires.store
+pub run_over_host-requires-clause-under_way : goal.run_over_host-requires-clause-under_way
+run_over_host-requires-clause-under_way g c =
+    let type = found_type c.args.contents.now c.args.function c.args.args.now c.requires.typed c.in-Some.func_type.now c.in-Some.ensures in
+    let same : c.as_slice.result.now ≡ c.requires.typed.type.results = c.as_slice.ensures ∙ ap (λ (t : FuncType). t.results) type in
+    under_way c.args.contents.now c.args.function c.args.args.now c.requires.typed c.requires.valid c.requires.defined c.args.tables.now c.requires.agree c.new-program.result c.new-program.ensures c.open-start.result c.open-start.new.slots c.open-start.ensures.opened c.open-start.ensures.small c.args.frames.now c.args.state.now c.args.fuel c.requires.store c.as_slice.result.now same
 
 pub returns-clause-runs : goal.returns-clause-runs
 returns-clause-runs g c =
-    let e : c.args.function ≡ length c.args.contents.now.imports + (c.args.function - c.len.result) = omega arith in
-    let en : Entered c.args.contents.now (c.args.function - c.len.result) (waiting c.args.args.now) c.enter_function.new.machine = rw (c.push_all.ensures, c.clear.ensures) at c.enter_function.ensures in
-    invoked c.args.contents.now c.args.function (c.args.function - c.len.result) c.args.args.now e c.requires.typed c.requires.valid c.args.tables.now c.requires.agree c.enter_function.new.machine en c.args.depth c.args.fuel g.H.Host.moves
-    c.args.state.now c.run.new.state c.args.host.now c.run.new.host c.run.result c.requires.store c.run.ensures.ends
+    let type = found_type c.args.contents.now c.args.function c.args.args.now c.requires.typed c.in-Some.func_type.now c.in-Some.ensures in
+    let same : c.as_slice.result.now ≡ c.requires.typed.type.results = c.as_slice.ensures ∙ ap (λ (t : FuncType). t.results) type in
+    invoked c.args.contents.now c.args.function c.args.args.now c.requires.typed c.requires.valid c.requires.defined c.args.tables.now c.requires.agree c.new-program.result c.new-program.ensures c.open-start.result c.open-start.new.slots c.open-start.ensures.opened c.open-start.ensures.small c.args.frames.now c.args.state.now c.args.fuel c.requires.store c.as_slice.result.now same
+    g.H.Host.moves c.args.host.now c.run_over_host.new.host c.run_over_host.result c.run_over_host.new.state c.run_over_host.ensures.ends
 
 pub returns-clause-within : goal.returns-clause-within
 returns-clause-within g c =
-    let e : c.args.function ≡ length c.args.contents.now.imports + (c.args.function - c.len.result) = omega arith in
-    let en : Entered c.args.contents.now (c.args.function - c.len.result) (waiting c.args.args.now) c.enter_function.new.machine = rw (c.push_all.ensures, c.clear.ensures) at c.enter_function.ensures in
-    used_within c.args.contents.now c.args.function (c.args.function - c.len.result) c.args.args.now e c.requires.typed c.requires.valid c.args.tables.now c.requires.agree c.enter_function.new.machine en c.args.depth c.args.fuel g.H.Host.moves
-    c.args.state.now c.run.new.state c.args.host.now c.run.new.host c.run.result c.requires.store c.run.ensures.ends
+    let type = found_type c.args.contents.now c.args.function c.args.args.now c.requires.typed c.in-Some.func_type.now c.in-Some.ensures in
+    let same : c.as_slice.result.now ≡ c.requires.typed.type.results = c.as_slice.ensures ∙ ap (λ (t : FuncType). t.results) type in
+    used_within c.args.contents.now c.args.function c.args.args.now c.requires.typed c.requires.valid c.requires.defined c.args.tables.now c.requires.agree c.new-program.result c.new-program.ensures c.open-start.result c.open-start.new.slots c.open-start.ensures.opened c.open-start.ensures.small c.args.frames.now c.args.state.now c.args.fuel c.requires.store c.as_slice.result.now same
+    g.H.Host.moves c.args.host.now c.run_over_host.new.host c.run_over_host.result c.run_over_host.new.state c.run_over_host.ensures.ends
 
 pub returns-clause-results : goal.returns-clause-results
 returns-clause-results g c =
-    let e : c.args.function ≡ length c.args.contents.now.imports + (c.args.function - c.len.result) = omega arith in
-    let en : Entered c.args.contents.now (c.args.function - c.len.result) (waiting c.args.args.now) c.enter_function.new.machine = rw (c.push_all.ensures, c.clear.ensures) at c.enter_function.ensures in
-    returns_typed c.args.contents.now c.args.function (c.args.function - c.len.result) c.args.args.now e c.requires.typed c.requires.valid c.args.tables.now c.requires.agree c.enter_function.new.machine en c.args.depth c.args.fuel g.H.Host.moves
-    c.args.state.now c.run.new.state c.args.host.now c.run.new.host c.run.result c.requires.store c.run.ensures.ends
+    let type = found_type c.args.contents.now c.args.function c.args.args.now c.requires.typed c.in-Some.func_type.now c.in-Some.ensures in
+    let same : c.as_slice.result.now ≡ c.requires.typed.type.results = c.as_slice.ensures ∙ ap (λ (t : FuncType). t.results) type in
+    returns_typed c.args.contents.now c.args.function c.args.args.now c.requires.typed c.requires.valid c.requires.defined c.args.tables.now c.requires.agree c.new-program.result c.new-program.ensures c.open-start.result c.open-start.new.slots c.open-start.ensures.opened c.open-start.ensures.small c.args.frames.now c.args.state.now c.args.fuel c.requires.store c.as_slice.result.now same
+    g.H.Host.moves c.args.host.now c.run_over_host.new.host c.run_over_host.result c.run_over_host.new.state c.run_over_host.ensures.ends
 
 pub returns-clause-kept : goal.returns-clause-kept
 returns-clause-kept g c =
-    let e : c.args.function ≡ length c.args.contents.now.imports + (c.args.function - c.len.result) = omega arith in
-    let en : Entered c.args.contents.now (c.args.function - c.len.result) (waiting c.args.args.now) c.enter_function.new.machine = rw (c.push_all.ensures, c.clear.ensures) at c.enter_function.ensures in
-    store_kept c.args.contents.now c.args.function (c.args.function - c.len.result) c.args.args.now e c.requires.typed c.requires.valid c.args.tables.now c.requires.agree c.enter_function.new.machine en c.args.depth c.args.fuel g.H.Host.moves
-    c.args.state.now c.run.new.state c.args.host.now c.run.new.host c.run.result c.requires.store c.run.ensures.ends
+    let type = found_type c.args.contents.now c.args.function c.args.args.now c.requires.typed c.in-Some.func_type.now c.in-Some.ensures in
+    let same : c.as_slice.result.now ≡ c.requires.typed.type.results = c.as_slice.ensures ∙ ap (λ (t : FuncType). t.results) type in
+    store_kept c.args.contents.now c.args.function c.args.args.now c.requires.typed c.requires.valid c.requires.defined c.args.tables.now c.requires.agree c.new-program.result c.new-program.ensures c.open-start.result c.open-start.new.slots c.open-start.ensures.opened c.open-start.ensures.small c.args.frames.now c.args.state.now c.args.fuel c.requires.store c.as_slice.result.now same
+    g.H.Host.moves c.args.host.now c.run_over_host.new.host c.run_over_host.result c.run_over_host.new.state c.run_over_host.ensures.ends

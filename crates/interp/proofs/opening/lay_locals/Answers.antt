@@ -1,0 +1,14 @@
+use Rattle.std.proofs.Common.{List, ℕ, length, replicate, ap, ◌∙◌}
+use Rattle.std.proofs.Math.Seq.{paste}
+use Rattle.std.proofs.lemmas.List.{length-map}
+use Rattle.validate.specs.Segments.{number_in}
+use Rattle.interp.specs.Slots.Holding.{erased}
+use Rattle.interp.proofs.Slots.ValuesRead.{zeros_behind}
+use Rattle.interp.proofs.opening.lay_locals.Goals as goal
+
+pub returns-clause-laid : goal.returns-clause-laid
+returns-clause-laid c =
+    let args = c.args.args.now in
+    let zeros = c.args.zeros in
+    c.zero.ensures ∙ ap (λ (xs : List ℕ). paste xs (length args) (replicate zeros 0) zeros) c.lay_arguments.ensures.laid
+    ∙ zeros_behind (erased args) c.args.slots.now (length args) zeros (length-map args number_in)

@@ -1,0 +1,46 @@
+use Rattle.std.proofs.Common.{◌≡◌, ℕ, ◌+◌, ◌-◌, ◌≤◌, ◌++◌, Some, List, length, drop, replicate, ap, ◌∙◌, arith, length-append}
+use Rattle.std.specs.Prelude.{slice_get}
+use Rattle.std.specs.List.{refill}
+use Rattle.std.proofs.lemmas.List.{length-replicate}
+use Rattle.syntax.specs.declared.contents.FuncType.{FuncType}
+use Rattle.syntax.specs.declared.contents.Func.{Func}
+use Rattle.interp.specs.Slots.Holding.{erased}
+use Rattle.interp.proofs.OneRun.{one_function}
+use Rattle.interp.proofs.Slots.Hosted.{refilled}
+use Rattle.interp.proofs.opening.open.Goals as goal
+use Rattle.interp.proofs.opening.open.Goals.{then-len-lt-FIRST_SLOTS, else-len-lt-FIRST_SLOTS}
+
+pub returns-clause-opened : goal.returns-clause-opened
+returns-clause-opened c = λ type f defined.
+    let r = c.requires in
+    let one = one_function c.args.contents.now c.args.function r.type type r.f f r.defined defined in
+    let imports = c.len.ensures in
+    let there = defined.1 in
+    let index : c.args.function - c.len.result ≡ defined.0 = omega (arith, imports, there) in
+    let found : Some c.in-Some.func.now ≡ Some f = c.in-Some.ensures ∙ ap (λ (k : ℕ). slice_get c.args.contents.now.functions k) index ∙ defined.2 in
+    let func : c.in-Some.func.now ≡ f = cc in
+    let zeros : c.len-zeros.result ≡ length f.locals = c.len-zeros.ensures ∙ ap (λ (g : Func). length g.locals) func in
+    let count : length c.args.args.now ≡ length type.params = r.count ∙ ap (λ (t : FuncType). length t.params) one.0 in
+    let height : length c.args.args.now + c.len-zeros.result ≡ length type.params + length f.locals = omega (arith, zeros, count) in
+    let before = c.if-len-lt-FIRST_SLOTS.slots in
+    let lent = c.as_mut_slice.result.now in
+    let rest = drop (length c.args.args.now + c.len-zeros.result) lent in
+    let same : length c.lay_locals.new.slots ≡ length before = c.lay_locals.auto.slots ∙ ap (λ (xs : List ℕ). length xs) c.as_mut_slice.ensures.value in
+    let back : refill (length before) before c.lay_locals.new.slots ≡ c.lay_locals.new.slots = refilled before c.lay_locals.new.slots same in
+    let wide : 512 ≤ length before =
+    elim c.if-len-lt-FIRST_SLOTS.branch [
+      | then-len-lt-FIRST_SLOTS w ↦
+          let long : length before ≡ length (c.args.slots.now ++ replicate (512 - length c.args.slots.now) 0) = ap (λ (xs : List ℕ). length xs) (w.slots-is ∙ w.lengthen.ensures) in
+          omega (arith, long, length-append c.args.slots.now (replicate (512 - length c.args.slots.now) 0), length-replicate {A = ℕ} (512 - length c.args.slots.now) 0)
+      | else-len-lt-FIRST_SLOTS w ↦
+          let long : length before ≡ length c.args.slots.now = ap (λ (xs : List ℕ). length xs) w.slots-is in
+          let test = w.if-len-lt-FIRST_SLOTS.false in
+          let is = c.len-2.ensures in
+          omega (arith, long, test, is)
+    ] in
+    record {
+      free = rest;
+      at_is = λ i. record { function = index i; pc = 0; sp = height i; base = 0; depth = 0 };
+      slots_are = back ∙ c.lay_locals.ensures.laid ∙ ap (λ (n : ℕ). (erased c.args.args.now ++ replicate n 0) ++ rest) zeros;
+      room = omega (arith, wide, same, ap (λ (xs : List ℕ). length xs) back);
+    }

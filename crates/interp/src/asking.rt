@@ -1,0 +1,67 @@
+// The host is asked for an import.
+
+ghost use Rattle.std.specs.Prelude.{◌≡◌, ◌≤◌, ◌<◌, ◌+◌, ◌^◌, length};
+ghost use Rattle.interp.specs.Run.{as_operands};
+ghost use Rattle.interp.specs.Hosting.{Names};
+ghost use Rattle.interp.specs.Slots.Holding.{AreSmall};
+ghost use Rattle.interp.specs.Slots.Resuming.{laid};
+ghost use Rattle.interp.specs.Slots.HostAsked.{CanAsk, Asks};
+
+use crate::host::{Args, Host};
+use crate::reading::{number_of, read};
+use engine::at::At;
+use instance::state::State;
+use syntax::contents::Contents;
+use syntax::types::Value;
+use validate::type_of_function;
+
+/// Lays an answer down, where there is one, and tells how many slots it takes.
+fn lay_answer(slots: &mut [u64], place: usize, answer: Option<Value>) -> usize
+    requires { place + length (as_operands answer) ≤ length slots.old }
+    ensures laid { slots.new ≡ laid answer place slots.old }
+    ensures count { result ≡ length (as_operands answer) }
+    ensures small { AreSmall (as_operands answer) }
+{
+    match answer {
+        None => 0,
+        Some(value) => {
+            slots[place] = number_of(value);
+            1
+        }
+    }
+}
+
+/// Asks the host for an import, whose arguments are the topmost slots up to a height. Its answer takes their place, and
+/// the run goes on behind the call.
+pub fn ask_host<H: Host>(
+    contents: &Contents,
+    state: &mut State,
+    host: &mut H,
+    slots: &mut [u64],
+    at: At,
+    import: usize,
+    height: usize,
+    values: &mut [Value; 256],
+) -> At
+    requires can { CanAsk contents.now import height (length slots.old) }
+    requires names { Names contents.now (H.types host.old) }
+    requires steps { at.pc + 1 < 2 ^ 64 }
+    ensures asked { Asks contents.now H.moves import height at slots.old state.old host.old result slots.new state.new host.new }
+    ensures types { H.types host.new ≡ H.types host.old }
+{
+    let import = import as u32;
+    let Some(import_type) = type_of_function(contents, import) else {
+        unreachable!()
+    };
+    let params = import_type.params.as_slice();
+    let place = height - params.len();
+    read(params, &slots[place..height], values);
+    let args = Args::new(&values[..params.len()]);
+    let answer = host.call(import, &args, state.memory_mut());
+    let results = lay_answer(slots, place, answer);
+    At {
+        pc: at.pc + 1,
+        sp: place + results,
+        ..at
+    }
+}

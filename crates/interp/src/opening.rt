@@ -1,0 +1,60 @@
+// A call from outside begins.
+
+ghost use Rattle.std.specs.Prelude.{◌≡◌, ◌≤◌, ◌+◌, ◌++◌, length, drop, replicate};
+ghost use Rattle.interp.specs.Slots.Holding.{AreSmall, erased};
+ghost use Rattle.interp.specs.Slots.CallsBegun.{CanOpen, Opened};
+
+use crate::reading::number_of;
+use engine::at::At;
+use engine::calls::zero;
+use instance::stack::Slots;
+use syntax::contents::Contents;
+use syntax::types::Value;
+
+/// How many slots there are from the first call on: enough for every function called from outside.
+const FIRST_SLOTS: usize = 512;
+
+/// Lays arguments in the lowest slots.
+fn lay_arguments(slots: &mut [u64], args: &[Value])
+    requires { length args.now ≤ length slots.old }
+    ensures laid { slots.new ≡ erased args.now ++ drop (length args.now) slots.old }
+    ensures small { AreSmall args.now }
+{
+    for (index, arg) in args.iter().enumerate() {
+        slots[index] = number_of(*arg);
+    }
+}
+
+/// Lays the locals of a call in the lowest slots: its arguments, and so many zeros.
+fn lay_locals(slots: &mut [u64], args: &[Value], zeros: usize)
+    requires { length args.now + zeros ≤ length slots.old }
+    ensures laid { slots.new ≡ (erased args.now ++ replicate zeros 0) ++ drop (length args.now + zeros) slots.old }
+    ensures small { AreSmall args.now }
+{
+    lay_arguments(slots, args);
+    zero(slots, args.len(), zeros);
+}
+
+/// Lays the locals of a call from outside in the lowest slots, and tells where its run begins.
+pub fn open(contents: &Contents, slots: &mut Slots, function: u32, args: &[Value]) -> At
+    requires { CanOpen contents.now function args.now }
+    ensures opened { Opened contents.now function args.now result slots.new }
+    ensures small { AreSmall args.now }
+{
+    let index = function as usize - contents.imports.len();
+    let Some(func) = contents.functions.get(index) else {
+        unreachable!()
+    };
+    if slots.len() < FIRST_SLOTS {
+        slots.lengthen(FIRST_SLOTS);
+    }
+    let zeros = func.locals.len();
+    lay_locals(slots.as_mut_slice(), args, zeros);
+    At {
+        function: index,
+        pc: 0,
+        sp: args.len() + zeros,
+        base: 0,
+        depth: 0,
+    }
+}

@@ -1,3 +1,0 @@
-pub mod ValuesRead
-pub mod Hosted
-pub mod Beginning

@@ -1,6 +1,0 @@
-use Rattle.std.proofs.Common.{◌≡◌, ◌++◌, take, drop}
-use Rattle.slots.specs.Holding.{AreSmall, erased}
-use Rattle.invoke_next.proofs.opening.lay_arguments.Given as goal
-
-abbrev pub invariant-loop-index : goal.invariant-loop-index
-invariant-loop-index l = record { laid : l.slots ≡ erased (take l.index l.args) ++ drop l.index l.fn.slots; small : AreSmall (take l.index l.args) }

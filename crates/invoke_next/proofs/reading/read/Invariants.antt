@@ -1,6 +1,0 @@
-use Rattle.std.proofs.Common.{◌≡◌, take, length}
-use Rattle.invoke_next.specs.ValuesRead.{typed_values}
-use Rattle.invoke_next.proofs.reading.read.Given as goal
-
-abbrev pub invariant-loop-index : goal.invariant-loop-index
-invariant-loop-index l = record { read : take l.index l.places ≡ typed_values (take l.index l.types) l.slots; same : length l.places ≡ length l.fn.places }

@@ -1,4 +1,0 @@
-pub mod ValuesRead
-pub mod HostAsked
-pub mod Hosted
-pub mod CallsBegun

@@ -1,5 +1,0 @@
-use Rattle.slots.proofs.Viewed.{view_is}
-use Rattle.slots.proofs.laws.view_is_the_program.Goals as goal
-
-pub returns : goal.returns
-returns c = λ m tables valid told. view_is m tables told

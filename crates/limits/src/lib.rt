@@ -57,3 +57,48 @@ pub const MAX_DEPTH: u32 = 128;
 
 /// How many bytes a work request, and its reply, may have.
 pub const MAX_BYTES: usize = 65_536;
+
+/// How many slots the locals and operands of all open calls of an instance may take.
+pub const MAX_SLOTS: usize = 65_536;
+
+/// How many handles a loop may have.
+pub const MAX_HANDLES: usize = 64;
+
+/// How many asyncs a loop may have.
+pub const MAX_ASYNCS: usize = 16;
+
+/// How many work requests of a loop may be open at a time. Each has a slot below this.
+pub const MAX_REQUESTS: usize = 32;
+
+/// How many numbers a callback may emit.
+pub const MAX_EMITS: usize = 64;
+
+/// How many loops may share workers.
+pub const MAX_LOOPS: u32 = 8;
+
+/// How many workers loops may share.
+pub const MAX_WORKERS: u32 = 16;
+
+/// How many jobs may wait for a worker.
+pub const MAX_JOBS: usize = 256;
+
+/// How many replies may wait for their loop.
+pub const MAX_REPLIES: usize = 64;
+
+/// How many sends to asyncs one seat has.
+pub const MAX_SENDS: u64 = 4_294_967_296;
+
+/// How many seats may send to the asyncs of a loop.
+pub const MAX_SEND_SEATS: usize = 64;
+
+/// How many callbacks of a loop are run in threads before it is told `limit`.
+pub const MAX_CALLBACKS: u32 = 100_000;
+
+/// How many modules a script may name.
+pub const MAX_SCRIPT_MODULES: usize = 8;
+
+/// How many steps a script may have.
+pub const MAX_SCRIPT_STEPS: usize = 65_536;
+
+/// How many bytes of a script are read.
+pub const MAX_SCRIPT_BYTES: usize = 67_108_864;

@@ -9,7 +9,8 @@ ghost use Rattle.phases.specs.Fitting.{has_duty, IsKept};
 ghost use Rattle.phases.specs.Step.{is_as_listed, handle_function};
 
 use arrayvec::ArrayVec;
-use handles::{Handles, Kind, List, MAX_HANDLES, Record};
+use handles::{Handles, Kind, List, Record};
+use limits::MAX_HANDLES;
 use order::answers::{INVALID, NO_ROOM, NONE_LEFT};
 use std::alloc::{AllocError, Global};
 use std::marker::Model;

@@ -3,6 +3,7 @@ use Rattle.std.proofs.Common.{◌≡◌, ℕ, ◌+◌, ◌*◌, ◌<◌, ◌≤�
 use Rattle.std.proofs.Math.Nat.{lt_of_not-le}
 use mathlib.Core.Option.{some}
 use lib.ListN.{get_elem?}
+use Rattle.limits.specs.declared.TheConstants.{MAX_REQUESTS, MAX_LOOPS}
 use Rattle.claims.specs.declared.rule.View.{View}
 use Rattle.claims.specs.Views.{last_in}
 use Rattle.claims.specs.Rule.{IsWorker, with_worker, spent, seat_of, maker_of, next_maker, next_seat, place, of_loop, IsKept, IsClaimed}
@@ -14,7 +15,7 @@ no_last : (views : List View) (l slot : ℕ) → (of_loop views l).opened ≡ []
 no_last views l slot none = ap (λ cs. last_in slot cs) none
 
 -- a loop whose request can be started is there
-pub hit_there : {loops : ℕ} {words : List ℕ} {views : List View} → IsClaimed loops words views → (l slot r : ℕ) → l < 8 → slot < 32 → get_or words (place l slot) 0 ≡ 4 * r + 1 → l < loops
+pub hit_there : {loops : ℕ} {words : List ℕ} {views : List View} → IsClaimed loops words views → (l slot r : ℕ) → l < MAX_LOOPS → slot < MAX_REQUESTS → get_or words (place l slot) 0 ≡ 4 * r + 1 → l < loops
 hit_there {loops} {words} {views} claimed l slot r real low found =
     let facts = hit claimed.kept l slot r real low found in
     let last = facts.last in
@@ -23,10 +24,10 @@ hit_there {loops} {words} {views} claimed l slot r real low found =
 
 module _ {loops : ℕ} {words : List ℕ} {views : List View} (claimed : IsClaimed loops words views) (id : ℕ) (v : View) (at : get_elem? views id ≡ some v) where
   -- a step after which the seat has opened no more
-  pub still_claimed : {ws : List ℕ} (w : View) → w.opened ≡ v.opened → IsKept 8 ws (set views id w) → IsClaimed loops ws (set views id w)
+  pub still_claimed : {ws : List ℕ} (w : View) → w.opened ≡ v.opened → IsKept MAX_LOOPS ws (set views id w) → IsClaimed loops ws (set views id w)
   still_claimed w same kept = record { kept = kept; others = λ l far. part_set (λ u. u.opened) views id (l + 1) v w (seat_of 0) at same ∙ claimed.others l far }
 
-  pub opens_claimed : (l slot r : ℕ) → v.number ≡ l + 1 → l < loops → l < 8 → slot < 32 → 0 < r → All (λ c. c.1 < r) v.opened
+  pub opens_claimed : (l slot r : ℕ) → v.number ≡ l + 1 → l < loops → l < MAX_LOOPS → slot < MAX_REQUESTS → 0 < r → All (λ c. c.1 < r) v.opened
       → IsClaimed loops (set words (place l slot) (4 * r + 1)) (set views id (with_opened v (slot, r)))
   opens_claimed l slot r number there real low above rising =
       record {
@@ -59,5 +60,5 @@ module _ {loops : ℕ} {words : List ℕ} {views : List View} (claimed : IsClaim
       }
 
 -- the words at first
-pub begins_claimed : (loops : ℕ) → IsClaimed loops (replicate 256 0) (maker_of 1 ∷ [])
-begins_claimed loops = record { kept = begins 8; others = λ l far. no_list (λ u. u.opened) refl l }
+pub begins_claimed : (loops : ℕ) → IsClaimed loops (replicate (MAX_LOOPS * MAX_REQUESTS) 0) (maker_of 1 ∷ [])
+begins_claimed loops = record { kept = begins MAX_LOOPS; others = λ l far. no_list (λ u. u.opened) refl l }

@@ -1,6 +1,6 @@
 // What jobs are made of.
 ghost use Rattle.std.specs.Prelude.{◌≡◌, ◌<◌};
-ghost use Rattle.claims.specs.declared.claims.TheConstants.{MOST_LOOPS, SLOTS};
+ghost use Rattle.limits.specs.declared.TheConstants.{MAX_LOOPS, MAX_REQUESTS};
 ghost use Rattle.board.specs.Jobs.{ticket_of};
 ghost use Rattle.order.specs.Orders.{order_of};
 ghost use Rattle.phases.specs.Keeping.{CanRun};
@@ -37,7 +37,7 @@ impl Task {
     /// The order as a task.
     pub fn new(order: Order) -> Task
         requires runs { CanRun (order_of order) }
-        requires there { (order.loop_no < MOST_LOOPS) × (order.slot < SLOTS) }
+        requires there { (order.loop_no < MAX_LOOPS) × (order.slot < MAX_REQUESTS) }
         ensures { result ≡ order }
     {
         Task { order }
@@ -46,7 +46,7 @@ impl Task {
     /// The ticket of its request, whose loop is below 8 and whose slot is below 32.
     pub fn ticket(&self) -> Ticket
         ensures ticket { result ≡ ticket_of self.now }
-        ensures there { (result.loop_no < MOST_LOOPS) × (result.slot < SLOTS) }
+        ensures there { (result.loop_no < MAX_LOOPS) × (result.slot < MAX_REQUESTS) }
     {
         Ticket {
             loop_no: self.order.loop_no,

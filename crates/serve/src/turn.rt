@@ -2,7 +2,7 @@
 ghost use Rattle.std.specs.Prelude.{◌≡◌, ◌<◌, ◌≤◌, length, IfOk};
 ghost use Rattle.std.specs.Arc.{arc_value};
 ghost use Rattle.board.specs.Boards.{IsPassOf};
-ghost use Rattle.claims.specs.declared.claims.TheConstants.{MOST_LOOPS};
+ghost use Rattle.limits.specs.declared.TheConstants.{MAX_LOOPS};
 ghost use Rattle.marks.specs.Counts.{new_taker};
 ghost use Rattle.serve.specs.declared.served.TheConstants.{MOST_CALLBACKS};
 ghost use Rattle.serve.specs.Answers.{IsServed};
@@ -32,7 +32,7 @@ pub struct Turns<'a, J> {
     kept: Option<J>,
     ghost of_board: { IsPassOf board.now pass },
     ghost there: { loop_no < length board.now.replies },
-    ghost below: { loop_no < MOST_LOOPS },
+    ghost below: { loop_no < MAX_LOOPS },
     ghost numbered: { told.core.setting.loop_no ≡ loop_no },
 }
 

@@ -4,7 +4,8 @@ ghost use Rattle.board.specs.Boards.{IsPassOf};
 ghost use Rattle.claims.specs.Views.{new_loop_view};
 
 use board::{Board, JobBox, Pass};
-use claims::{Claims, LoopSeat, NewClaims, SLOTS, Ticket, WorkerSeat};
+use claims::{Claims, LoopSeat, NewClaims, Ticket, WorkerSeat};
+use limits::MAX_REQUESTS;
 use order::Reply;
 use pool::{Did, Gate, work_one, work_until_closed};
 use std::alloc::{AllocError, Global};
@@ -14,11 +15,11 @@ use std::test::Fail;
 // The ticket of the loop's request, in the slots in turn.
 pub fn ticket(request: u32) -> Ticket
     ensures request { (result.request ≡ request) × (result.loop_no ≡ 0) }
-    ensures slot { result.slot < 32 }
+    ensures slot { result.slot < MAX_REQUESTS }
 {
     Ticket {
         loop_no: 0,
-        slot: request % SLOTS,
+        slot: request % MAX_REQUESTS as u32,
         request,
     }
 }

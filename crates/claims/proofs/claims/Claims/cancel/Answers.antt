@@ -1,4 +1,5 @@
 use Rattle.std.proofs.Common.{◌≡◌, ◌+◌, ◌<◌, subst, sym, ap, ◌∙◌, arith}
+use Rattle.limits.specs.declared.TheConstants.{MAX_LOOPS}
 use Rattle.claims.proofs.Allowed.{cancels_at, tried, shows_found, shows_same}
 use Rattle.claims.proofs.claims.Claims.cancel.Goals as goal
 
@@ -10,7 +11,7 @@ compare_exchange-found-requires c =
     let own : i.seat.table_id ≡ c.self.inside.table.shared.table_id = ap (λ u. u.claims) c.seat.view_is ∙ c.requires.own ∙ sym (ap (λ u. u.id) c.self.view_is) in
     let low = c.requires.there.1 in
     let mine : c.args.ticket.loop_no ≡ i.loop_no = c.requires.there.0 ∙ sym (ap (λ u. u.loop_no) c.seat.view_is) in
-    let real : c.args.ticket.loop_no < 8 = subst (λ n. n < 8) (sym mine) known.2 in
+    let real : c.args.ticket.loop_no < MAX_LOOPS = subst (λ n. n < MAX_LOOPS) (sym mine) known.2 in
     let place = c.word_index-word.ensures in (
       own,
       omega (arith, size, real, low, place),

@@ -3,7 +3,8 @@ ghost use Rattle.std.specs.Prelude.{◌≡◌, ◌+◌, ◌≤◌, ◌<◌, [], 
 ghost use Rattle.std.specs.Thread.{IsSync};
 ghost use Rattle.marks.specs.Counts.{none_counted, new_sender, new_taker};
 
-use marks::{ASYNCS, Marks, SEND_SEATS, SENDS_OF_A_SEAT, SendSeat, SendsUsedUp, TakeSeat};
+use limits::{MAX_ASYNCS, MAX_SEND_SEATS, MAX_SENDS};
+use marks::{Marks, SendSeat, SendsUsedUp, TakeSeat};
 use std::alloc::{AllocError, Global};
 use std::test::Fail;
 use std::thread::{Threads, join, yield_now};
@@ -56,7 +57,7 @@ fn a_joined_seats_sends_are_taken(rt: HostRuntime) -> Result<(), Fail> {
 
 // Sends by the loop itself, so often to this async.
 fn send_own_times(marks: &Marks, taker: &mut TakeSeat, async_no: u32, times: u32)
-    requires { (taker.old.marks ≡ marks.now) × (async_no < ASYNCS) }
+    requires { (taker.old.marks ≡ marks.now) × (async_no < MAX_ASYNCS) }
     ensures { taker.new.marks ≡ marks.now }
 {
     for _ in 0..times {
@@ -67,10 +68,10 @@ fn send_own_times(marks: &Marks, taker: &mut TakeSeat, async_no: u32, times: u32
 #[test]
 fn each_async_counts_by_itself(rt: HostRuntime) -> Result<(), Fail> {
     let (marks, mut taker, _seats) = Marks::new(rt.alloc(), 0)?;
-    for async_no in 0..ASYNCS as u32 {
+    for async_no in 0..MAX_ASYNCS as u32 {
         send_own_times(&marks, &mut taker, async_no, async_no + 1);
     }
-    for async_no in 0..ASYNCS as u32 {
+    for async_no in 0..MAX_ASYNCS as u32 {
         assert_eq!(rt; marks.take(&mut taker, async_no), u64::from(async_no) + 1);
         assert_eq!(rt; marks.take(&mut taker, async_no), 0);
     }
@@ -79,7 +80,7 @@ fn each_async_counts_by_itself(rt: HostRuntime) -> Result<(), Fail> {
 
 #[test]
 fn all_send_seats_send_and_join(rt: HostRuntime) -> Result<(), Fail> {
-    let (marks, mut taker, mut seats) = Marks::new(rt.alloc(), SEND_SEATS)?;
+    let (marks, mut taker, mut seats) = Marks::new(rt.alloc(), MAX_SEND_SEATS)?;
     while let Some(mut seat) = seats.pop() {
         assert_eq!(rt; marks.send(&mut seat, 15), Ok(()));
         marks.join(&mut taker, seat);
@@ -217,7 +218,7 @@ fn three_threads_sends_are_taken_once(rt: HostRuntime) -> Result<(), Fail> {
 #[test]
 fn limits_and_their_text(rt: HostRuntime) -> Result<(), Fail> {
     assert_eq!(rt;
-        (ASYNCS, SEND_SEATS, SENDS_OF_A_SEAT),
+        (MAX_ASYNCS, MAX_SEND_SEATS, MAX_SENDS),
         (16, 64, 4_294_967_296)
     );
     let text = format!(in rt.alloc(); "{SendsUsedUp}")?;

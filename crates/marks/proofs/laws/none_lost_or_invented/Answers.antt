@@ -1,5 +1,5 @@
 use Rattle.std.proofs.Common.{◌≡◌, ◌+◌, ◌*◌, ◌≤◌, slice_index, sum_by, arith}
-use Rattle.marks.specs.declared.TheConstants.{SEND_SEATS, SENDS_OF_A_SEAT}
+use Rattle.limits.specs.declared.TheConstants.{MAX_SEND_SEATS, MAX_SENDS}
 use Rattle.marks.specs.Rule.{sent, taken_from}
 use Rattle.marks.specs.Laws.{Always, SentIsTakenOrWaits, EachIsCounted, WordsFit}
 use Rattle.marks.proofs.Moves.{at-le-sum_by, sent-within}
@@ -14,7 +14,7 @@ each words views kept a seat v at =
 fit : Always WordsFit
 fit words views kept a =
     let all : sum_by (sent a) views ≡ taken_from a views + slice_index words a = kept.sends a in
-    let most : sum_by (sent a) views ≤ (SEND_SEATS + 1) * SENDS_OF_A_SEAT = sent-within words views kept a in
+    let most : sum_by (sent a) views ≤ (MAX_SEND_SEATS + 1) * MAX_SENDS = sent-within words views kept a in
     omega arith
 
 pub returns : goal.returns

@@ -1,6 +1,6 @@
 use Rattle.std.proofs.Common.{◌≡◌, ◌≤◌, [], length}
 use Rattle.std.specs.Prelude.{slice_index}
-use Rattle.marks.specs.declared.TheConstants.{ASYNCS}
+use Rattle.limits.specs.declared.TheConstants.{MAX_ASYNCS}
 use Rattle.marks.specs.Counts.{none_counted}
 use Rattle.shared_suite.proofs.marking.take_turns.Given as goal
 
@@ -10,7 +10,7 @@ invariant-loop l = record {
   own : l.taker.own ≡ none_counted;
   joined : l.taker.joined ≡ [];
   apart : l.taker.apart ≡ 3;
-  sized : length l.taker.taken ≡ ASYNCS;
+  sized : length l.taker.taken ≡ MAX_ASYNCS;
   sum : slice_index l.taker.taken 0 ≡ l.sum;
   callbacks : l.callbacks ≤ l.sum;
 }

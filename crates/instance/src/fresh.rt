@@ -1,8 +1,8 @@
 // What a new instance holds (WebAssembly Core 1.0, 4.5.4).
 
-ghost use Rattle.std.specs.Prelude.{◌≡◌, ◌+◌, ◌*◌, ◌≤◌, length, map, All, Some, IfOk};
+ghost use Rattle.std.specs.Prelude.{◌≡◌, ◌+◌, ◌*◌, ◌≤◌, length, All, Some, IfOk};
 ghost use Rattle.syntax.specs.declared.types.ValType.TheVariants.{I32};
-ghost use Rattle.validate.specs.Segments.{ElementFits, DataFits, offset_in, minimum};
+ghost use Rattle.validate.specs.Segments.{ElementFits, DataFits, offset_in};
 ghost use Rattle.validate.specs.Valid.{IsConstant, ValidModule};
 ghost use Rattle.instance.specs.Store.{page_limit};
 ghost use Rattle.instance.specs.Reads.{with_bytes};

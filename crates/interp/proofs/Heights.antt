@@ -17,7 +17,7 @@ use Rattle.syntax.specs.Code.{Code, Done, Plain, Block, Loop, If}
 use Rattle.validate.specs.Stack.{pushed}
 use Rattle.validate.specs.Typing.{Context, inside, type_of, Turns, ConversionTurns, HasFunctionType, InstrTyped, Typed, type_of_function}
 use Rattle.validate.specs.Height.{Effect, Changes, Ends, effect_of, after_effect, greatest_height, nesting}
-use Rattle.interp.specs.Heights.{Fits, counts, Follows, Counted}
+use Rattle.interp.specs.Scaffold.Heights.{Fits, counts, Follows, Counted}
 use Rattle.interp.proofs.Lists.{length-pushed}
 
 -- by how many operands a branch to each label takes along

@@ -14,7 +14,7 @@ use Rattle.interp.specs.Configuration.{Context, Label, Frame, frames, locals_of,
 use Rattle.interp.specs.Step.{Move, Goes, Traps, Calls, Stuck, Turn, Leaves, Fails, Lacks, turn, turned, plain, at_code, next, on_contexts, label_for, takes_topmost, call_typed, left_with, call_element, entering, block, loop, chosen}
 use Rattle.validate.specs.SameTypes.{same_type}
 use Rattle.interp.specs.Run.{as_operands}
-use Rattle.interp.specs.HeightsOfRuns.{Arrives, here, goes, calls, asks, IsReached}
+use Rattle.interp.specs.Scaffold.HeightsOfRuns.{Arrives, here, goes, calls, asks, IsReached}
 
 -- a step leads to so many calls at most
 abbrev pub Opens : (most : ℕ) → Move → Type 0

@@ -18,8 +18,8 @@ use Rattle.instance.specs.Store.{Store as Memory_and_globals}
 use Rattle.interp.specs.Configuration.{Context, Label, Frame, locals_of, with_locals, going_on, receiving, continuing, branched, returned}
 use Rattle.interp.specs.Step.{Move, Goes, Traps, Calls, Stuck, Turn, Leaves, Fails, Lacks, turn, turned, plain, at_code, next, on_contexts, label_for, takes_topmost, call_typed, left_with, call_element, entering, chosen}
 use Rattle.validate.specs.SameTypes.{same_valtype, same_valtypes, same_type}
-use Rattle.interp.specs.Typed.{code_of, operands_of}
-use Rattle.interp.specs.Heights.{Fits, tests, counts, Follows, Counted, labels_of, height_of, base_of, Beneath, IsWithin}
+use Rattle.interp.specs.Scaffold.Typed.{code_of, operands_of}
+use Rattle.interp.specs.Scaffold.Heights.{Fits, tests, counts, Follows, Counted, labels_of, height_of, base_of, Beneath, IsWithin}
 use Rattle.interp.proofs.HeightsOfTurns.{Counts, turn_counts}
 
 -- what a step leads to is within the limits

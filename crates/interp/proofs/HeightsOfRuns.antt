@@ -13,13 +13,12 @@ use Rattle.validate.specs.Stack.{pushed}
 use Rattle.validate.specs.Typing.{type_of, HasFunctionType, function_types, type_of_function}
 use Rattle.validate.specs.Valid.{ValidModule, ValidFunc, body_context}
 use Rattle.instance.specs.Store.{Store, value_of}
-use Rattle.interp.specs.Configuration.{Context, Frame, entered, receiving}
+use Rattle.interp.specs.Configuration.{Context, Frame, entered, receiving, types_of}
 use Rattle.interp.specs.Step.{Move, Calls, next}
 use Rattle.interp.specs.Run.{as_operands, IsDefined}
 use Rattle.interp.specs.Hosting.{Answers}
-use Rattle.interp.specs.Typed.{types_of}
-use Rattle.interp.specs.Heights.{Counted, Beneath, IsWithin}
-use Rattle.interp.specs.HeightsOfRuns.{Arrives, here, goes, calls, asks, IsReached}
+use Rattle.interp.specs.Scaffold.Heights.{Counted, Beneath, IsWithin}
+use Rattle.interp.specs.Scaffold.HeightsOfRuns.{Arrives, here, goes, calls, asks, IsReached}
 use Rattle.interp.proofs.Lists.{length-pushed}
 use Rattle.interp.proofs.Entering.{valid_function, defined_type}
 use Rattle.interp.proofs.Heights.{counted}

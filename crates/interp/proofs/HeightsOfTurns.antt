@@ -15,7 +15,7 @@ use Rattle.validate.specs.Height.{Effect, Changes, Ends}
 use Rattle.instance.specs.Store.{Store as Memory_and_globals}
 use Rattle.interp.specs.Operators.{Computed, Number, TrapOf, converted}
 use Rattle.interp.specs.Step.{Turn, Leaves, Fails, Lacks, turn, giving, loaded, stored, computed}
-use Rattle.interp.specs.Heights.{counts}
+use Rattle.interp.specs.Scaffold.Heights.{counts}
 
 -- the operands behind an effect
 abbrev pub Adds : Effect → (before after : ℕ) → Type 0

@@ -11,12 +11,12 @@ use Rattle.validate.specs.Typing.{type_of, HasFunctionType, type_of_function}
 use Rattle.validate.specs.Valid.{ValidModule}
 use Rattle.instance.specs.Store.{Store}
 use Rattle.instance.specs.Storing.{HaveGlobalTypes}
-use Rattle.interp.specs.Configuration.{Context, entered, frames, receiving}
+use Rattle.interp.specs.Configuration.{Context, entered, frames, receiving, types_of}
 use Rattle.interp.specs.Step.{Move, Goes, Traps, Calls, Ends, Stuck, next}
 use Rattle.interp.specs.Run.{IsDefined}
-use Rattle.interp.specs.Typed.{types_of, Sound}
-use Rattle.interp.specs.Heights.{IsWithin}
-use Rattle.interp.specs.HeightsTyped.{Bounded, AwaitsWithin, SoundWithin}
+use Rattle.interp.specs.Scaffold.Typed.{Sound}
+use Rattle.interp.specs.Scaffold.Heights.{IsWithin}
+use Rattle.interp.specs.Scaffold.HeightsTyped.{Bounded, AwaitsWithin, SoundWithin}
 use Rattle.interp.proofs.Lists.{length-pushed}
 use Rattle.interp.proofs.Soundness.{sound}
 use Rattle.interp.proofs.Entering.{enters_call, starts_call, answers_call}

@@ -3,9 +3,9 @@ use Rattle.std.proofs.Common.{ℕ, suc, ◌+◌, ◌*◌, ◌≤◌, List, [], �
 use Rattle.syntax.specs.declared.contents.Contents.{Contents}
 use Rattle.syntax.specs.Code.{Code, Done, Plain, Block, Loop, If}
 use Rattle.interp.specs.Configuration.{Context, Label, Frame, frames}
-use Rattle.interp.specs.Typed.{code_of, operands_of}
-use Rattle.interp.specs.Heights.{Fits, Counted, labels_of, height_of, base_of, GoesOn, Beneath, IsWithin}
-use Rattle.interp.specs.HeightsOfRuns.{all_operands, all_locals}
+use Rattle.interp.specs.Scaffold.Typed.{code_of, operands_of}
+use Rattle.interp.specs.Scaffold.Heights.{Fits, Counted, labels_of, height_of, base_of, GoesOn, Beneath, IsWithin}
+use Rattle.interp.specs.Scaffold.HeightsOfRuns.{all_operands, all_locals}
 use Rattle.interp.proofs.HeightsKept.{height-parts}
 
 fits_of : (m : Contents) (labels : List ℕ) (base before after : ℕ) (code : Code) → Counted m labels base before after code → Fits labels base before

@@ -11,7 +11,7 @@ use Rattle.instance.specs.Storing.{IsStoreOf}
 use Rattle.interp.specs.declared.ended.Ending.TheVariants.{Return}
 use Rattle.interp.specs.Run.{HostCall, IsImported, as_operands}
 use Rattle.interp.specs.Hosting.{Names, Takes, Answers}
-use Rattle.interp.specs.Typed.{types_of}
+use Rattle.interp.specs.Configuration.{types_of}
 use Rattle.interp.specs.Invoking.{imported, TakesArguments, Invoked}
 use Rattle.interp.proofs.Lists.{in_order}
 use Rattle.interp.proofs.Stores.{with_memory_of}

@@ -17,10 +17,10 @@ use Rattle.validate.specs.Targets.{Tells}
 use Rattle.instance.specs.Store.{Store}
 use Rattle.interp.specs.Configuration.{Context, Label, Frame, locals_of, continuing, branched}
 use Rattle.interp.specs.Step.{Goes, next, plain, on_contexts, label_for}
-use Rattle.interp.specs.Typed.{operands_of}
-use Rattle.interp.specs.Heights.{height_of}
-use Rattle.interp.specs.HeightsOfRuns.{all_operands}
-use Rattle.interp.specs.Places.{Body, Place, Over, IsPlaced, Cuts, BranchesTo, call_of}
+use Rattle.interp.specs.Scaffold.Typed.{operands_of}
+use Rattle.interp.specs.Scaffold.Heights.{height_of}
+use Rattle.interp.specs.Scaffold.HeightsOfRuns.{all_operands}
+use Rattle.interp.specs.Scaffold.Places.{Body, Place, Over, IsPlaced, Cuts, BranchesTo, call_of}
 use Rattle.interp.proofs.HeightsKept.{at_least, height-parts}
 use Rattle.interp.proofs.PlacesKept.{listed, continues}
 

@@ -11,8 +11,8 @@ use Rattle.validate.specs.Height.{Effect, Changes, Ends, effect_of, after_effect
 use Rattle.validate.specs.declared.side_table.Target.{Target}
 use Rattle.validate.specs.Targets.{size, Agrees}
 use Rattle.validate.specs.Writing.{target}
-use Rattle.interp.specs.Heights.{counts, Follows}
-use Rattle.interp.specs.Places.{Body, keeps, ClosesTo, Guided}
+use Rattle.interp.specs.Scaffold.Heights.{counts, Follows}
+use Rattle.interp.specs.Scaffold.Places.{Body, keeps, ClosesTo, Guided}
 use Rattle.interp.proofs.Lists.{length-pushed}
 use Rattle.interp.proofs.Heights.{Agrees as SameEffect, agrees, arities}
 

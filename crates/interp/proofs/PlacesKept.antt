@@ -21,9 +21,9 @@ use Rattle.syntax.specs.declared.types.BlockType.{BlockType}
 use Rattle.std.proofs.lemmas.Option.{slice_get_past}
 use Rattle.interp.specs.Step.{block, Goes, Traps, Stuck, Turn, Leaves, Fails, Lacks, turn, turned, plain, at_code, next, on_contexts, label_for, takes_topmost, call_typed, left_with, call_element, entering, chosen}
 use Rattle.validate.specs.SameTypes.{same_valtypes, same_type}
-use Rattle.interp.specs.Typed.{code_of, operands_of}
-use Rattle.interp.specs.Heights.{counts, Follows, height_of}
-use Rattle.interp.specs.Places.{Body, Place, keeps, ClosesTo, Guided, GoesOn, Over, IsPlaced, jumped, stepped, Leads}
+use Rattle.interp.specs.Scaffold.Typed.{code_of, operands_of}
+use Rattle.interp.specs.Scaffold.Heights.{counts, Follows, height_of}
+use Rattle.interp.specs.Scaffold.Places.{Body, Place, keeps, ClosesTo, Guided, GoesOn, Over, IsPlaced, jumped, stepped, Leads}
 use Rattle.interp.proofs.HeightsOfTurns.{Counts, turn_counts}
 use Rattle.interp.proofs.HeightsKept.{at_least, both_true, same_lengths, with_locals-height, tested}
 

@@ -16,12 +16,12 @@ use Rattle.validate.specs.declared.side_table.Target.{Target}
 use Rattle.validate.specs.Targets.{size}
 use Rattle.instance.specs.Store.{Store, value_of}
 use Rattle.validate.proofs.Tables.{length-operations}
-use Rattle.interp.specs.Configuration.{Context, Frame, entered, receiving}
+use Rattle.interp.specs.Configuration.{Context, Frame, entered, receiving, types_of}
 use Rattle.interp.specs.Step.{Move, Calls, next}
 use Rattle.interp.specs.Run.{as_operands, IsDefined}
-use Rattle.interp.specs.Typed.{types_of, operands_of}
-use Rattle.interp.specs.HeightsOfRuns.{Arrives, here, goes, calls, asks, IsReached}
-use Rattle.interp.specs.Places.{Body, Place, Guided, Over, IsPlaced, AreBodies, stepped, ArePlaced, Leads}
+use Rattle.interp.specs.Scaffold.Typed.{operands_of}
+use Rattle.interp.specs.Scaffold.HeightsOfRuns.{Arrives, here, goes, calls, asks, IsReached}
+use Rattle.interp.specs.Scaffold.Places.{Body, Place, Guided, Over, IsPlaced, AreBodies, stepped, ArePlaced, Leads}
 use Rattle.interp.proofs.Lists.{length-pushed}
 use Rattle.interp.proofs.Entering.{valid_function, body_typed}
 use Rattle.interp.proofs.HeightsOfRuns.{same_type}

@@ -16,10 +16,10 @@ use Rattle.interp.specs.Configuration.{Context, Label, Frame, locals_of, with_lo
 use Rattle.interp.specs.Step.{Goes, Traps, Stuck, Turn, Leaves, Fails, Lacks, turn, turned, plain, at_code, next, on_contexts, label_for, takes_topmost, call_typed, call_element, entering, block, loop, chosen}
 use Rattle.validate.specs.SameTypes.{same_type}
 use Rattle.validate.specs.declared.side_table.Target.{Target}
-use Rattle.interp.specs.Typed.{operands_of}
-use Rattle.interp.specs.Heights.{height_of, base_of}
-use Rattle.interp.specs.HeightsOfRuns.{all_operands}
-use Rattle.interp.specs.Places.{Cuts, call_of, StaysIn, cut}
+use Rattle.interp.specs.Scaffold.Typed.{operands_of}
+use Rattle.interp.specs.Scaffold.Heights.{height_of, base_of}
+use Rattle.interp.specs.Scaffold.HeightsOfRuns.{all_operands}
+use Rattle.interp.specs.Scaffold.Places.{Cuts, call_of, StaysIn, cut}
 use Rattle.interp.proofs.HeightsKept.{height-parts}
 
 -- the operands are those of the innermost call and those beneath it

@@ -19,11 +19,10 @@ use Rattle.validate.specs.Segments.{minimum, page_size, number_in}
 use Rattle.validate.specs.Typing.{HasFunctionType, block_type, bytes_of_type, bytes_of_width, type_of_function}
 use Rattle.instance.specs.Store.{Store as Stored, page_limit, pages, grown, with_memory, bytes_at, written_at, bytes_of}
 use Rattle.interp.specs.Operators.{Computed, Number, TrapOf, binary, converted}
-use Rattle.interp.specs.Configuration.{Context, Label, Frame, locals_of, branched, returned}
+use Rattle.interp.specs.Configuration.{Context, Label, Frame, locals_of, branched, returned, types_of}
 use Rattle.interp.specs.Step.{Move, Goes, Traps, Calls, Ends, Stuck, Turn, Leaves, Fails, Lacks, turn, turned, plain, at_code, next, branch_if, on_contexts, label_for, takes_topmost, call_typed, call_element, entering, block, loop, chosen, giving, loaded, stored, computed, is_of, alike, replaces}
 use Rattle.validate.specs.SameTypes.{same_type}
-use Rattle.interp.specs.Typed.{types_of}
-use Rattle.interp.specs.HeightsTyped.{Bounded, AwaitsWithin, SoundWithin}
+use Rattle.interp.specs.Scaffold.HeightsTyped.{Bounded, AwaitsWithin, SoundWithin}
 use Rattle.instance.specs.Storing.{NamesFunction, HasPages, IsStoreOf}
 use Rattle.interp.proofs.HeightsSound.{sound_within}
 use Rattle.std.specs.Prelude.{All}

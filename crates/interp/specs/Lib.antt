@@ -3,14 +3,8 @@ pub mod Traps
 pub mod Configuration
 pub mod Step
 pub mod Run
-pub mod Typed
-pub mod Heights
-pub mod HeightsOfRuns
-pub mod HeightsTyped
-pub mod Places
-pub mod Plainly
 pub mod Running
 pub mod Hosting
 pub mod Invoking
-pub mod Bodies
+pub mod Scaffold
 pub mod Slots

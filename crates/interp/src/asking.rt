@@ -9,8 +9,9 @@ ghost use Rattle.interp.specs.Slots.HostAsked.{CanAsk, Asks};
 
 use crate::host::{Args, Host};
 use crate::reading::{number_of, read};
-use engine::at::At;
+use engine::At;
 use instance::state::State;
+use limits::MAX_HEIGHT;
 use syntax::contents::Contents;
 use syntax::types::Value;
 use validate::type_of_function;
@@ -41,7 +42,7 @@ pub fn ask_host<H: Host>(
     at: At,
     import: usize,
     height: usize,
-    values: &mut [Value; 256],
+    values: &mut [Value; MAX_HEIGHT],
 ) -> At
     requires can { CanAsk contents.now import height (length slots.old) }
     requires names { Names contents.now (H.types host.old) }

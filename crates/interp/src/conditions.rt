@@ -2,7 +2,7 @@
 
 ghost use Rattle.std.specs.Prelude.{◌≡◌, IsTrue, ◌↔◌};
 ghost use Rattle.validate.specs.Typing.{type_of};
-ghost use Rattle.interp.specs.Typed.{types_of};
+ghost use Rattle.interp.specs.Configuration.{types_of};
 ghost use Rattle.interp.specs.Invoking.{TakesArguments};
 
 use syntax::types::{ValType, Value};

@@ -13,9 +13,10 @@ use crate::host::{Args, Host};
 use crate::opening::open;
 use crate::over_host::run_over_host;
 use crate::values::Values;
-use engine::program::Program;
+use engine::Program;
 use instance::stack::{Frame, Slots};
 use instance::state::{Instance, State};
+use limits::MAX_DEPTH;
 use syntax::contents::Contents;
 use syntax::types::Value;
 use validate::{SideTable, Valid, type_of_function};
@@ -75,7 +76,7 @@ fn invoke_defined<H: Host>(
     requires names { Names contents.now (H.types host.old) }
     requires typed { TakesArguments contents.now function args.now }
     requires defined { length contents.now.imports ≤ function }
-    requires deep { length frames.old + 1 ≤ 128 }
+    requires deep { length frames.old + 1 ≤ MAX_DEPTH }
     ensures runs { Invoked contents.now (length frames.old + 1) fuel H.moves state.old host.old function args.now result state.new host.new }
     ensures within { result.used ≤ fuel }
     ensures results { ReturnsTyped contents.now function result.ending }
@@ -115,7 +116,7 @@ pub fn invoke<H: Host>(
     requires store { IsStoreOf valid.now.contents instance.old }
     requires names { Names valid.now.contents (H.types host.old) }
     requires typed { TakesArguments valid.now.contents function args.now }
-    requires depth { (1 ≤ depth) × (depth ≤ 128) }
+    requires depth { (1 ≤ depth) × (depth ≤ MAX_DEPTH) }
     ensures runs { Invoked valid.now.contents depth fuel H.moves instance.old host.old function args.now result instance.new host.new }
     ensures within { result.used ≤ fuel }
     ensures results { ReturnsTyped valid.now.contents function result.ending }

@@ -1,6 +1,7 @@
 // Laws over runs.
 
 ghost use Rattle.std.specs.Prelude.{◌≡◌, ℕ, ◌*◌, ◌<◌, ◌≤◌, List, [], length};
+ghost use Rattle.limits.specs.declared.TheConstants.{MAX_HEIGHT, MAX_LOCALS, MAX_NESTING};
 ghost use Rattle.syntax.specs.declared.types.Value.{Value};
 ghost use Rattle.syntax.specs.declared.types.ValType.{ValType};
 ghost use Rattle.syntax.specs.declared.contents.Contents.{Contents};
@@ -9,24 +10,23 @@ ghost use Rattle.syntax.specs.declared.contents.Func.{Func};
 ghost use Rattle.validate.specs.Stack.{pushed};
 ghost use Rattle.validate.specs.Valid.{ValidModule};
 ghost use Rattle.instance.specs.Store.{Store};
-ghost use Rattle.interp.specs.Configuration.{Context, entered, frames, receiving};
+ghost use Rattle.interp.specs.Configuration.{Context, entered, frames, receiving, types_of};
 ghost use Rattle.interp.specs.Step.{next};
 ghost use Rattle.interp.specs.Run.{HostCall, Outcome, IsDefined, RunsWithin};
 ghost use Rattle.interp.specs.Hosting.{Lawful, IsDetermined};
 ghost use Rattle.interp.specs.Invoking.{Invokes, Invoked};
 ghost use Rattle.interp.specs.declared.ended.Ended.{Ended};
 ghost use Rattle.instance.specs.Storing.{HaveGlobalTypes};
-ghost use Rattle.interp.specs.Typed.{types_of};
-ghost use Rattle.interp.specs.HeightsTyped.{Bounded, AwaitsWithin, SoundWithin};
-ghost use Rattle.interp.specs.HeightsOfRuns.{IsReached, all_operands, all_locals};
-ghost use Rattle.std.specs.Prelude.{zero, suc, ◌+◌, ◌∷◌, min, Some, slice_get};
+ghost use Rattle.interp.specs.Scaffold.HeightsTyped.{Bounded, AwaitsWithin, SoundWithin};
+ghost use Rattle.interp.specs.Scaffold.HeightsOfRuns.{IsReached, all_operands, all_locals};
+ghost use Rattle.std.specs.Prelude.{suc, ◌+◌, ◌∷◌, min, Some, slice_get};
 ghost use Rattle.syntax.specs.declared.types.Value.TheVariants.{I32};
 ghost use Rattle.syntax.specs.declared.instruction.Operation.TheVariants as op;
 ghost use Rattle.syntax.specs.declared.instruction.Instr.TheVariants as instr;
 ghost use Rattle.validate.specs.declared.side_table.Target.{Target};
 ghost use Rattle.interp.specs.Step.{Goes};
-ghost use Rattle.interp.specs.Typed.{operands_of};
-ghost use Rattle.interp.specs.Places.{Body, Place, AreBodies, IsPlaced, stepped, ArePlaced, Leads, Cuts, BranchesTo, call_of, StaysIn, cut};
+ghost use Rattle.interp.specs.Scaffold.Typed.{operands_of};
+ghost use Rattle.interp.specs.Scaffold.Places.{Body, Place, AreBodies, IsPlaced, stepped, ArePlaced, Leads, Cuts, BranchesTo, call_of, StaysIn, cut};
 ghost use Rattle.interp.specs.Configuration.{Label};
 ghost use Rattle.std.specs.Prelude.{◌++◌, drop};
 ghost use Rattle.syntax.specs.Code.{Code};
@@ -35,14 +35,14 @@ use crate::host::Host;
 
 /// A law, with nothing to run: how much can stand open at once. Whatever a call of a function of a valid module comes
 /// to, where the host answers with values of its imports' types, at most `depth` calls are open, and for each of them
-/// at most 256 operands, 258 contexts (its frame, the label of its body and those of 256 blocks in one another) and
-/// 256 locals, its parameters among them. These are the limits on the height, the nesting and the locals of one body;
-/// the operands, contexts and locals of all calls are counted together.
+/// at most `MAX_HEIGHT` operands, `MAX_NESTING + 2` contexts (its frame, the label of its body and those of its blocks in
+/// one another) and `MAX_LOCALS` locals, its parameters among them. These are the limits on the height, the nesting and
+/// the locals of one body; the operands, contexts and locals of all calls are counted together.
 pub fn reached_contexts_are_bounded()
     ensures calls { (m : Contents) (depth : ℕ) (contexts : List Context) → 0 < depth → IsReached m depth contexts → frames contexts ≤ depth }
-    ensures operands { (m : Contents) (depth : ℕ) (contexts : List Context) → ValidModule m → IsReached m depth contexts → length (all_operands contexts) ≤ 256 * frames contexts }
-    ensures contexts { (m : Contents) (depth : ℕ) (contexts : List Context) → ValidModule m → IsReached m depth contexts → length contexts ≤ 258 * frames contexts }
-    ensures locals { (m : Contents) (depth : ℕ) (contexts : List Context) → ValidModule m → IsReached m depth contexts → length (all_locals contexts) ≤ 256 * frames contexts }
+    ensures operands { (m : Contents) (depth : ℕ) (contexts : List Context) → ValidModule m → IsReached m depth contexts → length (all_operands contexts) ≤ MAX_HEIGHT * frames contexts }
+    ensures contexts { (m : Contents) (depth : ℕ) (contexts : List Context) → ValidModule m → IsReached m depth contexts → length contexts ≤ (MAX_NESTING + 2) * frames contexts }
+    ensures locals { (m : Contents) (depth : ℕ) (contexts : List Context) → ValidModule m → IsReached m depth contexts → length (all_locals contexts) ≤ MAX_LOCALS * frames contexts }
 {}
 
 /// A law, with nothing to run: type soundness (WebAssembly Core 1.0, appendix, soundness), with the limits of bodies.

@@ -5,14 +5,14 @@ ghost use Rattle.interp.specs.Slots.Holding.{AreSmall, erased};
 ghost use Rattle.interp.specs.Slots.CallsBegun.{CanOpen, Opened};
 
 use crate::reading::number_of;
-use engine::at::At;
-use engine::calls::zero;
+use engine::{At, zero};
 use instance::stack::Slots;
+use limits::{MAX_HEIGHT, MAX_LOCALS};
 use syntax::contents::Contents;
 use syntax::types::Value;
 
 /// How many slots there are from the first call on: enough for every function called from outside.
-const FIRST_SLOTS: usize = 512;
+const FIRST_SLOTS: usize = MAX_LOCALS + MAX_HEIGHT;
 
 /// Lays arguments in the lowest slots.
 fn lay_arguments(slots: &mut [u64], args: &[Value])

@@ -7,7 +7,7 @@ ghost use Rattle.engine.specs.Slots.{number};
 ghost use Rattle.engine.specs.Reading.{IsSmall};
 ghost use Rattle.interp.specs.Slots.ValuesRead.{typed_values};
 
-use engine::numbers::low;
+use engine::low;
 use syntax::types::{ValType, Value};
 
 /// The number of a value, an i32 in the lower half.

@@ -2,37 +2,36 @@
 
 ghost use Rattle.std.specs.Prelude.{◌≡◌, ◌≤◌, length, slice_get};
 
+use limits::MAX_RESULTS;
 use std::marker::Model;
 use syntax::types::Value;
 
-/// How many results a function may have.
-const MOST_RESULTS: usize = 16;
-
-/// The results of a call, the first first: 0 to 16 values.
+/// The results of a call, the first first: 0 to `MAX_RESULTS` values.
 #[derive(Debug, Drop)]
 pub struct Values {
-    items: [Value; 16],
+    items: [Value; MAX_RESULTS],
     count: usize,
 }
 
 impl Model for Values {
     ghost use Rattle.std.specs.Prelude.{List, take, ◌≤◌};
+    ghost use Rattle.limits.specs.declared.TheConstants.{MAX_RESULTS};
     ghost use Rattle.syntax.specs.declared.types.Value.{Value as Item};
 
     ghost Value = { List Item };
 
     ghost view = { λ v. take v.count v.items };
 
-    ghost invariant = { λ v. v.count ≤ 16 };
+    ghost invariant = { λ v. v.count ≤ MAX_RESULTS };
 }
 
 impl Values {
     /// These values.
     pub fn from_slice(values: &[Value]) -> Values
-        requires { length values.now ≤ 16 }
+        requires { length values.now ≤ MAX_RESULTS }
         ensures { result ≡ values.now }
     {
-        let mut items = [Value::I32(0); MOST_RESULTS];
+        let mut items = [Value::I32(0); MAX_RESULTS];
         let count = values.len();
         items[..count].copy_from_slice(values);
         Values { items, count }

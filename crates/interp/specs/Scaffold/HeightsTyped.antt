@@ -1,3 +1,4 @@
+-- No part of what a run means.
 -- Typed contexts within the limits of the bodies that they run.
 use Rattle.std.specs.Prelude.{◌≡◌, ℕ, ◌≤◌, List, [], length}
 use Rattle.syntax.specs.declared.types.ValType.{ValType}
@@ -5,10 +6,10 @@ use Rattle.syntax.specs.declared.contents.Contents.{Contents}
 use Rattle.syntax.specs.declared.contents.FuncType.{FuncType}
 use Rattle.validate.specs.Stack.{pushed}
 use Rattle.validate.specs.Typing.{HasFunctionType}
-use Rattle.interp.specs.Configuration.{Context, frames}
+use Rattle.interp.specs.Configuration.{Context, frames, types_of}
 use Rattle.interp.specs.Step.{Move, Goes, Traps, Calls, Ends, Stuck}
-use Rattle.interp.specs.Typed.{types_of, Awaits, Configured}
-use Rattle.interp.specs.Heights.{IsWithin}
+use Rattle.interp.specs.Scaffold.Typed.{Awaits, Configured}
+use Rattle.interp.specs.Scaffold.Heights.{IsWithin}
 use Rattle.instance.specs.Storing.{HaveGlobalTypes}
 
 -- the contexts are typed and within the limits, and so many calls are open at most

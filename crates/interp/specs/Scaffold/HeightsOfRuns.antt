@@ -1,3 +1,4 @@
+-- No part of what a run means.
 -- What a run comes to, and how many operands and locals there are.
 use Rattle.std.specs.Prelude.{◌≡◌, ℕ, ◌<◌, List, [], ◌∷◌, ◌++◌}
 use Rattle.syntax.specs.declared.types.Value.{Value}
@@ -6,10 +7,9 @@ use Rattle.syntax.specs.declared.contents.FuncType.{FuncType}
 use Rattle.syntax.specs.declared.contents.Func.{Func}
 use Rattle.instance.specs.Store.{Store, with_memory}
 use Rattle.validate.specs.Typing.{type_of_function}
-use Rattle.interp.specs.Configuration.{Context, Label, Frame, entered, frames, receiving}
+use Rattle.interp.specs.Configuration.{Context, Label, Frame, entered, frames, receiving, types_of}
 use Rattle.interp.specs.Step.{Goes, Calls, next}
 use Rattle.interp.specs.Run.{HostCall, as_operands, IsDefined, IsImported}
-use Rattle.interp.specs.Typed.{types_of}
 use Rattle.interp.specs.Hosting.{Answers}
 
 -- the operands of all contexts, the top first

@@ -1,57 +1,41 @@
+-- No part of what a run means.
 -- How high the operands of a call can stand and how many labels can be open in it.
 use Rattle.std.specs.Prelude.{◌≡◌, ℕ, ◌+◌, ◌≤◌, List, [], ◌∷◌, length, Option, Some, None, slice_get}
+use Rattle.limits.specs.declared.TheConstants.{MAX_HEIGHT, MAX_LOCALS, MAX_NESTING}
 use Rattle.syntax.specs.declared.instruction.Instr.{Instr}
-use Rattle.syntax.specs.declared.instruction.Instr.TheVariants.{Unreachable, Nop, Br, BrIf, BrTable, Return, Call, CallIndirect, Drop}
-use Rattle.syntax.specs.declared.instruction.Instr.TheVariants.{Select, LocalGet, LocalSet, LocalTee, GlobalGet, GlobalSet, Load}
-use Rattle.syntax.specs.declared.instruction.Instr.TheVariants.{LoadNarrow, Store, StoreNarrow, MemorySize, MemoryGrow, Const, Eqz, Unary}
-use Rattle.syntax.specs.declared.instruction.Instr.TheVariants.{Binary, Compare, Convert}
+use Rattle.syntax.specs.declared.instruction.Instr.TheVariants.{BrIf, LocalGet, LocalSet, LocalTee, GlobalGet, GlobalSet}
 use Rattle.syntax.specs.declared.contents.Contents.{Contents}
 use Rattle.syntax.specs.declared.contents.FuncType.{FuncType}
 use Rattle.syntax.specs.Code.{Code, Done, Plain, Block, Loop, If}
-use Rattle.validate.specs.Typing.{block_type, type_of_function}
-use Rattle.validate.specs.Height.{Effect, Changes, Ends, named, calls}
+use Rattle.validate.specs.Typing.{Context as Typing, block_type}
+use Rattle.validate.specs.Height.{Effect, Changes, Ends, effect_of}
 use Rattle.interp.specs.Configuration.{Context, Label, Frame}
-use Rattle.interp.specs.Typed.{code_of, operands_of}
+use Rattle.interp.specs.Scaffold.Typed.{code_of, operands_of}
 
 -- the operands of one call stay within a body's height, and its labels within the nesting, with the label of the body
 pub record Fits (labels : List ℕ) (base own : ℕ) : Type 0 where
-  pub height : base + own ≤ 256
-  pub nesting : length labels ≤ 257
+  pub height : base + own ≤ MAX_HEIGHT
+  pub nesting : length labels ≤ MAX_NESTING + 1
 
 -- a test takes an operand on top of those that a branch to the label takes along
 abbrev pub tests : Option ℕ → Effect
 tests None = Changes 1 0
 tests (Some arity) = Changes (arity + 1) arity
 
--- what an instruction that contains no other takes and leaves, where a branch to each label takes so many along
+-- around an instruction, where its labels, locals and globals don't count
+abbrev pub around : Contents → Typing
+around m = record { module_contents = m; locals = []; labels = []; results = [] }
+
+-- What an instruction that contains no other takes and leaves: what the validator counts, for locals and globals that are
+-- there, and where a branch to each label takes so many along.
 abbrev pub counts : Contents → (labels : List ℕ) → Instr → Effect
-counts m labels Unreachable = Ends
-counts m labels Nop = Changes 0 0
-counts m labels (Br label) = Ends
 counts m labels (BrIf label) = tests (slice_get labels label)
-counts m labels (BrTable ls default) = Ends
-counts m labels Return = Ends
-counts m labels (Call f) = named (type_of_function m f) (calls 0)
-counts m labels (CallIndirect t) = named (slice_get m.types t) (calls 1)
-counts m labels Drop = Changes 1 0
-counts m labels Select = Changes 3 1
 counts m labels (LocalGet x) = Changes 0 1
 counts m labels (LocalSet x) = Changes 1 0
 counts m labels (LocalTee x) = Changes 1 1
 counts m labels (GlobalGet x) = Changes 0 1
 counts m labels (GlobalSet x) = Changes 1 0
-counts m labels (Load t at) = Changes 1 1
-counts m labels (LoadNarrow t width extension at) = Changes 1 1
-counts m labels (Store t at) = Changes 2 0
-counts m labels (StoreNarrow t width at) = Changes 2 0
-counts m labels MemorySize = Changes 0 1
-counts m labels MemoryGrow = Changes 1 1
-counts m labels (Const v) = Changes 0 1
-counts m labels (Eqz t) = Changes 1 1
-counts m labels (Unary t op) = Changes 1 1
-counts m labels (Binary t op) = Changes 2 1
-counts m labels (Compare t op) = Changes 2 1
-counts m labels (Convert op) = Changes 1 1
+counts m labels i = effect_of (around m) i
 
 -- where an instruction is followed by what comes next, it finds its operands, and this holds of the number behind it
 abbrev pub Follows : Effect → (before : ℕ) → (ℕ → Type 0) → Type 0
@@ -106,9 +90,9 @@ abbrev pub Beneath : Contents → (after : ℕ) → List Context → Type 0
 Beneath m after [] = ⊥
 Beneath m after (Label arity next values code ∷ below) =
     (later : ℕ) × Beneath m later below × GoesOn m below after later (code_of below) × GoesOn m below arity later next
-Beneath m after (Frame locals arity values code ∷ []) = (length locals ≤ 256) × (arity ≤ 256) × (after ≡ arity)
+Beneath m after (Frame locals arity values code ∷ []) = (length locals ≤ MAX_LOCALS) × (arity ≤ MAX_HEIGHT) × (after ≡ arity)
 Beneath m after (Frame locals arity values code ∷ top ∷ below) =
-    (length locals ≤ 256) × (arity ≤ 256) × (after ≡ arity)
+    (length locals ≤ MAX_LOCALS) × (arity ≤ MAX_HEIGHT) × (after ≡ arity)
     × (later : ℕ) × Beneath m later (top ∷ below) × GoesOn m (top ∷ below) after later (code_of (top ∷ below))
 
 -- the contexts are within the limits of the bodies that they run, once the innermost one gets so many operands

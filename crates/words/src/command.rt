@@ -1,6 +1,7 @@
 // What the program is asked to do.
 
 ghost use Rattle.std.specs.Prelude.{◌≤◌, vec_len};
+ghost use Rattle.limits.specs.declared.TheConstants.{MAX_BYTES, MAX_DEPTH, MAX_LOOPS, MAX_WORKERS};
 
 /// How far a call may go.
 #[derive(Clone, Copy, Debug, PartialEq, Eq)]
@@ -9,7 +10,7 @@ pub struct Budget {
     pub fuel: u64,
     /// How many calls may stand open, 1 to 128.
     pub depth: u32,
-    pub ghost in_range: { (1 ≤ depth) × (depth ≤ 128) },
+    pub ghost in_range: { (1 ≤ depth) × (depth ≤ MAX_DEPTH) },
 }
 
 /// A function of a module and the words that spell its arguments.
@@ -36,7 +37,7 @@ pub struct WorkRequest {
     pub bytes: Vec<u8>,
     /// What the start function and `uv_work` may use together.
     pub budget: Budget,
-    pub ghost short: { vec_len bytes ≤ 65536 },
+    pub ghost short: { vec_len bytes ≤ MAX_BYTES },
 }
 
 /// Loops of a module and workers beside them.
@@ -52,8 +53,8 @@ pub struct Service {
     pub budget: Budget,
     /// How many instructions a work function may pay for.
     pub work_fuel: u64,
-    pub ghost few_loops: { (1 ≤ loops) × (loops ≤ 8) },
-    pub ghost few_workers: { (1 ≤ workers) × (workers ≤ 16) },
+    pub ghost few_loops: { (1 ≤ loops) × (loops ≤ MAX_LOOPS) },
+    pub ghost few_workers: { (1 ≤ workers) × (workers ≤ MAX_WORKERS) },
 }
 
 /// A command with its words.

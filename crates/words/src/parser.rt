@@ -9,19 +9,8 @@ use crate::refused::Refused;
 use clap::ArgMatches;
 use clap::error::ErrorKind;
 use hex::FromHexError;
+use limits::{MAX_BYTES, MAX_DEPTH, MAX_LOOPS, MAX_WORKERS};
 use std::alloc::Global;
-
-/// How many bytes a work order has at most.
-const MAX_BYTES: usize = 65_536;
-
-/// How many calls may stand open at most.
-const MAX_DEPTH: u64 = 128;
-
-/// How many loops are served at most.
-const MAX_LOOPS: u64 = 8;
-
-/// How many workers serve them at most.
-const MAX_WORKERS: u64 = 16;
 
 fn refused(alloc: Global, error: clap::Error) -> Refused {
     let shown = !error.use_stderr();
@@ -63,7 +52,7 @@ fn option(
 
 fn budget(alloc: Global, matches: &ArgMatches<'_>) -> Result<Budget, Refused> {
     let fuel = option(alloc, matches, "fuel", 0, u64::MAX)?;
-    let depth = option(alloc, matches, "depth", 1, MAX_DEPTH)? as u32;
+    let depth = option(alloc, matches, "depth", 1, MAX_DEPTH.into())? as u32;
     Ok(Budget { fuel, depth })
 }
 
@@ -117,8 +106,8 @@ fn script(alloc: Global, matches: &ArgMatches<'_>) -> Result<Command, Refused> {
 }
 
 fn serve(alloc: Global, matches: &ArgMatches<'_>) -> Result<Command, Refused> {
-    let loops = option(alloc, matches, "loops", 1, MAX_LOOPS)? as u32;
-    let workers = option(alloc, matches, "workers", 1, MAX_WORKERS)? as u32;
+    let loops = option(alloc, matches, "loops", 1, MAX_LOOPS.into())? as u32;
+    let workers = option(alloc, matches, "workers", 1, MAX_WORKERS.into())? as u32;
     let budget = budget(alloc, matches)?;
     let work_fuel = option(alloc, matches, "work-fuel", 0, u64::MAX)?;
     Ok(Command::Serve(Service {

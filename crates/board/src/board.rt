@@ -1,5 +1,6 @@
 // The board that loops and workers share, and the passes with which they step.
 ghost use Rattle.std.specs.Prelude.{◌≡◌, ◌<◌, ◌≤◌, ◌∷◌, ◌++◌, ℕ, length, map, All, IfOk, OnOk, IfErr, IfSome, IfNone};
+ghost use Rattle.limits.specs.declared.TheConstants.{MAX_LOOPS};
 ghost use Rattle.board.specs.Views.{IsIdle, maker_at, one_later};
 ghost use Rattle.board.specs.Boards.{IsPassOf, IsNewPass, AreNumbered, IsEventOf, Posts, TakesJob, Puts, Collects};
 
@@ -7,17 +8,12 @@ use crate::bell::Bell;
 use crate::event::{Event, Heard};
 use crate::job::JobBox;
 use crate::line::{Hand, Line, Maker};
+use limits::{MAX_JOBS, MAX_REPLIES};
 use order::Reply;
 use std::alloc::{AllocError, Global};
 use std::marker::Model;
 use std::sync::Wait;
 use std::sync::atomic::{AtomicBool, Ordering};
-
-/// How many jobs may be queued on a board.
-pub const JOBS: usize = 256;
-
-/// How many replies may be queued for one loop.
-pub const REPLIES: usize = 64;
 
 /// A board: a bounded queue of jobs, one of replies for each loop, and whether it was closed.
 ///
@@ -31,13 +27,14 @@ pub struct Board<J = JobBox> {
 
 impl<J> Model for Board<J> {
     ghost use Rattle.std.specs.Prelude.{◌≤◌, length};
+    ghost use Rattle.limits.specs.declared.TheConstants.{MAX_LOOPS};
     ghost use Rattle.board.specs.Boards.{BoardView};
 
     ghost Value = { BoardView };
 
     ghost view = { λ b. record { jobs = b.jobs; replies = b.replies.items } };
 
-    ghost invariant = { λ b. length b.replies.items ≤ 8 };
+    ghost invariant = { λ b. length b.replies.items ≤ MAX_LOOPS };
 }
 
 /// With which one thread steps on a board. To a contract it is a `PassView`: what was done with it on each line.
@@ -70,15 +67,15 @@ impl<J: Drop> Board<J> {
         loops: u32,
         passes: usize,
     ) -> Result<(Board<J>, Vec<Pass<J>>), AllocError>
-        requires loops { (0 < loops) × (loops ≤ 8) }
+        requires loops { (0 < loops) × (loops ≤ MAX_LOOPS) }
         requires passes { 0 < passes }
-        ensures jobs { IfOk result (λ b. b.0.jobs.places ≡ JOBS) }
-        ensures replies { IfOk result (λ b. (length b.0.replies ≡ loops) × All (λ l. l.places ≡ REPLIES) b.0.replies) }
+        ensures jobs { IfOk result (λ b. b.0.jobs.places ≡ MAX_JOBS) }
+        ensures replies { IfOk result (λ b. (length b.0.replies ≡ loops) × All (λ l. l.places ≡ MAX_REPLIES) b.0.replies) }
         ensures count { IfOk result (λ b. length b.1.items ≡ passes) }
         ensures passes { IfOk result (λ b. All (IsNewPass b.0) b.1.items) }
         ensures numbers { IfOk result (λ b. AreNumbered b.1.items) }
     {
-        let (jobs, mut jobs_maker) = Line::new(alloc, JOBS)?;
+        let (jobs, mut jobs_maker) = Line::new(alloc, MAX_JOBS)?;
         let (replies, mut makers) = reply_lines(alloc, loops)?;
         let mut passes_made = Vec::with_capacity(alloc, passes)?;
         for _ in 0..passes {
@@ -197,13 +194,13 @@ fn reply_lines(
     alloc: Global,
     loops: u32,
 ) -> Result<(Vec<Line<Reply>>, Vec<Maker<Reply>>), AllocError>
-    ensures lines { IfOk result (λ r. (length r.0.items ≡ loops) × All (λ l. l.places ≡ REPLIES) r.0.items) }
+    ensures lines { IfOk result (λ r. (length r.0.items ≡ loops) × All (λ l. l.places ≡ MAX_REPLIES) r.0.items) }
     ensures makers { IfOk result (λ r. r.1.items ≡ map (maker_at 1) r.0.items) }
 {
     let mut lines = Vec::with_capacity(alloc, loops as usize)?;
     let mut makers = Vec::with_capacity(alloc, loops as usize)?;
     for _ in 0..loops {
-        let (line, maker) = Line::new(alloc, REPLIES)?;
+        let (line, maker) = Line::new(alloc, MAX_REPLIES)?;
         lines.push(line)?;
         makers.push(maker)?;
     }

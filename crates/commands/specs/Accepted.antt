@@ -1,11 +1,12 @@
 -- When the file of a command holds an accepted module.
-use Rattle.std.specs.Prelude.{ℕ, List}
+use Rattle.std.specs.Prelude.{ℕ, ◌+◌, List}
+use Rattle.limits.specs.declared.TheConstants.{MAX_MODULE_BYTES}
 use Rattle.syntax.specs.declared.contents.Contents.{Contents}
 use Rattle.host.specs.Loading.{IsAccepted}
 
 -- how many bytes of a file are read: one more than a module may have
 abbrev pub enough : ℕ
-enough = 1048577
+enough = MAX_MODULE_BYTES + 1
 
 -- the file of this name, as a reader gives it, spells an accepted module with these contents
 abbrev pub Holds : (List ℕ → ℕ → List ℕ → Type 0) → List ℕ → Contents → Type 0

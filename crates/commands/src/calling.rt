@@ -1,6 +1,7 @@
 // A call of a function on a new instance of its module.
 
 ghost use Rattle.std.specs.Prelude.{◌≡◌, ◌≤◌, ◌↔◌, Some, IfOk, IfSome, IsTrue};
+ghost use Rattle.limits.specs.declared.TheConstants.{MAX_DEPTH};
 ghost use Rattle.instance.specs.Fresh.{IsFresh};
 ghost use Rattle.instance.specs.Storing.{IsStoreOf};
 ghost use Rattle.interp.specs.Invoking.{TakesArguments};
@@ -63,7 +64,7 @@ fn run(
 ) -> Ended
     requires store { IsStoreOf valid.now.contents instance.old }
     requires typed { TakesArguments valid.now.contents function args.now }
-    requires depth { (1 ≤ depth) × (depth ≤ 128) }
+    requires depth { (1 ≤ depth) × (depth ≤ MAX_DEPTH) }
     ensures runs { Runs valid.now.contents depth fuel instance.old function args.now result instance.new }
     ensures within { result.used ≤ fuel }
     ensures kept { IsStoreOf valid.now.contents instance.new }

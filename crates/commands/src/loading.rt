@@ -7,10 +7,11 @@ ghost use Rattle.commands.specs.Accepted.{enough};
 use crate::failure::Failure;
 use crate::file::Reader;
 use host::{Linked, Refusal};
+use limits::MAX_MODULE_BYTES;
 use std::alloc::Global;
 
 /// One byte more than a module may have: whatever comes behind it changes no answer.
-const ENOUGH: usize = 1_048_577;
+const ENOUGH: usize = MAX_MODULE_BYTES + 1;
 
 fn refused(alloc: Global, bytes: &[u8], refusal: Refusal) -> Failure<'static> {
     match refusal {

@@ -10,21 +10,19 @@ use crate::file::Reader;
 use crate::loading::accept;
 use crate::status::Status;
 use host::{Config, Linked, Log, LogEntry, LoopConfig, World};
+use limits::MAX_SCRIPT_BYTES;
 use script::{LoopPlan, Plan, ScriptFault, ScriptPlace, print, read};
 use std::alloc::{AllocError, Global};
 use std::io::Write;
 use std::str;
 use std::sync::Arc;
 
-/// How many bytes a script has at most.
-const MAX_SCRIPT: usize = 64 << 20;
-
 /// What the file asks for.
 fn plan_of<R: Reader>(alloc: Global, file: &str, reader: &R) -> Result<Plan, Failure<'static>>
     ensures { IfOk result IsWithinLimits }
 {
-    let bytes = reader.read(alloc, file, MAX_SCRIPT + 1)?;
-    if bytes.len() > MAX_SCRIPT {
+    let bytes = reader.read(alloc, file, MAX_SCRIPT_BYTES + 1)?;
+    if bytes.len() > MAX_SCRIPT_BYTES {
         return Err(no_script(ScriptFault::Range, None));
     }
     let Ok(text) = str::from_utf8(bytes.as_slice()) else {

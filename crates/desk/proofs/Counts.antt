@@ -4,8 +4,8 @@ use Rattle.std.specs.Prelude.{slice_index, slice_set, sum}
 use Rattle.std.proofs.lemmas.List.{get_or-set_same, get_or-set_other}
 use Rattle.std.proofs.lemmas.List.Sums.{get_or-le-sum_by, sum_by-set}
 use native.Mathlib.Decide.{ℕ_discrete}
+use Rattle.limits.specs.declared.TheConstants.{MAX_ASYNCS, MAX_REQUESTS, MAX_SENDS}
 use Rattle.phases.specs.View.{raised}
-use Rattle.desk.specs.declared.TheConstants.{SLOTS, ASYNCS, MOST_SENDS}
 use Rattle.desk.specs.Desk.{Desk, sent_own, taken, sent_by_another}
 use Rattle.desk.specs.Rule.{AreCounts, IsCounted, IsSized, waiting_place}
 
@@ -36,7 +36,7 @@ pub taken-sized : (d : Desk) (a : ℕ) → IsSized d → IsSized (taken d a)
 taken-sized d a is = record { own = is.own; taken = length-raised d.view.taken a (slice_index d.waiting a) ∙ is.taken; waiting = length-set d.waiting a 0 ∙ is.waiting; sent = is.sent }
 
 -- and the sums are counted
-pub own-counted : (d : Desk) (n m a : ℕ) → IsSized d → IsCounted d n m → a < ASYNCS → n < MOST_SENDS → IsCounted (sent_own d a) (n + 1) m
+pub own-counted : (d : Desk) (n m a : ℕ) → IsSized d → IsCounted d n m → a < MAX_ASYNCS → n < MAX_SENDS → IsCounted (sent_own d a) (n + 1) m
 own-counted d n m a sized is there few = record {
   own = (let size = sized.own in let old = is.own in let more = sum-raised d.view.own a 1 (omega arith) in omega arith);
   own_most = omega arith;
@@ -44,7 +44,7 @@ own-counted d n m a sized is there few = record {
   others_most = is.others_most;
 }
 
-pub others-counted : (d : Desk) (n m a : ℕ) → IsSized d → IsCounted d n m → a < ASYNCS → m < MOST_SENDS → IsCounted (sent_by_another d a) n (m + 1)
+pub others-counted : (d : Desk) (n m a : ℕ) → IsSized d → IsCounted d n m → a < MAX_ASYNCS → m < MAX_SENDS → IsCounted (sent_by_another d a) n (m + 1)
 others-counted d n m a sized is there few = record {
   own = is.own;
   own_most = is.own_most;
@@ -55,7 +55,7 @@ others-counted d n m a sized is there few = record {
 pub taken-counted : (d : Desk) (n m a : ℕ) → IsCounted d n m → IsCounted (taken d a) n m
 taken-counted d n m a is = record { own = is.own; own_most = is.own_most; others = is.others; others_most = is.others_most }
 
-module _ (words : List ℕ) (d : Desk) (a : ℕ) (size : length words ≡ SLOTS + ASYNCS) (is : AreCounts words d) (sized : IsSized d) (there : a < ASYNCS) where
+module _ (words : List ℕ) (d : Desk) (a : ℕ) (size : length words ≡ MAX_REQUESTS + MAX_ASYNCS) (is : AreCounts words d) (sized : IsSized d) (there : a < MAX_ASYNCS) where
   abbrev i : ℕ
   i = waiting_place a
 
@@ -63,7 +63,7 @@ module _ (words : List ℕ) (d : Desk) (a : ℕ) (size : length words ≡ SLOTS 
   written n = get_or-set_same words i n 0 (omega arith)
 
   -- the words agree, after one of them and what waits there changed alike
-  alike : (n k b : ℕ) → n ≡ k → b < ASYNCS → slice_index (set words i n) (waiting_place b) ≡ slice_index (slice_set d.waiting a k) b
+  alike : (n k b : ℕ) → n ≡ k → b < MAX_ASYNCS → slice_index (set words i n) (waiting_place b) ≡ slice_index (slice_set d.waiting a k) b
   alike n k b same low = elim (ℕ_discrete b a) [
     | yes e ↦ subst (λ (j : ℕ). slice_index (set words i n) (waiting_place j) ≡ slice_index (slice_set d.waiting a k) j) (sym e) (let w = sized.waiting in written n ∙ same ∙ sym (get_or-set_same d.waiting a k 0 (omega arith)))
     | no ne ↦ get_or-set_other words i (waiting_place b) n 0 (λ k. ne (omega arith)) ∙ is.word b low ∙ sym (get_or-set_other d.waiting a b k 0 ne)
@@ -76,7 +76,7 @@ module _ (words : List ℕ) (d : Desk) (a : ℕ) (size : length words ≡ SLOTS 
   pub own-counts : AreCounts (set words i (slice_index words i + 1)) (sent_own d a)
   own-counts = record { word = λ b low. alike (slice_index words i + 1) (slice_index d.waiting a + 1) b one_more low; sends = sends }
     where
-      sends : (b : ℕ) → b < ASYNCS → slice_index (raised d.view.own a 1) b + slice_index d.sent b ≡ slice_index d.view.taken b + slice_index (raised d.waiting a 1) b
+      sends : (b : ℕ) → b < MAX_ASYNCS → slice_index (raised d.view.own a 1) b + slice_index d.sent b ≡ slice_index d.view.taken b + slice_index (raised d.waiting a 1) b
       sends b low = elim (ℕ_discrete b a) [
         | yes e ↦ subst (λ (j : ℕ). slice_index (raised d.view.own a 1) j + slice_index d.sent j ≡ slice_index d.view.taken j + slice_index (raised d.waiting a 1) j) (sym e) here
         | no ne ↦ (let o = raised-elsewhere d.view.own a 1 b ne in let w = raised-elsewhere d.waiting a 1 b ne in let was = is.sends b low in omega arith)
@@ -88,7 +88,7 @@ module _ (words : List ℕ) (d : Desk) (a : ℕ) (size : length words ≡ SLOTS 
   pub others-counts : AreCounts (set words i (slice_index words i + 1)) (sent_by_another d a)
   others-counts = record { word = λ b low. alike (slice_index words i + 1) (slice_index d.waiting a + 1) b one_more low; sends = sends }
     where
-      sends : (b : ℕ) → b < ASYNCS → slice_index d.view.own b + slice_index (raised d.sent a 1) b ≡ slice_index d.view.taken b + slice_index (raised d.waiting a 1) b
+      sends : (b : ℕ) → b < MAX_ASYNCS → slice_index d.view.own b + slice_index (raised d.sent a 1) b ≡ slice_index d.view.taken b + slice_index (raised d.waiting a 1) b
       sends b low = elim (ℕ_discrete b a) [
         | yes e ↦ subst (λ (j : ℕ). slice_index d.view.own j + slice_index (raised d.sent a 1) j ≡ slice_index d.view.taken j + slice_index (raised d.waiting a 1) j) (sym e) here
         | no ne ↦ (let o = raised-elsewhere d.sent a 1 b ne in let w = raised-elsewhere d.waiting a 1 b ne in let was = is.sends b low in omega arith)
@@ -98,7 +98,7 @@ module _ (words : List ℕ) (d : Desk) (a : ℕ) (size : length words ≡ SLOTS 
           here = let sent = sized.sent in let waits = sized.waiting in let o = raised-there d.sent a 1 (omega arith) in let w = raised-there d.waiting a 1 (omega arith) in let was = is.sends a there in omega arith
 
   -- what waits is within all sends, so that one more fits in a word
-  pub within : (n m : ℕ) → IsCounted d n m → slice_index words i ≤ MOST_SENDS + MOST_SENDS
+  pub within : (n m : ℕ) → IsCounted d n m → slice_index words i ≤ MAX_SENDS + MAX_SENDS
   within n m counted =
       let own = sized.own in
       let sent = sized.sent in
@@ -122,7 +122,7 @@ module _ (words : List ℕ) (d : Desk) (a : ℕ) (size : length words ≡ SLOTS 
   pub taken-counts : AreCounts (set words i 0) (taken d a)
   taken-counts = record { word = λ b low. alike 0 0 b refl low; sends = sends }
     where
-      sends : (b : ℕ) → b < ASYNCS → slice_index d.view.own b + slice_index d.sent b ≡ slice_index (taken d a).view.taken b + slice_index (slice_set d.waiting a 0) b
+      sends : (b : ℕ) → b < MAX_ASYNCS → slice_index d.view.own b + slice_index d.sent b ≡ slice_index (taken d a).view.taken b + slice_index (slice_set d.waiting a 0) b
       sends b low = elim (ℕ_discrete b a) [
         | yes e ↦ subst (λ (j : ℕ). slice_index d.view.own j + slice_index d.sent j ≡ slice_index (taken d a).view.taken j + slice_index (slice_set d.waiting a 0) j) (sym e) here
         | no ne ↦ (let t = raised-elsewhere d.view.taken a (slice_index d.waiting a) b ne in let w : slice_index (slice_set d.waiting a 0) b ≡ slice_index d.waiting b = get_or-set_other d.waiting a b 0 0 ne in let was = is.sends b low in omega arith)

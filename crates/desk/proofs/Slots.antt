@@ -5,8 +5,8 @@ use Rattle.std.proofs.lemmas.Bool.Decides.{nat_tests}
 use Rattle.std.proofs.lemmas.List.{get_or-set_same, get_or-set_other}
 use Rattle.std.proofs.lemmas.List.Sums.{sum_by-cons, sum_by_push}
 use native.Mathlib.Decide.{ℕ_discrete}
+use Rattle.limits.specs.declared.TheConstants.{MAX_ASYNCS, MAX_REQUESTS}
 use Rattle.phases.specs.View.{is_request, times, last_from, last_in, is_pending, IsAbove}
-use Rattle.desk.specs.declared.TheConstants.{SLOTS, ASYNCS}
 use Rattle.desk.specs.Desk.{Desk, is_open, opened, cancelled, found_started, started}
 use Rattle.desk.specs.Rule.{AreSlots}
 
@@ -92,7 +92,7 @@ last-elsewhere slot cs c ne = last-push slot 0 cs c ∙ ap (λ b. if b then c.1 
 pub last-here : (slot r : ℕ) (cs : List (ℕ × ℕ)) → last_in slot (cs ++ (slot, r) ∷ []) ≡ r
 last-here slot r cs = last-push slot 0 cs (slot, r) ∙ ap (λ b. if b then r else last_in slot cs) (eq-eqb slot slot refl)
 
-module _ (words : List ℕ) (d : Desk) (slot r : ℕ) (size : length words ≡ SLOTS + ASYNCS) (is : AreSlots words d) (there : slot < SLOTS) (some_request : 0 < r) where
+module _ (words : List ℕ) (d : Desk) (slot r : ℕ) (size : length words ≡ MAX_REQUESTS + MAX_ASYNCS) (is : AreSlots words d) (there : slot < MAX_REQUESTS) (some_request : 0 < r) where
   written : (n : ℕ) → slice_index (set words slot n) slot ≡ n
   written n = get_or-set_same words slot n 0 (omega arith)
 
@@ -110,7 +110,7 @@ module _ (words : List ℕ) (d : Desk) (slot r : ℕ) (size : length words ≡ S
           | no ne ↦ absurd (none (omega arith))
         ]
 
-    opened-word : (s q : ℕ) → s < SLOTS → 0 < q → (slice_index (set words slot r) s == q) ≡ is_open (opened d (slot, r)) (s, q)
+    opened-word : (s q : ℕ) → s < MAX_REQUESTS → 0 < q → (slice_index (set words slot r) s == q) ≡ is_open (opened d (slot, r)) (s, q)
     opened-word s q low some_number = elim (ℕ_discrete s slot) [
       | yes e ↦ subst (λ (k : ℕ). (slice_index (set words slot r) k == q) ≡ is_open (opened d (slot, r)) (k, q)) (sym e) here
       | no ne ↦ ap (λ n. n == q) (elsewhere r s ne) ∙ is.word s q low some_number ∙ ap (λ n. tests q n (times (s, q) d.view.cancelled) (times (s, q) d.started)) (sym (last-elsewhere s d.view.opened (slot, r) (λ k. ne (sym k))))
@@ -136,7 +136,7 @@ module _ (words : List ℕ) (d : Desk) (slot r : ℕ) (size : length words ≡ S
 
     -- where no request of the slot is open any more, and those of others are as they were
     shut : (e : Desk) → ((q : ℕ) → 0 < q → is_open e (slot, q) ≡ false) → ((s q : ℕ) → s ≢ slot → is_open e (s, q) ≡ is_open d (s, q))
-        → (s q : ℕ) → s < SLOTS → 0 < q → (slice_index (set words slot 0) s == q) ≡ is_open e (s, q)
+        → (s q : ℕ) → s < MAX_REQUESTS → 0 < q → (slice_index (set words slot 0) s == q) ≡ is_open e (s, q)
     shut e none same s q low some_number = elim (ℕ_discrete s slot) [
       | yes k ↦ subst (λ (i : ℕ). (slice_index (set words slot 0) i == q) ≡ is_open e (i, q)) (sym k) (ap (λ n. n == q) (written 0) ∙ ne_eqb 0 q (λ z. omega arith) ∙ sym (none q some_number))
       | no ne ↦ ap (λ n. n == q) (elsewhere 0 s ne) ∙ is.word s q low some_number ∙ sym (same s q ne)

@@ -7,8 +7,8 @@ use native.Mathlib.Decide.{ℕ_discrete}
 use lib.ListN.{get_elem?}
 use prog.Atomic.{either}
 use Rattle.atomic_table.specs.Table.{State, keeps, Allows}
+use Rattle.limits.specs.declared.TheConstants.{MAX_ASYNCS, MAX_REQUESTS}
 use Rattle.phases.specs.View.{times, is_pending, IsAbove}
-use Rattle.desk.specs.declared.TheConstants.{SLOTS, ASYNCS}
 use Rattle.desk.specs.declared.rule.History.{History}
 use Rattle.desk.specs.Desk.{Desk, new_desk, is_open, opened, cancelled, found_started, started, sent_own, sent_by_another, taken, DeskCancels, DeskStarts, DeskTakes}
 use Rattle.desk.specs.Rule.{desk_of, history_of, waiting_place, AreSlots, AreCounts, Agrees, IsKept, IsCounted, IsSized}
@@ -31,21 +31,21 @@ moved slots i v held f told moves s kept homes at fits =
     (h, keeps, tt, (h, ap (λ vs. set vs 0 h) kept.1, given.1), given.2)
 
 -- the asyncs' words are apart from a slot's
-counts-kept : (words : List ℕ) (d : Desk) (slot n : ℕ) → AreCounts words d → slot < SLOTS → AreCounts (set words slot n) d
+counts-kept : (words : List ℕ) (d : Desk) (slot n : ℕ) → AreCounts words d → slot < MAX_REQUESTS → AreCounts (set words slot n) d
 counts-kept words d slot n is there = record {
   word = λ a low. get_or-set_other words slot (waiting_place a) n 0 (λ k. omega arith) ∙ is.word a low;
   sends = is.sends;
 }
 
 -- and a slot's from an async's
-slots-kept : (words : List ℕ) (d : Desk) (a n : ℕ) → AreSlots words d → a < ASYNCS → AreSlots (set words (waiting_place a) n) d
+slots-kept : (words : List ℕ) (d : Desk) (a n : ℕ) → AreSlots words d → a < MAX_ASYNCS → AreSlots (set words (waiting_place a) n) d
 slots-kept words d a n is there = record {
   word = λ slot request low above. ap (λ k. k == request) (get_or-set_other words (waiting_place a) slot n 0 (λ k. omega arith)) ∙ is.word slot request low above;
   opened = is.opened;
   found = is.found;
 }
 
-pub opens_allowed : {S : Type 0} (slots slot r : ℕ) (v : History) (held : List (ℕ × S)) → slot < SLOTS → 0 < r → IsAbove (desk_of v).view r
+pub opens_allowed : {S : Type 0} (slots slot r : ℕ) (v : History) (held : List (ℕ × S)) → slot < MAX_REQUESTS → 0 < r → IsAbove (desk_of v).view r
     → Allows Kept slots 0 (v, held) slot (λ _. r) (λ _ after. desk_of after.0 ≡ opened (desk_of v) (slot, r))
 opens_allowed slots slot r v held there above rises = moved slots slot v held (λ _. r) (λ _ e. e ≡ opened d (slot, r)) (λ words is. (
   opened d (slot, r),
@@ -61,11 +61,11 @@ opens_allowed slots slot r v held there above rises = moved slots slot v held (�
     d = desk_of v
 
 -- a compare-exchange of a request's number for 0
-module _ (slot r : ℕ) (d : Desk) (words : List ℕ) (is : Agrees words d) (there : slot < SLOTS) (above : 0 < r) where
+module _ (slot r : ℕ) (d : Desk) (words : List ℕ) (is : Agrees words d) (there : slot < MAX_REQUESTS) (above : 0 < r) where
   abbrev found : ℕ
   found = slice_index words slot
 
-  size : length (set words slot 0) ≡ SLOTS + ASYNCS
+  size : length (set words slot 0) ≡ MAX_REQUESTS + MAX_ASYNCS
   size = length-set words slot 0 ∙ is.size
 
   -- it was found
@@ -119,18 +119,18 @@ module _ (slot r : ℕ) (d : Desk) (words : List ℕ) (is : Agrees words d) (the
     | no ne ↦ subst (Goes (DeskStarts d (slot, r))) (sym (ne_eqb found r ne)) (d, subst (λ ws. Agrees ws d) (sym same) is, (sym (not_open words d slot r is.size is.slots there above ne), refl))
   ]
 
-pub cancels_allowed : {S : Type 0} (slots slot r : ℕ) (v : History) (held : List (ℕ × S)) → slot < SLOTS → 0 < r
+pub cancels_allowed : {S : Type 0} (slots slot r : ℕ) (v : History) (held : List (ℕ × S)) → slot < MAX_REQUESTS → 0 < r
     → Allows Kept slots 0 (v, held) slot (λ n. either (n == r) 0 n) (λ found after. DeskCancels (desk_of v) (slot, r) (found == r) (desk_of after.0))
 cancels_allowed slots slot r v held there above =
     moved slots slot v held (λ n. either (n == r) 0 n) (λ found e. DeskCancels (desk_of v) (slot, r) (found == r) e) (λ words is. cancel_goes slot r (desk_of v) words is there above)
 
-pub starts_allowed : {S : Type 0} (slots slot r : ℕ) (v : History) (held : List (ℕ × S)) → slot < SLOTS → 0 < r
+pub starts_allowed : {S : Type 0} (slots slot r : ℕ) (v : History) (held : List (ℕ × S)) → slot < MAX_REQUESTS → 0 < r
     → Allows Kept slots 0 (v, held) slot (λ n. either (n == r) 0 n) (λ found after. DeskStarts (desk_of v) (slot, r) (found == r) (desk_of after.0))
 starts_allowed slots slot r v held there above =
     moved slots slot v held (λ n. either (n == r) 0 n) (λ found e. DeskStarts (desk_of v) (slot, r) (found == r) e) (λ words is. start_goes slot r (desk_of v) words is there above)
 
 -- the sends and the takes of an async, whose word has the place i
-module _ {S : Type 0} (slots a i : ℕ) (v : History) (held : List (ℕ × S)) (sized : IsSized (desk_of v)) (there : a < ASYNCS) (place : i ≡ waiting_place a) where
+module _ {S : Type 0} (slots a i : ℕ) (v : History) (held : List (ℕ × S)) (sized : IsSized (desk_of v)) (there : a < MAX_ASYNCS) (place : i ≡ waiting_place a) where
   abbrev d : Desk
   d = desk_of v
 
@@ -196,16 +196,16 @@ zeros zero k = refl
 zeros (suc n) zero = refl
 zeros (suc n) (suc k) = zeros n k
 
-pub begins : (loop_no : ℕ) → IsKept (replicate (SLOTS + ASYNCS) 0) (history_of (new_desk loop_no) ∷ [])
+pub begins : (loop_no : ℕ) → IsKept (replicate (MAX_REQUESTS + MAX_ASYNCS) 0) (history_of (new_desk loop_no) ∷ [])
 begins loop_no = (
   history_of (new_desk loop_no),
   refl,
   record {
     size = refl;
     slots = record { word = word; opened = λ c h. absurd (omega arith); found = λ c h. h };
-    counts = record { word = λ a low. zeros (SLOTS + ASYNCS) (waiting_place a) ∙ sym (zeros ASYNCS a); sends = λ a low. refl };
+    counts = record { word = λ a low. zeros (MAX_REQUESTS + MAX_ASYNCS) (waiting_place a) ∙ sym (zeros MAX_ASYNCS a); sends = λ a low. refl };
   },
 )
   where
-    word : (slot request : ℕ) → slot < SLOTS → 0 < request → (slice_index (replicate (SLOTS + ASYNCS) 0) slot == request) ≡ is_open (new_desk loop_no) (slot, request)
-    word slot request low above = ap (λ k. k == request) (zeros (SLOTS + ASYNCS) slot) ∙ ne_eqb 0 request (λ z. omega arith) ∙ sym (fails request 0 0 0 (λ z _ _. omega arith))
+    word : (slot request : ℕ) → slot < MAX_REQUESTS → 0 < request → (slice_index (replicate (MAX_REQUESTS + MAX_ASYNCS) 0) slot == request) ≡ is_open (new_desk loop_no) (slot, request)
+    word slot request low above = ap (λ k. k == request) (zeros (MAX_REQUESTS + MAX_ASYNCS) slot) ∙ ne_eqb 0 request (λ z. omega arith) ∙ sym (fails request 0 0 0 (λ z _ _. omega arith))

@@ -1,7 +1,7 @@
 -- The rule of the words: they agree with all that was done at the desk.
 use Rattle.std.specs.Prelude.{◌≡◌, ℕ, ◌+◌, ◌<◌, ◌≤◌, ◌==◌, List, [], ◌∷◌, length, slice_index, sum}
+use Rattle.limits.specs.declared.TheConstants.{MAX_ASYNCS, MAX_REQUESTS, MAX_SENDS}
 use Rattle.phases.specs.View.{times}
-use Rattle.desk.specs.declared.TheConstants.{SLOTS, ASYNCS, MOST_SENDS}
 use Rattle.desk.specs.declared.rule.History.{History}
 use Rattle.desk.specs.Desk.{Desk, is_open}
 
@@ -38,12 +38,12 @@ history_of d = record {
 
 -- the place of an async's word
 abbrev pub waiting_place : ℕ → ℕ
-waiting_place a = SLOTS + a
+waiting_place a = MAX_REQUESTS + a
 
 -- the slots come first
 pub record AreSlots (words : List ℕ) (d : Desk) : Type 0 where
   -- a slot's word is the number of the request that is open there, and 0 where none is
-  pub word : (slot request : ℕ) → slot < SLOTS → 0 < request → (slice_index words slot == request) ≡ is_open d (slot, request)
+  pub word : (slot request : ℕ) → slot < MAX_REQUESTS → 0 < request → (slice_index words slot == request) ≡ is_open d (slot, request)
   -- only what was opened is cancelled or started
   pub opened : (c : ℕ × ℕ) → 0 < times c d.view.cancelled + times c d.started → 0 < times c d.view.opened
   -- what was found started is
@@ -52,12 +52,12 @@ pub record AreSlots (words : List ℕ) (d : Desk) : Type 0 where
 -- the asyncs come next
 pub record AreCounts (words : List ℕ) (d : Desk) : Type 0 where
   -- an async's word is what waits there
-  pub word : (a : ℕ) → a < ASYNCS → slice_index words (waiting_place a) ≡ slice_index d.waiting a
+  pub word : (a : ℕ) → a < MAX_ASYNCS → slice_index words (waiting_place a) ≡ slice_index d.waiting a
   -- what was sent, by the loop and by others, was taken or waits
-  pub sends : (a : ℕ) → a < ASYNCS → slice_index d.view.own a + slice_index d.sent a ≡ slice_index d.view.taken a + slice_index d.waiting a
+  pub sends : (a : ℕ) → a < MAX_ASYNCS → slice_index d.view.own a + slice_index d.sent a ≡ slice_index d.view.taken a + slice_index d.waiting a
 
 pub record Agrees (words : List ℕ) (d : Desk) : Type 0 where
-  pub size : length words ≡ SLOTS + ASYNCS
+  pub size : length words ≡ MAX_REQUESTS + MAX_ASYNCS
   pub slots : AreSlots words d
   pub counts : AreCounts words d
 
@@ -68,13 +68,13 @@ IsKept words histories = (h : History) × (histories ≡ h ∷ []) × Agrees wor
 -- The counts of all sends, of the loop and of others
 pub record IsCounted (d : Desk) (by_loop by_others : ℕ) : Type 0 where
   pub own : by_loop ≡ sum d.view.own
-  pub own_most : by_loop ≤ MOST_SENDS
+  pub own_most : by_loop ≤ MAX_SENDS
   pub others : by_others ≡ sum d.sent
-  pub others_most : by_others ≤ MOST_SENDS
+  pub others_most : by_others ≤ MAX_SENDS
 
 -- each list has a number for each async
 pub record IsSized (d : Desk) : Type 0 where
-  pub own : length d.view.own ≡ ASYNCS
-  pub taken : length d.view.taken ≡ ASYNCS
-  pub waiting : length d.waiting ≡ ASYNCS
-  pub sent : length d.sent ≡ ASYNCS
+  pub own : length d.view.own ≡ MAX_ASYNCS
+  pub taken : length d.view.taken ≡ MAX_ASYNCS
+  pub waiting : length d.waiting ≡ MAX_ASYNCS
+  pub sent : length d.sent ≡ MAX_ASYNCS

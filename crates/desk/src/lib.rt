@@ -13,18 +13,10 @@ mod rule;
 
 use crate::rule::{Agreement, Cancelling, Getting, History, Opening, Sending, Starting, Taking};
 use atomic_table::{Seat, Table};
+use limits::{MAX_ASYNCS, MAX_REQUESTS, MAX_SENDS};
 use phases::{Beside, Shared};
 use std::alloc::{AllocError, Global};
 use std::marker::Model;
-
-/// The slots of a loop, in each of which one request is open at most.
-pub const SLOTS: usize = 32;
-
-/// The asyncs of a loop.
-pub const ASYNCS: usize = 16;
-
-/// The sends of the loop to all asyncs together, and those of all others.
-pub const MOST_SENDS: u64 = 1 << 32;
 
 // No request has this number, which stands in a slot where none is open.
 const NO_REQUEST: u32 = 0;
@@ -41,7 +33,7 @@ pub struct Desk {
 
 impl Model for Desk {
     ghost use Rattle.std.specs.Prelude.{◌≡◌, ◌+◌};
-    ghost use Rattle.desk.specs.declared.TheConstants.{SLOTS, ASYNCS};
+    ghost use Rattle.limits.specs.declared.TheConstants.{MAX_REQUESTS, MAX_ASYNCS};
     ghost use Rattle.desk.specs.Desk as told;
     ghost use Rattle.desk.specs.Rule.{desk_of, IsCounted, IsSized};
 
@@ -52,17 +44,17 @@ impl Model for Desk {
     ghost invariant = { λ d.
         (d.seat.table_id ≡ d.table.shared.table_id)
         × (d.seat.id ≡ 0)
-        × (d.table.shared.table_id.words ≡ SLOTS + ASYNCS)
+        × (d.table.shared.table_id.words ≡ MAX_REQUESTS + MAX_ASYNCS)
         × IsSized (desk_of d.seat.me.0)
         × IsCounted (desk_of d.seat.me.0) d.own_sends d.other_sends };
 }
 
 // The place of an async's word.
 fn waiting_place(async_no: u32) -> usize
-    requires { async_no < ASYNCS }
-    ensures { result ≡ SLOTS + async_no }
+    requires { async_no < MAX_ASYNCS }
+    ensures { result ≡ MAX_REQUESTS + async_no }
 {
-    SLOTS + async_no as usize
+    MAX_REQUESTS + async_no as usize
 }
 
 impl Desk {
@@ -70,7 +62,7 @@ impl Desk {
     pub fn new(alloc: Global, loop_no: u32) -> Result<Desk, AllocError>
         ensures { IfOk result (λ d. d ≡ new_desk loop_no) }
     {
-        let (table, seat) = Table::of_words(alloc, &[0; SLOTS + ASYNCS], &loop_no)?;
+        let (table, seat) = Table::of_words(alloc, &[0; MAX_REQUESTS + MAX_ASYNCS], &loop_no)?;
         Ok(Desk {
             table,
             seat,
@@ -103,7 +95,7 @@ impl Shared for Desk {
     }
 
     fn send(&mut self, async_no: u32) -> bool {
-        if self.own_sends == MOST_SENDS {
+        if self.own_sends == MAX_SENDS {
             return false;
         }
         let table = &self.table;
@@ -139,7 +131,7 @@ impl Beside for Desk {
     }
 
     fn sent(&mut self, async_no: u32) -> bool {
-        if self.other_sends == MOST_SENDS {
+        if self.other_sends == MAX_SENDS {
             return false;
         }
         let table = &self.table;

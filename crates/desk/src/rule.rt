@@ -3,8 +3,8 @@ ghost use Rattle.std.specs.Prelude.{◌≡◌, ◌==◌, ℕ};
 ghost use Rattle.desk.specs.Desk.{new_desk, opened, DeskCancels, DeskTakes, DeskStarts, sent_own, sent_by_another};
 ghost use Rattle.desk.specs.Rule.{desk_of, history_of, waiting_place, IsKept};
 
-use crate::ASYNCS;
 use atomic_table::{Play, TableRule};
+use limits::MAX_ASYNCS;
 use std::collections::LinkedList;
 
 /// All that was done at a desk, and what waits there. It exists in proofs alone, and no value of it is made.
@@ -15,14 +15,14 @@ pub(crate) struct History {
     pub(crate) cancelled: LinkedList<(u64, u64)>,
     pub(crate) found_started: LinkedList<(u64, u64)>,
     /// For each async the takes, the sum of what they found, and the loop's own sends.
-    pub(crate) takes: [u64; ASYNCS],
-    pub(crate) taken: [u64; ASYNCS],
-    pub(crate) own: [u64; ASYNCS],
+    pub(crate) takes: [u64; MAX_ASYNCS],
+    pub(crate) taken: [u64; MAX_ASYNCS],
+    pub(crate) own: [u64; MAX_ASYNCS],
     /// The requests that workers started.
     pub(crate) started: LinkedList<(u64, u64)>,
     /// For each async what waits, and the sends of others.
-    pub(crate) waiting: [u64; ASYNCS],
-    pub(crate) sent: [u64; ASYNCS],
+    pub(crate) waiting: [u64; MAX_ASYNCS],
+    pub(crate) sent: [u64; MAX_ASYNCS],
 }
 
 // What holds between any two steps. Its key is the loop's number.

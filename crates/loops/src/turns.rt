@@ -4,7 +4,8 @@ use crate::guests::{loop_at_desk, with_custom_section};
 use crate::telling::{next, steps};
 use desk::Desk;
 use imports::EntryPoint;
-use order::{MAX_BYTES, Order, Reply};
+use limits::{MAX_ASYNCS, MAX_BYTES, MAX_DEPTH};
+use order::{Order, Reply};
 use phases::{Accepted, LoopCore};
 use std::alloc::{AllocError, Global};
 use std::sync::Arc;
@@ -89,7 +90,7 @@ impl Driven {
     }
 
     fn send(&mut self, async_no: u32) -> Result<(), Fail> {
-        if async_no >= 16 {
+        if async_no as usize >= MAX_ASYNCS {
             return Err(Fail::from("no such async"));
         }
         next(&mut self.text)?;
@@ -126,7 +127,7 @@ fn run(alloc: Global, order: Order) -> Result<Reply, Fail> {
     let Some(_work) = order.module.entry(EntryPoint::Work) else {
         return Err(Fail::from("no `uv_work`"));
     };
-    if order.bytes.len() > MAX_BYTES || order.depth < 1 || order.depth > 128 {
+    if order.bytes.len() > MAX_BYTES || order.depth < 1 || order.depth > MAX_DEPTH {
         return Err(Fail::from("an order that can't be run"));
     }
     Ok(order.run(alloc))

@@ -5,6 +5,7 @@ use Rattle.std.specs.Coded.{le_prop}
 use Rattle.std.proofs.Math.Logic.{∥∥₁_elim}
 use Rattle.std.proofs.lemmas.Bool.{ltb-false}
 use Rattle.std.proofs.lemmas.List.{length-take}
+use Rattle.limits.specs.declared.TheConstants.{MAX_BYTES}
 use Rattle.syntax.specs.declared.types.Value.{Value}
 use Rattle.syntax.specs.declared.types.Value.TheVariants.{I32, I64}
 use Rattle.instance.specs.Store.{Store}
@@ -17,21 +18,21 @@ use Rattle.order.specs.Bytes.{set_out, taken_out}
 use Rattle.order.specs.Work.{WorkOrder, WorkEnd, Done, Trap, Depth, Spent, NoMemory, work_end, WorkAnswers, WorkCall, StartRun, Works, stops, works, IsEndOf, IsShortEnd}
 
 abbrev IsShort : List ℕ → Type 0
-IsShort bytes = length bytes ≤ 65536
+IsShort bytes = length bytes ≤ MAX_BYTES
 
 abbrev IsSet : ℕ × List ℕ → Type 0
 IsSet set = IsShort set.1
 
-taken_short : (place count : ℕ) (memory : List ℕ) → count ≤ 65536 → IsShort (taken_out place count memory)
+taken_short : (place count : ℕ) (memory : List ℕ) → count ≤ MAX_BYTES → IsShort (taken_out place count memory)
 taken_short place count memory few = let is = length-take count (drop place memory) in omega arith
 
 set_short : (place count : ℕ) (memory reply : List ℕ) → IsShort reply → IsShort (set_out place count memory reply).1
 set_short place count memory reply short =
-    elim (nat_lt 65536 count) as (λ b. nat_lt 65536 count ≡ b → IsSet (cond b (invalid, reply) (cond (nat_lt (length memory) (place + count)) (outside_memory, reply) (0, taken_out place count memory)))) [
+    elim (nat_lt MAX_BYTES count) as (λ b. nat_lt MAX_BYTES count ≡ b → IsSet (cond b (invalid, reply) (cond (nat_lt (length memory) (place + count)) (outside_memory, reply) (0, taken_out place count memory)))) [
       | true ↦ λ e. short
       | false ↦ λ e. elim (nat_lt (length memory) (place + count)) as (λ b. IsSet (cond b (outside_memory, reply) (0, taken_out place count memory))) [
         | true ↦ short
-        | false ↦ taken_short place count memory (ltb-false 65536 count e)
+        | false ↦ taken_short place count memory (ltb-false MAX_BYTES count e)
       ]
     ] refl
 

@@ -1,5 +1,6 @@
 -- The calls by which a guest reads its input and sets its reply.
 use Rattle.std.specs.Prelude.{ℕ, ◌+◌, nat_lt, List, length, take, drop, Option, Some, None, if◌then◌else◌}
+use Rattle.limits.specs.declared.TheConstants.{MAX_BYTES}
 use Rattle.instance.specs.Fresh.{overwritten}
 use Rattle.order.specs.Numbers.{not_here, invalid, outside_memory}
 
@@ -23,6 +24,6 @@ taken_out place count memory = take count (drop place memory)
 -- what `out_set` answers, and the bytes of the reply after it
 abbrev pub set_out : (place count : ℕ) → (memory reply : List ℕ) → ℕ × List ℕ
 set_out place count memory reply =
-    if nat_lt 65536 count then (invalid, reply)
+    if nat_lt MAX_BYTES count then (invalid, reply)
     else (if nat_lt (length memory) (place + count) then (outside_memory, reply)
     else (0, taken_out place count memory))

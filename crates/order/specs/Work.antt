@@ -1,5 +1,6 @@
 -- What one work request is, and what becomes of it.
 use Rattle.std.specs.Prelude.{◌≡◌, ◌≢◌, ℕ, ◌-◌, ◌^◌, ◌≤◌, List, [], ◌∷◌, length, Some, None, Option, codes}
+use Rattle.limits.specs.declared.TheConstants.{MAX_BYTES}
 use Rattle.syntax.specs.declared.types.Value.{Value}
 use Rattle.syntax.specs.declared.types.Value.TheVariants.{I32, I64}
 use Rattle.syntax.specs.Loaded.{Loaded}
@@ -103,5 +104,5 @@ IsEndOf o end = IsTheEnd o end
 
 -- the bytes of an end are as many as a reply has at most
 abbrev pub IsShortEnd : WorkEnd → Type 0
-IsShortEnd (Done value bytes) = length bytes ≤ 65536
+IsShortEnd (Done value bytes) = length bytes ≤ MAX_BYTES
 IsShortEnd _ = Unit {0}

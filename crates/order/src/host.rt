@@ -2,14 +2,15 @@
 
 ghost use Rattle.std.specs.Prelude.{◌≡◌, ◌≤◌, [], IfOk, length, vec_capacity};
 ghost use Rattle.std.specs.Arc.{arc_value};
+ghost use Rattle.limits.specs.declared.TheConstants.{MAX_BYTES};
 ghost use Rattle.order.specs.Bytes.{set_out};
 
 use crate::answers::{INVALID, NOT_HERE, OUTSIDE_MEMORY};
 use crate::calls::{called, copy_in, three, two};
-use crate::order::MAX_BYTES;
 use imports::{Call, Linked};
 use instance::memory::Memory;
 use interp::host::{Args, Host};
+use limits::MAX_BYTES;
 use std::alloc::{AllocError, Global};
 use std::sync::Arc;
 use syntax::types::Value;
@@ -21,8 +22,8 @@ pub struct WorkHost {
     pub linked: Arc<Linked, Global>,
     pub bytes: Arc<Vec<u8>, Global>,
     pub reply: Vec<u8>,
-    pub ghost few: { length (arc_value bytes).items ≤ 65536 },
-    pub ghost room: { 65536 ≤ vec_capacity reply },
+    pub ghost few: { length (arc_value bytes).items ≤ MAX_BYTES },
+    pub ghost room: { MAX_BYTES ≤ vec_capacity reply },
 }
 
 impl WorkHost {
@@ -32,7 +33,7 @@ impl WorkHost {
         linked: &Arc<Linked, Global>,
         bytes: &Arc<Vec<u8>, Global>,
     ) -> Result<WorkHost, AllocError>
-        requires { length (arc_value bytes.now).items ≤ 65536 }
+        requires { length (arc_value bytes.now).items ≤ MAX_BYTES }
         ensures linked { IfOk result (λ h. arc_value h.linked ≡ arc_value linked.now) }
         ensures bytes { IfOk result (λ h. arc_value h.bytes ≡ arc_value bytes.now) }
         ensures reply { IfOk result (λ h. h.reply.items ≡ []) }

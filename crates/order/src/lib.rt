@@ -16,5 +16,5 @@ mod order;
 mod reply;
 mod run;
 
-pub use order::{MAX_BYTES, Order, Outcome};
+pub use order::{Order, Outcome};
 pub use reply::Reply;

@@ -9,9 +9,6 @@ use std::alloc::Global;
 use std::sync::Arc;
 use syntax::laws::one_module;
 
-/// How many bytes a request and its reply have at most.
-pub const MAX_BYTES: usize = 65536;
-
 /// A work request of a loop: whose it is, the operation and the bytes, the module that computes it, and what it may
 /// use.
 #[derive(Drop)]

@@ -2,6 +2,7 @@
 
 ghost use Rattle.std.specs.Prelude.{◌≡◌, ◌≤◌, ℕ, [], ◌∷◌, Some, length, codes, IfOk};
 ghost use Rattle.std.specs.Arc.{arc_value};
+ghost use Rattle.limits.specs.declared.TheConstants.{MAX_BYTES, MAX_DEPTH};
 ghost use Rattle.syntax.specs.declared.types.ValType.TheVariants as valtype;
 ghost use Rattle.validate.specs.Valid.{ValidModule};
 ghost use Rattle.instance.specs.Fresh.{IsFresh};
@@ -45,8 +46,8 @@ impl Order {
     /// instance and the bytes of the reply are reserved first; where memory is refused there, the reply says so.
     pub fn run(self, alloc: Global) -> Reply
         requires work { (f : ℕ) × ExportsFunction (arc_value self.module).contents (codes "uv_work") f }
-        requires bytes { length (arc_value self.bytes).items ≤ 65536 }
-        requires depth { (1 ≤ self.depth) × (self.depth ≤ 128) }
+        requires bytes { length (arc_value self.bytes).items ≤ MAX_BYTES }
+        requires depth { (1 ≤ self.depth) × (self.depth ≤ MAX_DEPTH) }
         ensures { result.order ≡ self }
     {
         let outcome = match self.compute(alloc) {
@@ -61,8 +62,8 @@ impl Order {
 
     fn compute(&self, alloc: Global) -> Result<Outcome, AllocError>
         requires work { (f : ℕ) × ExportsFunction (arc_value self.now.module).contents (codes "uv_work") f }
-        requires bytes { length (arc_value self.now.bytes).items ≤ 65536 }
-        requires depth { (1 ≤ self.now.depth) × (self.now.depth ≤ 128) }
+        requires bytes { length (arc_value self.now.bytes).items ≤ MAX_BYTES }
+        requires depth { (1 ≤ self.now.depth) × (self.now.depth ≤ MAX_DEPTH) }
         ensures { IfOk result (λ outcome. IsEndOf (order_of self.now) (end_of outcome)) }
     {
         let mut instance = self.new_instance(alloc)?;
@@ -79,7 +80,7 @@ impl Order {
         requires store { IsStoreOf (arc_value self.now.module).contents instance.old }
         requires serves { Serves host.old (order_of self.now) }
         requires empty { host.old.reply.items ≡ [] }
-        requires depth { (1 ≤ self.now.depth) × (self.now.depth ≤ 128) }
+        requires depth { (1 ≤ self.now.depth) × (self.now.depth ≤ MAX_DEPTH) }
         ensures end { IsEndOf (order_of self.now) (work_end (outcome_of result) host.new.reply.items) }
         ensures results { AreResults result (valtype.I32 ∷ []) }
     {
@@ -109,7 +110,7 @@ impl Order {
         requires store { IsStoreOf (arc_value self.now.module).contents instance.old }
         requires serves { Serves host.old (order_of self.now) }
         requires empty { host.old.reply.items ≡ [] }
-        requires depth { (1 ≤ self.now.depth) × (self.now.depth ≤ 128) }
+        requires depth { (1 ≤ self.now.depth) × (self.now.depth ≤ MAX_DEPTH) }
         ensures run { StartRun (order_of self.now) (arc_value self.now.module).contents.start instance.old (outcome_of result.ending) result.used instance.new host.new.reply.items }
         ensures within { result.used ≤ self.now.fuel }
         ensures results { AreResults result.ending [] }
@@ -130,7 +131,7 @@ impl Order {
         requires work { (f : ℕ) × ExportsFunction (arc_value self.now.module).contents (codes "uv_work") f }
         requires store { IsStoreOf (arc_value self.now.module).contents instance.old }
         requires serves { Serves host.old (order_of self.now) }
-        requires depth { (1 ≤ self.now.depth) × (self.now.depth ≤ 128) }
+        requires depth { (1 ≤ self.now.depth) × (self.now.depth ≤ MAX_DEPTH) }
         ensures run { (f : ℕ) × ExportsFunction (arc_value self.now.module).contents (codes "uv_work") f
             × WorkRun (order_of self.now) fuel instance.old host.old.reply.items f (Value.I32 self.now.op ∷ []) (outcome_of result.ending) result.used instance.new host.new.reply.items }
         ensures results { AreResults result.ending (valtype.I32 ∷ []) }
@@ -153,7 +154,7 @@ impl Order {
         requires takes { TakesArguments (arc_value self.now.module).contents function args.now }
         requires store { IsStoreOf (arc_value self.now.module).contents instance.old }
         requires serves { Serves host.old (order_of self.now) }
-        requires depth { (1 ≤ self.now.depth) × (self.now.depth ≤ 128) }
+        requires depth { (1 ≤ self.now.depth) × (self.now.depth ≤ MAX_DEPTH) }
         ensures run { WorkRun (order_of self.now) fuel instance.old host.old.reply.items function args.now (outcome_of result.ending) result.used instance.new host.new.reply.items }
         ensures within { result.used ≤ fuel }
         ensures results { ReturnsTyped (arc_value self.now.module).contents function result.ending }

@@ -4,6 +4,7 @@ use Rattle.std.specs.List.{find, list_any, slice_get, remove, All}
 use Rattle.std.proofs.lemmas.Bool.{eq-eqb, ne_eqb, eqb-true}
 use Rattle.std.proofs.lemmas.List.Elements.{All-filter, All-push, All-set}
 use Rattle.std.proofs.lemmas.Option.{get_or_from_slice_get, slice_get_within}
+use Rattle.limits.specs.declared.TheConstants.{MAX_BYTES, MAX_REQUESTS}
 use Rattle.order.specs.Numbers.{cancelled_code}
 use Rattle.order.specs.Work.{WorkOrder, WorkEnd, Done, Trap, Depth, Spent, NoMemory, IsEndOf, IsShortEnd}
 use Rattle.phases.specs.Requests.{Request, Stage, Open, HandedOut, Answered, Cancelled, has_number, in_stage, Completion, completion_of, end_completion}
@@ -144,17 +145,17 @@ module _ (xs : List Request) (last : ℕ) (kept : AreKept (record { outstanding 
       → AreKept (record { outstanding = set xs at (staged r stage); last = last })
   kept_stage at r stage h right = record {
     few = rw (length-set xs at (staged r stage)) kept.few;
-    slots = All-set (λ r. r.order.slot < 32) xs at (staged r stage) (at_all (λ r. r.order.slot < 32) xs at r kept.slots h) kept.slots;
+    slots = All-set (λ r. r.order.slot < MAX_REQUESTS) xs at (staged r stage) (at_all (λ r. r.order.slot < MAX_REQUESTS) xs at r kept.slots h) kept.slots;
     rising = rw (map_same number_of xs at r (staged r stage) h refl) kept.rising;
     numbers = kept.numbers;
     right = All-set IsRight xs at (staged r stage) right kept.right;
   }
 
-  pub kept_open : (o : WorkOrder) → length xs < 32 → o.request ≡ last + 1 → o.slot < 32 → last + 1 < 2 ^ 31
+  pub kept_open : (o : WorkOrder) → length xs < MAX_REQUESTS → o.request ≡ last + 1 → o.slot < MAX_REQUESTS → last + 1 < 2 ^ 31
       → AreKept (record { outstanding = xs ++ record { order = o; stage = Open } ∷ []; last = o.request })
   kept_open o room number slot small = record {
     few = rw (length-append xs (record { order = o; stage = Open } ∷ [])) (omega arith);
-    slots = All-push (λ r. r.order.slot < 32) xs (record { order = o; stage = Open }) kept.slots slot;
+    slots = All-push (λ r. r.order.slot < MAX_REQUESTS) xs (record { order = o; stage = Open }) kept.slots slot;
     rising = rw (map_push number_of xs (record { order = o; stage = Open })) (rising_on 0 last o.request (map number_of xs) kept.rising (omega arith));
     numbers = rw number small;
     right = All-push IsRight xs (record { order = o; stage = Open }) kept.right tt;
@@ -163,7 +164,7 @@ module _ (xs : List Request) (last : ℕ) (kept : AreKept (record { outstanding 
   pub kept_filter : (p : Request → Bool) → AreKept (record { outstanding = filter p xs; last = last })
   kept_filter p = record {
     few = (let le = fewer_or_same p xs in let few = kept.few in omega arith);
-    slots = All-filter p (λ r. r.order.slot < 32) xs kept.slots;
+    slots = All-filter p (λ r. r.order.slot < MAX_REQUESTS) xs kept.slots;
     rising = rising_filter p 0 last xs kept.rising;
     numbers = kept.numbers;
     right = All-filter p IsRight xs kept.right;
@@ -220,7 +221,7 @@ removed_there xs last kept p bs at item same h is =
     }
 
 -- what a callback may read of a request is as short as a reply
-short_end : (end : WorkEnd) → IsShortEnd end → length (end_completion end).bytes ≤ 65536
+short_end : (end : WorkEnd) → IsShortEnd end → length (end_completion end).bytes ≤ MAX_BYTES
 short_end (Done value bytes) h = h
 short_end (Trap code) h = omega arith
 short_end Depth h = omega arith
@@ -228,11 +229,11 @@ short_end Spent h = omega arith
 short_end NoMemory h = omega arith
 
 pub short_completion : ((o : WorkOrder) (end : WorkEnd) → ∥ IsEndOf o end ∥₁ → IsShortEnd end) → (o : WorkOrder) (stage : Stage) (t : Completion)
-    → IsTrueTo o stage → completion_of stage ≡ Some t → length t.bytes ≤ 65536
+    → IsTrueTo o stage → completion_of stage ≡ Some t → length t.bytes ≤ MAX_BYTES
 short_completion short o Open t right h = absurd (cc)
 short_completion short o HandedOut t right h = absurd (cc)
-short_completion short o (Answered end) t right h = let is : end_completion end ≡ t = cc in subst (λ (u : Completion). length u.bytes ≤ 65536) is (short_end end (short o end right))
-short_completion short o Cancelled t right h = let is : record { kind = 5; code = cancelled_code; bytes = [] } ≡ t = cc in subst (λ (u : Completion). length u.bytes ≤ 65536) is (omega arith)
+short_completion short o (Answered end) t right h = let is : end_completion end ≡ t = cc in subst (λ (u : Completion). length u.bytes ≤ MAX_BYTES) is (short_end end (short o end right))
+short_completion short o Cancelled t right h = let is : record { kind = 5; code = cancelled_code; bytes = [] } ≡ t = cc in subst (λ (u : Completion). length u.bytes ≤ MAX_BYTES) is (omega arith)
 
 -- where no request has the number, nothing is changed
 pub untouched_all : (stage : Stage) (n : ℕ) (xs : List Request) → find (has_number n) xs ≡ None → map (in_stage n stage) xs ≡ xs

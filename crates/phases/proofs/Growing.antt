@@ -3,6 +3,7 @@ use Rattle.std.proofs.Common.{◌≡◌, ℕ, zero, suc, ◌+◌, ◌==◌, Bool
 use Rattle.std.specs.Option.{option_map_or, option_or}
 use Rattle.std.specs.FinMap as finite
 use Rattle.std.proofs.lemmas.List.Folds.{find-append}
+use Rattle.limits.specs.declared.TheConstants.{MAX_BYTES, MAX_HANDLES, MAX_ASYNCS, MAX_REQUESTS, MAX_EMITS}
 use Rattle.syntax.specs.declared.types.Value.{Value}
 use Rattle.syntax.specs.declared.types.Value.TheVariants.{I32, I64}
 use Rattle.handles.specs.declared.handle.Record.{Record}
@@ -198,7 +199,7 @@ either false f g h = g h
 
 holds_makes : (made : Roster → ℕ → Roster) (r : Roster) (answer : ℕ) (u : Roster) → (record_of r.handles answer ≡ None → Holds r (made r answer)) → Makes made r answer u → Holds r u
 holds_makes made r answer u holds =
-    either (finite.len r.handles.records == 64)
+    either (finite.len r.handles.records == MAX_HANDLES)
     (λ h. holds_same r u h.1)
     (λ h. subst (Holds r) (sym h.2) (holds h.1))
 
@@ -208,7 +209,7 @@ holds_made k r answer u = holds_makes (with_made k) r answer u (λ none. holds_h
 holds_made_async : (callback : ℕ) (r : Roster) (answer : ℕ) (u : Roster) → MakesAsync callback r answer u → Holds r u
 holds_made_async callback r answer u =
     either (not (is_callback r callback)) (λ h. holds_same r u h.1)
-    (either (length r.asyncs == 16) (λ h. holds_same r u h.1)
+    (either (length r.asyncs == MAX_ASYNCS) (λ h. holds_same r u h.1)
     (holds_makes (with_async callback) r answer u (holds_async r answer callback)))
 
 module _ (r : Roster) where
@@ -261,9 +262,9 @@ module _ {S : Type 0} (calls : Calls S) where
   settles_queue : (g : Setting) (memory : List ℕ) (old : Requests × S) (op place count answer : ℕ) (new : Requests × S) → QueuesWork calls g memory old op place count answer new → Settles old.0 new.0
   settles_queue g memory old op place count answer new =
       either (not (exports g.loaded.contents (codes "uv_work") && exports g.loaded.contents (codes "uv_after_work"))) same
-      (either (nat_lt 65536 count) same
+      (either (nat_lt MAX_BYTES count) same
       (either (nat_lt (length memory) (place + count)) same
-      (either (length old.0.outstanding == 32) same
+      (either (length old.0.outstanding == MAX_REQUESTS) same
       (either (old.0.last == 2147483647) same
       opened)))) where
         same : {P : Type 0} → P × (new ≡ old) → Settles old.0 new.0
@@ -295,7 +296,7 @@ module _ {S : Type 0} (calls : Calls S) (g : Setting) (old : State × S) (call :
 
   emits : (value : ℕ) → Grows old.0 (emitted_in value old.0).1
   emits value =
-      choose (λ (p : ℕ × State). Grows old.0 p.1) (nat_le 64 (length old.0.emits)) (none_left, old.0) (0, record old.0 { emits = old.0.emits ++ value ∷ [] })
+      choose (λ (p : ℕ × State). Grows old.0 p.1) (nat_le MAX_EMITS (length old.0.emits)) (none_left, old.0) (0, record old.0 { emits = old.0.emits ++ value ∷ [] })
       (λ _. grows_refl old.0)
       (λ _. grows_same old.0 (record old.0 { emits = old.0.emits ++ value ∷ [] }) refl refl refl refl)
 

@@ -3,6 +3,7 @@ use Rattle.std.proofs.Common.{◌≡◌, ℕ, ◌+◌, ◌<◌, ◌≤◌, ◌==
 use Rattle.std.specs.Prelude.{MatchBool, nat_le, nat_lt, codes}
 use Rattle.std.proofs.lemmas.List.Sums.{sum_by-append}
 use Rattle.std.proofs.lemmas.Bool.{eqb-true}
+use Rattle.limits.specs.declared.TheConstants.{MAX_BYTES, MAX_REQUESTS, MAX_EMITS}
 use Rattle.syntax.specs.declared.types.Value.{Value}
 use Rattle.syntax.specs.declared.types.Value.TheVariants.{I32, I64}
 use Rattle.validate.specs.Typing.{type_of}
@@ -92,9 +93,9 @@ module _ {S : Type 0} (calls : Calls S) (lawful : IsLawful calls) where
     queues_upto : (memory : List ℕ) (place count : ℕ) → QueuesWork calls g memory old op place count answer new → UpTo new
     queues_upto memory place count h =
         unless (not (exports g.loaded.contents (codes "uv_work") && exports g.loaded.contents (codes "uv_after_work"))) no_such_export
-        (unless (nat_lt 65536 count) invalid
+        (unless (nat_lt MAX_BYTES count) invalid
         (unless (nat_lt (length memory) (place + count)) outside_memory
-        (unless (length old.0.outstanding == 32) no_room
+        (unless (length old.0.outstanding == MAX_REQUESTS) no_room
         (unless (old.0.last == 2147483647) none_left
         (refused_or_opened no_memory (taken_out place count memory))))))
         h
@@ -132,7 +133,7 @@ module _ {S : Type 0} (calls : Calls S) (lawful : IsLawful calls) where
       upto_view last (calls.view old) (calls.view new) (ap (λ (v : View). v.opened) (lawful.takes old new async_no answer h).0) upto
 
   emitted_requests : (value : ℕ) (s : State) → (emitted_in value s).1.requests ≡ s.requests
-  emitted_requests value s = kept (nat_le 64 (length s.emits)) where
+  emitted_requests value s = kept (nat_le MAX_EMITS (length s.emits)) where
     kept : (b : Bool) → (let done : ℕ × State = cond b (none_left, s) (0, record s { emits = s.emits ++ value ∷ [] }) in done.1.requests) ≡ s.requests
     kept true = refl
     kept false = refl

@@ -3,6 +3,7 @@ use Rattle.std.proofs.Common.{◌≡◌, ℕ, ◌≤◌, Bool, true, false, cond
 use Rattle.std.proofs.lemmas.Bool.{eqb-true}
 use Rattle.std.specs.Option.{option_map, option_map_or, option_and_then, is_some}
 use Rattle.std.proofs.lemmas.Option.{slice_get-map}
+use Rattle.limits.specs.declared.TheConstants.{MAX_DEPTH}
 use Rattle.syntax.specs.Loaded.{Loaded}
 use Rattle.syntax.specs.declared.contents.Contents.{Contents}
 use Rattle.syntax.specs.declared.contents.FuncType.{FuncType}
@@ -245,7 +246,7 @@ pub new_state : (m : Contents) (s : State) (callbacks : List (Option ℕ)) (star
 new_state m s callbacks start main e a b d =
     e ∙ (λ i. opening (record { handles = empty_table; asyncs = []; closing = []; callbacks = a i }) (first_list (b i) (d i)))
 
-pub kept_new : (l : Loaded) (g : Setting) (s : State) (t : Store) → l ≡ g.loaded → (1 ≤ g.depth) × (g.depth ≤ 128) → IsStoreOf l.contents t
+pub kept_new : (l : Loaded) (g : Setting) (s : State) (t : Store) → l ≡ g.loaded → (1 ≤ g.depth) × (g.depth ≤ MAX_DEPTH) → IsStoreOf l.contents t
     → s ≡ opening (opening_roster l.contents) (begin_list l.contents) → Keeps l g s t
 kept_new l g s t same depth fits is =
     let opened : s ≡ opening (opening_roster g.loaded.contents) (begin_list g.loaded.contents) = is ∙ ap (λ (x : Loaded). opening (opening_roster x.contents) (begin_list x.contents)) same in

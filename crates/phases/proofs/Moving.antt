@@ -2,6 +2,7 @@
 use Rattle.std.proofs.Common.{◌≡◌, ℕ, ◌+◌, ◌<◌, ◌≤◌, ◌==◌, Bool, true, false, cond, not, ◌&&◌, inl, inr, ◌⊎◌, List, [], ◌∷◌, ◌++◌, length, Option, Some, None, refl, sym, ap, subst, ◌∙◌, arith, append_assoc, append-nil, MatchBool, MatchOption}
 use Rattle.std.specs.Prelude.{◌^◌, nat_lt, nat_le, codes}
 use Rattle.std.proofs.lemmas.Bool.{ne_eqb}
+use Rattle.limits.specs.declared.TheConstants.{MAX_BYTES, MAX_REQUESTS, MAX_EMITS}
 use Rattle.syntax.specs.declared.types.Value.{Value}
 use Rattle.syntax.specs.declared.types.Value.TheVariants.{I32, I64}
 use Rattle.handles.specs.declared.handle.Kind.TheVariants as handle_kind
@@ -67,13 +68,13 @@ module _ {S : Type 0} (calls : Calls S) (g : Setting) where
     queue_fate : QueuesWork calls g memory old op place count answer new → QueueFate
     queue_fate h =
         refuse (not (exports g.loaded.contents (codes "uv_work") && exports g.loaded.contents (codes "uv_after_work"))) no_such_export (omega arith)
-        (refuse (nat_lt 65536 count) invalid (omega arith)
+        (refuse (nat_lt MAX_BYTES count) invalid (omega arith)
         (refuse (nat_lt (length memory) (place + count)) outside_memory (omega arith)
-        (refuse (length old.0.outstanding == 32) no_room (omega arith)
+        (refuse (length old.0.outstanding == MAX_REQUESTS) no_room (omega arith)
         (refuse (old.0.last == 2147483647) none_left (omega arith) last)))) h
 
   emit_keeps : (value : ℕ) (s : State) → (emitted_in value s).1.requests ≡ s.requests
-  emit_keeps value s = by (nat_le 64 (length s.emits)) where
+  emit_keeps value s = by (nat_le MAX_EMITS (length s.emits)) where
     by : (b : Bool) → (cond {A = ℕ × State} b (none_left, s) (0, record s { emits = s.emits ++ value ∷ [] })).1.requests ≡ s.requests
     by true = refl
     by false = refl

@@ -8,6 +8,7 @@ use Rattle.std.specs.FinMap as finite
 use Rattle.std.specs.FinMap.{FinMap}
 use Rattle.std.proofs.lemmas.Bool.{cases_eq, eq-eqb, ne_eqb}
 use Rattle.std.proofs.lemmas.List.Folds.{list_any-append}
+use Rattle.limits.specs.declared.TheConstants.{MAX_HANDLES}
 use Rattle.handles.specs.declared.handle.Record.{Record}
 use Rattle.handles.specs.declared.handle.Kind.{Kind}
 use Rattle.handles.specs.declared.handle.Kind.TheVariants as kind
@@ -56,7 +57,7 @@ module _ (t : Table) (handle : ℕ) (r' : Record) (n : ℕ) where
     renewed = record { handles = changed; asyncs = asyncs; closing = closings; callbacks = old.callbacks }
 
     pub kept_change : IsKept old
-        → finite.len (finite.insert t.records handle r') ≤ 64
+        → finite.len (finite.insert t.records handle r') ≤ MAX_HANDLES
         → (has_duty r' ≡ true → is_callback old r'.callback ≡ true)
         → AreClosing changed closings
         → ((other : ℕ) → list_any (is_handle other) old.asyncs ≡ true → list_any (is_handle other) asyncs ≡ true)
@@ -146,7 +147,7 @@ pub closing_there : (t : Table) (handle other : ℕ) → record_of t handle ≡ 
 closing_there t handle other none was here =
     let it : IsSomeAnd None (λ (s : Record). s.closing ≡ true) = subst (λ (o : Option Record). IsSomeAnd o (λ s. s.closing ≡ true)) (ap (record_of t) here ∙ none) was in it
 
-pub kept_made : (old : Roster) (handle : ℕ) (k : Kind) → IsKept old → record_of old.handles handle ≡ None → finite.len old.handles.records ≢ 64 → (k ≡ kind.Async → ⊥)
+pub kept_made : (old : Roster) (handle : ℕ) (k : Kind) → IsKept old → record_of old.handles handle ≡ None → finite.len old.handles.records ≢ MAX_HANDLES → (k ≡ kind.Async → ⊥)
     → IsKept (with_made k old handle)
 kept_made old handle k kept none room other_kind =
     kept_change old.handles handle (new_record k) old.handles.last_start old refl old.asyncs old.closing kept
@@ -174,7 +175,7 @@ any_last handle asyncs =
 pub made_async_open : (t : Table) (handle : ℕ) → IsOpen (with_record t handle (new_record kind.Async)) handle
 made_async_open t handle = subst (λ (o : Option Record). IsSomeAnd o (λ r. r.closing ≡ false)) (sym (here_is t handle (new_record kind.Async) t.last_start)) refl
 
-pub kept_async : (old : Roster) (handle callback : ℕ) → IsKept old → record_of old.handles handle ≡ None → finite.len old.handles.records ≢ 64 → is_callback old callback ≡ true
+pub kept_async : (old : Roster) (handle callback : ℕ) → IsKept old → record_of old.handles handle ≡ None → finite.len old.handles.records ≢ MAX_HANDLES → is_callback old callback ≡ true
     → IsKept (with_async callback old handle)
 kept_async old handle callback kept none room good =
     let asyncs = old.asyncs ++ Some handle ∷ [] in
@@ -242,7 +243,7 @@ open_record : (t : Table) (handle : ℕ) → IsOpen t handle → (r : Record) ×
 open_record t handle there = some_of (record_of t handle) _ there
 
 -- there is room for one more closing handle
-pub closing_room : (old : Roster) (handle : ℕ) → IsKept old → IsOpen old.handles handle → length old.closing < 64
+pub closing_room : (old : Roster) (handle : ℕ) → IsKept old → IsOpen old.handles handle → length old.closing < MAX_HANDLES
 closing_room old handle kept there =
     let it = open_record old.handles handle there in
     let all : AreIn old.handles.records (handle ∷ old.closing) = (ap is_some it.1, not_among old.handles handle it.0 it.1 it.2 old.closing kept.closing_handles, closing_in old.handles old.closing kept.closing_handles) in
@@ -327,7 +328,7 @@ kept_remove old handle kept = record {
   few = (
       let it = finite.len-remove nat_cmp_total old.handles.records handle in
       let few = kept.few in
-      let P : ℕ → Type 0 = λ n. n ≤ 64 in
+      let P : ℕ → Type 0 = λ n. n ≤ MAX_HANDLES in
       subst P (sym it) (choose P (finite.contains_key old.handles.records handle) _ _ (λ _. omega arith) (λ _. few)));
   callbacks = λ other r got has. elim (gone_or_same old.handles handle other) [
     | inl here ↦ absurd (let none = here.1 in cc)

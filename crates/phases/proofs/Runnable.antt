@@ -7,6 +7,7 @@ use Rattle.std.proofs.lemmas.Bool.{ltb-false}
 use Rattle.std.proofs.lemmas.List.{length-take}
 use Rattle.std.proofs.lemmas.List.Elements.{All-append, All-map, All-weaker, All-get_or, All-cons, All-head, All-tail, All-filter}
 use Rattle.std.proofs.lemmas.Option.{slice_get_within, get_or_from_slice_get}
+use Rattle.limits.specs.declared.TheConstants.{MAX_DEPTH, MAX_BYTES, MAX_REQUESTS, MAX_EMITS}
 use Rattle.syntax.specs.declared.types.Value.{Value}
 use Rattle.syntax.specs.declared.types.Value.TheVariants.{I32, I64}
 use Rattle.syntax.specs.declared.contents.Contents.{Contents}
@@ -42,7 +43,7 @@ decide false f g h = g refl h
 module _ {S : Type 0} (calls : Calls S) (g : Setting) (P : Requests → Type 0)
     (cancelled : (rs : Requests) (number : ℕ) → P rs → P (with_stage rs number Cancelled))
     (opened : (rs : Requests) (slot op place count : ℕ) (memory : List ℕ)
-    → (exports g.loaded.contents (codes "uv_work") && exports g.loaded.contents (codes "uv_after_work")) ≡ true → nat_lt 65536 count ≡ false → slot < 32
+    → (exports g.loaded.contents (codes "uv_work") && exports g.loaded.contents (codes "uv_after_work")) ≡ true → nat_lt MAX_BYTES count ≡ false → slot < MAX_REQUESTS
     → P rs → P (with_work rs (next_work g rs slot op (taken_out place count memory))))
   where
     same : (rs us : Requests) → us ≡ rs → P rs → P us
@@ -63,9 +64,9 @@ module _ {S : Type 0} (calls : Calls S) (g : Setting) (P : Requests → Type 0)
     after_queue : (memory : List ℕ) (old : Requests × S) (op place count answer : ℕ) (new : Requests × S) → QueuesWork calls g memory old op place count answer new → P old.0 → P new.0
     after_queue memory old op place count answer new h p =
         decide (not (exports g.loaded.contents (codes "uv_work") && exports g.loaded.contents (codes "uv_after_work"))) (λ _. unchanged)
-        (λ exported. decide (nat_lt 65536 count) (λ _. unchanged)
+        (λ exported. decide (nat_lt MAX_BYTES count) (λ _. unchanged)
         (λ few. decide (nat_lt (length memory) (place + count)) (λ _. unchanged)
-        (λ _. decide (length old.0.outstanding == 32) (λ _. unchanged)
+        (λ _. decide (length old.0.outstanding == MAX_REQUESTS) (λ _. unchanged)
         (λ _. decide (old.0.last == 2147483647) (λ _. unchanged)
         (λ _. done exported few))))) h where
           unchanged : {Q : Type 0} → Q × (new ≡ old) → P new.0
@@ -75,7 +76,7 @@ module _ {S : Type 0} (calls : Calls S) (g : Setting) (P : Requests → Type 0)
           both true e = refl
           both false e = absurd (cc)
 
-          done : {Q : Type 0} → not (exports g.loaded.contents (codes "uv_work") && exports g.loaded.contents (codes "uv_after_work")) ≡ false → nat_lt 65536 count ≡ false
+          done : {Q : Type 0} → not (exports g.loaded.contents (codes "uv_work") && exports g.loaded.contents (codes "uv_after_work")) ≡ false → nat_lt MAX_BYTES count ≡ false
               → (Q × (new ≡ old)) ⊎ Opens calls g old op (taken_out place count memory) answer new → P new.0
           done exported few (inl k) = unchanged k
           done exported few (inr k) = subst P (sym k.kept) (opened old.0 k.slot op place count memory (both _ exported) few k.below p)
@@ -88,7 +89,7 @@ module _ {S : Type 0} (calls : Calls S) (g : Setting) (P : Requests → Type 0)
       of_work R k h p = subst P (sym (ap (λ s. s.requests) h.4)) (k h.0 h.1 h.2 p)
 
       emitted : (value : ℕ) → (emitted_in value old.0).1.requests ≡ old.0.requests
-      emitted value = elim (nat_le 64 (length old.0.emits)) as (λ b. (cond {A = ℕ × State} b (none_left, old.0) (0, record old.0 { emits = old.0.emits ++ value ∷ [] })).1.requests ≡ old.0.requests) [ true ↦ refl | false ↦ refl ]
+      emitted value = elim (nat_le MAX_EMITS (length old.0.emits)) as (λ b. (cond {A = ℕ × State} b (none_left, old.0) (0, record old.0 { emits = old.0.emits ++ value ∷ [] })).1.requests ≡ old.0.requests) [ true ↦ refl | false ↦ refl ]
 
       of_call : (f : Call) (args : List Value) → CallStep calls g old call new f args → P old.0.requests → P new.0.requests
       of_call Now [] h = to_state _ refl (ap (λ p. p.0) h.2)
@@ -214,7 +215,7 @@ module _ (g : Setting) where
     by_status Over k = of_handing (lowest_open s.requests) refl k
 
 -- the orders of a linked module can be run
-module _ (g : Setting) (linked : IsLinked g.loaded.contents) (depth : (1 ≤ g.depth) × (g.depth ≤ 128)) where
+module _ (g : Setting) (linked : IsLinked g.loaded.contents) (depth : (1 ≤ g.depth) × (g.depth ≤ MAX_DEPTH)) where
   second_of : (a b : Bool) → (a && b) ≡ true → b ≡ true
   second_of true b e = e
   second_of false b e = absurd (cc)
@@ -224,10 +225,10 @@ module _ (g : Setting) (linked : IsLinked g.loaded.contents) (depth : (1 ≤ g.d
   first_of false b e = absurd (cc)
 
   opened_runs : (rs : Requests) (slot op place count : ℕ) (memory : List ℕ)
-      → (exports g.loaded.contents (codes "uv_work") && exports g.loaded.contents (codes "uv_after_work")) ≡ true → nat_lt 65536 count ≡ false → slot < 32
+      → (exports g.loaded.contents (codes "uv_work") && exports g.loaded.contents (codes "uv_after_work")) ≡ true → nat_lt MAX_BYTES count ≡ false → slot < MAX_REQUESTS
       → AreOrdersOf g rs → AreOrdersOf g (with_work rs (next_work g rs slot op (taken_out place count memory)))
   opened_runs rs slot op place count memory exported few below h =
-      let within : count ≤ 65536 = ltb-false 65536 count few in
+      let within : count ≤ MAX_BYTES = ltb-false MAX_BYTES count few in
       let front : length (take count (drop place memory)) ≡ min count (length (drop place memory)) = length-take count (drop place memory) in
       let runs : CanRun (next_work g rs slot op (taken_out place count memory)) = record {
         work = exports_work g.loaded.contents linked (first_of (exports g.loaded.contents (codes "uv_work")) (exports g.loaded.contents (codes "uv_after_work")) exported);

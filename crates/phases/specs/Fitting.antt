@@ -3,6 +3,7 @@ use Rattle.std.specs.Prelude.{◌≡◌, ℕ, ◌<◌, ◌≤◌, ◌^◌, ◌==
 use Rattle.std.specs.Prelude.{Option, Some, None}
 use Rattle.std.specs.List.{list_any}
 use Rattle.std.specs.FinMap as finite
+use Rattle.limits.specs.declared.TheConstants.{MAX_BYTES, MAX_HANDLES, MAX_REQUESTS}
 use Rattle.handles.specs.declared.handle.Record.{Record}
 use Rattle.handles.specs.declared.handle.Kind.TheVariants as kind
 use Rattle.handles.specs.Table.{Table, record_of, IsClosing}
@@ -24,7 +25,7 @@ AreClosing t (handle ∷ handles) = IsClosing t handle × (list_any (λ other. o
 -- There are 64 handles at most. The callback of each that has a duty is there, what is listed as closing is closing,
 -- and each async has its number.
 pub record IsKept (r : Roster) : Type 0 where
-  pub few : finite.len r.handles.records ≤ 64
+  pub few : finite.len r.handles.records ≤ MAX_HANDLES
   pub callbacks : (handle : ℕ) (it : Record) → record_of r.handles handle ≡ Some it → has_duty it ≡ true → is_callback r it.callback ≡ true
   pub closing_handles : AreClosing r.handles r.closing
   pub numbered : (handle : ℕ) (it : Record) → record_of r.handles handle ≡ Some it → it.kind ≡ kind.Async
@@ -46,8 +47,8 @@ IsRight r = IsTrueTo r.order r.stage
 -- There are 32 requests at most, in slots below 32, their numbers rise and are below 2^31, and what is answered is
 -- right.
 pub record AreKept (rs : Requests) : Type 0 where
-  pub few : length rs.outstanding ≤ 32
-  pub slots : All (λ r. r.order.slot < 32) rs.outstanding
+  pub few : length rs.outstanding ≤ MAX_REQUESTS
+  pub slots : All (λ r. r.order.slot < MAX_REQUESTS) rs.outstanding
   pub rising : AreRising 0 (map (λ r. r.order.request) rs.outstanding) rs.last
   pub numbers : rs.last < 2 ^ 31
   pub right : All IsRight rs.outstanding
@@ -58,10 +59,10 @@ AllRight rs = All IsRight rs.outstanding
 
 -- a slot in which a request may be cancelled is one of 32
 abbrev pub IsSlotBelow : CancelState → Type 0
-IsSlotBelow (Pending slot) = slot < 32
+IsSlotBelow (Pending slot) = slot < MAX_REQUESTS
 IsSlotBelow _ = Unit {0}
 
 -- what an after-work callback may read is no longer than a reply
 abbrev pub IsShort : Option (List ℕ) → Type 0
 IsShort None = Unit {0}
-IsShort (Some bytes) = length bytes ≤ 65536
+IsShort (Some bytes) = length bytes ≤ MAX_BYTES

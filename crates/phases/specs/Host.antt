@@ -1,6 +1,7 @@
 -- What a loop answers to a guest in a callback: each function of "uv".
 use Rattle.std.specs.Prelude.{◌≡◌, ℕ, ◌+◌, ◌<◌, ◌==◌, Bool, true, ◌&&◌, not, MatchBool, ◌⊎◌, List, [], ◌∷◌, ◌++◌, length}
 use Rattle.std.specs.Prelude.{nat_le, nat_lt, Option, Some, None, codes, if◌then◌else◌}
+use Rattle.limits.specs.declared.TheConstants.{MAX_BYTES, MAX_REQUESTS, MAX_EMITS}
 use Rattle.syntax.specs.declared.types.Value.{Value}
 use Rattle.syntax.specs.declared.types.Value.TheVariants.{I32, I64}
 use Rattle.handles.specs.declared.handle.Kind.TheVariants as kind
@@ -33,7 +34,7 @@ with_requests s requests = record s { requests = requests }
 
 -- a number is emitted, of which a callback has 64
 abbrev pub emitted_in : (value : ℕ) → State → ℕ × State
-emitted_in value s = if nat_le 64 (length s.emits) then (none_left, s) else (0, record s { emits = s.emits ++ value ∷ [] })
+emitted_in value s = if nat_le MAX_EMITS (length s.emits) then (none_left, s) else (0, record s { emits = s.emits ++ value ∷ [] })
 
 -- the order that a loop makes of a guest's operation and bytes
 abbrev pub next_work : Setting → Requests → (slot op : ℕ) → List ℕ → WorkOrder
@@ -79,7 +80,7 @@ module _ {S : Type 0} (calls : Calls S) where
   -- the request is opened in any free slot
   pub record Opens (g : Setting) (old : Requests × S) (op : ℕ) (bytes : List ℕ) (answer : ℕ) (new : Requests × S) : Type 0 where
     pub slot : ℕ
-    pub below : slot < 32
+    pub below : slot < MAX_REQUESTS
     pub free : is_free_slot old.0 slot ≡ true
     pub opened : calls.opens old.1 slot (old.0.last + 1) new.1
     pub answered : answer ≡ old.0.last + 1
@@ -90,11 +91,11 @@ module _ {S : Type 0} (calls : Calls S) where
   QueuesWork g memory old op place count answer new =
       MatchBool (not (exports g.loaded.contents (codes "uv_work") && exports g.loaded.contents (codes "uv_after_work")))
       ((answer ≡ no_such_export) × (new ≡ old))
-      (MatchBool (nat_lt 65536 count)
+      (MatchBool (nat_lt MAX_BYTES count)
       ((answer ≡ invalid) × (new ≡ old))
       (MatchBool (nat_lt (length memory) (place + count))
       ((answer ≡ outside_memory) × (new ≡ old))
-      (MatchBool (length old.0.outstanding == 32)
+      (MatchBool (length old.0.outstanding == MAX_REQUESTS)
       ((answer ≡ no_room) × (new ≡ old))
       (MatchBool (old.0.last == 2147483647)
       ((answer ≡ none_left) × (new ≡ old))

@@ -1,5 +1,6 @@
 -- What a loop keeps from step to step.
 use Rattle.std.specs.Prelude.{◌≡◌, ℕ, ◌<◌, ◌≤◌, true, All, length, codes}
+use Rattle.limits.specs.declared.TheConstants.{MAX_DEPTH, MAX_BYTES, MAX_REQUESTS}
 use Rattle.syntax.specs.Loaded.{Loaded}
 use Rattle.instance.specs.Store.{Store}
 use Rattle.instance.specs.Storing.{IsStoreOf}
@@ -14,13 +15,13 @@ use Rattle.phases.specs.State.{Setting, State}
 -- an order that can be run: its module exports `uv_work`, and its bytes and its depth are within their bounds
 pub record CanRun (o : WorkOrder) : Type 0 where
   pub work : (f : ℕ) × ExportsFunction o.loaded.contents (codes "uv_work") f
-  pub bytes : length o.bytes ≤ 65536
-  pub depth : (1 ≤ o.depth) × (o.depth ≤ 128)
+  pub bytes : length o.bytes ≤ MAX_BYTES
+  pub depth : (1 ≤ o.depth) × (o.depth ≤ MAX_DEPTH)
 
 -- an order of the loop: it has the loop's number and a slot below 32, it can be run, and what comes of it can be told
 pub record IsOrderOf (g : Setting) (o : WorkOrder) : Type 0 where
   pub loop_no : o.loop_no ≡ g.loop_no
-  pub slot : o.slot < 32
+  pub slot : o.slot < MAX_REQUESTS
   pub runs : CanRun o
   pub heard : exports g.loaded.contents (codes "uv_after_work") ≡ true
 
@@ -32,7 +33,7 @@ AreOrdersOf g rs = All (λ r. IsOrderOf g r.order) rs.outstanding
 -- the loop.
 pub record Keeps (l : Loaded) (g : Setting) (s : State) (t : Store) : Type 0 where
   pub same : l ≡ g.loaded
-  pub depth : (1 ≤ g.depth) × (g.depth ≤ 128)
+  pub depth : (1 ≤ g.depth) × (g.depth ≤ MAX_DEPTH)
   pub store : IsStoreOf g.loaded.contents t
   pub callbacks : s.roster.callbacks ≡ callbacks_of g.loaded.contents
   pub ready : AreReady g.loaded.contents s

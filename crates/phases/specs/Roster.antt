@@ -4,6 +4,7 @@ use Rattle.std.specs.Prelude.{filter, Option, Some, None, slice_get, if◌then�
 use Rattle.std.specs.Option.{option_map_or, is_some}
 use Rattle.std.specs.List.{position_or_len}
 use Rattle.std.specs.FinMap as finite
+use Rattle.limits.specs.declared.TheConstants.{MAX_HANDLES, MAX_ASYNCS}
 use Rattle.syntax.specs.declared.types.ValType.{ValType}
 use Rattle.syntax.specs.declared.types.ValType.TheVariants as type
 use Rattle.syntax.specs.declared.contents.Contents.{Contents}
@@ -125,7 +126,7 @@ active_answer r handle = option_map_or (λ it. if it.active then 1 else 0) (reco
 -- a handle is made under any free number, which is answered
 abbrev pub Makes : (Roster → ℕ → Roster) → (old : Roster) → (answer : ℕ) → (new : Roster) → Type 0
 Makes made old answer new =
-    MatchBool (finite.len old.handles.records == 64)
+    MatchBool (finite.len old.handles.records == MAX_HANDLES)
     ((answer ≡ no_room) × (new ≡ old))
     ((answer < 2 ^ 31) × (record_of old.handles answer ≡ None) × (new ≡ made old answer))
 
@@ -133,6 +134,6 @@ abbrev pub MakesAsync : (callback : ℕ) → (old : Roster) → (answer : ℕ) �
 MakesAsync callback old answer new =
     MatchBool (not (is_callback old callback))
     ((answer ≡ invalid) × (new ≡ old))
-    (MatchBool (length old.asyncs == 16)
+    (MatchBool (length old.asyncs == MAX_ASYNCS)
     ((answer ≡ none_left) × (new ≡ old))
     (Makes (with_async callback) old answer new))

@@ -1,6 +1,7 @@
 // What is left of a phase's list.
 
 ghost use Rattle.std.specs.Prelude.{◌≡◌, ◌≤◌, ◌+◌, [], ◌∷◌, ◌++◌, ◌==◌, length, map, filter, drop, slice_get, ◌<◌, if◌then◌else◌};
+ghost use Rattle.limits.specs.declared.TheConstants.{MAX_REQUESTS};
 ghost use Rattle.phases.specs.PhaseList.{first_list, handle_entry, active_asyncs, is_active_handle};
 ghost use Rattle.phases.specs.Requests.{is_settled};
 
@@ -9,10 +10,11 @@ use crate::outstanding::Outstanding;
 use crate::roster::Roster;
 use arrayvec::ArrayVec;
 use handles::{Kind, List};
+use limits::MAX_HANDLES;
 use std::marker::Model;
 
-/// How many entries a list has at most: a phase lists the handles of a kind, or requests and asyncs.
-const MAX_ENTRIES: usize = 64;
+/// How many entries a list has at most: a phase lists the handles of a kind, or requests and asyncs, which are fewer.
+const MAX_ENTRIES: usize = MAX_HANDLES;
 
 /// The entries of a phase that are still to come.
 #[derive(Debug, Drop)]
@@ -63,7 +65,7 @@ impl Entries {
 
     /// The closing handles.
     pub fn of_closing(handles: &[u32]) -> Self
-        requires { length handles.now ≤ 64 }
+        requires { length handles.now ≤ MAX_HANDLES }
         ensures { result ≡ map (λ handle. Entry.Close handle) handles.now }
     {
         let mut items = ArrayVec::new();
@@ -75,7 +77,7 @@ impl Entries {
 
     /// The requests that are answered or cancelled, then the asyncs that are active, each by number.
     pub fn of_poll(requests: &[Outstanding], roster: &Roster) -> Self
-        requires { length requests.now ≤ 32 }
+        requires { length requests.now ≤ MAX_REQUESTS }
         ensures { result ≡ map (λ r. Entry.After r.order.request) (filter (λ r. is_settled r.stage) requests.now) ++ map (λ a. Entry.Async a) (active_asyncs roster.now) }
     {
         let mut items = settled_entries(requests);
@@ -101,9 +103,9 @@ impl Entries {
 }
 
 fn settled_entries(requests: &[Outstanding]) -> ArrayVec<Entry, MAX_ENTRIES>
-    requires { length requests.now ≤ 32 }
+    requires { length requests.now ≤ MAX_REQUESTS }
     ensures entries { result.items ≡ map (λ r. Entry.After r.order.request) (filter (λ r. is_settled r.stage) requests.now) }
-    ensures few { length result.items ≤ 32 }
+    ensures few { length result.items ≤ MAX_REQUESTS }
 {
     let mut items = ArrayVec::new();
     for request in requests {
@@ -117,7 +119,7 @@ fn settled_entries(requests: &[Outstanding]) -> ArrayVec<Entry, MAX_ENTRIES>
 }
 
 fn push_asyncs(items: &mut ArrayVec<Entry, MAX_ENTRIES>, roster: &Roster)
-    requires { length items.old.items ≤ 32 }
+    requires { length items.old.items ≤ MAX_REQUESTS }
     ensures { items.new.items ≡ items.old.items ++ map (λ a. Entry.Async a) (active_asyncs roster.now) }
 {
     let asyncs = roster.asyncs();
@@ -132,7 +134,7 @@ fn push_if_active(
     handle: Option<u32>,
     async_no: u32,
 )
-    requires { length items.old.items < 64 }
+    requires { length items.old.items < MAX_ENTRIES }
     ensures entries { items.new.items ≡ items.old.items ++ (if is_active_handle roster.now.handles handle then Entry.Async async_no ∷ [] else []) }
     ensures few { length items.new.items ≤ length items.old.items + 1 }
 {

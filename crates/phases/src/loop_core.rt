@@ -3,6 +3,7 @@
 ghost use Rattle.std.specs.Prelude.{◌≡◌, ◌↔◌, ◌≤◌, ℕ, [], ◌∷◌, Some, None, true, false, All, codes, length, ◌<◌, MatchBool, IsTrue, IfOk, IfSome, option_map};
 ghost use Rattle.std.specs.Arc.{arc_value};
 ghost use Rattle.std.specs.Int.{w32, cast_unsigned};
+ghost use Rattle.limits.specs.declared.TheConstants.{MAX_ASYNCS, MAX_DEPTH, MAX_EMITS, MAX_REQUESTS};
 ghost use Rattle.interp.specs.Invoking.{TakesArguments};
 ghost use Rattle.imports.specs.Linking.{ExportsFunction};
 ghost use Rattle.instance.specs.Fresh.{IsFresh};
@@ -87,7 +88,7 @@ impl<B: Shared + Drop> LoopCore<B> {
         work_fuel: u64,
         depth: u32,
     ) -> Result<Self, AllocError>
-        requires depth { (1 ≤ depth) × (depth ≤ 128) }
+        requires depth { (1 ≤ depth) × (depth ≤ MAX_DEPTH) }
         requires shared { B.calls.view shared ≡ new_view loop_no }
         ensures setting { IfOk result (λ core. core.setting ≡ record { loaded = arc_value linked; loop_no = loop_no; fuel = fuel; work_fuel = work_fuel; depth = depth }) }
         ensures state { IfOk result (λ core. core.loop.state ≡ opening (opening_roster (arc_value linked).contents) (begin_list (arc_value linked).contents)) }
@@ -319,7 +320,7 @@ impl<B: Shared + Drop> LoopCore<B> {
     /// What the last callback put out, 64 values at most.
     pub fn emits(&self) -> &[u64]
         ensures emits { result.now ≡ self.now.loop.state.emits }
-        ensures few { length result.now ≤ 64 }
+        ensures few { length result.now ≤ MAX_EMITS }
     {
         self.guest.state.emits()
     }
@@ -365,7 +366,7 @@ impl<B: Shared + Drop> LoopCore<B> {
         ensures core { self.new.loop ≡ record self.old.loop { state = (next_order_of self.old.loop.state).1 } }
         ensures lowest { IfSome result (λ o. IsLowestOpen o.request self.old.loop.state.requests) }
         ensures own { IfSome result (λ o. o.loop_no ≡ self.old.setting.loop_no) }
-        ensures slot { IfSome result (λ o. o.slot < 32) }
+        ensures slot { IfSome result (λ o. o.slot < MAX_REQUESTS) }
         ensures can_run { IfSome result (λ o. CanRun (order_of o)) }
         ensures setting { self.new.setting ≡ self.old.setting }
     {
@@ -422,7 +423,7 @@ impl<B: Beside + Drop> LoopCore<B> {
     /// A worker's start of a request, where all stands in one thread; whether it is started by this call. Slots are
     /// below 32.
     pub fn start(&mut self, slot: u32, request: u32) -> bool
-        requires { slot < 32 }
+        requires { slot < MAX_REQUESTS }
         ensures told { StartsBeside B.others self.old.loop slot request result self.new.loop }
         ensures setting { self.new.setting ≡ self.old.setting }
     {
@@ -432,7 +433,7 @@ impl<B: Beside + Drop> LoopCore<B> {
     /// Another's send to an async, where all stands in one thread; `false` where its sends are used up. Asyncs are
     /// below 16.
     pub fn sent(&mut self, async_no: u32) -> bool
-        requires { async_no < 16 }
+        requires { async_no < MAX_ASYNCS }
         ensures told { SendsBeside B.others self.old.loop async_no result self.new.loop }
         ensures setting { self.new.setting ≡ self.old.setting }
     {

@@ -24,14 +24,12 @@ use crate::work::cancel;
 use arrayvec::ArrayVec;
 use handles::Kind;
 use instance::memory::Memory;
+use limits::MAX_EMITS;
 use order::answers::{NONE_LEFT, NOT_HERE};
 use order::calls::copy_in;
 use order::{Order, Reply};
 use std::alloc::{AllocError, Global};
 use std::marker::Model;
-
-/// How many values a callback may emit.
-pub const MAX_EMITS: usize = 64;
 
 /// The state of a loop.
 #[derive(Drop)]
@@ -211,7 +209,7 @@ impl LoopState {
     /// What the last callback put out.
     pub fn emits(&self) -> &[u64]
         ensures value { result.now ≡ self.now.emits }
-        ensures few { length result.now ≤ 64 }
+        ensures few { length result.now ≤ MAX_EMITS }
     {
         self.emits.as_slice()
     }

@@ -2,6 +2,7 @@
 
 ghost use Rattle.std.specs.Prelude.{◌≡◌, ◌≢◌, ◌+◌, ◌<◌, ◌≤◌, ◌^◌, ◌==◌, ◌↔◌, [], Some, None, true, false, length, find, filter, slice_get, not, IfOk, IfErr, OnOk, IfSome, IfNone, MatchOption, MatchResult, option_map};
 ghost use Rattle.std.specs.List.{list_any};
+ghost use Rattle.limits.specs.declared.TheConstants.{MAX_BYTES};
 ghost use Rattle.order.specs.Orders.{order_of, end_of};
 ghost use Rattle.phases.specs.Host.{cancel_state_of};
 ghost use Rattle.phases.specs.Outside.{IsOneOf, next_of, answered};
@@ -12,13 +13,11 @@ ghost use Rattle.phases.specs.PhaseList.{is_empty};
 
 use crate::outstanding::Outstanding;
 use crate::progress::{CancelState, Completion};
+use limits::MAX_REQUESTS;
 use order::laws::ends_are_short;
 use order::{Order, Reply};
 use std::alloc::{AllocError, Global};
 use std::marker::Model;
-
-/// How many requests of a loop may be outstanding.
-pub const MAX_REQUESTS: usize = 32;
 
 /// The greatest number of a request.
 pub const LAST_REQUEST: u32 = 2_147_483_647;
@@ -32,6 +31,7 @@ pub struct Requests {
 
 impl Model for Requests {
     ghost use Rattle.std.specs.Prelude.{◌≤◌, vec_capacity};
+    ghost use Rattle.limits.specs.declared.TheConstants.{MAX_REQUESTS};
     ghost use Rattle.phases.specs.Requests.{Requests as Value_of};
     ghost use Rattle.phases.specs.Codes.{requests_code};
     ghost use Rattle.phases.specs.Fitting.{AreKept};
@@ -42,7 +42,7 @@ impl Model for Requests {
 
     ghost view = { λ a. record { outstanding = a.items.items; last = a.last } };
 
-    ghost invariant = { λ a. AreKept (record { outstanding = a.items.items; last = a.last }) × (32 ≤ vec_capacity a.items) };
+    ghost invariant = { λ a. AreKept (record { outstanding = a.items.items; last = a.last }) × (MAX_REQUESTS ≤ vec_capacity a.items) };
 }
 
 /// Where the request of a number stands.
@@ -97,11 +97,11 @@ fn any_settled(items: &[Outstanding]) -> bool
 
 /// A slot that no request uses.
 fn free_slot(items: &[Outstanding]) -> u32
-    requires { length items.now < 32 }
-    ensures below { result < 32 }
+    requires { length items.now < MAX_REQUESTS }
+    ensures below { result < MAX_REQUESTS }
     ensures free { list_any (λ r. r.order.slot == result) items.now ≡ false }
 {
-    for slot in 0..32 {
+    for slot in 0..MAX_REQUESTS as u32 {
         if !uses_slot(items, slot) {
             return slot;
         }
@@ -130,7 +130,7 @@ impl Requests {
     /// How many requests are outstanding.
     pub fn len(&self) -> usize
         ensures value { result ≡ length self.now.outstanding }
-        ensures most { result ≤ 32 }
+        ensures most { result ≤ MAX_REQUESTS }
         ensures right { AllRight self.now }
     {
         self.items.len()
@@ -154,7 +154,7 @@ impl Requests {
     /// The requests.
     pub fn as_slice(&self) -> &[Outstanding]
         ensures value { result.now ≡ self.now.outstanding }
-        ensures few { length result.now ≤ 32 }
+        ensures few { length result.now ≤ MAX_REQUESTS }
     {
         self.items.as_slice()
     }
@@ -168,8 +168,8 @@ impl Requests {
 
     /// A slot that no request uses.
     pub fn free_slot(&self) -> u32
-        requires { length self.now.outstanding < 32 }
-        ensures below { result < 32 }
+        requires { length self.now.outstanding < MAX_REQUESTS }
+        ensures below { result < MAX_REQUESTS }
         ensures free { is_free_slot self.now result ≡ true }
     {
         free_slot(self.items.as_slice())
@@ -177,9 +177,9 @@ impl Requests {
 
     /// Opens a request under the next number, with the copy of its order that will be handed out.
     pub fn open(&mut self, order: Order, copy: Order)
-        requires room { length self.old.outstanding < 32 }
+        requires room { length self.old.outstanding < MAX_REQUESTS }
         requires number { order.request ≡ self.old.last + 1 }
-        requires slot { order.slot < 32 }
+        requires slot { order.slot < MAX_REQUESTS }
         requires last { self.old.last + 1 < 2 ^ 31 }
         requires same { order_of copy ≡ order_of order }
         ensures { self.new ≡ with_work self.old (order_of order) }
@@ -245,7 +245,7 @@ impl Requests {
     pub fn take(&mut self, alloc: Global, number: u32) -> Completion
         requires { MatchOption (request_of self.old number) ⊥ (λ r. is_settled r.stage ≡ true) }
         ensures completion { MatchOption (request_of self.old number) ⊥ (λ r. completion_of r.stage ≡ Some (completion_in result)) }
-        ensures short { length (completion_in result).bytes ≤ 65536 }
+        ensures short { length (completion_in result).bytes ≤ MAX_BYTES }
         ensures removed { self.new ≡ without_request self.old number }
     {
         ends_are_short();

@@ -10,13 +10,10 @@ ghost use Rattle.phases.specs.Step.{is_as_listed, handle_function};
 
 use arrayvec::ArrayVec;
 use handles::{Handles, Kind, List, Record};
-use limits::MAX_HANDLES;
+use limits::{MAX_ASYNCS, MAX_HANDLES};
 use order::answers::{INVALID, NO_ROOM, NONE_LEFT};
 use std::alloc::{AllocError, Global};
 use std::marker::Model;
-
-/// How many asyncs a loop makes over its life.
-pub const MAX_ASYNCS: usize = 16;
 
 /// The handles of a loop: the table, the asyncs by number, the closing handles in the order of their closing, and the
 /// functions that callbacks name.
@@ -206,7 +203,7 @@ impl Roster {
     pub fn async_number(&self, handle: u32) -> Option<u32>
         ensures none { IfNone result (is_open_of Kind.Async self.now handle ≡ false) }
         ensures some { IfSome result (λ number. (is_open_of Kind.Async self.now handle ≡ true) × (number ≡ async_number self.now handle)) }
-        ensures below { IfSome result (λ number. number < 16) }
+        ensures below { IfSome result (λ number. number < MAX_ASYNCS) }
     {
         if !self.is_open_of(Kind::Async, handle) {
             return None;
@@ -272,7 +269,7 @@ impl Roster {
     /// The handle of an async, until that is removed.
     pub fn async_at(&self, async_no: u32) -> Option<u32>
         ensures value { result ≡ async_handle self.now async_no }
-        ensures below { IfSome result (λ _. async_no < 16) }
+        ensures below { IfSome result (λ _. async_no < MAX_ASYNCS) }
     {
         self.asyncs
             .as_slice()
@@ -306,7 +303,7 @@ impl Roster {
     /// The closing handles, in the order of their closing.
     pub fn closing(&self) -> &[u32]
         ensures value { result.now ≡ self.now.closing }
-        ensures few { length result.now ≤ 64 }
+        ensures few { length result.now ≤ MAX_HANDLES }
     {
         self.closing.as_slice()
     }
@@ -335,7 +332,7 @@ impl Roster {
     /// The asyncs' handles by number.
     pub fn asyncs(&self) -> &[Option<u32>]
         ensures value { result.now ≡ self.now.asyncs }
-        ensures few { length result.now ≤ 16 }
+        ensures few { length result.now ≤ MAX_ASYNCS }
     {
         self.asyncs.as_slice()
     }
@@ -361,10 +358,10 @@ fn function_at(callbacks: &[Option<u32>], index: u32) -> Option<u32>
 }
 
 fn position_of(asyncs: &[Option<u32>], handle: u32) -> u32
-    requires few { length asyncs.now ≤ 16 }
+    requires few { length asyncs.now ≤ MAX_ASYNCS }
     requires there { list_any (is_handle handle) asyncs.now ≡ true }
     ensures value { result ≡ position_or_len (is_handle handle) asyncs.now }
-    ensures below { result < 16 }
+    ensures below { result < MAX_ASYNCS }
 {
     for number in 0..asyncs.len() {
         if asyncs[number] == Some(handle) {

@@ -1,6 +1,7 @@
 // What a loop shares with other threads, as the loop uses it.
 
 ghost use Rattle.std.specs.Prelude.{ℕ, ◌^◌, ◌<◌};
+ghost use Rattle.limits.specs.declared.TheConstants.{MAX_ASYNCS, MAX_REQUESTS};
 ghost use Rattle.phases.specs.Calls.{Calls, OtherCalls, IsLawful, AreBeside};
 ghost use Rattle.phases.specs.View.{IsAbove};
 
@@ -13,24 +14,24 @@ pub trait Shared {
 
     /// Opens a request in a slot. Slots are below 32, requests are 1 to 2,147,483,647 and rise.
     fn open(&mut self, slot: u32, request: u32)
-        requires slot { slot < 32 }
+        requires slot { slot < MAX_REQUESTS }
         requires request { (0 < request) × (request < 2 ^ 31) }
         requires rising { IsAbove (calls.view self.old) request }
         ensures { calls.opens self.old slot request self.new };
 
     /// Cancels a request, and says whether it did.
     fn cancel(&mut self, slot: u32, request: u32) -> bool
-        requires { slot < 32 }
+        requires { slot < MAX_REQUESTS }
         ensures { calls.cancels self.old slot request result self.new };
 
     /// Sends from the loop itself to an async; `false` where its sends are used up.
     fn send(&mut self, async_no: u32) -> bool
-        requires { async_no < 16 }
+        requires { async_no < MAX_ASYNCS }
         ensures { calls.sends self.old async_no result self.new };
 
     /// Takes what was sent to an async, and answers how many sends it was.
     fn take(&mut self, async_no: u32) -> u64
-        requires { async_no < 16 }
+        requires { async_no < MAX_ASYNCS }
         ensures { calls.takes self.old async_no result self.new };
 
     ghost lawful: { IsLawful calls };
@@ -42,12 +43,12 @@ pub trait Beside: Shared {
 
     /// A worker's start of a request; whether it is started by this call.
     fn start(&mut self, slot: u32, request: u32) -> bool
-        requires { slot < 32 }
+        requires { slot < MAX_REQUESTS }
         ensures { others.starts self.old slot request result self.new };
 
     /// Another's send to an async.
     fn sent(&mut self, async_no: u32) -> bool
-        requires { async_no < 16 }
+        requires { async_no < MAX_ASYNCS }
         ensures { others.gets self.old async_no result self.new };
 
     ghost beside: { AreBeside Self.calls others };

@@ -2,6 +2,7 @@
 
 ghost use Rattle.std.specs.Prelude.{◌≡◌, ◌≤◌, ◌<◌, [], length, Some, None, true, false, drop, slice_get, IfSome, IfNone, MatchOption, option_map};
 ghost use Rattle.handles.specs.Table.{IsClosing, IsOpen, record_of, after_again};
+ghost use Rattle.limits.specs.declared.TheConstants.{MAX_ASYNCS, MAX_BYTES};
 ghost use Rattle.phases.specs.Fitting.{IsShort};
 ghost use Rattle.phases.specs.Host.{with_roster, with_requests};
 ghost use Rattle.phases.specs.PhaseList.{is_active_handle, is_alive, phase_list};
@@ -111,7 +112,7 @@ impl LoopState {
     /// The handle of an async, until that is removed.
     pub fn async_at(&self, async_no: u32) -> Option<u32>
         ensures value { result ≡ async_handle self.now.roster async_no }
-        ensures below { IfSome result (λ _. async_no < 16) }
+        ensures below { IfSome result (λ _. async_no < MAX_ASYNCS) }
     {
         self.roster.async_at(async_no)
     }
@@ -138,7 +139,7 @@ impl LoopState {
         requires { MatchOption (request_of self.old.requests number) ⊥ (λ r. is_settled r.stage ≡ true) }
         ensures completion { MatchOption (request_of self.old.requests number) ⊥ (λ r. completion_of r.stage ≡ Some (completion_in result)) }
         ensures removed { self.new ≡ with_requests self.old (without_request self.old.requests number) }
-        ensures short { length (completion_in result).bytes ≤ 65536 }
+        ensures short { length (completion_in result).bytes ≤ MAX_BYTES }
     {
         self.requests.take(alloc, number)
     }

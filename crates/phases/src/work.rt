@@ -9,13 +9,13 @@ ghost use Rattle.phases.specs.Setting.{setting_of};
 ghost use Rattle.phases.specs.View.{AreOpenedUpTo};
 
 use crate::progress::CancelState;
-use crate::requests::{LAST_REQUEST, MAX_REQUESTS, Requests};
+use crate::requests::{LAST_REQUEST, Requests};
 use crate::roster::Roster;
 use crate::setting::Setting;
 use crate::shared::Shared;
 use imports::{EntryPoint, Linked};
 use instance::memory::Memory;
-use order::MAX_BYTES;
+use limits::{MAX_BYTES, MAX_REQUESTS};
 use order::answers::{
     BUSY, INVALID, NO_MEMORY, NO_ROOM, NO_SUCH_EXPORT, NONE_LEFT, OUTSIDE_MEMORY,
 };
@@ -107,7 +107,7 @@ fn open<B: Shared>(
     bytes: &[u8],
 ) -> u32
     requires opened { AreOpenedUpTo requests.old.last (B.calls.view shared.old) }
-    requires room { length requests.old.outstanding < 32 }
+    requires room { length requests.old.outstanding < MAX_REQUESTS }
     requires numbers { requests.old.last + 1 < 2 ^ 31 }
     ensures { ((result ≡ no_memory) × (requests.new ≡ requests.old) × (shared.new ≡ shared.old)) ⊎ Opens B.calls (setting_of setting.now) (requests.old, shared.old) op bytes.now result (requests.new, shared.new) }
 {

@@ -2,22 +2,8 @@
 
 ghost use Rattle.std.specs.Prelude.{◌≡◌, IsTrue, ◌↔◌};
 
+use limits::{MAX_DEPTH, MAX_LOOPS, MAX_SCRIPT_MODULES, MAX_SCRIPT_STEPS, MAX_WORKERS};
 use world_log::{LoopSettings, Step};
-
-/// The most modules of a script.
-const MAX_MODULES: usize = 8;
-
-/// The most loops of a script.
-const MAX_LOOPS: usize = 8;
-
-/// The most workers of a script.
-const MAX_WORKERS: u32 = 16;
-
-/// The most steps of a script.
-const MAX_STEPS: usize = 65_536;
-
-/// The greatest call depth of a loop.
-const MAX_DEPTH: u32 = 128;
 
 /// A loop of a script.
 #[derive(Clone, Copy, Debug)]
@@ -52,11 +38,11 @@ impl Plan {
         let modules = self.modules.len();
         let loops = self.loops.len();
         modules >= 1
-            && modules <= MAX_MODULES
+            && modules <= MAX_SCRIPT_MODULES
             && loops >= 1
-            && loops <= MAX_LOOPS
+            && loops <= MAX_LOOPS as usize
             && self.workers <= MAX_WORKERS
-            && self.steps.len() <= MAX_STEPS
+            && self.steps.len() <= MAX_SCRIPT_STEPS
             && self
                 .loops
                 .iter()

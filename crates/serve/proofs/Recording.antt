@@ -2,6 +2,7 @@
 use Rattle.std.proofs.Common.{◌≡◌, ◌≢◌, ℕ, ◌+◌, ◌≤◌, true, false, cond, List, [], ◌∷◌, ◌++◌, refl, sym, ap, subst, ◌∙◌, append_assoc, append-nil, add-zero}
 use Rattle.std.proofs.lemmas.List.Sums.{sum_by_push}
 use Rattle.std.proofs.Math.Logic.{∥∥₁_map}
+use Rattle.limits.specs.declared.TheConstants.{MAX_CALLBACKS}
 use Rattle.syntax.specs.Loaded.{Loaded}
 use Rattle.instance.specs.Fresh.{IsFresh}
 use Rattle.order.specs.declared.reply.Reply.{Reply}
@@ -22,7 +23,6 @@ use Rattle.phases.specs.State.{Setting, Loop, opening}
 use Rattle.phases.specs.Step.{LoopStep}
 use Rattle.phases.specs.View.{new_view}
 use Rattle.pool.specs.declared.seats.Seats.{Seats}
-use Rattle.serve.specs.declared.served.TheConstants.{MOST_CALLBACKS}
 use Rattle.serve.specs.declared.served.LoopEnding.{LoopEnding}
 use Rattle.serve.specs.Histories.{HasDone, HasEnded, HasServed, EndsBy, thread_calls, is_callback, callbacks_in}
 
@@ -105,7 +105,7 @@ opens_new g l loaded loop_no fuel work_fuel depth seats is state store shared vi
     subst (λ x. IsOpening thread_calls x l) (sym is) (record { state = state; store = store.store; shared = ap thread_calls.view shared ∙ view })
 
 -- what is done is ended
-pub ended_by : (g : Setting) (l : Loop Seats) (ran : ℕ) (ending : LoopEnding) (emits : List ℕ) → ran ≤ MOST_CALLBACKS → EndsBy ending l ran → Does g l ran emits → ∥ HasEnded g ending emits ∥₁
+pub ended_by : (g : Setting) (l : Loop Seats) (ran : ℕ) (ending : LoopEnding) (emits : List ℕ) → ran ≤ MAX_CALLBACKS → EndsBy ending l ran → Does g l ran emits → ∥ HasEnded g ending emits ∥₁
 ended_by g l ran ending emits few ends was = ∥∥₁_map was (λ done. record { now = l; ran = ran; few = few; done = done; ends = ends })
 
 -- and is that of a loop of this number

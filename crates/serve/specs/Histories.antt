@@ -1,5 +1,6 @@
 -- What a thread has done with its loop: a history over the loop's seats, and how it ended.
 use Rattle.std.specs.Prelude.{◌≡◌, ℕ, ◌<◌, ◌≤◌, Bool, true, false, List, [], count_by, Option, Some, None}
+use Rattle.limits.specs.declared.TheConstants.{MAX_CALLBACKS}
 use Rattle.syntax.specs.Loaded.{Loaded}
 use Rattle.phases.specs.declared.did.StepDid.TheVariants.{Ran}
 use Rattle.phases.specs.declared.did.Hint.TheVariants.{Forever}
@@ -10,7 +11,6 @@ use Rattle.phases.specs.PhaseList.{hint_of}
 use Rattle.phases.specs.State.{Setting, Loop}
 use Rattle.pool.specs.declared.seats.Seats.{Seats}
 use Rattle.pool.specs.Share.{seats_calls}
-use Rattle.serve.specs.declared.served.TheConstants.{MOST_CALLBACKS}
 use Rattle.serve.specs.declared.served.LoopEnding.{LoopEnding}
 use Rattle.serve.specs.declared.served.LoopEnding.TheVariants as ending
 use Rattle.serve.specs.declared.serving.Serving.{Serving}
@@ -52,11 +52,11 @@ abbrev pub EndsBy : LoopEnding → (now : Loop Seats) → (ran : ℕ) → Type 0
 EndsBy ending.Over now ran = now.state.status ≡ status.Over
 EndsBy ending.Failed now ran = now.state.status ≡ status.Failed
 EndsBy ending.Waiting now ran = (now.state.requests.outstanding ≡ []) × (hint_of now.state ≡ Forever)
-EndsBy ending.Limit now ran = ran ≡ MOST_CALLBACKS
+EndsBy ending.Limit now ran = ran ≡ MAX_CALLBACKS
 
 -- the loop has ended so, or may run callbacks yet
 abbrev pub ComesTo : Option LoopEnding → (now : Loop Seats) → (ran : ℕ) → Type 0
-ComesTo None now ran = ran < MOST_CALLBACKS
+ComesTo None now ran = ran < MAX_CALLBACKS
 ComesTo (Some ending) now ran = EndsBy ending now ran
 
 -- A history of a loop of this setting from its opening, in which its callbacks put out these values, in order, and at
@@ -64,7 +64,7 @@ ComesTo (Some ending) now ran = EndsBy ending now ran
 pub record HasEnded (g : Setting) (ending : LoopEnding) (emits : List ℕ) : Type 0 where
   pub now : Loop Seats
   pub ran : ℕ
-  pub few : ran ≤ MOST_CALLBACKS
+  pub few : ran ≤ MAX_CALLBACKS
   pub done : HasDone g now ran emits
   pub ends : EndsBy ending now ran
 

@@ -16,7 +16,7 @@ mod threads;
 mod turn;
 
 pub use job::Job;
-pub use served::{LoopEnding, MOST_CALLBACKS, Served};
+pub use served::{LoopEnding, Served};
 pub use serving::Serving;
 pub use task::Task;
 pub use threads::serve;

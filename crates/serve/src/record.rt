@@ -1,23 +1,21 @@
 // A loop, with how many of its callbacks ran and what they have put out.
 ghost use Rattle.std.specs.Prelude.{◌≡◌, ◌<◌, ◌≤◌, [], IfOk, IfSome};
 ghost use Rattle.std.specs.Bool.{OnFalse};
+ghost use Rattle.limits.specs.declared.TheConstants.{MAX_CALLBACKS, MAX_REQUESTS};
 ghost use Rattle.order.specs.Orders.{order_of};
 ghost use Rattle.phases.specs.History.{IsOpening};
 ghost use Rattle.phases.specs.Keeping.{CanRun};
 ghost use Rattle.phases.specs.declared.entry.Status.TheVariants as status;
-ghost use Rattle.serve.specs.declared.served.TheConstants.{MOST_CALLBACKS};
 ghost use Rattle.serve.specs.Answers.{IsServed};
 ghost use Rattle.serve.specs.Histories.{HasDone, EndsBy, ComesTo, thread_calls};
 
-use crate::served::{LoopEnding, MOST_CALLBACKS, Served};
+use crate::served::{LoopEnding, Served};
+use limits::{MAX_CALLBACKS, MAX_EMITS};
 use order::{Order, Reply};
 use phases::{Accepted, Hint, LoopCore, Phase, StepDid};
 use pool::Seats;
 use std::alloc::{AllocError, Global};
 use std::sync::Wait;
-
-/// What one callback may put out at most.
-const MOST_EMITS: usize = 64;
 
 /// A loop, with how many of its callbacks ran and all that they have put out: it has a history from its opening that
 /// says so.
@@ -26,7 +24,7 @@ pub struct Record<'a> {
     pub(crate) core: LoopCore<Seats<'a>>,
     pub(crate) ran: u32,
     emits: Vec<u64>,
-    ghost few: { ran ≤ MOST_CALLBACKS },
+    ghost few: { ran ≤ MAX_CALLBACKS },
     ghost told: { ∥ HasDone core.setting core.loop ran emits.items ∥₁ },
 }
 
@@ -68,7 +66,7 @@ impl<'a> Record<'a> {
     pub fn next_order(&mut self) -> Option<Order>
         ensures can_run { IfSome result (λ o. CanRun (order_of o)) }
         ensures own { IfSome result (λ o. o.loop_no ≡ self.old.core.setting.loop_no) }
-        ensures slot { IfSome result (λ o. o.slot < 32) }
+        ensures slot { IfSome result (λ o. o.slot < MAX_REQUESTS) }
         ensures setting { self.new.core.setting ≡ self.old.core.setting }
         ensures ran { self.new.ran ≡ self.old.ran }
     {
@@ -77,7 +75,7 @@ impl<'a> Record<'a> {
 
     /// Steps until the timers phase is entered or the loop has ended. How it ended, if it did.
     pub fn step_through<R: Wait>(&mut self, rt: &R) -> Result<Option<LoopEnding>, AllocError>
-        requires room { self.old.ran < MOST_CALLBACKS }
+        requires room { self.old.ran < MAX_CALLBACKS }
         ensures setting { self.new.core.setting ≡ self.old.core.setting }
         ensures comes { IfOk result (λ ended. ComesTo ended self.new.core.loop self.new.ran) }
     {
@@ -94,11 +92,11 @@ impl<'a> Record<'a> {
 
     // One step of the loop. Where memory for what a callback may put out is refused, it takes none.
     fn step(&mut self) -> Result<StepDid, AllocError>
-        requires room { self.old.ran < MOST_CALLBACKS }
+        requires room { self.old.ran < MAX_CALLBACKS }
         ensures setting { self.new.core.setting ≡ self.old.core.setting }
         ensures over { IfOk result (λ did. did ≡ StepDid.Over → self.new.core.loop.state.status ≡ status.Over) }
     {
-        self.emits.reserve(MOST_EMITS)?;
+        self.emits.reserve(MAX_EMITS)?;
         let did = self.core.step();
         if let StepDid::Ran { .. } = did {
             self.ran += 1;
@@ -118,7 +116,7 @@ impl<'a> Record<'a> {
         match did {
             StepDid::Over => Some(LoopEnding::Over),
             _ if self.core.failed() => Some(LoopEnding::Failed),
-            _ if self.ran == MOST_CALLBACKS => Some(LoopEnding::Limit),
+            _ if self.ran == MAX_CALLBACKS => Some(LoopEnding::Limit),
             _ => None,
         }
     }
@@ -130,7 +128,7 @@ impl<'a> Record<'a> {
 
     /// Raises the clock to the next timer. Without one the loop waits for ever.
     pub fn wait(&mut self) -> Option<LoopEnding>
-        requires room { self.old.ran < MOST_CALLBACKS }
+        requires room { self.old.ran < MAX_CALLBACKS }
         requires none { self.old.core.loop.state.requests.outstanding ≡ [] }
         ensures setting { self.new.core.setting ≡ self.old.core.setting }
         ensures comes { ComesTo result self.new.core.loop self.new.ran }

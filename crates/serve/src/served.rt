@@ -3,9 +3,6 @@ ghost use Rattle.serve.specs.Histories.{HasServed};
 
 use std::fmt;
 
-/// How many callbacks a loop may run.
-pub const MOST_CALLBACKS: u32 = 100_000;
-
 /// How a loop ended.
 #[derive(Clone, Copy, Debug, PartialEq, Eq)]
 pub enum LoopEnding {

@@ -1,5 +1,6 @@
 // How many threads there are, and what a loop may spend.
 ghost use Rattle.std.specs.Prelude.{◌≤◌};
+ghost use Rattle.limits.specs.declared.TheConstants.{MAX_DEPTH, MAX_LOOPS, MAX_WORKERS};
 
 /// How many loops and workers there are, and what each loop may spend.
 #[derive(Clone, Copy, Debug, PartialEq, Eq)]
@@ -14,7 +15,7 @@ pub struct Serving {
     pub work_fuel: u64,
     /// How many calls may stand open, 1 to 128.
     pub depth: u32,
-    pub ghost few_loops: { (1 ≤ loops) × (loops ≤ 8) },
-    pub ghost few_workers: { (1 ≤ workers) × (workers ≤ 16) },
-    pub ghost depth_in_range: { (1 ≤ depth) × (depth ≤ 128) },
+    pub ghost few_loops: { (1 ≤ loops) × (loops ≤ MAX_LOOPS) },
+    pub ghost few_workers: { (1 ≤ workers) × (workers ≤ MAX_WORKERS) },
+    pub ghost depth_in_range: { (1 ≤ depth) × (depth ≤ MAX_DEPTH) },
 }

@@ -19,6 +19,7 @@ pub struct Task {
 impl Model for Task {
     ghost use Rattle.std.specs.Prelude.{◌<◌};
     ghost use Rattle.std.specs.Coded.{codes};
+    ghost use Rattle.limits.specs.declared.TheConstants.{MAX_LOOPS, MAX_REQUESTS};
     ghost use Rattle.order.specs.Orders.{order_of};
     ghost use Rattle.order.specs.declared.order.Order.{Order};
     ghost use Rattle.order.specs.contracts.order.Order as request;
@@ -30,7 +31,7 @@ impl Model for Task {
 
     ghost view = { λ t. t.order };
 
-    ghost invariant = { λ t. CanRun (order_of t.order) × (t.order.loop_no < 8) × (t.order.slot < 32) };
+    ghost invariant = { λ t. CanRun (order_of t.order) × (t.order.loop_no < MAX_LOOPS) × (t.order.slot < MAX_REQUESTS) };
 }
 
 impl Task {

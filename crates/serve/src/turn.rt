@@ -1,10 +1,9 @@
 // The turns of one loop.
 ghost use Rattle.std.specs.Prelude.{◌≡◌, ◌<◌, ◌≤◌, length, IfOk};
 ghost use Rattle.std.specs.Arc.{arc_value};
+ghost use Rattle.limits.specs.declared.TheConstants.{MAX_CALLBACKS, MAX_LOOPS};
 ghost use Rattle.board.specs.Boards.{IsPassOf};
-ghost use Rattle.limits.specs.declared.TheConstants.{MAX_LOOPS};
 ghost use Rattle.marks.specs.Counts.{new_taker};
-ghost use Rattle.serve.specs.declared.served.TheConstants.{MOST_CALLBACKS};
 ghost use Rattle.serve.specs.Answers.{IsServed};
 ghost use Rattle.serve.specs.Histories.{ComesTo, EndsBy, setting_at};
 
@@ -49,7 +48,7 @@ impl<'a, J: Drop> Turns<'a, J> {
     ) -> Result<Turns<'a, J>, AllocError>
         requires { taker ≡ new_taker marks.now 0 }
         ensures setting { IfOk result (λ t. t.told.core.setting ≡ setting_at (arc_value «module») serving place.entry.seat.loop_no) }
-        ensures room { IfOk result (λ t. t.told.ran < MOST_CALLBACKS) }
+        ensures room { IfOk result (λ t. t.told.ran < MAX_CALLBACKS) }
     {
         let LoopPlace {
             board,
@@ -84,7 +83,7 @@ impl<'a, J: Drop> Turns<'a, J> {
         make: &M,
     ) -> Result<Served, AllocError>
         requires make { M.IsAlwaysCallable make.now }
-        requires room { self.told.ran < MOST_CALLBACKS }
+        requires room { self.told.ran < MAX_CALLBACKS }
         ensures { IfOk result (λ served. IsServed self.entry.told.core.setting served) }
     {
         let ending = self.until_ended(rt, make)?;
@@ -97,7 +96,7 @@ impl<'a, J: Drop> Turns<'a, J> {
         make: &M,
     ) -> Result<LoopEnding, AllocError>
         requires make { M.IsAlwaysCallable make.now }
-        requires room { self.old.told.ran < MOST_CALLBACKS }
+        requires room { self.old.told.ran < MAX_CALLBACKS }
         ensures setting { self.new.told.core.setting ≡ self.old.told.core.setting }
         ensures ends { IfOk result (λ ending. EndsBy ending self.new.told.core.loop self.new.told.ran) }
     {
@@ -119,7 +118,7 @@ impl<'a, J: Drop> Turns<'a, J> {
         make: &M,
     ) -> Result<Option<LoopEnding>, AllocError>
         requires make { M.IsAlwaysCallable make.now }
-        requires room { self.old.told.ran < MOST_CALLBACKS }
+        requires room { self.old.told.ran < MAX_CALLBACKS }
         ensures setting { self.new.told.core.setting ≡ self.old.told.core.setting }
         ensures comes { IfOk result (λ ended. ComesTo ended self.new.told.core.loop self.new.told.ran) }
     {

@@ -5,7 +5,8 @@ ghost use Rattle.std.specs.Thread.{IsSync};
 use crate::gates::{Open, comes};
 use crate::hall::{Hall, LoopSide, Spares, ticket};
 use crate::jobs::Jobs;
-use board::{JobBox, REPLIES};
+use board::JobBox;
+use limits::MAX_REPLIES;
 use std::alloc::{AllocError, Global};
 use std::sync::Wait;
 use std::test::Fail;
@@ -24,10 +25,10 @@ type Times = [u32; POSTED];
 
 // Fills the line of replies. Whether it is full then.
 fn fill<R: Wait>(rt: &R, jobs: &Jobs, side: &mut LoopSide<'_>) -> Result<bool, AllocError> {
-    for n in 0..=REPLIES as u32 {
+    for n in 0..=MAX_REPLIES as u32 {
         let reply = jobs.reply(ticket(FILLING + n))?;
         if !side.put_reply(rt, reply) {
-            return Ok(n == REPLIES as u32);
+            return Ok(n == MAX_REPLIES as u32);
         }
     }
     Ok(false)
@@ -174,7 +175,7 @@ fn a_refused_reply_is_put_once_there_is_room(rt: HostRuntime) -> Result<(), Fail
         calls: POSTED as u64,
         owners: 1,
     };
-    assert_eq!(rt; watched(&rt, rt.alloc(), REPLIES + POSTED)?, expected);
+    assert_eq!(rt; watched(&rt, rt.alloc(), MAX_REPLIES + POSTED)?, expected);
     Ok(())
 }
 

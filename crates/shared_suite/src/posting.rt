@@ -3,7 +3,8 @@
 use crate::hall::ticket;
 use crate::hands::{Hand, two_hands};
 use crate::jobs::Jobs;
-use board::{Board, JOBS, Pass, REPLIES};
+use board::{Board, Pass};
+use limits::{MAX_JOBS, MAX_REPLIES};
 use std::alloc::Global;
 use std::process::Abort;
 use std::sync::Wait;
@@ -26,15 +27,15 @@ fn pass_on<R: Wait + Abort>(
 
 // So many jobs and replies are taken in, and the next of each comes back.
 fn fill<R: Wait + Abort>(rt: &R, jobs: &Jobs, hand: &mut Hand<'_>) -> Result<(), Fail> {
-    for request in 0..JOBS as u32 {
+    for request in 0..MAX_JOBS as u32 {
         assert_eq!(rt; hand.post(rt, jobs.job(ticket(request))?), None);
     }
-    let last = ticket(JOBS as u32);
+    let last = ticket(MAX_JOBS as u32);
     assert_eq!(rt; hand.post(rt, jobs.job(last)?), Some(last));
-    for request in 0..REPLIES as u32 {
+    for request in 0..MAX_REPLIES as u32 {
         assert_eq!(rt; hand.put(rt, jobs.reply(ticket(request))?), None);
     }
-    let last = ticket(REPLIES as u32);
+    let last = ticket(MAX_REPLIES as u32);
     assert_eq!(rt; hand.put(rt, jobs.reply(last)?), Some(last.request));
     Ok(())
 }

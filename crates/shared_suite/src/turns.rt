@@ -2,7 +2,8 @@
 use crate::gates::Open;
 use crate::hall::{End, Hall, LoopSide, WorkerSide, ticket};
 use crate::jobs::Jobs;
-use board::{JOBS, JobBox};
+use board::JobBox;
+use limits::MAX_JOBS;
 use std::alloc::Global;
 use std::sync::Wait;
 use std::test::Fail;
@@ -109,12 +110,12 @@ fn full_board<R: Wait>(
     side: &mut LoopSide<'_>,
     worker: &mut WorkerSide<'_>,
 ) -> Result<SeenFull, Fail> {
-    let is_filled = post_and_cancel(rt, side, JOBS)?;
+    let is_filled = post_and_cancel(rt, side, MAX_JOBS)?;
     side.open()?;
     let at_first = side.post(rt);
     let one_dropped = drops(rt, worker, 1);
     let then = side.post_kept(rt);
-    let all_dropped = drops(rt, worker, JOBS - 1);
+    let all_dropped = drops(rt, worker, MAX_JOBS - 1);
     Ok(SeenFull {
         is_filled,
         posted: (at_first, then),
@@ -147,7 +148,7 @@ fn a_full_board_of_cancelled_jobs_is_dropped(rt: HostRuntime) -> Result<(), Fail
         owners: 1,
     };
     let jobs = Jobs::new(rt.alloc())?;
-    let seen = on_a_full_board(&rt, rt.alloc(), &jobs, jobs.in_turn(JOBS as u32 + 1)?)?;
+    let seen = on_a_full_board(&rt, rt.alloc(), &jobs, jobs.in_turn(MAX_JOBS as u32 + 1)?)?;
     assert_eq!(rt; seen, expected);
     Ok(())
 }

@@ -5,6 +5,7 @@ use Rattle.std.specs.List.{Contains, count_by}
 use Rattle.std.specs.Option.{is_some}
 use Rattle.std.proofs.lemmas.Bool.{eqb-true}
 use Rattle.std.proofs.lemmas.List.Sums.{sum_by_push}
+use Rattle.limits.specs.declared.TheConstants.{MAX_JOBS}
 use Rattle.order.specs.Work.{WorkOrder}
 use Rattle.phases.specs.declared.did.StepDid.{StepDid}
 use Rattle.phases.specs.declared.did.StepDid.TheVariants as did
@@ -78,7 +79,7 @@ module _ (j r : ℕ) where
   after_step w w' (step.Loop n) entry h is =
       subst (λ k. StepsLoop w k entry w') (after_told n h.did h.new.state.emits (ap (is_after j r) (sym h.told) ∙ is)) h
   after_step w w' (step.Post n) entry h is =
-      absurd (let none = unless_silent w w' n h.1 entry _ (λ k. either (length w.jobs == 256) _ _ (Silent entry) (λ m. ap (is_after j r) m.0) (order_silent w w' n h.0 h.1 (next_order_of h.1.state) entry) k) h.3 in cc)
+      absurd (let none = unless_silent w w' n h.1 entry _ (λ k. either (length w.jobs == MAX_JOBS) _ _ (Silent entry) (λ m. ap (is_after j r) m.0) (order_silent w w' n h.0 h.1 (next_order_of h.1.state) entry) k) h.3 in cc)
   after_step w w' (step.Take n) entry h is = absurd (let none = take_silent w w' n h.0 w.jobs entry h.2 in cc)
   after_step w w' (step.Start n) entry h is = absurd (let none = start_silent w w' n h.0 entry h.2 in cc)
   after_step w w' (step.Finish n) entry h is = absurd (let none = finish_silent w w' n h.0 entry h.2 in cc)

@@ -4,6 +4,7 @@ use Rattle.std.specs.Prelude.{slice_get, slice_set}
 use Rattle.std.specs.List.{count_by}
 use Rattle.std.proofs.lemmas.Bool.{cases_eq, eq-eqb, ne_eqb}
 use Rattle.std.proofs.lemmas.List.Sums.{sum_by_push, sum_by-cons}
+use Rattle.limits.specs.declared.TheConstants.{MAX_JOBS}
 use Rattle.order.specs.Work.{WorkOrder}
 use Rattle.phases.specs.declared.did.StepDid.{StepDid}
 use Rattle.phases.specs.declared.did.StepDid.TheVariants as did
@@ -319,7 +320,7 @@ module _ (l r : ℕ) where
   step_goes w w' (step.Loop n) entry own h = loop_goes w w' n entry h
   step_goes w w' (step.Post n) entry own h =
       unless_goes w w' n h.1 entry _
-      (λ k. either (length w.jobs == 256) _ _ (Goes w w' entry) (only w w' entry (line.Post n post.Full) (record { posted = refl; taken = refl; begun = refl; dropped = refl; finished = refl; collected = refl }))
+      (λ k. either (length w.jobs == MAX_JOBS) _ _ (Goes w w' entry) (only w w' entry (line.Post n post.Full) (record { posted = refl; taken = refl; begun = refl; dropped = refl; finished = refl; collected = refl }))
       (order_goes w w' n h.0 h.1 (next_order_of h.1.state) entry (ap is_some h.2) (λ o e. own n h.0 h.1 o h.2 e)) k)
       h.3
   step_goes w w' (step.Take n) entry own h = take_goes w w' n h.0 w.jobs entry refl h.1 h.2

@@ -3,6 +3,7 @@ use Rattle.std.proofs.Common.{◌≡◌, ◌≤◌, ℕ, zero, suc, ◌+◌, Lis
 use Rattle.std.specs.Prelude.{slice_get}
 use Rattle.std.proofs.lemmas.List.Elements.{All-nil, All-replicate}
 use Rattle.std.proofs.lemmas.List.{map-append, length-map, length-replicate}
+use Rattle.limits.specs.declared.TheConstants.{MAX_JOBS}
 use Rattle.syntax.specs.Loaded.{Loaded}
 use Rattle.instance.specs.Store.{Store}
 use Rattle.instance.specs.Fresh.{IsFresh}
@@ -77,7 +78,7 @@ replies_opening n (c ∷ cs) = ap (λ rs. [] ∷ rs) (replies_opening (n + 1) cs
 
 -- a world that opens keeps what a world keeps
 pub opening_kept : {X : Type 0} (cs : List LoopConfig) (ls : List (Core Desk)) (js : List Order) (hs : List CodeWorker) (lists : List X) (f : X → List Answer) (workers room : ℕ) → ls ≡ map opening_loop (settings_from 0 cs) → js ≡ [] → hs ≡ replicate workers worker.Idle
-    → map f lists ≡ replicate (length cs) [] → 256 ≤ room → IsKept ls js hs (length lists) room
+    → map f lists ≡ replicate (length cs) [] → MAX_JOBS ≤ room → IsKept ls js hs (length lists) room
 opening_kept cs ls js hs lists f workers room loops none states replies roomy = record {
   numbered = subst (AreNumbered 0) (sym loops) (opening_numbered 0 cs);
   waiting = subst (All (IsJob (length ls))) (sym none) (All-nil (IsJob (length ls)));

@@ -5,6 +5,7 @@ use Rattle.std.specs.Int.{w32, cast_signed}
 use Rattle.std.specs.List.{Contains, count_by}
 use Rattle.std.specs.Option.{is_some}
 use Rattle.std.proofs.lemmas.Bool.{cases_eq, eq-eqb, ne_eqb}
+use Rattle.limits.specs.declared.TheConstants.{MAX_JOBS}
 use Rattle.order.specs.Work.{WorkOrder, IsEndOf}
 use Rattle.phases.specs.declared.did.StepDid.{StepDid}
 use Rattle.phases.specs.declared.did.StepDid.TheVariants as did
@@ -235,7 +236,7 @@ module _ (Begins : Setting → Loop Desk → Type 0) (there : Bool) (j : ℕ) wh
     posts_next : (w' : World) (n : ℕ) (entry : LogEntry) → Posts w n entry w' → Next w' entry []
     posts_next w' n entry h =
         unless_next w' n h.1 entry _
-        (λ k. either (length w.jobs == 256) _ _ (Next w' entry []) (only w' entry (line.Post n post.Full) refl)
+        (λ k. either (length w.jobs == MAX_JOBS) _ _ (Next w' entry []) (only w' entry (line.Post n post.Full) refl)
         (order_next w' n h.0 h.1 (next_order_of h.1.state) entry h.2 refl) k)
         h.3
 

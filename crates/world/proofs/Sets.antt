@@ -3,6 +3,7 @@ use Rattle.std.proofs.Common.{◌≡◌, ◌≢◌, ℕ, zero, suc, ◌+◌, Lis
 use Rattle.std.specs.Prelude.{slice_get, slice_set, All}
 use Rattle.std.proofs.lemmas.List.{length-set, length_push}
 use Rattle.std.proofs.lemmas.List.Elements.{All-push}
+use Rattle.limits.specs.declared.TheConstants.{MAX_JOBS}
 use Rattle.order.specs.declared.order.Order.{Order}
 use Rattle.phases.specs.State.{Setting, Loop, Core}
 use Rattle.desk.specs.Desk.{Desk}
@@ -53,7 +54,7 @@ kept_set ls js hs lists room n p q at e h =
       roomy = h.roomy;
     }
 
-pub kept_push : (ls : List (Core Desk)) (js js' : List Order) (hs : List Worker) (lists room room' : ℕ) (o : Order) → js' ≡ js ++ o ∷ [] → room' ≡ room → length js ≢ 256 → IsJob (length ls) o
+pub kept_push : (ls : List (Core Desk)) (js js' : List Order) (hs : List Worker) (lists room room' : ℕ) (o : Order) → js' ≡ js ++ o ∷ [] → room' ≡ room → length js ≢ MAX_JOBS → IsJob (length ls) o
     → IsKept ls js hs lists room → IsKept ls js' hs lists room'
 kept_push ls js js' hs lists room room' o pushed same other job h = record {
   numbered = h.numbered;

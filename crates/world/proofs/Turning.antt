@@ -3,6 +3,7 @@ use Rattle.std.proofs.Common.{◌≡◌, ◌≢◌, ℕ, ◌<◌, Bool, true, fa
 use Rattle.std.specs.Prelude.{slice_get, slice_set}
 use Rattle.std.specs.Int.{w32, cast_signed}
 use Rattle.std.proofs.lemmas.Option.{slice_get-get_or}
+use Rattle.limits.specs.declared.TheConstants.{MAX_ASYNCS, MAX_JOBS}
 use Rattle.order.specs.Work.{WorkOrder}
 use Rattle.phases.specs.declared.did.StepDid.{StepDid}
 use Rattle.phases.specs.State.{State, Core}
@@ -57,7 +58,7 @@ module _ (w : World) (ls : List (Core Desk)) (js : List WorkOrder) (hs : List Wo
       → Cancels w n request (line.Cancel n request signed) (world_of (slice_set ls n q) js hs rs)
   cancels request answer signed q f e h told = (p.setting, p.loop, q.loop, answer, here, going_on _ _ _ f (h.0, h.1, ap (line.Cancel n request) told, moved q e))
 
-  pub sends : (a : ℕ) (ok : Bool) (q : Core Desk) → a < 16 → q.setting ≡ p.setting → SendsBeside desk_others p.loop a ok q.loop → SendsTo w n a (line.Send n a (not ok)) (world_of (slice_set ls n q) js hs rs)
+  pub sends : (a : ℕ) (ok : Bool) (q : Core Desk) → a < MAX_ASYNCS → q.setting ≡ p.setting → SendsBeside desk_others p.loop a ok q.loop → SendsTo w n a (line.Send n a (not ok)) (world_of (slice_set ls n q) js hs rs)
   sends a ok q few e h = (p.setting, p.loop, q.loop, ok, few, here, h, refl, moved q e)
 
   pub steps : (did : StepDid) (q : Core Desk) (entry : LogEntry) → q.setting ≡ p.setting → LoopStep desk_calls p.setting p.loop did q.loop → entry ≡ told_of n did q.loop.state.emits → StepsLoop w n entry (world_of (slice_set ls n q) js hs rs)
@@ -80,13 +81,13 @@ module _ (w : World) (ls : List (Core Desk)) (js : List WorkOrder) (hs : List Wo
   jobs_are : w.jobs ≡ js
   jobs_are = ap (λ x. x.jobs) (sym is)
 
-  pub posts_full : is_failed p.loop.state.status ≡ false → length js ≡ 256 → Posts w n (line.Post n post.Full) (world_of (slice_set ls n p) js hs rs)
+  pub posts_full : is_failed p.loop.state.status ≡ false → length js ≡ MAX_JOBS → Posts w n (line.Post n post.Full) (world_of (slice_set ls n p) js hs rs)
   posts_full f full = (
     p.setting,
     p.loop,
     here w ls js hs rs is n p at,
     going_on w ls js hs rs is n p at _ _ _ f
-        (rw (eq-eqb (length w.jobs) 256 (ap length jobs_are ∙ full)) (refl, untouched w ls js hs rs is n p at)),
+        (rw (eq-eqb (length w.jobs) MAX_JOBS (ap length jobs_are ∙ full)) (refl, untouched w ls js hs rs is n p at)),
   )
 
   none_case : (out : Option WorkOrder × State) (w' : World) → out.0 ≡ None → w' ≡ w → PostsOrder w n p.setting p.loop out (line.Post n post.Nothing) w'
@@ -100,7 +101,7 @@ module _ (w : World) (ls : List (Core Desk)) (js : List WorkOrder) (hs : List Wo
       let same : x ≡ o = cc in
       (ap (λ y. line.Post n (post.Request y.request)) (sym same), h ∙ ap (λ y. record (with_loop w n p.setting (in_state p.loop s)) { jobs = w.jobs ++ y ∷ [] }) (sym same))
 
-  pub posts_nothing : (q : Core Desk) → is_failed p.loop.state.status ≡ false → length js ≢ 256 → q.setting ≡ p.setting → None ≡ (next_order_of p.loop.state).0 → q.loop ≡ in_state p.loop (next_order_of p.loop.state).1
+  pub posts_nothing : (q : Core Desk) → is_failed p.loop.state.status ≡ false → length js ≢ MAX_JOBS → q.setting ≡ p.setting → None ≡ (next_order_of p.loop.state).0 → q.loop ≡ in_state p.loop (next_order_of p.loop.state).1
       → Posts w n (line.Post n post.Nothing) (world_of (slice_set ls n q) js hs rs)
   posts_nothing q f few e none core =
       let same : q.loop ≡ p.loop = core ∙ ap (in_state p.loop) (nothing_in p.loop.state.status p.loop.state (sym none)) in (
@@ -108,19 +109,19 @@ module _ (w : World) (ls : List (Core Desk)) (js : List WorkOrder) (hs : List Wo
         p.loop,
         here w ls js hs rs is n p at,
         going_on w ls js hs rs is n p at _ _ _ f
-            (rw (ne_eqb (length w.jobs) 256 (λ k. few (ap length (sym jobs_are) ∙ k)))
+            (rw (ne_eqb (length w.jobs) MAX_JOBS (λ k. few (ap length (sym jobs_are) ∙ k)))
             (none_case (next_order_of p.loop.state) _ (sym none)
             (moved w ls js hs rs is n p at q e ∙ ap (with_loop w n p.setting) same ∙ ap (λ x. record w { loops = x }) (set_same w.loops n p (here w ls js hs rs is n p at))))),
       )
 
-  pub posts_order : (q : Core Desk) (o : WorkOrder) (js' : List WorkOrder) → is_failed p.loop.state.status ≡ false → length js ≢ 256 → q.setting ≡ p.setting → Some o ≡ (next_order_of p.loop.state).0 → q.loop ≡ in_state p.loop (next_order_of p.loop.state).1
+  pub posts_order : (q : Core Desk) (o : WorkOrder) (js' : List WorkOrder) → is_failed p.loop.state.status ≡ false → length js ≢ MAX_JOBS → q.setting ≡ p.setting → Some o ≡ (next_order_of p.loop.state).0 → q.loop ≡ in_state p.loop (next_order_of p.loop.state).1
       → js' ≡ js ++ o ∷ [] → Posts w n (line.Post n (post.Request o.request)) (world_of (slice_set ls n q) js' hs rs)
   posts_order q o js' f few e out core pushed = (
     p.setting,
     p.loop,
     here w ls js hs rs is n p at,
     going_on w ls js hs rs is n p at _ _ _ f
-        (rw (ne_eqb (length w.jobs) 256 (λ k. few (ap length (sym jobs_are) ∙ k)))
+        (rw (ne_eqb (length w.jobs) MAX_JOBS (λ k. few (ap length (sym jobs_are) ∙ k)))
         (some_case (next_order_of p.loop.state) o _ (sym out)
         (ap (λ x. world_of (slice_set ls n q) x hs rs) pushed ∙ ap (λ (x : World). record x { jobs = x.jobs ++ o ∷ [] }) (moved w ls js hs rs is n p at q e ∙ ap (with_loop w n p.setting) core)
         ∙ refl))),

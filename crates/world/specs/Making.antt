@@ -1,6 +1,7 @@
 -- What a world is made of, and how its code reads.
 use Rattle.std.specs.Prelude.{◌≡◌, ◌≤◌, ℕ, ◌+◌, ◌<◌, ◌⊎◌, List, [], ◌∷◌, All, Some, length, map, slice_get, take}
 use Rattle.std.specs.Arc.{arc_value}
+use Rattle.limits.specs.declared.TheConstants.{MAX_DEPTH, MAX_ASYNCS, MAX_REQUESTS, MAX_JOBS}
 use Rattle.order.specs.declared.order.Order.{Order}
 use Rattle.order.specs.declared.reply.Reply.{Reply}
 use Rattle.order.specs.Orders.{order_of, end_of}
@@ -48,12 +49,12 @@ answers_of replies = map answer_of replies
 
 -- calls may stand so deep
 abbrev pub HasDepth : LoopConfig → Type 0
-HasDepth c = (1 ≤ c.settings.depth) × (c.settings.depth ≤ 128)
+HasDepth c = (1 ≤ c.settings.depth) × (c.settings.depth ≤ MAX_DEPTH)
 
 -- a job of one of so many loops, which can be started and run
 pub record IsJob (loops : ℕ) (o : Order) : Type 0 where
   pub there : o.loop_no < loops
-  pub slot : o.slot < 32
+  pub slot : o.slot < MAX_REQUESTS
   pub runs : CanRun (order_of o)
 
 abbrev pub IsHeld : ℕ → CodeWorker → Type 0
@@ -73,8 +74,8 @@ pub record IsKept (loops : List (Core Desk)) (jobs : List Order) (states : List 
   pub waiting : All (IsJob (length loops)) jobs
   pub held : All (IsHeld (length loops)) states
   pub paired : lists ≡ length loops
-  pub few : length jobs ≤ 256
-  pub roomy : 256 ≤ room
+  pub few : length jobs ≤ MAX_JOBS
+  pub roomy : MAX_JOBS ≤ room
 
 -- the step names a loop, a worker or an async that is not there
 abbrev pub NamesNothing : World → Step → Type 0
@@ -84,7 +85,7 @@ NamesNothing w (step.Take n) = length w.workers ≤ n
 NamesNothing w (step.Start n) = length w.workers ≤ n
 NamesNothing w (step.Finish n) = length w.workers ≤ n
 NamesNothing w (step.Collect n) = length w.loops ≤ n
-NamesNothing w (step.Send n a) = (length w.loops ≤ n) ⊎ (16 ≤ a)
+NamesNothing w (step.Send n a) = (length w.loops ≤ n) ⊎ (MAX_ASYNCS ≤ a)
 NamesNothing w (step.Cancel n request) = length w.loops ≤ n
 NamesNothing w (step.Clock n ms) = length w.loops ≤ n
 

@@ -2,6 +2,7 @@
 use Rattle.std.specs.Prelude.{◌≡◌, ℕ, ◌<◌, ◌==◌, Bool, not, MatchBool, List, [], ◌∷◌, ◌++◌, length, map, replicate, Option}
 use Rattle.std.specs.Prelude.{Some, None, slice_get, slice_set}
 use Rattle.std.specs.Int.{w32, cast_signed}
+use Rattle.limits.specs.declared.TheConstants.{MAX_ASYNCS, MAX_JOBS}
 use Rattle.instance.specs.Fresh.{fresh_store}
 use Rattle.interp.specs.Traps.{trap_number}
 use Rattle.order.specs.Work.{WorkOrder, WorkEnd, Done, Trap, Depth, Spent, NoMemory, IsEndOf}
@@ -114,7 +115,7 @@ abbrev pub Posts : World → ℕ → LogEntry → World → Type 0
 Posts w n entry w' =
     (g : Setting) × (l : Loop Desk) × HasLoop w n g l
     × UnlessFailed w n l entry w'
-    (MatchBool (length w.jobs == 256) (Only w entry (line.Post n post.Full) w') (PostsOrder w n g l (next_order_of l.state) entry w'))
+    (MatchBool (length w.jobs == MAX_JOBS) (Only w entry (line.Post n post.Full) w') (PostsOrder w n g l (next_order_of l.state) entry w'))
 
 abbrev pub job_of : WorkOrder → JobId
 job_of o = record { loop_no = o.loop_no; request = o.request }
@@ -178,7 +179,7 @@ Collects w n entry w' =
 -- a failed loop's sends are still counted
 abbrev pub SendsTo : World → ℕ → (async_no : ℕ) → LogEntry → World → Type 0
 SendsTo w n a entry w' =
-    (g : Setting) × (l l' : Loop Desk) × (ok : Bool) × (a < 16) × HasLoop w n g l × SendsBeside desk_others l a ok l'
+    (g : Setting) × (l l' : Loop Desk) × (ok : Bool) × (a < MAX_ASYNCS) × HasLoop w n g l × SendsBeside desk_others l a ok l'
     × (entry ≡ line.Send n a (not ok)) × (w' ≡ with_loop w n g l')
 
 abbrev pub Cancels : World → ℕ → (request : ℕ) → LogEntry → World → Type 0

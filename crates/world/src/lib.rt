@@ -15,4 +15,4 @@ mod world;
 
 pub use config::{Config, LoopConfig};
 pub use fault::WorldFault;
-pub use world::{MAX_JOBS, World};
+pub use world::World;

@@ -1,6 +1,7 @@
 // All loops and workers, in one thread.
 
 ghost use Rattle.std.specs.Prelude.{◌≡◌, ◌++◌, ◌∷◌, [], ◌≤◌, ◌<◌, All, IfOk, IfErr, OnOk, OnErr, length, map, replicate, take};
+ghost use Rattle.limits.specs.declared.TheConstants.{MAX_LOOPS, MAX_WORKERS};
 ghost use Rattle.world.specs.Making.{setting_from, settings_from, answers_of, HasDepth, MayFault, Stops};
 ghost use Rattle.world.specs.World.{opening_world, opening_loop, WorldStep, WorldRun, told_of, job_of, Tells, StepsLoop, Posts, WithWorker, TakesJob, StartsJob, FinishesJob, Collects, SendsTo, Cancels, Clocks};
 ghost use Rattle.order.specs.Orders.{order_of, end_of};
@@ -9,6 +10,7 @@ use crate::config::{Config, LoopConfig};
 use crate::fault::WorldFault;
 use crate::worker::Worker;
 use desk::Desk;
+use limits::{MAX_ASYNCS, MAX_EMITS, MAX_JOBS};
 use order::{Order, Outcome, Reply};
 use phases::{Accepted, LoopCore, StepDid};
 use std::alloc::{AllocError, Global};
@@ -21,15 +23,6 @@ use world_log::{
     CollectOutcome, FinishOutcome, JobId, Log, LogEntry, PostOutcome, StartOutcome, Step,
     WorkEnding,
 };
-
-/// How many jobs may wait for a worker.
-pub const MAX_JOBS: usize = 256;
-
-/// How many values a callback may put out.
-const MAX_EMITS: usize = 64;
-
-/// How many asyncs a loop has.
-const MAX_ASYNCS: u32 = 16;
 
 /// Some loops and workers, which take turns in one thread, step by step. Contracts see the loops, the jobs that no
 /// worker took, what each worker has, and the replies that no loop was offered.
@@ -117,7 +110,7 @@ fn ending_of(outcome: &Outcome) -> WorkEnding
 
 // The loops of a world as they open, each under its place as its number.
 fn opening_loops(alloc: Global, configs: &[LoopConfig]) -> Result<Vec<LoopCore<Desk>>, AllocError>
-    requires few { length configs.now ≤ 8 }
+    requires few { length configs.now ≤ MAX_LOOPS }
     requires depths { All HasDepth configs.now }
     ensures { IfOk result (λ loops. loops.items ≡ map opening_loop (settings_from 0 configs.now)) }
 {
@@ -176,8 +169,8 @@ impl World {
     /// its place, and at most 16 workers; calls may stand 1 to 128 deep. `Memory` comes only where memory was refused,
     /// or as of a loop's handle table.
     pub fn new(alloc: Global, config: Config) -> Result<World, WorldFault>
-        requires loops { (1 ≤ length config.loops.items) × (length config.loops.items ≤ 8) }
-        requires workers { config.workers ≤ 16 }
+        requires loops { (1 ≤ length config.loops.items) × (length config.loops.items ≤ MAX_LOOPS) }
+        requires workers { config.workers ≤ MAX_WORKERS }
         requires depths { All HasDepth config.loops.items }
         ensures opening { IfOk result (λ world. world ≡ opening_world (settings_from 0 config.loops.items) config.workers) }
         ensures memory { IfErr result (λ fault. fault ≡ WorldFault.Memory) }
@@ -389,7 +382,7 @@ impl World {
         ensures fault { IfErr result (λ fault. MayFault self.old (Step.Send loop_no async_no) fault) }
         ensures kept { OnErr result (self.new ≡ self.old) }
     {
-        if async_no >= MAX_ASYNCS {
+        if async_no as usize >= MAX_ASYNCS {
             return Err(WorldFault::NoSuch);
         }
         let Some(core) = self.loops.get_mut(loop_no as usize) else {

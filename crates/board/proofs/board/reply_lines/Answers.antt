@@ -1,7 +1,7 @@
 use Rattle.std.proofs.Common.{◌≡◌, [], ◌∷◌, ◌++◌, map, length-append, sym, ap, ◌∙◌, arith}
 use Rattle.std.proofs.lemmas.List.{map-append}
 use Rattle.std.proofs.lemmas.List.Elements.{All-push}
-use Rattle.board.specs.declared.board.TheConstants.{REPLIES}
+use Rattle.limits.specs.declared.TheConstants.{MAX_REPLIES}
 use Rattle.board.specs.Views.{LineView, maker_at}
 use Rattle.board.proofs.board.reply_lines.Goals as goal
 
@@ -14,5 +14,5 @@ loop-preserved c =
       omega (arith, length-append c.loop.lines.items (line ∷ []), known.0),
       c.in_ok-push-2.ensures.items ∙ ap (λ ms. ms ++ c.in_ok-line.maker ∷ []) known.1 ∙ ap (λ m. map (maker_at 1) c.loop.lines.items ++ m ∷ []) made.maker
           ∙ sym (map-append (maker_at 1) c.loop.lines.items (line ∷ [])),
-      All-push (λ (l : LineView). l.places ≡ REPLIES) c.loop.lines.items line known.2 made.places,
+      All-push (λ (l : LineView). l.places ≡ MAX_REPLIES) c.loop.lines.items line known.2 made.places,
     )

@@ -23,5 +23,5 @@ invariant_of-self c =
     let seat = c.fetch_add.ensures in
     let now = seat.2 a c.waiting_place.ensures in
     let most = is.4.own_most in
-    let left = c.if-self-eq-MOST_SENDS.false in
+    let left = c.if-self-eq-MAX_SENDS.false in
     (seat.0 ∙ is.0, seat.1 ∙ is.1, is.2, rw now (own-sized old a is.3), rw now (own-counted old _ _ a is.3 is.4 c.requires (omega arith)))

@@ -1,8 +1,9 @@
 use Rattle.std.proofs.Common.{◌≡◌, ◌≤◌, ◌+◌, ◌++◌, map, take, length}
+use Rattle.limits.specs.declared.TheConstants.{MAX_REQUESTS}
 use Rattle.phases.specs.declared.entry.Entry.TheVariants.{Async}
 use Rattle.phases.specs.PhaseList.{active_from}
 use Rattle.phases.proofs.entries.push_asyncs.Given as goal
 
 abbrev pub invariant-loop-async_no : goal.invariant-loop-async_no
 invariant-loop-async_no l =
-    (l.items.items ≡ l.initial.items.items ++ map (λ a. Async a) (active_from l.roster.handles 0 (take l.async_no l.asyncs))) × (length l.items.items ≤ 32 + l.async_no)
+    (l.items.items ≡ l.initial.items.items ++ map (λ a. Async a) (active_from l.roster.handles 0 (take l.async_no l.asyncs))) × (length l.items.items ≤ MAX_REQUESTS + l.async_no)

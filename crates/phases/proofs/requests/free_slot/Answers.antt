@@ -1,3 +1,4 @@
+use Rattle.limits.specs.declared.TheConstants.{MAX_REQUESTS}
 use Rattle.phases.proofs.Booking.{enough}
 use Rattle.phases.proofs.requests.free_slot.Goals as goal
 use Rattle.std.proofs.Common.{arith}
@@ -5,5 +6,5 @@ use Rattle.std.proofs.Common.{arith}
 pub unreachable-requires : goal.unreachable-requires
 unreachable-requires c =
     let room = c.requires in
-    let all = enough 32 c.args.items.now (λ slot below. c.loop-slot.invariant slot (let end = c.loop-slot-test.false in omega arith)) in
+    let all = enough MAX_REQUESTS c.args.items.now (λ slot below. c.loop-slot.invariant slot (let end = c.loop-slot-test.false in omega arith)) in
     omega arith

@@ -1,4 +1,5 @@
 use Rattle.std.proofs.Common.{sym, subst, ◌≡◌, ◌<◌}
+use Rattle.limits.specs.declared.TheConstants.{MAX_REQUESTS}
 use Rattle.order.specs.Orders.{order_of}
 use Rattle.std.specs.Arc.{arc_value}
 use Rattle.phases.specs.Keeping.{CanRun, AreOrdersOf}
@@ -30,7 +31,7 @@ returns-clause-own g c =
 pub returns-clause-slot : goal.returns-clause-slot
 returns-clause-slot g c =
     let set = setting_of c.self.inside.guest.setting in
-    own_of (λ o. o.slot < 32) set c.next_order.result (λ o h. h.slot) (own_order set c.self.inside.guest.state c.next_order.result c.next_order.ensures.order c.self.invariant.orders)
+    own_of (λ o. o.slot < MAX_REQUESTS) set c.next_order.result (λ o h. h.slot) (own_order set c.self.inside.guest.state c.next_order.result c.next_order.ensures.order c.self.invariant.orders)
 
 pub returns-clause-can_run : goal.returns-clause-can_run
 returns-clause-can_run g c =

@@ -1,4 +1,5 @@
 use Rattle.std.proofs.Common.{◌≡◌, ◌<◌, length}
+use Rattle.limits.specs.declared.TheConstants.{MAX_REQUESTS}
 use Rattle.phases.proofs.Booking.{kept_open}
 use Rattle.phases.proofs.requests.Requests.open.Goals as goal
 use Rattle.std.proofs.Common.{arith, ◌+◌, ◌^◌}
@@ -8,7 +9,7 @@ pub invariant_of-self : goal.invariant_of-self
 invariant_of-self c =
     let inside = c.self.inside in
     let view = c.self.view_is in
-    let room : length inside.items.items < 32 = rw (← view) at c.requires.room in
+    let room : length inside.items.items < MAX_REQUESTS = rw (← view) at c.requires.room in
     let number : c.args.order.request ≡ inside.last + 1 = rw (← view) at c.requires.number in
     let small : inside.last + 1 < 2 ^ 31 = rw (← view) at c.requires.last in (
       rw (c.in-Ok.ensures.items, c.new.ensures) (kept_open inside.items.items inside.last c.self.invariant.0 (order_of c.args.order) room number c.requires.slot small),

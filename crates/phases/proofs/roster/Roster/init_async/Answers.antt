@@ -1,5 +1,6 @@
 use Rattle.std.proofs.Common.{◌≡◌, sym, subst, ◌∙◌, true}
 use Rattle.std.specs.FinMap as finite
+use Rattle.limits.specs.declared.TheConstants.{MAX_HANDLES}
 use Rattle.phases.specs.Roster.{Roster, is_callback}
 use Rattle.phases.specs.contracts.roster.Roster.{the_view}
 use Rattle.phases.proofs.Rostering.{kept_async, made_async_open}
@@ -11,5 +12,5 @@ start-requires c = rw c.in-Some.ensures.added (made_async_open c.self.inside.han
 pub invariant_of-self-2 : goal.invariant_of-self-2
 invariant_of-self-2 c =
     rw (c.start.ensures, c.push.ensures.items, c.in-Some.ensures.added)
-    (kept_async (the_view c.self.inside) c.in-Some.handle c.args.callback c.self.invariant c.in-Some.ensures.free (λ (full : finite.len c.self.inside.handles.records ≡ 64). let bad = c.in-Some.ensures.full.1 full in cc)
+    (kept_async (the_view c.self.inside) c.in-Some.handle c.args.callback c.self.invariant c.in-Some.ensures.free (λ (full : finite.len c.self.inside.handles.records ≡ MAX_HANDLES). let bad = c.in-Some.ensures.full.1 full in cc)
     (subst (λ (r : Roster). is_callback r c.args.callback ≡ true) (sym c.self.view_is) (sym c.is_callback.ensures ∙ c.if-not-is_callback.false)))

@@ -1,5 +1,5 @@
 use Rattle.std.proofs.Common.{◌≡◌, ◌<◌}
-use Rattle.serve.specs.declared.served.TheConstants.{MOST_CALLBACKS}
+use Rattle.limits.specs.declared.TheConstants.{MAX_CALLBACKS}
 use Rattle.serve.proofs.turn.Turns.until_ended.Given as goal
 
 abbrev pub invariant-loop : goal.invariant-loop
@@ -7,4 +7,4 @@ invariant-loop g l =
     (goal.iterator-loop g).can_next l.iterator'
     × (goal.iterator-loop g).is_finite l.iterator'
     × (l.self.told.core.setting ≡ l.fn.self.told.core.setting)
-    × (l.self.told.ran < MOST_CALLBACKS)
+    × (l.self.told.ran < MAX_CALLBACKS)

@@ -1,6 +1,7 @@
 use Rattle.std.proofs.Common.{◌≡◌, ◌≢◌, ◌∷◌, [], ◌≤◌, ◌<◌, length, map, ◌∙◌, sym, ap, arith}
 use Rattle.std.specs.VecDeque.{deque_len, deque_capacity}
 use Rattle.std.proofs.lemmas.List.{length-map, map-append}
+use Rattle.limits.specs.declared.TheConstants.{MAX_JOBS}
 use Rattle.order.specs.Orders.{order_of}
 use Rattle.world.specs.Making.{IsJob}
 use Rattle.world.proofs.Sets.{kept_set, kept_push, numbered_at}
@@ -37,10 +38,10 @@ invariant_of-self-2 c =
 pub push_back_reserved-requires : goal.push_back_reserved-requires
 push_back_reserved-requires c =
     let counted : length c.self.inside.jobs.items ≡ c.len.result = sym (c.len.ensures ∙ c.self.inside.jobs.ok.0) in
-    let few : length c.self.inside.jobs.items ≤ 256 = c.self.invariant.few in
-    let other : c.len.result ≢ 256 = c.if-len-eq-MAX_JOBS.false in
+    let few : length c.self.inside.jobs.items ≤ MAX_JOBS = c.self.invariant.few in
+    let other : c.len.result ≢ MAX_JOBS = c.if-len-eq-MAX_JOBS.false in
     let long : c.len.result ≡ deque_len c.self.inside.jobs = c.len.ensures in
-    let room : 256 ≤ deque_capacity c.self.inside.jobs = c.self.invariant.roomy in
+    let room : MAX_JOBS ≤ deque_capacity c.self.inside.jobs = c.self.invariant.roomy in
     omega arith
 
 pub returns-clause-ran : goal.returns-clause-ran

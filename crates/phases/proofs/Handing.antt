@@ -112,10 +112,12 @@ module _ (g : Setting) (r : ℕ) (was : Type 0) where
 
   pub keeps : IsKeptBy g Handed
   keeps = record {
-    called = call_keeps;
-    removed = λ made rs n h. record {
-      up_to = up_to_filtered rs.last (λ q. not (has_number n q)) rs.outstanding h.up_to;
-      shut = λ w. let it = h.shut w in (it.0, none_filtered r (λ q. not (has_number n q)) rs.outstanding it.1);
+    in_steps = record {
+      called = call_keeps;
+      removed = λ made rs n h. record {
+        up_to = up_to_filtered rs.last (λ q. not (has_number n q)) rs.outstanding h.up_to;
+        shut = λ w. let it = h.shut w in (it.0, none_filtered r (λ q. not (has_number n q)) rs.outstanding it.1);
+      };
     };
     staged = staged_keeps;
   }

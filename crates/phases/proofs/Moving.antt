@@ -127,14 +127,18 @@ module _ {S : Type 0} (calls : Calls S) (g : Setting) where
     call_fate Emit (I64 value ∷ []) is h = plain Emit refl (λ n. refl) (ap (λ p. p.0.requests) h.1 ∙ emit_keeps value old.0)
     call_fate _ _ is h = absurd h
 
--- what a call, a removal and a request that is no more open leave as it is
-pub record IsKeptBy (g : Setting) (P : List GuestCall → Requests → Type 0) : Type 0 where
+-- what a call and a removal leave as it is
+pub record IsKeptInSteps (g : Setting) (P : List GuestCall → Requests → Type 0) : Type 0 where
   pub called : (made : List GuestCall) (c : GuestCall) (rs rs' : Requests) → CallFate g rs c rs' → P made rs → P (made ++ c ∷ []) rs'
   pub removed : (made : List GuestCall) (rs : Requests) (n : ℕ) → P made rs → P made (without_request rs n)
+
+-- and a request that is no more open
+pub record IsKeptBy (g : Setting) (P : List GuestCall → Requests → Type 0) : Type 0 where
+  pub in_steps : IsKeptInSteps g P
   pub staged : (made : List GuestCall) (rs : Requests) (n : ℕ) (s : Stage) → is_open_stage s ≡ false → P made rs → P made (with_stage rs n s)
 
--- then so do the steps of a loop, and all that its owner does with it
-module _ {S : Type 0} (calls : Calls S) (g : Setting) (P : List GuestCall → Requests → Type 0) (keeps : IsKeptBy g P) where
+-- then so do the steps of a loop
+module _ {S : Type 0} (calls : Calls S) (g : Setting) (P : List GuestCall → Requests → Type 0) (keeps : IsKeptInSteps g P) where
   nothing : (made : List GuestCall) (rs rs' : Requests) → rs' ≡ rs → P made rs → P (made ++ []) rs'
   nothing made rs rs' e p = subst (P (made ++ [])) (sym e) (subst (λ cs. P cs rs) (sym (append-nil made)) p)
 
@@ -236,10 +240,12 @@ module _ {S : Type 0} (calls : Calls S) (g : Setting) (P : List GuestCall → Re
     status_keeps Over old did new h p = nothing made old.state.requests new.state.requests (ap (λ l. l.state.requests) h.1) p
     status_keeps Failed old did new h p = nothing made old.state.requests new.state.requests (ap (λ l. l.state.requests) h.1) p
 
-    step_keeps : (old : Loop S) (did : StepDid) (new : Loop S) (h : LoopStep calls g old did new) → P made old.state.requests → P (made ++ loop_calls calls g old did new h) new.state.requests
+    pub step_keeps : (old : Loop S) (did : StepDid) (new : Loop S) (h : LoopStep calls g old did new) → P made old.state.requests → P (made ++ loop_calls calls g old did new h) new.state.requests
     step_keeps old did new h p = status_keeps old.state.status old did new h p
 
-    -- what the owner does otherwise
+-- and all that its owner does with it
+module _ {S : Type 0} (calls : Calls S) (g : Setting) (P : List GuestCall → Requests → Type 0) (keeps : IsKeptBy g P) where
+  module _ (made : List GuestCall) where
     handing_keeps : (rs : Requests) (o : Option Request) → P made rs → P made (handing rs o).1
     handing_keeps rs None p = p
     handing_keeps rs (Some q) p = keeps.staged made rs q.order.request HandedOut refl p
@@ -258,10 +264,10 @@ module _ {S : Type 0} (calls : Calls S) (g : Setting) (P : List GuestCall → Re
     cancel_keeps rs rs' n answer (cancelled q found won e) p = subst (P made) (sym e) (keeps.staged made rs n Cancelled refl p)
 
     silent : (rs rs' : Requests) → rs' ≡ rs → P made rs → P (made ++ []) rs'
-    silent = nothing made
+    silent = nothing calls g P keeps.in_steps made
 
     pub event_keeps : (e : Event) (old new : Loop S) → EventStep calls g e old new → P made old.state.requests → P (made ++ calls_in e) new.state.requests
-    event_keeps (Stepped did emits more) old new h p = subst (λ cs. P (made ++ cs) new.state.requests) (sym h.1) (step_keeps old did new h.0 p)
+    event_keeps (Stepped did emits more) old new h p = subst (λ cs. P (made ++ cs) new.state.requests) (sym h.1) (step_keeps calls g P keeps.in_steps made old did new h.0 p)
     event_keeps (OrderAsked order) old new h p = silent (next_order_of old.state).1.requests new.state.requests (ap (λ l. l.state.requests) h.1) (next_keeps old.state.status old.state p)
     event_keeps (EndOffered o end taken) old new h p = silent new.state.requests new.state.requests refl (offered_keeps o end taken old new h p)
     event_keeps (CancelAnswered n answer) old new h p =
@@ -271,7 +277,7 @@ module _ {S : Type 0} (calls : Calls S) (g : Setting) (P : List GuestCall → Re
     event_keeps MovedBeside old new h p = silent old.state.requests new.state.requests (ap (λ s. s.requests) h.state) p
 
   pub history_keeps : (made : List GuestCall) (events : List Event) (old new : Loop S) → History calls g old events new → P made old.state.requests → P (made ++ guest_calls events) new.state.requests
-  history_keeps made [] old new h p = nothing made old.state.requests new.state.requests (ap (λ l. l.state.requests) h) p
+  history_keeps made [] old new h p = nothing calls g P keeps.in_steps made old.state.requests new.state.requests (ap (λ l. l.state.requests) h) p
   history_keeps made (e ∷ events) old new h p =
       subst (λ cs. P cs new.state.requests) (append_assoc made (calls_in e) (guest_calls events))
       (history_keeps (made ++ calls_in e) events h.0 new h.2 (event_keeps made e old h.0 h.1 p))

@@ -28,6 +28,7 @@ use Rattle.world.specs.World.{World, Worker, Idle, Taken, Started, Answer, Unles
 use Rattle.world.specs.Guests.{step_calls, guest_calls}
 use Rattle.world.specs.Histories.{AreTold, HasHistory}
 use Rattle.world.specs.Laws.{is_after, WasCancelled, IsOwn}
+use Rattle.world.proofs.Finishing.{finished_after, given_end}
 use Rattle.world.proofs.Runs.{Keeps, Told, AllEnds, set_here, either, step_next, run_keeps}
 use Rattle.world.proofs.Sets.{core}
 use Rattle.world.proofs.Telling.{history_join, step_callback, tells_callback}
@@ -172,6 +173,8 @@ module _ (settings : List Setting) (j : ℕ) where
       own_after law =
           let it = law here.setting before.start here.old here.new before.events here.did here.new.state.emits (loop_calls desk_calls here.setting here.old here.did here.new here.steps) opening before.history (here.steps, refl, refl) r
           (sym (step_callback j r here.did here.new.state.emits (loop_calls desk_calls here.setting here.old here.did here.new here.steps)) ∙ ap (is_after j r) (sym here.told) ∙ is) in
+          let due = due_same it.request.order it.completion _ _ (cancelled_same Opens (IsThere workers) r log Made here.setting here.old before) it.due in
+          let answered = (finished_after settings workers steps log w run).loops j (core here.setting here.old) here.at in
           record {
             setting = here.setting;
             request = it.request;
@@ -180,7 +183,8 @@ module _ (settings : List Setting) (j : ℕ) where
             numbered = it.numbered;
             asked = subst (λ cs. WasAsked here.setting cs it.request.order) before.calls it.asked;
             runs = record { old = here.old; new = here.new; did = here.did; at = here.at; runs = it.runs; told = here.told; after = here.after };
-            due = due_same it.request.order it.completion _ _ (cancelled_same Opens (IsThere workers) r log Made here.setting here.old before) it.due;
+            due = due;
+            finished = given_end log j r here.old.state.requests it.request it.completion (WasCancelled j r log Made) answered it.runs.stood it.numbered it.runs.given due;
           }
 
       -- from here on

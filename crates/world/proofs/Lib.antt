@@ -1,5 +1,6 @@
 pub mod AfterOnce
 pub mod Collecting
+pub mod Finishing
 pub mod OneWay
 pub mod Opening
 pub mod Runs

@@ -1,23 +1,25 @@
 -- Laws of the runs of a world.
 use Rattle.std.specs.Prelude.{◌≡◌, ℕ, ◌+◌, ◌≤◌, ◌==◌, Bool, true, false, ◌&&◌, ◌⊎◌, List, ◌∷◌, ◌++◌, Contains, count_by, pos}
 use Rattle.std.specs.Prelude.{Some, slice_get}
+use Rattle.order.specs.Work.{WorkEnd}
 use Rattle.phases.specs.declared.did.StepDid.{StepDid}
 use Rattle.phases.specs.declared.entry.EntryKind.TheVariants as kind
 use Rattle.phases.specs.Guests.{GuestCall}
 use Rattle.phases.specs.Laws.{WasAsked, IsCancel, AreDue}
 use Rattle.phases.specs.Laws.{RunsAfter as LoopRunsAfter}
-use Rattle.phases.specs.Requests.{Request, Completion}
+use Rattle.phases.specs.Requests.{Request, Completion, end_completion}
 use Rattle.phases.specs.State.{Setting, Loop}
 use Rattle.desk.specs.Desk.{Desk, desk_calls}
 use Rattle.world_log.specs.declared.step.Step.{Step}
 use Rattle.world_log.specs.declared.entry.LogEntry.{LogEntry}
 use Rattle.world_log.specs.declared.entry.LogEntry.TheVariants as line
 use Rattle.world_log.specs.declared.outcome.JobId.{JobId}
+use Rattle.world_log.specs.declared.outcome.WorkEnding.{WorkEnding}
 use Rattle.world_log.specs.declared.outcome.PostOutcome.TheVariants as post
 use Rattle.world_log.specs.declared.outcome.StartOutcome.TheVariants as start
 use Rattle.world_log.specs.declared.outcome.FinishOutcome.TheVariants as finish
 use Rattle.world_log.specs.declared.outcome.CollectOutcome.TheVariants as collect
-use Rattle.world.specs.World.{World, WorldStep, WorldRun, HasLoop, opening_world, with_loop, told_of}
+use Rattle.world.specs.World.{World, WorldStep, WorldRun, HasLoop, opening_world, with_loop, told_of, Tells}
 use Rattle.world.specs.Guests.{step_calls, guest_calls}
 
 -- the entry tells an after-work callback of this loop and request
@@ -36,6 +38,12 @@ IsAfterOnce =
 abbrev pub WasCancelled : (l request : ℕ) → List LogEntry → List GuestCall → Type 0
 WasCancelled l request log made = Contains log (line.Cancel l request (pos 0)) ⊎ ((c : GuestCall) × Contains made c × IsCancel request c)
 
+-- a line tells that the job of this loop and request was finished, and ended so
+abbrev pub WasFinished : (l request : ℕ) → WorkEnd → List LogEntry → Type 0
+WasFinished l request end log =
+    (worker : ℕ) × (ending : WorkEnding) × Tells ending end
+    × Contains log (line.Finish worker (finish.Ended (record { loop_no = l; request = request }) ending))
+
 -- The step took this request off its loop's list and removed it, ran its after-work callback, and gave it these
 -- completion, which are those of the stage that it had come to.
 pub record RunsAfter (w : World) (l : ℕ) (q : Request) (g : Setting) (completion : Completion) (entry : LogEntry)
@@ -49,7 +57,8 @@ pub record RunsAfter (w : World) (l : ℕ) (q : Request) (g : Setting) (completi
   pub after : w' ≡ with_loop w l g new
 
 -- The callback of this loop and request was given what is due to the order that the guest had asked for under that
--- request's number, which is the very order of the request that the step removed.
+-- request's number, which is the very order of the request that the step removed: where it was not cancelled, the end that
+-- the line tells by which its job was finished.
 pub record IsOwn (settings : List Setting) (log : List LogEntry) (made : List GuestCall) (w : World) (l number : ℕ) (entry : LogEntry)
     (w' : World) : Type 0 where
   pub setting : Setting
@@ -60,6 +69,8 @@ pub record IsOwn (settings : List Setting) (log : List LogEntry) (made : List Gu
   pub asked : WasAsked setting made request.order
   pub runs : RunsAfter w l request setting completion entry w'
   pub due : AreDue request.order completion (WasCancelled l number log made)
+  pub finished : (WasCancelled l number log made → ⊥)
+      → (end : WorkEnd) × WasFinished l number end log × (completion ≡ end_completion end)
 
 -- each step that runs an after-work callback, after any run from an opening world, gives it what is due to its own order
 abbrev pub IsAfterOwn : Type 0

@@ -7,7 +7,8 @@ use desk::Desk;
 
 /// In every run of a world each loop has a history of what its owner did with it, which the log tells. So each loop
 /// and request have at most one after-work callback. It is given what one thread computes from the request's own
-/// order, or, where a cancel was answered 0, only its cancellation; and from then on none is answered 0.
+/// order, which the log's line tells by which its job was finished, or, where a cancel was answered 0, only its
+/// cancellation; and from then on none is answered 0.
 pub fn after_once()
     ensures history { IsHistory }
     ensures once { IsAfterOnce }

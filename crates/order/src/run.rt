@@ -67,8 +67,21 @@ impl Order {
         ensures { IfOk result (λ outcome. IsEndOf (order_of self.now) (end_of outcome)) }
     {
         let mut instance = self.new_instance(alloc)?;
+        self.compute_on(alloc, &mut instance)
+    }
+
+    /// The same, on a new instance.
+    fn compute_on(&self, alloc: Global, instance: &mut Instance) -> Result<Outcome, AllocError>
+        requires work { (f : ℕ) × ExportsFunction (arc_value self.now.module).contents (codes "uv_work") f }
+        requires valid { ValidModule (arc_value self.now.module).contents }
+        requires fresh { IsFresh (arc_value self.now.module).contents instance.old }
+        requires store { IsStoreOf (arc_value self.now.module).contents instance.old }
+        requires bytes { length (arc_value self.now.bytes).items ≤ MAX_BYTES }
+        requires depth { (1 ≤ self.now.depth) × (self.now.depth ≤ MAX_DEPTH) }
+        ensures { IfOk result (λ outcome. IsEndOf (order_of self.now) (end_of outcome)) }
+    {
         let mut host = WorkHost::new(alloc, &self.module, &self.bytes)?;
-        let ending = self.start_and_work(&mut instance, &mut host);
+        let ending = self.start_and_work(instance, &mut host);
         Ok(outcome_from(ending, host.into_reply()))
     }
 

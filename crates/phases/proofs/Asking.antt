@@ -55,7 +55,7 @@ module _ (g : Setting) where
         by (inr other) = more r rs.last (rs.last + 1) made c (names ∙ ne_eqb (rs.last + 1) r other) (omega arith) (h r few)
 
   keeps : IsKeptBy g AreAsked
-  keeps = record { in_steps = record { called = call_keeps; removed = λ made rs n h. h }; staged = λ made rs n s other h. h }
+  keeps = record { called = call_keeps; removed = λ made rs n h. h; staged = λ made rs n s other h. h }
 
   none_asked : AreAsked [] no_requests
   none_asked r few = record { once = omega arith; later = λ low. refl }

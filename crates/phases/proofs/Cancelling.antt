@@ -8,10 +8,10 @@ use Rattle.phases.specs.declared.entry.Status.TheVariants.{Running, Over, Failed
 use Rattle.phases.specs.declared.progress.CancelState.{CancelState}
 use Rattle.phases.specs.declared.progress.CancelState.TheVariants.{Unknown, Pending}
 use Rattle.phases.specs.declared.progress.CancelState.TheVariants as cancel_state
-use Rattle.phases.specs.Requests.{Cancelled, Request, Requests, request_of, with_stage}
+use Rattle.phases.specs.Requests.{Stage, Open, HandedOut, Answered, Cancelled, Request, Requests, request_of, with_stage}
 use Rattle.phases.specs.State.{State}
 use Rattle.phases.specs.Calls.{Calls}
-use Rattle.phases.specs.Host.{Cancels, CancelsAt, cancel_state_of, request_cancel_state, with_requests}
+use Rattle.phases.specs.Host.{Cancels, CancelsAt, cancel_state_of, request_cancel_state, stage_cancel_state}
 use Rattle.phases.specs.Outside.{CancelIn}
 
 -- an answer other than 0, read as unsigned and as signed
@@ -34,29 +34,58 @@ pub data CancelFate (rs : Requests) (n answer : ℕ) (rs' : Requests) : Type 0 w
   cancelled : (q : Request) → request_of rs n ≡ Some q → answer ≡ 0 → rs' ≡ with_stage rs n Cancelled → CancelFate rs n answer rs'
   stayed : IsRefusal answer → rs' ≡ rs → CancelFate rs n answer rs'
 
-module _ {S : Type 0} (calls : Calls S) where
-  fate_at : (st : CancelState) (old : Requests × S) (n answer : ℕ) (new : Requests × S) → cancel_state_of old.0 n ≡ st → CancelsAt calls st old n answer new → CancelFate old.0 n answer new.0
-  fate_at Unknown old n answer new is h = stayed (refusal answer invalid h.0 refl refl) (ap (λ p. p.0) h.1)
-  fate_at cancel_state.Answered old n answer new is h = stayed (refusal answer busy h.0 refl refl) (ap (λ p. p.0) h.1)
-  fate_at (Pending slot) old n answer new is h = won h.0 h.2 h.3 where
-    there : (o : Option Request) → request_of old.0 n ≡ o → (q : Request) × (request_of old.0 n ≡ Some q)
-    there None e = absurd (let it : request_cancel_state (request_of old.0 n) ≡ Unknown = ap request_cancel_state e in cc)
-    there (Some q) e = (q, e)
+-- what a loop may do to the shared object, or others to what it shares, that opens no request and cancels none
+pub data IsBeside {S : Type 0} (calls : Calls S) (s s' : S) : Type 0 where
+  unmoved : s' ≡ s → IsBeside calls s s'
+  tried : (slot n : ℕ) → calls.cancels s slot n false s' → IsBeside calls s s'
+  sent : (async_no : ℕ) (ok : Bool) → calls.sends s async_no ok s' → IsBeside calls s s'
+  took : (async_no count : ℕ) → calls.takes s async_no count s' → IsBeside calls s s'
 
-    won : (b : Bool) → answer ≡ cond b 0 busy → new.0 ≡ cond b (with_stage old.0 n Cancelled) old.0 → CancelFate old.0 n answer new.0
-    won true a e = let it = there (request_of old.0 n) refl in cancelled it.0 it.1 a e
-    won false a e = stayed (refusal answer busy a refl refl) e
+-- how a cancel of a request went at the shared object too
+pub data CancelMoves {S : Type 0} (calls : Calls S) (old : Requests × S) (n answer : ℕ) (new : Requests × S) : Type 0 where
+  wins : (q : Request) → request_of old.0 n ≡ Some q → answer ≡ 0 → new.0 ≡ with_stage old.0 n Cancelled → calls.cancels old.1 q.order.slot n true new.1 → CancelMoves calls old n answer new
+  leaves : IsRefusal answer → new.0 ≡ old.0 → IsBeside calls old.1 new.1 → CancelMoves calls old n answer new
+
+module _ {S : Type 0} (calls : Calls S) where
+  pub fate : (old : Requests × S) (n answer : ℕ) (new : Requests × S) → CancelMoves calls old n answer new → CancelFate old.0 n answer new.0
+  fate old n answer new (wins q found zeroed is at) = cancelled q found zeroed is
+  fate old n answer new (leaves refused is beside) = stayed refused is
+
+  moves_at : (st : CancelState) (old : Requests × S) (n answer : ℕ) (new : Requests × S) → cancel_state_of old.0 n ≡ st → CancelsAt calls st old n answer new → CancelMoves calls old n answer new
+  moves_at Unknown old n answer new is h = leaves (refusal answer invalid h.0 refl refl) (ap (λ p. p.0) h.1) (unmoved (ap (λ p. p.1) h.1))
+  moves_at cancel_state.Answered old n answer new is h = leaves (refusal answer busy h.0 refl refl) (ap (λ p. p.0) h.1) (unmoved (ap (λ p. p.1) h.1))
+  moves_at (Pending slot) old n answer new is h = won h.0 h.1 h.2 h.3 where
+    in_slot : (q : Request) (st : Stage) → stage_cancel_state q.order.slot st ≡ Pending slot → slot ≡ q.order.slot
+    in_slot q Open e = cc
+    in_slot q HandedOut e = cc
+    in_slot q (Answered end) e = absurd (cc)
+    in_slot q Cancelled e = absurd (cc)
+
+    there : (o : Option Request) → request_of old.0 n ≡ o → (q : Request) × (request_of old.0 n ≡ Some q) × (slot ≡ q.order.slot)
+    there None e = absurd (let it : request_cancel_state (request_of old.0 n) ≡ Unknown = ap request_cancel_state e in cc)
+    there (Some q) e = (q, e, in_slot q q.stage (sym (ap request_cancel_state e) ∙ is))
+
+    won : (b : Bool) → calls.cancels old.1 slot n b new.1 → answer ≡ cond b 0 busy → new.0 ≡ cond b (with_stage old.0 n Cancelled) old.0 → CancelMoves calls old n answer new
+    won true at a e = let it = there (request_of old.0 n) refl in wins it.0 it.1 a e (subst (λ k. calls.cancels old.1 k n true new.1) it.2 at)
+    won false at a e = leaves (refusal answer busy a refl refl) e (tried slot n at)
+
+  pub moves_of : (old : Requests × S) (n answer : ℕ) (new : Requests × S) → Cancels calls old n answer new → CancelMoves calls old n answer new
+  moves_of old n answer new h = moves_at (cancel_state_of old.0 n) old n answer new refl h
+
+  -- of requests by another name
+  renamed : (old : Requests × S) (n answer : ℕ) (requests requests' : Requests) (s : S) → requests' ≡ requests → CancelMoves calls old n answer (requests, s) → CancelMoves calls old n answer (requests', s)
+  renamed old n answer requests requests' s e h = subst (λ x. CancelMoves calls old n answer (x, s)) (sym e) h
+
+  -- the owner's
+  pub moves_in : (status : Status) (old : State × S) (n answer : ℕ) (new : State × S) → CancelIn calls status old n answer new → CancelMoves calls (old.0.requests, old.1) n answer (new.0.requests, new.1)
+  moves_in Failed old n answer new h = leaves (refusal answer not_here h.0 refl refl) (ap (λ p. p.0.requests) h.1) (unmoved (ap (λ p. p.1) h.1))
+  moves_in Running old n answer new h =
+      renamed (old.0.requests, old.1) n answer h.0 new.0.requests new.1 (ap (λ s. s.requests) h.2) (moves_of (old.0.requests, old.1) n answer (h.0, new.1) h.1)
+  moves_in Over old n answer new h =
+      renamed (old.0.requests, old.1) n answer h.0 new.0.requests new.1 (ap (λ s. s.requests) h.2) (moves_of (old.0.requests, old.1) n answer (h.0, new.1) h.1)
 
   pub fate_of : (old : Requests × S) (n answer : ℕ) (new : Requests × S) → Cancels calls old n answer new → CancelFate old.0 n answer new.0
-  fate_of old n answer new h = fate_at (cancel_state_of old.0 n) old n answer new refl h
-
-module _ {S : Type 0} (calls : Calls S) where
-  others : (old : State × S) (n answer : ℕ) (new : State × S)
-      → (requests : Requests) × Cancels calls (old.0.requests, old.1) n answer (requests, new.1) × (new.0 ≡ with_requests old.0 requests) → CancelFate old.0.requests n answer new.0.requests
-  others old n answer new h =
-      subst (CancelFate old.0.requests n answer) (sym (ap (λ s. s.requests) h.2)) (fate_of calls (old.0.requests, old.1) n answer (h.0, new.1) h.1)
+  fate_of old n answer new h = fate old n answer new (moves_of old n answer new h)
 
   pub fate_in : (status : Status) (old : State × S) (n answer : ℕ) (new : State × S) → CancelIn calls status old n answer new → CancelFate old.0.requests n answer new.0.requests
-  fate_in Failed old n answer new h = stayed (refusal answer not_here h.0 refl refl) (ap (λ p. p.0.requests) h.1)
-  fate_in Running old n answer new h = others old n answer new h
-  fate_in Over old n answer new h = others old n answer new h
+  fate_in status old n answer new h = fate (old.0.requests, old.1) n answer (new.0.requests, new.1) (moves_in status old n answer new h)

@@ -28,22 +28,22 @@ abbrev pub NoneOpen : ℕ → List Request → Type 0
 NoneOpen r [] = Unit {0}
 NoneOpen r (q ∷ qs) = (q.order.request ≡ r → is_open_stage q.stage ≡ false) × NoneOpen r qs
 
-up_to_push : (last last' : ℕ) (qs : List Request) (q : Request) → last ≤ last' → q.order.request ≤ last' → UpTo last qs → UpTo last' (qs ++ q ∷ [])
+pub up_to_push : (last last' : ℕ) (qs : List Request) (q : Request) → last ≤ last' → q.order.request ≤ last' → UpTo last qs → UpTo last' (qs ++ q ∷ [])
 up_to_push last last' [] q more le h = (le, tt)
 up_to_push last last' (x ∷ qs) q more le h = (let low = h.0 in omega (arith, low, more), up_to_push last last' qs q more le h.1)
 
-none_push : (r : ℕ) (qs : List Request) (q : Request) → q.order.request ≢ r → NoneOpen r qs → NoneOpen r (qs ++ q ∷ [])
+pub none_push : (r : ℕ) (qs : List Request) (q : Request) → q.order.request ≢ r → NoneOpen r qs → NoneOpen r (qs ++ q ∷ [])
 none_push r [] q other h = (λ same. absurd (other same), tt)
 none_push r (x ∷ qs) q other h = (h.0, none_push r qs q other h.1)
 
-up_to_staged : (last n : ℕ) (s : Stage) (qs : List Request) → UpTo last qs → UpTo last (map (in_stage n s) qs)
+pub up_to_staged : (last n : ℕ) (s : Stage) (qs : List Request) → UpTo last qs → UpTo last (map (in_stage n s) qs)
 up_to_staged last n s [] h = tt
 up_to_staged last n s (q ∷ qs) h = (by (has_number n q), up_to_staged last n s qs h.1) where
   by : (b : Bool) → (cond b (record q { stage = s }) q).order.request ≤ last
   by true = h.0
   by false = h.0
 
-none_staged : (r n : ℕ) (s : Stage) (qs : List Request) → is_open_stage s ≡ false → NoneOpen r qs → NoneOpen r (map (in_stage n s) qs)
+pub none_staged : (r n : ℕ) (s : Stage) (qs : List Request) → is_open_stage s ≡ false → NoneOpen r qs → NoneOpen r (map (in_stage n s) qs)
 none_staged r n s [] shut h = tt
 none_staged r n s (q ∷ qs) shut h = (by (has_number n q), none_staged r n s qs shut h.1) where
   by : (b : Bool) → (cond b (record q { stage = s }) q).order.request ≡ r → is_open_stage (cond b (record q { stage = s }) q).stage ≡ false
@@ -51,21 +51,21 @@ none_staged r n s (q ∷ qs) shut h = (by (has_number n q), none_staged r n s qs
   by false same = h.0 same
 
 -- whose requests are all in one stage now
-none_after : (r : ℕ) (s : Stage) (qs : List Request) → is_open_stage s ≡ false → NoneOpen r (map (in_stage r s) qs)
+pub none_after : (r : ℕ) (s : Stage) (qs : List Request) → is_open_stage s ≡ false → NoneOpen r (map (in_stage r s) qs)
 none_after r s [] shut = tt
 none_after r s (q ∷ qs) shut = (by (has_number r q) refl, none_after r s qs shut) where
   by : (b : Bool) → has_number r q ≡ b → (cond b (record q { stage = s }) q).order.request ≡ r → is_open_stage (cond b (record q { stage = s }) q).stage ≡ false
   by true is same = shut
   by false is same = absurd (let it = eq-eqb q.order.request r same in cc)
 
-up_to_filtered : (last : ℕ) (p : Request → Bool) (qs : List Request) → UpTo last qs → UpTo last (filter p qs)
+pub up_to_filtered : (last : ℕ) (p : Request → Bool) (qs : List Request) → UpTo last qs → UpTo last (filter p qs)
 up_to_filtered last p [] h = tt
 up_to_filtered last p (q ∷ qs) h = by (p q) (up_to_filtered last p qs h.1) where
   by : (b : Bool) → UpTo last (filter p qs) → UpTo last (cond b (q ∷ filter p qs) (filter p qs))
   by true rest = (h.0, rest)
   by false rest = rest
 
-none_filtered : (r : ℕ) (p : Request → Bool) (qs : List Request) → NoneOpen r qs → NoneOpen r (filter p qs)
+pub none_filtered : (r : ℕ) (p : Request → Bool) (qs : List Request) → NoneOpen r qs → NoneOpen r (filter p qs)
 none_filtered r p [] h = tt
 none_filtered r p (q ∷ qs) h = by (p q) (none_filtered r p qs h.1) where
   by : (b : Bool) → NoneOpen r (filter p qs) → NoneOpen r (cond b (q ∷ filter p qs) (filter p qs))
@@ -73,14 +73,14 @@ none_filtered r p (q ∷ qs) h = by (p q) (none_filtered r p qs h.1) where
   by false rest = rest
 
 -- what is found
-found_up_to : (last : ℕ) (p : Request → Bool) (qs : List Request) (q : Request) → find p qs ≡ Some q → UpTo last qs → q.order.request ≤ last
+pub found_up_to : (last : ℕ) (p : Request → Bool) (qs : List Request) (q : Request) → find p qs ≡ Some q → UpTo last qs → q.order.request ≤ last
 found_up_to last p [] q found h = absurd (cc)
 found_up_to last p (x ∷ qs) q found h = by (p x) (λ is. found_up_to last p qs q is h.1) found where
   by : (b : Bool) → (find p qs ≡ Some q → q.order.request ≤ last) → cond b (Some x) (find p qs) ≡ Some q → q.order.request ≤ last
   by true rest is = (let same : x ≡ q = cc in subst (λ y. y.order.request ≤ last) same h.0)
   by false rest is = rest is
 
-found_open : (r : ℕ) (qs : List Request) (q : Request) → find (λ x. is_open_stage x.stage) qs ≡ Some q → NoneOpen r qs → q.order.request ≡ r → ⊥
+pub found_open : (r : ℕ) (qs : List Request) (q : Request) → find (λ x. is_open_stage x.stage) qs ≡ Some q → NoneOpen r qs → q.order.request ≡ r → ⊥
 found_open r [] q found h same = (cc)
 found_open r (x ∷ qs) q found h same = by (is_open_stage x.stage) refl (λ is. found_open r qs q is h.1 same) found where
   by : (b : Bool) → is_open_stage x.stage ≡ b → (find (λ y. is_open_stage y.stage) qs ≡ Some q → ⊥) → cond b (Some x) (find (λ y. is_open_stage y.stage) qs) ≡ Some q → ⊥
@@ -112,24 +112,22 @@ module _ (g : Setting) (r : ℕ) (was : Type 0) where
 
   pub keeps : IsKeptBy g Handed
   keeps = record {
-    in_steps = record {
-      called = call_keeps;
-      removed = λ made rs n h. record {
-        up_to = up_to_filtered rs.last (λ q. not (has_number n q)) rs.outstanding h.up_to;
-        shut = λ w. let it = h.shut w in (it.0, none_filtered r (λ q. not (has_number n q)) rs.outstanding it.1);
-      };
+    called = call_keeps;
+    removed = λ made rs n h. record {
+      up_to = up_to_filtered rs.last (λ q. not (has_number n q)) rs.outstanding h.up_to;
+      shut = λ w. let it = h.shut w in (it.0, none_filtered r (λ q. not (has_number n q)) rs.outstanding it.1);
     };
     staged = staged_keeps;
   }
 
 -- an order that is handed out is the lowest open one's
-record IsLowest (s : State) (o : WorkOrder) : Type 0 where
+pub record IsLowest (s : State) (o : WorkOrder) : Type 0 where
   pub request : Request
   pub lowest : lowest_open s.requests ≡ Some request
   pub order : request.order ≡ o
   pub after : (next_order_of s).1.requests ≡ with_stage s.requests o.request HandedOut
 
-handed_is : (status : Status) (s : State) (o : WorkOrder) → s.status ≡ status → Some o ≡ (next_in status s).0 → IsLowest s o
+pub handed_is : (status : Status) (s : State) (o : WorkOrder) → s.status ≡ status → Some o ≡ (next_in status s).0 → IsLowest s o
 handed_is Failed s o is h = absurd (cc)
 handed_is Running s o is h = by (lowest_open s.requests) refl h where
   by : (x : Option Request) → lowest_open s.requests ≡ x → Some o ≡ (handing s.requests x).0 → IsLowest s o

@@ -14,7 +14,7 @@ use Rattle.phases.specs.Requests.{Stage, Open, HandedOut, Answered, Cancelled, R
 use Rattle.phases.specs.State.{Setting, State, Loop, Core}
 use Rattle.phases.specs.Step.{in_state}
 use Rattle.phases.proofs.Cancelling.{CancelFate, cancelled, stayed, fate_in}
-use Rattle.phases.proofs.Moving.{CallFate, changes_nothing, opens_one, cancels_one, IsKeptInSteps, step_keeps}
+use Rattle.phases.proofs.Moving.{CallFate, changes_nothing, opens_one, cancels_one, IsKeptInSteps, call_forgets, step_keeps}
 use Rattle.desk.specs.Desk.{Desk, desk_calls}
 use Rattle.world_log.specs.declared.step.Step.{Step}
 use Rattle.world_log.specs.declared.step.Step.TheVariants as step
@@ -72,17 +72,21 @@ module _ (log : List LogEntry) (l : ℕ) where
     by false rest at = rest at
 
   -- the steps of a loop answer nothing
-  abbrev Kept : List GuestCall → Requests → Type 0
-  Kept made rs = AreAnswered rs.outstanding
+  abbrev Kept : List GuestCall → Requests → Desk → Type 0
+  Kept made rs d = AreAnswered rs.outstanding
 
-  call_keeps : (g : Setting) (made : List GuestCall) (c : GuestCall) (rs rs' : Requests) → CallFate g rs c rs' → AreAnswered rs.outstanding → AreAnswered rs'.outstanding
-  call_keeps g made c rs rs' (changes_nothing asks never e) h = subst (λ (x : Requests). AreAnswered x.outstanding) (sym e) h
-  call_keeps g made c rs rs' (opens_one op place count slot is args told e) h = subst (λ (x : Requests). AreAnswered x.outstanding) (sym e) (opened rs.outstanding _ h)
-  call_keeps g made c rs rs' (cancels_one n q is args told at e) h =
+  call_keeps : (g : Setting) (c : GuestCall) (rs rs' : Requests) → CallFate g rs c rs' → AreAnswered rs.outstanding → AreAnswered rs'.outstanding
+  call_keeps g c rs rs' (changes_nothing asks never e) h = subst (λ (x : Requests). AreAnswered x.outstanding) (sym e) h
+  call_keeps g c rs rs' (opens_one op place count slot is args told e) h = subst (λ (x : Requests). AreAnswered x.outstanding) (sym e) (opened rs.outstanding _ h)
+  call_keeps g c rs rs' (cancels_one n q is args told at e) h =
       subst (λ (x : Requests). AreAnswered x.outstanding) (sym e) (staged n Cancelled rs.outstanding (λ end k. absurd (cc)) h)
 
-  keeps : (g : Setting) → IsKeptInSteps g Kept
-  keeps g = record { called = call_keeps g; removed = λ made rs n h. filtered (λ q. not (has_number n q)) rs.outstanding h }
+  keeps : (g : Setting) → IsKeptInSteps desk_calls g Kept
+  keeps g = record {
+    called = λ made c old new moves h. call_keeps g c old.0 new.0 (call_forgets desk_calls g old c new moves) h;
+    removed = λ made rs n s h. filtered (λ q. not (has_number n q)) rs.outstanding h;
+    beside = λ made rs s s' moves h. h;
+  }
 
   -- nor do a post and a cancel
   handing_keeps : (rs : Requests) (q : Option Request) → AreAnswered rs.outstanding → AreAnswered (handing rs q).1.outstanding
@@ -108,7 +112,7 @@ replies_later log entry l [] h = tt
 replies_later log entry l (a ∷ xs) h = (later log entry l a.order.request a.end h.0, replies_later log entry l xs h.1)
 
 -- one place of a list is set
-set_at : {X : Type 0} (P : ℕ → X → Type 0) (xs : List X) (k : ℕ) (v : X) → P k v → ((n : ℕ) (x : X) → slice_get xs n ≡ Some x → P n x)
+pub set_at : {X : Type 0} (P : ℕ → X → Type 0) (xs : List X) (k : ℕ) (v : X) → P k v → ((n : ℕ) (x : X) → slice_get xs n ≡ Some x → P n x)
     → (n : ℕ) (x : X) → slice_get (slice_set xs k v) n ≡ Some x → P n x
 set_at P [] k v p all n x h = absurd (cc)
 set_at P (y ∷ ys) zero v p all zero x h = let same : v ≡ x = cc in subst (P zero) same p

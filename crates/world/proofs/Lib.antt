@@ -1,4 +1,5 @@
 pub mod AfterOnce
+pub mod Apart
 pub mod Collecting
 pub mod Finishing
 pub mod OneWay

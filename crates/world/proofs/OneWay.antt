@@ -75,7 +75,7 @@ module _ (l r : ℕ) where
   replies_at replies = count_by is_answer (list_at (slice_get replies l))
 
   -- each line of the way, and where the job is between it and the next
-  record Balanced (w : World) (log : List LogEntry) : Type 0 where
+  pub record Balanced (w : World) (log : List LogEntry) : Type 0 where
     pub posted : count_by (is_taken l r) log + count_by is_order w.jobs ≡ count_by (is_posted l r) log
     pub taken : count_by (is_begun l r) log + count_by (is_dropped l r) log + count_by is_taken_worker w.workers ≡ count_by (is_taken l r) log
     pub begun : count_by (is_finished l r) log + count_by is_started_worker w.workers ≡ count_by (is_begun l r) log
@@ -384,19 +384,19 @@ module _ (settings : List Setting) (placed : AreInPlace settings) (workers : ℕ
   opens_so : (j : ℕ) (g : Setting) (start : Loop Desk) → Opens settings j g start → IsOpening desk_calls g start
   opens_so j g start begins = subst (IsOpening desk_calls g) (sym begins.1) (opening_is g)
 
-  own_orders : (w : World) (log : List LogEntry) → Histories w log → (n : ℕ) (g : Setting) (m : Loop Desk) (o : WorkOrder) → HasLoop w n g m → (next_order_of m.state).0 ≡ Some o → o.loop_no ≡ n
+  pub own_orders : (w : World) (log : List LogEntry) → Histories w log → (n : ℕ) (g : Setting) (m : Loop Desk) (o : WorkOrder) → HasLoop w n g m → (next_order_of m.state).0 ≡ Some o → o.loop_no ≡ n
   own_orders w log told n g m o at out =
       let it = (told n).1.loops (core g m) at in
       let asked = own g it.start m (in_state m (next_order_of m.state).1) it.events o (opens_so n g it.start it.begins) it.history (sym out, refl) in
       ap (λ (x : WorkOrder). x.loop_no) asked.2.order ∙ placed n g it.begins.0
 
-  record Kept (w : World) (log : List LogEntry) : Type 0 where
+  pub record IsCounted (w : World) (log : List LogEntry) : Type 0 where
     pub told : Histories w log
     pub balanced : Balanced l r w log
     pub posted : count_by (is_posted l r) log ≤ 1
 
-  step_kept : (w w' : World) (log : List LogEntry) (s : Step) (entry : LogEntry) → WorldStep w s entry w' → Kept w log → Kept w' (log ++ entry ∷ [])
-  step_kept w w' log s entry h kept = record {
+  pub step_counted : (w w' : World) (log : List LogEntry) (s : Step) (entry : LogEntry) → WorldStep w s entry w' → IsCounted w log → IsCounted w' (log ++ entry ∷ [])
+  step_counted w w' log s entry h kept = record {
     told = next;
     balanced = balanced_on l r w w' log entry goes.moves kept.balanced;
     posted = by goes.there;
@@ -415,12 +415,12 @@ module _ (settings : List Setting) (placed : AreInPlace settings) (workers : ℕ
         subst (λ n. n ≤ 1) (sym (told_posted l r (log ++ entry ∷ []) it.events it.told))
         (once at.0.setting it.start at.0.loop it.events (opens_so l at.0.setting it.start it.begins) it.history r)
 
-  run_kept : (steps : List Step) (told : List LogEntry) (w w' : World) (log : List LogEntry) → Kept w log → WorldRun w steps told w' → Kept w' (log ++ told)
-  run_kept [] [] w w' log kept run = subst (λ x. Kept x (log ++ [])) (sym run) (subst (Kept w) (sym (append-nil log)) kept)
+  run_kept : (steps : List Step) (told : List LogEntry) (w w' : World) (log : List LogEntry) → IsCounted w log → WorldRun w steps told w' → IsCounted w' (log ++ told)
+  run_kept [] [] w w' log kept run = subst (λ x. IsCounted x (log ++ [])) (sym run) (subst (IsCounted w) (sym (append-nil log)) kept)
   run_kept [] (e ∷ told) w w' log kept run = absurd run
   run_kept (s ∷ steps) [] w w' log kept run = absurd run
   run_kept (s ∷ steps) (e ∷ told) w w' log kept run =
-      subst (Kept w') (append_assoc log (e ∷ []) told) (run_kept steps told run.0 w' (log ++ e ∷ []) (step_kept w run.0 log s e run.1 kept) run.2)
+      subst (IsCounted w') (append_assoc log (e ∷ []) told) (run_kept steps told run.0 w' (log ++ e ∷ []) (step_counted w run.0 log s e run.1 kept) run.2)
 
   no_workers : (p : Worker → Bool) (k : ℕ) → p Idle ≡ false → count_by p (replicate k Idle) ≡ 0
   no_workers p zero e = refl
@@ -435,8 +435,8 @@ module _ (settings : List Setting) (placed : AreInPlace settings) (workers : ℕ
   no_replies (g ∷ gs) zero = refl
   no_replies (g ∷ gs) (suc n) = no_replies gs n
 
-  opening_kept : Kept (opening_world settings workers) []
-  opening_kept = record {
+  pub opening_counted : IsCounted (opening_world settings workers) []
+  opening_counted = record {
     told = λ j. ([], opening_keeps settings j workers);
     balanced = record {
       posted = refl;
@@ -449,7 +449,7 @@ module _ (settings : List Setting) (placed : AreInPlace settings) (workers : ℕ
 
   pub one_way_after : (steps : List Step) (log : List LogEntry) (w : World) → WorldRun (opening_world settings workers) steps log w → GoesOnce l r log
   one_way_after steps log w run =
-      let it = run_kept steps log (opening_world settings workers) w [] opening_kept run in
+      let it = run_kept steps log (opening_world settings workers) w [] opening_counted run in
       let posted = it.balanced.posted in
       let taken = it.balanced.taken in
       let begun = it.balanced.begun in

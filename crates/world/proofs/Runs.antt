@@ -48,7 +48,7 @@ set_apart (y ∷ ys) zero (suc k) v apart = refl
 set_apart (y ∷ ys) (suc n) zero v apart = refl
 set_apart (y ∷ ys) (suc n) (suc k) v apart = set_apart ys n k v (λ e. apart (ap suc e))
 
-set_there : {X : Type 0} (xs : List X) (n k : ℕ) (v : X) → is_some (slice_get (slice_set xs n v) k) ≡ is_some (slice_get xs k)
+pub set_there : {X : Type 0} (xs : List X) (n k : ℕ) (v : X) → is_some (slice_get (slice_set xs n v) k) ≡ is_some (slice_get xs k)
 set_there [] n k v = refl
 set_there (y ∷ ys) zero zero v = refl
 set_there (y ∷ ys) zero (suc k) v = refl

@@ -139,6 +139,14 @@ IsOneWay =
     (settings : List Setting) (workers : ℕ) (steps : List Step) (log : List LogEntry) (w : World) → AreInPlace settings
     → WorldRun (opening_world settings workers) steps log w → (l request : ℕ) → GoesOnce l request log
 
+-- In every such run the job of a request was not begun, nor so finished, where a cancel of the request was answered 0.
+abbrev pub IsCancelledOrBegun : Type 0
+IsCancelledOrBegun =
+    (settings : List Setting) (workers : ℕ) (steps : List Step) (log : List LogEntry) (w : World) → AreInPlace settings
+    → (run : WorldRun (opening_world settings workers) steps log w) → (l request : ℕ)
+    → WasCancelled l request log (guest_calls l (opening_world settings workers) steps log w run)
+    → (count_by (is_begun l request) log ≡ 0) × (count_by (is_finished l request) log ≡ 0)
+
 -- a run, and a run from where it ended, are one run
 abbrev pub RunsJoin : Type 0
 RunsJoin =

@@ -1,7 +1,7 @@
 //! Laws of the runs of a world. Their functions do nothing: each contract is the law.
 
 ghost use Rattle.world.specs.Histories.{IsHistory};
-ghost use Rattle.world.specs.Laws.{IsAfterOnce, IsAfterOwn, IsAfterLast, IsOneWay, RunsJoin};
+ghost use Rattle.world.specs.Laws.{IsAfterOnce, IsAfterOwn, IsAfterLast, IsOneWay, IsCancelledOrBegun, RunsJoin};
 
 use desk::Desk;
 
@@ -19,9 +19,11 @@ pub fn after_once()
 }
 
 /// In every run of a world, of loops whose numbers are their places, each job goes its way at most once and in order:
-/// it is posted, taken, begun or dropped, and where it was begun finished and collected.
+/// it is posted, taken, begun or dropped, and where it was begun finished and collected. Where a cancel of its request
+/// was answered 0, it is not begun, before or behind the cancel.
 pub fn one_way()
-    ensures { IsOneWay }
+    ensures way { IsOneWay }
+    ensures cancelled { IsCancelledOrBegun }
 {
     phases::laws::asked_once::<Desk>();
 }

@@ -1,6 +1,11 @@
+use Rattle.world.proofs.Apart.{apart_after}
 use Rattle.world.proofs.OneWay.{one_way_after}
 use Rattle.world.proofs.laws.one_way.Goals as goal
 
-pub returns : goal.returns
-returns c settings workers steps log w placed run l request =
+pub returns-clause-way : goal.returns-clause-way
+returns-clause-way c settings workers steps log w placed run l request =
     one_way_after settings placed workers l request c.asked_once.ensures.handed c.asked_once.ensures.own steps log w run
+
+pub returns-clause-cancelled : goal.returns-clause-cancelled
+returns-clause-cancelled c settings workers steps log w placed run l request won =
+    apart_after settings placed workers l request c.asked_once.ensures.handed c.asked_once.ensures.own steps log w run won

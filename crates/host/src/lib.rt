@@ -8,12 +8,18 @@
 //! Each contract is that of the crate which the name comes from. Begin with `load`, and with docs/EMBEDDING.md.
 #![tactic(auto)]
 
+mod invalid;
 mod loading;
 mod meaning;
+mod names;
+mod operations;
 mod parts;
 mod place;
 mod refusal;
+mod search;
 mod spans;
+mod undecoded;
+mod unlinked;
 
 pub use board::JobBox;
 pub use decode::DecodeFault;
@@ -25,6 +31,7 @@ pub use phases::{Accepted, Beside, EntryKind, Hint, LoopCore, Phase, Shared, Ste
 pub use place::Place;
 pub use refusal::Refusal;
 pub use serve::{Job, LoopEnding, Served, Serving, Task, serve};
+pub use undecoded::Part;
 pub use validate::ValidFault;
 pub use world::{Config, LoopConfig, World, WorldFault};
 pub use world_log::{

@@ -1,81 +1,147 @@
 // Modules made of parts of another, to see which part is refused.
 
-use crate::spans::Span;
+use crate::operations::Spot;
+use crate::spans::{CODE, Span};
 use std::alloc::{AllocError, Global};
 
 /// What a module begins with: the magic number and the version.
 const OPENING: [u8; 8] = [0x00, 0x61, 0x73, 0x6d, 0x01, 0x00, 0x00, 0x00];
 
-const CODE: u8 = 10;
-
 /// A body that is of every type: no locals, `unreachable` and `end`, behind its size.
 const ANY_BODY: [u8; 4] = [0x03, 0x00, 0x00, 0x0b];
 
-/// A number, spelled in five bytes.
-fn push_u32(text: &mut Vec<u8>, number: u32) -> Result<(), AllocError> {
-    for place in 0..4_u32 {
-        text.push(((number >> (7 * place)) & 0x7f) as u8 | 0x80)?;
+const END: u8 = 0x0b;
+
+/// What a code section holds: bodies of every type, then some bodies of a module, then bodies of every type again.
+#[derive(Clone, Copy)]
+pub struct Code<'a> {
+    /// How many bodies of every type stand before.
+    pub before: usize,
+    /// The bodies of a module, each behind its size.
+    pub bodies: &'a [u8],
+    /// How many these are.
+    pub count: usize,
+    /// How many bodies of every type stand behind.
+    pub behind: usize,
+}
+
+/// How many bytes a number takes.
+fn width(number: usize) -> usize {
+    match number {
+        0..=0x7f => 1,
+        0x80..=0x3fff => 2,
+        0x4000..=0x1f_ffff => 3,
+        0x20_0000..=0xfff_ffff => 4,
+        _ => 5,
     }
-    text.push((number >> 28) as u8)?;
+}
+
+/// A number below 2^35, in as few bytes as it takes.
+fn push_number(text: &mut Vec<u8>, number: usize) -> Result<(), AllocError> {
+    let mut rest = number;
+    for _ in 1..width(number) {
+        text.push((rest & 0x7f) as u8 | 0x80)?;
+        rest >>= 7;
+    }
+    text.push((rest & 0x7f) as u8)?;
     Ok(())
 }
 
-/// A module of one section.
-pub fn section_alone(alloc: Global, bytes: &[u8], span: Span) -> Result<Vec<u8>, AllocError> {
-    let mut text = Vec::from_slice(alloc, &OPENING)?;
-    text.extend_from_slice(bytes.get(span.at..span.to).unwrap_or(&[]))?;
-    Ok(text)
-}
-
-/// A code section of these bodies, and behind them of bodies of every type, `count` in all.
-fn push_code(
-    text: &mut Vec<u8>,
-    bodies: &[u8],
-    fillers: u32,
-    count: u32,
-) -> Result<(), AllocError> {
-    let size = bodies
-        .len()
-        .saturating_add(fillers as usize * ANY_BODY.len());
-    text.push(CODE)?;
-    push_u32(
-        text,
-        u32::try_from(size).unwrap_or(u32::MAX).saturating_add(5),
-    )?;
-    push_u32(text, count)?;
-    text.extend_from_slice(bodies)?;
-    for _ in 0..fillers {
+fn push_any_bodies(text: &mut Vec<u8>, count: usize) -> Result<(), AllocError> {
+    for _ in 0..count {
         text.extend_from_slice(&ANY_BODY)?;
     }
     Ok(())
 }
 
-/// A module of one body and nothing else.
-pub fn body_alone(alloc: Global, bytes: &[u8], body: Span) -> Result<Vec<u8>, AllocError> {
-    let mut text = Vec::from_slice(alloc, &OPENING)?;
-    push_code(&mut text, bytes.get(body.at..body.to).unwrap_or(&[]), 0, 1)?;
+fn push_code(text: &mut Vec<u8>, code: Code<'_>) -> Result<(), AllocError> {
+    let any = code.before.saturating_add(code.behind);
+    let count = any.saturating_add(code.count);
+    let size = any
+        .saturating_mul(ANY_BODY.len())
+        .saturating_add(code.bodies.len());
+    text.push(CODE)?;
+    push_number(text, size.saturating_add(width(count)))?;
+    push_number(text, count)?;
+    push_any_bodies(text, code.before)?;
+    text.extend_from_slice(code.bodies)?;
+    push_any_bodies(text, code.behind)
+}
+
+/// These bytes, and behind them a code section.
+pub fn with_code(alloc: Global, front: &[u8], code: Code<'_>) -> Result<Vec<u8>, AllocError> {
+    let mut text = Vec::from_slice(alloc, front)?;
+    push_code(&mut text, code)?;
     Ok(text)
 }
 
-/// The module up to its bodies, with the first of these as they are, and in place of the others bodies of every type.
-pub fn first_bodies(
+/// A module of one section alone, which ends at the byte `to`.
+pub fn section_front(
     alloc: Global,
     bytes: &[u8],
-    code: Span,
-    bodies: &[Span],
-    kept: usize,
+    section: Span,
+    to: usize,
 ) -> Result<Vec<u8>, AllocError> {
-    let mut text = Vec::from_slice(alloc, bytes.get(..code.at).unwrap_or(&[]))?;
-    let (front, rest) = bodies.split_at(kept.min(bodies.len()));
-    let from = bodies.first().map_or(code.to, |body| body.at);
-    let to = front.last().map_or(from, |body| body.to);
-    let count = u32::try_from(bodies.len()).unwrap_or(u32::MAX);
-    let fillers = u32::try_from(rest.len()).unwrap_or(u32::MAX);
-    push_code(
-        &mut text,
-        bytes.get(from..to).unwrap_or(&[]),
-        fillers,
-        count,
-    )?;
+    let mut text = Vec::from_slice(alloc, &OPENING)?;
+    let head = bytes.get(section.at..to).unwrap_or(&[]);
+    match bytes.get(section.from..to) {
+        None => text.extend_from_slice(head)?,
+        Some(held) => {
+            text.extend_from_slice(&head[..head.len().min(1)])?;
+            push_number(&mut text, held.len())?;
+            text.extend_from_slice(held)?;
+        }
+    }
     Ok(text)
+}
+
+/// A body behind its size, in two parts.
+fn sized_body(alloc: Global, held: &[u8], tail: &[u8]) -> Result<Vec<u8>, AllocError> {
+    let mut text = Vec::new(alloc);
+    push_number(&mut text, held.len().saturating_add(tail.len()))?;
+    text.extend_from_slice(held)?;
+    text.extend_from_slice(tail)?;
+    Ok(text)
+}
+
+/// A module of one body and nothing else, which ends at the byte `to`.
+pub fn body_front(
+    alloc: Global,
+    bytes: &[u8],
+    body: Span,
+    to: usize,
+) -> Result<Vec<u8>, AllocError> {
+    let held = bytes.get(body.from..to).unwrap_or(&[]);
+    let text = sized_body(alloc, held, &[])?;
+    with_code(alloc, &OPENING, alone(text.as_slice()))
+}
+
+/// One body and no others.
+fn alone(body: &[u8]) -> Code<'_> {
+    Code {
+        before: 0,
+        bodies: body,
+        count: 1,
+        behind: 0,
+    }
+}
+
+/// An operation that is never valid, and the ends of all blocks that are open and of the body.
+fn refused_tail(alloc: Global, operation: &[u8], open: usize) -> Result<Vec<u8>, AllocError> {
+    let mut tail = Vec::from_slice(alloc, operation)?;
+    tail.resize(tail.len().saturating_add(open).saturating_add(1), END)?;
+    Ok(tail)
+}
+
+/// The operations of a body before this spot, and behind them one that is never valid, behind its size.
+pub fn cut_body(
+    alloc: Global,
+    bytes: &[u8],
+    body: Span,
+    spot: Spot,
+    operation: &[u8],
+) -> Result<Vec<u8>, AllocError> {
+    let held = bytes.get(body.from..spot.at).unwrap_or(&[]);
+    let tail = refused_tail(alloc, operation, spot.open)?;
+    sized_body(alloc, held, tail.as_slice())
 }

@@ -3,8 +3,23 @@
 use leb::read_u32;
 use std::alloc::{AllocError, Global};
 
+/// The id of the section of imports.
+pub const IMPORTS: u8 = 2;
+
+/// The id of the section of the functions' types.
+pub const FUNCTIONS: u8 = 3;
+
+/// The id of the section of element segments.
+pub const ELEMENTS: u8 = 9;
+
+/// The id of the section of bodies.
+pub const CODE: u8 = 10;
+
+/// The id of the section of data segments.
+pub const DATA: u8 = 11;
+
 /// How many bytes stand before the first section.
-const OPENING: usize = 8;
+pub const OPENING: usize = 8;
 
 /// Where something lies that has its size in front.
 #[derive(Clone, Copy)]
@@ -54,11 +69,11 @@ pub fn section_of(bytes: &[u8], sections: &[Span], id: u8) -> Option<Span> {
     None
 }
 
-/// The number at the front of what a section holds.
-pub fn count_of(bytes: &[u8], section: Span) -> u32 {
-    match read_u32(bytes, section.from) {
-        Ok((count, _)) => count,
-        Err(_) => 0,
+/// How many items stand in the section with this id; none where it is absent.
+pub fn count_in(bytes: &[u8], sections: &[Span], id: u8) -> u32 {
+    match section_of(bytes, sections, id) {
+        Some(section) => read_u32(bytes, section.from).map_or(0, |(count, _)| count),
+        None => 0,
     }
 }
 
@@ -76,4 +91,9 @@ pub fn bodies(alloc: Global, bytes: &[u8], code: Span) -> Result<Vec<Span>, Allo
         at = span.to;
     }
     Ok(found)
+}
+
+/// The number of the function with this body. The imported functions are counted first.
+pub fn function_of(bytes: &[u8], sections: &[Span], body: usize) -> u64 {
+    u64::from(count_in(bytes, sections, IMPORTS)).saturating_add(body as u64)
 }

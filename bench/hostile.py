@@ -80,6 +80,11 @@ def segments(number):
     return OPENING + head + section(number, leb(count) + item * count)
 
 
+def refused_behind_segments():
+    before = section(4, b"\1\x70\0\1") + section(9, leb(190_000) + b"\0\x41\0\x0b\0" * 190_000)
+    return module([body(b"\1" * 65_000 + b"\x6a")], before=before)
+
+
 def exports(length=1004):
     names = [b"a" * (length - 4) + b"%04d" % k for k in range(1024)]
     listed = vec([leb(length) + name + b"\0\0" for name in names])
@@ -112,6 +117,10 @@ MODULES = [
     ("1,024 exports with 1,000 equal letters in front", lambda: exports(), "accepted"),
     ("a type section of 2^32 - 1 types", lambda: counted(1), "decode 12 Limit"),
     ("an element section of 2^32 - 1 segments", lambda: counted(9), "decode 3 End"),
+    ("a byte of no instruction behind a million nops", lambda: filled(b"\1", end=b"\x27"), "decode 8 Opcode"),
+    ("a million nops, and operands that are missing", lambda: filled(b"\1", end=b"\x6a"), "validate 1 Type"),
+    ("the same in the last of 4,096 functions", lambda: module([body(b"\1" * 240)] * 4095 + [body(b"\x6a")]), "validate 1 Type"),
+    ("the same at the end of 65,000 bytes, behind 190,000 segments", lambda: refused_behind_segments(), "validate 1 Type"),
     ("a module of 1,048,577 bytes", lambda: b"\0" * (SIZE + 1), "decode 12 Limit"),
 ]
 

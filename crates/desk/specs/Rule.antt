@@ -54,7 +54,8 @@ pub record AreCounts (words : List ℕ) (d : Desk) : Type 0 where
   -- an async's word is what waits there
   pub word : (a : ℕ) → a < MAX_ASYNCS → slice_index words (waiting_place a) ≡ slice_index d.waiting a
   -- what was sent, by the loop and by others, was taken or waits
-  pub sends : (a : ℕ) → a < MAX_ASYNCS → slice_index d.view.own a + slice_index d.sent a ≡ slice_index d.view.taken a + slice_index d.waiting a
+  pub sends : (a : ℕ) → a < MAX_ASYNCS
+      → slice_index d.view.own a + slice_index d.sent a ≡ slice_index d.view.taken a + slice_index d.waiting a
 
 pub record Agrees (words : List ℕ) (d : Desk) : Type 0 where
   pub size : length words ≡ MAX_REQUESTS + MAX_ASYNCS

@@ -9,10 +9,20 @@ use Rattle.interp.specs.declared.ended.Ended.{Ended}
 use Rattle.words.specs.declared.command.Command.{Command}
 use Rattle.words.specs.declared.command.Command.TheVariants.{Check, Invoke, Work, Script, Serve}
 use Rattle.words.specs.declared.command.Invocation.{Invocation}
+use Rattle.commands.specs.declared.calling.Called.{Called}
 use Rattle.commands.specs.declared.calling.Called.TheVariants.{Function}
 use Rattle.commands.specs.Accepted.{Holds}
 use Rattle.commands.specs.Calling.{IsCalled, HasReturned}
 use Rattle.commands.specs.Arguments.{AllSpell}
+
+-- A module with these contents exports a function under the name, the words spell its arguments, and this comes of a call of
+-- it on a new instance.
+pub record IsCallOf (contents : Contents) (i : Invocation) (called : Called) : Type 0 where
+  pub function : ℕ
+  pub named : IsFirst contents.exports (string_bytes i.name) (Some (record { kind = Func; index = function }))
+  pub args : List Value
+  pub spelled : AllSpell (map string_bytes i.arguments.items) args
+  pub gives : IsCalled contents i.budget function args called
 
 -- The file's module exports a function under the name, the words spell its arguments, and called with them on a new
 -- instance, it returns.

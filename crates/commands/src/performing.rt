@@ -5,7 +5,7 @@ ghost use Rattle.std.specs.Io.KnownBytes.{Appends};
 ghost use Rattle.syntax.specs.declared.contents.Contents.{Contents};
 ghost use Rattle.commands.specs.Accepted.{Holds};
 ghost use Rattle.commands.specs.Calling.{HasFunctionReturned};
-ghost use Rattle.commands.specs.Performing.{HasInvoked, IsDone};
+ghost use Rattle.commands.specs.Performing.{HasInvoked, IsCallOf, IsDone};
 
 use crate::arguments::values;
 use crate::calling::{Called, call, exported_function, has_returned};
@@ -22,6 +22,7 @@ use std::alloc::{AllocError, Global};
 use std::io::{self, Write};
 use std::sync::Wait;
 use std::thread::Threads;
+use validate::Valid;
 use words::{Command, Invocation};
 
 /// Tells whether the module of the file is accepted.
@@ -39,6 +40,26 @@ fn check<R: Reader, O: Write>(
     Ok(Status::Done)
 }
 
+/// Calls the function of the module that the words name, with the arguments that they spell.
+fn call_named<'a>(
+    alloc: Global,
+    valid: &Valid,
+    invocation: &'a Invocation,
+) -> Result<Called, Failure<'a>>
+    ensures { IfOk result (IsCallOf valid.now.contents invocation.now) }
+{
+    let name = invocation.name.as_str();
+    let Some((function, func_type)) = exported_function(valid, name) else {
+        return Err(Failure::NoFunction(name));
+    };
+    let args = values(
+        alloc,
+        func_type.params.as_slice(),
+        invocation.arguments.as_slice(),
+    )?;
+    call(alloc, valid, function, args.as_slice(), invocation.budget)
+}
+
 /// Calls an exported function of the module, and tells how it ended.
 fn invoke<'a, R: Reader, O: Write>(
     alloc: Global,
@@ -49,17 +70,7 @@ fn invoke<'a, R: Reader, O: Write>(
     ensures { IfOk result (λ status. status ≡ Status.Done → HasInvoked (R.gives reader.now) invocation.entry.now) }
 {
     let linked = load(alloc, reader, invocation.file.as_str())?;
-    let valid = linked.valid();
-    let name = invocation.name.as_str();
-    let Some((function, func_type)) = exported_function(valid, name) else {
-        return Err(Failure::NoFunction(name));
-    };
-    let args = values(
-        alloc,
-        func_type.params.as_slice(),
-        invocation.arguments.as_slice(),
-    )?;
-    let called = call(alloc, valid, function, args.as_slice(), invocation.budget)?;
+    let called = call_named(alloc, linked.valid(), invocation)?;
     tell_called(&called, out)?;
     Ok(status_of(&called))
 }

@@ -9,7 +9,7 @@ use crate::failure::Failure;
 use crate::file::Reader;
 use crate::loading::accept;
 use crate::status::Status;
-use host::{Config, Linked, Log, LogEntry, LoopConfig, World};
+use host::{Config, Linked, Log, LogEntry, LoopConfig, Step, World, WorldFault};
 use limits::MAX_SCRIPT_BYTES;
 use script::{LoopPlan, Plan, ScriptFault, ScriptPlace, print, read};
 use std::alloc::{AllocError, Global};
@@ -22,10 +22,17 @@ fn plan_of<R: Reader>(alloc: Global, file: &str, reader: &R) -> Result<Plan, Fai
     ensures { IfOk result IsWithinLimits }
 {
     let bytes = reader.read(alloc, file, MAX_SCRIPT_BYTES + 1)?;
+    plan_in(alloc, bytes.as_slice())
+}
+
+/// What the bytes ask for.
+fn plan_in(alloc: Global, bytes: &[u8]) -> Result<Plan, Failure<'static>>
+    ensures { IfOk result IsWithinLimits }
+{
     if bytes.len() > MAX_SCRIPT_BYTES {
         return Err(no_script(ScriptFault::Range, None));
     }
-    let Ok(text) = str::from_utf8(bytes.as_slice()) else {
+    let Ok(text) = str::from_utf8(bytes) else {
         return Err(no_script(ScriptFault::Json, None));
     };
     match read(alloc, text) {
@@ -95,6 +102,19 @@ fn loops_of(
     Ok(loops)
 }
 
+/// The world that the plan asks for.
+fn world_of(alloc: Global, plan: &Plan) -> Result<World, Failure<'static>>
+    requires { IsWithinLimits plan.now }
+{
+    let modules = modules_of(alloc, plan.modules.as_slice())?;
+    let loops = loops_of(alloc, modules.as_slice(), plan.loops.as_slice())?;
+    let config = Config {
+        loops,
+        workers: plan.workers,
+    };
+    Ok(World::new(alloc, config)?)
+}
+
 /// A callback ended otherwise than by return, so that its loop failed.
 fn is_failure(entry: &LogEntry) -> bool {
     matches!(entry, LogEntry::Ran { ended, .. } if !has_returned(&ended.ending))
@@ -107,6 +127,35 @@ fn status_of(log: &Log) -> Status {
     Status::Done
 }
 
+/// Prints what each step did.
+fn tell_log<O: Write>(alloc: Global, log: &Log, out: &mut O) -> Result<(), Failure<'static>> {
+    let text = print(alloc, log)?;
+    out.write_all(text.as_bytes())?;
+    Ok(())
+}
+
+fn tell_fault<O: Write>(fault: WorldFault, out: &mut O) -> Result<Status, Failure<'static>> {
+    let code = fault.code();
+    writeln!(out, "fault {code}")?;
+    Ok(Status::Failed)
+}
+
+/// Takes the steps, and prints what each did.
+fn take_steps<O: Write>(
+    alloc: Global,
+    world: &mut World,
+    steps: &[Step],
+    out: &mut O,
+) -> Result<Status, Failure<'static>> {
+    let mut log = Log::new(alloc);
+    let ran = world.run(steps, &mut log);
+    tell_log(alloc, &log, out)?;
+    match ran {
+        Ok(()) => Ok(status_of(&log)),
+        Err(fault) => tell_fault(fault, out),
+    }
+}
+
 /// Takes the steps of a script, and prints what each did. A step that names what is not there, or for which there is
 /// no memory, is told behind the steps before it.
 pub fn script<R: Reader, O: Write>(
@@ -116,20 +165,6 @@ pub fn script<R: Reader, O: Write>(
     out: &mut O,
 ) -> Result<Status, Failure<'static>> {
     let plan = plan_of(alloc, file, reader)?;
-    let modules = modules_of(alloc, plan.modules.as_slice())?;
-    let loops = loops_of(alloc, modules.as_slice(), plan.loops.as_slice())?;
-    let config = Config {
-        loops,
-        workers: plan.workers,
-    };
-    let mut world = World::new(alloc, config)?;
-    let mut log = Log::new(alloc);
-    let ran = world.run(plan.steps.as_slice(), &mut log);
-    out.write_all(print(alloc, &log)?.as_bytes())?;
-    let Err(fault) = ran else {
-        return Ok(status_of(&log));
-    };
-    let code = fault.code();
-    writeln!(out, "fault {code}")?;
-    Ok(Status::Failed)
+    let mut world = world_of(alloc, &plan)?;
+    take_steps(alloc, &mut world, plan.steps.as_slice(), out)
 }

@@ -8,7 +8,7 @@ use crate::failure::Failure;
 use crate::file::Reader;
 use crate::loading::load;
 use crate::status::Status;
-use host::{Job, LoopEnding, Served, Serving, Task, serve};
+use host::{Job, Linked, LoopEnding, Served, Serving, Task, serve};
 use std::alloc::{AllocError, Global};
 use std::io::{self, BufWriter, Write};
 use std::sync::{Arc, Wait};
@@ -41,6 +41,35 @@ fn status_of(served: &[Served]) -> Status {
     Status::Done
 }
 
+/// The module of the file, to be shared.
+fn shared<R: Reader>(alloc: Global, reader: &R, file: &str) -> Result<Arc<Linked>, Failure<'static>>
+    ensures accepted { OnOk result ((contents : Contents) × Holds (R.gives reader.now) file.now contents) }
+{
+    let linked = load(alloc, reader, file)?;
+    Ok(Arc::new(alloc, linked)?)
+}
+
+/// Runs loops of the module and workers, and writes what each loop did.
+fn serve_module<
+    H: Threads + Wait + Sync,
+    M: Fn(Task) -> Result<J, AllocError> + Sync,
+    J: Job + Send,
+    O: Write,
+>(
+    rt: &H,
+    alloc: Global,
+    module: Arc<Linked>,
+    serving: Serving,
+    lines: &mut O,
+    make: &M,
+) -> Result<Status, Failure<'static>>
+    requires { M.IsAlwaysCallable make.now }
+{
+    let served = serve(rt, alloc, module, serving, make)?;
+    tell_served(served.as_slice(), lines)?;
+    Ok(status_of(served.as_slice()))
+}
+
 /// Runs loops of the file's module and workers in threads, and tells what each loop did once all have ended. Whatever the
 /// lines need of memory is there before the first loop begins.
 pub fn serve_file<
@@ -60,9 +89,7 @@ pub fn serve_file<
     requires make { M.IsAlwaysCallable make.now }
     ensures accepted { OnOk result ((contents : Contents) × Holds (R.gives reader.now) (string_bytes service.now.file) contents) }
 {
-    let module = Arc::new(alloc, load(alloc, reader, service.file.as_str())?)?;
+    let module = shared(alloc, reader, service.file.as_str())?;
     let mut lines = BufWriter::new(alloc, out)?;
-    let served = serve(rt, alloc, module, serving_of(service), make)?;
-    tell_served(served.as_slice(), &mut lines)?;
-    Ok(status_of(served.as_slice()))
+    serve_module(rt, alloc, module, serving_of(service), &mut lines, make)
 }

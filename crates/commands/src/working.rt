@@ -9,10 +9,18 @@ use crate::loading::load;
 use crate::status::Status;
 use host::{Linked, Order, Outcome};
 use imports::EntryPoint;
+use interp::trap::TrapCode;
 use std::alloc::{AllocError, Global};
-use std::io::Write;
+use std::io::{self, Write};
 use std::sync::Arc;
 use words::WorkRequest;
+
+fn shared(alloc: Global, bytes: &[u8]) -> Result<Arc<Vec<u8>>, AllocError>
+    ensures { IfOk result (λ shared. (arc_value shared).items ≡ bytes.now) }
+{
+    let copy = Vec::from_slice(alloc, bytes)?;
+    Ok(Arc::new(alloc, copy)?)
+}
 
 /// The order as request 1 of loop 0, in slot 0.
 fn request(alloc: Global, linked: Linked, work: &WorkRequest) -> Result<Order, AllocError>
@@ -22,35 +30,49 @@ fn request(alloc: Global, linked: Linked, work: &WorkRequest) -> Result<Order, A
     ensures fuel { IfOk result (λ order. order.fuel ≡ work.now.budget.fuel) }
     ensures depth { IfOk result (λ order. order.depth ≡ work.now.budget.depth) }
 {
-    let bytes = Vec::from_slice(alloc, work.bytes.as_slice())?;
+    let module = Arc::new(alloc, linked)?;
+    let bytes = shared(alloc, work.bytes.as_slice())?;
     Ok(Order {
         loop_no: 0,
         request: 1,
         slot: 0,
-        module: Arc::new(alloc, linked)?,
+        module,
         op: work.operation,
-        bytes: Arc::new(alloc, bytes)?,
+        bytes,
         fuel: work.budget.fuel,
         depth: work.budget.depth,
     })
 }
 
-/// Prints a result, as a signed number, and the bytes of the reply.
+/// Writes a result, as a signed number, and the bytes of the reply, of which there are so many, by their digits.
+fn write_done<O: Write>(value: u32, count: usize, digits: &str, out: &mut O) -> io::Result<()> {
+    let value = value.cast_signed();
+    match count {
+        0 => writeln!(out, "done {value} bytes 0"),
+        _ => writeln!(out, "done {value} bytes {count} {digits}"),
+    }
+}
+
 fn tell_done<O: Write>(
     alloc: Global,
     value: u32,
     bytes: &[u8],
     out: &mut O,
-) -> Result<(), Failure<'static>> {
-    let value = value.cast_signed();
-    if bytes.is_empty() {
-        writeln!(out, "done {value} bytes 0")?;
-        return Ok(());
-    }
-    let count = bytes.len();
-    let text = hex::encode(alloc, bytes)?;
-    writeln!(out, "done {value} bytes {count} {text}")?;
-    Ok(())
+) -> Result<Status, Failure<'static>> {
+    let digits = hex::encode(alloc, bytes)?;
+    write_done(value, bytes.len(), digits.as_str(), out)?;
+    Ok(Status::Done)
+}
+
+fn tell_trap<O: Write>(trap: TrapCode, out: &mut O) -> Result<Status, Failure<'static>> {
+    let code = trap.code();
+    writeln!(out, "trap {code}")?;
+    Ok(Status::Ended)
+}
+
+fn tell_end<O: Write>(line: &[u8], out: &mut O) -> Result<Status, Failure<'static>> {
+    out.write_all(line)?;
+    Ok(Status::Ended)
 }
 
 fn tell_outcome<O: Write>(
@@ -59,19 +81,12 @@ fn tell_outcome<O: Write>(
     out: &mut O,
 ) -> Result<Status, Failure<'static>> {
     match outcome {
-        Outcome::Done(value, bytes) => {
-            tell_done(alloc, *value, bytes.as_slice(), out)?;
-            return Ok(Status::Done);
-        }
-        Outcome::Trap(trap) => {
-            let code = trap.code();
-            writeln!(out, "trap {code}")?;
-        }
-        Outcome::Depth => out.write_all(b"depth\n")?,
-        Outcome::Spent => out.write_all(b"spent\n")?,
-        Outcome::NoMemory => out.write_all(b"nomemory\n")?,
+        Outcome::Done(value, bytes) => tell_done(alloc, *value, bytes.as_slice(), out),
+        Outcome::Trap(trap) => tell_trap(*trap, out),
+        Outcome::Depth => tell_end(b"depth\n", out),
+        Outcome::Spent => tell_end(b"spent\n", out),
+        Outcome::NoMemory => tell_end(b"nomemory\n", out),
     }
-    Ok(Status::Ended)
 }
 
 /// Lets the module of the file compute the reply of a work order, and tells what came of it.

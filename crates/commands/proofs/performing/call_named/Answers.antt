@@ -1,0 +1,24 @@
+use Rattle.std.proofs.Common.{Some, map, string_bytes, ◌∙◌}
+use Rattle.std.proofs.lemmas.Result.{IfOk-weaker}
+use Rattle.syntax.specs.declared.contents.ExternKind.TheVariants.{Func}
+use Rattle.syntax.specs.Exporting.{IsFirst}
+use Rattle.commands.specs.Arguments.{AllSpell}
+use Rattle.commands.proofs.Invoking.{takes}
+use Rattle.commands.proofs.performing.call_named.Goals as goal
+
+pub call-requires : goal.call-requires
+call-requires c =
+    takes c.args.valid.now.contents c.in-Some.function c.as_slice-3.result.now c.in-Some.func_type.now c.in-Some.ensures.typed
+    (rw c.as_slice-3.ensures.value (c.in_ok-args.ensures.typed ∙ c.as_slice.ensures))
+
+pub returns : goal.returns
+returns c =
+    let i = c.args.invocation.now in
+    let contents = c.args.valid.now.contents in
+    let named : IsFirst contents.exports (string_bytes i.name) (Some (record { kind = Func; index = c.in-Some.function })) =
+    rw (← c.as_str-name.ensures.value) c.in-Some.ensures.named in
+    let spelled : AllSpell (map string_bytes i.arguments.items) c.as_slice-3.result.now =
+    rw (c.as_slice-3.ensures.value, ← c.as_slice-2.ensures.value) c.in_ok-args.ensures.spelled in
+    IfOk-weaker c.call.result _ _
+    (λ called is. record { function = c.in-Some.function; named = named; args = c.as_slice-3.result.now; spelled = spelled; gives = is })
+    c.call.ensures

@@ -1,5 +1,6 @@
 // Gates at which workers may be held.
 
+use board::Board;
 use claims::Ticket;
 use pool::{Gate, Point};
 use std::sync::atomic::{AtomicU64, Ordering};
@@ -10,6 +11,26 @@ pub struct Open;
 
 impl Gate for Open {
     fn at(&self, _point: Point, _ticket: Ticket) {}
+}
+
+// A gate that holds request 1 once it is started, until the board is closed, for at most 1,000,000 turns.
+#[derive(Drop)]
+pub struct UntilClosed<'a> {
+    pub board: &'a Board,
+}
+
+impl Gate for UntilClosed<'_> {
+    fn at(&self, point: Point, ticket: Ticket) {
+        if point != Point::Started || ticket.request != 1 {
+            return;
+        }
+        for _ in 0..1_000_000 {
+            if self.board.is_closed() {
+                break;
+            }
+            thread::yield_now();
+        }
+    }
 }
 
 // Waits for the word to be this number, for at most 1,000,000 turns. Whether it came to be.

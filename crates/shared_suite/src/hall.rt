@@ -3,6 +3,7 @@ ghost use Rattle.std.specs.Prelude.{◌≡◌, ◌<◌, ◌≤◌, length, All, 
 ghost use Rattle.board.specs.Boards.{IsPassOf};
 ghost use Rattle.claims.specs.Views.{new_loop_view};
 
+use crate::gates::UntilClosed;
 use board::{Board, JobBox, Pass};
 use claims::{Claims, LoopSeat, NewClaims, Ticket, WorkerSeat};
 use limits::MAX_REQUESTS;
@@ -199,6 +200,12 @@ impl<'a> WorkerSide<'a> {
             mut seat,
         } = self;
         work_until_closed(rt, &hall.board, &mut pass, &hall.claims, &mut seat, gate);
+    }
+
+    // The same, but that request 1 is held once it is started, until the board is closed.
+    pub fn work_held<R: Wait>(self, rt: &R) {
+        let hall = self.hall;
+        self.work_until_closed(rt, &UntilClosed { board: &hall.board });
     }
 }
 

@@ -17,6 +17,8 @@ mod hall;
 #[cfg(test)]
 mod hands;
 #[cfg(test)]
+mod holds;
+#[cfg(test)]
 mod jobs;
 #[cfg(test)]
 mod lines;

@@ -4,7 +4,7 @@
     python3 bench/kernels/run.py [--program PROGRAM] [KERNEL..]
 
 Each KERNEL.c of this folder is compiled by clang, to WebAssembly and natively. A line a kernel: the seconds of both
-interpreters (user time, the best of five runs), and how many times as fast the program is. What the program gives is
+interpreters (user time, the best of five runs, which take turns), and how many times as fast the program is. What the program gives is
 compared with the native run. Without wasm-interp (Debian's package wabt) its column stays empty.
 """
 import argparse
@@ -32,17 +32,20 @@ def compiled(kernel, folder):
     return module, native
 
 
-def timed(command):
-    """The least user time of some runs in seconds, and what the last one printed."""
-    least, shown = math.inf, ""
-    for _ in range(RUNS):
-        with tempfile.TemporaryFile() as out:
-            child = subprocess.Popen(command, stdout=out, stderr=subprocess.STDOUT)
-            _, _, used = os.wait4(child.pid, 0)
-            out.seek(0)
-            shown = out.read().decode()
-        least = min(least, used.ru_utime)
-    return least, shown
+def run(command):
+    """The user time of a run in seconds, and what it printed."""
+    with tempfile.TemporaryFile() as out:
+        child = subprocess.Popen(command, stdout=out, stderr=subprocess.STDOUT)
+        _, _, used = os.wait4(child.pid, 0)
+        out.seek(0)
+        return used.ru_utime, out.read().decode()
+
+
+def timed(*commands):
+    """Of each command the least user time of some runs, and what the last one printed. The commands take turns, so that
+    what else the machine does slows them all."""
+    rounds = [[run(command) for command in commands] for _ in range(RUNS)]
+    return [(min(used for used, _ in runs), runs[-1][1]) for runs in zip(*rounds)]
 
 
 def value_in(pattern, shown):
@@ -53,11 +56,14 @@ def value_in(pattern, shown):
 def measure(program, kernel, folder):
     module, native = compiled(kernel, folder)
     wanted = int(subprocess.run([native], capture_output=True, text=True, check=True).stdout)
-    ours, shown = timed([program, "invoke", module, "run", "--fuel", ALL_FUEL, "--depth", "128"])
+    commands = [[program, "invoke", module, "run", "--fuel", ALL_FUEL, "--depth", "128"]]
+    if shutil.which("wasm-interp"):
+        commands.append(["wasm-interp", module, "--run-all-exports"])
+    (ours, shown), *others = timed(*commands)
     verdict = "right" if value_in(r"^return (-?\d+) ", shown) == wanted else "WRONG: " + shown.strip()
-    if not shutil.which("wasm-interp"):
+    if not others:
         return ours, None, verdict
-    theirs, shown = timed(["wasm-interp", module, "--run-all-exports"])
+    theirs, shown = others[0]
     if value_in(r"run\(\) => i32:(\d+)", shown) != wanted:
         verdict += ", wasm-interp: " + shown.strip()
     return ours, theirs, verdict

@@ -9,13 +9,13 @@ import pathlib
 import sys
 
 RUN = """\
-    let ran = world.run(plan.steps.as_slice(), &mut log);
+    let ran = world.run(steps, &mut log);
 """
 
 RUN_AND_GO_ON = """\
-    let mut ran = world.run(plan.steps.as_slice(), &mut log);
+    let mut ran = world.run(steps, &mut log);
     let done = log.entries().len();
-    if let Some(rest) = plan.steps.as_slice().get(done..) {
+    if let Some(rest) = steps.get(done..) {
         ran = world.run(rest, &mut log);
     }
 """

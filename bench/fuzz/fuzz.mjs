@@ -6,7 +6,8 @@
 // some bytes changed. What the program says of each is compared with V8 (node); of one in EVERY also with wabt's
 // wasm-validate and wasm-interp (0: none), where it has no imports, which wasm-interp answers by 0. The program answers a whole list of modules in one process. Each difference is kept as
 // a file in FOLDER, with both answers. What the program refuses by a rule of its own, a limit or its profile, is
-// counted by that rule. The status is 1 where anything differs.
+// counted by that rule, and so is, where wabt is asked, what V8 alone accepts: it gives no type to what a `br_if` leaves
+// in dead code (WebAssembly Core 2.0, 3.3.8). The status is 1 where anything else differs.
 
 import { mkdirSync, writeFileSync } from "node:fs";
 import { parseArgs } from "node:util";
@@ -33,6 +34,9 @@ const OWN = [
     [/^validate (6|10|11) /, "a limit on results, operands or nesting"],
     [/^link [1-4] /, "what a guest may import and export"],
 ];
+
+// Of how many modules wabt is asked about one; 0: about none.
+const every = Number(options.wabt);
 
 const counts = {};
 let differences = 0;
@@ -79,12 +83,12 @@ function compareCheck(module, ours) {
     const own = OWN.find(([words]) => words.test(ours));
     if (theirs && own) return count(`refused by a rule of this project: ${own[1]}`);
     if (theirs && /^link 5 /.test(ours)) return count("refused: a segment doesn't fit");
+    if (theirs && every > 0 && wabt.answer(module) === "refused") return count("accepted by V8 alone");
     differ(module, ours, theirs ? "accepted" : "refused");
 }
 
 function main() {
     const total = Number(options.count);
-    const every = Number(options.wabt);
     for (let first = 0; first < total; first += BATCH) {
         const batch = Array.from({ length: Math.min(BATCH, total - first) }, (_, k) => made(first + k));
         const lines = answers(batch.map((m) => ({ run: m.results !== undefined, bytes: m.bytes })));

@@ -2,6 +2,9 @@
 //!
 //! Its contract says what a command has done that ends with the status 0: the file of `check`, `invoke` and `serve` holds a
 //! module that is decoded, valid and linked, and the function that `invoke` called returned. Begin with `perform`.
+//!
+//! What a status says is `specs/Statuses.antt`, and what an `invoke` has done `specs/Performing.antt`. Each command has a module of
+//! its own (`calling`, `working`, `scripting`, `serving`); files are read through `Reader`, which `SystemFiles` is for the program.
 #![tactic(auto)]
 
 mod arguments;

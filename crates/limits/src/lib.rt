@@ -1,4 +1,6 @@
 //! The limits on modules and on runs. Each stands here alone: the code and the definitions of all crates cite it by its name.
+//!
+//! docs/LIMITS.md says what comes past each of them.
 #![tactic(auto)]
 
 /// How many bytes a module may have.

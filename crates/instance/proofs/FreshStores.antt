@@ -3,12 +3,13 @@ use Rattle.std.proofs.Common.{◌≡◌, ℕ, ◌+◌, ◌*◌, ◌<◌, ◌≤�
 use Rattle.std.specs.Prelude.{All}
 use Rattle.std.proofs.lemmas.List.{length-take-le, length-replicate, length-map}
 use Rattle.std.proofs.lemmas.List.Elements.{All-append, All-take, All-drop, All-tail, All-cons, All-nil, All-replicate}
+use Rattle.limits.specs.declared.TheConstants.{PAGE_SIZE}
 use Rattle.syntax.specs.declared.contents.Contents.{Contents}
 use Rattle.syntax.specs.declared.contents.Element.{Element}
 use Rattle.syntax.specs.declared.contents.Data.{Data}
 use Rattle.validate.specs.Typing.{function_types}
 use Rattle.validate.specs.Valid.{ValidModule, ValidElement}
-use Rattle.validate.specs.Segments.{ElementFits, DataFits, offset_in, minimum, page_size}
+use Rattle.validate.specs.Segments.{ElementFits, DataFits, offset_in, minimum}
 use Rattle.instance.specs.Store.{Store}
 use Rattle.instance.specs.Fresh.{IsFresh, overwritten, with_element, with_data, all_written, fresh_store}
 use Rattle.instance.specs.Storing.{NamesFunction, IsStoreOf}
@@ -43,7 +44,7 @@ module _ (m : Contents) where
       (All-append (NamesFunction m) xs (drop (at + length xs) table) (named e.functions valid.functions) (All-drop (NamesFunction m) (at + length xs) table a)) in
       table_written elements (with_element table e) (over_length at xs table h ∙ n) a' (All-tail (ElementFits m) e elements f) (All-tail (ValidElement m) e elements v)
 
-  bytes_written : (segments : List Data) (bytes : List ℕ) → length bytes ≡ minimum m.memory * page_size → All (DataFits m) segments → length (all_written with_data bytes segments) ≡ minimum m.memory * page_size
+  bytes_written : (segments : List Data) (bytes : List ℕ) → length bytes ≡ minimum m.memory * PAGE_SIZE → All (DataFits m) segments → length (all_written with_data bytes segments) ≡ minimum m.memory * PAGE_SIZE
   bytes_written [] bytes n f = n
   bytes_written (d ∷ segments) bytes n f =
       let at = offset_in d.offset in
@@ -56,7 +57,7 @@ module _ (m : Contents) where
     of_fresh : IsStoreOf m (fresh_store m)
     of_fresh =
         let t = table_written m.elements (replicate (minimum m.table) None) (length-replicate {A = Option ℕ} (minimum m.table) None) (All-replicate (NamesFunction m) (minimum m.table) None tt) k.segments.elements v.elements in
-        let b = bytes_written m.«data» (replicate (minimum m.memory * page_size) 0) (length-replicate {A = ℕ} (minimum m.memory * page_size) 0) k.segments.data_segments in
+        let b = bytes_written m.«data» (replicate (minimum m.memory * PAGE_SIZE) 0) (length-replicate {A = ℕ} (minimum m.memory * PAGE_SIZE) 0) k.segments.data_segments in
         record {
           globals = initial_types m.globals v.globals;
           table = t.0;

@@ -1,10 +1,11 @@
 -- The store of a new instance, before its start function (WebAssembly Core 1.0, 4.5.4).
 use Rattle.std.specs.Prelude.{◌≡◌, ℕ, ◌+◌, ◌*◌, List, [], ◌∷◌, ◌++◌, length, map, take, drop, replicate, Option, Some, None}
+use Rattle.limits.specs.declared.TheConstants.{PAGE_SIZE}
 use Rattle.syntax.specs.declared.contents.Contents.{Contents}
 use Rattle.syntax.specs.declared.types.Value.{Value}
 use Rattle.syntax.specs.declared.contents.Element.{Element}
 use Rattle.syntax.specs.declared.contents.Data.{Data}
-use Rattle.validate.specs.Segments.{SegmentsFit, constant_in, offset_in, minimum, page_size}
+use Rattle.validate.specs.Segments.{SegmentsFit, constant_in, offset_in, minimum}
 use Rattle.instance.specs.Store.{Store, page_limit}
 
 -- the list with these in place of what stood from a place on
@@ -29,7 +30,7 @@ abbrev pub fresh_table : Contents → List (Option ℕ)
 fresh_table m = all_written with_element (replicate (minimum m.table) None) m.elements
 
 abbrev pub fresh_bytes : Contents → List ℕ
-fresh_bytes m = all_written with_data (replicate (minimum m.memory * page_size) 0) m.«data»
+fresh_bytes m = all_written with_data (replicate (minimum m.memory * PAGE_SIZE) 0) m.«data»
 
 abbrev pub fresh_store : Contents → Store
 fresh_store m = record {

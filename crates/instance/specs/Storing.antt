@@ -1,9 +1,10 @@
 -- Which stores are of a module (WebAssembly Core 1.0, appendix, store validity).
 use Rattle.std.specs.Prelude.{◌≡◌, ℕ, ◌*◌, ◌<◌, ◌≤◌, max, List, length, map, Option, Some, None, All}
+use Rattle.limits.specs.declared.TheConstants.{PAGE_SIZE}
 use Rattle.syntax.specs.declared.types.Value.{Value}
 use Rattle.syntax.specs.declared.contents.Contents.{Contents}
 use Rattle.validate.specs.Typing.{type_of, function_types}
-use Rattle.validate.specs.Segments.{minimum, page_size}
+use Rattle.validate.specs.Segments.{minimum}
 use Rattle.instance.specs.Store.{Store, page_limit}
 
 -- the values are of the types of the module's globals, in their order
@@ -19,7 +20,7 @@ NamesFunction m (Some f) = f < length (function_types m)
 -- that is more.
 pub record HasPages (limit least : ℕ) (bytes : List ℕ) : Type 0 where
   pub count : ℕ
-  pub whole : length bytes ≡ count * page_size
+  pub whole : length bytes ≡ count * PAGE_SIZE
   pub enough : least ≤ count
   pub within : count ≤ max limit least
 

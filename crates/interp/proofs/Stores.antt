@@ -4,6 +4,7 @@ use Rattle.std.specs.Prelude.{slice_get, is_some, if◌then◌else◌}
 use Rattle.std.proofs.Math.Nat.{mul-div_cancel}
 use Rattle.std.proofs.lemmas.Grind.{common_steps}
 use Rattle.std.proofs.lemmas.List.{length-take-le, length-replicate}
+use Rattle.limits.specs.declared.TheConstants.{PAGE_SIZE}
 use Rattle.syntax.specs.declared.types.ValType.{ValType}
 use Rattle.syntax.specs.declared.types.Value.{Value}
 use Rattle.syntax.specs.declared.types.Value.TheVariants.{I32, I64}
@@ -15,7 +16,7 @@ use Rattle.syntax.specs.declared.contents.Contents.{Contents}
 use Rattle.syntax.specs.declared.contents.FuncType.{FuncType}
 use Rattle.syntax.specs.Code.{Code, Done, Plain, Block, Loop, If}
 use Rattle.validate.specs.Stack.{pushed}
-use Rattle.validate.specs.Segments.{minimum, page_size, number_in}
+use Rattle.validate.specs.Segments.{minimum, number_in}
 use Rattle.validate.specs.Typing.{HasFunctionType, block_type, bytes_of_type, bytes_of_width, type_of_function}
 use Rattle.instance.specs.Store.{Store as Stored, page_limit, pages, grown, with_memory, bytes_at, written_at, bytes_of}
 use Rattle.interp.specs.Operators.{Computed, Number, TrapOf, binary, converted}
@@ -50,17 +51,17 @@ pub with_memory_of : (m : Contents) (s : Stored) (bytes : List ℕ) → length b
 with_memory_of m s bytes e k =
     record { globals = k.globals; table = k.table; elements = k.elements; limit = k.limit; memory = same_pages s.limit (minimum m.memory) s.memory bytes e k.memory }
 
-more_pages : (limit least delta : ℕ) (bytes : List ℕ) → nat_le (pages bytes + delta) limit ≡ true → HasPages limit least bytes → HasPages limit least (bytes ++ replicate (delta * page_size) 0)
+more_pages : (limit least delta : ℕ) (bytes : List ℕ) → nat_le (pages bytes + delta) limit ≡ true → HasPages limit least bytes → HasPages limit least (bytes ++ replicate (delta * PAGE_SIZE) 0)
 more_pages limit least delta bytes e k =
-    let p : pages bytes ≡ k.count = ap (λ (n : ℕ). n / page_size) k.whole ∙ mul-div_cancel k.count (omega arith) in
+    let p : pages bytes ≡ k.count = ap (λ (n : ℕ). n / PAGE_SIZE) k.whole ∙ mul-div_cancel k.count (omega arith) in
     let h : pages bytes + delta ≤ limit = at_most (pages bytes + delta) limit e in
-    let n : length (bytes ++ replicate (delta * page_size) 0) ≡ (k.count + delta) * page_size =
-    length-append bytes (replicate (delta * page_size) 0) ∙ (omega (arith, length-replicate {A = ℕ} (delta * page_size) 0, k.whole)) in
+    let n : length (bytes ++ replicate (delta * PAGE_SIZE) 0) ≡ (k.count + delta) * PAGE_SIZE =
+    length-append bytes (replicate (delta * PAGE_SIZE) 0) ∙ (omega (arith, length-replicate {A = ℕ} (delta * PAGE_SIZE) 0, k.whole)) in
     record { count = k.count + delta; whole = n; enough = omega (arith, k.enough); within = omega arith }
 
 grown_pages : (limit least delta : ℕ) (bytes : List ℕ) → HasPages limit least bytes → HasPages limit least (grown limit delta bytes)
 grown_pages limit least delta bytes k = by_test (nat_le (pages bytes + delta) limit) refl where
-  by_test : (b : Bool) → nat_le (pages bytes + delta) limit ≡ b → HasPages limit least (if b then bytes ++ replicate (delta * page_size) 0 else bytes)
+  by_test : (b : Bool) → nat_le (pages bytes + delta) limit ≡ b → HasPages limit least (if b then bytes ++ replicate (delta * PAGE_SIZE) 0 else bytes)
   by_test true e = more_pages limit least delta bytes e k
   by_test false e = k
 

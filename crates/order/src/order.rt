@@ -46,12 +46,6 @@ pub enum Outcome {
     NoMemory,
 }
 
-fn are_same(bytes: &[u8], others: &[u8]) -> bool
-    ensures { IsTrue result ↔ (bytes.now ≡ others.now) }
-{
-    bytes == others
-}
-
 /// Whether two modules have the same bytes, and so are the same.
 fn is_same_module(linked: &Linked, other: &Linked) -> bool
     ensures { IsTrue result ↔ (linked.now ≡ other.now) }
@@ -60,7 +54,7 @@ fn is_same_module(linked: &Linked, other: &Linked) -> bool
     let module = linked.valid().module();
     let other = other.valid().module();
     let (_contents, _others) = (module.contents().start, other.contents().start);
-    are_same(module.bytes(), other.bytes())
+    module.bytes() == other.bytes()
 }
 
 impl Order {
@@ -74,7 +68,7 @@ impl Order {
             && self.op == other.op
             && self.fuel == other.fuel
             && self.depth == other.depth
-            && are_same(self.bytes.as_slice(), other.bytes.as_slice())
+            && self.bytes.as_slice() == other.bytes.as_slice()
             && is_same_module(&self.module, &other.module)
     }
 }

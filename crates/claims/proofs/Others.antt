@@ -1,12 +1,12 @@
 -- Each step keeps the rule: loops that aren't there open nothing.
-use Rattle.std.proofs.Common.{◌≡◌, ℕ, ◌+◌, ◌*◌, ◌<◌, ◌≤◌, List, [], ◌∷◌, ◌++◌, set, get_or, All, replicate, refl, sym, ap, ◌∙◌, subst, arith}
+use Rattle.std.proofs.Common.{◌≡◌, ℕ, ◌+◌, ◌*◌, ◌<◌, ◌≤◌, List, [], ◌∷◌, ◌++◌, set, get_or, All, replicate, refl, sym, ap, ◌∙◌, arith}
 use Rattle.std.proofs.Math.Nat.{lt_of_not-le}
 use mathlib.Core.Option.{some}
 use lib.ListN.{get_elem?}
 use Rattle.limits.specs.declared.TheConstants.{MAX_REQUESTS, MAX_LOOPS}
+use Rattle.tallies.specs.Requests.{last_in}
 use Rattle.claims.specs.declared.rule.View.{View}
-use Rattle.claims.specs.Views.{last_in}
-use Rattle.claims.specs.Rule.{IsWorker, with_worker, spent, seat_of, maker_of, next_maker, next_seat, place, of_loop, IsKept, IsClaimed}
+use Rattle.claims.specs.Rule.{IsWorker, with_worker, spent, seat_of, maker_of, place, of_loop, IsKept, IsClaimed}
 use Rattle.claims.specs.Steps.{with_opened}
 use Rattle.claims.proofs.Lists.{part_set, part_push, set_apart}
 use Rattle.claims.proofs.Moves.{begins, hit, no_list, own, opens, makes_seat, joins_worker}

@@ -1,29 +1,13 @@
 -- The asyncs' words after each step, and the sums of sends.
-use Rattle.std.proofs.Common.{◌≡◌, ◌≢◌, ℕ, ◌+◌, ◌<◌, ◌≤◌, List, length, set, length-set, refl, sym, ap, ◌∙◌, subst, arith}
-use Rattle.std.specs.Prelude.{slice_index, slice_set, sum}
+use Rattle.std.proofs.Common.{◌≡◌, ℕ, ◌+◌, ◌<◌, ◌≤◌, List, length, set, length-set, refl, sym, ap, ◌∙◌, subst, arith}
+use Rattle.std.specs.Prelude.{slice_index, slice_set}
 use Rattle.std.proofs.lemmas.List.{get_or-set_same, get_or-set_other}
-use Rattle.std.proofs.lemmas.List.Sums.{get_or-le-sum_by, sum_by-set}
 use native.Mathlib.Decide.{ℕ_discrete}
 use Rattle.limits.specs.declared.TheConstants.{MAX_ASYNCS, MAX_REQUESTS, MAX_SENDS}
-use Rattle.phases.specs.View.{raised}
+use Rattle.tallies.specs.Counts.{raised}
+use Rattle.tallies.proofs.Counts.{raised-there, raised-elsewhere, at-le-sum, sum-raised, length-raised}
 use Rattle.desk.specs.Desk.{Desk, sent_own, taken, sent_by_another}
 use Rattle.desk.specs.Rule.{AreCounts, IsCounted, IsSized, waiting_place}
-
--- counts, after one of them was raised
-raised-there : (counts : List ℕ) (a n : ℕ) → a < length counts → slice_index (raised counts a n) a ≡ slice_index counts a + n
-raised-there counts a n inside = get_or-set_same counts a (slice_index counts a + n) 0 inside
-
-raised-elsewhere : (counts : List ℕ) (a n b : ℕ) → b ≢ a → slice_index (raised counts a n) b ≡ slice_index counts b
-raised-elsewhere counts a n b other = get_or-set_other counts a b (slice_index counts a + n) 0 other
-
-at-le-sum : (counts : List ℕ) (a : ℕ) → a < length counts → slice_index counts a ≤ sum counts
-at-le-sum counts a inside = get_or-le-sum_by (λ (n : ℕ). n) counts a 0 inside
-
-sum-raised : (counts : List ℕ) (a n : ℕ) → a < length counts → sum (raised counts a n) ≡ sum counts + n
-sum-raised counts a n inside = let moved = sum_by-set (λ (k : ℕ). k) counts a (slice_index counts a + n) 0 inside in omega arith
-
-length-raised : (counts : List ℕ) (a n : ℕ) → length (raised counts a n) ≡ length counts
-length-raised counts a n = length-set counts a (slice_index counts a + n)
 
 -- the lists keep their lengths
 pub own-sized : (d : Desk) (a : ℕ) → IsSized d → IsSized (sent_own d a)

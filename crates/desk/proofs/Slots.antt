@@ -1,19 +1,15 @@
 -- The slots' words after each step.
-use Rattle.std.proofs.Common.{◌≡◌, ◌≢◌, ◌⊎◌, ℕ, ◌+◌, ◌<◌, List, [], ◌∷◌, ◌++◌, length, set, Bool, true, false, ◌&&◌, ◌==◌, cond, if◌then◌else◌, nat_lt, refl, sym, ap, ◌∙◌, subst, inl, inr, ⊎_elim, eq-eqb, ne_eqb, true≢false, arith}
+use Rattle.std.proofs.Common.{◌≡◌, ◌≢◌, ◌⊎◌, ℕ, ◌+◌, ◌<◌, List, [], ◌∷◌, ◌++◌, length, set, Bool, true, false, ◌&&◌, ◌==◌, nat_lt, refl, sym, ap, ◌∙◌, subst, inl, inr, ⊎_elim, eq-eqb, ne_eqb, true≢false, arith}
 use Rattle.std.specs.Prelude.{slice_index}
 use Rattle.std.proofs.lemmas.Bool.Decides.{nat_tests}
 use Rattle.std.proofs.lemmas.List.{get_or-set_same, get_or-set_other}
-use Rattle.std.proofs.lemmas.List.Sums.{sum_by-cons, sum_by_push}
 use native.Mathlib.Decide.{ℕ_discrete}
 use Rattle.limits.specs.declared.TheConstants.{MAX_ASYNCS, MAX_REQUESTS}
-use Rattle.phases.specs.View.{is_request, times, last_from, last_in, is_pending, IsAbove}
+use Rattle.tallies.specs.Requests.{is_request, times, last_in, is_pending}
+use Rattle.tallies.proofs.Requests.{by_test, is_request_itself, same_request, times_grow, times_hit, times_miss, pushed, last_in-push_same, last_in-push_other, last_counts}
+use Rattle.phases.specs.View.{IsAbove}
 use Rattle.desk.specs.Desk.{Desk, is_open, opened, cancelled, found_started, started}
 use Rattle.desk.specs.Rule.{AreSlots}
-
--- the case of a test
-pub by_test : {P : Type 0} (b : Bool) → (b ≡ true → P) → (b ≡ false → P) → P
-by_test true hit miss = hit refl
-by_test false hit miss = miss refl
 
 -- what an open request is: by its number, the last one of its slot, and how often it was cancelled and started
 abbrev tests : (r q n m : ℕ) → Bool
@@ -28,69 +24,9 @@ parts r q n m e = (grind (arith, nat_tests), grind (arith, nat_tests), grind (ar
 pub fails : (r q n m : ℕ) → ((q ≡ r) → (n ≡ 0) → (m ≡ 0) → ⊥) → tests r q n m ≡ false
 fails r q n m never = by_test (tests r q n m) (λ e. let p = parts r q n m e in absurd (never p.0 p.1 p.2)) (λ e. e)
 
-pub is_request_itself : (c : ℕ × ℕ) → is_request c c ≡ true
-is_request_itself c = grind (arith, nat_tests)
-
-pub other_slot : (c d : ℕ × ℕ) → c.0 ≢ d.0 → is_request c d ≡ false
-other_slot c d ne = ap (λ b. b && (c.1 == d.1)) (ne_eqb c.0 d.0 ne)
-
--- a request more in a list
-pub times_push : (c d : ℕ × ℕ) (cs : List (ℕ × ℕ)) → times c (cs ++ d ∷ []) ≡ times c cs + cond (is_request c d) 1 0
-times_push c d cs = sum_by_push (λ x. cond (is_request c x) 1 0) cs d
-
-pub times_itself : (c : ℕ × ℕ) (cs : List (ℕ × ℕ)) → times c (cs ++ c ∷ []) ≡ times c cs + 1
-times_itself c cs = times_push c c cs ∙ ap (λ b. times c cs + cond b 1 0) (is_request_itself c)
-
-pub times_elsewhere : (c d : ℕ × ℕ) (cs : List (ℕ × ℕ)) → c.0 ≢ d.0 → times c (cs ++ d ∷ []) ≡ times c cs
-times_elsewhere c d cs ne = let h = times_push c d cs ∙ ap (λ b. times c cs + cond b 1 0) (other_slot c d ne) in omega arith
-
-pub times_grow : (c d : ℕ × ℕ) (cs : List (ℕ × ℕ)) → 0 < times c cs → 0 < times c (cs ++ d ∷ [])
-times_grow c d cs h = let e = times_push c d cs in omega arith
-
-pub same_request : (c d : ℕ × ℕ) → is_request c d ≡ true → c ≡ d
-same_request c d e = let slot = same_slot in let number = same_number in λ i. (slot i, number i)
-  where
-    same_slot : c.0 ≡ d.0
-    same_slot = grind (arith, nat_tests)
-
-    same_number : c.1 ≡ d.1
-    same_number = grind (arith, nat_tests)
-
--- a request that is in a list that got one more was there before, or is that one
-pub pushed : (c d : ℕ × ℕ) (cs : List (ℕ × ℕ)) → 0 < times c (cs ++ d ∷ []) → (0 < times c cs) ⊎ (c ≡ d)
-pushed c d cs h =
-    by_test (is_request c d)
-    (λ e. inr (same_request c d e))
-    (λ e. let more = times_push c d cs ∙ ap (λ b. times c cs + cond b 1 0) e in inl (omega arith))
-
--- a slot's last request was opened, unless there is none
-pub last-counts : (slot q : ℕ) (cs : List (ℕ × ℕ)) → (last_from slot q cs ≡ q) ⊎ (0 < times (slot, last_from slot q cs) cs)
-last-counts slot q [] = inl refl
-last-counts slot q (c ∷ cs) =
-    by_test (c.0 == slot)
-    (λ e. ⊎_elim (λ same. inr (times_first (slot, last_from slot q (c ∷ cs)) c cs (is_that slot c (last_from slot q (c ∷ cs)) e (same ∙ ap (λ b. if b then c.1 else q) e)))) (λ more. inr (times_more (slot, last_from slot q (c ∷ cs)) c cs more)) (last-counts slot (if c.0 == slot then c.1 else q) cs))
-    (λ e. ⊎_elim (λ same. inl (same ∙ ap (λ b. if b then c.1 else q) e)) (λ more. inr (times_more (slot, last_from slot q (c ∷ cs)) c cs more)) (last-counts slot (if c.0 == slot then c.1 else q) cs))
-  where
-    is_that : (slot : ℕ) (c : ℕ × ℕ) (n : ℕ) → (c.0 == slot) ≡ true → n ≡ c.1 → is_request (slot, n) c ≡ true
-    is_that slot c n e k = grind (arith, nat_tests)
-
-    times_more : (c d : ℕ × ℕ) (cs : List (ℕ × ℕ)) → 0 < times c cs → 0 < times c (d ∷ cs)
-    times_more c d cs h = let e = sum_by-cons (λ x. cond (is_request c x) 1 0) d cs in omega arith
-
-    times_first : (c d : ℕ × ℕ) (cs : List (ℕ × ℕ)) → is_request c d ≡ true → 0 < times c (d ∷ cs)
-    times_first c d cs e = let h : times c (d ∷ cs) ≡ 1 + times c cs = sum_by-cons (λ x. cond (is_request c x) 1 0) d cs ∙ ap (λ b. cond b 1 0 + times c cs) e in omega arith
-
--- the last request of a slot, after a push
-pub last-push : (slot q : ℕ) (cs : List (ℕ × ℕ)) (c : ℕ × ℕ) → last_from slot q (cs ++ c ∷ []) ≡ (if c.0 == slot then c.1 else last_from slot q cs)
-last-push slot q [] c = refl
-last-push slot q (x ∷ xs) c = last-push slot (if x.0 == slot then x.1 else q) xs c
-
--- the last request of another slot is as it was
-pub last-elsewhere : (slot : ℕ) (cs : List (ℕ × ℕ)) (c : ℕ × ℕ) → c.0 ≢ slot → last_in slot (cs ++ c ∷ []) ≡ last_in slot cs
-last-elsewhere slot cs c ne = last-push slot 0 cs c ∙ ap (λ b. if b then c.1 else last_in slot cs) (ne_eqb c.0 slot ne)
-
-pub last-here : (slot r : ℕ) (cs : List (ℕ × ℕ)) → last_in slot (cs ++ (slot, r) ∷ []) ≡ r
-last-here slot r cs = last-push slot 0 cs (slot, r) ∙ ap (λ b. if b then r else last_in slot cs) (eq-eqb slot slot refl)
+-- a list that got a request of another slot
+times_elsewhere : (c d : ℕ × ℕ) (cs : List (ℕ × ℕ)) → c.0 ≢ d.0 → times c (cs ++ d ∷ []) ≡ times c cs
+times_elsewhere c d cs ne = times_miss c d cs (ap (λ b. b && (c.1 == d.1)) (ne_eqb c.0 d.0 ne))
 
 module _ (words : List ℕ) (d : Desk) (slot r : ℕ) (size : length words ≡ MAX_REQUESTS + MAX_ASYNCS) (is : AreSlots words d) (there : slot < MAX_REQUESTS) (some_request : 0 < r) where
   written : (n : ℕ) → slice_index (set words slot n) slot ≡ n
@@ -113,13 +49,13 @@ module _ (words : List ℕ) (d : Desk) (slot r : ℕ) (size : length words ≡ M
     opened-word : (s q : ℕ) → s < MAX_REQUESTS → 0 < q → (slice_index (set words slot r) s == q) ≡ is_open (opened d (slot, r)) (s, q)
     opened-word s q low some_number = elim (ℕ_discrete s slot) [
       | yes e ↦ subst (λ (k : ℕ). (slice_index (set words slot r) k == q) ≡ is_open (opened d (slot, r)) (k, q)) (sym e) here
-      | no ne ↦ ap (λ n. n == q) (elsewhere r s ne) ∙ is.word s q low some_number ∙ ap (λ n. tests q n (times (s, q) d.view.cancelled) (times (s, q) d.started)) (sym (last-elsewhere s d.view.opened (slot, r) (λ k. ne (sym k))))
+      | no ne ↦ ap (λ n. n == q) (elsewhere r s ne) ∙ is.word s q low some_number ∙ ap (λ n. tests q n (times (s, q) d.view.cancelled) (times (s, q) d.started)) (sym (last_in-push_other s d.view.opened (slot, r) (λ k. ne (sym k))))
     ]
       where
         here : (slice_index (set words slot r) slot == q) ≡ is_open (opened d (slot, r)) (slot, q)
         here = elim (ℕ_discrete r q) [
-          | yes e ↦ ap (λ n. n == q) (written r) ∙ eq-eqb r q e ∙ sym (holds q _ _ _ some_number (last-here slot r d.view.opened ∙ e) (let none = fresh in subst (λ k. times (slot, k) d.view.cancelled ≡ 0) e (omega arith)) (let none = fresh in subst (λ k. times (slot, k) d.started ≡ 0) e (omega arith)))
-          | no ne ↦ ap (λ n. n == q) (written r) ∙ ne_eqb r q ne ∙ sym (fails q _ _ _ (λ last _ _. ne (sym (last-here slot r d.view.opened) ∙ last)))
+          | yes e ↦ ap (λ n. n == q) (written r) ∙ eq-eqb r q e ∙ sym (holds q _ _ _ some_number (last_in-push_same slot r d.view.opened ∙ e) (let none = fresh in subst (λ k. times (slot, k) d.view.cancelled ≡ 0) e (omega arith)) (let none = fresh in subst (λ k. times (slot, k) d.started ≡ 0) e (omega arith)))
+          | no ne ↦ ap (λ n. n == q) (written r) ∙ ne_eqb r q ne ∙ sym (fails q _ _ _ (λ last _ _. ne (sym (last_in-push_same slot r d.view.opened) ∙ last)))
         ]
 
     pub opened-slots : AreSlots (set words slot r) (opened d (slot, r))
@@ -143,7 +79,7 @@ module _ (words : List ℕ) (d : Desk) (slot r : ℕ) (size : length words ≡ M
     ]
 
     was_opened : 0 < times (slot, r) d.view.opened
-    was_opened = let last = at.0 in ⊎_elim (λ z. absurd (omega arith)) (λ t. subst (λ k. 0 < times (slot, k) d.view.opened) last t) (last-counts slot 0 d.view.opened)
+    was_opened = let last = at.0 in ⊎_elim (λ z. absurd (omega arith)) (λ t. subst (λ k. 0 < times (slot, k) d.view.opened) last t) (last_counts slot 0 d.view.opened)
 
     pub cancelled-slots : AreSlots (set words slot 0) (cancelled d (slot, r))
     cancelled-slots = record {
@@ -153,13 +89,13 @@ module _ (words : List ℕ) (d : Desk) (slot r : ℕ) (size : length words ≡ M
     }
       where
         none : (q : ℕ) → 0 < q → is_open (cancelled d (slot, r)) (slot, q) ≡ false
-        none q some_number = fails q _ _ _ (λ last zero _. let more = times_itself (slot, r) d.view.cancelled in
+        none q some_number = fails q _ _ _ (λ last zero _. let more = times_hit (slot, r) (slot, r) d.view.cancelled (is_request_itself (slot, r)) in
             let here : times (slot, r) (d.view.cancelled ++ (slot, r) ∷ []) ≡ 0 = subst (λ k. times (slot, k) (d.view.cancelled ++ (slot, r) ∷ []) ≡ 0) (sym last ∙ at.0) zero in omega arith)
 
         either_pushed : (c : ℕ × ℕ) → 0 < times c (d.view.cancelled ++ (slot, r) ∷ []) + times c d.started → (0 < times c d.view.cancelled + times c d.started) ⊎ (c ≡ (slot, r))
         either_pushed c h = by_test (is_request c (slot, r))
             (λ e. inr (same_request c (slot, r) e))
-            (λ e. let more = times_push c (slot, r) d.view.cancelled ∙ ap (λ b. times c d.view.cancelled + cond b 1 0) e in inl (omega arith))
+            (λ e. let same = times_miss c (slot, r) d.view.cancelled e in inl (omega arith))
 
     pub started-slots : AreSlots (set words slot 0) (started d (slot, r))
     started-slots = record {
@@ -169,13 +105,13 @@ module _ (words : List ℕ) (d : Desk) (slot r : ℕ) (size : length words ≡ M
     }
       where
         none : (q : ℕ) → 0 < q → is_open (started d (slot, r)) (slot, q) ≡ false
-        none q some_number = fails q _ _ _ (λ last _ zero. let more = times_itself (slot, r) d.started in
+        none q some_number = fails q _ _ _ (λ last _ zero. let more = times_hit (slot, r) (slot, r) d.started (is_request_itself (slot, r)) in
             let here : times (slot, r) (d.started ++ (slot, r) ∷ []) ≡ 0 = subst (λ k. times (slot, k) (d.started ++ (slot, r) ∷ []) ≡ 0) (sym last ∙ at.0) zero in omega arith)
 
         either_pushed : (c : ℕ × ℕ) → 0 < times c d.view.cancelled + times c (d.started ++ (slot, r) ∷ []) → (0 < times c d.view.cancelled + times c d.started) ⊎ (c ≡ (slot, r))
         either_pushed c h = by_test (is_request c (slot, r))
             (λ e. inr (same_request c (slot, r) e))
-            (λ e. let more = times_push c (slot, r) d.started ∙ ap (λ b. times c d.started + cond b 1 0) e in inl (omega arith))
+            (λ e. let same = times_miss c (slot, r) d.started e in inl (omega arith))
 
   -- a try to cancel finds another word, and the words are as they were
   module _ (other_word : slice_index words slot ≢ r) where
@@ -183,15 +119,15 @@ module _ (words : List ℕ) (d : Desk) (slot r : ℕ) (size : length words ≡ M
     not_open = sym (is.word slot r there some_request) ∙ ne_eqb (slice_index words slot) r other_word
 
     pub found-slots : AreSlots words (found_started d (slot, r))
-    found-slots = by_pending (is_pending d.view (slot, r)) refl
+    found-slots = by_pending (is_pending d.view.opened d.view.cancelled (slot, r)) refl
       where
-        was_started : is_pending d.view (slot, r) ≡ true → 0 < times (slot, r) d.started
+        was_started : is_pending d.view.opened d.view.cancelled (slot, r) ≡ true → 0 < times (slot, r) d.started
         was_started p = elim (ℕ_discrete (times (slot, r) d.started) 0) [
           | yes e ↦ absurd (true≢false (sym (ap (λ b. b && (times (slot, r) d.started == 0)) p ∙ eq-eqb (times (slot, r) d.started) 0 e) ∙ not_open))
           | no ne ↦ omega arith
         ]
 
-        by_pending : (b : Bool) → is_pending d.view (slot, r) ≡ b → AreSlots words (found_started d (slot, r))
+        by_pending : (b : Bool) → is_pending d.view.opened d.view.cancelled (slot, r) ≡ b → AreSlots words (found_started d (slot, r))
         by_pending true p = rw p (record {
           word = is.word;
           opened = is.opened;

@@ -1,5 +1,5 @@
 -- Each step on the words is allowed.
-use Rattle.std.proofs.Common.{◌≡◌, ◌≢◌, ℕ, zero, suc, ◌+◌, ◌%◌, ◌^◌, ◌<◌, List, [], ◌∷◌, length, length-set, set, replicate, Bool, true, false, ◌==◌, refl, sym, ap, ◌∙◌, subst, eq-eqb, ne_eqb, mod-eq_of_lt, arith}
+use Rattle.std.proofs.Common.{◌≡◌, ◌≢◌, ℕ, ◌+◌, ◌%◌, ◌^◌, ◌<◌, List, [], ◌∷◌, length, length-set, set, replicate, Bool, true, false, ◌==◌, refl, sym, ap, ◌∙◌, subst, eq-eqb, ne_eqb, mod-eq_of_lt, arith}
 use Rattle.std.specs.Prelude.{slice_index}
 use Rattle.std.proofs.lemmas.List.{set-get_or, get_or-set_other}
 use mathlib.Core.Option.{some, some-injective}
@@ -8,7 +8,9 @@ use lib.ListN.{get_elem?}
 use prog.Atomic.{either}
 use Rattle.atomic_table.specs.Table.{State, keeps, Allows}
 use Rattle.limits.specs.declared.TheConstants.{MAX_ASYNCS, MAX_REQUESTS}
-use Rattle.phases.specs.View.{times, is_pending, IsAbove}
+use Rattle.tallies.specs.Requests.{times, is_pending}
+use Rattle.tallies.proofs.Counts.{zeros}
+use Rattle.phases.specs.View.{IsAbove}
 use Rattle.desk.specs.declared.rule.History.{History}
 use Rattle.desk.specs.Desk.{Desk, new_desk, is_open, opened, cancelled, found_started, started, sent_own, sent_by_another, taken, DeskCancels, DeskStarts, DeskTakes}
 use Rattle.desk.specs.Rule.{desk_of, history_of, waiting_place, AreSlots, AreCounts, Agrees, IsKept, IsCounted, IsSized}
@@ -97,9 +99,9 @@ module _ (slot r : ℕ) (d : Desk) (words : List ℕ) (is : Agrees words d) (the
   same = set-get_or words slot 0
 
   found_agrees : found ≢ r → Agrees words (found_started d (slot, r))
-  found_agrees ne = record { size = is.size; slots = found-slots words d slot r is.size is.slots there above ne; counts = by_pending (is_pending d.view (slot, r)) refl }
+  found_agrees ne = record { size = is.size; slots = found-slots words d slot r is.size is.slots there above ne; counts = by_pending (is_pending d.view.opened d.view.cancelled (slot, r)) refl }
     where
-      by_pending : (b : Bool) → is_pending d.view (slot, r) ≡ b → AreCounts words (found_started d (slot, r))
+      by_pending : (b : Bool) → is_pending d.view.opened d.view.cancelled (slot, r) ≡ b → AreCounts words (found_started d (slot, r))
       by_pending true p = rw p (record { word = is.counts.word; sends = is.counts.sends })
       by_pending false p = rw p (record { word = is.counts.word; sends = is.counts.sends })
 
@@ -191,11 +193,6 @@ module _ {S : Type 0} (slots a i : ℕ) (v : History) (held : List (ℕ × S)) (
           subst (λ k. DeskTakes d k (slice_index words i) (taken d a)) same (ap (slice_index words) place ∙ is.counts.word a there, refl, own-taken words d a is.size is.counts sized there)
 
 -- a table on which nothing was done
-zeros : (n k : ℕ) → slice_index (replicate n 0) k ≡ 0
-zeros zero k = refl
-zeros (suc n) zero = refl
-zeros (suc n) (suc k) = zeros n k
-
 pub begins : (loop_no : ℕ) → IsKept (replicate (MAX_REQUESTS + MAX_ASYNCS) 0) (history_of (new_desk loop_no) ∷ [])
 begins loop_no = (
   history_of (new_desk loop_no),

@@ -1,6 +1,7 @@
 -- The calls of a desk meet the law of what a loop shares, and those of others leave what the loop knows.
 use Rattle.std.proofs.Common.{◌≡◌, ℕ, Bool, true, false, ◌&&◌, refl, sym, ap, ◌∙◌}
-use Rattle.phases.specs.View.{Cancelled, Sent, Taken, raised}
+use Rattle.tallies.specs.Counts.{raised}
+use Rattle.phases.specs.View.{Cancelled, Sent, Taken}
 use Rattle.phases.specs.Calls.{IsLawful, AreBeside}
 use Rattle.desk.specs.Desk.{Desk, DeskCancels, DeskSends, DeskTakes, DeskStarts, DeskGets, desk_calls, desk_others}
 

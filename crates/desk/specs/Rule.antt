@@ -1,7 +1,7 @@
 -- The rule of the words: they agree with all that was done at the desk.
 use Rattle.std.specs.Prelude.{◌≡◌, ℕ, ◌+◌, ◌<◌, ◌≤◌, ◌==◌, List, [], ◌∷◌, length, slice_index, sum}
 use Rattle.limits.specs.declared.TheConstants.{MAX_ASYNCS, MAX_REQUESTS, MAX_SENDS}
-use Rattle.phases.specs.View.{times}
+use Rattle.tallies.specs.Requests.{times}
 use Rattle.desk.specs.declared.rule.History.{History}
 use Rattle.desk.specs.Desk.{Desk, is_open}
 

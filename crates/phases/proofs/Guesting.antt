@@ -1,9 +1,9 @@
 -- What the calls of a guest keep, and what they are over a whole run.
 use Rattle.std.proofs.Common.{◌≡◌, ℕ, ◌+◌, ◌<◌, ◌≤◌, ◌==◌, ◌&&◌, Bool, true, false, cond, not, List, [], ◌∷◌, ◌++◌, length, map, Some, refl, ap, subst, ◌∙◌, arith, inl, inr, ◌⊎◌}
 use Rattle.std.specs.Prelude.{MatchBool, nat_le, nat_lt, codes}
-use Rattle.std.proofs.lemmas.List.Sums.{sum_by-append}
-use Rattle.std.proofs.lemmas.Bool.{eqb-true}
 use Rattle.limits.specs.declared.TheConstants.{MAX_BYTES, MAX_REQUESTS, MAX_EMITS}
+use Rattle.tallies.specs.Requests.{is_request, times}
+use Rattle.tallies.proofs.Requests.{same_parts, times_push}
 use Rattle.syntax.specs.declared.types.Value.{Value}
 use Rattle.syntax.specs.declared.types.Value.TheVariants.{I32, I64}
 use Rattle.validate.specs.Typing.{type_of}
@@ -14,7 +14,7 @@ use Rattle.imports.specs.declared.call.Call.TheVariants.{Now, TimerInit, IdleIni
 use Rattle.phases.specs.declared.progress.CancelState.{CancelState}
 use Rattle.phases.specs.declared.progress.CancelState.TheVariants.{Unknown, Pending}
 use Rattle.phases.specs.declared.progress.CancelState.TheVariants as cancel_state
-use Rattle.phases.specs.View.{View, AreOpenedUpTo, is_request, times, Opened, Cancelled, Sent}
+use Rattle.phases.specs.View.{View, AreOpenedUpTo, Opened, Cancelled, Sent}
 use Rattle.phases.specs.Calls.{Calls, IsLawful}
 use Rattle.phases.specs.Requests.{Requests, Cancelled as cancelled, with_stage}
 use Rattle.handles.specs.declared.handle.Kind.TheVariants as kind
@@ -52,18 +52,11 @@ either : {R : Type 0} (b : Bool) (P Q : Type 0) → (P → R) → (Q → R) → 
 either true P Q f g h = f h
 either false P Q f g h = g h
 
-more_times : (c d : ℕ × ℕ) (xs : List (ℕ × ℕ)) → times c (xs ++ d ∷ []) ≡ times c xs + cond (is_request c d) 1 0
-more_times c d xs = let sum = sum_by-append (λ x. cond (is_request c x) 1 0) xs (d ∷ []) in omega arith
-
-second_of : (a b : Bool) → (a && b) ≡ true → b ≡ true
-second_of true b h = h
-second_of false b h = absurd (cc)
-
 opened_more : (last slot : ℕ) (v : View) → AreOpenedUpTo last v → AreOpenedUpTo (last + 1) (record v { opened = v.opened ++ (slot, last + 1) ∷ [] })
 opened_more last slot v upto c within =
-    let more = more_times c (slot, last + 1) v.opened in
+    let more = times_push c (slot, last + 1) v.opened in
     elim (is_request c (slot, last + 1)) as (λ b. is_request c (slot, last + 1) ≡ b → times c (v.opened ++ (slot, last + 1) ∷ []) ≡ times c v.opened + cond b 1 0 → c.1 ≤ last + 1) [
-      | true ↦ λ e k. (let same = eqb-true c.1 (last + 1) (second_of (c.0 == slot) (c.1 == (last + 1)) e) in omega arith)
+      | true ↦ λ e k. (let same = same_parts c (slot, last + 1) e in omega arith)
       | false ↦ λ e k. (let before = upto c (omega arith) in omega arith)
     ] refl more
 

@@ -1,7 +1,8 @@
 // Marks: sends and takes, by threads.
 ghost use Rattle.std.specs.Prelude.{◌≡◌, ◌+◌, ◌≤◌, ◌<◌, [], ◌∷◌, slice_index, sum, IfOk};
 ghost use Rattle.std.specs.Thread.{IsSync};
-ghost use Rattle.marks.specs.Counts.{none_counted, new_sender, new_taker};
+ghost use Rattle.tallies.specs.Counts.{none_counted};
+ghost use Rattle.marks.specs.Counts.{new_sender, new_taker};
 
 use limits::{MAX_ASYNCS, MAX_SEND_SEATS, MAX_SENDS};
 use marks::{Marks, SendSeat, SendsUsedUp, TakeSeat};

@@ -6,6 +6,8 @@ use Rattle.std.specs.List.{Contains, count_by, filter}
 use Rattle.std.proofs.lemmas.Bool.{cases_eq, eqb-true, eq-eqb, ne_eqb}
 use Rattle.std.proofs.lemmas.List.Elements.{Contains-push_cases}
 use Rattle.std.proofs.lemmas.List.Sums.{sum_by_push}
+use Rattle.tallies.specs.Requests.{times, is_request, is_pending}
+use Rattle.tallies.proofs.Requests.{same_request, times_grow, times_hit, times_miss}
 use Rattle.order.specs.Bytes.{taken_out}
 use Rattle.order.specs.Work.{WorkOrder}
 use Rattle.phases.specs.declared.did.StepDid.{StepDid}
@@ -18,7 +20,6 @@ use Rattle.phases.specs.Outside.{is_failed, next_order_of, after_clock}
 use Rattle.phases.specs.Requests.{Stage, Open, HandedOut, Answered, Cancelled, Request, Requests, has_number, request_of, in_stage, with_stage, without_request, with_work, is_open_stage, lowest_open}
 use Rattle.phases.specs.State.{Setting, State, Loop, Core}
 use Rattle.phases.specs.Step.{in_state}
-use Rattle.phases.specs.View.{times, is_request, is_pending}
 use Rattle.phases.proofs.Cancelling.{IsBeside, unmoved, tried, sent, took, CancelMoves, wins, leaves, moves_in}
 use Rattle.phases.proofs.Filtered.{find_first, first_passes}
 use Rattle.phases.proofs.Handing.{UpTo, NoneOpen, up_to_push, none_push, up_to_staged, none_staged, none_after, up_to_filtered, none_filtered, found_up_to, found_open, IsLowest, handed_is}
@@ -41,45 +42,29 @@ use Rattle.world.proofs.Runs.{set_here, set_apart, set_there, either}
 use Rattle.world.proofs.Sets.{core}
 
 -- what is one of a list's
-times_push : (c x : ℕ × ℕ) (xs : List (ℕ × ℕ)) → times c (xs ++ x ∷ []) ≡ times c xs + cond (is_request c x) 1 0
-times_push c x xs = sum_by_push (λ y. cond (is_request c y) 1 0) xs x
-
-is_same : (c x : ℕ × ℕ) → is_request c x ≡ true → c ≡ x
-is_same c x is = by (c.0 == x.0) (c.1 == x.1) refl refl is where
-  by : (a b : Bool) → (c.0 == x.0) ≡ a → (c.1 == x.1) ≡ b → (a && b) ≡ true → c ≡ x
-  by true true one two h = ap (λ a. (a, c.1)) (eqb-true c.0 x.0 one) ∙ ap (λ b. (x.0, b)) (eqb-true c.1 x.1 two)
-  by true false one two h = absurd (cc)
-  by false b one two h = absurd (cc)
-
 same_is : (s r k : ℕ) → s ≡ k → is_request (s, r) (k, r) ≡ true
 same_is s r k e = rw (eq-eqb s k e, eq-eqb r r refl) refl
 
-more_times : (c x : ℕ × ℕ) (xs : List (ℕ × ℕ)) → 0 < times c xs → 0 < times c (xs ++ x ∷ [])
-more_times c x xs h = let it = times_push c x xs in omega (arith, h, it)
-
 new_times : (c x : ℕ × ℕ) (xs : List (ℕ × ℕ)) → is_request c x ≡ true → 0 < times c (xs ++ x ∷ [])
-new_times c x xs is = let it = times_push c x xs in let one = ap (λ b. cond {A = ℕ} b 1 0) is in omega (arith, it, one)
-
-no_more_times : (c x : ℕ × ℕ) (xs : List (ℕ × ℕ)) → is_request c x ≡ false → times c (xs ++ x ∷ []) ≡ times c xs
-no_more_times c x xs is = times_push c x xs ∙ rw is (omega arith)
+new_times c x xs is = let it = times_hit c x xs is in omega (arith, it)
 
 -- what is open is neither cancelled nor started
 not_started : (d : Desk) (c : ℕ × ℕ) → true ≡ is_open d c → times c d.started ≡ 0
-not_started d c h = by (is_pending d.view c) (times c d.started == 0) refl h where
+not_started d c h = by (is_pending d.view.opened d.view.cancelled c) (times c d.started == 0) refl h where
   by : (a b : Bool) → (times c d.started == 0) ≡ b → true ≡ (a && b) → times c d.started ≡ 0
   by true true is e = eqb-true (times c d.started) 0 is
   by true false is e = absurd (cc)
   by false b is e = absurd (cc)
 
 not_cancelled : (d : Desk) (c : ℕ × ℕ) → true ≡ is_open d c → times c d.view.cancelled ≡ 0
-not_cancelled d c h = pending (is_pending d.view c) (times c d.started == 0) refl h where
+not_cancelled d c h = pending (is_pending d.view.opened d.view.cancelled c) (times c d.started == 0) refl h where
   pending_is : (a b e : Bool) → (times c d.view.cancelled == 0) ≡ e → (a && (b && e)) ≡ true → times c d.view.cancelled ≡ 0
   pending_is true true true is k = eqb-true (times c d.view.cancelled) 0 is
   pending_is true true false is k = absurd (cc)
   pending_is true false e is k = absurd (cc)
   pending_is false b e is k = absurd (cc)
 
-  pending : (a b : Bool) → is_pending d.view c ≡ a → true ≡ (a && b) → times c d.view.cancelled ≡ 0
+  pending : (a b : Bool) → is_pending d.view.opened d.view.cancelled c ≡ a → true ≡ (a && b) → times c d.view.cancelled ≡ 0
   pending true b is e = pending_is _ _ (times c d.view.cancelled == 0) refl is
   pending false b is e = absurd (cc)
 
@@ -89,7 +74,7 @@ record IsStill (d e : Desk) : Type 0 where
   pub started : e.started ≡ d.started
 
 found_still : (d : Desk) (c : ℕ × ℕ) → IsStill d (found_started d c)
-found_still d c = by (is_pending d.view c) where
+found_still d c = by (is_pending d.view.opened d.view.cancelled c) where
   by : (b : Bool) → IsStill d (record d { view = cond b (record d.view { found_started = d.view.found_started ++ c ∷ [] }) d.view })
   by true = record { cancelled = refl; started = refl }
   by false = record { cancelled = refl; started = refl }
@@ -261,8 +246,8 @@ module _ (r : ℕ) where
       numbered same = eqb-true q.order.request n (first_passes (has_number n) rs.outstanding q (sym (find_first (has_number n) rs.outstanding) ∙ found)) ∙ same
 
       one : (c : ℕ × ℕ) (b : Bool) → is_request c x ≡ b → 0 < times c (d.view.cancelled ++ x ∷ []) → times c d.started ≡ 0
-      one c true is some = subst (λ y. times y d.started ≡ 0) (sym (is_same c x is)) (not_started d x moves.0)
-      one c false is some = h.either_one c (subst (λ k. 0 < k) (no_more_times c x d.view.cancelled is) some)
+      one c true is some = subst (λ y. times y d.started ≡ 0) (sym (same_request c x is)) (not_started d x moves.0)
+      one c false is some = h.either_one c (subst (λ k. 0 < k) (times_miss c x d.view.cancelled is) some)
 
       closed : (n ≡ r) ⊎ won → (r ≤ rs.last) × NoneOpen r (map (in_stage n Cancelled) rs.outstanding)
       closed (inl same) = (
@@ -276,7 +261,7 @@ module _ (r : ℕ) where
           new_times (s, r) x d.view.cancelled
           (subst (λ k. is_request (s, r) (q.order.slot, k) ≡ true) (sym same)
           (same_is s r q.order.slot ((h.handed s is).0 ∙ sym (in_found h.slot (has_number n) rs.outstanding q found h.in_slot (numbered same)))))
-      known (inr w) s is = more_times (s, r) x d.view.cancelled (h.at_desk w s is)
+      known (inr w) s is = times_grow (s, r) x d.view.cancelled (h.at_desk w s is)
 
     -- a request that is open is handed out
     apart_handed : (rs : Requests) (d : Desk) (q : Request) → lowest_open rs ≡ Some q → q.order.request ≡ r → IsApart out won begun rs d → IsApart (Some q.order.slot) won begun (with_stage rs q.order.request HandedOut) d
@@ -318,9 +303,9 @@ module _ (r : ℕ) where
       one : (c : ℕ × ℕ) (b : Bool) → is_request c (slot, n) ≡ b → 0 < times c d.view.cancelled → times c (d.started ++ (slot, n) ∷ []) ≡ 0
       one c true is some =
           let none = not_cancelled d (slot, n) moves.0 in
-          let same = ap (λ y. times y d.view.cancelled) (is_same c (slot, n) is) in
+          let same = ap (λ y. times y d.view.cancelled) (same_request c (slot, n) is) in
           absurd (omega (arith, some, none, same))
-      one c false is some = no_more_times c (slot, n) d.started is ∙ h.either_one c some
+      one c false is some = times_miss c (slot, n) d.started is ∙ h.either_one c some
 
       by : ((n ≡ r) × (out ≡ Some slot)) ⊎ begun → (s : ℕ) × (out ≡ Some s) × (0 < times (s, r) e.started)
       by (inl (same, is)) = (
@@ -329,7 +314,7 @@ module _ (r : ℕ) where
         subst (λ xs. 0 < times (slot, r) xs) (sym is_started)
             (new_times (slot, r) (slot, n) d.started (subst (λ k. is_request (slot, r) (slot, k) ≡ true) (sym same) (same_is slot r slot refl))),
       )
-      by (inr b) = let it = h.was_begun b in (it.0, it.1, subst (λ xs. 0 < times (it.0, r) xs) (sym is_started) (more_times (it.0, r) (slot, n) d.started it.2))
+      by (inr b) = let it = h.was_begun b in (it.0, it.1, subst (λ xs. 0 < times (it.0, r) xs) (sym is_started) (times_grow (it.0, r) (slot, n) d.started it.2))
 
 both_true : (a b : Bool) → (a && b) ≡ true → (a ≡ true) × (b ≡ true)
 both_true true b h = (refl, h)

@@ -3,7 +3,7 @@ use Rattle.std.proofs.lemmas.Bool.Decides.{nat_tests}
 use mathlib.Core.Option.{some, some-injective, some-ne-none}
 use lib.ListN.{get_elem?}
 use Rattle.claims.proofs.Lists.{part_found, count_cons}
-use Rattle.claims.proofs.Numbers.{by_test}
+use Rattle.tallies.proofs.Requests.{by_test}
 use Rattle.board.specs.declared.line.Named.{Named}
 use Rattle.board.specs.declared.line.View.{View}
 use Rattle.board.specs.Rule.{one_if, given_by, is_name, times, taken_times, IsGiven, AllGiven, IsBelow, Rises, IsInOrder}

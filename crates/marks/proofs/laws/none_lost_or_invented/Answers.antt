@@ -1,7 +1,7 @@
 use Rattle.std.proofs.Common.{◌≡◌, ◌+◌, ◌*◌, ◌≤◌, slice_index, sum_by, arith}
 use Rattle.limits.specs.declared.TheConstants.{MAX_SEND_SEATS, MAX_SENDS}
 use Rattle.marks.specs.Rule.{sent, taken_from}
-use Rattle.marks.specs.Laws.{Always, SentIsTakenOrWaits, EachIsCounted, WordsFit}
+use Rattle.marks.specs.Laws.{Always, EachIsCounted, WordsFit}
 use Rattle.marks.proofs.Moves.{at-le-sum_by, sent-within}
 use Rattle.marks.proofs.laws.none_lost_or_invented.Goals as goal
 

@@ -1,7 +1,7 @@
 use Rattle.std.proofs.Common.{◌≡◌, ◌≤◌, [], length}
 use Rattle.std.specs.Prelude.{slice_index}
 use Rattle.limits.specs.declared.TheConstants.{MAX_ASYNCS}
-use Rattle.marks.specs.Counts.{none_counted}
+use Rattle.tallies.specs.Counts.{none_counted}
 use Rattle.shared_suite.proofs.marking.take_turns.Given as goal
 
 abbrev pub invariant-loop : goal.invariant-loop

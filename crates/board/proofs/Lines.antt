@@ -53,8 +53,8 @@ each_set P (y ∷ xs) zero b h own (suc i) x e = h (suc i) x e
 each_set P (y ∷ xs) (suc k) b h own zero x e = h zero x e
 each_set P (y ∷ xs) (suc k) b h own (suc i) x e = each_set (λ j. P (suc j)) xs k b (λ j z. h (suc j) z) own i x e
 
-pub still_of_loops : (hands : List (HandView Reply)) (k : ℕ) (b : HandView Reply) → AreOfTheirLoops hands → b.key ≡ k → AreOfTheirLoops (set hands k b)
-still_of_loops hands k b each own = each_set (λ i (h : HandView Reply). h.key ≡ i) hands k b each own
+pub still_of_loops : (hands : List (HandView Reply)) (k : ℕ) (a b : HandView Reply) → slice_get hands k ≡ Some a → b.key ≡ a.key → AreOfTheirLoops hands → AreOfTheirLoops (set hands k b)
+still_of_loops hands k a b at same each = each_set (λ i (h : HandView Reply). h.key ≡ i) hands k b each (same ∙ each k a at)
 
 module _ {J : Type 0} (old : PassView J) (jobs : HandView J) (replies : List (HandView Reply)) (was : record { jobs = jobs; replies = replies } ≡ old) (k : ℕ) (a b : HandView Reply) (at : slice_get replies k ≡ Some a) where
   pub still_own : (board : BoardView) → IsPassOf board old → b.line ≡ a.line → IsPassOf board (record { jobs = jobs; replies = set replies k b })

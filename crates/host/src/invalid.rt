@@ -1,13 +1,10 @@
 // In which section, function and operation a module is not valid.
 
-use crate::names::name_of;
-use crate::operations::spot_of;
+use crate::operations::{name_of, spot_of};
 use crate::parts::{Code, cut_body, with_code};
 use crate::place::Place;
 use crate::search::{Fronts, first_failing};
-use crate::spans::{
-    CODE, FUNCTIONS, OPENING, Span, bodies, count_in, function_of, section_of, sections,
-};
+use crate::spans::{CODE, FUNCTIONS, Span, bodies, count_in, function_of, section_of, sections};
 use decode::decode;
 use std::alloc::{AllocError, Global};
 use validate::{ValidFault, validate};
@@ -21,7 +18,8 @@ const NO_LOCAL: [u8; 3] = [0x20, 0xff, 0x7f];
 /// How many bytes a body may have at most for its operations to be looked at.
 const LONGEST: usize = 65_536;
 
-/// A module that is not valid.
+/// A module that is not valid. Its fronts end behind the section of a number, and where the bodies of its functions are not
+/// among them, each has one of every type.
 #[derive(Clone, Copy)]
 struct Invalid<'a> {
     alloc: Global,
@@ -30,42 +28,25 @@ struct Invalid<'a> {
     fault: ValidFault,
 }
 
-impl<'a> Invalid<'a> {
+impl Invalid<'_> {
     /// Whether the module that this text spells has the fault.
     fn has_fault(&self, text: Result<Vec<u8>, AllocError>) -> Option<bool> {
         let module = decode(self.alloc, text.ok()?).ok()?;
         Some(validate(self.alloc, module).err() == Some(self.fault))
     }
 
-    /// What stands before the section.
-    fn before(self, section: Span) -> &'a [u8] {
-        match self.bytes.get(..section.at) {
-            Some(front) => front,
-            None => &[],
-        }
+    /// Whether these bytes, and behind them a code section, have the fault.
+    fn has_fault_with(&self, front: &[u8], code: Code<'_>) -> Option<bool> {
+        self.has_fault(with_code(self.alloc, front, code))
     }
 }
 
-/// The first sections of a module. Where the bodies of its functions are not among them, each has one of every type.
-#[derive(Clone, Copy)]
-struct FirstSections<'a> {
-    module: Invalid<'a>,
-}
-
-impl Fronts for FirstSections<'_> {
-    fn fails(&self, kept: usize) -> Option<bool> {
-        let Invalid {
-            alloc,
-            bytes,
-            sections,
-            ..
-        } = self.module;
-        let sections = sections.get(..kept)?;
-        let to = sections.last().map_or(OPENING, |section| section.to);
-        let front = bytes.get(..to)?;
-        let count = count_in(bytes, sections, FUNCTIONS) as usize;
-        if count == 0 || section_of(bytes, sections, CODE).is_some() {
-            return self.module.has_fault(Vec::from_slice(alloc, front));
+impl Fronts for Invalid<'_> {
+    fn fails(&self, last: usize) -> Option<bool> {
+        let front = self.bytes.get(..self.sections.get(last)?.to)?;
+        let count = count_in(front, self.sections, FUNCTIONS) as usize;
+        if count == 0 || section_of(front, self.sections, CODE).is_some() {
+            return self.has_fault(Vec::from_slice(self.alloc, front));
         }
         let code = Code {
             before: count,
@@ -73,139 +54,146 @@ impl Fronts for FirstSections<'_> {
             count: 0,
             behind: 0,
         };
-        self.module.has_fault(with_code(alloc, front, code))
+        self.has_fault_with(front, code)
     }
 }
 
-/// A module up to its first bodies, the other functions with bodies of every type.
+/// The bodies of a module. Its fronts end with the body of a number, the other functions have bodies of every type.
 #[derive(Clone, Copy)]
-struct FirstBodies<'a> {
-    module: Invalid<'a>,
-    code: Span,
-    bodies: &'a [Span],
+struct Bodies<'a> {
+    module: &'a Invalid<'a>,
+    /// What stands before the section of bodies.
+    front: &'a [u8],
+    spans: &'a [Span],
 }
 
-impl Fronts for FirstBodies<'_> {
-    fn fails(&self, kept: usize) -> Option<bool> {
-        let from = self.bodies.first()?.at;
-        let to = self.bodies.get(..kept)?.last().map_or(from, |body| body.to);
+impl Fronts for Bodies<'_> {
+    fn fails(&self, last: usize) -> Option<bool> {
+        let (from, to) = (self.spans.first()?.at, self.spans.get(last)?.to);
         let code = Code {
             before: 0,
             bodies: self.module.bytes.get(from..to)?,
-            count: kept,
-            behind: self.bodies.len().saturating_sub(kept),
+            count: last + 1,
+            behind: self.spans.len() - last - 1,
         };
-        let front = self.module.before(self.code);
-        self.module
-            .has_fault(with_code(self.module.alloc, front, code))
+        self.module.has_fault_with(self.front, code)
     }
 }
 
-/// A module up to the first operations of one body, the other functions with bodies of every type. Behind the operations
-/// stands one that has another fault, so that nothing behind it is looked at.
+/// The operations of one body. Its fronts have so many operations of it, the other functions have bodies of every type. Behind
+/// the operations stands one that has another fault, so that nothing behind it is looked at.
 #[derive(Clone, Copy)]
-struct FirstOperations<'a> {
-    module: Invalid<'a>,
-    code: Span,
+struct Operations<'a> {
+    module: &'a Invalid<'a>,
+    /// What stands before the section of bodies.
+    front: &'a [u8],
     body: Span,
     before: usize,
     behind: usize,
 }
 
-impl Fronts for FirstOperations<'_> {
+impl Fronts for Operations<'_> {
     fn fails(&self, kept: usize) -> Option<bool> {
-        let Invalid {
-            alloc,
-            bytes,
-            fault,
-            ..
-        } = self.module;
-        let spot = spot_of(bytes, self.body, kept)?;
+        let spot = spot_of(self.module.bytes, self.body, kept)?;
         if spot.at >= self.body.to {
             return Some(true);
         }
-        let refused = if fault == ValidFault::Label {
-            NO_LOCAL
-        } else {
-            NO_LABEL
+        let refused = match self.module.fault {
+            ValidFault::Label => NO_LOCAL,
+            _ => NO_LABEL,
         };
-        let body = cut_body(alloc, bytes, self.body, spot, &refused).ok()?;
+        let body = cut_body(
+            self.module.alloc,
+            self.module.bytes,
+            self.body,
+            spot,
+            &refused,
+        )
+        .ok()?;
         let code = Code {
             before: self.before,
             bodies: body.as_slice(),
             count: 1,
             behind: self.behind,
         };
-        let front = self.module.before(self.code);
-        self.module.has_fault(with_code(alloc, front, code))
+        self.module.has_fault_with(self.front, code)
     }
 }
 
-/// The operation of a body; the body where its locals are refused, or it is long.
-fn in_body(first: FirstOperations<'_>, function: u64) -> Option<Place> {
-    let (bytes, body) = (first.module.bytes, first.body);
-    let len = body.to.saturating_sub(body.from);
-    let kept = if len > LONGEST {
-        0
-    } else {
-        first_failing(&first, 0, len)?
-    };
-    let Some(number) = kept.checked_sub(1) else {
-        return Some(Place::Function {
-            number: function,
-            at: body.at,
-        });
-    };
-    let at = spot_of(bytes, body, number)?.at;
-    let name = name_of(*bytes.get(at)?)?;
-    Some(Place::Operation {
-        function,
-        number,
-        name,
-        at,
-    })
+impl Operations<'_> {
+    /// How many operations of the body it takes to have the fault; none where its locals have it, or it is long.
+    fn kept(&self) -> Option<usize> {
+        let len = self.body.to.saturating_sub(self.body.from);
+        if len > LONGEST {
+            return Some(0);
+        }
+        first_failing(self, 0, len)
+    }
+
+    /// The operation of this number.
+    fn operation(&self, function: u64, number: usize) -> Option<Place> {
+        let at = spot_of(self.module.bytes, self.body, number)?.at;
+        let name = name_of(*self.module.bytes.get(at)?)?;
+        Some(Place::Operation {
+            function,
+            number,
+            name,
+            at,
+        })
+    }
+
+    /// The operation that is refused, or the body.
+    fn place(&self, function: u64) -> Option<Place> {
+        match self.kept()?.checked_sub(1) {
+            Some(number) => self.operation(function, number),
+            None => Some(Place::Function {
+                number: function,
+                at: self.body.at,
+            }),
+        }
+    }
 }
 
 /// The function, and its operation.
-fn in_code(module: Invalid<'_>, code: Span, bodies: &[Span]) -> Option<Place> {
-    let first = FirstBodies {
+fn in_code(module: &Invalid<'_>, code: Span, spans: &[Span]) -> Option<Place> {
+    let front = module.bytes.get(..code.at)?;
+    let all = Bodies {
         module,
-        code,
-        bodies,
+        front,
+        spans,
     };
-    let before = first_failing(&first, 0, bodies.len())?.checked_sub(1)?;
-    let body = *bodies.get(before)?;
-    let operations = FirstOperations {
+    let before = first_failing(&all, 0, spans.len())?;
+    let body = *spans.get(before)?;
+    let operations = Operations {
         module,
-        code,
+        front,
         body,
         before,
-        behind: bodies.len() - before - 1,
+        behind: spans.len() - before - 1,
     };
-    in_body(
-        operations,
-        function_of(module.bytes, module.sections, before),
-    )
+    operations.place(function_of(module.bytes, module.sections, before))
 }
 
-/// The first section that has the fault with those before it, or the function and operation where it is that of the bodies.
-fn in_sections(module: Invalid<'_>) -> Option<Place> {
-    let first = FirstSections { module };
-    let count = module.sections.len();
-    let kept = first_failing(&first, 0, count)?;
-    let section = *module.sections.get(kept.checked_sub(1)?)?;
+/// The section that is refused with those before it, or the function and operation where it is that of the bodies.
+fn in_section(module: &Invalid<'_>, section: Span) -> Option<Place> {
     let id = *module.bytes.get(section.at)?;
     if id != CODE {
         return Some(Place::Section { id, at: section.at });
     }
-    let found = bodies(module.alloc, module.bytes, section).ok()?;
-    in_code(module, section, found.as_slice())
+    let spans = bodies(module.alloc, module.bytes, section).ok()?;
+    in_code(module, section, spans.as_slice())
+}
+
+/// The first section that has the fault with those before it.
+fn in_sections(module: &Invalid<'_>) -> Option<Place> {
+    let number = first_failing(module, 0, module.sections.len())?;
+    in_section(module, *module.sections.get(number)?)
 }
 
 /// Where the module is not valid, which has this fault.
 pub fn place_of_invalid(alloc: Global, bytes: &[u8], fault: ValidFault) -> Option<Place> {
     let sections = sections(alloc, bytes).ok()?;
-    in_sections(Invalid {
+    in_sections(&Invalid {
         alloc,
         bytes,
         sections: sections.as_slice(),

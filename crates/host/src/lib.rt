@@ -11,7 +11,6 @@
 mod invalid;
 mod loading;
 mod meaning;
-mod names;
 mod operations;
 mod parts;
 mod place;
@@ -28,10 +27,9 @@ pub use imports::{LinkFault, Linked};
 pub use loading::load;
 pub use order::{Order, Outcome, Reply};
 pub use phases::{Accepted, Beside, EntryKind, Hint, LoopCore, Phase, Shared, StepDid};
-pub use place::Place;
+pub use place::{Part, Place};
 pub use refusal::Refusal;
 pub use serve::{Job, LoopEnding, Served, Serving, Task, serve};
-pub use undecoded::Part;
 pub use validate::ValidFault;
 pub use world::{Config, LoopConfig, World, WorldFault};
 pub use world_log::{

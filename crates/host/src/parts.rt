@@ -1,11 +1,8 @@
 // Modules made of parts of another, to see which part is refused.
 
 use crate::operations::Spot;
-use crate::spans::{CODE, Span};
+use crate::spans::{CODE, OPENING, Span};
 use std::alloc::{AllocError, Global};
-
-/// What a module begins with: the magic number and the version.
-const OPENING: [u8; 8] = [0x00, 0x61, 0x73, 0x6d, 0x01, 0x00, 0x00, 0x00];
 
 /// A body that is of every type: no locals, `unreachable` and `end`, behind its size.
 const ANY_BODY: [u8; 4] = [0x03, 0x00, 0x00, 0x0b];

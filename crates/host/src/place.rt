@@ -2,10 +2,20 @@
 
 use crate::invalid::place_of_invalid;
 use crate::refusal::Refusal;
-use crate::undecoded::{Part, stop_of};
+use crate::spans::CODE;
+use crate::undecoded::place_of_undecoded;
 use crate::unlinked::place_of_unlinked;
 use std::alloc::Global;
 use std::fmt;
+
+/// A part of a module.
+#[derive(Clone, Copy, Debug, PartialEq, Eq)]
+pub enum Part {
+    /// The section with this id.
+    Section(u8),
+    /// The body of this function. The imported functions are counted first.
+    Function(u64),
+}
 
 /// Where in its bytes a module is refused. It prints as words.
 #[derive(Debug, Drop)]
@@ -43,6 +53,15 @@ pub enum Place {
     Export {
         name: String,
     },
+}
+
+impl fmt::Display for Part {
+    fn fmt<W: fmt::Write>(&self, f: &mut fmt::Formatter<W>) -> fmt::Result {
+        match self {
+            Part::Section(id) => write!(f, "section {id}"),
+            Part::Function(number) => write!(f, "section {CODE}, function {number}"),
+        }
+    }
 }
 
 impl fmt::Display for Place {
@@ -84,13 +103,7 @@ impl Refusal {
     pub fn place(self, alloc: Global, bytes: &[u8]) -> Option<Place> {
         match self {
             Refusal::Memory => None,
-            Refusal::Decode(fault) => {
-                let stop = stop_of(alloc, bytes, fault)?;
-                Some(Place::Byte {
-                    at: stop.at,
-                    part: stop.part,
-                })
-            }
+            Refusal::Decode(fault) => place_of_undecoded(alloc, bytes, fault),
             Refusal::Validate(fault) => place_of_invalid(alloc, bytes, fault),
             Refusal::Link(fault) => place_of_unlinked(alloc, bytes, fault),
         }

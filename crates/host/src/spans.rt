@@ -18,8 +18,8 @@ pub const CODE: u8 = 10;
 /// The id of the section of data segments.
 pub const DATA: u8 = 11;
 
-/// How many bytes stand before the first section.
-pub const OPENING: usize = 8;
+/// What a module begins with: the magic number and the version.
+pub const OPENING: [u8; 8] = [0x00, 0x61, 0x73, 0x6d, 0x01, 0x00, 0x00, 0x00];
 
 /// Where something lies that has its size in front.
 #[derive(Clone, Copy)]
@@ -48,7 +48,7 @@ pub fn section_at(bytes: &[u8], at: usize) -> Option<Span> {
 /// The sections from first to last, up to one that is cut off.
 pub fn sections(alloc: Global, bytes: &[u8]) -> Result<Vec<Span>, AllocError> {
     let mut found = Vec::new(alloc);
-    let mut at = OPENING;
+    let mut at = OPENING.len();
     for _ in 0..bytes.len() {
         let Some(span) = section_at(bytes, at) else {
             return Ok(found);

@@ -8,7 +8,7 @@ use std::alloc::Global;
 use std::str;
 use syntax::contents::{Contents, ExternKind, FuncType, Import, ModuleExport};
 use syntax::items::Items;
-use validate::{type_at, type_of_function};
+use validate::{Valid, type_at, type_of_function};
 
 fn has_type(found: Option<&FuncType>, wanted: Signature) -> bool {
     match found {
@@ -31,16 +31,22 @@ fn is_wrong(contents: &Contents, import: &Import, fault: LinkFault) -> bool {
     }
 }
 
+fn text_of(alloc: Global, name: &Items<u8>) -> Option<String> {
+    String::from_str(alloc, str::from_utf8(name.as_slice()).ok()?).ok()
+}
+
+fn place_of_import(alloc: Global, number: usize, import: &Import) -> Option<Place> {
+    Some(Place::Import {
+        number,
+        module: text_of(alloc, &import.module)?,
+        name: text_of(alloc, &import.name)?,
+    })
+}
+
 fn wrong_import(alloc: Global, contents: &Contents, fault: LinkFault) -> Option<Place> {
     for (number, import) in contents.imports.as_slice().iter().enumerate() {
         if is_wrong(contents, import, fault) {
-            let module = name_of(alloc, &import.module)?;
-            let name = name_of(alloc, &import.name)?;
-            return Some(Place::Import {
-                number,
-                module,
-                name,
-            });
+            return place_of_import(alloc, number, import);
         }
     }
     None
@@ -60,15 +66,11 @@ fn is_uncallable(contents: &Contents, export: &ModuleExport) -> bool {
 fn wrong_export(alloc: Global, contents: &Contents) -> Option<Place> {
     for export in contents.exports.as_slice() {
         if is_uncallable(contents, export) {
-            let name = name_of(alloc, &export.name)?;
+            let name = text_of(alloc, &export.name)?;
             return Some(Place::Export { name });
         }
     }
     None
-}
-
-fn name_of(alloc: Global, name: &Items<u8>) -> Option<String> {
-    String::from_str(alloc, str::from_utf8(name.as_slice()).ok()?).ok()
 }
 
 /// The section of the segments that don't fit.
@@ -80,11 +82,16 @@ fn wrong_segments(alloc: Global, bytes: &[u8], elements_fit: bool) -> Option<Pla
 }
 
 /// The first import or export that has the fault, or the first section of segments.
-pub fn place_of_unlinked(alloc: Global, bytes: &[u8], fault: LinkFault) -> Option<Place> {
-    let valid = validated(alloc, bytes).ok()?;
+fn wrong_part(alloc: Global, bytes: &[u8], valid: &Valid, fault: LinkFault) -> Option<Place> {
     match fault {
         LinkFault::Kind => wrong_export(alloc, valid.contents()),
         LinkFault::Segments => wrong_segments(alloc, bytes, valid.elements_fit()),
         _ => wrong_import(alloc, valid.contents(), fault),
     }
+}
+
+/// What of the module doesn't fit the host, which has this fault.
+pub fn place_of_unlinked(alloc: Global, bytes: &[u8], fault: LinkFault) -> Option<Place> {
+    let valid = validated(alloc, bytes).ok()?;
+    wrong_part(alloc, bytes, &valid, fault)
 }

@@ -3,14 +3,14 @@ use Rattle.std.proofs.Common.{◌≡◌, ℕ, ◌-◌, List, [], ◌∷◌, Opti
 use Rattle.std.specs.Prelude.{codes}
 use Rattle.std.specs.List.{slice_get}
 use Rattle.syntax.specs.declared.types.Value.{Value}
-use Rattle.syntax.specs.declared.types.Value.TheVariants.{I32}
+use Rattle.syntax.specs.declared.types.Value.TheVariants.{I32, I64}
 use Rattle.syntax.specs.declared.contents.Contents.{Contents}
 use Rattle.syntax.specs.declared.contents.Import.{Import}
 use Rattle.syntax.specs.declared.contents.ModuleExport.{ModuleExport}
 use Rattle.validate.specs.Valid.{ValidModule, DistinctNames}
 use Rattle.instance.specs.Store.{Store}
 use Rattle.instance.specs.Fresh.{IsFresh}
-use Rattle.interp.specs.Run.{HostCall, Outcome, Returned}
+use Rattle.interp.specs.Run.{HostCall, Outcome, Returned, Trapped, TooDeep, OutOfFuel}
 use Rattle.interp.specs.Hosting.{IsDetermined}
 use Rattle.interp.proofs.OneCall.{one_call}
 use Rattle.imports.specs.declared.call.Call.{Call}
@@ -18,7 +18,7 @@ use Rattle.imports.specs.declared.call.Call.TheVariants.{Now, InLen, InCopy, Out
 use Rattle.imports.specs.Linking.{Imports, ExportsFunction}
 use Rattle.imports.proofs.Named.{same_call}
 use Rattle.order.specs.Bytes.{copied_in, set_out}
-use Rattle.order.specs.Work.{WorkOrder, WorkEnd, work_end, Gives, WorkAnswers, WorkCall, WorkRun, StartRun, Works, stops, works}
+use Rattle.order.specs.Work.{WorkOrder, WorkEnd, EndsAs, Gives, WorkAnswers, WorkCall, WorkRun, StartRun, Works, stops, works}
 
 -- an import is one function of the host
 pub one_import : (m : Contents) (number : ℕ) (f g : Call) → Imports m number f → Imports m number g → f ≡ g
@@ -59,6 +59,21 @@ answers_one bytes old call call' new new' OutSet (I32 place ∷ I32 count ∷ []
 answers_one bytes old call call' new new' Now args same (a, m, r) (a', m', r') = record { answer = cc; after = cc; reply = cc }
 answers_one bytes old call call' new new' _ args same g g' = gives_one call call' new new' _ _ _ _ _ _ refl same refl g g'
 
+-- an ending reads as one end
+reads_one : (outcome : Outcome) (reply : List ℕ) (e e' : WorkEnd) → EndsAs outcome reply e → EndsAs outcome reply e' → e ≡ e'
+reads_one (Returned []) reply e e' h k = absurd h
+reads_one (Returned (I32 value ∷ [])) reply e e' h k = h ∙ sym k
+reads_one (Returned (I32 value ∷ more ∷ rest)) reply e e' h k = absurd h
+reads_one (Returned (I64 value ∷ rest)) reply e e' h k = absurd h
+reads_one (Trapped code) reply e e' h k = h ∙ sym k
+reads_one TooDeep reply e e' h k = h ∙ sym k
+reads_one OutOfFuel reply e e' h k = h ∙ sym k
+
+ends_one : (outcome outcome' : Outcome) (reply reply' : List ℕ) (e e' : WorkEnd) → outcome ≡ outcome' → reply ≡ reply'
+    → EndsAs outcome reply e → EndsAs outcome' reply' e' → e ≡ e'
+ends_one outcome outcome' reply reply' e e' same same' h k =
+    reads_one outcome reply e e' h (subst (λ (x : Outcome). EndsAs x reply e') (sym same) (subst (λ (x : List ℕ). EndsAs outcome' x e') (sym same') k))
+
 module _ (o : WorkOrder) where
   calls_one : IsDetermined (λ (reply : List ℕ). reply) (WorkCall o)
   calls_one old old' new new' call call' seen asked (f, is, answers) (f', is', answers') =
@@ -92,16 +107,16 @@ module _ (o : WorkOrder) where
       starts_one o.loaded.contents.start s e e' u u' t t' reply reply' r again
 
   pub one_end : (e e' : WorkEnd) → ValidModule o.loaded.contents → Works o e → Works o e' → e ≡ e'
-  one_end _ _ valid (stops s t outcome used reply fresh run not) (stops s' t' outcome' used' reply' fresh' run' not') =
+  one_end e e' valid (stops s t outcome used reply fresh run not end) (stops s' t' outcome' used' reply' fresh' run' not' end') =
       let one = begun_one s s' outcome outcome' used used' t t' reply reply' fresh fresh' run run' in
-      λ i. work_end (one.0 i) (one.3 i)
-  one_end _ _ valid (stops s t outcome used reply fresh run not) (works s' t' v' results' outcome' used' more' reply' last' function' fresh' started' exported' run') =
+      ends_one outcome outcome' reply reply' e e' one.0 one.3 end end'
+  one_end e e' valid (stops s t outcome used reply fresh run not end) (works s' t' v' results' outcome' used' more' reply' last' function' fresh' started' exported' run' end') =
       let one = begun_one s s' outcome (Returned results') used used' t t' reply reply' fresh fresh' run started' in
       absurd (not results' one.0)
-  one_end _ _ valid (works s t v results outcome used more reply last function fresh started exported run) (stops s' t' outcome' used' reply' fresh' run' not') =
+  one_end e e' valid (works s t v results outcome used more reply last function fresh started exported run end) (stops s' t' outcome' used' reply' fresh' run' not' end') =
       let one = begun_one s s' (Returned results) outcome' used used' t t' reply reply' fresh fresh' started run' in
       absurd (not' results (sym one.0))
-  one_end _ _ valid (works s t v results outcome used more reply last function fresh started exported run) (works s' t' v' results' outcome' used' more' reply' last' function' fresh' started' exported' run') =
+  one_end e e' valid (works s t v results outcome used more reply last function fresh started exported run end) (works s' t' v' results' outcome' used' more' reply' last' function' fresh' started' exported' run' end') =
       let one = begun_one s s' (Returned results) (Returned results') used used' t t' reply reply' fresh fresh' started started' in
       let named : function' ≡ function = one_export o.loaded.contents (codes "uv_work") function' function valid.distinct exported' exported in
       let again : WorkRun o (o.fuel - used) t reply function (I32 o.op ∷ []) outcome' more' v' last' =
@@ -110,4 +125,4 @@ module _ (o : WorkOrder) where
       (subst (λ (x : Store). WorkRun o (o.fuel - used) x reply' function' (I32 o.op ∷ []) outcome' more' v' last') (sym one.2)
       (subst (λ (x : ℕ). WorkRun o (o.fuel - x) t' reply' function' (I32 o.op ∷ []) outcome' more' v' last') (sym one.1) run'))) in
       let both = runs_one (o.fuel - used) t reply function (I32 o.op ∷ []) outcome outcome' more more' v v' last last' run again in
-      λ i. work_end (both.0 i) (both.3 i)
+      ends_one outcome outcome' last last' e e' both.0 both.3 end end'

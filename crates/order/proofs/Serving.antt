@@ -27,7 +27,7 @@ use Rattle.interp.specs.declared.ended.Ending.TheVariants.{Return}
 use Rattle.interp.specs.declared.ended.Ending.TheVariants as ending
 use Rattle.imports.specs.Linking.{IsLinked, ExportsFunction}
 use Rattle.order.specs.Hosting.{import_types}
-use Rattle.order.specs.Work.{WorkRun, StartRun, work_end, stops, works}
+use Rattle.order.specs.Work.{WorkRun, StartRun, EndsAs, stops, works}
 use Rattle.order.proofs.Naming.{names}
 use Rattle.order.proofs.OneEnd.{one_end}
 
@@ -101,16 +101,16 @@ not_returned ending.Spent h results e = absurd (cc)
 -- the start function does not return
 pub stops_end : (o : WorkOrder) (s t : Store) (how : Ending) (used : ℕ) (reply : List ℕ) (e : WorkEnd) → ValidModule o.loaded.contents → IsFresh o.loaded.contents s
     → StartRun o o.loaded.contents.start s (outcome_of how) used t reply → ((values : List Value) → how ≡ Return values → ⊥)
-    → e ≡ work_end (outcome_of how) reply → IsEndOf o e
-stops_end o s t how used reply e valid fresh run not same =
-    is_end o e valid (subst (Works o) (sym same) (stops s t (outcome_of how) used reply fresh run (not_returned how not)))
+    → EndsAs (outcome_of how) reply e → IsEndOf o e
+stops_end o s t how used reply e valid fresh run not end =
+    is_end o e valid (stops s t (outcome_of how) used reply fresh run (not_returned how not) end)
 
 -- it returns, and `uv_work` runs with the fuel that is left
 pub works_end : (o : WorkOrder) (s t u : Store) (started ended : Ended) (values : List Value) (reply reply' : List ℕ) (e : WorkEnd) → ValidModule o.loaded.contents → IsFresh o.loaded.contents s
     → started.ending ≡ Return values → StartRun o o.loaded.contents.start s (outcome_of started.ending) started.used t reply
     → (f : ℕ) × ExportsFunction o.loaded.contents (codes "uv_work") f × WorkRun o (o.fuel - started.used) t reply f (I32 o.op ∷ []) (outcome_of ended.ending) ended.used u reply'
-    → e ≡ work_end (outcome_of ended.ending) reply' → IsEndOf o e
-works_end o s t u started ended values reply reply' e valid fresh returned run work same =
+    → EndsAs (outcome_of ended.ending) reply' e → IsEndOf o e
+works_end o s t u started ended values reply reply' e valid fresh returned run work end =
     let first : StartRun o o.loaded.contents.start s (Returned (reverse values)) started.used t reply =
     subst (λ (x : Ending). StartRun o o.loaded.contents.start s (outcome_of x) started.used t reply) returned run in
-    is_end o e valid (subst (Works o) (sym same) (works s t u (reverse values) (outcome_of ended.ending) started.used ended.used reply reply' work.0 fresh first work.1 work.2))
+    is_end o e valid (works s t u (reverse values) (outcome_of ended.ending) started.used ended.used reply reply' work.0 fresh first work.1 work.2 end)

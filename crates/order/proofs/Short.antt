@@ -15,7 +15,7 @@ use Rattle.imports.specs.declared.call.Call.{Call}
 use Rattle.imports.specs.declared.call.Call.TheVariants.{Now, InLen, InCopy, OutSet}
 use Rattle.order.specs.Numbers.{invalid, outside_memory}
 use Rattle.order.specs.Bytes.{set_out, taken_out}
-use Rattle.order.specs.Work.{WorkOrder, WorkEnd, Done, Trap, Depth, Spent, NoMemory, work_end, WorkAnswers, WorkCall, StartRun, Works, stops, works, IsEndOf, IsShortEnd}
+use Rattle.order.specs.Work.{WorkOrder, WorkEnd, Done, Trap, Depth, Spent, NoMemory, EndsAs, WorkAnswers, WorkCall, StartRun, Works, stops, works, IsEndOf, IsShortEnd}
 
 abbrev IsShort : List ℕ → Type 0
 IsShort bytes = length bytes ≤ MAX_BYTES
@@ -52,18 +52,19 @@ start_short : (o : WorkOrder) (start : Option ℕ) (s t : Store) (outcome : Outc
 start_short o None s t outcome used reply h = rw h.3 (omega arith)
 start_short o (Some function) s t outcome used reply h = trace_short o h.trace [] reply h.answers (omega arith)
 
-end_short : (outcome : Outcome) (reply : List ℕ) → IsShort reply → IsShortEnd (work_end outcome reply)
-end_short (Returned []) reply short = short
-end_short (Returned (I32 value ∷ rest)) reply short = short
-end_short (Returned (I64 value ∷ rest)) reply short = short
-end_short (Trapped code) reply short = tt
-end_short TooDeep reply short = tt
-end_short OutOfFuel reply short = tt
+end_short : (outcome : Outcome) (reply : List ℕ) (e : WorkEnd) → EndsAs outcome reply e → IsShort reply → IsShortEnd e
+end_short (Returned []) reply e h short = absurd h
+end_short (Returned (I32 value ∷ [])) reply e h short = rw h short
+end_short (Returned (I32 value ∷ more ∷ rest)) reply e h short = absurd h
+end_short (Returned (I64 value ∷ rest)) reply e h short = absurd h
+end_short (Trapped code) reply e h short = rw h tt
+end_short TooDeep reply e h short = rw h tt
+end_short OutOfFuel reply e h short = rw h tt
 
 works_short : (o : WorkOrder) (e : WorkEnd) → Works o e → IsShortEnd e
-works_short o _ (stops s t outcome used reply fresh run not) = end_short outcome reply (start_short o o.loaded.contents.start s t outcome used reply run)
-works_short o _ (works s t u results outcome used more reply reply' function fresh started exported run) =
-    end_short outcome reply' (trace_short o run.trace reply reply' run.answers (start_short o o.loaded.contents.start s t (Returned results) used reply started))
+works_short o e (stops s t outcome used reply fresh run not as_end) = end_short outcome reply e as_end (start_short o o.loaded.contents.start s t outcome used reply run)
+works_short o e (works s t u results outcome used more reply reply' function fresh started exported run as_end) =
+    end_short outcome reply' e as_end (trace_short o run.trace reply reply' run.answers (start_short o o.loaded.contents.start s t (Returned results) used reply started))
 
 pub short : (o : WorkOrder) (e : WorkEnd) → ∥ IsEndOf o e ∥₁ → IsShortEnd e
 short o (Done value bytes) h = ∥∥₁_elim h le_prop (λ it. works_short o (Done value bytes) it.computed)

@@ -34,13 +34,13 @@ pub data WorkEnd : Type 0 where
   Spent : WorkEnd
   NoMemory : WorkEnd
 
--- how a function's ending reads as a request's, with the bytes that were set last
-abbrev pub work_end : Outcome → List ℕ → WorkEnd
-work_end (Returned (I32 value ∷ _)) reply = Done value reply
-work_end (Returned _) reply = Done 0 reply
-work_end (Trapped code) reply = Trap code
-work_end TooDeep reply = Depth
-work_end OutOfFuel reply = Spent
+-- A function's ending reads as this end of a request, with the bytes that were set last. Of returns, that of one i32 alone does.
+abbrev pub EndsAs : Outcome → (reply : List ℕ) → WorkEnd → Type 0
+EndsAs (Returned (I32 value ∷ [])) reply end = end ≡ Done value reply
+EndsAs (Returned _) reply end = ⊥
+EndsAs (Trapped code) reply end = end ≡ Trap code
+EndsAs TooDeep reply end = end ≡ Depth
+EndsAs OutOfFuel reply end = end ≡ Spent
 
 -- an answer of a number
 abbrev pub Says : HostCall → ℕ → Type 0
@@ -79,18 +79,18 @@ StartRun o (Some function) s outcome used t reply = WorkRun o o.fuel s [] functi
 
 -- What one thread computes from the order alone: the start function and then `uv_work`, on a new instance, with
 -- the fuel that is left.
-pub data Works (o : WorkOrder) : WorkEnd → Type 0 where
+pub data Works (o : WorkOrder) (end : WorkEnd) : Type 0 where
   -- the start function does not return
   stops : (s t : Store) (outcome : Outcome) (used : ℕ) (reply : List ℕ) → IsFresh o.loaded.contents s
       → StartRun o o.loaded.contents.start s outcome used t reply
       → ((results : List Value) → outcome ≢ Returned results)
-      → Works o (work_end outcome reply)
+      → EndsAs outcome reply end → Works o end
   works : (s t u : Store) (results : List Value) (outcome : Outcome) (used more : ℕ) (reply reply' : List ℕ) (function : ℕ)
       → IsFresh o.loaded.contents s
       → StartRun o o.loaded.contents.start s (Returned results) used t reply
       → ExportsFunction o.loaded.contents (codes "uv_work") function
       → WorkRun o (o.fuel - used) t reply function (I32 o.op ∷ []) outcome more u reply'
-      → Works o (work_end outcome reply')
+      → EndsAs outcome reply' end → Works o end
 
 -- the end of the order: one thread computes it, and no other
 pub record IsTheEnd (o : WorkOrder) (end : WorkEnd) : Type 0 where

@@ -12,7 +12,7 @@ ghost use Rattle.interp.specs.Running.{outcome_of, AreResults};
 ghost use Rattle.imports.specs.Linking.{ExportsFunction};
 ghost use Rattle.order.specs.Orders.{order_of, end_of};
 ghost use Rattle.order.specs.Serving.{Serves};
-ghost use Rattle.order.specs.Work.{WorkRun, StartRun, IsEndOf, work_end};
+ghost use Rattle.order.specs.Work.{WorkRun, WorkEnd, StartRun, IsEndOf, EndsAs};
 
 use crate::host::WorkHost;
 use crate::order::{Order, Outcome};
@@ -28,7 +28,7 @@ use syntax::types::Value;
 /// How `uv_work`, or the start function where that did not return, reads as an outcome.
 fn outcome_from(ending: Ending, reply: Vec<u8>) -> Outcome
     requires { AreResults ending (valtype.I32 ∷ []) }
-    ensures { end_of result ≡ work_end (outcome_of ending) reply.items }
+    ensures { EndsAs (outcome_of ending) reply.items (end_of result) }
 {
     match ending {
         Ending::Return(values) => match values.get(0) {
@@ -94,7 +94,7 @@ impl Order {
         requires serves { Serves host.old (order_of self.now) }
         requires empty { host.old.reply.items ≡ [] }
         requires depth { (1 ≤ self.now.depth) × (self.now.depth ≤ MAX_DEPTH) }
-        ensures end { IsEndOf (order_of self.now) (work_end (outcome_of result) host.new.reply.items) }
+        ensures end { (end : WorkEnd) → EndsAs (outcome_of result) host.new.reply.items end → IsEndOf (order_of self.now) end }
         ensures results { AreResults result (valtype.I32 ∷ []) }
     {
         let started = self.start(instance, host);

@@ -82,8 +82,8 @@ fn worker_place<'a, J>(
     }
 }
 
-/// A place for each worker. It takes a pass for each.
-pub fn worker_places<'a, J: Drop>(
+// A place for each worker. It takes a pass for each.
+fn worker_places<'a, J: Drop>(
     alloc: Global,
     board: &'a Board<J>,
     passes: &mut Vec<Pass<J>>,
@@ -124,8 +124,8 @@ fn loop_place<'a, J>(
     }
 }
 
-/// A place for each loop, in the order of their numbers.
-pub fn loop_places<'a, J: Drop>(
+// A place for each loop, in the order of their numbers.
+fn loop_places<'a, J: Drop>(
     alloc: Global,
     board: &'a Board<J>,
     mut passes: Vec<Pass<J>>,
@@ -146,4 +146,27 @@ pub fn loop_places<'a, J: Drop>(
         places.push(loop_place(board, pass, claims, seat))?;
     }
     Ok(places)
+}
+
+/// A place for each worker, and one for each loop in the order of their numbers.
+pub fn places<'a, J: Drop>(
+    alloc: Global,
+    board: &'a Board<J>,
+    mut passes: Vec<Pass<J>>,
+    claims: &'a Claims,
+    worker_seats: Vec<WorkerSeat>,
+    loop_seats: Vec<LoopSeat>,
+) -> Result<(Vec<WorkerPlace<'a, J>>, Vec<LoopPlace<'a, J>>), AllocError>
+    requires passes { All (IsNewPass board.now) passes.items }
+    requires worker_seats { All (λ s. s.claims ≡ claims.now.id) worker_seats.items }
+    requires loop_seats { All (IsNewSeat claims.now) loop_seats.items }
+    requires numbered { EachFrom (λ k s. s.loop_no ≡ k) 0 loop_seats.items }
+    requires enough { length worker_seats.items + length loop_seats.items ≤ length passes.items }
+    requires loops { length board.now.replies ≡ claims.now.loops }
+    ensures count { IfOk result (λ m. length m.1.items ≡ length loop_seats.items) }
+    ensures numbered { IfOk result (λ m. EachFrom (λ k p. p.seat.loop_no ≡ k) 0 m.1.items) }
+{
+    let workers = worker_places(alloc, board, &mut passes, claims, worker_seats)?;
+    let loops = loop_places(alloc, board, passes, claims, loop_seats)?;
+    Ok((workers, loops))
 }

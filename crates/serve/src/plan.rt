@@ -1,6 +1,8 @@
 // What all loops are made of, and the run of one.
-ghost use Rattle.std.specs.Prelude.{◌≡◌, IfOk};
+ghost use Rattle.std.specs.Prelude.{◌≡◌, ◌<◌, IfOk};
 ghost use Rattle.std.specs.Arc.{arc_value};
+ghost use Rattle.limits.specs.declared.TheConstants.{MAX_CALLBACKS};
+ghost use Rattle.marks.specs.Counts.{new_taker};
 ghost use Rattle.serve.specs.Answers.{IsServed};
 ghost use Rattle.serve.specs.Histories.{setting_at};
 
@@ -10,7 +12,7 @@ use crate::serving::Serving;
 use crate::task::Task;
 use crate::turn::Turns;
 use imports::Linked;
-use marks::Marks;
+use marks::{Marks, TakeSeat};
 use std::alloc::{AllocError, Global};
 use std::sync::atomic::{AtomicBool, Ordering};
 use std::sync::{Arc, Wait};
@@ -84,9 +86,31 @@ impl Plan {
         requires make { M.IsAlwaysCallable make.now }
         ensures { IfOk result (λ s. IsServed (setting_at (arc_value self.now.module) self.now.serving place.entry.seat.loop_no) s) }
     {
-        let (marks, taker, _senders) = Marks::new(self.alloc, 0)?;
-        let module = Arc::try_clone(&self.module)?;
-        let turns = Turns::new(self.alloc, module, &marks, taker, place, self.serving)?;
+        let (marks, taker) = own_marks(self.alloc)?;
+        let turns = self.begin(&marks, taker, place)?;
         turns.run(rt, make)
     }
+
+    // The turns of a loop, of which none is taken yet.
+    fn begin<'a, J: Drop>(
+        &self,
+        marks: &'a Marks,
+        taker: TakeSeat,
+        place: LoopPlace<'a, J>,
+    ) -> Result<Turns<'a, J>, AllocError>
+        requires { taker ≡ new_taker marks.now 0 }
+        ensures setting { IfOk result (λ t. t.told.core.setting ≡ setting_at (arc_value self.now.module) self.now.serving place.entry.seat.loop_no) }
+        ensures room { IfOk result (λ t. t.told.ran < MAX_CALLBACKS) }
+    {
+        let module = Arc::try_clone(&self.module)?;
+        Turns::new(self.alloc, module, marks, taker, place, self.serving)
+    }
+}
+
+// The marks of a loop to which nobody else sends.
+fn own_marks(alloc: Global) -> Result<(Marks, TakeSeat), AllocError>
+    ensures { IfOk result (λ m. m.1 ≡ new_taker m.0 0) }
+{
+    let (marks, taker, _senders) = Marks::new(alloc, 0)?;
+    Ok((marks, taker))
 }

@@ -2,19 +2,20 @@
 ghost use Rattle.std.specs.Prelude.{◌≡◌, ◌≤◌, [], length, vec_capacity, IfOk, OnOk};
 ghost use Rattle.std.specs.Arc.{arc_value};
 ghost use Rattle.std.specs.Thread.{IsSync};
+ghost use Rattle.claims.specs.Views.{AreNewLoops, AreNewWorkers};
 ghost use Rattle.serve.specs.Answers.{IsServed, EachServed};
 ghost use Rattle.serve.specs.Histories.{setting_at};
 ghost use Rattle.serve.specs.Places.{EachFrom};
 ghost use Rattle.serve.specs.Promises.{IsThreadOf};
 
 use crate::job::Job;
-use crate::place::{LoopPlace, WorkerPlace, loop_places, worker_places};
+use crate::place::{LoopPlace, WorkerPlace, places};
 use crate::plan::{OfLoop, Outcome, Plan};
 use crate::served::Served;
 use crate::serving::Serving;
 use crate::task::Task;
 use board::Board;
-use claims::{Claims, NewClaims};
+use claims::{Claims, LoopSeat, NewClaims, WorkerSeat};
 use imports::Linked;
 use std::alloc::{AllocError, Global};
 use std::sync::{Arc, Wait};
@@ -27,7 +28,6 @@ use std::thread::{PromisedHandle, Scope, Threads};
 ///
 /// Where memory is refused, no further thread is started and a loop that it concerns ends; the error comes once all
 /// threads have ended.
-#[tactic(auto, using(crate::proofs::Seats::all_new, crate::proofs::Seats::all_own))]
 pub fn serve<R: Threads + Wait + Sync, M: Fn(Task) -> Result<J, AllocError> + Sync, J: Job + Send>(
     rt: &R,
     alloc: Global,
@@ -39,17 +39,57 @@ pub fn serve<R: Threads + Wait + Sync, M: Fn(Task) -> Result<J, AllocError> + Sy
     ensures count { IfOk result (λ served. length served.items ≡ serving.loops) }
     ensures each { IfOk result (λ served. EachServed (arc_value «module») serving served.items) }
 {
+    let plan = Plan::new(alloc, module, serving);
+    with_claims(rt, &plan, make)
+}
+
+// The same of what all loops are made of, with claims for them.
+fn with_claims<
+    R: Threads + Wait + Sync,
+    M: Fn(Task) -> Result<J, AllocError> + Sync,
+    J: Job + Send,
+>(
+    rt: &R,
+    plan: &Plan,
+    make: &M,
+) -> Result<Vec<Served>, AllocError>
+    requires make { M.IsAlwaysCallable make.now }
+    ensures count { IfOk result (λ served. length served.items ≡ plan.now.serving.loops) }
+    ensures each { IfOk result (λ served. EachServed (arc_value plan.now.module) plan.now.serving served.items) }
+{
     let NewClaims {
         claims,
         loop_seats,
         worker_seats,
-    } = Claims::new(alloc, serving.loops, serving.workers)?;
-    let passes = (serving.loops + serving.workers) as usize;
-    let (board, mut passes) = Board::new(alloc, serving.loops, passes)?;
-    let workers = worker_places(alloc, &board, &mut passes, &claims, worker_seats)?;
-    let loops = loop_places(alloc, &board, passes, &claims, loop_seats)?;
-    let plan = Plan::new(alloc, module, serving);
-    run_all(rt, &plan, &board, workers, loops, make)
+    } = Claims::new(plan.alloc, plan.serving.loops, plan.serving.workers)?;
+    with_board(rt, plan, &claims, loop_seats, worker_seats, make)
+}
+
+// With a board for them too.
+#[tactic(auto, using(crate::proofs::Seats::all_new, crate::proofs::Seats::all_own))]
+fn with_board<
+    R: Threads + Wait + Sync,
+    M: Fn(Task) -> Result<J, AllocError> + Sync,
+    J: Job + Send,
+>(
+    rt: &R,
+    plan: &Plan,
+    claims: &Claims,
+    loop_seats: Vec<LoopSeat>,
+    worker_seats: Vec<WorkerSeat>,
+    make: &M,
+) -> Result<Vec<Served>, AllocError>
+    requires make { M.IsAlwaysCallable make.now }
+    requires claims { claims.now.loops ≡ plan.now.serving.loops }
+    requires loop_seats { AreNewLoops claims.now.id plan.now.serving.loops loop_seats.items }
+    requires worker_seats { AreNewWorkers claims.now.id plan.now.serving.workers worker_seats.items }
+    ensures count { IfOk result (λ served. length served.items ≡ plan.now.serving.loops) }
+    ensures each { IfOk result (λ served. EachServed (arc_value plan.now.module) plan.now.serving served.items) }
+{
+    let passes = (plan.serving.loops + plan.serving.workers) as usize;
+    let (board, passes) = Board::new(plan.alloc, plan.serving.loops, passes)?;
+    let (workers, loops) = places(plan.alloc, &board, passes, claims, worker_seats, loop_seats)?;
+    run_all(rt, plan, &board, workers, loops, make)
 }
 
 // The thread of a loop.

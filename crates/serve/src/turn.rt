@@ -2,7 +2,7 @@
 ghost use Rattle.std.specs.Prelude.{◌≡◌, ◌<◌, ◌≤◌, length, IfOk};
 ghost use Rattle.std.specs.Arc.{arc_value};
 ghost use Rattle.limits.specs.declared.TheConstants.{MAX_CALLBACKS, MAX_LOOPS};
-ghost use Rattle.board.specs.Boards.{IsPassOf};
+ghost use Rattle.board.specs.Boards.{IsPassOf, IsEventOf};
 ghost use Rattle.marks.specs.Counts.{new_taker};
 ghost use Rattle.serve.specs.Answers.{IsServed};
 ghost use Rattle.serve.specs.Histories.{ComesTo, EndsBy, setting_at};
@@ -12,7 +12,7 @@ use crate::record::Record;
 use crate::served::{LoopEnding, Served};
 use crate::serving::Serving;
 use crate::task::Task;
-use board::{Board, Event, Pass};
+use board::{Board, Event, Heard, Pass};
 use imports::Linked;
 use marks::{Marks, TakeSeat};
 use phases::LoopCore;
@@ -87,7 +87,15 @@ impl<'a, J: Drop> Turns<'a, J> {
         ensures { IfOk result (λ served. IsServed self.entry.told.core.setting served) }
     {
         let ending = self.until_ended(rt, make)?;
-        Ok(self.told.into_served(self.loop_no, ending))
+        Ok(self.into_served(ending))
+    }
+
+    // What the loop has done, and how it ended.
+    fn into_served(self, ending: LoopEnding) -> Served
+        requires { EndsBy ending self.told.core.loop self.told.ran }
+        ensures { IsServed self.entry.told.core.setting result }
+    {
+        self.told.into_served(self.loop_no, ending)
     }
 
     fn until_ended<R: Wait, M: Fn(Task) -> Result<J, AllocError>>(
@@ -108,10 +116,7 @@ impl<'a, J: Drop> Turns<'a, J> {
         unreachable!()
     }
 
-    // One turn. How the loop ended, if it did. Where no callback ran since there were so many, and requests are
-    // outstanding, the loop sleeps until one is answered, or, where a job is kept, until there is room for it: a worker
-    // that has put a reply takes a job next. Without requests the clock is raised to the next timer, and without a timer
-    // the loop waits for ever.
+    // One turn. How the loop ended, if it did.
     fn turn<R: Wait, M: Fn(Task) -> Result<J, AllocError>>(
         &mut self,
         rt: &R,
@@ -128,18 +133,43 @@ impl<'a, J: Drop> Turns<'a, J> {
         self.accept_all(rt);
         self.post_all(rt, make)?;
         let heard = if self.kept.is_some() { room } else { reply };
+        self.step_through(rt, board, heard)
+    }
+
+    // Steps through the loop, and rests where no callback ran and the loop has nothing to do.
+    fn step_through<R: Wait>(
+        &mut self,
+        rt: &R,
+        board: &Board<J>,
+        heard: Heard,
+    ) -> Result<Option<LoopEnding>, AllocError>
+        requires room { self.old.told.ran < MAX_CALLBACKS }
+        requires heard { IsEventOf board.now heard.event }
+        ensures setting { self.new.told.core.setting ≡ self.old.told.core.setting }
+        ensures comes { IfOk result (λ ended. ComesTo ended self.new.told.core.loop self.new.told.ran) }
+    {
         let ran = self.told.ran;
-        if let Some(ending) = self.told.step_through(rt)? {
-            return Ok(Some(ending));
+        let ended = self.told.step_through(rt)?;
+        if ended.is_some() || self.told.ran > ran || self.told.is_due() {
+            return Ok(ended);
         }
-        if self.told.ran > ran || self.told.is_due() {
-            return Ok(None);
-        }
+        Ok(self.rest(rt, board, heard))
+    }
+
+    // Where requests are outstanding, the loop sleeps until one is answered, or, where a job is kept, until there is room
+    // for it: a worker that has put a reply takes a job next. Without requests the clock is raised to the next timer, and
+    // without a timer the loop waits for ever.
+    fn rest<R: Wait>(&mut self, rt: &R, board: &Board<J>, heard: Heard) -> Option<LoopEnding>
+        requires room { self.old.told.ran < MAX_CALLBACKS }
+        requires heard { IsEventOf board.now heard.event }
+        ensures setting { self.new.told.core.setting ≡ self.old.told.core.setting }
+        ensures comes { ComesTo result self.new.told.core.loop self.new.told.ran }
+    {
         if self.told.has_requests() {
             board.wait(rt, heard);
-            return Ok(None);
+            return None;
         }
-        Ok(self.told.wait())
+        self.told.wait()
     }
 
     // Accepts all replies that are there.

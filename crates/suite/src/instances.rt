@@ -1,7 +1,6 @@
 // Instances: their memories, tables, globals and segments.
 
-use crate::modules::module_of;
-use decode::decode;
+use crate::modules::{module_of, valid_of};
 use instance::access::AccessSize;
 use instance::fault::InstFault;
 use instance::memory::Memory;
@@ -10,7 +9,7 @@ use std::alloc::{AllocError, Global};
 use std::process::Abort;
 use std::test::Fail;
 use syntax::types::{Limits, Value};
-use validate::{Valid, validate};
+use validate::Valid;
 
 /// What a refused growth answers: -1.
 const REFUSED: u32 = u32::MAX;
@@ -19,13 +18,13 @@ const REFUSED: u32 = u32::MAX;
 const ONE_PAGE: &str = "0503010001";
 
 /// The valid module that has these sections.
-fn valid_of(alloc: Global, sections: &str) -> Result<Valid, Fail> {
-    Ok(validate(alloc, decode(alloc, module_of(alloc, sections)?)?)?)
+fn valid_with(alloc: Global, sections: &str) -> Result<Valid, Fail> {
+    valid_of(alloc, module_of(alloc, sections)?)
 }
 
 /// The instance of a module that has these sections, which fit.
 fn fitting(alloc: Global, sections: &str) -> Result<Instance, Fail> {
-    Ok(Instance::new(alloc, &valid_of(alloc, sections)?)?)
+    Ok(Instance::new(alloc, &valid_with(alloc, sections)?)?)
 }
 
 fn grows_to_two(rt: &impl Abort, bounded: &mut Instance) {
@@ -47,12 +46,21 @@ fn grows_freely(rt: &impl Abort, free: &mut Instance) {
     assert_eq!(rt; free.memory().len(), 4194304);
 }
 
+// one page, at most two
+fn check_bounded(rt: &impl Abort, alloc: Global) -> Result<(), Fail> {
+    grows_to_two(rt, &mut fitting(alloc, "050401010102")?);
+    Ok(())
+}
+
+fn check_free(rt: &impl Abort, alloc: Global) -> Result<(), Fail> {
+    grows_freely(rt, &mut fitting(alloc, ONE_PAGE)?);
+    Ok(())
+}
+
 #[test]
 fn grows_up_to_its_limit(rt: HostRuntime) -> Result<(), Fail> {
-    // one page, at most two
-    grows_to_two(&rt, &mut fitting(rt.alloc(), "050401010102")?);
-    grows_freely(&rt, &mut fitting(rt.alloc(), ONE_PAGE)?);
-    Ok(())
+    check_bounded(&rt, rt.alloc())?;
+    check_free(&rt, rt.alloc())
 }
 
 fn loads_and_stores(rt: &impl Abort, instance: &mut Instance) {
@@ -126,12 +134,18 @@ fn later_segments_overwrite_earlier_ones(rt: HostRuntime) -> Result<(), Fail> {
 
 /// The fault of the instance of a module that has these sections, if it has one.
 fn fault_of(alloc: Global, sections: &str) -> Result<Option<InstFault>, Fail> {
-    Ok(Instance::new(alloc, &valid_of(alloc, sections)?).err())
+    Ok(Instance::new(alloc, &valid_with(alloc, sections)?).err())
+}
+
+/// The same of an empty table and one page with these segments.
+fn fault_with(alloc: Global, segments: &str) -> Result<Option<InstFault>, Fail> {
+    let sections = format!(in alloc; "040401700000 0503010001 {segments}")?;
+    fault_of(alloc, sections.as_str())
 }
 
 #[test]
 fn segments_have_to_fit(rt: HostRuntime) -> Result<(), Fail> {
-    // an empty table and one page; no functions and no bytes, at the end of each and one past it
+    // no functions and no bytes, at the end of each and one past it
     for (segments, fault) in [
         ("0906010041000b00 0b08010041808004 0b00", None),
         (
@@ -147,9 +161,7 @@ fn segments_have_to_fit(rt: HostRuntime) -> Result<(), Fail> {
             Some(InstFault::ElementRange),
         ),
     ] {
-        let alloc = rt.alloc();
-        let sections = format!(in alloc; "040401700000 0503010001 {segments}")?;
-        assert_eq!(rt; fault_of(alloc, sections.as_str())?, fault, "of {segments}");
+        assert_eq!(rt; fault_with(rt.alloc(), segments)?, fault, "of {segments}");
     }
     Ok(())
 }

@@ -1,11 +1,8 @@
-use crate::modules::{check_sections, module_of};
-use decode::decode;
+use crate::modules::{check_sections, module_of, valid_of};
 use imports::{Call, EntryPoint, Linked, link};
-use std::alloc::Global;
 use std::process::Abort;
 use std::test::Fail;
 use syntax::types::ValType::{self, I32, I64};
-use validate::{Valid, validate};
 
 /// The functions of "uv", by name, parameters and result.
 const TABLE: [(&[u8], &[ValType], ValType); 21] = [
@@ -62,10 +59,6 @@ fn finds(rt: &impl Abort, linked: &Linked) {
         linked.entry(EntryPoint::AfterWork),
     );
     assert_eq!(rt; entries, (Some(2), Some(3), Some(4)));
-}
-
-fn valid_of(alloc: Global, bytes: Vec<u8>) -> Result<Valid, Fail> {
-    Ok(validate(alloc, decode(alloc, bytes)?)?)
 }
 
 #[test]

@@ -2,8 +2,7 @@
 
 ghost use Rattle.std.specs.Prelude.{◌≤◌};
 
-use crate::modules::{bytes_of, module_of, parts_of, with_body};
-use decode::decode;
+use crate::modules::{is_told, module_of, parts_of, valid_of, with_digits};
 use instance::memory::Memory;
 use instance::state::Instance;
 use interp::conditions::takes_arguments;
@@ -14,7 +13,7 @@ use std::alloc::{AllocError, Global};
 use std::process::Abort;
 use std::test::Fail;
 use syntax::types::Value;
-use validate::{Valid, validate};
+use validate::Valid;
 
 /// One function, from nothing to an i32.
 const TO_I32: &str = "0105016000017f 03020100";
@@ -91,41 +90,64 @@ fn tell_values(text: &mut String, values: &[Value]) -> Result<(), AllocError> {
     Ok(())
 }
 
+fn tell_return(text: &mut String, values: &[Value]) -> Result<(), AllocError> {
+    text.push_str("return")?;
+    tell_values(text, values)
+}
+
+fn tell_ending(text: &mut String, ending: &Ending) -> Result<(), AllocError> {
+    match ending {
+        Ending::Return(values) => tell_return(text, values.as_slice()),
+        Ending::Trap(trap) => write!(text, "trap {}", trap.code()),
+        Ending::Depth => text.push_str("depth"),
+        Ending::Spent => text.push_str("spent"),
+    }
+}
+
+fn tell(text: &mut String, ended: &Ended) -> Result<(), AllocError> {
+    tell_ending(text, &ended.ending)?;
+    write!(text, " used {}", ended.used)
+}
+
 fn told(alloc: Global, ended: &Ended) -> Result<String, AllocError> {
     let mut text = String::new(alloc);
-    match &ended.ending {
-        Ending::Return(values) => {
-            text.push_str("return")?;
-            tell_values(&mut text, values.as_slice())?;
-        }
-        Ending::Trap(trap) => write!(text, "trap {}", trap.code())?,
-        Ending::Depth => text.push_str("depth")?,
-        Ending::Spent => text.push_str("spent")?,
-    }
-    write!(text, " used {}", ended.used)?;
+    tell(&mut text, ended)?;
     Ok(text)
+}
+
+fn ended_of(alloc: Global, bytes: Vec<u8>, fuel: u64, depth: u32) -> Result<Ended, Fail>
+    requires { (1 ≤ depth) × (depth ≤ 128) }
+{
+    let valid = valid_of(alloc, bytes)?;
+    call(alloc, &valid, fuel, depth)
 }
 
 /// How a call of function 0 of this module ends.
 fn end_of(alloc: Global, bytes: Vec<u8>, fuel: u64, depth: u32) -> Result<String, Fail>
     requires { (1 ≤ depth) × (depth ≤ 128) }
 {
-    let valid = validate(alloc, decode(alloc, bytes)?)?;
-    Ok(told(alloc, &call(alloc, &valid, fuel, depth)?)?)
+    let ended = ended_of(alloc, bytes, fuel, depth)?;
+    Ok(told(alloc, &ended)?)
+}
+
+fn check_body(
+    rt: &impl Abort,
+    alloc: Global,
+    sections: &str,
+    body: &str,
+    wanted: &str,
+) -> Result<(), Fail> {
+    let end = end_of(alloc, with_digits(alloc, sections, body)?, 1000, 8)?;
+    is_told(rt, end.as_str(), wanted, body);
+    Ok(())
 }
 
 /// Each row has a body, which comes behind these sections, and how a call of it ends.
 fn check_rows(rt: &impl Abort, alloc: Global, sections: &str, rows: &str) -> Result<(), Fail> {
     for row in rows.lines() {
-        let Some((body, wanted)) = parts_of(row)? else {
-            continue;
-        };
-        let bytes = with_body(alloc, sections, bytes_of(alloc, body)?.as_slice())?;
-        assert_eq!(rt;
-            end_of(alloc, bytes, 1000, 8)?.as_str(),
-            wanted,
-            "of {body}"
-        );
+        if let Some((body, wanted)) = parts_of(row)? {
+            check_body(rt, alloc, sections, body, wanted)?;
+        }
     }
     Ok(())
 }
@@ -141,16 +163,22 @@ fn bodies_end_as_they_must(rt: HostRuntime) -> Result<(), Fail> {
 /// A module whose function calls itself.
 const CALLS_ITSELF: &str = "010401600000 03020100 0a0601040010000b";
 
+/// How a call of function 0 of a module with these sections ends.
+fn end_with(alloc: Global, sections: &str, fuel: u64, depth: u32) -> Result<String, Fail>
+    requires { (1 ≤ depth) × (depth ≤ 128) }
+{
+    end_of(alloc, module_of(alloc, sections)?, fuel, depth)
+}
+
 #[test]
 fn calls_itself_up_to_the_limit(rt: HostRuntime) -> Result<(), Fail> {
-    let alloc = rt.alloc();
     for (fuel, depth, wanted) in [
         (127, 128, "spent used 127"),
         (128, 128, "depth used 128"),
         (1000, 1, "depth used 1"),
         (0, 128, "spent used 0"),
     ] {
-        let end = end_of(alloc, module_of(alloc, CALLS_ITSELF)?, fuel, depth)?;
+        let end = end_with(rt.alloc(), CALLS_ITSELF, fuel, depth)?;
         assert_eq!(rt; end.as_str(), wanted, "with fuel {fuel}");
     }
     Ok(())
@@ -162,9 +190,8 @@ const COUNTS_DOWN: &str = "010f 03 6000017f 6000027f7f 60017f017f 03020100
 
 #[test]
 fn a_loop_counts_down_with_its_parameter(rt: HostRuntime) -> Result<(), Fail> {
-    let alloc = rt.alloc();
     for (fuel, wanted) in [(31, "return 0 used 31"), (30, "spent used 30")] {
-        let end = end_of(alloc, module_of(alloc, COUNTS_DOWN)?, fuel, 8)?;
+        let end = end_with(rt.alloc(), COUNTS_DOWN, fuel, 8)?;
         assert_eq!(rt; end.as_str(), wanted, "with fuel {fuel}");
     }
     Ok(())

@@ -1,4 +1,6 @@
-use crate::modules::{bytes_of, check_sections, parts_of, verdict, with_body};
+use crate::modules::{
+    bytes_of, check_sections, is_told, parts_of, push_times, verdict, with_body, with_digits,
+};
 use std::alloc::Global;
 use std::process::Abort;
 use std::test::Fail;
@@ -52,14 +54,24 @@ const BODIES_OF_THREE_TYPES: &str = "
     4107 4100 0401 0b 1a 0b = validate 1 Type
 ";
 
+fn check_body(
+    rt: &impl Abort,
+    alloc: Global,
+    sections: &str,
+    body: &str,
+    wanted: &str,
+) -> Result<(), Fail> {
+    let told = verdict(alloc, with_digits(alloc, sections, body)?)?;
+    is_told(rt, told.as_str(), wanted, body);
+    Ok(())
+}
+
 /// Each row has a body, which comes behind these sections, and the verdict on the module.
 fn check_bodies(rt: &impl Abort, alloc: Global, sections: &str, rows: &str) -> Result<(), Fail> {
     for row in rows.lines() {
-        let Some((body, wanted)) = parts_of(row)? else {
-            continue;
-        };
-        let bytes = with_body(alloc, sections, bytes_of(alloc, body)?.as_slice())?;
-        assert_eq!(rt; verdict(alloc, bytes)?.as_str(), wanted, "of {body}");
+        if let Some((body, wanted)) = parts_of(row)? {
+            check_body(rt, alloc, sections, body, wanted)?;
+        }
     }
     Ok(())
 }
@@ -116,21 +128,39 @@ fn judges_parts(rt: HostRuntime) -> Result<(), Fail> {
     check_sections(&rt, rt.alloc(), PARTS)
 }
 
+/// Appends the bytes of a text so many times.
+fn push_repeated(
+    alloc: Global,
+    body: &mut Vec<u8>,
+    digits: &str,
+    times: usize,
+) -> Result<(), Fail> {
+    let part = bytes_of(alloc, digits)?;
+    push_times(body, part.as_slice(), times)?;
+    Ok(())
+}
+
 /// Of each text, so many after one another.
 fn repeated(alloc: Global, parts: &[(usize, &str)]) -> Result<Vec<u8>, Fail> {
     let mut body = Vec::new(alloc);
     for (times, digits) in parts {
-        let part = bytes_of(alloc, digits)?;
-        for _ in 0..*times {
-            body.extend_from_slice(part.as_slice())?;
-        }
+        push_repeated(alloc, &mut body, digits, *times)?;
     }
     Ok(body)
 }
 
+/// The verdict on a module with this body.
+fn judged(alloc: Global, body: &[u8]) -> Result<String, Fail> {
+    verdict(alloc, with_body(alloc, ONE_FUNCTION, body)?)
+}
+
+fn verdict_on(alloc: Global, parts: &[(usize, &str)]) -> Result<String, Fail> {
+    let body = repeated(alloc, parts)?;
+    judged(alloc, body.as_slice())
+}
+
 #[test]
 fn bounds_height_and_nesting(rt: HostRuntime) -> Result<(), Fail> {
-    let alloc = rt.alloc();
     let rows: [(&[(usize, &str)], &str); 8] = [
         (&[(256, "4100"), (255, "1a"), (1, "0b")], "accepted"),
         (
@@ -155,8 +185,8 @@ fn bounds_height_and_nesting(rt: HostRuntime) -> Result<(), Fail> {
         ),
     ];
     for (parts, wanted) in rows {
-        let bytes = with_body(alloc, ONE_FUNCTION, repeated(alloc, parts)?.as_slice())?;
-        assert_eq!(rt; verdict(alloc, bytes)?.as_str(), wanted, "of {parts:?}");
+        let told = verdict_on(rt.alloc(), parts)?;
+        assert_eq!(rt; told.as_str(), wanted, "of {parts:?}");
     }
     Ok(())
 }

@@ -2,7 +2,7 @@
 use Rattle.std.specs.Prelude.{ℕ, ◌+◌, List}
 use Rattle.limits.specs.declared.TheConstants.{MAX_MODULE_BYTES}
 use Rattle.syntax.specs.declared.contents.Contents.{Contents}
-use Rattle.host.specs.Loading.{IsAccepted}
+use Rattle.loader.specs.Loading.{IsAccepted}
 
 -- how many bytes of a file are read: one more than a module may have
 abbrev pub enough : ℕ

@@ -1,7 +1,7 @@
 // From a file to a module that the host can run.
 
 ghost use Rattle.std.specs.Prelude.{◌≡◌, IfOk};
-ghost use Rattle.host.specs.Loading.{IsAccepted};
+ghost use Rattle.loader.specs.Loading.{IsAccepted};
 ghost use Rattle.commands.specs.Accepted.{enough};
 
 use crate::failure::Failure;

@@ -8,27 +8,13 @@
 //! Each contract is that of the crate which the name comes from. Begin with `load`, and with docs/EMBEDDING.md.
 #![tactic(auto)]
 
-mod invalid;
-mod loading;
-mod meaning;
-mod operations;
-mod parts;
-mod place;
-mod refusal;
-mod search;
-mod spans;
-mod undecoded;
-mod unlinked;
-
 pub use board::JobBox;
 pub use decode::DecodeFault;
 pub use desk::Desk;
 pub use imports::{LinkFault, Linked};
-pub use loading::load;
+pub use loader::{Part, Place, Refusal, load};
 pub use order::{Order, Outcome, Reply};
 pub use phases::{Accepted, Beside, EntryKind, Hint, LoopCore, Phase, Shared, StepDid};
-pub use place::{Part, Place};
-pub use refusal::Refusal;
 pub use serve::{Job, LoopEnding, Served, Serving, Task, serve};
 pub use validate::ValidFault;
 pub use world::{Config, LoopConfig, World, WorldFault};

@@ -1,7 +1,7 @@
 // From bytes to a guest.
 
 ghost use Rattle.std.specs.Prelude.{◌≡◌, IfOk, IfErr};
-ghost use Rattle.host.specs.Loading.{IsAccepted, IsRefused};
+ghost use Rattle.loader.specs.Loading.{IsAccepted, IsRefused};
 ghost use Rattle.syntax.specs.Binary.{Spells};
 ghost use Rattle.validate.specs.Valid.{ValidModule};
 

@@ -6,8 +6,8 @@ use Rattle.decode.specs.Modules.{SpellsNothing}
 use Rattle.validate.specs.Valid.{ValidModule}
 use Rattle.validate.specs.Refusals.{Refutes}
 use Rattle.imports.specs.Linking.{IsLinked, Breaks}
-use Rattle.host.specs.declared.refusal.Refusal.{Refusal}
-use Rattle.host.specs.declared.refusal.Refusal.TheVariants.{Memory, Decode, Validate, Link}
+use Rattle.loader.specs.declared.refusal.Refusal.{Refusal}
+use Rattle.loader.specs.declared.refusal.Refusal.TheVariants.{Memory, Decode, Validate, Link}
 
 -- the bytes spell a module with these contents, which is valid and fits the host
 pub record IsAccepted (bytes : List ℕ) (contents : Contents) : Type 0 where

@@ -1,7 +1,7 @@
 use Rattle.std.proofs.Common.{rules, ◌≡◌}
 use Rattle.decode.specs.Modules.{SpellsNothing}
 use Rattle.decode.specs.declared.fault.DecodeFault.TheVariants.{Memory}
-use Rattle.host.proofs.loading.decoded.Goals as goal
+use Rattle.loader.proofs.loading.decoded.Goals as goal
 
 pub returns-in-Err : goal.returns-in-Err
 returns-in-Err c =

@@ -22,8 +22,8 @@ abbrev pub AreClosing : Table → List ℕ → Type 0
 AreClosing t [] = Unit {0}
 AreClosing t (handle ∷ handles) = IsClosing t handle × (list_any (λ other. other == handle) handles ≡ false) × AreClosing t handles
 
--- There are 64 handles at most. The callback of each that has a duty is there, what is listed as closing is closing,
--- and each async has its number.
+-- There are MAX_HANDLES handles at most. The callback of each that has a duty is there, what is listed as closing is
+-- closing, and each async has its number.
 pub record IsKept (r : Roster) : Type 0 where
   pub few : finite.len r.handles.records ≤ MAX_HANDLES
   pub callbacks : (handle : ℕ) (it : Record) → record_of r.handles handle ≡ Some it → has_duty it ≡ true → is_callback r it.callback ≡ true
@@ -44,8 +44,8 @@ IsTrueTo o _ = Unit {0}
 abbrev pub IsRight : Request → Type 0
 IsRight r = IsTrueTo r.order r.stage
 
--- There are 32 requests at most, in slots below 32, their numbers rise and are below 2^31, and what is answered is
--- right.
+-- There are MAX_REQUESTS requests at most, in slots below that number, their own numbers rise and are below 2^31, and
+-- what is answered is right.
 pub record AreKept (rs : Requests) : Type 0 where
   pub few : length rs.outstanding ≤ MAX_REQUESTS
   pub slots : All (λ r. r.order.slot < MAX_REQUESTS) rs.outstanding
@@ -57,7 +57,7 @@ pub record AreKept (rs : Requests) : Type 0 where
 abbrev pub AllRight : Requests → Type 0
 AllRight rs = All IsRight rs.outstanding
 
--- a slot in which a request may be cancelled is one of 32
+-- a slot in which a request may be cancelled is below MAX_REQUESTS
 abbrev pub IsSlotBelow : CancelState → Type 0
 IsSlotBelow (Pending slot) = slot < MAX_REQUESTS
 IsSlotBelow _ = Unit {0}

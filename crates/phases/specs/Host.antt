@@ -32,7 +32,7 @@ with_roster s roster = record s { roster = roster }
 abbrev pub with_requests : State → Requests → State
 with_requests s requests = record s { requests = requests }
 
--- a number is emitted, of which a callback has 64
+-- a number is emitted, of which a callback has MAX_EMITS
 abbrev pub emitted_in : (value : ℕ) → State → ℕ × State
 emitted_in value s = if nat_le MAX_EMITS (length s.emits) then (none_left, s) else (0, record s { emits = s.emits ++ value ∷ [] })
 

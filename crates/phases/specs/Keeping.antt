@@ -18,7 +18,8 @@ pub record CanRun (o : WorkOrder) : Type 0 where
   pub bytes : length o.bytes ≤ MAX_BYTES
   pub depth : (1 ≤ o.depth) × (o.depth ≤ MAX_DEPTH)
 
--- an order of the loop: it has the loop's number and a slot below 32, it can be run, and what comes of it can be told
+-- an order of the loop: it has the loop's number and a slot below MAX_REQUESTS, it can be run, and what comes of it can
+-- be told
 pub record IsOrderOf (g : Setting) (o : WorkOrder) : Type 0 where
   pub loop_no : o.loop_no ≡ g.loop_no
   pub slot : o.slot < MAX_REQUESTS

@@ -1,8 +1,10 @@
 // Claims: one of cancel and start, by threads.
 ghost use Rattle.std.specs.Prelude.{◌≡◌, ◌+◌, ◌^◌, ◌<◌, All, IfOk, IfSome};
+ghost use Rattle.limits.specs.declared.TheConstants.{MAX_REQUESTS};
 ghost use Rattle.claims.specs.Views.{new_loop_view, new_worker_view};
 
 use claims::{Claims, LoopSeat, NewClaims, Ticket, WorkerSeat};
+use limits::{MAX_LOOPS, MAX_WORKERS};
 use std::alloc::{AllocError, Global};
 use std::snapshot::Snapshot;
 use std::sync::Wait;
@@ -30,7 +32,7 @@ impl Promise<(bool, WorkerSeat)> for SameWorker {
 
 fn cancelled(claims: &Claims, mut seat: LoopSeat, ticket: Ticket) -> (bool, LoopSeat)
     requires own { seat.claims ≡ claims.now.id }
-    requires there { (ticket.loop_no ≡ seat.loop_no) × (ticket.slot < 32) }
+    requires there { (ticket.loop_no ≡ seat.loop_no) × (ticket.slot < MAX_REQUESTS) }
     ensures { (result.1.claims ≡ seat.claims) × (result.1.loop_no ≡ seat.loop_no) × (result.1.opened ≡ seat.opened) }
 {
     let answer = claims.cancel(&mut seat, ticket);
@@ -39,7 +41,7 @@ fn cancelled(claims: &Claims, mut seat: LoopSeat, ticket: Ticket) -> (bool, Loop
 
 fn started(claims: &Claims, mut seat: WorkerSeat, ticket: Ticket) -> (bool, WorkerSeat)
     requires own { seat.claims ≡ claims.now.id }
-    requires there { (ticket.loop_no < 8) × (ticket.slot < 32) }
+    requires there { (ticket.loop_no < MAX_LOOPS) × (ticket.slot < MAX_REQUESTS) }
     ensures { result.1.claims ≡ seat.claims }
 {
     let answer = claims.start(&mut seat, ticket);
@@ -55,7 +57,7 @@ fn race<R: Threads + Wait>(
     ticket: Ticket,
 ) -> Option<((bool, LoopSeat), (bool, WorkerSeat))>
     requires own { (loop_seat.claims ≡ claims.now.id) × (worker_seat.claims ≡ claims.now.id) }
-    requires there { (ticket.loop_no ≡ loop_seat.loop_no) × (ticket.loop_no < 8) × (ticket.slot < 32) }
+    requires there { (ticket.loop_no ≡ loop_seat.loop_no) × (ticket.loop_no < MAX_LOOPS) × (ticket.slot < MAX_REQUESTS) }
     ensures loops { IfSome result (λ r. (r.0.1.claims ≡ loop_seat.claims) × (r.0.1.loop_no ≡ loop_seat.loop_no) × (r.0.1.opened ≡ loop_seat.opened)) }
     ensures workers { IfSome result (λ r. r.1.1.claims ≡ worker_seat.claims) }
 {
@@ -66,7 +68,7 @@ fn race<R: Threads + Wait>(
         rt,
         move |scope| -> Option<((bool, LoopSeat), (bool, WorkerSeat))>
             requires own { (loop_seat.claims ≡ claims.now.id) × (worker_seat.claims ≡ claims.now.id) }
-            requires there { (ticket.loop_no ≡ loop_seat.loop_no) × (ticket.loop_no < 8) × (ticket.slot < 32) }
+            requires there { (ticket.loop_no ≡ loop_seat.loop_no) × (ticket.loop_no < MAX_LOOPS) × (ticket.slot < MAX_REQUESTS) }
             requires same { (same_loop.0.value ≡ loop_seat) × (same_worker.0.value ≡ worker_seat) }
             ensures loops { IfSome result (λ r. (r.0.1.claims ≡ loop_seat.claims) × (r.0.1.loop_no ≡ loop_seat.loop_no) × (r.0.1.opened ≡ loop_seat.opened)) }
             ensures workers { IfSome result (λ r. r.1.1.claims ≡ worker_seat.claims) }
@@ -131,7 +133,7 @@ fn again(
     ticket: Ticket,
 ) -> (bool, bool)
     requires own { (loop_seat.old.claims ≡ claims.now.id) × (worker_seat.old.claims ≡ claims.now.id) }
-    requires there { (ticket.loop_no ≡ loop_seat.old.loop_no) × (ticket.loop_no < 8) × (ticket.slot < 32) }
+    requires there { (ticket.loop_no ≡ loop_seat.old.loop_no) × (ticket.loop_no < MAX_LOOPS) × (ticket.slot < MAX_REQUESTS) }
     ensures loops { (loop_seat.new.claims ≡ loop_seat.old.claims) × (loop_seat.new.loop_no ≡ loop_seat.old.loop_no) × (loop_seat.new.opened ≡ loop_seat.old.opened) }
     ensures workers { worker_seat.new.claims ≡ worker_seat.old.claims }
 {
@@ -208,11 +210,11 @@ fn a_slot_opened_anew_is_not_the_old_request(rt: HostRuntime) -> Result<(), Fail
 
 #[test]
 fn seats_are_numbered(rt: HostRuntime) -> Result<(), Fail> {
-    let opened = Claims::new(rt.alloc(), 8, 16)?;
+    let opened = Claims::new(rt.alloc(), MAX_LOOPS, MAX_WORKERS)?;
     let loops = opened.loop_seats.iter().map(|seat| seat.loop_no());
     let workers = opened.worker_seats.iter().map(|seat| seat.worker_no());
-    let told = (opened.claims.loops(), loops.eq(0..8), workers.eq(0..16));
-    assert_eq!(rt; told, (8, true, true));
+    let told = (opened.claims.loops(), loops.eq(0..MAX_LOOPS), workers.eq(0..MAX_WORKERS));
+    assert_eq!(rt; told, (MAX_LOOPS, true, true));
     Ok(())
 }
 

@@ -1,5 +1,6 @@
 // A board and claims for one loop and some workers, and the sides from which they are used.
 ghost use Rattle.std.specs.Prelude.{◌≡◌, ◌<◌, ◌≤◌, length, All, IfOk, IfSome};
+ghost use Rattle.limits.specs.declared.TheConstants.{MAX_WORKERS};
 ghost use Rattle.board.specs.Boards.{IsPassOf};
 ghost use Rattle.claims.specs.Views.{new_loop_view};
 
@@ -46,7 +47,7 @@ fn with_workers(
     alloc: Global,
     workers: u32,
 ) -> Result<(Claims, LoopSeat, Vec<WorkerSeat>), AllocError>
-    requires { workers ≤ 16 }
+    requires { workers ≤ MAX_WORKERS }
     ensures loops { IfOk result (λ m. m.0.loops ≡ 1) }
     ensures loop_seat { IfOk result (λ m. m.1 ≡ new_loop_view m.0.id 0) }
     ensures workers { IfOk result (λ m. All (λ s. s.claims ≡ m.0.id) m.2.items) }
@@ -64,7 +65,7 @@ fn with_workers(
 
 #[tactic(auto, using(crate::proofs::Crew::passes_own))]
 fn with_passes(alloc: Global, workers: u32) -> Result<(Board, Pass, Vec<Pass>), AllocError>
-    requires { workers ≤ 16 }
+    requires { workers ≤ MAX_WORKERS }
     ensures loops { IfOk result (λ m. length m.0.replies ≡ 1) }
     ensures pass { IfOk result (λ m. IsPassOf m.0 m.1) }
     ensures passes { IfOk result (λ m. All (IsPassOf m.0) m.2.items) }
@@ -79,7 +80,7 @@ fn with_passes(alloc: Global, workers: u32) -> Result<(Board, Pass, Vec<Pass>), 
 impl Hall {
     // A hall with one pass for the loop and one for each worker.
     pub fn new(alloc: Global, workers: u32) -> Result<(Hall, Gear), AllocError>
-        requires { workers ≤ 16 }
+        requires { workers ≤ MAX_WORKERS }
         ensures loop_pass { IfOk result (λ h. IsPassOf h.0.board h.1.loop_pass) }
         ensures loop_seat { IfOk result (λ h. h.1.loop_seat ≡ new_loop_view h.0.claims.id 0) }
         ensures passes { IfOk result (λ h. All (IsPassOf h.0.board) h.1.passes.items) }

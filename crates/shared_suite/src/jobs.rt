@@ -1,6 +1,7 @@
 // The jobs of the tests. Their orders have no fuel, and each is answered that it was spent.
 ghost use Rattle.std.specs.Prelude.{◌≡◌, ◌<◌, ℕ, [], IfOk, codes};
 ghost use Rattle.std.specs.Arc.{arc_value};
+ghost use Rattle.limits.specs.declared.TheConstants.{MAX_LOOPS, MAX_REQUESTS};
 ghost use Rattle.imports.specs.Linking.{ExportsFunction};
 ghost use Rattle.board.specs.Jobs.{ticket_of};
 
@@ -91,7 +92,7 @@ impl Jobs {
 
     // A job that gives that reply and counts its call.
     pub fn job(&self, ticket: Ticket) -> Result<JobBox, AllocError>
-        requires { (ticket.loop_no < 8) × (ticket.slot < 32) }
+        requires { (ticket.loop_no < MAX_LOOPS) × (ticket.slot < MAX_REQUESTS) }
         ensures { IfOk result (λ job. job.ticket ≡ ticket) }
     {
         let own = self.shared()?;

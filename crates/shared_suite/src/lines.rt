@@ -1,6 +1,7 @@
 // Jobs that two threads take while two others post.
 ghost use Rattle.std.specs.Prelude.{◌≡◌, ◌<◌, All};
 ghost use Rattle.std.specs.Thread.{IsSync};
+ghost use Rattle.limits.specs.declared.TheConstants.{MAX_LOOPS};
 ghost use Rattle.board.specs.Boards.{IsPassOf, IsNewPass};
 
 use crate::hands::{Hand, two_hands};
@@ -129,7 +130,7 @@ fn are_in_order(left: &Taken, right: &Taken) -> bool {
 }
 
 fn hundred_jobs(alloc: Global, jobs: &Jobs, loop_no: u32) -> Result<Vec<JobBox>, AllocError>
-    requires { loop_no < 8 }
+    requires { loop_no < MAX_LOOPS }
 {
     let mut made = Vec::new(alloc);
     for request in 0..EACH as u32 {

@@ -10,6 +10,9 @@ use std::alloc::{AllocError, Global};
 use std::test::Fail;
 use std::thread::{Threads, join, yield_now};
 
+// The last async.
+const LAST: u32 = MAX_ASYNCS as u32 - 1;
+
 // The marks of a loop with one send seat.
 fn one_sender(alloc: Global) -> Result<(Marks, TakeSeat, SendSeat), AllocError>
     ensures { IfOk result (λ m. (m.1 ≡ new_taker m.0 1) × (m.2 ≡ new_sender m.0)) }
@@ -83,10 +86,10 @@ fn each_async_counts_by_itself(rt: HostRuntime) -> Result<(), Fail> {
 fn all_send_seats_send_and_join(rt: HostRuntime) -> Result<(), Fail> {
     let (marks, mut taker, mut seats) = Marks::new(rt.alloc(), MAX_SEND_SEATS)?;
     while let Some(mut seat) = seats.pop() {
-        assert_eq!(rt; marks.send(&mut seat, 15), Ok(()));
+        assert_eq!(rt; marks.send(&mut seat, LAST), Ok(()));
         marks.join(&mut taker, seat);
     }
-    assert_eq!(rt; marks.take(&mut taker, 15), 64);
+    assert_eq!(rt; marks.take(&mut taker, LAST), MAX_SEND_SEATS as u64);
     Ok(())
 }
 

@@ -4,7 +4,7 @@ use crate::hall::ticket;
 use crate::hands::{Hand, two_hands};
 use crate::jobs::Jobs;
 use board::{Board, Pass};
-use limits::{MAX_JOBS, MAX_REPLIES};
+use limits::{MAX_JOBS, MAX_LOOPS, MAX_REPLIES};
 use std::alloc::Global;
 use std::process::Abort;
 use std::sync::Wait;
@@ -57,14 +57,14 @@ fn what_one_pass_posts_another_takes_and_a_full_line_gives_back(
 }
 
 fn is_closed_once(rt: &impl Abort, board: &Board) {
-    assert_eq!(rt; (board.loops(), board.is_closed()), (8, false));
+    assert_eq!(rt; (board.loops(), board.is_closed()), (MAX_LOOPS, false));
     board.close();
     assert!(rt; board.is_closed());
 }
 
 #[test]
 fn a_board_is_closed(rt: HostRuntime) -> Result<(), Fail> {
-    let (board, _passes): (Board, Vec<Pass>) = Board::new(rt.alloc(), 8, 1)?;
+    let (board, _passes): (Board, Vec<Pass>) = Board::new(rt.alloc(), MAX_LOOPS, 1)?;
     is_closed_once(&rt, &board);
     Ok(())
 }

@@ -4,6 +4,7 @@ ghost use Rattle.board.specs.Jobs.{ticket_of};
 
 use crate::modules::linked_of;
 use board::JobBox;
+use limits::{MAX_LOOPS, MAX_WORKERS};
 use order::Reply;
 use serve::{Served, Serving, Task, serve};
 use std::alloc::{AllocError, Global};
@@ -59,8 +60,8 @@ const FILLS: &str =
 
 // So many loops and workers, with ample fuel.
 pub fn ample(loops: u32, workers: u32) -> Serving
-    requires loops { (1 ≤ loops) × (loops ≤ 8) }
-    requires workers { (1 ≤ workers) × (workers ≤ 16) }
+    requires loops { (1 ≤ loops) × (loops ≤ MAX_LOOPS) }
+    requires workers { (1 ≤ workers) × (workers ≤ MAX_WORKERS) }
 {
     Serving {
         loops,
@@ -192,9 +193,9 @@ fn a_last_callback_that_fails_is_a_failure(rt: HostRuntime) -> Result<(), Fail> 
 
 #[test]
 fn many_loops_share_many_workers(rt: HostRuntime) -> Result<(), Fail> {
-    let text = lines(&rt, ASKS, ample(8, 16))?;
+    let text = lines(&rt, ASKS, ample(MAX_LOOPS, MAX_WORKERS))?;
     let mut expected = String::new(rt.alloc());
-    for loop_no in 0..8 {
+    for loop_no in 0..MAX_LOOPS {
         writeln!(expected, "loop {loop_no} over emits 992")?;
     }
     assert_eq!(rt; text, expected);

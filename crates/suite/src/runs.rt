@@ -1,6 +1,7 @@
 // Calls of small modules from outside, with the endings and the fuel that they must have.
 
 ghost use Rattle.std.specs.Prelude.{◌≤◌};
+ghost use Rattle.limits.specs.declared.TheConstants.{MAX_DEPTH};
 
 use crate::modules::{is_told, module_of, parts_of, valid_of, with_digits};
 use instance::memory::Memory;
@@ -71,7 +72,7 @@ impl Host for Idle {
 
 /// A call of function 0 of a module that imports nothing, without arguments.
 fn call(alloc: Global, valid: &Valid, fuel: u64, depth: u32) -> Result<Ended, Fail>
-    requires { (1 ≤ depth) × (depth ≤ 128) }
+    requires { (1 ≤ depth) × (depth ≤ MAX_DEPTH) }
 {
     if valid.contents().imports.len() != 0 || !takes_arguments(valid, 0, &[]) {
         return Err(Fail::from("function 0 can't be called so"));
@@ -124,7 +125,7 @@ fn ended_of(alloc: Global, bytes: Vec<u8>, fuel: u64, depth: u32) -> Result<Ende
 
 /// How a call of function 0 of this module ends.
 fn end_of(alloc: Global, bytes: Vec<u8>, fuel: u64, depth: u32) -> Result<String, Fail>
-    requires { (1 ≤ depth) × (depth ≤ 128) }
+    requires { (1 ≤ depth) × (depth ≤ MAX_DEPTH) }
 {
     let ended = ended_of(alloc, bytes, fuel, depth)?;
     Ok(told(alloc, &ended)?)

@@ -3,6 +3,7 @@
 use crate::turns::Field::{Bytes, Depth, Fuel, LoopNo, Module, Operation, Request, Slot};
 use crate::turns::Turn::{Answer, AnswerOther, Hint, Order, Steps};
 use crate::turns::{Field, told};
+use std::alloc::Global;
 use std::test::Fail;
 
 /// `uv_main` asks for work by operation 5 on three bytes. `uv_work` gives its operation and one more, `uv_after_work` emits
@@ -50,26 +51,27 @@ const WITHOUT: &str =
 
 const FIELDS: [Field; 8] = [LoopNo, Request, Slot, Module, Operation, Bytes, Fuel, Depth];
 
+/// What the loop does where it is offered a reply that differs in this field.
+fn told_with(alloc: Global, field: Field) -> Result<String, Fail> {
+    let turns = [
+        Steps(1),
+        Order,
+        AnswerOther(field),
+        Hint,
+        Steps(6),
+        Answer,
+        Hint,
+        Steps(7),
+    ];
+    told(alloc, ASKS, &turns)
+}
+
 #[test]
 fn a_reply_that_differs_in_one_field_changes_nothing(rt: HostRuntime) -> Result<(), Fail> {
-    let alloc = rt.alloc();
     for field in FIELDS {
-        let text = told(
-            alloc,
-            ASKS,
-            &[
-                Steps(1),
-                Order,
-                AnswerOther(field),
-                Hint,
-                Steps(6),
-                Answer,
-                Hint,
-                Steps(7),
-            ],
-        )?;
-        let wanted = format!(in alloc; "run Main 0 1; stranger; {WITHOUT}")?;
-        assert_eq!(rt; text.as_str(), wanted.as_str());
+        let text = told_with(rt.alloc(), field)?;
+        let behind = text.as_str().strip_prefix("run Main 0 1; stranger; ");
+        assert_eq!(rt; behind, Some(WITHOUT));
     }
     Ok(())
 }
@@ -81,7 +83,7 @@ fn the_same_steps_without_that_reply(rt: HostRuntime) -> Result<(), Fail> {
         ASKS,
         &[Steps(1), Order, Hint, Steps(6), Answer, Hint, Steps(7)],
     )?;
-    let wanted = format!(in rt.alloc(); "run Main 0 1; {WITHOUT}")?;
-    assert_eq!(rt; text.as_str(), wanted.as_str());
+    let behind = text.as_str().strip_prefix("run Main 0 1; ");
+    assert_eq!(rt; behind, Some(WITHOUT));
     Ok(())
 }

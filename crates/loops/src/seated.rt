@@ -9,10 +9,12 @@ use crate::guests::{DEPTH, FUEL, linked_of};
 use crate::sending::{CLOSES, FAILS, SENDS};
 use crate::telling::steps;
 use claims::{Claims, LoopSeat, NewClaims};
+use imports::Linked;
 use marks::{Marks, SendSeat, TakeSeat};
 use phases::{LoopCore, Shared};
 use pool::Seats;
 use std::alloc::{AllocError, Global};
+use std::sync::Arc;
 use std::test::Fail;
 
 /// The seats of a loop, with how many sends its takes answered, of which the first four are kept.
@@ -93,43 +95,98 @@ fn sends(marks: &Marks, sender: &mut SendSeat, count: u32) -> bool
     true
 }
 
-/// What a loop of a guest does in so many steps, between so many sends to its async 0 and so many behind, and what its
-/// takes answered.
-fn seated(
-    alloc: Global,
-    guest: &str,
+/// How many steps a loop takes, and how many sends to its async 0 there are before and behind.
+#[derive(Clone, Copy)]
+struct Counts {
     before: u32,
-    count: u32,
+    steps: u32,
     behind: u32,
-) -> Result<String, Fail> {
-    let (claims, loop_seat) = claims_of_one(alloc)?;
-    let (marks, taker, mut sender) = marks_of_one(alloc)?;
+}
+
+/// A loop of the guest over these seats, which have done nothing.
+fn seated_loop<'a>(
+    alloc: Global,
+    guest: Arc<Linked>,
+    seats: Seats<'a>,
+) -> Result<LoopCore<Noted<'a>>, AllocError>
+    requires loop_seat { seats.loop_seat ≡ new_loop_view seats.loop_seat.claims 0 }
+    requires taker { seats.taker ≡ new_taker seats.taker.marks 1 }
+{
     let noted = Noted {
-        seats: Seats::new(&claims, loop_seat, &marks, taker),
+        seats,
         taken: [0; 4],
         takes: 0,
     };
-    let guest = linked_of(alloc, guest)?;
-    let mut core = LoopCore::new(alloc, guest, noted, 0, FUEL, FUEL, DEPTH)?;
-    let first = sends(&marks, &mut sender, before);
-    let text = told(alloc, &mut core, count)?;
-    let last = sends(&marks, &mut sender, behind);
-    let noted = core.into_shared();
-    Ok(noted.tell(text, first, last)?)
+    LoopCore::new(alloc, guest, noted, 0, FUEL, FUEL, DEPTH)
 }
 
-fn told(alloc: Global, core: &mut LoopCore<Noted<'_>>, count: u32) -> Result<String, AllocError> {
+/// Sends, takes the steps and sends again. Whether the sends were taken in, before and behind.
+fn drive(
+    core: &mut LoopCore<Noted<'_>>,
+    marks: &Marks,
+    sender: &mut SendSeat,
+    counts: Counts,
+    text: &mut String,
+) -> Result<(bool, bool), AllocError>
+    requires { sender.old.marks ≡ marks.now }
+{
+    let before = sends(marks, sender, counts.before);
+    steps(core, counts.steps, text)?;
+    Ok((before, sends(marks, sender, counts.behind)))
+}
+
+fn drive_to_end(
+    mut core: LoopCore<Noted<'_>>,
+    marks: &Marks,
+    sender: &mut SendSeat,
+    counts: Counts,
+    text: &mut String,
+) -> Result<(), AllocError>
+    requires { sender.old.marks ≡ marks.now }
+{
+    let sent = drive(&mut core, marks, sender, counts, text)?;
+    core.into_shared().tell(sent, text)
+}
+
+fn with_marks(
+    alloc: Global,
+    guest: Arc<Linked>,
+    claims: &Claims,
+    loop_seat: LoopSeat,
+    counts: Counts,
+    text: &mut String,
+) -> Result<(), AllocError>
+    requires { loop_seat ≡ new_loop_view claims.now.id 0 }
+{
+    let (marks, taker, mut sender) = marks_of_one(alloc)?;
+    let seats = Seats::new(claims, loop_seat, &marks, taker);
+    let core = seated_loop(alloc, guest, seats)?;
+    drive_to_end(core, &marks, &mut sender, counts, text)
+}
+
+fn with_claims(
+    alloc: Global,
+    guest: Arc<Linked>,
+    counts: Counts,
+    text: &mut String,
+) -> Result<(), AllocError> {
+    let (claims, loop_seat) = claims_of_one(alloc)?;
+    with_marks(alloc, guest, &claims, loop_seat, counts, text)
+}
+
+/// What a loop of a guest does in so many steps, between so many sends to its async 0 and so many behind, and what its
+/// takes answered.
+fn seated(alloc: Global, guest: &str, counts: Counts) -> Result<String, Fail> {
     let mut text = String::new(alloc);
-    steps(core, count, &mut text)?;
+    with_claims(alloc, linked_of(alloc, guest)?, counts, &mut text)?;
     Ok(text)
 }
 
 impl Noted<'_> {
     // Tells whether the sends were taken in, and what the first takes answered.
-    fn tell(&self, mut text: String, first: bool, last: bool) -> Result<String, AllocError> {
+    fn tell(&self, sent: (bool, bool), text: &mut String) -> Result<(), AllocError> {
         let taken = self.taken.get(..self.takes).unwrap_or(&[]);
-        write!(text, "; sent {first} {last}; taken {taken:?}")?;
-        Ok(text)
+        write!(text, "; sent {} {}; taken {taken:?}", sent.0, sent.1)
     }
 }
 
@@ -144,7 +201,12 @@ const WAKES: &str = "01120460017f017f60017e017f60000060017f00
 
 #[test]
 fn sends_before_an_async_is_made_run_its_callback_once(rt: HostRuntime) -> Result<(), Fail> {
-    let text = seated(rt.alloc(), WAKES, 3, 11, 0)?;
+    let counts = Counts {
+        before: 3,
+        steps: 11,
+        behind: 0,
+    };
+    let text = seated(rt.alloc(), WAKES, counts)?;
     assert_eq!(rt;
         text.as_str(),
         "run Main 0 1; Timers 0; Idle 0; Poll 0; run Async 0 0; Check 0; Closing 0; Timers 0; Idle 0; \
@@ -155,7 +217,12 @@ fn sends_before_an_async_is_made_run_its_callback_once(rt: HostRuntime) -> Resul
 
 #[test]
 fn the_next_poll_takes_what_a_timer_sent(rt: HostRuntime) -> Result<(), Fail> {
-    let text = seated(rt.alloc(), SENDS, 0, 7, 0)?;
+    let counts = Counts {
+        before: 0,
+        steps: 7,
+        behind: 0,
+    };
+    let text = seated(rt.alloc(), SENDS, counts)?;
     assert_eq!(rt;
         text.as_str(),
         "run Main 0 0; Timers 0; run Timer 1 0; Idle 0; Poll 0; run Async 0 0; Check 0; sent true true; \
@@ -166,7 +233,12 @@ fn the_next_poll_takes_what_a_timer_sent(rt: HostRuntime) -> Result<(), Fail> {
 
 #[test]
 fn a_closed_async_is_sent_to(rt: HostRuntime) -> Result<(), Fail> {
-    let text = seated(rt.alloc(), CLOSES, 1, 8, 2)?;
+    let counts = Counts {
+        before: 1,
+        steps: 8,
+        behind: 2,
+    };
+    let text = seated(rt.alloc(), CLOSES, counts)?;
     assert_eq!(rt;
         text.as_str(),
         "run Main 0 0 0; Timers 0; Idle 0; Poll 0; Check 0; run Check 1; Closing 0; run Close 0; \
@@ -177,7 +249,12 @@ fn a_closed_async_is_sent_to(rt: HostRuntime) -> Result<(), Fail> {
 
 #[test]
 fn a_failed_loop_is_sent_to(rt: HostRuntime) -> Result<(), Fail> {
-    let text = seated(rt.alloc(), FAILS, 0, 2, 2)?;
+    let counts = Counts {
+        before: 0,
+        steps: 2,
+        behind: 2,
+    };
+    let text = seated(rt.alloc(), FAILS, counts)?;
     assert_eq!(rt;
         text.as_str(),
         "run Main 0 trap; failed; sent true true; taken []"

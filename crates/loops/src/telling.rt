@@ -26,7 +26,12 @@ pub fn steps<B: Shared + Drop>(
 }
 
 fn step<B: Shared + Drop>(core: &mut LoopCore<B>, text: &mut String) -> Result<(), AllocError> {
-    match core.step() {
+    let did = core.step();
+    tell(&did, core.emits(), text)
+}
+
+fn tell(did: &StepDid, emits: &[u64], text: &mut String) -> Result<(), AllocError> {
+    match did {
         StepDid::Entered { phase, now } => write!(text, "{phase:?} {now}"),
         StepDid::Ran {
             kind,
@@ -34,7 +39,7 @@ fn step<B: Shared + Drop>(core: &mut LoopCore<B>, text: &mut String) -> Result<(
             ended,
         } => {
             write!(text, "run {kind:?} {number}{}", word(&ended.ending))?;
-            write_emits(core.emits(), text)
+            write_emits(emits, text)
         }
         StepDid::Skipped { kind, number } => write!(text, "skip {kind:?} {number}"),
         StepDid::Over => text.push_str("over"),

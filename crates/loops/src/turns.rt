@@ -6,7 +6,7 @@ use desk::Desk;
 use imports::EntryPoint;
 use limits::{MAX_ASYNCS, MAX_BYTES, MAX_DEPTH};
 use order::{Order, Reply};
-use phases::{Accepted, LoopCore};
+use phases::{Accepted, Hint, LoopCore};
 use std::alloc::{AllocError, Global};
 use std::sync::Arc;
 use std::test::Fail;
@@ -46,79 +46,122 @@ pub enum Turn {
     AnswerOther(Field),
 }
 
-/// A loop, the order that it handed out last, and what is told of it.
+/// A loop, and the order that it handed out last.
 #[derive(Drop)]
 struct Driven {
     alloc: Global,
     core: LoopCore<Desk>,
     order: Option<Order>,
-    text: String,
 }
 
 /// What a loop of a guest does in these turns.
 pub fn told(alloc: Global, guest: &str, turns: &[Turn]) -> Result<String, Fail> {
+    let mut text = String::new(alloc);
+    drive(alloc, guest, turns, &mut text)?;
+    Ok(text)
+}
+
+fn drive(alloc: Global, guest: &str, turns: &[Turn], text: &mut String) -> Result<(), Fail> {
+    let core = loop_at_desk(alloc, guest, LOOP_NO)?;
     let mut driven = Driven {
         alloc,
-        core: loop_at_desk(alloc, guest, LOOP_NO)?,
+        core,
         order: None,
-        text: String::new(alloc),
     };
-    for turn in turns {
-        driven.take(*turn)?;
-    }
-    Ok(driven.text)
+    driven.take_all(turns, text)
+}
+
+fn tell_word(text: &mut String, word: &str) -> Result<(), Fail> {
+    next(text)?;
+    text.push_str(word)?;
+    Ok(())
+}
+
+fn tell_clock(text: &mut String, ms: u64) -> Result<(), Fail> {
+    next(text)?;
+    write!(text, "clock {ms}")?;
+    Ok(())
+}
+
+fn tell_hint(text: &mut String, hint: Hint) -> Result<(), Fail> {
+    next(text)?;
+    write!(text, "hint {hint:?}")?;
+    Ok(())
+}
+
+fn tell_send(text: &mut String, taken_in: bool) -> Result<(), Fail> {
+    next(text)?;
+    write!(text, "send {taken_in}")?;
+    Ok(())
 }
 
 impl Driven {
-    fn take(&mut self, turn: Turn) -> Result<(), Fail> {
-        match turn {
-            Turn::Steps(count) => steps(&mut self.core, count, &mut self.text)?,
-            Turn::Clock(ms) => {
-                next(&mut self.text)?;
-                write!(self.text, "clock {}", self.core.clock(ms))?;
-            }
-            Turn::Hint => {
-                next(&mut self.text)?;
-                write!(self.text, "hint {:?}", self.core.hint())?;
-            }
-            Turn::Send(async_no) => self.send(async_no)?,
-            Turn::Order => self.order = self.core.next_order(),
-            Turn::Answer => self.answer(None)?,
-            Turn::AnswerOther(field) => self.answer(Some(field))?,
+    fn take_all(&mut self, turns: &[Turn], text: &mut String) -> Result<(), Fail> {
+        for turn in turns {
+            self.take(*turn, text)?;
         }
         Ok(())
     }
 
-    fn send(&mut self, async_no: u32) -> Result<(), Fail> {
+    fn take(&mut self, turn: Turn, text: &mut String) -> Result<(), Fail> {
+        match turn {
+            Turn::Steps(count) => self.steps(count, text),
+            Turn::Clock(ms) => tell_clock(text, self.core.clock(ms)),
+            Turn::Hint => tell_hint(text, self.core.hint()),
+            Turn::Send(async_no) => self.send(async_no, text),
+            Turn::Order => self.take_order(),
+            Turn::Answer => self.answer(text),
+            Turn::AnswerOther(field) => self.answer_other(field, text),
+        }
+    }
+
+    fn steps(&mut self, count: u32, text: &mut String) -> Result<(), Fail> {
+        steps(&mut self.core, count, text)?;
+        Ok(())
+    }
+
+    fn take_order(&mut self) -> Result<(), Fail> {
+        self.order = self.core.next_order();
+        Ok(())
+    }
+
+    fn send(&mut self, async_no: u32, text: &mut String) -> Result<(), Fail> {
         if async_no as usize >= MAX_ASYNCS {
             return Err(Fail::from("no such async"));
         }
-        next(&mut self.text)?;
-        write!(self.text, "send {}", self.core.sent(async_no))?;
-        Ok(())
+        tell_send(text, self.core.sent(async_no))
     }
 
-    // The reply of the order that was handed out last, or of that order with another value in this field.
-    fn reply(&self, field: Option<Field>) -> Result<Reply, Fail> {
-        let Some(order) = &self.order else {
-            return Err(Fail::from("no order"));
-        };
-        let mut copy = copy_of(order)?;
-        if let Some(field) = field {
-            change(self.alloc, &mut copy, field)?;
+    // The order that was handed out last.
+    fn copy(&self) -> Result<Order, Fail> {
+        match &self.order {
+            Some(order) => Ok(copy_of(order)?),
+            None => Err(Fail::from("no order")),
         }
-        run(self.alloc, copy)
     }
 
-    fn answer(&mut self, field: Option<Field>) -> Result<(), Fail> {
-        let reply = self.reply(field)?;
-        let word = match self.core.accept(reply) {
+    // That order with another value in this field.
+    fn changed(&self, field: Field) -> Result<Order, Fail> {
+        let mut order = self.copy()?;
+        change(self.alloc, &mut order, field)?;
+        Ok(order)
+    }
+
+    fn answer(&mut self, text: &mut String) -> Result<(), Fail> {
+        let reply = run(self.alloc, self.copy()?)?;
+        tell_word(text, self.offer(reply))
+    }
+
+    fn answer_other(&mut self, field: Field, text: &mut String) -> Result<(), Fail> {
+        let reply = run(self.alloc, self.changed(field)?)?;
+        tell_word(text, self.offer(reply))
+    }
+
+    fn offer(&mut self, reply: Reply) -> &'static str {
+        match self.core.accept(reply) {
             Accepted::Accepted => "accepted",
             Accepted::Stranger(_) => "stranger",
-        };
-        next(&mut self.text)?;
-        self.text.push_str(word)?;
-        Ok(())
+        }
     }
 }
 
@@ -141,6 +184,11 @@ fn copy_of(order: &Order) -> Result<Order, AllocError> {
     })
 }
 
+fn other_bytes(alloc: Global) -> Result<Arc<Vec<u8>>, AllocError> {
+    let bytes = vec![in alloc; 0x61, 0x62]?;
+    Ok(Arc::new(alloc, bytes)?)
+}
+
 // Puts another value into one field.
 fn change(alloc: Global, order: &mut Order, field: Field) -> Result<(), Fail> {
     match field {
@@ -149,7 +197,7 @@ fn change(alloc: Global, order: &mut Order, field: Field) -> Result<(), Fail> {
         Field::Slot => order.slot ^= 1,
         Field::Module => order.module = with_custom_section(alloc, &order.module)?,
         Field::Operation => order.op ^= 1,
-        Field::Bytes => order.bytes = Arc::new(alloc, vec![in alloc; 0x61, 0x62]?)?,
+        Field::Bytes => order.bytes = other_bytes(alloc)?,
         Field::Fuel => order.fuel ^= 1,
         Field::Depth => order.depth ^= 1,
     }

@@ -48,11 +48,7 @@ fn with_claims<
     R: Threads + Wait + Sync,
     M: Fn(Task) -> Result<J, AllocError> + Sync,
     J: Job + Send,
->(
-    rt: &R,
-    plan: &Plan,
-    make: &M,
-) -> Result<Vec<Served>, AllocError>
+>(rt: &R, plan: &Plan, make: &M) -> Result<Vec<Served>, AllocError>
     requires make { M.IsAlwaysCallable make.now }
     ensures count { IfOk result (λ served. length served.items ≡ plan.now.serving.loops) }
     ensures each { IfOk result (λ served. EachServed (arc_value plan.now.module) plan.now.serving served.items) }
@@ -66,12 +62,7 @@ fn with_claims<
 }
 
 // With a board for them too.
-#[tactic(auto, using(crate::proofs::Seats::all_new, crate::proofs::Seats::all_own))]
-fn with_board<
-    R: Threads + Wait + Sync,
-    M: Fn(Task) -> Result<J, AllocError> + Sync,
-    J: Job + Send,
->(
+fn with_board<R: Threads + Wait + Sync, M: Fn(Task) -> Result<J, AllocError> + Sync, J: Job + Send>(
     rt: &R,
     plan: &Plan,
     claims: &Claims,

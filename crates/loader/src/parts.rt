@@ -72,6 +72,22 @@ pub fn with_code(alloc: Global, front: &[u8], code: Code<'_>) -> Result<Vec<u8>,
     Ok(text)
 }
 
+/// A section that ends at the byte `to`, under its own size. Where what it holds begins behind that, its bytes as they stand.
+fn push_section(
+    text: &mut Vec<u8>,
+    bytes: &[u8],
+    section: Span,
+    to: usize,
+) -> Result<(), AllocError> {
+    let head = bytes.get(section.at..to).unwrap_or(&[]);
+    let Some(held) = bytes.get(section.from..to) else {
+        return text.extend_from_slice(head);
+    };
+    text.extend_from_slice(&head[..head.len().min(1)])?;
+    push_number(text, held.len())?;
+    text.extend_from_slice(held)
+}
+
 /// A module of one section alone, which ends at the byte `to`.
 pub fn section_front(
     alloc: Global,
@@ -80,25 +96,22 @@ pub fn section_front(
     to: usize,
 ) -> Result<Vec<u8>, AllocError> {
     let mut text = Vec::from_slice(alloc, &OPENING)?;
-    let head = bytes.get(section.at..to).unwrap_or(&[]);
-    match bytes.get(section.from..to) {
-        None => text.extend_from_slice(head)?,
-        Some(held) => {
-            text.extend_from_slice(&head[..head.len().min(1)])?;
-            push_number(&mut text, held.len())?;
-            text.extend_from_slice(held)?;
-        }
-    }
+    push_section(&mut text, bytes, section, to)?;
     Ok(text)
 }
 
-/// A body behind its size, in two parts.
-fn sized_body(alloc: Global, held: &[u8], tail: &[u8]) -> Result<Vec<u8>, AllocError> {
-    let mut text = Vec::new(alloc);
-    push_number(&mut text, held.len().saturating_add(tail.len()))?;
+/// A body behind its size: what it holds, an operation, and so many ends.
+fn push_body(
+    text: &mut Vec<u8>,
+    held: &[u8],
+    operation: &[u8],
+    ends: usize,
+) -> Result<(), AllocError> {
+    let tail = operation.len().saturating_add(ends);
+    push_number(text, held.len().saturating_add(tail))?;
     text.extend_from_slice(held)?;
-    text.extend_from_slice(tail)?;
-    Ok(text)
+    text.extend_from_slice(operation)?;
+    text.resize(text.len().saturating_add(ends), END)
 }
 
 /// A module of one body and nothing else, which ends at the byte `to`.
@@ -109,28 +122,19 @@ pub fn body_front(
     to: usize,
 ) -> Result<Vec<u8>, AllocError> {
     let held = bytes.get(body.from..to).unwrap_or(&[]);
-    let text = sized_body(alloc, held, &[])?;
-    with_code(alloc, &OPENING, alone(text.as_slice()))
-}
-
-/// One body and no others.
-fn alone(body: &[u8]) -> Code<'_> {
-    Code {
+    let mut text = Vec::new(alloc);
+    push_body(&mut text, held, &[], 0)?;
+    let code = Code {
         before: 0,
-        bodies: body,
+        bodies: text.as_slice(),
         count: 1,
         behind: 0,
-    }
+    };
+    with_code(alloc, &OPENING, code)
 }
 
-/// An operation that is never valid, and the ends of all blocks that are open and of the body.
-fn refused_tail(alloc: Global, operation: &[u8], open: usize) -> Result<Vec<u8>, AllocError> {
-    let mut tail = Vec::from_slice(alloc, operation)?;
-    tail.resize(tail.len().saturating_add(open).saturating_add(1), END)?;
-    Ok(tail)
-}
-
-/// The operations of a body before this spot, and behind them one that is never valid, behind its size.
+/// The operations of a body before this spot, behind them one that is never valid, and the ends of all blocks that are open and
+/// of the body. The size stands in front.
 pub fn cut_body(
     alloc: Global,
     bytes: &[u8],
@@ -139,6 +143,7 @@ pub fn cut_body(
     operation: &[u8],
 ) -> Result<Vec<u8>, AllocError> {
     let held = bytes.get(body.from..spot.at).unwrap_or(&[]);
-    let tail = refused_tail(alloc, operation, spot.open)?;
-    sized_body(alloc, held, tail.as_slice())
+    let mut text = Vec::new(alloc);
+    push_body(&mut text, held, operation, spot.open.saturating_add(1))?;
+    Ok(text)
 }

@@ -71,9 +71,12 @@ pub fn section_of(bytes: &[u8], sections: &[Span], id: u8) -> Option<Span> {
 
 /// How many items stand in the section with this id; none where it is absent.
 pub fn count_in(bytes: &[u8], sections: &[Span], id: u8) -> u32 {
-    match section_of(bytes, sections, id) {
-        Some(section) => read_u32(bytes, section.from).map_or(0, |(count, _)| count),
-        None => 0,
+    let Some(section) = section_of(bytes, sections, id) else {
+        return 0;
+    };
+    match read_u32(bytes, section.from) {
+        Ok((count, _)) => count,
+        Err(_) => 0,
     }
 }
 

@@ -12,7 +12,7 @@ use Rattle.words.specs.declared.command.Invocation.{Invocation}
 use Rattle.commands.specs.declared.calling.Called.{Called}
 use Rattle.commands.specs.declared.calling.Called.TheVariants.{Function}
 use Rattle.commands.specs.Accepted.{Holds}
-use Rattle.commands.specs.Calling.{IsCalled, HasReturned}
+use Rattle.commands.specs.Calling.{IsCalled, HasReturned, HasFunctionReturned}
 use Rattle.commands.specs.Arguments.{AllSpell}
 
 -- A module with these contents exports a function under the name, the words spell its arguments, and this comes of a call of
@@ -23,6 +23,10 @@ pub record IsCallOf (contents : Contents) (i : Invocation) (called : Called) : T
   pub args : List Value
   pub spelled : AllSpell (map string_bytes i.arguments.items) args
   pub gives : IsCalled contents i.budget function args called
+
+-- called so, the function returns
+abbrev pub Returns : Contents → Invocation → Type 0
+Returns contents i = (called : Called) × IsCallOf contents i called × HasFunctionReturned called
 
 -- The file's module exports a function under the name, the words spell its arguments, and called with them on a new
 -- instance, it returns.

@@ -4,8 +4,8 @@ ghost use Rattle.std.specs.Prelude.{◌≡◌, ◌≢◌, ◌≤◌, ◌⊎◌, 
 ghost use Rattle.std.specs.Io.KnownBytes.{Appends};
 ghost use Rattle.syntax.specs.declared.contents.Contents.{Contents};
 ghost use Rattle.commands.specs.Accepted.{Holds};
-ghost use Rattle.commands.specs.Calling.{HasFunctionReturned};
-ghost use Rattle.commands.specs.Performing.{HasInvoked, IsCallOf, IsDone};
+ghost use Rattle.commands.specs.Calling.{HasReturned, HasFunctionReturned};
+ghost use Rattle.commands.specs.Performing.{HasInvoked, IsCallOf, Returns, IsDone};
 
 use crate::arguments::values;
 use crate::calling::{Called, call, exported_function, has_returned};
@@ -18,6 +18,7 @@ use crate::serving::serve_file;
 use crate::status::Status;
 use crate::working::work;
 use host::{Job, Task};
+use interp::ended::Ending;
 use std::alloc::{AllocError, Global};
 use std::io::{self, Write};
 use std::sync::Wait;
@@ -60,7 +61,47 @@ fn call_named<'a>(
     call(alloc, valid, function, args.as_slice(), invocation.budget)
 }
 
-/// Calls an exported function of the module, and tells how it ended.
+/// Tells how a call ended. Done, where the function was called and returned.
+fn tell_called<O: Write>(called: &Called, out: &mut O) -> io::Result<Status>
+    ensures { IfOk result (λ status. status ≡ Status.Done → HasFunctionReturned called.now) }
+{
+    match called {
+        Called::Start(ended) => {
+            let line = EndedLine(ended);
+            writeln!(out, "start {line}")?;
+            Ok(Status::Ended)
+        }
+        Called::Function(ended) => {
+            let line = EndedLine(ended);
+            writeln!(out, "{line}")?;
+            Ok(status_of(&ended.ending))
+        }
+    }
+}
+
+fn status_of(ending: &Ending) -> Status
+    ensures { result ≡ Status.Done → HasReturned ending.now }
+{
+    if has_returned(ending) {
+        return Status::Done;
+    }
+    Status::Ended
+}
+
+/// Calls the function of the module that the words name, and tells how it ended.
+fn call_and_tell<'a, O: Write>(
+    alloc: Global,
+    valid: &Valid,
+    invocation: &'a Invocation,
+    out: &mut O,
+) -> Result<Status, Failure<'a>>
+    ensures { IfOk result (λ status. status ≡ Status.Done → Returns valid.now.contents invocation.now) }
+{
+    let called = call_named(alloc, valid, invocation)?;
+    Ok(tell_called(&called, out)?)
+}
+
+/// Calls an exported function of the file's module, and tells how it ended.
 fn invoke<'a, R: Reader, O: Write>(
     alloc: Global,
     invocation: &'a Invocation,
@@ -70,32 +111,7 @@ fn invoke<'a, R: Reader, O: Write>(
     ensures { IfOk result (λ status. status ≡ Status.Done → HasInvoked (R.gives reader.now) invocation.entry.now) }
 {
     let linked = load(alloc, reader, invocation.file.as_str())?;
-    let called = call_named(alloc, linked.valid(), invocation)?;
-    tell_called(&called, out)?;
-    Ok(status_of(&called))
-}
-
-fn tell_called<O: Write>(called: &Called, out: &mut O) -> io::Result<()> {
-    match called {
-        Called::Start(ended) => {
-            let line = EndedLine(ended);
-            writeln!(out, "start {line}")
-        }
-        Called::Function(ended) => {
-            let line = EndedLine(ended);
-            writeln!(out, "{line}")
-        }
-    }
-}
-
-/// Done, where the function was called and returned.
-fn status_of(called: &Called) -> Status
-    ensures { result ≡ Status.Done → HasFunctionReturned called.now }
-{
-    match called {
-        Called::Function(ended) if has_returned(&ended.ending) => Status::Done,
-        _ => Status::Ended,
-    }
+    call_and_tell(alloc, linked.valid(), invocation, out)
 }
 
 /// Tells why there is no result: a refused module to `out`, everything else to `err`.

@@ -7,7 +7,7 @@ use crate::failure::Failure;
 use crate::file::Reader;
 use crate::loading::load;
 use crate::status::Status;
-use host::{Linked, Order, Outcome};
+use host::{Linked, Order, Outcome, Reply};
 use imports::EntryPoint;
 use interp::trap::TrapCode;
 use std::alloc::{AllocError, Global};
@@ -89,6 +89,15 @@ fn tell_outcome<O: Write>(
     }
 }
 
+/// The reply that the module computes.
+fn reply_of(alloc: Global, linked: Linked, work: &WorkRequest) -> Result<Reply, Failure<'static>> {
+    let Some(_function) = linked.entry(EntryPoint::Work) else {
+        return Err(Failure::NoFunction(EntryPoint::Work.name()));
+    };
+    let order = request(alloc, linked, work)?;
+    Ok(order.run(alloc))
+}
+
 /// Lets the module of the file compute the reply of a work order, and tells what came of it.
 pub fn work<R: Reader, O: Write>(
     alloc: Global,
@@ -97,10 +106,6 @@ pub fn work<R: Reader, O: Write>(
     out: &mut O,
 ) -> Result<Status, Failure<'static>> {
     let linked = load(alloc, reader, work.file.as_str())?;
-    let Some(_function) = linked.entry(EntryPoint::Work) else {
-        return Err(Failure::NoFunction(EntryPoint::Work.name()));
-    };
-    let order = request(alloc, linked, work)?;
-    let reply = order.run(alloc);
+    let reply = reply_of(alloc, linked, work)?;
     tell_outcome(alloc, &reply.outcome, out)
 }

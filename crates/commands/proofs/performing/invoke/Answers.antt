@@ -1,14 +1,15 @@
 use Rattle.std.proofs.Common.{string_bytes}
+use Rattle.std.proofs.lemmas.Result.{IfOk-weaker}
 use Rattle.commands.specs.Accepted.{Holds}
 use Rattle.commands.proofs.Invoking.{invoked}
 use Rattle.commands.proofs.performing.invoke.Goals as goal
 
 pub returns : goal.returns
-returns g c = λ done.
+returns g c =
     let i = c.args.invocation.now in
     let contents = c.valid.result.now.contents in
     let gives = g.R.Reader.gives c.args.reader.now in
     let linked = c.in_ok-linked.linked in
     let held : Holds gives (string_bytes i.file) contents =
     rw (c.valid.ensures.same, ← c.as_str.ensures.value) (linked.bytes, c.in_ok-linked.ensures.read, c.in_ok-linked.ensures.accepted) in
-    invoked gives i contents c.in_ok-called.called held c.in_ok-called.ensures (c.status_of.ensures done)
+    IfOk-weaker c.call_and_tell.result _ _ (λ status returned done. invoked gives i contents held (returned done)) c.call_and_tell.ensures

@@ -1,0 +1,4 @@
+use Rattle.commands.proofs.working.reply_of.Goals as goal
+
+pub run-requires-clause-work : goal.run-requires-clause-work
+run-requires-clause-work c = rw c.in_ok-order.ensures.module (c.in-Some._function, c.in-Some.ensures.found)

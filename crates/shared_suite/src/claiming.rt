@@ -213,7 +213,11 @@ fn seats_are_numbered(rt: HostRuntime) -> Result<(), Fail> {
     let opened = Claims::new(rt.alloc(), MAX_LOOPS, MAX_WORKERS)?;
     let loops = opened.loop_seats.iter().map(|seat| seat.loop_no());
     let workers = opened.worker_seats.iter().map(|seat| seat.worker_no());
-    let told = (opened.claims.loops(), loops.eq(0..MAX_LOOPS), workers.eq(0..MAX_WORKERS));
+    let told = (
+        opened.claims.loops(),
+        loops.eq(0..MAX_LOOPS),
+        workers.eq(0..MAX_WORKERS),
+    );
     assert_eq!(rt; told, (MAX_LOOPS, true, true));
     Ok(())
 }

@@ -1,0 +1,15 @@
+pub mod Alike
+pub mod Atoms
+pub mod Behind
+pub mod Hands
+pub mod Mirroring
+pub mod Numbers
+pub mod Once
+pub mod Owners
+pub mod Running
+pub mod Sending
+pub mod Splitting
+pub mod Standing
+pub mod Starting
+pub mod Threading
+pub mod Wholes

@@ -1,0 +1,50 @@
+-- What a step of a loop does at the desk, one atomic step after another.
+use Rattle.std.specs.Prelude.{◌≡◌, ℕ, Bool, List, [], ◌∷◌}
+use Rattle.instance.specs.Store.{Store}
+use Rattle.phases.specs.declared.did.StepDid.{StepDid}
+use Rattle.phases.specs.Calls.{Calls}
+use Rattle.phases.specs.State.{Setting, Loop, State}
+use Rattle.phases.specs.Step.{LoopStep}
+use Rattle.phases.specs.View.{new_view}
+use Rattle.desk.specs.Desk.{Desk, desk_calls}
+
+-- A request is opened in a slot; a try to cancel it is won or not; a send to an async of the loop is counted or refused;
+-- all that waits at an async is taken.
+pub data Access : Type 0 where
+  Opens : (slot request : ℕ) → Access
+  Cancels : (slot request : ℕ) → (won : Bool) → Access
+  Sends : (async_no : ℕ) → (ok : Bool) → Access
+  Takes : (async_no count : ℕ) → Access
+
+-- the access moves the desk so, and gives this answer there
+abbrev pub Moves : Desk → Access → Desk → Type 0
+Moves d (Opens slot request) e = desk_calls.opens d slot request e
+Moves d (Cancels slot request won) e = desk_calls.cancels d slot request won e
+Moves d (Sends async_no ok) e = desk_calls.sends d async_no ok e
+Moves d (Takes async_no count) e = desk_calls.takes d async_no count e
+
+-- the accesses, one after another, lead from one desk to another
+abbrev pub Reach : Desk → List Access → Desk → Type 0
+Reach d [] e = e ≡ d
+Reach d (a ∷ rest) e = (mid : Desk) × Moves d a mid × Reach mid rest e
+
+-- A list of accesses in the place of a shared object: each call is the front one, with the answer that stands there, and
+-- takes it off the list. What such an object would know is not asked.
+abbrev pub listed_calls : Calls (List Access)
+listed_calls = record {
+  view = λ _. new_view 0;
+  opens = λ old slot request new. old ≡ Opens slot request ∷ new;
+  cancels = λ old slot request won new. old ≡ Cancels slot request won ∷ new;
+  sends = λ old async_no ok new. old ≡ Sends async_no ok ∷ new;
+  takes = λ old async_no count new. old ≡ Takes async_no count ∷ new;
+}
+
+-- the loop over another object
+abbrev pub over : {S T : Type 0} → T → Loop S → Loop T
+over shared l = record { state = l.state; store = l.store; shared = shared }
+
+-- A step of the loop makes just these accesses, in this order and with these answers, whoever gives them; it does this
+-- then, and leaves this state and this store.
+abbrev pub StepsBy : Setting → Loop Desk → List Access → StepDid → State → Store → Type 0
+StepsBy g l accesses did state store =
+    LoopStep listed_calls g (over accesses l) did (record { state = state; store = store; shared = [] })

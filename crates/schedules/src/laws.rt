@@ -1,0 +1,32 @@
+//! Laws of what loops and workers do in threads. Their functions do nothing: each contract is the law.
+
+ghost use Rattle.schedules.specs.Laws.{IsAfterOnce, IsAsInWorld, IsOfThreads, IsSplit};
+
+/// A step of a loop over its desk is one that makes some accesses, which lead from that desk to the next; and each such
+/// is a step over the desk. So splitting a step into its accesses loses none, and adds none where nothing comes between.
+pub fn step_by_accesses()
+    ensures { IsSplit }
+{}
+
+/// Whatever loops and workers in threads do, one atomic step after another, in which a loop's step is as many as it makes
+/// accesses to what it shares, and where the loops' numbers are their places: there is a run of the world, with a worker for
+/// each job that was posted, in which the log of each loop is the same, line by line, and at whose end each loop that is
+/// between two of its steps stands the same.
+pub fn as_in_world()
+    ensures { IsAsInWorld }
+{}
+
+/// So what a law says of the log of a loop in every run of the world holds in threads: each request has at most one
+/// after-work callback.
+pub fn after_once()
+    ensures { IsAfterOnce }
+{
+    world::laws::after_once();
+}
+
+/// The other way round, each run of the world in which no list of jobs was full is a run of threads, with as many workers.
+pub fn of_threads()
+    ensures { IsOfThreads }
+{
+    world::laws::after_once();
+}

@@ -4,15 +4,18 @@ usage: build.py PROGRAM
 
 `rt run` alone does the same, one library at a time: rt locks all libraries below the one that it works on. Here the locks
 are taken once for all, as `rt all` takes them, and two or more libraries are built at a time, each once those below it
-are. What is built is kept where rt keeps it, so that rt takes it over. Standard error has a line for each library, and where one is not
-proved, what rt said of it.
+are; the one that most others wait for goes first. As under `rt ci`, a library is proved from nothing, and its statements alone are kept,
+in out/statements: the crates above it load them in a fraction of the time that its proofs would take. Standard error has a line for each
+crate, and where one is not proved, what rattle said of it.
 """
 
 import copy
+import hashlib
 import importlib.machinery
 import importlib.util
 import os
 import re
+import shutil
 import signal
 import subprocess
 import sys
@@ -24,6 +27,8 @@ TOP = os.path.dirname(os.path.realpath(__file__))
 JOB = 1_500_000_000
 # More jobs than these hardly shorten a check.
 MOST_JOBS = 4
+# What a crate is built with that the longest chain doesn't wait for.
+BESIDE = ["nice", "-n", "10"]
 # How long nothing is said, in seconds.
 QUIET = 30
 # What a crate takes before its first function, and what a function takes, in seconds of one processor of 2.5 GHz.
@@ -54,24 +59,22 @@ def kit():
     made = importlib.util.module_from_spec(importlib.util.spec_from_loader("rtlib", loader))
     sys.modules["rtlib"] = made
     loader.exec_module(made)
-    wanted = ("Crate", "lock", "guarded", "fits")
-    return made if all(hasattr(made, it) for it in wanted) else None
+    wanted = ("Crate", "lock", "guarded", "fits", "files_of", "help_of", "KIT", "RATTLE")
+    return made if all(hasattr(made, it) for it in wanted) and "--statements" in made.help_of("build") else None
 
 
 class Plan:
-    """The libraries below the program, what each is likely to take, and what has been done."""
+    """The libraries below the program and the program, what each is likely to take, and what has been done."""
 
     def __init__(self, program):
-        self.program = program
         self.crates = [*program.below(), program]
         self.work = {it: START + EACH * functions(it) for it in self.crates}
-        self.behind = {it: self.chain(it) for it in self.crates}
+        # what the longest chain of crates from each one up to the program takes (each crate stands behind those that it uses)
+        self.behind = {}
+        for crate in reversed(self.crates):
+            above = [self.behind[it] for it in self.behind if crate in it.deps]
+            self.behind[crate] = self.work[crate] + max(above, default=0)
         self.done, self.began = [], time.monotonic()
-
-    def chain(self, crate):
-        """Returns what the longest chain of crates from this one up to the program takes."""
-        above = [self.chain(it) for it in self.crates if crate in it.deps]
-        return self.work[crate] + max(above, default=0)
 
     def ended(self, crate, was_built):
         self.done.append(crate)
@@ -106,12 +109,55 @@ def log_of(crate):
     return f"{crate.folder}/out/build.log"
 
 
-def build(crate, jobs):
-    """Builds a library over the work that earlier builds kept, and returns rt's status and whether there was anything to do."""
+def sum_of(rtlib, crate, known):
+    """Returns a sum of all that the crate is built from. `known` takes the sums of those below it."""
+    if crate not in known:
+        made = hashlib.sha256(repr((crate.said, [sum_of(rtlib, it, known) for it in crate.deps])).encode())
+        for file in [f"{rtlib.KIT}/WHAT", *sorted(rtlib.files_of(crate.folder))]:
+            with open(file, "rb") as it:
+                made.update(repr((os.path.basename(file), it.read())).encode())
+        known[crate] = made.hexdigest()
+    return known[crate]
+
+
+def text_of(file):
+    if not os.path.isfile(file):
+        return None
+    with open(file, encoding="utf-8", errors="replace") as it:
+        return it.read()
+
+
+def build(rtlib, crate, jobs, is_first):
+    """Builds a crate, where it isn't built, and returns the status of what did it and whether there was anything to do."""
     crate = copy.copy(crate)
+    if crate.is_program:
+        with open(log_of(crate), "w", encoding="utf-8") as crate.out:
+            return link(rtlib, crate, jobs), True
+    folder = os.path.dirname(crate.rlib)
+    found = sum_of(rtlib, crate, {})
+    if text_of(f"{folder}/sum") == found:
+        return 0, False
+    shutil.rmtree(folder, ignore_errors=True)
+    os.makedirs(folder)
+    words = crate.words(["--jobs", str(jobs)], keeps=False)
     with open(log_of(crate), "w", encoding="utf-8") as crate.out:
-        status = crate.build_rlib(["--jobs", str(jobs)], anew=False)
-        return status, crate.out.tell() > 0
+        status = crate.call(*([] if is_first else BESIDE), rtlib.RATTLE, "build", *words, "--statements", "-o", crate.rlib)
+    # (an edit while it was built leaves it to be built again)
+    if status == 0 and sum_of(rtlib, crate, {}) == found:
+        with open(f"{folder}/sum", "w", encoding="utf-8") as it:
+            it.write(found)
+    return status, True
+
+
+def link(rtlib, program, jobs):
+    """Proves the program over the libraries' statements, compiles and links it, and returns the status."""
+    made = f"out/{program.name}"
+    status = program.compile(["--jobs", str(jobs)], f"{made}.o")
+    if status:
+        return status
+    c = [f"{rtlib.KIT}/c/{it}" for it in ("libos_c.a", "liblibc_c.a")]
+    words = ["--target", "x86_64-unknown-linux-gnu", "--toolchain", f"{rtlib.KIT}/toolchain"]
+    return program.call(f"{rtlib.KIT}/bin/rattle-link", *words, "-o", made, f"{made}.o", *c)
 
 
 def fail(crate, status):
@@ -129,21 +175,15 @@ def report(plan, crate):
     with open(log_of(crate), encoding="utf-8", errors="replace") as it:
         found = re.findall(r"^logic=proved .*?functions=(\d+)", it.read(), re.M)
     what = f"{found[-1]} functions proved" if found else "as it was"
-    say(f"[{len(plan.done)} of {len(plan.crates)}] {crate.name}: {what}; {clock(plan.elapsed())} so far, {minutes(plan.left())} left")
-
-
-def so_far(crate):
-    """Returns the crate's name, with how many of its functions are checked where rattle said so."""
-    with open(log_of(crate), encoding="utf-8", errors="replace") as it:
-        found = re.findall(r"^so far: (\d+ of \d+) functions checked", it.read(), re.M)
-    return f"{crate.name} ({found[-1]} functions)" if found else crate.name
+    left = f", {minutes(plan.left())} left" if len(plan.done) < len(plan.crates) else ""
+    say(f"[{len(plan.done)} of {len(plan.crates)}] {crate.name}: {what}; {clock(plan.elapsed())} so far{left}")
 
 
 def shares(rtlib):
-    """Returns how many crates are built at a time, and with how many jobs each. A check uses its jobs half of the time, so two have all processors."""
+    """Returns how many crates are built at a time, and with how many jobs each. A check uses its jobs half of the time."""
     processors = len(os.sched_getaffinity(0))
     jobs = min(MOST_JOBS, processors)
-    at_once = max(processors // 2, 2) if processors > 1 else 1
+    at_once = processors // 2 + 1
     while jobs > 1 and not rtlib.fits(JOB * jobs):
         jobs -= 1
     while at_once > 1 and not rtlib.fits(JOB * jobs * at_once):
@@ -151,16 +191,18 @@ def shares(rtlib):
     return at_once, jobs
 
 
-def build_libraries(plan, at_once, jobs):
-    """Builds the libraries, each once those below it are built, and those first that the longest chain stands on."""
-    waiting = sorted(plan.crates[:-1], key=lambda it: -plan.behind[it])
+def build_all(rtlib, plan):
+    """Builds the crates, each once those below it are built, and those first that the longest chain stands on."""
+    at_once, jobs = shares(rtlib)
+    waiting = sorted(plan.crates, key=lambda it: -plan.behind[it])
     running = {}
     with ThreadPoolExecutor(at_once) as pool:
         while waiting or running:
             ready = [it for it in waiting if all(dep in plan.done for dep in it.deps)]
             for crate in ready[: at_once - len(running)]:
                 waiting.remove(crate)
-                running[pool.submit(build, crate, jobs)] = crate
+                is_first = all(plan.behind[it] <= plan.behind[crate] for it in [*waiting, *running.values()])
+                running[pool.submit(build, rtlib, crate, jobs, is_first)] = crate
             ended = wait(running, timeout=QUIET, return_when=FIRST_COMPLETED).done
             for it in ended:
                 crate = running.pop(it)
@@ -170,25 +212,7 @@ def build_libraries(plan, at_once, jobs):
                 plan.ended(crate, was_built)
                 report(plan, crate)
             if not ended:
-                say(f"at {', '.join(map(so_far, running.values()))}; {clock(plan.elapsed())} so far")
-
-
-def build_program(program, plan, jobs):
-    """Has rt build the program over the libraries, which it finds built, and run it once."""
-    words = ["rt", "run", "--jobs", str(jobs), "--", "--version"]
-    with open(log_of(program), "w", encoding="utf-8") as log:
-        ran = subprocess.Popen(words, cwd=program.folder, stdin=subprocess.DEVNULL, stdout=log, stderr=log)
-        while True:
-            try:
-                ran.wait(QUIET)
-                break
-            except subprocess.TimeoutExpired:
-                say(f"at {so_far(program)}, the last of {len(plan.crates)}; {clock(plan.elapsed())} so far")
-    if ran.returncode:
-        fail(program, ran.returncode)
-    plan.ended(program, True)
-    os.utime(f"{program.folder}/out/{program.name}")
-    say(f"[{len(plan.done)} of {len(plan.crates)}] {program.name} is proved and built; it took {clock(plan.elapsed())}, and later calls start at once")
+                say(f"at {', '.join(it.name for it in running.values())}; {clock(plan.elapsed())} so far")
 
 
 def main(name):
@@ -204,15 +228,17 @@ def main(name):
     # with its own handler, Python would wait at Ctrl-C for the libraries that are being built
     if signal.getsignal(signal.SIGINT) is signal.default_int_handler:
         signal.signal(signal.SIGINT, signal.SIG_DFL)
-    held = rtlib.lock([*program.below(), program])
     plan = Plan(program)
+    for it in plan.crates:
+        it.rlib = f"{it.folder}/out/statements/{it.name}.rlib"
+    held = rtlib.lock(plan.crates)
     processors = len(os.sched_getaffinity(0))
     say(f"proving and building {len(plan.crates)} crates before the first run: {minutes(plan.left())} on {processors} processors")
-    at_once, jobs = shares(rtlib)
-    build_libraries(plan, at_once, jobs)
+    build_all(rtlib, plan)
     for it in held:
         os.close(it)
-    build_program(program, plan, jobs)
+    os.utime(f"{folder}/out/{name}")
+    say(f"{name} is proved and built; it took {clock(plan.elapsed())}, and later calls start at once")
     return 0
 
 

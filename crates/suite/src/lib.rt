@@ -15,6 +15,8 @@ mod modules;
 #[cfg(test)]
 mod operators;
 #[cfg(test)]
+mod rows;
+#[cfg(test)]
 mod runs;
 #[cfg(test)]
 mod validation;

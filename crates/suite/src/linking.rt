@@ -1,47 +1,46 @@
-use crate::modules::{check_sections, module_of, valid_of};
-use imports::{Call, EntryPoint, Linked, link};
+use crate::modules::check_sections;
+use crate::rows::check_rows;
+use fixtures::{guest_of, module_of};
+use imports::{Call, EntryPoint, Linked, Signature};
+use std::alloc::Global;
 use std::process::Abort;
 use std::test::Fail;
-use syntax::types::ValType::{self, I32, I64};
 
-/// The functions of "uv", by name, parameters and result.
-const TABLE: [(&[u8], &[ValType], ValType); 21] = [
-    (b"now", &[], I64),
-    (b"timer_init", &[], I32),
-    (b"idle_init", &[], I32),
-    (b"check_init", &[], I32),
-    (b"timer_start", &[I32, I32, I64, I64], I32),
-    (b"timer_stop", &[I32], I32),
-    (b"idle_stop", &[I32], I32),
-    (b"check_stop", &[I32], I32),
-    (b"timer_again", &[I32], I32),
-    (b"idle_start", &[I32, I32], I32),
-    (b"check_start", &[I32, I32], I32),
-    (b"async_init", &[I32], I32),
-    (b"async_send", &[I32], I32),
-    (b"is_active", &[I32], I32),
-    (b"close", &[I32, I32], I32),
-    (b"queue_work", &[I32, I32, I32], I32),
-    (b"cancel", &[I32], I32),
-    (b"in_len", &[], I32),
-    (b"in_copy", &[I32, I32, I32], I32),
-    (b"out_set", &[I32, I32], I32),
-    (b"emit", &[I64], I32),
-];
+/// The functions of "uv", and the name, the parameters and the result of each.
+const TABLE: &str = "
+    now = now [] [I64]
+    timer_init = timer_init [] [I32]
+    idle_init = idle_init [] [I32]
+    check_init = check_init [] [I32]
+    timer_start = timer_start [I32, I32, I64, I64] [I32]
+    timer_stop = timer_stop [I32] [I32]
+    idle_stop = idle_stop [I32] [I32]
+    check_stop = check_stop [I32] [I32]
+    timer_again = timer_again [I32] [I32]
+    idle_start = idle_start [I32, I32] [I32]
+    check_start = check_start [I32, I32] [I32]
+    async_init = async_init [I32] [I32]
+    async_send = async_send [I32] [I32]
+    is_active = is_active [I32] [I32]
+    close = close [I32, I32] [I32]
+    queue_work = queue_work [I32, I32, I32] [I32]
+    cancel = cancel [I32] [I32]
+    in_len = in_len [] [I32]
+    in_copy = in_copy [I32, I32, I32] [I32]
+    out_set = out_set [I32, I32] [I32]
+    emit = emit [I64] [I32]
+";
+
+/// The name and the signature of the function of this name.
+fn call_told(alloc: Global, name: &str) -> Result<String, Fail> {
+    let call = Call::from_name(name.as_bytes()).ok_or("an unknown name")?;
+    let Signature { params, results } = call.signature();
+    Ok(format!(in alloc; "{} {params:?} {results:?}", call.name())?)
+}
 
 #[test]
 fn knows_the_functions_of_the_host(rt: HostRuntime) -> Result<(), Fail> {
-    for (name, params, answer) in TABLE {
-        let call = Call::from_name(name).ok_or("a name of the table is unknown")?;
-        assert!(rt; call.name().as_bytes() == name);
-        assert_eq!(rt; call.signature().params, params, "of {call:?}");
-        assert_eq!(rt;
-            call.signature().results,
-            [answer].as_slice(),
-            "of {call:?}"
-        );
-    }
-    Ok(())
+    check_rows(&rt, TABLE, |name| call_told(rt.alloc(), name))
 }
 
 /// Imports three functions, and exports all that the host calls.
@@ -50,21 +49,21 @@ const GUEST: &str = "011b0560037f7f7f017f60017e017f60000060017f017f60037f7f7f00
     0725030775765f6d61696e00020775765f776f726b00030d75765f61667465725f776f726b0004
     0a1e030b0041054100410010001a0b0700200041016a0b08002002ac10011a0b";
 
-fn finds(rt: &impl Abort, linked: &Linked) {
-    let calls = (linked.call(0), linked.call(1), linked.call(2));
-    assert!(rt; calls == (Some(Call::QueueWork), Some(Call::Emit), None));
-    let entries = (
-        linked.entry(EntryPoint::Main),
-        linked.entry(EntryPoint::Work),
-        linked.entry(EntryPoint::AfterWork),
-    );
-    assert_eq!(rt; entries, (Some(2), Some(3), Some(4)));
+fn finds(rt: &impl Abort, guest: &Linked) {
+    let calls = [guest.call(0), guest.call(1), guest.call(2)];
+    assert_eq!(rt; calls, [Some(Call::QueueWork), Some(Call::Emit), None]);
+    let entries = [
+        guest.entry(EntryPoint::Main),
+        guest.entry(EntryPoint::Work),
+        guest.entry(EntryPoint::AfterWork),
+    ];
+    assert_eq!(rt; entries, [Some(2), Some(3), Some(4)]);
 }
 
 #[test]
 fn finds_calls_and_entries(rt: HostRuntime) -> Result<(), Fail> {
-    let valid = valid_of(rt.alloc(), module_of(rt.alloc(), GUEST)?)?;
-    finds(&rt, &link(valid)?);
+    let guest = guest_of(rt.alloc(), module_of(rt.alloc(), GUEST)?)?;
+    finds(&rt, &guest);
     Ok(())
 }
 

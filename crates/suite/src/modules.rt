@@ -1,50 +1,15 @@
-// Modules as hex digits, and what becomes of them.
+// Modules whose code is made, and what becomes of modules.
 
+use crate::rows::check_rows;
 use decode::decode;
-use imports::link;
+use fixtures::{bytes_of, module_of};
+use imports::{LinkFault, link};
 use std::alloc::{AllocError, Global};
 use std::fmt::Display;
 use std::process::Abort;
 use std::test::Fail;
 use syntax::module::Module;
 use validate::{Valid, validate};
-
-/// What a module begins with.
-const OPENING: &str = "0061736d 01000000";
-
-/// Appends the bytes of hex digits.
-fn push_word(alloc: Global, bytes: &mut Vec<u8>, digits: &str) -> Result<(), Fail> {
-    let word = hex::decode(alloc, digits)?;
-    bytes.extend_from_slice(word.as_slice())?;
-    Ok(())
-}
-
-/// Appends the bytes of hex digits, between which spaces may stand.
-fn push_digits(alloc: Global, bytes: &mut Vec<u8>, digits: &str) -> Result<(), Fail> {
-    for word in digits.split_whitespace() {
-        push_word(alloc, bytes, word)?;
-    }
-    Ok(())
-}
-
-/// The bytes of hex digits, between which spaces may stand.
-pub fn bytes_of(alloc: Global, digits: &str) -> Result<Vec<u8>, Fail> {
-    let mut bytes = Vec::new(alloc);
-    push_digits(alloc, &mut bytes, digits)?;
-    Ok(bytes)
-}
-
-/// The bytes of both texts, one behind the other.
-pub fn joined(alloc: Global, front: &str, behind: &str) -> Result<Vec<u8>, Fail> {
-    let mut bytes = bytes_of(alloc, front)?;
-    push_digits(alloc, &mut bytes, behind)?;
-    Ok(bytes)
-}
-
-/// A module of these sections.
-pub fn module_of(alloc: Global, sections: &str) -> Result<Vec<u8>, Fail> {
-    joined(alloc, OPENING, sections)
-}
 
 /// Appends the part so many times.
 pub fn push_times(bytes: &mut Vec<u8>, part: &[u8], times: usize) -> Result<(), AllocError> {
@@ -109,25 +74,19 @@ pub fn with_digits(alloc: Global, sections: &str, digits: &str) -> Result<Vec<u8
     with_body(alloc, sections, body.as_slice())
 }
 
-fn decoded(alloc: Global, bytes: Vec<u8>) -> Result<Module, Fail> {
-    Ok(decode(alloc, bytes)?)
-}
-
-/// The valid module of these bytes.
-pub fn valid_of(alloc: Global, bytes: Vec<u8>) -> Result<Valid, Fail> {
-    let module = decoded(alloc, bytes)?;
-    Ok(validate(alloc, module)?)
-}
-
 /// A refusal by its step, number and word.
 fn refusal<F: Display>(alloc: Global, step: &str, code: u32, fault: &F) -> Result<String, Fail> {
     Ok(format!(in alloc; "{step} {code} {fault}")?)
 }
 
+fn link_fault(valid: Valid) -> Option<LinkFault> {
+    link(valid).err()
+}
+
 fn link_verdict(alloc: Global, valid: Valid) -> Result<String, Fail> {
-    match link(valid) {
-        Ok(_) => Ok(String::from_str(alloc, "accepted")?),
-        Err(fault) => refusal(alloc, "link", fault.code(), &fault),
+    match link_fault(valid) {
+        None => Ok(String::from_str(alloc, "accepted")?),
+        Some(fault) => refusal(alloc, "link", fault.code(), &fault),
     }
 }
 
@@ -146,32 +105,11 @@ pub fn verdict(alloc: Global, bytes: Vec<u8>) -> Result<String, Fail> {
     }
 }
 
-/// The two parts of a row, or none of a remark and of an empty line.
-pub fn parts_of(row: &str) -> Result<Option<(&str, &str)>, Fail> {
-    let row = row.trim();
-    if row.is_empty() || row.starts_with('#') {
-        return Ok(None);
-    }
-    Ok(Some(row.split_once(" = ").ok_or("a row of one part")?))
-}
-
-/// That of this row it is told what is wanted.
-pub fn is_told(rt: &impl Abort, told: &str, wanted: &str, row: &str) {
-    assert_eq!(rt; told, wanted, "of {row}");
-}
-
-fn check_verdict(rt: &impl Abort, alloc: Global, sections: &str, wanted: &str) -> Result<(), Fail> {
-    let told = verdict(alloc, module_of(alloc, sections)?)?;
-    is_told(rt, told.as_str(), wanted, sections);
-    Ok(())
-}
-
 /// Each row has the sections of a module, and the verdict on it.
 pub fn check_sections(rt: &impl Abort, alloc: Global, rows: &str) -> Result<(), Fail> {
-    for row in rows.lines() {
-        if let Some((sections, wanted)) = parts_of(row)? {
-            check_verdict(rt, alloc, sections, wanted)?;
-        }
-    }
-    Ok(())
+    check_rows(
+        rt,
+        rows,
+        |sections| verdict(alloc, module_of(alloc, sections)?),
+    )
 }

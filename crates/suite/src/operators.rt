@@ -29,24 +29,24 @@ fn counts_bits(rt: HostRuntime) {
 
 #[test]
 fn extends_and_wraps(rt: HostRuntime) {
-    let extended = [
+    let made = [
         i32_extend8_s(128),
         i32_extend8_s(0x0123_457F),
         i32_extend16_s(0x8000),
-    ];
-    assert_eq!(rt; extended, [0xFFFF_FF80, 0x7F, 0xFFFF_8000]);
-    let extended = [
-        i64_extend8_s(0xFEDC_BA98_7654_3280),
-        i64_extend16_s(0x1_7FFF),
-    ];
-    assert_eq!(rt; extended, [0xFFFF_FFFF_FFFF_FF80, 0x7FFF]);
-    let wrapped = [
         i32_wrap_i64(u64::MAX),
         i32_wrap_i64(i64_shr_u(i64_extend32_s(0x8000_0000), 63)),
         i32_wrap_i64(i64_shr_u(i64_extend_i32_u(u32::MAX), 32)),
         i32_wrap_i64(i64_shr_u(i64_extend_i32_s(u32::MAX), 32)),
     ];
-    assert_eq!(rt; wrapped, [u32::MAX, 1, 0, u32::MAX]);
+    assert_eq!(rt;
+        made,
+        [0xFFFF_FF80, 0x7F, 0xFFFF_8000, u32::MAX, 1, 0, u32::MAX]
+    );
+    let extended = [
+        i64_extend8_s(0xFEDC_BA98_7654_3280),
+        i64_extend16_s(0x1_7FFF),
+    ];
+    assert_eq!(rt; extended, [0xFFFF_FFFF_FFFF_FF80, 0x7FFF]);
 }
 
 #[test]
@@ -89,17 +89,17 @@ fn divides(rt: HostRuntime) {
 
 #[test]
 fn traps(rt: HostRuntime) {
-    assert_eq!(rt; i32_div_s(I32_MIN, u32::MAX), Err(Trap::Overflow));
-    assert_eq!(rt; i64_div_s(I64_MIN, u64::MAX), Err(Trap::Overflow));
     for operator in [
         IntBinary::DivS,
         IntBinary::DivU,
         IntBinary::RemS,
         IntBinary::RemU,
     ] {
-        assert_eq!(rt; i32_binary(operator, 1, 0), Err(Trap::DivideByZero));
-        assert_eq!(rt; i64_binary(operator, 1, 0), Err(Trap::DivideByZero));
+        let by_zero = (i32_binary(operator, 1, 0), i64_binary(operator, 1, 0));
+        assert_eq!(rt; by_zero, (Err(Trap::DivideByZero), Err(Trap::DivideByZero)));
     }
+    let least = (i32_div_s(I32_MIN, u32::MAX), i64_div_s(I64_MIN, u64::MAX));
+    assert_eq!(rt; least, (Err(Trap::Overflow), Err(Trap::Overflow)));
     assert_eq!(rt; (Trap::DivideByZero.code(), Trap::Overflow.code()), (2, 3));
 }
 
@@ -192,10 +192,13 @@ fn dispatches(rt: HostRuntime) {
         i64_compare(IntCompare::LtU, u64::MAX, 0),
     ];
     assert_eq!(rt; answers, [0xFFFF_FF80, I32_MIN, 1, 0]);
-    assert_eq!(rt;
+    let answers = (
         i64_unary(IntUnary::Extend32S, 0x8000_0000),
-        0xFFFF_FFFF_8000_0000
+        i32_binary(IntBinary::Sub, 1, 2),
+        i64_binary(IntBinary::Sub, 1, 2),
     );
-    assert_eq!(rt; i32_binary(IntBinary::Sub, 1, 2), Ok(u32::MAX));
-    assert_eq!(rt; i64_binary(IntBinary::Sub, 1, 2), Ok(u64::MAX));
+    assert_eq!(rt;
+        answers,
+        (0xFFFF_FFFF_8000_0000, Ok(u32::MAX), Ok(u64::MAX))
+    );
 }

@@ -3,7 +3,9 @@
 ghost use Rattle.std.specs.Prelude.{◌≤◌};
 ghost use Rattle.limits.specs.declared.TheConstants.{MAX_DEPTH};
 
-use crate::modules::{is_told, module_of, parts_of, valid_of, with_digits};
+use crate::modules::with_digits;
+use crate::rows::{check_rows, is_told};
+use fixtures::{module_of, valid_of};
 use instance::memory::Memory;
 use instance::state::Instance;
 use interp::conditions::takes_arguments;
@@ -131,34 +133,21 @@ fn end_of(alloc: Global, bytes: Vec<u8>, fuel: u64, depth: u32) -> Result<String
     Ok(told(alloc, &ended)?)
 }
 
-fn check_body(
-    rt: &impl Abort,
-    alloc: Global,
-    sections: &str,
-    body: &str,
-    wanted: &str,
-) -> Result<(), Fail> {
-    let end = end_of(alloc, with_digits(alloc, sections, body)?, 1000, 8)?;
-    is_told(rt, end.as_str(), wanted, body);
-    Ok(())
-}
-
 /// Each row has a body, which comes behind these sections, and how a call of it ends.
-fn check_rows(rt: &impl Abort, alloc: Global, sections: &str, rows: &str) -> Result<(), Fail> {
-    for row in rows.lines() {
-        if let Some((body, wanted)) = parts_of(row)? {
-            check_body(rt, alloc, sections, body, wanted)?;
-        }
-    }
-    Ok(())
+fn check_bodies(rt: &impl Abort, alloc: Global, sections: &str, rows: &str) -> Result<(), Fail> {
+    check_rows(
+        rt,
+        rows,
+        |body| end_of(alloc, with_digits(alloc, sections, body)?, 1000, 8),
+    )
 }
 
 #[test]
 fn bodies_end_as_they_must(rt: HostRuntime) -> Result<(), Fail> {
     let alloc = rt.alloc();
-    check_rows(&rt, alloc, TO_I32, BODIES)?;
-    check_rows(&rt, alloc, TO_TWO, "4107 4108 0b = return 7 8 used 2")?;
-    check_rows(&rt, alloc, THREE, BLOCKS)
+    check_bodies(&rt, alloc, TO_I32, BODIES)?;
+    check_bodies(&rt, alloc, TO_TWO, "4107 4108 0b = return 7 8 used 2")?;
+    check_bodies(&rt, alloc, THREE, BLOCKS)
 }
 
 /// A module whose function calls itself.
@@ -171,18 +160,28 @@ fn end_with(alloc: Global, sections: &str, fuel: u64, depth: u32) -> Result<Stri
     end_of(alloc, module_of(alloc, sections)?, fuel, depth)
 }
 
+fn check_end(
+    rt: &impl Abort,
+    alloc: Global,
+    sections: &str,
+    fuel: u64,
+    depth: u32,
+    wanted: &str,
+) -> Result<(), Fail>
+    requires { (1 ≤ depth) × (depth ≤ MAX_DEPTH) }
+{
+    let end = end_with(alloc, sections, fuel, depth)?;
+    is_told(rt, end.as_str(), wanted, sections);
+    Ok(())
+}
+
 #[test]
 fn calls_itself_up_to_the_limit(rt: HostRuntime) -> Result<(), Fail> {
-    for (fuel, depth, wanted) in [
-        (127, 128, "spent used 127"),
-        (128, 128, "depth used 128"),
-        (1000, 1, "depth used 1"),
-        (0, 128, "spent used 0"),
-    ] {
-        let end = end_with(rt.alloc(), CALLS_ITSELF, fuel, depth)?;
-        assert_eq!(rt; end.as_str(), wanted, "with fuel {fuel}");
-    }
-    Ok(())
+    let alloc = rt.alloc();
+    check_end(&rt, alloc, CALLS_ITSELF, 127, 128, "spent used 127")?;
+    check_end(&rt, alloc, CALLS_ITSELF, 128, 128, "depth used 128")?;
+    check_end(&rt, alloc, CALLS_ITSELF, 1000, 1, "depth used 1")?;
+    check_end(&rt, alloc, CALLS_ITSELF, 0, 128, "spent used 0")
 }
 
 /// A module whose function counts 5 down to 0 in the parameter of a loop.
@@ -191,9 +190,6 @@ const COUNTS_DOWN: &str = "010f 03 6000017f 6000027f7f 60017f017f 03020100
 
 #[test]
 fn a_loop_counts_down_with_its_parameter(rt: HostRuntime) -> Result<(), Fail> {
-    for (fuel, wanted) in [(31, "return 0 used 31"), (30, "spent used 30")] {
-        let end = end_with(rt.alloc(), COUNTS_DOWN, fuel, 8)?;
-        assert_eq!(rt; end.as_str(), wanted, "with fuel {fuel}");
-    }
-    Ok(())
+    check_end(&rt, rt.alloc(), COUNTS_DOWN, 31, 8, "return 0 used 31")?;
+    check_end(&rt, rt.alloc(), COUNTS_DOWN, 30, 8, "spent used 30")
 }

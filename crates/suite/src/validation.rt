@@ -1,6 +1,6 @@
-use crate::modules::{
-    bytes_of, check_sections, is_told, parts_of, push_times, verdict, with_body, with_digits,
-};
+use crate::modules::{check_sections, push_times, verdict, with_body, with_digits};
+use crate::rows::check_rows;
+use fixtures::bytes_of;
 use std::alloc::Global;
 use std::process::Abort;
 use std::test::Fail;
@@ -54,26 +54,13 @@ const BODIES_OF_THREE_TYPES: &str = "
     4107 4100 0401 0b 1a 0b = validate 1 Type
 ";
 
-fn check_body(
-    rt: &impl Abort,
-    alloc: Global,
-    sections: &str,
-    body: &str,
-    wanted: &str,
-) -> Result<(), Fail> {
-    let told = verdict(alloc, with_digits(alloc, sections, body)?)?;
-    is_told(rt, told.as_str(), wanted, body);
-    Ok(())
-}
-
 /// Each row has a body, which comes behind these sections, and the verdict on the module.
 fn check_bodies(rt: &impl Abort, alloc: Global, sections: &str, rows: &str) -> Result<(), Fail> {
-    for row in rows.lines() {
-        if let Some((body, wanted)) = parts_of(row)? {
-            check_body(rt, alloc, sections, body, wanted)?;
-        }
-    }
-    Ok(())
+    check_rows(
+        rt,
+        rows,
+        |body| verdict(alloc, with_digits(alloc, sections, body)?),
+    )
 }
 
 #[test]
@@ -128,7 +115,7 @@ fn judges_parts(rt: HostRuntime) -> Result<(), Fail> {
     check_sections(&rt, rt.alloc(), PARTS)
 }
 
-/// Appends the bytes of a text so many times.
+/// Appends the bytes of a word so many times.
 fn push_repeated(
     alloc: Global,
     body: &mut Vec<u8>,
@@ -140,53 +127,48 @@ fn push_repeated(
     Ok(())
 }
 
-/// Of each text, so many after one another.
-fn repeated(alloc: Global, parts: &[(usize, &str)]) -> Result<Vec<u8>, Fail> {
-    let mut body = Vec::new(alloc);
-    for (times, digits) in parts {
-        push_repeated(alloc, &mut body, digits, *times)?;
+/// Appends a word, before which the number of its times may stand.
+fn push_word(alloc: Global, body: &mut Vec<u8>, word: &str) -> Result<(), Fail> {
+    match word.split_once('*') {
+        None => push_repeated(alloc, body, word, 1),
+        Some((times, digits)) => push_repeated(alloc, body, digits, times.parse::<usize>()?),
     }
+}
+
+fn push_words(alloc: Global, body: &mut Vec<u8>, words: &str) -> Result<(), Fail> {
+    for word in words.split_whitespace() {
+        push_word(alloc, body, word)?;
+    }
+    Ok(())
+}
+
+fn body_of(alloc: Global, words: &str) -> Result<Vec<u8>, Fail> {
+    let mut body = Vec::new(alloc);
+    push_words(alloc, &mut body, words)?;
     Ok(body)
 }
 
 /// The verdict on a module with this body.
-fn judged(alloc: Global, body: &[u8]) -> Result<String, Fail> {
-    verdict(alloc, with_body(alloc, ONE_FUNCTION, body)?)
+fn verdict_on(alloc: Global, words: &str) -> Result<String, Fail> {
+    let body = body_of(alloc, words)?;
+    verdict(alloc, with_body(alloc, ONE_FUNCTION, body.as_slice())?)
 }
 
-fn verdict_on(alloc: Global, parts: &[(usize, &str)]) -> Result<String, Fail> {
-    let body = repeated(alloc, parts)?;
-    judged(alloc, body.as_slice())
-}
+/// Bodies of the function, in words that stand there so many times.
+const LARGE: &str = "
+    256*4100 255*1a 0b = accepted
+    257*4100 256*1a 0b = validate 10 Height
+    00 300*1a 4107 0b = accepted
+    00 257*4100 0b = validate 10 Height
+    256*0240 256*0b 4107 0b = accepted
+    257*0240 257*0b 4107 0b = validate 11 Nesting
+    # which are decoded, however deep they are
+    100000*0240 100000*0b 4107 0b = validate 11 Nesting
+    # operands before the nesting
+    256*0240 0440 257*0b 4107 0b = validate 1 Type
+";
 
 #[test]
 fn bounds_height_and_nesting(rt: HostRuntime) -> Result<(), Fail> {
-    let rows: [(&[(usize, &str)], &str); 8] = [
-        (&[(256, "4100"), (255, "1a"), (1, "0b")], "accepted"),
-        (
-            &[(257, "4100"), (256, "1a"), (1, "0b")],
-            "validate 10 Height",
-        ),
-        (&[(1, "00"), (300, "1a"), (1, "4107 0b")], "accepted"),
-        (&[(1, "00"), (257, "4100"), (1, "0b")], "validate 10 Height"),
-        (&[(256, "0240"), (256, "0b"), (1, "4107 0b")], "accepted"),
-        (
-            &[(257, "0240"), (257, "0b"), (1, "4107 0b")],
-            "validate 11 Nesting",
-        ),
-        (
-            &[(100_000, "0240"), (100_000, "0b"), (1, "4107 0b")],
-            "validate 11 Nesting",
-        ),
-        // operands before the nesting
-        (
-            &[(256, "0240"), (1, "0440"), (257, "0b"), (1, "4107 0b")],
-            "validate 1 Type",
-        ),
-    ];
-    for (parts, wanted) in rows {
-        let told = verdict_on(rt.alloc(), parts)?;
-        assert_eq!(rt; told.as_str(), wanted, "of {parts:?}");
-    }
-    Ok(())
+    check_rows(&rt, LARGE, |words| verdict_on(rt.alloc(), words))
 }

@@ -1,12 +1,12 @@
 -- A step on one of the lines of replies.
-use Rattle.std.proofs.Common.{◌≡◌, ℕ, zero, suc, ◌<◌, List, [], ◌∷◌, length, set, map, Option, Some, None, IfSome, IfNone, Result, Ok, Err, OnOk, refl, sym, ap, ◌∙◌, arith}
+use Rattle.std.proofs.Common.{◌≡◌, ℕ, zero, suc, ◌<◌, List, [], ◌∷◌, length, set, map, Option, Some, None, IfSome, IfNone, Result, Ok, Err, OnOk, refl, sym, ap, ◌∙◌, subst, arith}
 use Rattle.std.specs.List.{slice_get}
 use Rattle.std.proofs.lemmas.List.{length-map}
 use Rattle.std.proofs.lemmas.Option.{same_Some}
 use Rattle.order.specs.declared.reply.Reply.{Reply}
 use Rattle.board.specs.Views.{LineView, HandView}
 use Rattle.board.proofs.Makers.{same_part}
-use Rattle.board.specs.Boards.{BoardView, PassView, IsPassOf, OnReplies}
+use Rattle.board.specs.Boards.{BoardView, PassView, AreOfTheirLoops, IsPassOf, OnReplies}
 
 pub some_then : {A : Type 0} (P Q : A → Type 0) (o : Option A) → ((x : A) → P x → Q x) → IfSome o P → IfSome o Q
 some_then P Q None f h = tt
@@ -44,6 +44,17 @@ set_same : {A : Type 0} (xs : List A) (k : ℕ) (a b : A) → slice_get xs k ≡
 set_same [] k a b e same = refl
 set_same (x ∷ xs) zero a b e same = ap (λ y. y ∷ xs) (same ∙ sym (same_Some x a e))
 set_same (x ∷ xs) (suc k) a b e same = ap (λ ys. x ∷ ys) (set_same xs k a b e same)
+
+-- a fact of each place, where one is changed
+each_set : {A : Type 0} (P : ℕ → A → Type 0) (xs : List A) (k : ℕ) (b : A) → ((i : ℕ) (x : A) → slice_get xs i ≡ Some x → P i x) → P k b → (i : ℕ) (x : A) → slice_get (set xs k b) i ≡ Some x → P i x
+each_set P [] k b h own i x e = h i x e
+each_set P (y ∷ xs) zero b h own zero x e = subst (P 0) (same_Some b x e) own
+each_set P (y ∷ xs) zero b h own (suc i) x e = h (suc i) x e
+each_set P (y ∷ xs) (suc k) b h own zero x e = h zero x e
+each_set P (y ∷ xs) (suc k) b h own (suc i) x e = each_set (λ j. P (suc j)) xs k b (λ j z. h (suc j) z) own i x e
+
+pub still_of_loops : (hands : List (HandView Reply)) (k : ℕ) (a b : HandView Reply) → slice_get hands k ≡ Some a → b.key ≡ a.key → AreOfTheirLoops hands → AreOfTheirLoops (set hands k b)
+still_of_loops hands k a b at same each = each_set (λ i (h : HandView Reply). h.key ≡ i) hands k b each (same ∙ each k a at)
 
 module _ {J : Type 0} (old : PassView J) (jobs : HandView J) (replies : List (HandView Reply)) (was : record { jobs = jobs; replies = replies } ≡ old) (k : ℕ) (a b : HandView Reply) (at : slice_get replies k ≡ Some a) where
   pub still_own : (board : BoardView) → IsPassOf board old → b.line ≡ a.line → IsPassOf board (record { jobs = jobs; replies = set replies k b })

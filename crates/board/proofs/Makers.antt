@@ -1,9 +1,9 @@
 -- The makers of some lines, of which the first so many have made a pass more.
-use Rattle.std.proofs.Common.{◌≡◌, ℕ, zero, suc, ◌+◌, ◌<◌, ◌≤◌, List, [], ◌∷◌, ◌++◌, length, set, take, drop, get_or, map, Option, Some, None, slice_get, All, refl, sym, ap, ◌∙◌, subst, arith}
+use Rattle.std.proofs.Common.{◌≡◌, ℕ, zero, suc, ◌+◌, List, [], ◌∷◌, ◌++◌, length, set, take, drop, get_or, map, Some, None, slice_get, All, refl, sym, ap, ◌∙◌, subst, arith}
 use Rattle.std.specs.List.{AllByRecursion as ByRecursion}
 use Rattle.std.proofs.lemmas.List.Elements.{All-from_recursion}
 use Rattle.std.proofs.lemmas.Option.{same_Some}
-use Rattle.board.specs.Views.{LineView, HandView, MakerView, maker_at, one_later}
+use Rattle.board.specs.Views.{LineView, HandView, MakerView, maker_at, makers_at, one_later}
 
 none_there : {A : Type 0} (x : A) → None ≡ Some x → ⊥
 none_there x e = cc
@@ -51,22 +51,37 @@ same_part F G (u ∷ xs) (v ∷ ys) zero x y e a b = ap F (sym (same_Some u x a)
 same_part F G (u ∷ xs) (v ∷ ys) (suc i) x y e a b = same_part F G xs ys i x y (ap (drop 1) e) a b
 
 -- the makers of new lines
-pub lines_of : (n : ℕ) (lines : List LineView) → map (λ m. m.line) (map (maker_at n) lines) ≡ map (λ l. l.id) lines
-lines_of n [] = refl
-lines_of n (l ∷ ls) = ap (λ xs. l.id ∷ xs) (lines_of n ls)
+pub lines_of : (n key : ℕ) (lines : List LineView) → map (λ m. m.line) (makers_at n key lines) ≡ map (λ l. l.id) lines
+lines_of n key [] = refl
+lines_of n key (l ∷ ls) = ap (λ xs. l.id ∷ xs) (lines_of n (key + 1) ls)
 
-pub made_later : (n : ℕ) (lines : List LineView) → map one_later (map (maker_at n) lines) ≡ map (maker_at (n + 1)) lines
-made_later n [] = refl
-made_later n (l ∷ ls) = ap (λ xs. maker_at (n + 1) l ∷ xs) (made_later n ls)
+pub made_later : (n key : ℕ) (lines : List LineView) → map one_later (makers_at n key lines) ≡ makers_at (n + 1) key lines
+made_later n key [] = refl
+made_later n key (l ∷ ls) = ap (λ xs. maker_at (n + 1) key l ∷ xs) (made_later n (key + 1) ls)
+
+pub one_line_more : (n key count : ℕ) (lines : List LineView) (line : LineView) → key + length lines ≡ count → makers_at n key (lines ++ line ∷ []) ≡ makers_at n key lines ++ maker_at n count line ∷ []
+one_line_more n key count [] line e = ap (λ k. maker_at n k line ∷ []) (omega arith)
+one_line_more n key count (l ∷ ls) line e = ap (λ xs. maker_at n key l ∷ xs) (one_line_more n (key + 1) count ls line (omega arith))
 
 -- the hands that they make are all numbered alike
-all_numbered_by : {T : Type 0} (hands : List (HandView T)) (n : ℕ) (lines : List LineView) → map (λ h. h.number) hands ≡ map (λ m. m.next) (map (maker_at n) lines) → ByRecursion (λ h. h.number ≡ n) hands
-all_numbered_by [] n lines e = tt
-all_numbered_by (h ∷ hs) n [] e = let none : suc (length (map (λ (h : HandView _). h.number) hs)) ≡ 0 = ap length e in absurd (omega arith)
-all_numbered_by (h ∷ hs) n (l ∷ ls) e = (ap (λ xs. get_or xs 0 n) e, all_numbered_by hs n ls (ap (drop 1) e))
+all_numbered_by : {T : Type 0} (hands : List (HandView T)) (n key : ℕ) (lines : List LineView) → map (λ h. h.number) hands ≡ map (λ m. m.next) (makers_at n key lines) → ByRecursion (λ h. h.number ≡ n) hands
+all_numbered_by [] n key lines e = tt
+all_numbered_by (h ∷ hs) n key [] e = let none : suc (length (map (λ (h : HandView _). h.number) hs)) ≡ 0 = ap length e in absurd (omega arith)
+all_numbered_by (h ∷ hs) n key (l ∷ ls) e = (ap (λ xs. get_or xs 0 n) e, all_numbered_by hs n (key + 1) ls (ap (drop 1) e))
 
-pub all_numbered : {T : Type 0} (hands : List (HandView T)) (n : ℕ) (lines : List LineView) → map (λ h. h.number) hands ≡ map (λ m. m.next) (map (maker_at n) lines) → All (λ h. h.number ≡ n) hands
-all_numbered hands n lines e = All-from_recursion (λ (h : HandView _). h.number ≡ n) hands (all_numbered_by hands n lines e)
+pub all_numbered : {T : Type 0} (hands : List (HandView T)) (n key : ℕ) (lines : List LineView) → map (λ h. h.number) hands ≡ map (λ m. m.next) (makers_at n key lines) → All (λ h. h.number ≡ n) hands
+all_numbered hands n key lines e = All-from_recursion (λ (h : HandView _). h.number ≡ n) hands (all_numbered_by hands n key lines e)
+
+-- and their keys are counted from the first one
+pub all_keyed : {T : Type 0} (hands : List (HandView T)) (n key : ℕ) (lines : List LineView) → map (λ h. h.key) hands ≡ map (λ m. m.key) (makers_at n key lines) → (k : ℕ) (h : HandView T) → slice_get hands k ≡ Some h
+    → h.key ≡ key + k
+all_keyed [] n key lines e k h at = absurd (none_there h at)
+all_keyed (x ∷ xs) n key [] e k h at = let none : suc (length (map (λ (h : HandView _). h.key) xs)) ≡ 0 = ap length e in absurd (omega arith)
+all_keyed (x ∷ xs) n key (l ∷ ls) e zero h at =
+    let same : x.key ≡ h.key = ap (λ (y : HandView _). y.key) (same_Some x h at) in
+    let first : x.key ≡ key = ap (λ ks. get_or ks 0 key) e in
+    omega arith
+all_keyed (x ∷ xs) n key (l ∷ ls) e (suc k) h at = let rest = all_keyed xs n (key + 1) ls (ap (drop 1) e) k h at in omega arith
 
 -- a fact of each place, of a list with one more
 pub each_push : {A : Type 0} (P : ℕ → A → Type 0) (xs : List A) (x : A) → ((k : ℕ) (y : A) → slice_get xs k ≡ Some y → P k y) → P (length xs) x → (k : ℕ) (y : A) → slice_get (xs ++ x ∷ []) k ≡ Some y → P k y

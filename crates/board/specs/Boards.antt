@@ -15,6 +15,10 @@ pub record PassView (J : Type 0) : Type 0 where
   pub jobs : HandView J
   pub replies : List (HandView Reply)
 
+-- the line of a loop's replies has the loop's number as its key
+abbrev pub AreOfTheirLoops : List (HandView Reply) → Type 0
+AreOfTheirLoops hands = (loop_no : ℕ) (h : HandView Reply) → slice_get hands loop_no ≡ Some h → h.key ≡ loop_no
+
 module _ {J : Type 0} where
   -- the pass was made with the board
   pub record IsPassOf (board : BoardView) (pass : PassView J) : Type 0 where

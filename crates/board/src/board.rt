@@ -1,13 +1,13 @@
 // The board that loops and workers share, and the passes with which they step.
 ghost use Rattle.std.specs.Prelude.{◌≡◌, ◌<◌, ◌≤◌, ◌∷◌, ◌++◌, ℕ, length, map, All, IfOk, OnOk, IfErr, IfSome, IfNone};
 ghost use Rattle.limits.specs.declared.TheConstants.{MAX_LOOPS};
-ghost use Rattle.board.specs.Views.{IsIdle, maker_at, one_later};
+ghost use Rattle.board.specs.Views.{IsIdle, makers_at, one_later};
 ghost use Rattle.board.specs.Boards.{IsPassOf, IsNewPass, AreNumbered, IsEventOf, Posts, TakesJob, Puts, Collects};
 
 use crate::bell::Bell;
 use crate::event::{Event, Heard};
 use crate::job::JobBox;
-use crate::line::{Hand, Line, Maker};
+use crate::line::{Any, Fits, Hand, Line, Maker};
 use limits::{MAX_JOBS, MAX_REPLIES};
 use order::Reply;
 use std::alloc::{AllocError, Global};
@@ -15,13 +15,22 @@ use std::marker::Model;
 use std::sync::Wait;
 use std::sync::atomic::{AtomicBool, Ordering};
 
+// A reply fits the line whose key is the number of its order's loop.
+pub struct OfLoop;
+
+impl Fits<Reply> for OfLoop {
+    ghost use Rattle.std.specs.Prelude.{◌≡◌};
+
+    ghost fits = { λ key r. r.order.loop_no ≡ key };
+}
+
 /// A board: a bounded queue of jobs, one of replies for each loop, and whether it was closed.
 ///
 /// To a contract it is a `BoardView`: its lines, each with how many it has places for.
 #[derive(Drop)]
 pub struct Board<J = JobBox> {
-    jobs: Line<J>,
-    replies: Vec<Line<Reply>>,
+    jobs: Line<J, Any>,
+    replies: Vec<Line<Reply, OfLoop>>,
     closed: AtomicBool,
 }
 
@@ -45,7 +54,7 @@ pub struct Pass<J = JobBox> {
 }
 
 impl<J> Model for Pass<J> {
-    ghost use Rattle.board.specs.Boards.{PassView};
+    ghost use Rattle.board.specs.Boards.{PassView, AreOfTheirLoops};
 
     ghost Value = { PassView J };
 
@@ -55,6 +64,8 @@ impl<J> Model for Pass<J> {
     ghost coded = { Prim.hlevel (codes, reply.the_row.coded) };
 
     ghost view = { λ p. record { jobs = p.jobs; replies = p.replies.items } };
+
+    ghost invariant = { λ p. AreOfTheirLoops p.replies.items };
 }
 
 impl<J: Drop> Board<J> {
@@ -75,7 +86,7 @@ impl<J: Drop> Board<J> {
         ensures passes { IfOk result (λ b. All (IsNewPass b.0) b.1.items) }
         ensures numbers { IfOk result (λ b. AreNumbered b.1.items) }
     {
-        let (jobs, mut jobs_maker) = Line::new(alloc, MAX_JOBS)?;
+        let (jobs, mut jobs_maker) = Line::new(alloc, MAX_JOBS, 0)?;
         let (replies, mut makers) = reply_lines(alloc, loops)?;
         let mut passes_made = Vec::with_capacity(alloc, passes)?;
         for _ in 0..passes {
@@ -130,6 +141,7 @@ impl<J: Drop> Board<J> {
         requires own { IsPassOf self.now pass.old }
         requires there { loop_no < length self.now.replies }
         ensures own { IsPassOf self.now pass.new }
+        ensures of_loop { IfSome result (λ r. r.order.loop_no ≡ loop_no) }
         ensures collected { IfSome result (λ r. Collects pass.old pass.new loop_no r) }
         ensures none { IfNone result (pass.new ≡ pass.old) }
     {
@@ -189,18 +201,18 @@ impl<J: Drop> Board<J> {
     }
 }
 
-// An empty line of replies for each loop, and the makers of the lines.
+// An empty line of replies for each loop, whose key is the loop's number, and the makers of the lines.
 fn reply_lines(
     alloc: Global,
     loops: u32,
-) -> Result<(Vec<Line<Reply>>, Vec<Maker<Reply>>), AllocError>
+) -> Result<(Vec<Line<Reply, OfLoop>>, Vec<Maker<Reply>>), AllocError>
     ensures lines { IfOk result (λ r. (length r.0.items ≡ loops) × All (λ l. l.places ≡ MAX_REPLIES) r.0.items) }
-    ensures makers { IfOk result (λ r. r.1.items ≡ map (maker_at 1) r.0.items) }
+    ensures makers { IfOk result (λ r. r.1.items ≡ makers_at 1 0 r.0.items) }
 {
     let mut lines = Vec::with_capacity(alloc, loops as usize)?;
     let mut makers = Vec::with_capacity(alloc, loops as usize)?;
-    for _ in 0..loops {
-        let (line, maker) = Line::new(alloc, MAX_REPLIES)?;
+    for loop_no in 0..loops {
+        let (line, maker) = Line::new(alloc, MAX_REPLIES, loop_no)?;
         lines.push(line)?;
         makers.push(maker)?;
     }
@@ -210,12 +222,13 @@ fn reply_lines(
 // A new hand on each of the lines.
 fn hands_of(
     alloc: Global,
-    lines: &[Line<Reply>],
+    lines: &[Line<Reply, OfLoop>],
     makers: &mut Vec<Maker<Reply>>,
 ) -> Result<Vec<Hand<Reply>>, AllocError>
     requires { map (λ m. m.line) makers.old.items ≡ map (λ l. l.id) lines.now }
     ensures makers { IfOk result (λ _. makers.new.items ≡ map one_later makers.old.items) }
     ensures lines { IfOk result (λ hands. map (λ h. h.line) hands.items ≡ map (λ m. m.line) makers.old.items) }
+    ensures keys { IfOk result (λ hands. map (λ h. h.key) hands.items ≡ map (λ m. m.key) makers.old.items) }
     ensures numbers { IfOk result (λ hands. map (λ h. h.number) hands.items ≡ map (λ m. m.next) makers.old.items) }
     ensures idle { IfOk result (λ hands. All IsIdle hands.items) }
 {

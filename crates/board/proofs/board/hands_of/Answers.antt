@@ -1,4 +1,4 @@
-use Rattle.std.proofs.Common.{◌≡◌, ◌<◌, ℕ, List, [], ◌∷◌, ◌++◌, length, set, get_or, take, map, Some, slice_get, refl, sym, ap, ◌∙◌, subst, add-one, arith}
+use Rattle.std.proofs.Common.{◌≡◌, ◌<◌, ℕ, List, [], ◌∷◌, ◌++◌, length, set, get_or, take, map, Some, slice_get, refl, sym, ap, ◌∙◌, add-one, arith}
 use Rattle.std.proofs.lemmas.List.{length-map, map-append}
 use Rattle.std.proofs.lemmas.List.Elements.{All-push}
 use Rattle.std.proofs.lemmas.Option.{slice_get_read}
@@ -43,9 +43,11 @@ loop-i-preserved c =
       omega arith,
       map-append (λ (h : HandView Reply). h.line) hands (hand ∷ []) ∙ ap (λ xs. xs ++ hand.line ∷ []) known.2 ∙ ap (λ id. take i (map (λ (m : MakerView). m.line) makers) ++ id ∷ []) made.0
           ∙ sym (taken_next (λ (m : MakerView). m.line) i makers m was) ∙ ap (λ k. take k (map (λ (m : MakerView). m.line) makers)) (sym (add-one i)),
-      map-append (λ (h : HandView Reply). h.number) hands (hand ∷ []) ∙ ap (λ xs. xs ++ hand.number ∷ []) known.3 ∙ ap (λ n. take i (map (λ (m : MakerView). m.next) makers) ++ n ∷ []) made.1
+      map-append (λ (h : HandView Reply). h.key) hands (hand ∷ []) ∙ ap (λ xs. xs ++ hand.key ∷ []) known.3 ∙ ap (λ n. take i (map (λ (m : MakerView). m.key) makers) ++ n ∷ []) made.1
+          ∙ sym (taken_next (λ (m : MakerView). m.key) i makers m was) ∙ ap (λ k. take k (map (λ (m : MakerView). m.key) makers)) (sym (add-one i)),
+      map-append (λ (h : HandView Reply). h.number) hands (hand ∷ []) ∙ ap (λ xs. xs ++ hand.number ∷ []) known.4 ∙ ap (λ n. take i (map (λ (m : MakerView). m.next) makers) ++ n ∷ []) made.2
           ∙ sym (taken_next (λ (m : MakerView). m.next) i makers m was) ∙ ap (λ k. take k (map (λ (m : MakerView). m.next) makers)) (sym (add-one i)),
-      All-push IsIdle hands hand known.4 made.2,
+      All-push IsIdle hands hand known.5 made.3,
     )
 
 pub returns-clause-makers : goal.returns-clause-makers

@@ -1,12 +1,12 @@
-use Rattle.std.proofs.Common.{◌≡◌, ℕ, zero, suc, ◌+◌, ◌<◌, ◌≤◌, List, [], ◌∷◌, ◌++◌, length, nat_lt, Bool, true, false, ◌&&◌, ◌==◌, ⊎_elim, refl, sym, ap, ◌∙◌, subst, arith}
+use Rattle.std.proofs.Common.{◌≡◌, ℕ, zero, suc, ◌<◌, ◌≤◌, List, [], ◌∷◌, ◌++◌, length, nat_lt, true, ◌&&◌, ◌==◌, sym, ap, ◌∙◌, subst, arith}
 use Rattle.std.proofs.lemmas.Bool.Decides.{nat_tests}
 use mathlib.Core.Option.{some, some-injective, some-ne-none}
 use lib.ListN.{get_elem?}
-use Rattle.claims.proofs.Lists.{part_found, count_cons}
 use Rattle.tallies.proofs.Requests.{by_test}
+use Rattle.tallies.proofs.Lists.{part_found, count_cons}
 use Rattle.board.specs.declared.line.Named.{Named}
 use Rattle.board.specs.declared.line.View.{View}
-use Rattle.board.specs.Rule.{one_if, given_by, is_name, times, taken_times, IsGiven, AllGiven, IsBelow, Rises, IsInOrder}
+use Rattle.board.specs.Rule.{one_if, given_by, is_name, times, IsGiven, AllGiven, IsBelow, Rises}
 use Rattle.board.specs.Laws.{Always, GivenOnce, NoOther, SameItem, InTurn, TakesRise}
 use Rattle.board.proofs.Names.{rises_front}
 use Rattle.board.proofs.laws.given_once.Goals as goal

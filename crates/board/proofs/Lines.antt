@@ -4,6 +4,7 @@ use Rattle.std.specs.List.{slice_get}
 use Rattle.std.proofs.lemmas.List.{length-map}
 use Rattle.std.proofs.lemmas.Option.{same_Some}
 use Rattle.order.specs.declared.reply.Reply.{Reply}
+use Rattle.tallies.proofs.Places.{set_same}
 use Rattle.board.specs.Views.{LineView, HandView}
 use Rattle.board.proofs.Makers.{same_part}
 use Rattle.board.specs.Boards.{BoardView, PassView, AreOfTheirLoops, IsPassOf, OnReplies}
@@ -40,11 +41,6 @@ line_there old jobs replies was board own line lines is k h l at on =
     same_part (λ (h : HandView Reply). h.line) (λ (l : LineView). l.id) replies lines k h l
     (ap (λ (p : PassView _). map (λ h. h.line) p.replies) was ∙ own.replies ∙ ap (λ (b : BoardView). map (λ l. l.id) b.replies) (sym is)) at on
 
-set_same : {A : Type 0} (xs : List A) (k : ℕ) (a b : A) → slice_get xs k ≡ Some a → b ≡ a → set xs k b ≡ xs
-set_same [] k a b e same = refl
-set_same (x ∷ xs) zero a b e same = ap (λ y. y ∷ xs) (same ∙ sym (same_Some x a e))
-set_same (x ∷ xs) (suc k) a b e same = ap (λ ys. x ∷ ys) (set_same xs k a b e same)
-
 -- a fact of each place, where one is changed
 each_set : {A : Type 0} (P : ℕ → A → Type 0) (xs : List A) (k : ℕ) (b : A) → ((i : ℕ) (x : A) → slice_get xs i ≡ Some x → P i x) → P k b → (i : ℕ) (x : A) → slice_get (set xs k b) i ≡ Some x → P i x
 each_set P [] k b h own i x e = h i x e
@@ -65,7 +61,7 @@ module _ {J : Type 0} (old : PassView J) (jobs : HandView J) (replies : List (Ha
       }
 
   pub still_same : b ≡ a → record { jobs = jobs; replies = set replies k b } ≡ old
-  still_same same = ap (λ (rs : List (HandView Reply)). record { jobs = jobs; replies = rs }) (set_same replies k a b at same) ∙ was
+  still_same same = ap (λ (rs : List (HandView Reply)). record { jobs = jobs; replies = rs }) (ap (set replies k) same ∙ set_same replies k a at) ∙ was
 
   pub on_replies : (P : HandView Reply → HandView Reply → Type 0) → P a b → OnReplies P old (record { jobs = jobs; replies = set replies k b }) k
   on_replies P did =

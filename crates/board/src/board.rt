@@ -69,7 +69,7 @@ impl<J> Model for Pass<J> {
 }
 
 impl<J: Drop> Board<J> {
-    /// A board for 1 to 8 loops, with all its lines empty, and passes that have done nothing, numbered from 1. There is at
+    /// A board for 1 to `MAX_LOOPS` loops, with all its lines empty, and passes that have done nothing, numbered from 1. There is at
     /// least one.
     ///
     /// The only error is that memory ran out; no later call takes any.

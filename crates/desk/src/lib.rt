@@ -58,7 +58,8 @@ fn waiting_place(async_no: u32) -> usize
 }
 
 impl Desk {
-    /// A desk at which nothing was done yet. `AllocError` comes only where memory was refused. No later call takes any.
+    /// The desk of the loop of this number, at which nothing was done yet. `AllocError` comes only where memory was
+    /// refused. No later call takes any.
     pub fn new(alloc: Global, loop_no: u32) -> Result<Desk, AllocError>
         ensures { IfOk result (λ d. d ≡ new_desk loop_no) }
     {

@@ -1,8 +1,8 @@
 -- The functions behind the imports, as they are found one by one.
 use Rattle.std.proofs.Common.{◌≡◌, ◌⊎◌, inl, inr, ℕ, zero, suc, ◌+◌, ◌<◌, ◌≤◌, List, [], ◌∷◌, length, Option, Some, None, MatchOption, unwrap_or, refl, sym, ◌∙◌, subst, arith}
 use Rattle.std.specs.Prelude.{slice_get, slice_set}
+use Rattle.std.proofs.lemmas.Bool.{cases_lt}
 use Rattle.syntax.specs.declared.contents.Contents.{Contents}
-use Rattle.syntax.proofs.ExportLaws.{below_or_at}
 use Rattle.imports.specs.declared.call.Call.{Call}
 use Rattle.imports.specs.declared.call.Call.TheVariants.{Now}
 use Rattle.imports.specs.Linking.{Imports}
@@ -24,10 +24,11 @@ Found m at calls = (k : ℕ) → k < at → k < length m.imports → (c : Call) 
 
 module _ (m : Contents) (at : ℕ) (calls : List Call) (c : Call) (room : at < length calls) (is : Imports m at c) (all : Found m at calls) where
   pub one_more : Found m (at + 1) (slice_set calls at c)
-  one_more k less within = by (below_or_at k at less) where
-    by : (k < at) ⊎ (k ≡ at) → (d : Call) × (slice_get (slice_set calls at c) k ≡ Some d) × Imports m k d
+  one_more k less within = by (cases_lt k at) where
+    by : (k < at) ⊎ (at ≤ k) → (d : Call) × (slice_get (slice_set calls at c) k ≡ Some d) × Imports m k d
     by (inl before) = let f = all k before within in (f.0, put_elsewhere calls at k c before ∙ f.1, f.2)
-    by (inr e) =
+    by (inr past) =
+        let e : k ≡ at = omega (arith, less, past) in
         subst (λ (n : ℕ). (d : Call) × (slice_get (slice_set calls at c) n ≡ Some d) × Imports m n d) (sym e) (c, put_there calls at c room, is)
 
 pub or_now : (m : Contents) (at : ℕ) (r : Option Call) → MatchOption r (length m.imports ≤ at) (Imports m at) → at < length m.imports → Imports m at (unwrap_or r Now)

@@ -16,16 +16,16 @@ use Rattle.interp.proofs.OneCall.{one_call}
 use Rattle.imports.specs.declared.call.Call.{Call}
 use Rattle.imports.specs.declared.call.Call.TheVariants.{Now, InLen, InCopy, OutSet}
 use Rattle.imports.specs.Linking.{Imports, ExportsFunction}
-use Rattle.imports.proofs.Named.{same_call}
+use Rattle.imports.specs.Uv.{AreNamedApart}
 use Rattle.order.specs.Bytes.{copied_in, set_out}
 use Rattle.order.specs.Work.{WorkOrder, WorkEnd, EndsAs, Gives, WorkAnswers, WorkCall, WorkRun, StartRun, Works, stops, works}
 
 -- an import is one function of the host
-pub one_import : (m : Contents) (number : ℕ) (f g : Call) → Imports m number f → Imports m number g → f ≡ g
-one_import m number f g (i, at, is) (j, at', is') =
+pub one_import : AreNamedApart → (m : Contents) (number : ℕ) (f g : Call) → Imports m number f → Imports m number g → f ≡ g
+one_import apart m number f g (i, at, is) (j, at', is') =
     let both : Some i ≡ Some j = sym at ∙ at' in
     let same : i ≡ j = cc in
-    same_call f g (is.named ∙ ap (λ (x : Import). x.name) same ∙ sym is'.named)
+    apart f g (is.named ∙ ap (λ (x : Import). x.name) same ∙ sym is'.named)
 
 -- a valid module exports one function under a name
 pub one_export : (m : Contents) (name : List ℕ) (f g : ℕ) → DistinctNames m → ExportsFunction m name f → ExportsFunction m name g → f ≡ g
@@ -74,10 +74,10 @@ ends_one : (outcome outcome' : Outcome) (reply reply' : List ℕ) (e e' : WorkEn
 ends_one outcome outcome' reply reply' e e' same same' h k =
     reads_one outcome reply e e' h (subst (λ (x : Outcome). EndsAs x reply e') (sym same) (subst (λ (x : List ℕ). EndsAs outcome' x e') (sym same') k))
 
-module _ (o : WorkOrder) where
+module _ (apart : AreNamedApart) (o : WorkOrder) where
   calls_one : IsDetermined (λ (reply : List ℕ). reply) (WorkCall o)
   calls_one old old' new new' call call' seen asked (f, is, answers) (f', is', answers') =
-      let function : f' ≡ f = one_import o.loaded.contents call.function f' f (subst (λ (n : ℕ). Imports o.loaded.contents n f') (sym asked.function) is') is in
+      let function : f' ≡ f = one_import apart o.loaded.contents call.function f' f (subst (λ (n : ℕ). Imports o.loaded.contents n f') (sym asked.function) is') is in
       let there : WorkAnswers o.bytes old call' new' f call.args =
       subst (λ (g : Call). WorkAnswers o.bytes old call' new' g call.args) function
       (subst (λ (args : List Value). WorkAnswers o.bytes old call' new' f' args) (sym asked.args)

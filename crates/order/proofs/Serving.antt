@@ -26,6 +26,7 @@ use Rattle.interp.specs.declared.ended.Ending.{Ending}
 use Rattle.interp.specs.declared.ended.Ending.TheVariants.{Return}
 use Rattle.interp.specs.declared.ended.Ending.TheVariants as ending
 use Rattle.imports.specs.Linking.{IsLinked, ExportsFunction}
+use Rattle.imports.specs.Uv.{AreNamedApart}
 use Rattle.order.specs.Hosting.{import_types}
 use Rattle.order.specs.Work.{WorkRun, StartRun, EndsAs, stops, works}
 use Rattle.order.proofs.Naming.{names}
@@ -63,15 +64,15 @@ served o (call ∷ trace) old new serves h =
     subst (λ (bs : List ℕ). WorkAnswers bs old.reply.items call mid.reply.items answered.asked call.args) serves.bytes answered.answers in
     record { answers = (mid.reply.items, (answered.asked, imported, answers), rest.answers); serves = rest.serves }
 
-the_end : (o : WorkOrder) (e : WorkEnd) → ValidModule o.loaded.contents → Works o e → IsTheEnd o e
-the_end o e valid h = record { computed = h; only = λ other k. one_end o other e valid k h }
+the_end : AreNamedApart → (o : WorkOrder) (e : WorkEnd) → ValidModule o.loaded.contents → Works o e → IsTheEnd o e
+the_end apart o e valid h = record { computed = h; only = λ other k. one_end apart o other e valid k h }
 
-pub is_end : (o : WorkOrder) (e : WorkEnd) → ValidModule o.loaded.contents → Works o e → IsEndOf o e
-is_end o (Done value bytes) valid h = the_end o (Done value bytes) valid h
-is_end o (Trap code) valid h = the_end o (Trap code) valid h
-is_end o Depth valid h = the_end o Depth valid h
-is_end o Spent valid h = the_end o Spent valid h
-is_end o NoMemory valid h = tt
+pub is_end : AreNamedApart → (o : WorkOrder) (e : WorkEnd) → ValidModule o.loaded.contents → Works o e → IsEndOf o e
+is_end apart o (Done value bytes) valid h = the_end apart o (Done value bytes) valid h
+is_end apart o (Trap code) valid h = the_end apart o (Trap code) valid h
+is_end apart o Depth valid h = the_end apart o Depth valid h
+is_end apart o Spent valid h = the_end apart o Spent valid h
+is_end apart o NoMemory valid h = tt
 
 pub if_ok : {T E : Type 0} (P Q : T → Type 0) (r : Result T E) → ((x : T) → P x → Q x) → IfOk r P → IfOk r Q
 if_ok P Q (Ok x) k h = k x h
@@ -99,18 +100,18 @@ not_returned ending.Depth h results e = absurd (cc)
 not_returned ending.Spent h results e = absurd (cc)
 
 -- the start function does not return
-pub stops_end : (o : WorkOrder) (s t : Store) (how : Ending) (used : ℕ) (reply : List ℕ) (e : WorkEnd) → ValidModule o.loaded.contents → IsFresh o.loaded.contents s
+pub stops_end : AreNamedApart → (o : WorkOrder) (s t : Store) (how : Ending) (used : ℕ) (reply : List ℕ) (e : WorkEnd) → ValidModule o.loaded.contents → IsFresh o.loaded.contents s
     → StartRun o o.loaded.contents.start s (outcome_of how) used t reply → ((values : List Value) → how ≡ Return values → ⊥)
     → EndsAs (outcome_of how) reply e → IsEndOf o e
-stops_end o s t how used reply e valid fresh run not end =
-    is_end o e valid (stops s t (outcome_of how) used reply fresh run (not_returned how not) end)
+stops_end apart o s t how used reply e valid fresh run not end =
+    is_end apart o e valid (stops s t (outcome_of how) used reply fresh run (not_returned how not) end)
 
 -- it returns, and `uv_work` runs with the fuel that is left
-pub works_end : (o : WorkOrder) (s t u : Store) (started ended : Ended) (values : List Value) (reply reply' : List ℕ) (e : WorkEnd) → ValidModule o.loaded.contents → IsFresh o.loaded.contents s
+pub works_end : AreNamedApart → (o : WorkOrder) (s t u : Store) (started ended : Ended) (values : List Value) (reply reply' : List ℕ) (e : WorkEnd) → ValidModule o.loaded.contents → IsFresh o.loaded.contents s
     → started.ending ≡ Return values → StartRun o o.loaded.contents.start s (outcome_of started.ending) started.used t reply
     → (f : ℕ) × ExportsFunction o.loaded.contents (codes "uv_work") f × WorkRun o (o.fuel - started.used) t reply f (I32 o.op ∷ []) (outcome_of ended.ending) ended.used u reply'
     → EndsAs (outcome_of ended.ending) reply' e → IsEndOf o e
-works_end o s t u started ended values reply reply' e valid fresh returned run work end =
+works_end apart o s t u started ended values reply reply' e valid fresh returned run work end =
     let first : StartRun o o.loaded.contents.start s (Returned (reverse values)) started.used t reply =
     subst (λ (x : Ending). StartRun o o.loaded.contents.start s (outcome_of x) started.used t reply) returned run in
-    is_end o e valid (works s t u (reverse values) (outcome_of ended.ending) started.used ended.used reply reply' work.0 fresh first work.1 work.2 end)
+    is_end apart o e valid (works s t u (reverse values) (outcome_of ended.ending) started.used ended.used reply reply' work.0 fresh first work.1 work.2 end)

@@ -95,8 +95,8 @@ pub fn two_and_two_wide(args: &Args) -> (u32, u32, u64, u64)
     )
 }
 
-/// Copies bytes of the input into the guest's memory: -22 where they are not all there, -14 where they don't fit the
-/// memory.
+/// Copies so many bytes of the input, from one place on, to a place of the guest's memory: 0, or -22 where they are not
+/// all there, -14 where they don't fit the memory; nothing is copied then.
 pub fn copy_in(input: &[u8], to: u32, from: u32, count: u32, memory: &mut Memory) -> u32
     ensures answer { result ≡ (copied_in (Some input.now) to from count memory.old.bytes).0 }
     ensures memory { memory.new ≡ with_bytes (copied_in (Some input.now) to from count memory.old.bytes).1 memory.old }

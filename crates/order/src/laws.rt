@@ -7,6 +7,7 @@ ghost use Rattle.validate.specs.Valid.{ValidModule};
 ghost use Rattle.order.specs.Work.{WorkOrder, WorkEnd, NoMemory, Works, IsEndOf, IsShortEnd};
 
 use imports::Linked;
+use imports::laws::names_are_apart;
 
 /// The types of a linked module's imports are those of the functions that it imports.
 pub fn imports_are_named(linked: &Linked)
@@ -15,7 +16,7 @@ pub fn imports_are_named(linked: &Linked)
     let _valid = linked.valid();
 }
 
-/// What one thread computes from an order has at most 65,536 bytes.
+/// What one thread computes from an order has at most `MAX_BYTES` bytes.
 pub fn ends_are_short()
     ensures { (o : WorkOrder) (end : WorkEnd) → ∥ IsEndOf o end ∥₁ → IsShortEnd end }
 {}
@@ -25,7 +26,9 @@ pub fn ends_are_short()
 /// under a name are one each.
 pub fn one_end()
     ensures { (o : WorkOrder) (end other : WorkEnd) → ValidModule o.loaded.contents → Works o end → Works o other → end ≡ other }
-{}
+{
+    names_are_apart();
+}
 
 /// Two replies to one order, each from an instance of its own, hold one end, unless there was no memory for one of them.
 pub fn replies_agree()

@@ -5,7 +5,7 @@
 //! holds the end of its own order, which is one (`laws::one_end`), or that there was no memory: so whoever holds a reply
 //! knows it, whatever thread made it. `Order::is_same` compares two orders in every field.
 //!
-//! Begin with `request` and `run`; what one thread computes is `specs/Work.antt`.
+//! Begin with `order` and `run`; what one thread computes is `specs/Work.antt`.
 #![tactic(auto)]
 
 pub mod answers;

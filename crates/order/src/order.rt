@@ -17,17 +17,17 @@ pub struct Order {
     pub loop_no: u32,
     /// The number of the request, from 1 on.
     pub request: u32,
-    /// The slot that the request was opened in, below 32.
+    /// The slot that the request was opened in, below `MAX_REQUESTS`.
     pub slot: u32,
     /// The module whose `uv_work` computes it.
     pub module: Arc<Linked, Global>,
     /// What `uv_work` is given.
     pub op: u32,
-    /// What the guest may read, at most 65,536 bytes.
+    /// What the guest may read, at most `MAX_BYTES` bytes.
     pub bytes: Arc<Vec<u8>, Global>,
-    /// The fuel of the start function and `uv_work` together.
+    /// The units of fuel of the start function and `uv_work` together.
     pub fuel: u64,
-    /// How many calls may stand open, 1 to 128.
+    /// How many calls may stand open, 1 to `MAX_DEPTH`.
     pub depth: u32,
 }
 

@@ -18,6 +18,7 @@ use crate::host::WorkHost;
 use crate::order::{Order, Outcome};
 use crate::reply::Reply;
 use imports::EntryPoint;
+use imports::laws::names_are_apart;
 use instance::state::Instance;
 use interp::ended::{Ended, Ending};
 use interp::invoke::invoke;
@@ -42,8 +43,9 @@ fn outcome_from(ending: Ending, reply: Vec<u8>) -> Outcome
 }
 
 impl Order {
-    /// Runs the order: the start function and then `uv_work` on a new instance, with the fuel that is left. The
-    /// instance and the bytes of the reply are reserved first; where memory is refused there, the reply says so.
+    /// Runs the order: the start function and then `uv_work` on a new instance, with the fuel that is left. Its module
+    /// exports `uv_work`, and its bytes and its depth are within their limits, as of each order that a loop hands out.
+    /// The instance and the bytes of the reply are reserved first; where memory is refused there, the reply says so.
     pub fn run(self, alloc: Global) -> Reply
         requires work { (f : ℕ) × ExportsFunction (arc_value self.module).contents (codes "uv_work") f }
         requires bytes { length (arc_value self.bytes).items ≤ MAX_BYTES }
@@ -97,6 +99,7 @@ impl Order {
         ensures end { (end : WorkEnd) → EndsAs (outcome_of result) host.new.reply.items end → IsEndOf (order_of self.now) end }
         ensures results { AreResults result (valtype.I32 ∷ []) }
     {
+        names_are_apart();
         let started = self.start(instance, host);
         let Ending::Return(_) = started.ending else {
             return started.ending;

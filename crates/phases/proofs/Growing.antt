@@ -1,5 +1,5 @@
 -- No call of a guest takes away what a loop has listed.
-use Rattle.std.proofs.Common.{◌≡◌, ℕ, zero, suc, ◌+◌, ◌==◌, Bool, true, false, cond, not, ◌&&◌, ◌⊎◌, inl, inr, List, [], ◌∷◌, ◌++◌, length, map, find, Option, Some, None, refl, sym, ap, subst, ◌∙◌, MatchOption, MatchBool, IsSomeAnd, nat_lt, nat_le, codes, slice_get}
+use Rattle.std.proofs.Common.{◌≡◌, ℕ, zero, suc, ◌+◌, ◌==◌, Bool, true, false, cond, not, ◌&&◌, ◌⊎◌, inl, inr, List, [], ◌∷◌, ◌++◌, length, map, find, Option, Some, None, refl, sym, ap, subst, ◌∙◌, MatchOption, IsSomeAnd, nat_lt, nat_le, codes, slice_get}
 use Rattle.std.specs.Option.{option_map_or, option_or}
 use Rattle.std.specs.FinMap as finite
 use Rattle.std.proofs.lemmas.List.Folds.{find-append}
@@ -17,6 +17,7 @@ use Rattle.imports.specs.declared.call.Call.TheVariants.{Now, TimerInit, IdleIni
 use Rattle.order.specs.Numbers.{invalid, none_left}
 use Rattle.order.specs.Bytes.{taken_out}
 use Rattle.order.specs.Work.{WorkOrder}
+use Rattle.tallies.proofs.Requests.{either}
 use Rattle.phases.specs.declared.progress.CancelState.{CancelState}
 use Rattle.phases.specs.declared.progress.CancelState.TheVariants.{Unknown, Pending}
 use Rattle.phases.specs.declared.progress.CancelState.TheVariants as cancel_state
@@ -193,13 +194,9 @@ holds_async r handle callback none = record {
 }
 
 -- the answers of handles' calls
-either : {P Q R : Type 0} (b : Bool) → (P → R) → (Q → R) → MatchBool b P Q → R
-either true f g h = f h
-either false f g h = g h
-
 holds_makes : (made : Roster → ℕ → Roster) (r : Roster) (answer : ℕ) (u : Roster) → (record_of r.handles answer ≡ None → Holds r (made r answer)) → Makes made r answer u → Holds r u
 holds_makes made r answer u holds =
-    either (finite.len r.handles.records == MAX_HANDLES)
+    either (finite.len r.handles.records == MAX_HANDLES) _ _ _
     (λ h. holds_same r u h.1)
     (λ h. subst (Holds r) (sym h.2) (holds h.1))
 
@@ -208,8 +205,8 @@ holds_made k r answer u = holds_makes (with_made k) r answer u (λ none. holds_h
 
 holds_made_async : (callback : ℕ) (r : Roster) (answer : ℕ) (u : Roster) → MakesAsync callback r answer u → Holds r u
 holds_made_async callback r answer u =
-    either (not (is_callback r callback)) (λ h. holds_same r u h.1)
-    (either (length r.asyncs == MAX_ASYNCS) (λ h. holds_same r u h.1)
+    either (not (is_callback r callback)) _ _ _ (λ h. holds_same r u h.1)
+    (either (length r.asyncs == MAX_ASYNCS) _ _ _ (λ h. holds_same r u h.1)
     (holds_makes (with_async callback) r answer u (holds_async r answer callback)))
 
 module _ (r : Roster) where
@@ -261,11 +258,11 @@ module _ {S : Type 0} (calls : Calls S) where
 
   settles_queue : (g : Setting) (memory : List ℕ) (old : Requests × S) (op place count answer : ℕ) (new : Requests × S) → QueuesWork calls g memory old op place count answer new → Settles old.0 new.0
   settles_queue g memory old op place count answer new =
-      either (not (exports g.loaded.contents (codes "uv_work") && exports g.loaded.contents (codes "uv_after_work"))) same
-      (either (nat_lt MAX_BYTES count) same
-      (either (nat_lt (length memory) (place + count)) same
-      (either (length old.0.outstanding == MAX_REQUESTS) same
-      (either (old.0.last == 2147483647) same
+      either (not (exports g.loaded.contents (codes "uv_work") && exports g.loaded.contents (codes "uv_after_work"))) _ _ _ same
+      (either (nat_lt MAX_BYTES count) _ _ _ same
+      (either (nat_lt (length memory) (place + count)) _ _ _ same
+      (either (length old.0.outstanding == MAX_REQUESTS) _ _ _ same
+      (either (old.0.last == 2147483647) _ _ _ same
       opened)))) where
         same : {P : Type 0} → P × (new ≡ old) → Settles old.0 new.0
         same h = settles_same old.0 new.0 (ap (λ p. p.0) h.1)

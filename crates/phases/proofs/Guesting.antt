@@ -3,7 +3,7 @@ use Rattle.std.proofs.Common.{◌≡◌, ℕ, ◌+◌, ◌<◌, ◌≤◌, ◌==
 use Rattle.std.specs.Prelude.{MatchBool, nat_le, nat_lt, codes}
 use Rattle.limits.specs.declared.TheConstants.{MAX_BYTES, MAX_REQUESTS, MAX_EMITS}
 use Rattle.tallies.specs.Requests.{is_request, times}
-use Rattle.tallies.proofs.Requests.{same_parts, times_push}
+use Rattle.tallies.proofs.Requests.{either, same_parts, times_push}
 use Rattle.syntax.specs.declared.types.Value.{Value}
 use Rattle.syntax.specs.declared.types.Value.TheVariants.{I32, I64}
 use Rattle.validate.specs.Typing.{type_of}
@@ -48,10 +48,6 @@ no_arguments [] h = refl
 no_arguments (x ∷ xs) h = absurd (cc)
 
 -- no number above the last is opened
-either : {R : Type 0} (b : Bool) (P Q : Type 0) → (P → R) → (Q → R) → MatchBool b P Q → R
-either true P Q f g h = f h
-either false P Q f g h = g h
-
 opened_more : (last slot : ℕ) (v : View) → AreOpenedUpTo last v → AreOpenedUpTo (last + 1) (record v { opened = v.opened ++ (slot, last + 1) ∷ [] })
 opened_more last slot v upto c within =
     let more = times_push c (slot, last + 1) v.opened in
@@ -77,7 +73,7 @@ module _ {S : Type 0} (calls : Calls S) (lawful : IsLawful calls) where
 
   module _ (g : Setting) (old new : Requests × S) (op answer : ℕ) (upto : UpTo old) where
     unless : {Q : Type 0} (b : Bool) (refusal : ℕ) → (Q → UpTo new) → MatchBool b ((answer ≡ refusal) × (new ≡ old)) Q → UpTo new
-    unless {Q} b refusal f h = either b ((answer ≡ refusal) × (new ≡ old)) Q (λ k. upto_same old new k.1 upto) f h
+    unless {Q} b refusal f h = either b ((answer ≡ refusal) × (new ≡ old)) Q _ (λ k. upto_same old new k.1 upto) f h
 
     refused_or_opened : (refusal : ℕ) (bytes : List ℕ) → ((answer ≡ refusal) × (new ≡ old)) ⊎ Opens calls g old op bytes answer new → UpTo new
     refused_or_opened refusal bytes (inl k) = upto_same old new k.1 upto
@@ -116,7 +112,7 @@ module _ {S : Type 0} (calls : Calls S) (lawful : IsLawful calls) where
 
   sends_upto : (r : Roster) (last : ℕ) (old new : S) (handle answer : ℕ) → Sends calls r old handle answer new → AreOpenedUpTo last (calls.view old) → AreOpenedUpTo last (calls.view new)
   sends_upto r last old new handle answer h upto =
-      either (not (is_open_of kind.Async r handle)) ((answer ≡ invalid) × (new ≡ old)) ((sent : Bool) × calls.sends old (async_number r handle) sent new × (answer ≡ cond sent 0 none_left))
+      either (not (is_open_of kind.Async r handle)) ((answer ≡ invalid) × (new ≡ old)) ((sent : Bool) × calls.sends old (async_number r handle) sent new × (answer ≡ cond sent 0 none_left)) _
       (λ k. rw k.1 upto)
       (λ k. upto_view last (calls.view old) (calls.view new) (sent_opened (calls.view old) (calls.view new) (async_number r handle) k.0 (lawful.sends old new (async_number r handle) k.0 k.1)) upto)
       h

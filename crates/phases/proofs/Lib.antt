@@ -3,7 +3,6 @@ pub mod Booking
 pub mod Cancelling
 pub mod Entering
 pub mod Exporting
-pub mod Filtered
 pub mod Finding
 pub mod Growing
 pub mod Guesting

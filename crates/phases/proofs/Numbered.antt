@@ -6,7 +6,7 @@ use Rattle.std.proofs.lemmas.List.Elements.{filter-append}
 use Rattle.order.specs.Work.{WorkOrder, WorkEnd, IsEndOf}
 use Rattle.phases.specs.Requests.{Stage, Open, HandedOut, Answered, Cancelled, Request, Requests, has_number, request_of, in_stage, with_stage, without_request, with_work, is_open_stage, is_settled, lowest_open}
 use Rattle.phases.specs.Outside.{IsOneOf, answered}
-use Rattle.phases.proofs.Filtered.{first, Member, find_first, first_passes, filter_mapped, found_kept, filter_kept, filter_dropped}
+use Rattle.tallies.proofs.Filtered.{first, Member, find_first, first_passes, filter_mapped, found_kept, filter_kept, filter_dropped}
 
 abbrev pub numbered : ℕ → Requests → List Request
 numbered r rs = filter (has_number r) rs.outstanding

@@ -77,8 +77,8 @@ impl<B: Shared + Drop> Model for LoopCore<B> {
 
 impl<B: Shared + Drop> LoopCore<B> {
     /// A loop that has done nothing, over a new instance of its module. Callbacks and work functions may use so much
-    /// fuel each, and so many calls may stand open in them, 1 to 128. `AllocError` comes only where memory was
-    /// refused, or as of the handle table.
+    /// fuel each, and so many calls may stand open in them, 1 to `MAX_DEPTH`. `AllocError` comes only where memory was
+    /// refused, or from `Handles::new`.
     pub fn new(
         alloc: Global,
         linked: Arc<Linked, Global>,
@@ -317,7 +317,7 @@ impl<B: Shared + Drop> LoopCore<B> {
         }
     }
 
-    /// What the last callback put out, 64 values at most.
+    /// What the last callback put out, `MAX_EMITS` values at most.
     pub fn emits(&self) -> &[u64]
         ensures emits { result.now ≡ self.now.loop.state.emits }
         ensures few { length result.now ≤ MAX_EMITS }
@@ -421,7 +421,7 @@ impl<B: Shared + Drop> LoopCore<B> {
 
 impl<B: Beside + Drop> LoopCore<B> {
     /// A worker's start of a request, where all stands in one thread; whether it is started by this call. Slots are
-    /// below 32.
+    /// below `MAX_REQUESTS`.
     pub fn start(&mut self, slot: u32, request: u32) -> bool
         requires { slot < MAX_REQUESTS }
         ensures told { StartsBeside B.others self.old.loop slot request result self.new.loop }
@@ -431,7 +431,7 @@ impl<B: Beside + Drop> LoopCore<B> {
     }
 
     /// Another's send to an async, where all stands in one thread; `false` where its sends are used up. Asyncs are
-    /// below 16.
+    /// below `MAX_ASYNCS`.
     pub fn sent(&mut self, async_no: u32) -> bool
         requires { async_no < MAX_ASYNCS }
         ensures told { SendsBeside B.others self.old.loop async_no result self.new.loop }

@@ -110,7 +110,7 @@ fn free_slot(items: &[Outstanding]) -> u32
 }
 
 impl Requests {
-    /// No request, with room for 32.
+    /// No request, with room for `MAX_REQUESTS`.
     pub fn new(alloc: Global) -> Result<Self, AllocError>
         ensures { IfOk result (λ rs. rs ≡ no_requests) }
     {

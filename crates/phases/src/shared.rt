@@ -12,7 +12,7 @@ ghost use Rattle.phases.specs.View.{IsAbove};
 pub trait Shared {
     ghost calls: { Calls Self };
 
-    /// Opens a request in a slot. Slots are below 32, requests are 1 to 2,147,483,647 and rise.
+    /// Opens a request in a slot. Slots are below `MAX_REQUESTS`, requests are 1 to 2,147,483,647 and rise.
     fn open(&mut self, slot: u32, request: u32)
         requires slot { slot < MAX_REQUESTS }
         requires request { (0 < request) × (request < 2 ^ 31) }

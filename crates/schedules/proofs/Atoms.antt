@@ -2,8 +2,9 @@
 use Rattle.std.proofs.Common.{◌≡◌, ℕ, ◌+◌, ◌<◌, ◌≤◌, Bool, true, false, not, inl, inr, ◌⊎◌, List, [], ◌∷◌, ◌++◌, length, Option, Some, None, refl, sym, ap, subst, ◌∙◌, arith, MatchBool}
 use Rattle.std.specs.Prelude.{slice_get, slice_set}
 use Rattle.limits.specs.declared.TheConstants.{MAX_ASYNCS}
-use Rattle.std.proofs.lemmas.List.{length-set, length_push}
+use Rattle.std.proofs.lemmas.List.{length-set, length_push, set-set}
 use Rattle.order.specs.Work.{WorkOrder}
+use Rattle.tallies.proofs.Places.{set_same, set_here}
 use Rattle.phases.specs.State.{Setting, State, Loop, Core}
 use Rattle.phases.specs.Outside.{is_failed, next_order_of}
 use Rattle.phases.specs.Step.{in_state, sharing}
@@ -17,9 +18,8 @@ use Rattle.world_log.specs.declared.outcome.StartOutcome.TheVariants as start
 use Rattle.world_log.specs.declared.outcome.FinishOutcome.TheVariants as finish
 use Rattle.phases.specs.declared.did.StepDid.{StepDid}
 use Rattle.phases.specs.declared.did.StepDid.TheVariants as did
-use Rattle.world.specs.World.{World, Worker, Idle, Taken, Started, Only, PostsOrder, StartsJob, FinishesJob, SendsTo, WorldStep, with_loop, with_worker, job_of, told_of}
-use Rattle.world.proofs.Sets.{core, set_same}
-use Rattle.world.proofs.Runs.{set_here}
+use Rattle.world.specs.Laws.{RunsJoin}
+use Rattle.world.specs.World.{World, Worker, Idle, Taken, Started, Only, PostsOrder, StartsJob, FinishesJob, SendsTo, WorldStep, with_loop, with_worker, job_of, told_of, core}
 use Rattle.schedules.specs.Accesses.{over}
 use Rattle.schedules.specs.Laws.{log_of, jobs_in, is_posted, is_taken_by}
 use Rattle.schedules.specs.Schedule.{Underway, Threads, Atom, Begin, Next, End, Whole, MayBe, IsBetween, Begins, GoesOn, Ends, HandsOut, TakesOne, AtOnce, AtomStep}
@@ -27,7 +27,7 @@ use Rattle.schedules.proofs.Alike.{IsBehind, Alike, AllAlike, AreAlikeAt, alike_
 use Rattle.schedules.proofs.Behind.{behind_begun, behind_next, behind_started, behind_sent, behind_is, behind_ended, Received}
 use Rattle.schedules.proofs.Hands.{AreHeld, IsAt, handed, waiting, waiting_push, is_at, hand_posts, hand_takes, hand_goes, hand_drops}
 use Rattle.schedules.proofs.Owners.{Owned, owner_tells, owner_collects, owner_cancels, owner_clocks}
-use Rattle.schedules.proofs.Running.{beside, Runs, run_none, run_one, run_join, run_send, run_sends, set_again, once_quiet, once_took, count_one}
+use Rattle.schedules.proofs.Running.{beside, Runs, run_none, run_one, run_join, run_send, run_sends, once_quiet, once_took, count_one}
 use Rattle.schedules.proofs.Standing.{Stands}
 
 -- The world runs on, and stands as the threads do; and each job that was posted is in the bag, until a worker takes it.
@@ -56,7 +56,7 @@ untaken_step k n (did.Skipped kind number) emits = refl
 untaken_step k n did.Over emits = refl
 untaken_step k n did.Failed emits = refl
 
-module _ (all : ℕ) (t : Threads) (ls : List (Core Desk)) (ws : List Worker) (bag : List (Option WorkOrder)) (hand : ℕ → ℕ) (alike : AllAlike t.world.loops t.steps ls) (hands : AreHeld all bag hand t.world.workers ws)
+module _ (joins : RunsJoin) (all : ℕ) (t : Threads) (ls : List (Core Desk)) (ws : List Worker) (bag : List (Option WorkOrder)) (hand : ℕ → ℕ) (alike : AllAlike t.world.loops t.steps ls) (hands : AreHeld all bag hand t.world.workers ws)
     (jobs_are : t.world.jobs ≡ waiting bag) (stands : Stands (beside t.world ls ws)) where
   abbrev used : ℕ
   used = length bag
@@ -141,9 +141,9 @@ module _ (all : ℕ) (t : Threads) (ls : List (Core Desk)) (ws : List Worker) (b
         run_one w (beside t.world mid ws) (step.Loop n) entry (entry ∷ []) used used
         (record { setting = g; old = over q.loop.shared l; new = after_step; did = u.did; at = here; steps = behind_ended g l u q b none; told = refl; after = refl })
         (λ i. refl) (once_quiet used entry (λ k. untaken_step k n u.did u.state.emits)) in
-        let two = run_sends t.world ws n used mid (core g after_step) l.shared b.late (set_here ls n (core g after_step) q behind.1) b.gets in
-        let both = run_join w (beside t.world mid ws) (beside t.world (slice_set mid n (core g ended)) ws) used used used (entry ∷ []) [] one two in
-        subst (λ xs. Runs w used (entry ∷ []) (beside t.world xs ws) used) (set_again ls n (core g after_step) (core g ended)) both
+        let two = run_sends t.world ws n used joins mid (core g after_step) l.shared b.late (set_here ls n (core g after_step) q behind.1) b.gets in
+        let both = run_join joins w (beside t.world mid ws) (beside t.world (slice_set mid n (core g ended)) ws) used used used (entry ∷ []) [] one two in
+        subst (λ xs. Runs w used (entry ∷ []) (beside t.world xs ws) used) (set-set ls n (core g after_step) (core g ended)) both
 
   ends : (n : ℕ) (told : List LogEntry) (t' : Threads) → Ends t n told t' → On told t'
   ends n told t' h = subst (λ x. On told x) (sym h.after) (subst (λ xs. On xs next) (sym h.line) (record {
@@ -229,7 +229,7 @@ module _ (all : ℕ) (t : Threads) (ls : List (Core Desk)) (ws : List Worker) (b
         bag = bag ++ Some o ∷ [];
         hand = hand;
         runs = subst (λ k. Runs w used (entry ∷ []) (beside r' Ls Ws) k) (sym long)
-            (run_join w posted (beside r' Ls Ws) used used (used + 1) (entry ∷ []) [] one two);
+            (run_join joins w posted (beside r' Ls Ws) used used (used + 1) (entry ∷ []) [] one two);
         alike =
             subst (λ (x : World). AllAlike x.loops t.steps Ls) (sym after)
             (subst (λ us. AllAlike (slice_set t.world.loops n now) us Ls) (set_same t.steps n None between) (alike_set n t.world.loops t.steps ls now None now refl alike));

@@ -4,7 +4,7 @@ use Rattle.limits.specs.declared.TheConstants.{MAX_ASYNCS}
 use Rattle.phases.specs.State.{Setting, Loop, Core}
 use Rattle.phases.specs.Step.{LoopStep, sharing}
 use Rattle.desk.specs.Desk.{Desk, desk_calls, is_open, started, DeskGets}
-use Rattle.world.proofs.Sets.{core}
+use Rattle.world.specs.World.{core}
 use Rattle.schedules.specs.Accesses.{Access, Moves, Reach, over, StepsBy}
 use Rattle.schedules.specs.Schedule.{Underway}
 use Rattle.schedules.proofs.Alike.{IsBehind, AreLate}

@@ -4,8 +4,8 @@ use Rattle.std.specs.Prelude.{slice_get, slice_set}
 use Rattle.std.proofs.lemmas.Bool.{cases_eq, eq-eqb, ne_eqb}
 use Rattle.std.proofs.lemmas.List.{length-set, length_push}
 use Rattle.order.specs.Work.{WorkOrder}
+use Rattle.tallies.proofs.Places.{set_here, set_apart}
 use Rattle.world.specs.World.{Worker, Idle, Taken}
-use Rattle.world.proofs.Runs.{set_here, set_apart}
 
 -- a place of a list after one was set
 pub set_cases : {X : Type 0} (xs : List X) (n k : ℕ) (v y x : X) → slice_get xs n ≡ Some y → slice_get (slice_set xs n v) k ≡ Some x → ((k ≡ n) × (x ≡ v)) ⊎ ((k ≢ n) × (slice_get xs k ≡ Some x))

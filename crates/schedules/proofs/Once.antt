@@ -8,9 +8,8 @@ use Rattle.world_log.specs.declared.entry.LogEntry.{LogEntry}
 use Rattle.world_log.specs.declared.entry.LogEntry.TheVariants as line
 use Rattle.world.specs.Laws.{AreInPlace, is_after}
 use Rattle.world.specs.Laws.{IsAfterOnce as IsAfterOnceInWorld}
-use Rattle.schedules.specs.Laws.{is_of_loop, jobs_in}
+use Rattle.schedules.specs.Laws.{IsAsInWorld, is_of_loop, jobs_in}
 use Rattle.schedules.specs.Schedule.{Threads, Atom, ThreadsRun, opening_threads}
-use Rattle.schedules.proofs.Wholes.{has_world}
 
 -- what passes one test alone is not lost by the other
 counted : {X : Type 0} (p q : X → Bool) (xs : List X) → ((x : X) → q x ≡ false → p x ≡ false) → count_by p (filter q xs) ≡ count_by p xs
@@ -31,10 +30,10 @@ after_of_loop : (l request : ℕ) (entry : LogEntry) → is_of_loop l entry ≡ 
 after_of_loop l request (line.Ran n kind.After number ended emits) h = and_false (n == l) (number == request) h
 after_of_loop l request _ h = refl
 
-pub once_in_threads : IsAfterOnceInWorld → (settings : List Setting) (workers : ℕ) (atoms : List Atom) (log : List LogEntry) (t : Threads) → AreInPlace settings
+pub once_in_threads : IsAfterOnceInWorld → IsAsInWorld → (settings : List Setting) (workers : ℕ) (atoms : List Atom) (log : List LogEntry) (t : Threads) → AreInPlace settings
     → ThreadsRun (opening_threads settings workers) atoms log t → (l request : ℕ) → count_by (is_after l request) log ≤ 1
-once_in_threads once settings workers atoms log t placed h l request =
-    let it = has_world settings workers atoms log t placed h in
+once_in_threads once as_world settings workers atoms log t placed h l request =
+    let it = as_world settings workers atoms log t placed h in
     let few = once settings (jobs_in log) it.steps it.told it.world it.run l request in
     let one = counted (is_after l request) (is_of_loop l) it.told (after_of_loop l request) in
     let two = counted (is_after l request) (is_of_loop l) log (after_of_loop l request) in

@@ -2,6 +2,7 @@
 use Rattle.std.proofs.Common.{◌≡◌, ℕ, Bool, true, false, List, [], ◌∷◌, Some, refl, sym, ap, ◌∙◌, MatchBool}
 use Rattle.std.specs.Prelude.{slice_get, slice_set}
 use Rattle.std.specs.Int.{w32, cast_signed}
+use Rattle.tallies.proofs.Places.{set_same}
 use Rattle.phases.specs.Outside.{Takes, CancelIn, is_failed, answered, after_clock}
 use Rattle.phases.specs.Host.{with_requests}
 use Rattle.phases.specs.State.{Setting, Loop, Core}
@@ -11,8 +12,7 @@ use Rattle.world_log.specs.declared.step.Step.TheVariants as step
 use Rattle.world_log.specs.declared.entry.LogEntry.{LogEntry}
 use Rattle.world_log.specs.declared.entry.LogEntry.TheVariants as line
 use Rattle.world_log.specs.declared.outcome.CollectOutcome.TheVariants as collect
-use Rattle.world.specs.World.{World, Worker, Answer, Only, UnlessFailed, Collects, CollectsFrom, Cancels, Clocks, WorldStep, with_loop, with_replies}
-use Rattle.world.proofs.Sets.{core, set_same}
+use Rattle.world.specs.World.{World, Worker, Answer, Only, UnlessFailed, Collects, CollectsFrom, Cancels, Clocks, WorldStep, with_loop, with_replies, core}
 use Rattle.schedules.specs.Laws.{is_taken_by}
 use Rattle.schedules.proofs.Running.{beside}
 

@@ -1,11 +1,13 @@
 -- Runs of a world that tell what the threads tell, in which each worker takes one job at most.
-use Rattle.std.proofs.Common.{◌≡◌, ◌≢◌, ℕ, zero, suc, ◌+◌, ◌<◌, ◌≤◌, ◌==◌, Bool, true, false, cond, inl, inr, ◌⊎◌, List, [], ◌∷◌, ◌++◌, Some, refl, sym, ap, subst, ◌∙◌, arith}
+use Rattle.std.proofs.Common.{◌≡◌, ◌≢◌, ℕ, ◌+◌, ◌<◌, ◌≤◌, ◌==◌, Bool, true, false, cond, inl, inr, ◌⊎◌, List, [], ◌∷◌, ◌++◌, Some, refl, sym, ap, subst, ◌∙◌, arith}
 use Rattle.std.specs.Prelude.{slice_get, slice_set}
 use Rattle.std.specs.List.{count_by}
 use Rattle.std.proofs.lemmas.Bool.{cases_lt, ne_eqb}
 use Rattle.std.proofs.lemmas.List.Elements.{filter-append}
 use Rattle.std.proofs.lemmas.List.Sums.{sum_by-append, sum_by-cons}
+use Rattle.std.proofs.lemmas.List.{set-set}
 use Rattle.limits.specs.declared.TheConstants.{MAX_ASYNCS}
+use Rattle.tallies.proofs.Places.{set_here, set_same}
 use Rattle.phases.specs.State.{Core}
 use Rattle.phases.specs.Step.{sharing}
 use Rattle.desk.specs.Desk.{Desk, DeskGets}
@@ -14,10 +16,8 @@ use Rattle.world_log.specs.declared.step.Step.TheVariants as step
 use Rattle.world_log.specs.declared.entry.LogEntry.{LogEntry}
 use Rattle.world_log.specs.declared.entry.LogEntry.TheVariants as line
 use Rattle.world_log.specs.declared.outcome.JobId.{JobId}
-use Rattle.world.specs.World.{World, Worker, WorldStep, WorldRun}
-use Rattle.world.proofs.Runs.{set_here}
-use Rattle.world.proofs.Sets.{core, set_same}
-use Rattle.world.proofs.Stepping.{runs_join}
+use Rattle.world.specs.Laws.{RunsJoin}
+use Rattle.world.specs.World.{World, Worker, WorldStep, WorldRun, core}
 use Rattle.schedules.specs.Laws.{log_of, is_of_loop, is_taken_by}
 use Rattle.schedules.proofs.Sending.{Gets}
 
@@ -91,21 +91,15 @@ run_none w n told silent = record { steps = []; lines = []; run = refl; logs = s
 pub run_one : (w w' : World) (s : Step) (entry : LogEntry) (told : List LogEntry) (from to : ℕ) → WorldStep w s entry w' → ((l : ℕ) → log_of l (entry ∷ []) ≡ log_of l told) → Once from to (entry ∷ []) → Runs w from told w' to
 run_one w w' s entry told from to moves logs once = record { steps = s ∷ []; lines = entry ∷ []; run = (w', moves, refl); logs = logs; once = once }
 
-pub run_join : (w mid w' : World) (a b c : ℕ) (told behind : List LogEntry) → Runs w a told mid b → Runs mid b behind w' c → Runs w a (told ++ behind) w' c
-run_join w mid w' a b c told behind one two = record {
+pub run_join : RunsJoin → (w mid w' : World) (a b c : ℕ) (told behind : List LogEntry) → Runs w a told mid b → Runs mid b behind w' c → Runs w a (told ++ behind) w' c
+run_join joins w mid w' a b c told behind one two = record {
   steps = one.steps ++ two.steps;
   lines = one.lines ++ two.lines;
-  run = runs_join w mid w' one.steps two.steps one.lines two.lines one.run two.run;
+  run = joins w mid w' one.steps two.steps one.lines two.lines one.run two.run;
   logs = λ l. filter-append (is_of_loop l) one.lines two.lines ∙ ap (λ xs. xs ++ log_of l two.lines) (one.logs l) ∙ ap (λ xs. log_of l told ++ xs) (two.logs l)
       ∙ sym (filter-append (is_of_loop l) told behind);
   once = once_join a b c one.lines two.lines one.once two.once;
 }
-
--- what was set is set again
-pub set_again : {X : Type 0} (xs : List X) (n : ℕ) (x y : X) → slice_set (slice_set xs n x) n y ≡ slice_set xs n y
-set_again [] n x y = refl
-set_again (z ∷ xs) zero x y = refl
-set_again (z ∷ xs) (suc n) x y = ap (λ zs. z ∷ zs) (set_again xs n x y)
 
 -- sends of others
 module _ (r : World) (ws : List Worker) (n used : ℕ) where
@@ -117,14 +111,14 @@ module _ (r : World) (ws : List Worker) (n used : ℕ) where
       run_one (beside r ls ws) (beside r (slice_set ls n (core p.setting (sharing p.loop e))) ws) (step.Send n a) (line.Send n a false) [] used used
       (p.setting, p.loop, sharing p.loop e, true, below, at, (moves, refl, refl), refl, refl) (λ l. refl) (once_quiet used (line.Send n a false) (λ k. refl))
 
-  pub run_sends : (ls : List (Core Desk)) (p : Core Desk) (e : Desk) (late : List ℕ) → slice_get ls n ≡ Some p → Gets p.loop.shared late e → SentTo ls p e
-  run_sends ls p e [] at h =
+  pub run_sends : RunsJoin → (ls : List (Core Desk)) (p : Core Desk) (e : Desk) (late : List ℕ) → slice_get ls n ≡ Some p → Gets p.loop.shared late e → SentTo ls p e
+  run_sends joins ls p e [] at h =
       let same : slice_set ls n (core p.setting (sharing p.loop e)) ≡ ls = ap (λ d. slice_set ls n (core p.setting (sharing p.loop d))) h ∙ set_same ls n p at in
       subst (λ xs. Runs (beside r ls ws) used [] (beside r xs ws) used) (sym same) (run_none (beside r ls ws) used [] (λ l. refl))
-  run_sends ls p e (a ∷ late) at h =
+  run_sends joins ls p e (a ∷ late) at h =
       let mid : Core Desk = core p.setting (sharing p.loop h.0) in
       let one = run_send ls p h.0 a at h.1 h.2 in
-      let rest = run_sends (slice_set ls n mid) mid e late (set_here ls n mid p at) h.3 in
+      let rest = run_sends joins (slice_set ls n mid) mid e late (set_here ls n mid p at) h.3 in
       let last = slice_set (slice_set ls n mid) n (core p.setting (sharing p.loop e)) in
-      subst (λ xs. Runs (beside r ls ws) used [] (beside r xs ws) used) (set_again ls n mid (core p.setting (sharing p.loop e)))
-      (run_join (beside r ls ws) (beside r (slice_set ls n mid) ws) (beside r last ws) used used used [] [] one rest)
+      subst (λ xs. Runs (beside r ls ws) used [] (beside r xs ws) used) (set-set ls n mid (core p.setting (sharing p.loop e)))
+      (run_join joins (beside r ls ws) (beside r (slice_set ls n mid) ws) (beside r last ws) used used used [] [] one rest)

@@ -1,7 +1,9 @@
 -- What stands in a world: numbers that its loops gave, and no others.
 use Rattle.std.proofs.Common.{◌≡◌, ◌≢◌, ℕ, zero, suc, ◌+◌, ◌≤◌, ◌==◌, Bool, true, false, inl, inr, ◌⊎◌, List, [], ◌∷◌, ◌++◌, length, map, replicate, Option, Some, None, refl, sym, ap, subst, ◌∙◌, arith, MatchBool}
 use Rattle.std.specs.Prelude.{slice_get, slice_set}
+use Rattle.limits.specs.declared.TheConstants.{MAX_JOBS}
 use Rattle.order.specs.Work.{WorkOrder}
+use Rattle.tallies.proofs.Requests.{either}
 use Rattle.phases.specs.History.{Stepped, OrderAsked, CancelAnswered}
 use Rattle.phases.specs.Guests.{loop_calls}
 use Rattle.phases.specs.Outside.{next_order_of, after_clock, answered}
@@ -18,9 +20,7 @@ use Rattle.world_log.specs.declared.entry.LogEntry.{LogEntry}
 use Rattle.world_log.specs.declared.entry.LogEntry.TheVariants as line
 use Rattle.world_log.specs.declared.outcome.PostOutcome.TheVariants as post
 use Rattle.world.specs.Laws.{AreInPlace}
-use Rattle.world.specs.World.{World, Worker, Idle, Taken, Started, Answer, Only, UnlessFailed, PostsOrder, TakesJob, StartsJob, FinishesJob, CollectsFrom, WorldStep, opening_world, opening_loop, with_loop, with_worker}
-use Rattle.world.proofs.Runs.{either}
-use Rattle.world.proofs.Sets.{core}
+use Rattle.world.specs.World.{World, Worker, Idle, Taken, Started, Answer, Only, UnlessFailed, PostsOrder, TakesJob, StartsJob, FinishesJob, CollectsFrom, WorldStep, opening_world, opening_loop, with_loop, with_worker, core}
 use Rattle.schedules.proofs.Hands.{set_cases}
 use Rattle.schedules.proofs.Numbers.{AreOwn, Numbered, Kept, own_found, keeps_numbered, staged}
 
@@ -233,7 +233,7 @@ module _ (w w' : World) (s : Stands w) where
       (Stepped h.did h.new.state.emits (loop_calls desk_calls h.setting h.old h.did h.new h.steps)) h.old h.new (h.steps, refl, refl) (start n h.setting h.old h.new h.at loops))
       (ap (λ (x : World). x.jobs) h.after) (ap (λ (x : World). x.workers) h.after)
   step_stands (step.Post n) entry h =
-      unless n h.1 entry _ (λ k. either (length w.jobs == 256) _ _ (Stands w') (only entry (line.Post n post.Full)) (posts n h.0 h.1 entry (next_order_of h.1.state) h.2 refl) k) h.3
+      unless n h.1 entry _ (λ k. either (length w.jobs == MAX_JOBS) _ _ (Stands w') (only entry (line.Post n post.Full)) (posts n h.0 h.1 entry (next_order_of h.1.state) h.2 refl) k) h.3
   step_stands (step.Take n) entry h = take n h.0 w.jobs entry h.1 refl h.2
   step_stands (step.Start n) entry h = start_next n h.0 entry h.1 h.2
   step_stands (step.Finish n) entry h = finish_next n h.0 entry h.1 h.2

@@ -3,7 +3,10 @@ use Rattle.std.proofs.Common.{◌≡◌, ℕ, ◌==◌, Bool, true, false, cond,
 use Rattle.std.specs.Prelude.{slice_get, slice_set}
 use Rattle.std.specs.List.{count_by}
 use Rattle.std.proofs.lemmas.List.Sums.{sum_by-cons}
+use Rattle.std.proofs.lemmas.List.{set-set}
+use Rattle.limits.specs.declared.TheConstants.{MAX_JOBS}
 use Rattle.order.specs.Work.{WorkOrder}
+use Rattle.tallies.proofs.Places.{set_here, set_same, map_get}
 use Rattle.phases.specs.State.{Setting, Core}
 use Rattle.phases.specs.Step.{sharing}
 use Rattle.phases.specs.Outside.{is_failed, next_order_of}
@@ -14,14 +17,11 @@ use Rattle.world_log.specs.declared.entry.LogEntry.{LogEntry}
 use Rattle.world_log.specs.declared.entry.LogEntry.TheVariants as line
 use Rattle.world_log.specs.declared.outcome.PostOutcome.TheVariants as post
 use Rattle.world.specs.Histories.{IsHistory}
-use Rattle.world.specs.World.{World, Worker, Idle, Taken, Started, Only, PostsOrder, TakesJob, StepsLoop, WorldStep, WorldRun, opening_world, with_loop}
-use Rattle.world.proofs.Runs.{set_here}
-use Rattle.world.proofs.Sets.{core, set_same, map_get}
-use Rattle.world.proofs.Stepping.{run_more}
+use Rattle.world.specs.Laws.{RunsJoin}
+use Rattle.world.specs.World.{World, Worker, Idle, Taken, Started, Only, PostsOrder, TakesJob, StepsLoop, WorldStep, WorldRun, opening_world, with_loop, core}
 use Rattle.schedules.specs.Accesses.{Access, Moves, Reach}
 use Rattle.schedules.specs.Laws.{HasThreads, is_full}
 use Rattle.schedules.specs.Schedule.{Underway, Threads, Atom, Begin, Next, End, Whole, MayBe, AtOnce, TakesOne, AtomStep, ThreadsRun, opening_threads}
-use Rattle.schedules.proofs.Running.{set_again}
 use Rattle.schedules.proofs.Splitting.{step_split}
 
 threads_join : (atoms more : List Atom) (log lines : List LogEntry) (t mid t' : Threads) → ThreadsRun t atoms log mid → ThreadsRun mid more lines t' → ThreadsRun t (atoms ++ more) (log ++ lines) t'
@@ -67,9 +67,9 @@ module _ (us : List (Option Underway)) (w w' : World) (n : ℕ) (entry : LogEntr
     silent = refl;
     after =
         ap (λ ls. record { world = record w { loops = ls }; steps = slice_set us n (Some (underway accesses)) })
-        (sym (set_again w.loops n (core h.setting (sharing h.old d)) (core h.setting (sharing h.old e))))
+        (sym (set-set w.loops n (core h.setting (sharing h.old d)) (core h.setting (sharing h.old e))))
         ∙ ap (λ xs. record { world = with_loop (with_loop w n h.setting (sharing h.old d)) n h.setting (sharing h.old e); steps = xs })
-        (sym (set_again us n (Some (underway (a ∷ accesses))) (Some (underway accesses))));
+        (sym (set-set us n (Some (underway (a ∷ accesses))) (Some (underway accesses))));
   }
 
   abbrev nexts : List Access → List Atom
@@ -93,9 +93,9 @@ module _ (us : List (Option Underway)) (w w' : World) (n : ℕ) (entry : LogEntr
     line = ap (λ x. x ∷ []) h.told;
     after =
         ap resting h.after
-        ∙ ap (λ ls. resting (record w { loops = ls })) (sym (set_again w.loops n (core h.setting (sharing h.old h.new.shared)) (core h.setting h.new)))
+        ∙ ap (λ ls. resting (record w { loops = ls })) (sym (set-set w.loops n (core h.setting (sharing h.old h.new.shared)) (core h.setting h.new)))
         ∙ ap (λ xs. record { world = with_loop (with_loop w n h.setting (sharing h.old h.new.shared)) n h.setting h.new; steps = xs })
-        (sym (set_again us n (Some (underway [])) None ∙ set_same us n None rests));
+        (sym (set-set us n (Some (underway [])) None ∙ set_same us n None rests));
   }
 
   loop_threads : (atoms : List Atom) × ThreadsRun (resting w) atoms (entry ∷ []) (resting w')
@@ -150,7 +150,7 @@ module _ (us : List (Option Underway)) (w w' : World) (entry : LogEntry) (rests 
   step_threads (step.Loop n) h = loop_threads us w w' n entry h (rests n (core h.setting h.old) h.at)
   step_threads (step.Post n) h =
       whole (step.Post n) (rests n (core h.0 h.1) h.2)
-      (h.0, h.1, h.2, hands_out (is_failed h.1.state.status) (length w.jobs == 256) entry w w' n (PostsOrder w n h.0 h.1 (next_order_of h.1.state) entry w') room h.3)
+      (h.0, h.1, h.2, hands_out (is_failed h.1.state.status) (length w.jobs == MAX_JOBS) entry w w' n (PostsOrder w n h.0 h.1 (next_order_of h.1.state) entry w') room h.3)
   step_threads (step.Take n) h = whole (step.Take n) tt (takes_one w w' n h.0 w.jobs entry h.1 refl h.2)
   step_threads (step.Start n) h = whole (step.Start n) tt h
   step_threads (step.Finish n) h = whole (step.Finish n) tt h
@@ -166,7 +166,7 @@ none_full entry log none = by (is_full entry) refl where
   by true is = absurd (let all = sum_by-cons (λ x. cond {A = ℕ} (is_full x) 1 0) entry log in let one = ap (λ b. cond {A = ℕ} b 1 0) is in omega (arith, all, one, none))
   by false is = (is, (let all = sum_by-cons (λ x. cond {A = ℕ} (is_full x) 1 0) entry log in omega (arith, all, none)))
 
-module _ (history : IsHistory) (settings : List Setting) (workers : ℕ) where
+module _ (history : IsHistory) (joins : RunsJoin) (settings : List Setting) (workers : ℕ) where
   abbrev Us : List (Option Underway)
   Us = (opening_threads settings workers).steps
 
@@ -179,7 +179,7 @@ module _ (history : IsHistory) (settings : List Setting) (workers : ℕ) where
       let room = none_full e log none in
       let one =
       step_threads Us w run.0 e (λ n p at. map_get (λ _. None) settings n p.setting (history settings workers done before w was n p.setting p.loop at).0) room.0 s run.1 in
-      let rest = run_threads steps (done ++ s ∷ []) log (before ++ e ∷ []) run.0 w' (run_more done before (opening_world settings workers) w run.0 s e was run.1) run.2 room.1 in (
+      let rest = run_threads steps (done ++ s ∷ []) log (before ++ e ∷ []) run.0 w' (joins (opening_world settings workers) w run.0 done (s ∷ []) before (e ∷ []) was (run.0, run.1, refl)) run.2 room.1 in (
         one.0 ++ rest.0,
         threads_join one.0 rest.0 (e ∷ []) log (record { world = w; steps = Us }) (record { world = run.0; steps = Us }) (record { world = w'; steps = Us }) one.1 rest.1,
       )

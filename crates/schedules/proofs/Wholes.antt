@@ -5,7 +5,7 @@ use Rattle.phases.specs.State.{Setting, Core}
 use Rattle.desk.specs.Desk.{Desk}
 use Rattle.world_log.specs.declared.step.Step.{Step}
 use Rattle.world_log.specs.declared.entry.LogEntry.{LogEntry}
-use Rattle.world.specs.Laws.{AreInPlace}
+use Rattle.world.specs.Laws.{AreInPlace, RunsJoin}
 use Rattle.world.specs.World.{World, Worker, Idle, WorldRun, opening_loop}
 use Rattle.schedules.specs.Laws.{HasWorld, jobs_in, is_posted}
 use Rattle.schedules.specs.Schedule.{Threads, Atom, ThreadsRun, opening_threads}
@@ -29,7 +29,7 @@ record Ran (all : ℕ) (t : Threads) (ls : List (Core Desk)) (ws : List Worker) 
   pub runs : Runs (beside t.world ls ws) used log (beside t'.world loops workers) to
   pub alike : AllAlike t'.world.loops t'.steps loops
 
-module _ (all : ℕ) where
+module _ (joins : RunsJoin) (all : ℕ) where
   ran : (atoms : List Atom) (t : Threads) (ls : List (Core Desk)) (ws : List Worker) (bag : List (Option WorkOrder)) (hand : ℕ → ℕ) (log : List LogEntry) (t' : Threads) → AllAlike t.world.loops t.steps ls
       → AreHeld all bag hand t.world.workers ws → t.world.jobs ≡ waiting bag → Stands (beside t.world ls ws) → length bag + jobs_in log ≤ all → ThreadsRun t atoms log t' → Ran all t ls ws (length bag) log t'
   ran [] t ls ws bag hand log t' alike hands jobs stands room h = subst (λ x. Ran all t ls ws (length bag) log x) (sym h.1) (record {
@@ -41,7 +41,7 @@ module _ (all : ℕ) where
   })
   ran (a ∷ atoms) t ls ws bag hand log t' alike hands jobs stands room h =
       let split : jobs_in log ≡ jobs_in h.1 + jobs_in h.2 = ap jobs_in h.5 ∙ count_append is_posted h.1 h.2 in
-      let one = atom_runs all t ls ws bag hand alike hands jobs stands a h.1 h.0 (omega (arith, room, split)) h.3 in
+      let one = atom_runs joins all t ls ws bag hand alike hands jobs stands a h.1 h.0 (omega (arith, room, split)) h.3 in
       let next : Stands (beside h.0.world one.loops one.workers) = run_stands one.runs.steps one.runs.lines (beside t.world ls ws) (beside h.0.world one.loops one.workers) one.runs.run stands in
       let less = one.room in
       let rest = ran atoms h.0 one.loops one.workers one.bag one.hand h.2 t' one.alike one.hands one.jobs next (omega (arith, room, split, less)) h.4 in
@@ -51,15 +51,15 @@ module _ (all : ℕ) where
         to = rest.to;
         runs =
             subst (λ xs. Runs (beside t.world ls ws) (length bag) xs (beside t'.world rest.loops rest.workers) rest.to) (sym h.5)
-            (run_join (beside t.world ls ws) (beside h.0.world one.loops one.workers) (beside t'.world rest.loops rest.workers) (length bag) (length one.bag) rest.to h.1 h.2 one.runs rest.runs);
+            (run_join joins (beside t.world ls ws) (beside h.0.world one.loops one.workers) (beside t'.world rest.loops rest.workers) (length bag) (length one.bag) rest.to h.1 h.2 one.runs rest.runs);
         alike = rest.alike;
       }
 
-pub has_world : (settings : List Setting) (workers : ℕ) (atoms : List Atom) (log : List LogEntry) (t : Threads) → AreInPlace settings → ThreadsRun (opening_threads settings workers) atoms log t → HasWorld settings log t
-has_world settings workers atoms log t placed h =
+pub has_world : RunsJoin → (settings : List Setting) (workers : ℕ) (atoms : List Atom) (log : List LogEntry) (t : Threads) → AreInPlace settings → ThreadsRun (opening_threads settings workers) atoms log t → HasWorld settings log t
+has_world joins settings workers atoms log t placed h =
     let all = jobs_in log in
     let it =
-    ran all atoms (opening_threads settings workers) (map opening_loop settings) (replicate all Idle) [] (λ k. k) log t (alike_open settings) (hands_open workers all) refl
+    ran joins all atoms (opening_threads settings workers) (map opening_loop settings) (replicate all Idle) [] (λ k. k) log t (alike_open settings) (hands_open workers all) refl
     (opening_stands settings all placed) (omega arith) h in
     record {
       steps = it.runs.steps;

@@ -14,13 +14,16 @@ pub fn step_by_accesses()
 /// between two of its steps stands the same.
 pub fn as_in_world()
     ensures { IsAsInWorld }
-{}
+{
+    world::laws::runs_join();
+}
 
 /// So what a law says of the log of a loop in every run of the world holds in threads: each request has at most one
 /// after-work callback.
 pub fn after_once()
     ensures { IsAfterOnce }
 {
+    as_in_world();
     world::laws::after_once();
 }
 
@@ -29,4 +32,5 @@ pub fn of_threads()
     ensures { IsOfThreads }
 {
     world::laws::after_once();
+    world::laws::runs_join();
 }

@@ -30,8 +30,8 @@ pub struct Plan {
 impl Plan {
     ghost use Rattle.script.specs.Limits.{IsWithinLimits};
 
-    /// Whether there are 1 to 8 modules, 1 to 8 loops, at most 16 workers and at most 65,536 steps, and each loop has a
-    /// module that is there and a depth of 1 to 128.
+    /// Whether there are 1 to `MAX_SCRIPT_MODULES` modules, 1 to `MAX_LOOPS` loops, at most `MAX_WORKERS` workers and at
+    /// most `MAX_SCRIPT_STEPS` steps, and each loop has a module that is there and a depth of 1 to `MAX_DEPTH`.
     pub(crate) fn is_within_limits(&self) -> bool
         ensures { IsTrue result ↔ IsWithinLimits self.now }
     {

@@ -44,7 +44,7 @@ impl Task {
         Task { order }
     }
 
-    /// The ticket of its request, whose loop is below 8 and whose slot is below 32.
+    /// The ticket of its request, whose loop is below `MAX_LOOPS` and whose slot is below `MAX_REQUESTS`.
     pub fn ticket(&self) -> Ticket
         ensures ticket { result ≡ ticket_of self.now }
         ensures there { (result.loop_no < MAX_LOOPS) × (result.slot < MAX_REQUESTS) }

@@ -1,2 +1,5 @@
 pub mod Requests
 pub mod Counts
+pub mod Lists
+pub mod Places
+pub mod Filtered

@@ -1,5 +1,5 @@
 -- Tests on requests, how often one is in a list, and the last one of a slot.
-use Rattle.std.proofs.Common.{◌≡◌, ◌≢◌, ◌⊎◌, ℕ, ◌+◌, ◌<◌, List, [], ◌∷◌, ◌++◌, Bool, true, false, ◌==◌, cond, if◌then◌else◌, refl, ap, ◌∙◌, inl, inr, ⊎_elim, eq-eqb, ne_eqb, arith}
+use Rattle.std.proofs.Common.{◌≡◌, ◌≢◌, ◌⊎◌, ℕ, ◌+◌, ◌<◌, List, [], ◌∷◌, ◌++◌, Bool, true, false, ◌==◌, cond, if◌then◌else◌, refl, ap, ◌∙◌, inl, inr, ⊎_elim, eq-eqb, ne_eqb, arith, MatchBool}
 use Rattle.std.proofs.lemmas.Bool.Decides.{nat_tests}
 use Rattle.std.proofs.lemmas.List.Sums.{sum_by-cons, sum_by_push}
 use Rattle.tallies.specs.Requests.{is_request, times, last_from, last_in}
@@ -8,6 +8,11 @@ use Rattle.tallies.specs.Requests.{is_request, times, last_from, last_in}
 pub by_test : {P : Type 0} (b : Bool) → (b ≡ true → P) → (b ≡ false → P) → P
 by_test true hit miss = hit refl
 by_test false hit miss = miss refl
+
+-- what follows from either side of one
+pub either : (b : Bool) (P Q R : Type 0) → (P → R) → (Q → R) → MatchBool b P Q → R
+either true P Q R f k h = f h
+either false P Q R f k h = k h
 
 pub is_request_itself : (c : ℕ × ℕ) → is_request c c ≡ true
 is_request_itself c = grind (arith, nat_tests)

@@ -8,7 +8,7 @@ ghost use Rattle.limits.specs.declared.TheConstants.{MAX_BYTES, MAX_DEPTH, MAX_L
 pub struct Budget {
     /// How many instructions may be paid for.
     pub fuel: u64,
-    /// How many calls may stand open, 1 to 128.
+    /// How many calls may stand open, 1 to `MAX_DEPTH`.
     pub depth: u32,
     pub ghost in_range: { (1 ≤ depth) × (depth ≤ MAX_DEPTH) },
 }
@@ -33,7 +33,7 @@ pub struct WorkRequest {
     pub file: String,
     /// What `uv_work` is given.
     pub operation: u32,
-    /// What it may read, at most 65,536 bytes.
+    /// What it may read, at most `MAX_BYTES` bytes.
     pub bytes: Vec<u8>,
     /// What the start function and `uv_work` may use together.
     pub budget: Budget,
@@ -45,9 +45,9 @@ pub struct WorkRequest {
 pub struct Service {
     /// The file of the module.
     pub file: String,
-    /// How many loops there are, 1 to 8.
+    /// How many loops there are, 1 to `MAX_LOOPS`.
     pub loops: u32,
-    /// How many workers there are, 1 to 16.
+    /// How many workers there are, 1 to `MAX_WORKERS`.
     pub workers: u32,
     /// What a callback may use.
     pub budget: Budget,

@@ -143,6 +143,9 @@ fn missing(alloc: Global, program: &mut clap::Command<'_>) -> Refused {
 }
 
 /// The command that the words ask for. The first of them is the program's name.
+///
+/// They are refused by `Help` where they ask for help or for the version, by `Arguments` where the number or the bytes of
+/// a work order are not written as they should be, by `Memory` where memory was refused, and else by `Usage`.
 pub fn parse(alloc: Global, words: &[String]) -> Result<Command, Refused> {
     let mut program = grammar::program(alloc)?;
     let matches = match program.try_get_matches_from_mut(words) {

@@ -1,36 +1,34 @@
 -- The law of a loop's histories, as it stands of the runs of a world.
-use Rattle.std.proofs.Common.{◌≡◌, ◌≢◌, ℕ, zero, suc, ◌+◌, ◌≤◌, ◌==◌, Bool, true, false, cond, inl, inr, ◌⊎◌, List, [], ◌∷◌, ◌++◌, map, length, Option, Some, None, refl, sym, ap, subst, ◌∙◌, arith, append-nil, append_assoc, ◌&&◌, MatchBool}
-use Rattle.std.specs.Prelude.{pos, slice_get, slice_set}
+use Rattle.std.proofs.Common.{◌≡◌, ◌↔◌, ℕ, zero, suc, ◌≤◌, ◌==◌, Bool, true, false, cond, inl, inr, List, [], ◌∷◌, ◌++◌, map, length, Option, Some, None, refl, sym, ap, subst, ◌∙◌, arith, append-nil, append_assoc, ◌&&◌}
+use Rattle.std.specs.Prelude.{slice_get}
 use Rattle.std.specs.List.{Contains, count_by}
 use Rattle.std.specs.Option.{is_some}
 use Rattle.std.proofs.lemmas.Bool.{eqb-true}
 use Rattle.std.proofs.lemmas.List.Sums.{sum_by_push}
 use Rattle.limits.specs.declared.TheConstants.{MAX_JOBS}
 use Rattle.order.specs.Work.{WorkOrder}
+use Rattle.tallies.proofs.Places.{set_here}
+use Rattle.tallies.proofs.Requests.{either}
 use Rattle.phases.specs.declared.did.StepDid.{StepDid}
 use Rattle.phases.specs.declared.did.StepDid.TheVariants as did
 use Rattle.phases.specs.declared.entry.EntryKind.TheVariants as kind
 use Rattle.phases.specs.Guests.{GuestCall, loop_calls}
-use Rattle.phases.specs.History.{Event, Stepped, CancelAnswered, History, IsOpening}
-use Rattle.phases.specs.History.{guest_calls as calls_within}
-use Rattle.phases.specs.Laws.{is_after_event, WasAsked, IsCancel, AreDue, cancellation}
-use Rattle.phases.specs.Laws.{IsAfterOnce as LoopOnce, IsAfterOwn as LoopOwn, IsAfterLast as LoopLast, IsOwn as LoopIsOwn, WasCancelled as LoopCancelled}
+use Rattle.phases.specs.History.{Event, History, IsOpening}
+use Rattle.phases.specs.Laws.{WasAsked, AreDue}
+use Rattle.phases.specs.Laws.{IsAfterOnce as LoopOnce, IsAfterOwn as LoopOwn, IsAfterLast as LoopLast, WasCancelled as LoopCancelled}
 use Rattle.phases.specs.Outside.{is_failed, next_order_of}
 use Rattle.phases.specs.Requests.{Completion}
 use Rattle.phases.specs.State.{Setting, State, Loop, Core}
-use Rattle.phases.proofs.Numbered.{Same}
 use Rattle.desk.specs.Desk.{Desk, desk_calls}
 use Rattle.world_log.specs.declared.step.Step.{Step}
 use Rattle.world_log.specs.declared.step.Step.TheVariants as step
 use Rattle.world_log.specs.declared.entry.LogEntry.{LogEntry}
-use Rattle.world_log.specs.declared.entry.LogEntry.TheVariants as line
-use Rattle.world.specs.World.{World, Worker, Idle, Taken, Started, Answer, UnlessFailed, PostsOrder, TakesJob, StartsJob, FinishesJob, CollectsFrom, StepsLoop, WorldStep, WorldRun, HasLoop, opening_world, opening_loop, told_of}
+use Rattle.world.specs.World.{World, Worker, Idle, Taken, Started, Answer, UnlessFailed, PostsOrder, TakesJob, StartsJob, FinishesJob, CollectsFrom, StepsLoop, WorldStep, WorldRun, HasLoop, opening_world, opening_loop, told_of, core}
 use Rattle.world.specs.Guests.{step_calls, guest_calls}
 use Rattle.world.specs.Histories.{AreTold, HasHistory}
 use Rattle.world.specs.Laws.{is_after, WasCancelled, IsOwn}
 use Rattle.world.proofs.Finishing.{finished_after, given_end}
-use Rattle.world.proofs.Runs.{Keeps, Told, AllEnds, set_here, either, step_next, run_keeps}
-use Rattle.world.proofs.Sets.{core}
+use Rattle.world.proofs.Runs.{Keeps, Told, AllEnds, step_next, run_keeps}
 use Rattle.world.proofs.Telling.{history_join, step_callback, tells_callback}
 
 pub opening_is : (g : Setting) → IsOpening desk_calls g (opening_loop g).loop
@@ -144,7 +142,7 @@ module _ (settings : List Setting) (j : ℕ) where
 
     -- what was cancelled, in the log and in the history
     cancelled_same : (Begins : Setting → Loop Desk → Type 0) (there : Bool) (r : ℕ) (lines : List LogEntry) (made : List GuestCall) (g : Setting) (l : Loop Desk) (it : Told Begins there j lines made g l)
-        → Same (LoopCancelled r it.events) (WasCancelled j r lines made)
+        → LoopCancelled r it.events ↔ WasCancelled j r lines made
     cancelled_same Begins there r lines made g l it = (to, back) where
       to : LoopCancelled r it.events → WasCancelled j r lines made
       to (inl h) = inl ((it.cancels r).1 h)
@@ -154,7 +152,7 @@ module _ (settings : List Setting) (j : ℕ) where
       back (inl h) = inl ((it.cancels r).0 h)
       back (inr a) = inr (a.0, subst (λ cs. Contains cs a.0) (sym it.calls) a.1, a.2)
 
-    due_same : (o : WorkOrder) (t : Completion) (P Q : Type 0) → Same P Q → AreDue o t P → AreDue o t Q
+    due_same : (o : WorkOrder) (t : Completion) (P Q : Type 0) → (P ↔ Q) → AreDue o t P → AreDue o t Q
     due_same o t P Q same (inl h) = inl (same.0 h.0, h.1)
     due_same o t P Q same (inr h) = inr (λ q. h.0 (same.1 q), h.1)
 

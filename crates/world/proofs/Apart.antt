@@ -2,14 +2,16 @@
 use Rattle.std.proofs.Common.{◌≡◌, ◌≢◌, ℕ, zero, suc, ◌+◌, ◌<◌, ◌≤◌, ◌==◌, Bool, true, false, cond, not, ◌&&◌, inl, inr, ◌⊎◌, List, [], ◌∷◌, ◌++◌, map, length, replicate, find, Option, is_some, Some, None, refl, sym, ap, subst, ◌∙◌, arith, append_assoc, append-nil, MatchBool}
 use Rattle.std.specs.Prelude.{pos, slice_get, slice_set}
 use Rattle.std.specs.Int.{w32, cast_signed}
-use Rattle.std.specs.List.{Contains, count_by, filter}
+use Rattle.std.specs.List.{count_by, filter}
 use Rattle.std.proofs.lemmas.Bool.{cases_eq, eqb-true, eq-eqb, ne_eqb}
 use Rattle.std.proofs.lemmas.List.Elements.{Contains-push_cases}
 use Rattle.std.proofs.lemmas.List.Sums.{sum_by_push}
+use Rattle.limits.specs.declared.TheConstants.{MAX_JOBS}
 use Rattle.tallies.specs.Requests.{times, is_request, is_pending}
-use Rattle.tallies.proofs.Requests.{same_request, times_grow, times_hit, times_miss}
+use Rattle.tallies.proofs.Requests.{same_request, times_grow, times_hit, times_miss, either}
 use Rattle.order.specs.Bytes.{taken_out}
 use Rattle.order.specs.Work.{WorkOrder}
+use Rattle.tallies.proofs.Places.{set_here, set_apart}
 use Rattle.phases.specs.declared.did.StepDid.{StepDid}
 use Rattle.phases.specs.declared.did.StepDid.TheVariants as did
 use Rattle.phases.specs.Guests.{GuestCall, loop_calls}
@@ -21,7 +23,7 @@ use Rattle.phases.specs.Requests.{Stage, Open, HandedOut, Answered, Cancelled, R
 use Rattle.phases.specs.State.{Setting, State, Loop, Core}
 use Rattle.phases.specs.Step.{in_state}
 use Rattle.phases.proofs.Cancelling.{IsBeside, unmoved, tried, sent, took, CancelMoves, wins, leaves, moves_in}
-use Rattle.phases.proofs.Filtered.{find_first, first_passes}
+use Rattle.tallies.proofs.Filtered.{find_first, first_passes}
 use Rattle.phases.proofs.Handing.{UpTo, NoneOpen, up_to_push, none_push, up_to_staged, none_staged, none_after, up_to_filtered, none_filtered, found_up_to, found_open, IsLowest, handed_is}
 use Rattle.phases.proofs.Moving.{CallMoves, leaves_all, opens, cancels_won, IsKeptInSteps, step_keeps}
 use Rattle.desk.specs.Desk.{Desk, desk_calls, is_open, found_started, DeskCancels, DeskSends, DeskStarts, DeskGets}
@@ -35,11 +37,10 @@ use Rattle.world_log.specs.declared.outcome.FinishOutcome.TheVariants as finish
 use Rattle.world_log.specs.declared.outcome.CollectOutcome.TheVariants as collect
 use Rattle.world.specs.Guests.{calls_of_loop, step_calls, guest_calls}
 use Rattle.world.specs.Laws.{is_of_job, is_begun, is_finished, WasCancelled, AreInPlace}
-use Rattle.world.specs.World.{World, Worker, Idle, Taken, Started, Answer, Only, UnlessFailed, PostsOrder, TakesJob, StartsJob, FinishesJob, CollectsFrom, StepsLoop, WorldStep, WorldRun, HasLoop, opening_world, opening_loop, with_loop, with_worker, job_of, told_of}
+use Rattle.world.specs.World.{World, Worker, Idle, Taken, Started, Answer, Only, UnlessFailed, PostsOrder, TakesJob, StartsJob, FinishesJob, CollectsFrom, StepsLoop, WorldStep, WorldRun, HasLoop, opening_world, opening_loop, with_loop, with_worker, job_of, told_of, core}
 use Rattle.world.proofs.Finishing.{set_at}
 use Rattle.world.proofs.OneWay.{IsCounted, own_orders, step_counted, opening_counted, one_way_after}
-use Rattle.world.proofs.Runs.{set_here, set_apart, set_there, either}
-use Rattle.world.proofs.Sets.{core}
+use Rattle.world.proofs.Runs.{set_there}
 
 -- what is one of a list's
 same_is : (s r k : ℕ) → s ≡ k → is_request (s, r) (k, r) ≡ true
@@ -716,7 +717,7 @@ module _ (l r : ℕ) where
     step_stands (step.Loop n) own h = loop_next n h
     step_stands (step.Post n) own h =
         unless_next n h.1 _
-        (λ k. either (length w.jobs == 256) _ _ (Next []) (only (line.Post n post.Full) refl refl) (posts_next n h.0 h.1 (next_order_of h.1.state) h.2 refl (λ o e. own n h.0 h.1 o h.2 e)) k) h.3
+        (λ k. either (length w.jobs == MAX_JOBS) _ _ (Next []) (only (line.Post n post.Full) refl refl) (posts_next n h.0 h.1 (next_order_of h.1.state) h.2 refl (λ o e. own n h.0 h.1 o h.2 e)) k) h.3
     step_stands (step.Take n) own h = take_next n h.0 w.jobs refl h.2
     step_stands (step.Start n) own h = start_next n h.0 h.1 h.2
     step_stands (step.Finish n) own h = finish_next n h.0 h.2

@@ -4,6 +4,7 @@ use Rattle.std.specs.Prelude.{slice_get, slice_set}
 use Rattle.std.proofs.lemmas.Option.{slice_get-get_or}
 use Rattle.order.specs.Work.{WorkOrder}
 use Rattle.order.specs.declared.reply.Reply.{Reply}
+use Rattle.tallies.proofs.Places.{set_same, map_get}
 use Rattle.phases.specs.declared.loop_core.Accepted.{Accepted}
 use Rattle.phases.specs.declared.loop_core.Accepted.TheVariants as accept
 use Rattle.phases.specs.Accepting.{Accepts}
@@ -15,7 +16,6 @@ use Rattle.world_log.specs.declared.outcome.CollectOutcome.{CollectOutcome}
 use Rattle.world_log.specs.declared.outcome.CollectOutcome.TheVariants as collect
 use Rattle.world.specs.Making.{answer_of}
 use Rattle.world.specs.World.{World, Worker, Answer, Collects, with_loop, with_replies}
-use Rattle.world.proofs.Sets.{set_same, map_get}
 use Rattle.world.proofs.Turning.{world_of, here, untouched, moved, failing, going_on}
 
 -- what stands at a place, as it reads

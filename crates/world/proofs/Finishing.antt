@@ -4,7 +4,9 @@ use Rattle.std.specs.Prelude.{slice_get, slice_set}
 use Rattle.std.specs.List.{Contains, filter}
 use Rattle.std.proofs.lemmas.Bool.{eqb-true}
 use Rattle.std.proofs.lemmas.List.Elements.{Contains-append_left, Contains-push}
+use Rattle.limits.specs.declared.TheConstants.{MAX_JOBS}
 use Rattle.order.specs.Work.{WorkOrder, WorkEnd, Done, Trap, Depth, Spent, NoMemory}
+use Rattle.tallies.proofs.Requests.{either}
 use Rattle.phases.specs.declared.entry.Status.{Status}
 use Rattle.phases.specs.declared.entry.Status.TheVariants.{Running, Over, Failed}
 use Rattle.phases.specs.Guests.{GuestCall}
@@ -25,9 +27,7 @@ use Rattle.world_log.specs.declared.outcome.StartOutcome.TheVariants as start
 use Rattle.world_log.specs.declared.outcome.FinishOutcome.TheVariants as finish
 use Rattle.world_log.specs.declared.outcome.CollectOutcome.TheVariants as collect
 use Rattle.world.specs.Laws.{WasFinished}
-use Rattle.world.specs.World.{World, Worker, Idle, Taken, Started, Answer, Only, UnlessFailed, PostsOrder, TakesJob, StartsJob, FinishesJob, CollectsFrom, StepsLoop, WorldStep, WorldRun, opening_world, opening_loop}
-use Rattle.world.proofs.Runs.{either}
-use Rattle.world.proofs.Sets.{core}
+use Rattle.world.specs.World.{World, Worker, Idle, Taken, Started, Answer, Only, UnlessFailed, PostsOrder, TakesJob, StartsJob, FinishesJob, CollectsFrom, StepsLoop, WorldStep, WorldRun, opening_world, opening_loop, core}
 
 later : (log : List LogEntry) (entry : LogEntry) (l request : ℕ) (end : WorkEnd) → WasFinished l request end log → WasFinished l request end (log ++ entry ∷ [])
 later log entry l request end h = (h.0, h.1, h.2, Contains-append_left log (entry ∷ []) _ h.3)
@@ -226,7 +226,7 @@ module _ (w w' : World) (log : List LogEntry) (entry : LogEntry) (all : AreFinis
   step_next : (s : Step) → WorldStep w s entry w' → Next
   step_next (step.Loop n) h = loop_next n h
   step_next (step.Post n) h =
-      unless_next n h.1 _ (λ k. either (length w.jobs == 256) _ _ Next (only (line.Post n post.Full)) (order_next n h.0 h.1 (next_order_of h.1.state) h.2 refl) k) h.3
+      unless_next n h.1 _ (λ k. either (length w.jobs == MAX_JOBS) _ _ Next (only (line.Post n post.Full)) (order_next n h.0 h.1 (next_order_of h.1.state) h.2 refl) k) h.3
   step_next (step.Take n) h = take_next n h.0 w.jobs h.2
   step_next (step.Start n) h = start_next n h.0 h.2
   step_next (step.Finish n) h = finish_next n h.0 h.2

@@ -1,19 +1,22 @@
 -- One job's way through the log of a world.
-use Rattle.std.proofs.Common.{◌≡◌, ◌≢◌, ℕ, zero, suc, ◌+◌, ◌≤◌, ◌==◌, Bool, true, false, cond, ◌&&◌, inl, inr, ◌⊎◌, List, [], ◌∷◌, ◌++◌, length, map, replicate, Option, is_some, Some, None, refl, sym, ap, subst, ◌∙◌, arith, append_assoc, append-nil}
+use Rattle.std.proofs.Common.{◌≡◌, ℕ, zero, suc, ◌+◌, ◌≤◌, ◌==◌, Bool, true, false, cond, ◌&&◌, inl, inr, ◌⊎◌, List, [], ◌∷◌, ◌++◌, length, map, replicate, Option, is_some, Some, None, refl, sym, ap, subst, ◌∙◌, arith, append_assoc, append-nil}
 use Rattle.std.specs.Prelude.{slice_get, slice_set}
 use Rattle.std.specs.List.{count_by}
 use Rattle.std.proofs.lemmas.Bool.{cases_eq, eq-eqb, ne_eqb}
-use Rattle.std.proofs.lemmas.List.Sums.{sum_by_push, sum_by-cons}
+use Rattle.std.proofs.lemmas.List.Sums.{sum_by_push}
 use Rattle.limits.specs.declared.TheConstants.{MAX_JOBS}
 use Rattle.order.specs.Work.{WorkOrder}
+use Rattle.tallies.proofs.Lists.{count_cons}
+use Rattle.tallies.proofs.Places.{set_here, set_apart}
+use Rattle.tallies.proofs.Requests.{either}
 use Rattle.phases.specs.declared.did.StepDid.{StepDid}
 use Rattle.phases.specs.declared.did.StepDid.TheVariants as did
 use Rattle.phases.specs.Guests.{GuestCall}
 use Rattle.phases.specs.History.{Event, Stepped, OrderAsked, EndOffered, CancelAnswered, ClockRaised, MovedBeside, IsOpening}
-use Rattle.phases.specs.Laws.{hands_out, WasAsked}
+use Rattle.phases.specs.Laws.{hands_out}
 use Rattle.phases.specs.Laws.{IsHandedOnce as LoopHandedOnce, IsHandedOwn as LoopHandedOwn}
 use Rattle.phases.specs.Outside.{is_failed, next_order_of}
-use Rattle.phases.specs.State.{Setting, State, Loop, Core}
+use Rattle.phases.specs.State.{Setting, State, Loop}
 use Rattle.phases.specs.Step.{in_state}
 use Rattle.desk.specs.Desk.{Desk, desk_calls}
 use Rattle.world_log.specs.declared.step.Step.{Step}
@@ -27,14 +30,9 @@ use Rattle.world_log.specs.declared.outcome.CollectOutcome.TheVariants as collec
 use Rattle.world.specs.Guests.{step_calls}
 use Rattle.world.specs.Histories.{Tells, AreTold, is_of_owner}
 use Rattle.world.specs.Laws.{is_of_job, is_posted, is_taken, is_begun, is_dropped, is_finished, is_collected, GoesOnce, AreInPlace}
-use Rattle.world.specs.World.{World, Worker, Idle, Taken, Started, Answer, Only, UnlessFailed, PostsOrder, Posts, TakesJob, StartsJob, FinishesJob, CollectsFrom, StepsLoop, WorldStep, WorldRun, HasLoop, opening_world, job_of, told_of}
+use Rattle.world.specs.World.{World, Worker, Idle, Taken, Started, Answer, Only, UnlessFailed, PostsOrder, TakesJob, StartsJob, FinishesJob, CollectsFrom, StepsLoop, WorldStep, WorldRun, HasLoop, opening_world, job_of, told_of, core}
 use Rattle.world.proofs.AfterOnce.{Opens, IsThere, opening_keeps, opening_is}
-use Rattle.world.proofs.Runs.{Keeps, Told, set_here, set_apart, either, step_next}
-use Rattle.world.proofs.Sets.{core}
-
--- how many of a list pass, with one more in front
-counted : {X : Type 0} (p : X → Bool) (x : X) (xs : List X) → count_by p (x ∷ xs) ≡ cond (p x) 1 0 + count_by p xs
-counted p x xs = sum_by-cons (λ y. cond (p y) 1 0) x xs
+use Rattle.world.proofs.Runs.{Keeps, step_next}
 
 -- one place of a list is set
 set_counted : {X : Type 0} (p : X → Bool) (xs : List X) (n : ℕ) (v x : X) → slice_get xs n ≡ Some x → count_by p (slice_set xs n v) + cond (p x) 1 0 ≡ count_by p xs + cond (p v) 1 0
@@ -42,13 +40,13 @@ set_counted p [] n v x h = absurd (cc)
 set_counted p (y ∷ ys) zero v x h =
     let same : y ≡ x = cc in
     let one = ap (λ z. cond {A = ℕ} (p z) 1 0) same in
-    let new = counted p v ys in
-    let old = counted p y ys in
+    let new = count_cons p v ys in
+    let old = count_cons p y ys in
     omega (arith, one, new, old)
 set_counted p (y ∷ ys) (suc n) v x h =
     let rest = set_counted p ys n v x h in
-    let new = counted p y (slice_set ys n v) in
-    let old = counted p y ys in
+    let new = count_cons p y (slice_set ys n v) in
+    let old = count_cons p y ys in
     omega (arith, rest, new, old)
 
 -- what stands at a place, or nothing
@@ -200,7 +198,7 @@ module _ (l r : ℕ) where
     take_goes : (n : ℕ) (state : Worker) (jobs : List WorkOrder) (entry : LogEntry) → w.jobs ≡ jobs → slice_get w.workers n ≡ Some state → TakesJob w n state jobs entry w' → Goes w w' entry
     take_goes n Idle (o ∷ jobs) entry is at h = as_told w w' entry _ h.0 (record {
       moves = record {
-        jobs = (let old = ap (count_by is_order) is in let new = ap (λ (x : World). count_by is_order x.jobs) h.1 in let front = counted is_order o jobs in omega (arith, old, new, front));
+        jobs = (let old = ap (count_by is_order) is in let new = ap (λ (x : World). count_by is_order x.jobs) h.1 in let front = count_cons is_order o jobs in omega (arith, old, new, front));
         taken = (let it = worker_taken n Idle (Taken o) at (ap (λ (x : World). x.workers) h.1) in omega (arith, it));
         started = (let it = worker_started n Idle (Taken o) at (ap (λ (x : World). x.workers) h.1) in omega (arith, it));
         ended = rw (ap (λ (x : World). x.replies) h.1) (omega arith);
@@ -291,7 +289,7 @@ module _ (l r : ℕ) where
             ended = (
                 let it = replies_set n (a ∷ replies) replies at (ap (λ (x : World). x.replies) k.2) in
                 let apart = split (n == l) (cond (is_answer a) 1 0) (count_by is_answer replies) in
-                let front = ap (λ k. cond {A = ℕ} (n == l) k 0) (counted is_answer a replies) in
+                let front = ap (λ k. cond {A = ℕ} (n == l) k 0) (count_cons is_answer a replies) in
                 let told = both (n == l) (a.order.request == r) in
                 omega (arith, it, apart, front, told)
                 );
@@ -306,7 +304,7 @@ module _ (l r : ℕ) where
             ended = (
                 let it = replies_set n (a ∷ replies) replies at (ap (λ (x : World). x.replies) k.2) in
                 let apart = split (n == l) (cond (is_answer a) 1 0) (count_by is_answer replies) in
-                let front = ap (λ k. cond {A = ℕ} (n == l) k 0) (counted is_answer a replies) in
+                let front = ap (λ k. cond {A = ℕ} (n == l) k 0) (count_cons is_answer a replies) in
                 omega (arith, it, apart, front)
                 );
           };
@@ -368,8 +366,8 @@ module _ (l r : ℕ) where
   told_posted (entry ∷ log) (e ∷ events) h =
       let one = ap (λ b. cond {A = ℕ} b 1 0) (tells_posted entry e h.0) in
       let rest = told_posted log events h.1 in
-      let lines = counted (is_posted l r) entry log in
-      let told = counted (hands_out r) e events in
+      let lines = count_cons (is_posted l r) entry log in
+      let told = count_cons (hands_out r) e events in
       omega (arith, one, rest, lines, told)
 
 some_of : {X : Type 0} (o : Option X) → is_some o ≡ true → (x : X) × (o ≡ Some x)
@@ -427,7 +425,7 @@ module _ (settings : List Setting) (placed : AreInPlace settings) (workers : ℕ
   no_workers p (suc k) e =
       let rest = no_workers p k e in
       let one = ap (λ b. cond {A = ℕ} b 1 0) e in
-      let all = counted p Idle (replicate k Idle) in
+      let all = count_cons p Idle (replicate k Idle) in
       omega (arith, rest, one, all)
 
   no_replies : (gs : List Setting) (n : ℕ) → count_by (is_answer l r) (list_at (slice_get (map (λ _. []) gs) n)) ≡ 0

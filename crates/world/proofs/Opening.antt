@@ -17,8 +17,7 @@ use Rattle.world.specs.declared.config.LoopConfig.{LoopConfig}
 use Rattle.world.specs.declared.worker.Worker.{Worker as CodeWorker}
 use Rattle.world.specs.declared.worker.Worker.TheVariants as worker
 use Rattle.world.specs.Making.{setting_from, settings_from, worker_of, AreNumbered, IsHeld, IsJob, IsKept}
-use Rattle.world.specs.World.{Idle, Answer, opening_loop, opening_world}
-use Rattle.world.proofs.Sets.{core}
+use Rattle.world.specs.World.{Idle, Answer, opening_loop, opening_world, core}
 use Rattle.world.proofs.Turning.{world_of}
 
 abbrev made : State → Store → Desk → Loop Desk

@@ -1,5 +1,5 @@
 -- What the runs of a world are to one of its loops.
-use Rattle.std.proofs.Common.{◌≡◌, ◌≢◌, ℕ, zero, suc, ◌+◌, ◌≤◌, ◌==◌, Bool, true, false, cond, inl, inr, ◌⊎◌, List, [], ◌∷◌, ◌++◌, map, length, Option, Some, None, refl, sym, ap, subst, ◌∙◌, arith, append_assoc, append-nil, MatchBool}
+use Rattle.std.proofs.Common.{◌≡◌, ◌≢◌, ◌↔◌, ℕ, zero, suc, ◌==◌, Bool, true, false, inl, inr, ◌⊎◌, List, [], ◌∷◌, ◌++◌, length, Option, Some, None, refl, sym, ap, subst, ◌∙◌, append_assoc, append-nil}
 use Rattle.std.specs.Prelude.{pos, slice_get, slice_set}
 use Rattle.std.specs.Int.{w32, cast_signed}
 use Rattle.std.specs.List.{Contains, count_by}
@@ -7,6 +7,8 @@ use Rattle.std.specs.Option.{is_some}
 use Rattle.std.proofs.lemmas.Bool.{cases_eq, eq-eqb, ne_eqb}
 use Rattle.limits.specs.declared.TheConstants.{MAX_JOBS}
 use Rattle.order.specs.Work.{WorkOrder, IsEndOf}
+use Rattle.tallies.proofs.Places.{set_here, set_apart}
+use Rattle.tallies.proofs.Requests.{either}
 use Rattle.phases.specs.declared.did.StepDid.{StepDid}
 use Rattle.phases.specs.declared.did.StepDid.TheVariants as did
 use Rattle.phases.specs.declared.entry.Status.{Status}
@@ -19,7 +21,6 @@ use Rattle.phases.specs.Outside.{is_failed, next_order_of, next_in, handing, aft
 use Rattle.phases.specs.Requests.{Request, lowest_open}
 use Rattle.phases.specs.State.{Setting, State, Loop, Core}
 use Rattle.phases.specs.Step.{in_state}
-use Rattle.phases.proofs.Numbered.{Same}
 use Rattle.phases.proofs.Histories.{calls_push}
 use Rattle.desk.specs.Desk.{Desk, desk_calls}
 use Rattle.desk.specs.Law.{desk_beside}
@@ -29,24 +30,11 @@ use Rattle.world_log.specs.declared.entry.LogEntry.{LogEntry}
 use Rattle.world_log.specs.declared.entry.LogEntry.TheVariants as line
 use Rattle.world_log.specs.declared.outcome.PostOutcome.TheVariants as post
 use Rattle.world_log.specs.declared.outcome.CollectOutcome.TheVariants as collect
-use Rattle.world.specs.World.{World, Worker, Idle, Taken, Started, Answer, Only, UnlessFailed, StepsLoop, Posts, PostsOrder, TakesJob, StartsJob, FinishesJob, CollectsFrom, WorldStep, WorldRun, told_of}
+use Rattle.world.specs.World.{World, Worker, Idle, Taken, Started, Answer, Only, UnlessFailed, StepsLoop, Posts, PostsOrder, TakesJob, StartsJob, FinishesJob, CollectsFrom, WorldStep, WorldRun, told_of, core}
 use Rattle.world.specs.Guests.{calls_of_loop, step_calls, guest_calls}
 use Rattle.world.specs.Histories.{is_of_owner, Tells, AreTold}
 use Rattle.world.specs.Laws.{is_after}
-use Rattle.world.proofs.Sets.{core}
 use Rattle.world.proofs.Telling.{history_push, told_push, tells_callback, tells_cancel, contains_push, count_push}
-
-pub set_here : {X : Type 0} (xs : List X) (n : ℕ) (v x : X) → slice_get xs n ≡ Some x → slice_get (slice_set xs n v) n ≡ Some v
-set_here [] n v x h = absurd (cc)
-set_here (y ∷ ys) zero v x h = refl
-set_here (y ∷ ys) (suc n) v x h = set_here ys n v x h
-
-pub set_apart : {X : Type 0} (xs : List X) (n k : ℕ) (v : X) → n ≢ k → slice_get (slice_set xs n v) k ≡ slice_get xs k
-set_apart [] n k v apart = refl
-set_apart (y ∷ ys) zero zero v apart = absurd (apart refl)
-set_apart (y ∷ ys) zero (suc k) v apart = refl
-set_apart (y ∷ ys) (suc n) zero v apart = refl
-set_apart (y ∷ ys) (suc n) (suc k) v apart = set_apart ys n k v (λ e. apart (ap suc e))
 
 pub set_there : {X : Type 0} (xs : List X) (n k : ℕ) (v : X) → is_some (slice_get (slice_set xs n v) k) ≡ is_some (slice_get xs k)
 set_there [] n k v = refl
@@ -76,10 +64,6 @@ ends_more : (xs : List Answer) (a : Answer) → ∥ IsEndOf a.order a.end ∥₁
 ends_more [] a h all = (h, tt)
 ends_more (x ∷ xs) a h all = (all.0, ends_more xs a h all.1)
 
-pub either : (b : Bool) (P Q R : Type 0) → (P → R) → (Q → R) → MatchBool b P Q → R
-either true P Q R f k h = f h
-either false P Q R f k h = k h
-
 -- where no order is handed out nothing changes
 none_handed : (status : Status) (s : State) → (next_in status s).0 ≡ None → s ≡ (next_in status s).1
 none_handed Failed s h = refl
@@ -102,7 +86,7 @@ module _ (Begins : Setting → Loop Desk → Type 0) (there : Bool) (j : ℕ) wh
     pub told : AreTold j log events
     pub calls : calls_within events ≡ made
     pub callbacks : (r : ℕ) → count_by (is_after j r) log ≡ count_by (is_after_event r) events
-    pub cancels : (r : ℕ) → Same (Contains log (line.Cancel j r (pos 0))) (Contains events (CancelAnswered r 0))
+    pub cancels : (r : ℕ) → Contains log (line.Cancel j r (pos 0)) ↔ Contains events (CancelAnswered r 0)
 
   -- one event more
   told_more : (log : List LogEntry) (made more : List GuestCall) (g : Setting) (l m : Loop Desk) (entry : LogEntry) (e : Event) → EventStep desk_calls g e l m → Tells j entry e → calls_in e ≡ more

@@ -2,9 +2,11 @@
 use Rattle.std.proofs.Common.{◌≡◌, ◌≢◌, ℕ, suc, inl, inr, ◌⊎◌, List, [], ◌∷◌, length, map, Some, None, refl, sym, ap, ◌∙◌, subst, arith}
 use Rattle.std.specs.Prelude.{slice_get, slice_set, All}
 use Rattle.std.proofs.lemmas.List.Elements.{All-set}
+use Rattle.std.proofs.lemmas.List.{map-set}
 use Rattle.order.specs.Work.{WorkOrder}
 use Rattle.order.specs.Orders.{order_of}
 use Rattle.order.specs.declared.order.Order.{Order}
+use Rattle.tallies.proofs.Places.{set_same, map_get}
 use Rattle.phases.specs.State.{Core}
 use Rattle.desk.specs.Desk.{Desk}
 use Rattle.world_log.specs.declared.entry.LogEntry.TheVariants as line
@@ -13,7 +15,6 @@ use Rattle.world.specs.World.{World, Worker, Answer, Idle, Taken, Started, WithW
 use Rattle.world.specs.declared.worker.Worker.{Worker as CodeWorker}
 use Rattle.world.specs.declared.worker.Worker.TheVariants as code
 use Rattle.world.specs.Making.{worker_of, IsJob, IsHeld, IsKept}
-use Rattle.world.proofs.Sets.{set_same, map_set, map_get}
 use Rattle.world.proofs.Turning.{world_of}
 
 taken_none : (w : World) (n : ℕ) (state : Worker) (w' : World) → slice_get w.workers n ≡ Some state → w' ≡ w → (state ≢ Idle) ⊎ (w.jobs ≡ []) → WithWorker w n (λ h. TakesJob w n h w.jobs (line.Take n None) w')
@@ -61,7 +62,7 @@ module _ (w : World) (ls : List (Core Desk)) (js : List Order) (hs : List CodeWo
       let w' = world_of ls (map order_of js') (map worker_of (slice_set hs n (code.Taken o))) rs in
       subst (λ k. WithWorker w n (λ x. TakesJob w n x w.jobs (line.Take n (Some k)) w')) (sym told)
       (taken_one w n (order_of o) (map order_of js') w' (there ∙ ap (λ x. Some (worker_of x)) empty) (jobs_are ∙ ap (map order_of) front)
-      (ap (λ x. world_of ls (map order_of js') x rs) (map_set worker_of hs n (code.Taken o)) ∙ ap (λ (x : World). record (with_worker x n (Taken (order_of o))) { jobs = map order_of js' }) is))
+      (ap (λ x. world_of ls (map order_of js') x rs) (map-set worker_of hs n (code.Taken o)) ∙ ap (λ (x : World). record (with_worker x n (Taken (order_of o))) { jobs = map order_of js' }) is))
 
 pub kept_take : (ls : List (Core Desk)) (js js' : List Order) (hs : List CodeWorker) (lists room room' n : ℕ) (o : Order) → js ≡ o ∷ js' → room' ≡ room → IsKept ls js hs lists room
     → IsKept ls js' (slice_set hs n (code.Taken o)) lists room'

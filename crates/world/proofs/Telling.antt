@@ -1,5 +1,5 @@
 -- What is the same in a log and in the history that it tells.
-use Rattle.std.proofs.Common.{◌≡◌, ◌≢◌, ℕ, ◌+◌, ◌==◌, Bool, true, false, cond, ◌&&◌, inl, inr, List, [], ◌∷◌, ◌++◌, Some, None, refl, sym, ap, subst, ◌∙◌}
+use Rattle.std.proofs.Common.{◌≡◌, ◌↔◌, ℕ, ◌+◌, ◌==◌, Bool, true, false, cond, ◌&&◌, inl, inr, List, [], ◌∷◌, ◌++◌, Some, None, refl, sym, ap, subst, ◌∙◌}
 use Rattle.std.specs.Prelude.{pos}
 use Rattle.std.specs.Int.{w32, cast_signed}
 use Rattle.std.specs.List.{Contains, count_by}
@@ -9,14 +9,11 @@ use Rattle.std.proofs.lemmas.List.Sums.{sum_by_push}
 use Rattle.phases.specs.declared.did.StepDid.{StepDid}
 use Rattle.phases.specs.declared.did.StepDid.TheVariants as did
 use Rattle.phases.specs.declared.entry.EntryKind.TheVariants as kind
-use Rattle.phases.specs.History.{Event, Stepped, OrderAsked, EndOffered, CancelAnswered, ClockRaised, MovedBeside, EventStep, History, calls_in}
-use Rattle.phases.specs.History.{guest_calls as calls_within}
+use Rattle.phases.specs.History.{Event, Stepped, OrderAsked, EndOffered, CancelAnswered, ClockRaised, MovedBeside, EventStep, History}
 use Rattle.phases.specs.Laws.{is_after_event}
 use Rattle.phases.specs.Requests.{Requests}
 use Rattle.phases.specs.State.{Setting, Loop}
 use Rattle.phases.proofs.Cancelling.{CancelFate, cancelled, stayed, fate_in}
-use Rattle.phases.proofs.Numbered.{Same}
-use Rattle.phases.proofs.Histories.{calls_push}
 use Rattle.desk.specs.Desk.{Desk, desk_calls}
 use Rattle.world_log.specs.declared.entry.LogEntry.{LogEntry}
 use Rattle.world_log.specs.declared.entry.LogEntry.TheVariants as line
@@ -87,7 +84,7 @@ module _ (j : ℕ) where
   is_cancel_event (CancelAnswered request answer) = true
   is_cancel_event _ = false
 
-  neither : (r : ℕ) (entry told : LogEntry) (e : Event) → entry ≡ told → is_cancel_line told ≡ false → is_cancel_event e ≡ false → Same (IsLine r entry) (IsEvent r e)
+  neither : (r : ℕ) (entry told : LogEntry) (e : Event) → entry ≡ told → is_cancel_line told ≡ false → is_cancel_event e ≡ false → IsLine r entry ↔ IsEvent r e
   neither r entry told e h l k = (
     λ is. absurd (let it : is_cancel_line told ≡ true = ap is_cancel_line (sym h ∙ is) in cc),
     λ is. absurd (let it : is_cancel_event e ≡ true = ap is_cancel_event is in cc),
@@ -104,7 +101,7 @@ module _ (j : ℕ) where
   zero_both rs rs' n answer (stayed refused e) h = absurd (refused.signed h)
   zero_both rs rs' n answer (cancelled q found is e) h = is
 
-  pub tells_cancel : (g : Setting) (r : ℕ) (entry : LogEntry) (e : Event) (old new : Loop Desk) → EventStep desk_calls g e old new → Tells j entry e → Same (IsLine r entry) (IsEvent r e)
+  pub tells_cancel : (g : Setting) (r : ℕ) (entry : LogEntry) (e : Event) (old new : Loop Desk) → EventStep desk_calls g e old new → Tells j entry e → IsLine r entry ↔ IsEvent r e
   tells_cancel g r entry (Stepped did emits made) old new step h = neither r entry (told_of j did emits) (Stepped did emits made) h (step_is_none did emits) refl
   tells_cancel g r entry (OrderAsked None) old new step h = neither r entry _ (OrderAsked None) h refl refl
   tells_cancel g r entry (OrderAsked (Some o)) old new step h = neither r entry _ (OrderAsked (Some o)) h refl refl
@@ -121,7 +118,7 @@ module _ (j : ℕ) where
   )
 
   -- one line and its event more
-  pub contains_push : {X Y : Type 0} (xs : List X) (ys : List Y) (x u : X) (y v : Y) → Same (Contains xs u) (Contains ys v) → Same (x ≡ u) (y ≡ v) → Same (Contains (xs ++ x ∷ []) u) (Contains (ys ++ y ∷ []) v)
+  pub contains_push : {X Y : Type 0} (xs : List X) (ys : List Y) (x u : X) (y v : Y) → (Contains xs u ↔ Contains ys v) → ((x ≡ u) ↔ (y ≡ v)) → Contains (xs ++ x ∷ []) u ↔ Contains (ys ++ y ∷ []) v
   contains_push xs ys x u y v all one = (to xs ys x u y v all.0 one.0, to ys xs y v x u all.1 one.1) where
     to : {X Y : Type 0} (xs : List X) (ys : List Y) (x u : X) (y v : Y) → (Contains xs u → Contains ys v) → (x ≡ u → y ≡ v) → Contains (xs ++ x ∷ []) u → Contains (ys ++ y ∷ []) v
     to xs ys x u y v all one h = elim (Contains-push_cases xs x u h) [

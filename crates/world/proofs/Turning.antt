@@ -5,6 +5,7 @@ use Rattle.std.specs.Int.{w32, cast_signed}
 use Rattle.std.proofs.lemmas.Option.{slice_get-get_or}
 use Rattle.limits.specs.declared.TheConstants.{MAX_ASYNCS, MAX_JOBS}
 use Rattle.order.specs.Work.{WorkOrder}
+use Rattle.tallies.proofs.Places.{set_same}
 use Rattle.phases.specs.declared.did.StepDid.{StepDid}
 use Rattle.phases.specs.State.{State, Core}
 use Rattle.phases.specs.Step.{LoopStep, in_state}
@@ -18,8 +19,7 @@ use Rattle.desk.specs.Desk.{Desk, desk_calls, desk_others}
 use Rattle.world_log.specs.declared.entry.LogEntry.{LogEntry}
 use Rattle.world_log.specs.declared.entry.LogEntry.TheVariants as line
 use Rattle.world_log.specs.declared.outcome.PostOutcome.TheVariants as post
-use Rattle.world.specs.World.{World, Worker, Answer, UnlessFailed, StepsLoop, Posts, PostsOrder, SendsTo, Cancels, Clocks, with_loop, told_of}
-use Rattle.world.proofs.Sets.{core, set_same}
+use Rattle.world.specs.World.{World, Worker, Answer, UnlessFailed, StepsLoop, Posts, PostsOrder, SendsTo, Cancels, Clocks, with_loop, told_of, core}
 
 pub read : {X : Type 0} (xs : List X) (n : ℕ) (x : X) → n < length xs → ((d : X) → x ≡ get_or xs n d) → slice_get xs n ≡ Some x
 read xs n x within is = slice_get-get_or xs n x within ∙ ap Some (sym (is x))

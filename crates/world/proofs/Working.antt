@@ -2,12 +2,13 @@
 use Rattle.std.proofs.Common.{◌≡◌, ℕ, ◌<◌, Bool, true, false, List, [], ◌∷◌, ◌++◌, length, map, get_or, Result, Ok, Err, Some, refl, sym, ap, ◌∙◌, subst}
 use Rattle.std.specs.Prelude.{slice_get, slice_set, All, OnErr}
 use Rattle.std.proofs.lemmas.Option.{slice_get-get_or, get_or_from_slice_get, slice_get_within}
-use Rattle.std.proofs.lemmas.List.{length-set}
+use Rattle.std.proofs.lemmas.List.{length-set, map-set}
 use Rattle.std.proofs.lemmas.List.Elements.{All-set}
 use Rattle.order.specs.declared.order.Order.{Order}
 use Rattle.order.specs.declared.reply.Reply.{Reply}
 use Rattle.order.specs.Work.{WorkOrder, IsEndOf}
 use Rattle.order.specs.Orders.{order_of, end_of}
+use Rattle.tallies.proofs.Places.{set_same, map_get}
 use Rattle.phases.specs.State.{Loop, Core}
 use Rattle.phases.specs.Outside.{StartsBeside}
 use Rattle.desk.specs.Desk.{Desk, desk_others}
@@ -16,11 +17,10 @@ use Rattle.world_log.specs.declared.outcome.JobId.{JobId}
 use Rattle.world_log.specs.declared.outcome.WorkEnding.{WorkEnding}
 use Rattle.world_log.specs.declared.outcome.StartOutcome.TheVariants as start
 use Rattle.world_log.specs.declared.outcome.FinishOutcome.TheVariants as finish
-use Rattle.world.specs.World.{World, Worker, Answer, Idle, Taken, Started, WithWorker, StartsJob, FinishesJob, Tells, job_of, with_worker, with_loop, with_replies}
+use Rattle.world.specs.World.{World, Worker, Answer, Idle, Taken, Started, WithWorker, StartsJob, FinishesJob, Tells, job_of, with_worker, with_loop, with_replies, core}
 use Rattle.world.specs.declared.worker.Worker.{Worker as CodeWorker}
 use Rattle.world.specs.declared.worker.Worker.TheVariants as worker
 use Rattle.world.specs.Making.{worker_of, answer_of, IsJob, IsHeld, IsKept}
-use Rattle.world.proofs.Sets.{core, set_same, map_set, map_get}
 use Rattle.world.proofs.Turning.{world_of, moved}
 
 -- what each worker has
@@ -116,7 +116,7 @@ module _ (w : World) (ls : List (Core Desk)) (js : List WorkOrder) (hs : List Co
         as_told true begun,
         (
           ap (λ j. line.Start n (start.Begun j)) told,
-          ap (λ x. world_of (slice_set ls job.loop_no q) js x rs) (map_set worker_of hs n (worker.Started o'))
+          ap (λ x. world_of (slice_set ls job.loop_no q) js x rs) (map-set worker_of hs n (worker.Started o'))
               ∙ ap (λ x. with_worker x n (Started (order_of o'))) (moved w ls js (workers_in hs) rs is job.loop_no p at_loop q e)
               ∙ ap (λ j. with_worker (with_loop w j.loop_no p.setting q.loop) n (Started (order_of o'))) told
               ∙ ap (λ y. with_worker (with_loop w o.loop_no p.setting q.loop) n (Started (order_of y))) same,
@@ -139,7 +139,7 @@ module _ (w : World) (ls : List (Core Desk)) (js : List WorkOrder) (hs : List Co
             as_told false dropped,
             (
               ap (λ j. line.Start n (start.Dropped j)) told,
-              ap (λ x. world_of (slice_set ls job.loop_no q) js x rs) (map_set worker_of hs n worker.Idle)
+              ap (λ x. world_of (slice_set ls job.loop_no q) js x rs) (map-set worker_of hs n worker.Idle)
                   ∙ ap (λ x. world_of x js (slice_set (workers_in hs) n Idle) rs) (ap (slice_set ls job.loop_no) still ∙ set_same ls job.loop_no p at_loop)
                   ∙ ap (λ x. with_worker x n Idle) is,
             ),
@@ -152,7 +152,7 @@ module _ {D : Type 0} (f : D → List Answer) (w : World) (ls : List (Core Desk)
   pub reserves : f d' ≡ f d → world_of ls js (workers_in (slice_set hs n (worker.Started o))) (map f (slice_set rs job.loop_no d')) ≡ w
   reserves same =
       ap (λ x. world_of ls js (workers_in (slice_set hs n x)) (map f (slice_set rs job.loop_no d'))) (sym is_started)
-      ∙ ap (λ x. world_of ls js (workers_in (slice_set hs n h)) x) (map_set f rs job.loop_no d' ∙ ap (slice_set (map f rs) job.loop_no) same ∙ set_same (map f rs) job.loop_no (f d) (map_get f rs job.loop_no d at_list))
+      ∙ ap (λ x. world_of ls js (workers_in (slice_set hs n h)) x) (map-set f rs job.loop_no d' ∙ ap (slice_set (map f rs) job.loop_no) same ∙ set_same (map f rs) job.loop_no (f d) (map_get f rs job.loop_no d at_list))
       ∙ unmoved w ls js hs (map f rs) is n h at
 
   pub finishes : (r : Reply) (ending : WorkEnding) (h' : CodeWorker) → job ≡ job_of (order_of o) → h' ≡ worker.Idle → r.order ≡ o → f d' ≡ f d ++ answer_of r ∷ [] → ∥ IsEndOf (order_of r.order) (end_of r.outcome) ∥₁ → Tells ending (end_of r.outcome)
@@ -169,10 +169,10 @@ module _ {D : Type 0} (f : D → List Answer) (w : World) (ls : List (Core Desk)
       waiting = ap (λ x. slice_get x.replies o.loop_no) (sym is) ∙ ap (λ j. slice_get (map f rs) j.loop_no) (sym told) ∙ map_get f rs job.loop_no d at_list;
       told = ap (λ j. line.Finish n (finish.Ended j ending)) told;
       after =
-          ap (λ x. world_of ls js x (map f (slice_set rs job.loop_no d'))) (map_set worker_of hs n h')
+          ap (λ x. world_of ls js x (map f (slice_set rs job.loop_no d'))) (map-set worker_of hs n h')
           ∙ ap (λ y. world_of ls js (slice_set (workers_in hs) n (worker_of y)) (map f (slice_set rs job.loop_no d'))) empty
           ∙ ap (λ x. world_of ls js (slice_set (workers_in hs) n Idle) x)
-          (map_set f rs job.loop_no d' ∙ ap (slice_set (map f rs) job.loop_no) (pushed ∙ ap (λ y. f d ++ record { order = order_of y; end = end_of r.outcome } ∷ []) own))
+          (map-set f rs job.loop_no d' ∙ ap (slice_set (map f rs) job.loop_no) (pushed ∙ ap (λ y. f d ++ record { order = order_of y; end = end_of r.outcome } ∷ []) own))
           ∙ ap (λ x. with_worker (with_replies x job.loop_no (f d ++ record { order = order_of o; end = end_of r.outcome } ∷ [])) n Idle) is
           ∙ ap (λ j. with_worker (with_replies w j.loop_no (f d ++ record { order = order_of o; end = end_of r.outcome } ∷ [])) n Idle) told;
     },

@@ -66,12 +66,16 @@ opening_world settings workers = record {
   replies = map (λ _. []) settings;
 }
 
+-- a loop with what it is made of
+abbrev pub core : Setting → Loop Desk → Core Desk
+core g l = record { setting = g; loop = l }
+
 -- the loop of a number, and the world with that loop as it stands after a step
 abbrev pub HasLoop : World → ℕ → Setting → Loop Desk → Type 0
-HasLoop w n g l = slice_get w.loops n ≡ Some (record { setting = g; loop = l })
+HasLoop w n g l = slice_get w.loops n ≡ Some (core g l)
 
 abbrev pub with_loop : World → ℕ → Setting → Loop Desk → World
-with_loop w n g l = record w { loops = slice_set w.loops n (record { setting = g; loop = l }) }
+with_loop w n g l = record w { loops = slice_set w.loops n (core g l) }
 
 abbrev pub with_worker : World → ℕ → Worker → World
 with_worker w n state = record w { workers = slice_set w.workers n state }

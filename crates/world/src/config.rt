@@ -12,7 +12,7 @@ pub struct LoopConfig {
     pub settings: LoopSettings,
 }
 
-/// What a world is made of: its loops, 1 to 8, and how many workers it has, 16 at most.
+/// What a world is made of: its loops, 1 to `MAX_LOOPS`, and how many workers it has, at most `MAX_WORKERS`.
 #[derive(Drop)]
 pub struct Config {
     pub loops: Vec<LoopConfig>,

@@ -165,9 +165,9 @@ fn idle_workers(alloc: Global, count: u32) -> Result<Vec<Worker>, AllocError>
 }
 
 impl World {
-    /// A world whose loops have done nothing, with workers that have nothing. There are 1 to 8 loops, each numbered by
-    /// its place, and at most 16 workers; calls may stand 1 to 128 deep. `Memory` comes only where memory was refused,
-    /// or as of a loop's handle table.
+    /// A world whose loops have done nothing, with workers that have nothing. There are 1 to `MAX_LOOPS` loops, each
+    /// numbered by its place, and at most `MAX_WORKERS` workers; calls may stand 1 to `MAX_DEPTH` deep. The only fault is
+    /// `Memory`, where `AllocError` came of memory or of `LoopCore::new`.
     pub fn new(alloc: Global, config: Config) -> Result<World, WorldFault>
         requires loops { (1 ≤ length config.loops.items) × (length config.loops.items ≤ MAX_LOOPS) }
         requires workers { config.workers ≤ MAX_WORKERS }
@@ -184,9 +184,9 @@ impl World {
         })
     }
 
-    /// Takes these steps one after another, and writes what each did behind the log. A step that names a loop, a
-    /// worker or an async that is not there, and one for which there is no memory, is a fault: world and log are then
-    /// as the steps before it left them.
+    /// Takes these steps one after another, and writes what each did behind the log. It stops at a step that names a
+    /// loop, a worker or an async that is not there, by `NoSuch`, and at one for which there is no memory, by `Memory`:
+    /// world and log are then as the steps before it left them.
     pub fn run(&mut self, steps: &[Step], log: &mut Log) -> Result<(), WorldFault>
         ensures ran { OnOk result ((told : _) × (log.new.entries ≡ log.old.entries ++ told) × WorldRun self.old steps.now told self.new) }
         ensures stopped { IfErr result (λ fault. (told : _) × (log.new.entries ≡ log.old.entries ++ told) × Stops self.old steps.now fault told self.new) }

@@ -32,7 +32,7 @@ impl Log {
         }
     }
 
-    /// Makes room for one more entry.
+    /// Makes room for one more entry, and changes none. `AllocError` comes only where memory is refused.
     pub fn reserve(&mut self) -> Result<(), AllocError>
         ensures entries { self.new.entries ≡ self.old.entries }
         ensures room { OnOk result (1 ≤ self.new.room) }
@@ -48,7 +48,7 @@ impl Log {
         self.entries.push_reserved(entry);
     }
 
-    /// Writes an entry behind the others. Where memory is refused, the entries are as they were.
+    /// Writes an entry behind the others. `AllocError` comes only where memory is refused: the entries are as they were.
     pub fn push(&mut self, entry: LogEntry) -> Result<(), AllocError>
         ensures written { OnOk result (self.new.entries ≡ self.old.entries ++ entry ∷ []) }
         ensures unchanged { OnErr result (self.new.entries ≡ self.old.entries) }

@@ -2,7 +2,7 @@ use Rattle.std.proofs.Common.{◌≡◌, ℕ, zero, suc, ◌<◌, ◌≤◌, Lis
 use Rattle.std.proofs.lemmas.Bool.Decides.{nat_tests}
 use mathlib.Core.Option.{some, some-injective, some-ne-none}
 use lib.ListN.{get_elem?}
-use Rattle.claims.proofs.Lists.{part_found, count_cons}
+use Rattle.tallies.proofs.Lists.{part_found, count_cons}
 use Rattle.tallies.proofs.Requests.{by_test}
 use Rattle.board.specs.declared.line.Named.{Named}
 use Rattle.board.specs.declared.line.View.{View}

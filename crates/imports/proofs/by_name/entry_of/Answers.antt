@@ -1,8 +1,8 @@
-use Rattle.std.proofs.Common.{◌≡◌, ◌≢◌, rules}
+use Rattle.std.proofs.Common.{◌≡◌, ◌≢◌, All, subst, rules}
+use Rattle.std.proofs.lemmas.List.{take_all}
 use Rattle.std.proofs.lemmas.Slice.Eq.{bytes_eq-Decides}
 use Rattle.syntax.specs.declared.contents.Contents.{Contents}
 use Rattle.syntax.specs.declared.contents.ModuleExport.{ModuleExport}
-use Rattle.validate.proofs.Items.{all_at_end}
 use Rattle.imports.specs.Uv.{name_of_entry}
 use Rattle.imports.proofs.Known.{callable_at}
 use Rattle.imports.proofs.by_name.entry_of.Goals as goal
@@ -18,6 +18,6 @@ returns-then-eq c =
 pub returns : goal.returns
 returns c =
     record {
-      found = all_at_end (λ (e : ModuleExport). name_of_entry c.args.entry ≢ e.name) c.args.contents.now.exports c.loop-export.export-index (search rules) c.loop-export.invariant;
+      found = subst (All (λ (e : ModuleExport). name_of_entry c.args.entry ≢ e.name)) (take_all c.loop-export.export-index c.args.contents.now.exports (search rules)) c.loop-export.invariant;
       typed = tt;
     }

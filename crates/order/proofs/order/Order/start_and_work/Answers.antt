@@ -4,10 +4,10 @@ use Rattle.order.proofs.order.Order.start_and_work.Goals as goal
 
 pub returns-in_default-clause-end : goal.returns-in_default-clause-end
 returns-in_default-clause-end c = λ end reads.
-    stops_end (order_of c.args.self.now) c.args.instance.now c.start-started.new.instance c.start-started.result.ending c.start-started.result.used c.start-started.new.host.reply.items end
+    stops_end c.names_are_apart.ensures (order_of c.args.self.now) c.args.instance.now c.start-started.new.instance c.start-started.result.ending c.start-started.result.used c.start-started.new.host.reply.items end
     c.requires.valid c.requires.fresh c.start-started.ensures.run c.in_default.not-Return reads
 
 pub returns-clause-end : goal.returns-clause-end
 returns-clause-end c = λ end reads.
-    works_end (order_of c.args.self.now) c.args.instance.now c.start-started.new.instance c.work-ended.new.instance c.start-started.result c.work-ended.result c.in-Return.field-0 c.start-started.new.host.reply.items c.work-ended.new.host.reply.items end
+    works_end c.names_are_apart.ensures (order_of c.args.self.now) c.args.instance.now c.start-started.new.instance c.work-ended.new.instance c.start-started.result c.work-ended.result c.in-Return.field-0 c.start-started.new.host.reply.items c.work-ended.new.host.reply.items end
     c.requires.valid c.requires.fresh c.in-Return.is c.start-started.ensures.run c.work-ended.ensures.run reads

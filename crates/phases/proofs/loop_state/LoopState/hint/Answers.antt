@@ -1,5 +1,3 @@
-use Rattle.std.proofs.Common.{sym, subst}
-use Rattle.phases.specs.PhaseList.{IsHint}
 use Rattle.phases.proofs.Living.{hint_means}
 use Rattle.phases.proofs.loop_state.LoopState.hint.Goals as goal
 

@@ -1,9 +1,9 @@
 use Rattle.std.proofs.Common.{◌≡◌, ◌<◌, [], length, map, Some, sym, ap, subst, ◌∙◌}
 use Rattle.std.specs.Prelude.{slice_set}
 use Rattle.std.specs.VecDeque.{deque_capacity}
-use Rattle.std.proofs.lemmas.List.{length-map, length-set}
+use Rattle.std.proofs.lemmas.List.{length-map, length-set, map-set}
 use Rattle.world.specs.Making.{answers_of, IsKept}
-use Rattle.world.proofs.Sets.{kept_set, map_set}
+use Rattle.world.proofs.Sets.{kept_set}
 use Rattle.world.proofs.Turning.{read}
 use Rattle.world.proofs.Collecting.{reads_at, emptied, collect_failed, collect_nothing, collect_taken, collect_stranger}
 use Rattle.world.proofs.world.World.collect.Goals as goal
@@ -23,7 +23,7 @@ returns-in_default-pop_front-clause-ran c =
     collect_nothing c.args.self.now c.self.inside.loops.items _ _ _ c.self.view_is c.args.loop_no c.in-Some.core.now
     (read c.self.inside.loops.items c.args.loop_no c.in-Some.core.now c.in-Some.ensures.item.3.0 c.in-Some.ensures.item.3.1)
     _ (reads_at (λ d. answers_of d.items) c.self.inside.replies.items c.args.loop_no c.index_mut.result.now within c.index_mut.ensures.value ∙ ap (λ xs. Some (answers_of xs)) none) (sym c.failed.ensures ∙ c.if-failed.false)
-    (map_set (λ d. answers_of d.items) c.self.inside.replies.items c.args.loop_no c.pop_front.new.self ∙ ap (λ xs. slice_set (map (λ d. answers_of d.items) c.self.inside.replies.items) c.args.loop_no (answers_of xs)) (sym c.in_default-pop_front.ensures.items ∙ none))
+    (map-set (λ d. answers_of d.items) c.self.inside.replies.items c.args.loop_no c.pop_front.new.self ∙ ap (λ xs. slice_set (map (λ d. answers_of d.items) c.self.inside.replies.items) c.args.loop_no (answers_of xs)) (sym c.in_default-pop_front.ensures.items ∙ none))
 
 pub invariant_of-self-2 : goal.invariant_of-self-2
 invariant_of-self-2 c =
@@ -36,7 +36,7 @@ returns-clause-ran c =
     let within : c.args.loop_no < length c.self.inside.replies.items = subst (λ k. c.args.loop_no < k) (sym c.self.invariant.paired) c.in-Some.ensures.item.3.0 in
     let at = read c.self.inside.loops.items c.args.loop_no c.in-Some.core.now c.in-Some.ensures.item.3.0 c.in-Some.ensures.item.3.1 in
     let waits = reads_at (λ d. answers_of d.items) c.self.inside.replies.items c.args.loop_no c.index_mut.result.now within c.index_mut.ensures.value ∙ ap (λ xs. Some (answers_of xs)) c.in-Some-pop_front.ensures.items in
-    let after = map_set (λ d. answers_of d.items) c.self.inside.replies.items c.args.loop_no c.pop_front.new.self in
+    let after = map-set (λ d. answers_of d.items) c.self.inside.replies.items c.args.loop_no c.pop_front.new.self in
     let going = sym c.failed.ensures ∙ c.if-failed.false in
     elim c.match-accept.branch [
       | in-Accepted w ↦

@@ -27,8 +27,8 @@ TOP = os.path.dirname(os.path.realpath(__file__))
 JOB = 1_500_000_000
 # More jobs than these hardly shorten a check.
 MOST_JOBS = 4
-# What a crate is built with that the longest chain doesn't wait for.
-BESIDE = ["nice", "-n", "10"]
+# What a crate is built with whose chain of crates up to the program takes less than this part of the longest that is left.
+BESIDE, NEARLY = ["nice", "-n", "10"], 0.9
 # How long nothing is said, in seconds.
 QUIET = 30
 # What a crate takes before its first function, and what a function takes, in seconds of one processor of 2.5 GHz.
@@ -201,7 +201,8 @@ def build_all(rtlib, plan):
             ready = [it for it in waiting if all(dep in plan.done for dep in it.deps)]
             for crate in ready[: at_once - len(running)]:
                 waiting.remove(crate)
-                is_first = all(plan.behind[it] <= plan.behind[crate] for it in [*waiting, *running.values()])
+                longest = max(plan.behind[it] for it in [*waiting, *running.values(), crate])
+                is_first = plan.behind[crate] >= NEARLY * longest
                 running[pool.submit(build, rtlib, crate, jobs, is_first)] = crate
             ended = wait(running, timeout=QUIET, return_when=FIRST_COMPLETED).done
             for it in ended:

@@ -1,7 +1,7 @@
 // What a guest is answered who asks for work, and whose work function reads and sets bytes.
 
 use crate::turns::Turn::{Answer, Order, Steps};
-use crate::turns::told;
+use crate::turns::check;
 use std::test::Fail;
 
 /// `uv_main`, with one page, asks for work on the bytes (place, length) = (0, 65537), (1, 65536), (4294967295, 1), (0, 65536)
@@ -15,9 +15,8 @@ const QUEUES: &str = "011b0560037f7f7f017f60017e017f60000060017f017f60037f7f7f00
 
 #[test]
 fn work_is_asked_for_on_bytes_of_the_memory(rt: HostRuntime) -> Result<(), Fail> {
-    let text = told(rt.alloc(), QUEUES, &[Steps(1)])?;
-    assert_eq!(rt; text.as_str(), "run Main 0 -22 -14 -14 1 2 32 -11 -22 -14");
-    Ok(())
+    let wanted = "run Main 0 -22 -14 -14 1 2 32 -11 -22 -14";
+    check(&rt, rt.alloc(), QUEUES, &[Steps(1)], wanted)
 }
 
 /// `uv_main` asks for work on no bytes, and on 65537. There is no `uv_after_work`.
@@ -36,11 +35,9 @@ const NO_WORK: &str = "01160460037f7f7f017f60017e017f60000060037f7f7f00
 
 #[test]
 fn both_functions_of_work_have_to_be_exported(rt: HostRuntime) -> Result<(), Fail> {
-    for guest in [NO_AFTER_WORK, NO_WORK] {
-        let text = told(rt.alloc(), guest, &[Steps(2)])?;
-        assert_eq!(rt; text.as_str(), "run Main 0 -38 -38; over");
-    }
-    Ok(())
+    let wanted = "run Main 0 -38 -38; over";
+    check(&rt, rt.alloc(), NO_AFTER_WORK, &[Steps(2)], wanted)?;
+    check(&rt, rt.alloc(), NO_WORK, &[Steps(2)], wanted)
 }
 
 /// `uv_main` asks for work on no bytes and on one. `uv_work` sets as its reply the length of its input and the answers to
@@ -55,15 +52,8 @@ const WORKS: &str = "01250760037f7f7f017f6000017f60027f7f017f60017e017f600000600
 
 #[test]
 fn a_work_function_is_answered_by_its_input_and_its_memory(rt: HostRuntime) -> Result<(), Fail> {
-    let text = told(
-        rt.alloc(),
-        WORKS,
-        &[Steps(1), Order, Answer, Order, Answer, Steps(5)],
-    )?;
-    assert_eq!(rt;
-        text.as_str(),
-        "run Main 0 1 2; accepted; accepted; Timers 0; Idle 0; Poll 0; \
-        run After 1 0 0 36 0 0 0 -14 -22 0 -22 0 -14 -22; run After 2 0 0 36 0 1 0 -14 -22 0 0 0 -14 -22"
-    );
-    Ok(())
+    let turns = [Steps(1), Order, Answer, Order, Answer, Steps(5)];
+    let wanted = "run Main 0 1 2; accepted; accepted; Timers 0; Idle 0; Poll 0; \
+        run After 1 0 0 36 0 0 0 -14 -22 0 -22 0 -14 -22; run After 2 0 0 36 0 1 0 -14 -22 0 0 0 -14 -22";
+    check(&rt, rt.alloc(), WORKS, &turns, wanted)
 }

@@ -31,9 +31,13 @@ pub fn with_custom_section(alloc: Global, guest: &Linked) -> Result<Arc<Linked>,
     guest_of(alloc, lengthened(alloc, guest.valid().module().bytes())?)
 }
 
+fn loop_of(alloc: Global, guest: Arc<Linked>, loop_no: u32) -> Result<LoopCore<Desk>, AllocError> {
+    let desk = Desk::new(alloc, loop_no)?;
+    LoopCore::new(alloc, guest, desk, loop_no, FUEL, FUEL, DEPTH)
+}
+
 /// A loop of the guest with these sections over a desk, which has done nothing.
 pub fn loop_at_desk(alloc: Global, sections: &str, loop_no: u32) -> Result<LoopCore<Desk>, Fail> {
     let guest = linked_of(alloc, sections)?;
-    let desk = Desk::new(alloc, loop_no)?;
-    Ok(LoopCore::new(alloc, guest, desk, loop_no, FUEL, FUEL, DEPTH)?)
+    Ok(loop_of(alloc, guest, loop_no)?)
 }

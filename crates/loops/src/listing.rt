@@ -1,7 +1,7 @@
 // Which handles there are, and which of them a phase runs.
 
 use crate::turns::Turn::Steps;
-use crate::turns::told;
+use crate::turns::check;
 use std::test::Fail;
 
 /// `uv_main` makes 64 timers, asks for one more, closes timer 0 and asks again. The callback of the close asks whether that
@@ -16,12 +16,9 @@ const HANDLES: &str = "011c066000017f60027f7f017f60017f017f60017e017f60000060017
 
 #[test]
 fn there_is_room_for_a_handle_once_one_is_closed(rt: HostRuntime) -> Result<(), Fail> {
-    let text = told(rt.alloc(), HANDLES, &[Steps(8)])?;
-    assert_eq!(rt;
-        text.as_str(),
-        "run Main 0 -11 0 -11; Timers 0; Idle 0; Poll 0; Check 0; Closing 0; run Close 0 -22 0 -11; over"
-    );
-    Ok(())
+    let wanted =
+        "run Main 0 -11 0 -11; Timers 0; Idle 0; Poll 0; Check 0; Closing 0; run Close 0 -22 0 -11; over";
+    check(&rt, rt.alloc(), HANDLES, &[Steps(8)], wanted)
 }
 
 /// `uv_main` makes idle handle 0 and starts check handle 1, whose callback starts the idle handle and stops its own. The
@@ -39,11 +36,8 @@ const STARTS_IDLE: &str = "011c066000017f60027f7f017f60017f017f60017e017f6000006
 fn an_idle_handle_that_a_check_handle_starts_runs_in_the_next_iteration(
     rt: HostRuntime,
 ) -> Result<(), Fail> {
-    let text = told(rt.alloc(), STARTS_IDLE, &[Steps(14)])?;
-    assert_eq!(rt;
-        text.as_str(),
+    let wanted =
         "run Main 0 0; Timers 0; Idle 0; Poll 0; Check 0; run Check 1 0 0; Closing 0; Timers 0; Idle 0; \
-        run Idle 0 0; Poll 0; Check 0; Closing 0; over"
-    );
-    Ok(())
+        run Idle 0 0; Poll 0; Check 0; Closing 0; over";
+    check(&rt, rt.alloc(), STARTS_IDLE, &[Steps(14)], wanted)
 }

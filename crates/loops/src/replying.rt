@@ -2,8 +2,9 @@
 
 use crate::turns::Field::{Bytes, Depth, Fuel, LoopNo, Module, Operation, Request, Slot};
 use crate::turns::Turn::{Answer, AnswerOther, Hint, Order, Steps};
-use crate::turns::{Field, told};
+use crate::turns::{Field, Turn, check, told};
 use std::alloc::Global;
+use std::process::Abort;
 use std::test::Fail;
 
 /// `uv_main` asks for work by operation 5 on three bytes. `uv_work` gives its operation and one more, `uv_after_work` emits
@@ -20,28 +21,22 @@ const ASKS: &str = "011b0560037f7f7f017f60017e017f60000060017f017f60037f7f7f00
 fn a_reply_of_another_operation_is_a_stranger_and_the_right_one_is_taken_once(
     rt: HostRuntime,
 ) -> Result<(), Fail> {
-    let text = told(
-        rt.alloc(),
-        ASKS,
-        &[
-            Steps(1),
-            Order,
-            AnswerOther(Operation),
-            Hint,
-            Answer,
-            Hint,
-            Answer,
-            Steps(4),
-            Answer,
-            Steps(3),
-        ],
-    )?;
-    assert_eq!(rt;
-        text.as_str(),
+    let turns = [
+        Steps(1),
+        Order,
+        AnswerOther(Operation),
+        Hint,
+        Answer,
+        Hint,
+        Answer,
+        Steps(4),
+        Answer,
+        Steps(3),
+    ];
+    let wanted =
         "run Main 0 1; stranger; hint Forever; accepted; hint Now; stranger; Timers 0; Idle 0; Poll 0; \
-        run After 1 0 6; stranger; Check 0; Closing 0; over"
-    );
-    Ok(())
+        run After 1 0 6; stranger; Check 0; Closing 0; over";
+    check(&rt, rt.alloc(), ASKS, &turns, wanted)
 }
 
 /// What the loop does behind `uv_main`, where nobody offers it a reply of another order.
@@ -51,8 +46,18 @@ const WITHOUT: &str =
 
 const FIELDS: [Field; 8] = [LoopNo, Request, Slot, Module, Operation, Bytes, Fuel, Depth];
 
+fn goes_on(rt: &impl Abort, told: &str, front: &str) {
+    assert_eq!(rt; told.strip_prefix(front), Some(WITHOUT));
+}
+
+fn check_behind(rt: &impl Abort, alloc: Global, turns: &[Turn], front: &str) -> Result<(), Fail> {
+    let told = told(alloc, ASKS, turns)?;
+    goes_on(rt, told.as_str(), front);
+    Ok(())
+}
+
 /// What the loop does where it is offered a reply that differs in this field.
-fn told_with(alloc: Global, field: Field) -> Result<String, Fail> {
+fn check_field(rt: &impl Abort, alloc: Global, field: Field) -> Result<(), Fail> {
     let turns = [
         Steps(1),
         Order,
@@ -63,27 +68,19 @@ fn told_with(alloc: Global, field: Field) -> Result<String, Fail> {
         Hint,
         Steps(7),
     ];
-    told(alloc, ASKS, &turns)
+    check_behind(rt, alloc, &turns, "run Main 0 1; stranger; ")
 }
 
 #[test]
 fn a_reply_that_differs_in_one_field_changes_nothing(rt: HostRuntime) -> Result<(), Fail> {
     for field in FIELDS {
-        let text = told_with(rt.alloc(), field)?;
-        let behind = text.as_str().strip_prefix("run Main 0 1; stranger; ");
-        assert_eq!(rt; behind, Some(WITHOUT));
+        check_field(&rt, rt.alloc(), field)?;
     }
     Ok(())
 }
 
 #[test]
 fn the_same_steps_without_that_reply(rt: HostRuntime) -> Result<(), Fail> {
-    let text = told(
-        rt.alloc(),
-        ASKS,
-        &[Steps(1), Order, Hint, Steps(6), Answer, Hint, Steps(7)],
-    )?;
-    let behind = text.as_str().strip_prefix("run Main 0 1; ");
-    assert_eq!(rt; behind, Some(WITHOUT));
-    Ok(())
+    let turns = [Steps(1), Order, Hint, Steps(6), Answer, Hint, Steps(7)];
+    check_behind(&rt, rt.alloc(), &turns, "run Main 0 1; ")
 }

@@ -7,13 +7,14 @@ ghost use Rattle.phases.specs.View.{new_view};
 
 use crate::guests::{DEPTH, FUEL, linked_of};
 use crate::sending::{CLOSES, FAILS, SENDS};
-use crate::telling::steps;
+use crate::telling::{is_told, steps};
 use claims::{Claims, LoopSeat, NewClaims};
 use imports::Linked;
 use marks::{Marks, SendSeat, TakeSeat};
 use phases::{LoopCore, Shared};
 use pool::Seats;
 use std::alloc::{AllocError, Global};
+use std::process::Abort;
 use std::sync::Arc;
 use std::test::Fail;
 
@@ -135,6 +136,14 @@ fn drive(
     Ok((before, sends(marks, sender, counts.behind)))
 }
 
+fn tell_end(
+    core: LoopCore<Noted<'_>>,
+    sent: (bool, bool),
+    text: &mut String,
+) -> Result<(), AllocError> {
+    core.into_shared().tell(sent, text)
+}
+
 fn drive_to_end(
     mut core: LoopCore<Noted<'_>>,
     marks: &Marks,
@@ -145,7 +154,7 @@ fn drive_to_end(
     requires { sender.old.marks ≡ marks.now }
 {
     let sent = drive(&mut core, marks, sender, counts, text)?;
-    core.into_shared().tell(sent, text)
+    tell_end(core, sent, text)
 }
 
 fn with_marks(
@@ -182,6 +191,19 @@ fn seated(alloc: Global, guest: &str, counts: Counts) -> Result<String, Fail> {
     Ok(text)
 }
 
+/// That the loop does what is wanted.
+fn check(
+    rt: &impl Abort,
+    alloc: Global,
+    guest: &str,
+    counts: Counts,
+    wanted: &str,
+) -> Result<(), Fail> {
+    let told = seated(alloc, guest, counts)?;
+    is_told(rt, told.as_str(), wanted);
+    Ok(())
+}
+
 impl Noted<'_> {
     // Tells whether the sends were taken in, and what the first takes answered.
     fn tell(&self, sent: (bool, bool), text: &mut String) -> Result<(), AllocError> {
@@ -206,13 +228,10 @@ fn sends_before_an_async_is_made_run_its_callback_once(rt: HostRuntime) -> Resul
         steps: 11,
         behind: 0,
     };
-    let text = seated(rt.alloc(), WAKES, counts)?;
-    assert_eq!(rt;
-        text.as_str(),
+    let wanted =
         "run Main 0 1; Timers 0; Idle 0; Poll 0; run Async 0 0; Check 0; Closing 0; Timers 0; Idle 0; \
-        Poll 0; skip Async 0; sent true true; taken [3, 0]"
-    );
-    Ok(())
+        Poll 0; skip Async 0; sent true true; taken [3, 0]";
+    check(&rt, rt.alloc(), WAKES, counts, wanted)
 }
 
 #[test]
@@ -222,13 +241,10 @@ fn the_next_poll_takes_what_a_timer_sent(rt: HostRuntime) -> Result<(), Fail> {
         steps: 7,
         behind: 0,
     };
-    let text = seated(rt.alloc(), SENDS, counts)?;
-    assert_eq!(rt;
-        text.as_str(),
+    let wanted =
         "run Main 0 0; Timers 0; run Timer 1 0; Idle 0; Poll 0; run Async 0 0; Check 0; sent true true; \
-        taken [1]"
-    );
-    Ok(())
+        taken [1]";
+    check(&rt, rt.alloc(), SENDS, counts, wanted)
 }
 
 #[test]
@@ -238,13 +254,10 @@ fn a_closed_async_is_sent_to(rt: HostRuntime) -> Result<(), Fail> {
         steps: 8,
         behind: 2,
     };
-    let text = seated(rt.alloc(), CLOSES, counts)?;
-    assert_eq!(rt;
-        text.as_str(),
+    let wanted =
         "run Main 0 0 0; Timers 0; Idle 0; Poll 0; Check 0; run Check 1; Closing 0; run Close 0; \
-        sent true true; taken []"
-    );
-    Ok(())
+        sent true true; taken []";
+    check(&rt, rt.alloc(), CLOSES, counts, wanted)
 }
 
 #[test]
@@ -254,10 +267,6 @@ fn a_failed_loop_is_sent_to(rt: HostRuntime) -> Result<(), Fail> {
         steps: 2,
         behind: 2,
     };
-    let text = seated(rt.alloc(), FAILS, counts)?;
-    assert_eq!(rt;
-        text.as_str(),
-        "run Main 0 trap; failed; sent true true; taken []"
-    );
-    Ok(())
+    let wanted = "run Main 0 trap; failed; sent true true; taken []";
+    check(&rt, rt.alloc(), FAILS, counts, wanted)
 }

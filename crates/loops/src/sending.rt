@@ -1,7 +1,7 @@
 // Sends to asyncs of a loop over a desk.
 
 use crate::turns::Turn::{Send, Steps};
-use crate::turns::told;
+use crate::turns::check;
 use std::test::Fail;
 
 /// `uv_main` makes async 0, closes its handle, and starts check handle 1.
@@ -15,17 +15,16 @@ pub const CLOSES: &str = "011c0660017f017f60027f7f017f6000017f60017e017f60000060
 
 #[test]
 fn a_send_to_a_closed_async_is_taken_in_and_runs_nothing(rt: HostRuntime) -> Result<(), Fail> {
-    let text = told(
+    let wanted =
+        "run Main 0 0 0; send true; Timers 0; Idle 0; Poll 0; Check 0; run Check 1; Closing 0; run Close 0; \
+        send true; Timers 0; Idle 0; Poll 0; Check 0; run Check 1";
+    check(
+        &rt,
         rt.alloc(),
         CLOSES,
         &[Steps(1), Send(0), Steps(7), Send(0), Steps(5)],
-    )?;
-    assert_eq!(rt;
-        text.as_str(),
-        "run Main 0 0 0; send true; Timers 0; Idle 0; Poll 0; Check 0; run Check 1; Closing 0; run Close 0; \
-        send true; Timers 0; Idle 0; Poll 0; Check 0; run Check 1"
-    );
-    Ok(())
+        wanted,
+    )
 }
 
 /// `uv_main` makes an async, and then traps.
@@ -39,9 +38,14 @@ pub const FAILS: &str = "010d0360017f017f60000060017f00
 
 #[test]
 fn a_send_to_a_failed_loop_is_taken_in(rt: HostRuntime) -> Result<(), Fail> {
-    let text = told(rt.alloc(), FAILS, &[Steps(1), Send(0), Steps(1)])?;
-    assert_eq!(rt; text.as_str(), "run Main 0 trap; send true; failed");
-    Ok(())
+    let wanted = "run Main 0 trap; send true; failed";
+    check(
+        &rt,
+        rt.alloc(),
+        FAILS,
+        &[Steps(1), Send(0), Steps(1)],
+        wanted,
+    )
 }
 
 /// `uv_main` makes async 0 with handle 0 and starts timer 1 of 0, whose callback sends to that async. The async's callback
@@ -57,10 +61,6 @@ pub const SENDS: &str = "011e0660017f017f6000017f60047f7f7e7e017f60017e017f60000
 
 #[test]
 fn what_a_timer_sends_is_taken_in_the_next_poll(rt: HostRuntime) -> Result<(), Fail> {
-    let text = told(rt.alloc(), SENDS, &[Steps(7)])?;
-    assert_eq!(rt;
-        text.as_str(),
-        "run Main 0 0; Timers 0; run Timer 1 0; Idle 0; Poll 0; run Async 0 0; Check 0"
-    );
-    Ok(())
+    let wanted = "run Main 0 0; Timers 0; run Timer 1 0; Idle 0; Poll 0; run Async 0 0; Check 0";
+    check(&rt, rt.alloc(), SENDS, &[Steps(7)], wanted)
 }

@@ -3,6 +3,12 @@
 use interp::ended::Ending;
 use phases::{LoopCore, Shared, StepDid};
 use std::alloc::AllocError;
+use std::process::Abort;
+
+/// That it is told what is wanted.
+pub fn is_told(rt: &impl Abort, told: &str, wanted: &str) {
+    assert_eq!(rt; told, wanted);
+}
 
 /// Sets the next event off from the one before.
 pub fn next(text: &mut String) -> Result<(), AllocError> {

@@ -1,7 +1,7 @@
 // When timers run.
 
 use crate::turns::Turn::{Clock, Hint, Steps};
-use crate::turns::told;
+use crate::turns::check;
 use std::test::Fail;
 
 /// `uv_main` starts a timer of 50. Its callback emits the moment.
@@ -15,13 +15,16 @@ const ONCE: &str = "011d066000017e6000017f60047f7f7e7e017f60017e017f60017f006000
 
 #[test]
 fn a_timer_runs_once_it_is_due(rt: HostRuntime) -> Result<(), Fail> {
-    let text = told(rt.alloc(), ONCE, &[Steps(1), Hint, Clock(50), Steps(7)])?;
-    assert_eq!(rt;
-        text.as_str(),
+    let wanted =
         "run Main 0; hint For(50); clock 50; Timers 50; run Timer 0 50; Idle 50; Poll 50; Check 50; \
-        Closing 50; over"
-    );
-    Ok(())
+        Closing 50; over";
+    check(
+        &rt,
+        rt.alloc(),
+        ONCE,
+        &[Steps(1), Hint, Clock(50), Steps(7)],
+        wanted,
+    )
 }
 
 /// `uv_main` starts timer 0 of 10, whose callback starts timers 1 and 2, of 5 and then each 20. Timer 1's callback stops it,
@@ -36,32 +39,26 @@ const REPEATS: &str = "011e066000017f60047f7f7e7e017f60017f017f60017e017f6000006
 
 #[test]
 fn a_repeat_counts_from_the_moment_of_the_run(rt: HostRuntime) -> Result<(), Fail> {
-    let text = told(
-        rt.alloc(),
-        REPEATS,
-        &[
-            Steps(1),
-            Clock(10),
-            Steps(6),
-            Hint,
-            Clock(100),
-            Steps(7),
-            Hint,
-            Clock(119),
-            Steps(5),
-            Hint,
-            Clock(120),
-            Steps(4),
-        ],
-    )?;
-    assert_eq!(rt;
-        text.as_str(),
+    let turns = [
+        Steps(1),
+        Clock(10),
+        Steps(6),
+        Hint,
+        Clock(100),
+        Steps(7),
+        Hint,
+        Clock(119),
+        Steps(5),
+        Hint,
+        Clock(120),
+        Steps(4),
+    ];
+    let wanted =
         "run Main 0 0; clock 10; Timers 10; run Timer 0 0 0; Idle 10; Poll 10; Check 10; Closing 10; \
         hint For(5); clock 100; Timers 100; run Timer 1 0 0 0 1; run Timer 2 1; Idle 100; Poll 100; \
         Check 100; Closing 100; hint For(20); clock 119; Timers 119; Idle 119; Poll 119; Check 119; \
-        Closing 119; hint For(1); clock 120; Timers 120; run Timer 1 0 0 0 1; run Timer 2 1; Idle 120"
-    );
-    Ok(())
+        Closing 119; hint For(1); clock 120; Timers 120; run Timer 1 0 0 0 1; run Timer 2 1; Idle 120";
+    check(&rt, rt.alloc(), REPEATS, &turns, wanted)
 }
 
 /// `uv_main` starts a timer again that was never started, starts it with no repeat, asks whether it is active, starts it
@@ -76,9 +73,8 @@ const AGAIN: &str = "011e066000017f60047f7f7e7e017f60017f017f60017e017f600000600
 
 #[test]
 fn a_timer_with_no_repeat_is_stopped_by_a_start_again(rt: HostRuntime) -> Result<(), Fail> {
-    let text = told(rt.alloc(), AGAIN, &[Steps(2)])?;
-    assert_eq!(rt; text.as_str(), "run Main 0 -22 0 1 0 0; over");
-    Ok(())
+    let wanted = "run Main 0 -22 0 1 0 0; over";
+    check(&rt, rt.alloc(), AGAIN, &[Steps(2)], wanted)
 }
 
 /// `uv_main` makes two timers and starts timer 0 of 0. Its callback starts timer 1 of 0.
@@ -95,11 +91,8 @@ const STARTS_TIMER: &str = "0119056000017f60047f7f7e7e017f60017e017f60000060017f
 fn a_timer_that_a_timer_starts_waits_for_the_next_timers_phase(
     rt: HostRuntime,
 ) -> Result<(), Fail> {
-    let text = told(rt.alloc(), STARTS_TIMER, &[Steps(10)])?;
-    assert_eq!(rt;
-        text.as_str(),
+    let wanted =
         "run Main 0 0; Timers 0; run Timer 0 0; Idle 0; Poll 0; Check 0; Closing 0; Timers 0; run Timer 1; \
-        Idle 0"
-    );
-    Ok(())
+        Idle 0";
+    check(&rt, rt.alloc(), STARTS_TIMER, &[Steps(10)], wanted)
 }

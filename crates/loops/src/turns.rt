@@ -1,13 +1,14 @@
 // A loop over a desk that is told turn by turn what to do.
 
 use crate::guests::{loop_at_desk, with_custom_section};
-use crate::telling::{next, steps};
+use crate::telling::{is_told, next, steps};
 use desk::Desk;
 use imports::EntryPoint;
 use limits::{MAX_ASYNCS, MAX_BYTES, MAX_DEPTH};
 use order::{Order, Reply};
 use phases::{Accepted, Hint, LoopCore};
 use std::alloc::{AllocError, Global};
+use std::process::Abort;
 use std::sync::Arc;
 use std::test::Fail;
 
@@ -59,6 +60,19 @@ pub fn told(alloc: Global, guest: &str, turns: &[Turn]) -> Result<String, Fail> 
     let mut text = String::new(alloc);
     drive(alloc, guest, turns, &mut text)?;
     Ok(text)
+}
+
+/// That a loop of a guest does in these turns what is wanted.
+pub fn check(
+    rt: &impl Abort,
+    alloc: Global,
+    guest: &str,
+    turns: &[Turn],
+    wanted: &str,
+) -> Result<(), Fail> {
+    let told = told(alloc, guest, turns)?;
+    is_told(rt, told.as_str(), wanted);
+    Ok(())
 }
 
 fn drive(alloc: Global, guest: &str, turns: &[Turn], text: &mut String) -> Result<(), Fail> {

@@ -11,14 +11,6 @@ use std::test::Fail;
 use syntax::module::Module;
 use validate::{Valid, validate};
 
-/// Appends the part so many times.
-pub fn push_times(bytes: &mut Vec<u8>, part: &[u8], times: usize) -> Result<(), AllocError> {
-    for _ in 0..times {
-        bytes.extend_from_slice(part)?;
-    }
-    Ok(())
-}
-
 /// A number below 2^28 in its shortest spelling.
 fn push_number(bytes: &mut Vec<u8>, number: usize) -> Result<(), AllocError> {
     let mut rest = number;
@@ -61,17 +53,16 @@ fn push_body(alloc: Global, bytes: &mut Vec<u8>, body: &[u8]) -> Result<(), Allo
     push_sized(bytes, code.as_slice())
 }
 
-/// A module of these sections and a code section with one body, which declares no locals.
-pub fn with_body(alloc: Global, sections: &str, body: &[u8]) -> Result<Vec<u8>, Fail> {
+fn with_code(alloc: Global, sections: &str, body: &[u8]) -> Result<Vec<u8>, Fail> {
     let mut bytes = module_of(alloc, sections)?;
     push_body(alloc, &mut bytes, body)?;
     Ok(bytes)
 }
 
-/// The same, of a body in hex digits.
-pub fn with_digits(alloc: Global, sections: &str, digits: &str) -> Result<Vec<u8>, Fail> {
+/// A module of these sections and a code section with one body, which declares no locals.
+pub fn with_body(alloc: Global, sections: &str, digits: &str) -> Result<Vec<u8>, Fail> {
     let body = bytes_of(alloc, digits)?;
-    with_body(alloc, sections, body.as_slice())
+    with_code(alloc, sections, body.as_slice())
 }
 
 /// A refusal by its step, number and word.

@@ -3,7 +3,7 @@
 ghost use Rattle.std.specs.Prelude.{◌≤◌};
 ghost use Rattle.limits.specs.declared.TheConstants.{MAX_DEPTH};
 
-use crate::modules::with_digits;
+use crate::modules::with_body;
 use crate::rows::{check_rows, is_told};
 use fixtures::{module_of, valid_of};
 use instance::memory::Memory;
@@ -138,7 +138,7 @@ fn check_bodies(rt: &impl Abort, alloc: Global, sections: &str, rows: &str) -> R
     check_rows(
         rt,
         rows,
-        |body| end_of(alloc, with_digits(alloc, sections, body)?, 1000, 8),
+        |body| end_of(alloc, with_body(alloc, sections, body)?, 1000, 8),
     )
 }
 

@@ -1,6 +1,5 @@
-use crate::modules::{check_sections, push_times, verdict, with_body, with_digits};
+use crate::modules::{check_sections, verdict, with_body};
 use crate::rows::check_rows;
-use fixtures::bytes_of;
 use std::alloc::Global;
 use std::process::Abort;
 use std::test::Fail;
@@ -59,7 +58,7 @@ fn check_bodies(rt: &impl Abort, alloc: Global, sections: &str, rows: &str) -> R
     check_rows(
         rt,
         rows,
-        |body| verdict(alloc, with_digits(alloc, sections, body)?),
+        |body| verdict(alloc, with_body(alloc, sections, body)?),
     )
 }
 
@@ -115,46 +114,7 @@ fn judges_parts(rt: HostRuntime) -> Result<(), Fail> {
     check_sections(&rt, rt.alloc(), PARTS)
 }
 
-/// Appends the bytes of a word so many times.
-fn push_repeated(
-    alloc: Global,
-    body: &mut Vec<u8>,
-    digits: &str,
-    times: usize,
-) -> Result<(), Fail> {
-    let part = bytes_of(alloc, digits)?;
-    push_times(body, part.as_slice(), times)?;
-    Ok(())
-}
-
-/// Appends a word, before which the number of its times may stand.
-fn push_word(alloc: Global, body: &mut Vec<u8>, word: &str) -> Result<(), Fail> {
-    match word.split_once('*') {
-        None => push_repeated(alloc, body, word, 1),
-        Some((times, digits)) => push_repeated(alloc, body, digits, times.parse::<usize>()?),
-    }
-}
-
-fn push_words(alloc: Global, body: &mut Vec<u8>, words: &str) -> Result<(), Fail> {
-    for word in words.split_whitespace() {
-        push_word(alloc, body, word)?;
-    }
-    Ok(())
-}
-
-fn body_of(alloc: Global, words: &str) -> Result<Vec<u8>, Fail> {
-    let mut body = Vec::new(alloc);
-    push_words(alloc, &mut body, words)?;
-    Ok(body)
-}
-
-/// The verdict on a module with this body.
-fn verdict_on(alloc: Global, words: &str) -> Result<String, Fail> {
-    let body = body_of(alloc, words)?;
-    verdict(alloc, with_body(alloc, ONE_FUNCTION, body.as_slice())?)
-}
-
-/// Bodies of the function, in words that stand there so many times.
+/// Large bodies of the one function.
 const LARGE: &str = "
     256*4100 255*1a 0b = accepted
     257*4100 256*1a 0b = validate 10 Height
@@ -170,5 +130,5 @@ const LARGE: &str = "
 
 #[test]
 fn bounds_height_and_nesting(rt: HostRuntime) -> Result<(), Fail> {
-    check_rows(&rt, LARGE, |words| verdict_on(rt.alloc(), words))
+    check_bodies(&rt, rt.alloc(), ONE_FUNCTION, LARGE)
 }

@@ -1,5 +1,6 @@
 // Lines of a log that no run of a script reaches, and the words in them.
 
+use crate::telling::is_told;
 use interp::ended::{Ended, Ending};
 use interp::trap::TrapCode;
 use interp::values::Values;
@@ -18,11 +19,13 @@ fn line_of(alloc: Global, entry: LogEntry) -> Result<String, AllocError> {
 }
 
 fn check_line(
-    rt: &(impl Abort + AllocGlobal),
+    rt: &impl Abort,
+    alloc: Global,
     entry: LogEntry,
-    expected: &str,
+    wanted: &str,
 ) -> Result<(), AllocError> {
-    assert_eq!(rt; line_of(rt.alloc(), entry)?.as_str(), expected);
+    let line = line_of(alloc, entry)?;
+    is_told(rt, line.as_str(), wanted);
     Ok(())
 }
 
@@ -41,10 +44,33 @@ fn ran(alloc: Global, kind: EntryKind, ending: Ending) -> Result<LogEntry, Alloc
     })
 }
 
-fn expected_of(alloc: Global, words: &str) -> Result<String, AllocError> {
-    format!(in alloc;
-        "loop 3 run {words} used 18446744073709551615 emit -9223372036854775808 9223372036854775807\n"
-    )
+fn ran_line(alloc: Global, kind: EntryKind, ending: Ending) -> Result<String, AllocError> {
+    line_of(alloc, ran(alloc, kind, ending)?)
+}
+
+const BEFORE: &str = "loop 3 run ";
+
+const BEHIND: &str = " used 18446744073709551615 emit -9223372036854775808 9223372036854775807\n";
+
+// What such a line says of the callback and of how it ended.
+fn words_of(line: &str) -> Option<&str> {
+    line.strip_prefix(BEFORE)?.strip_suffix(BEHIND)
+}
+
+fn has_words(rt: &impl Abort, line: &str, words: &str) {
+    assert_eq!(rt; words_of(line), Some(words));
+}
+
+fn check_ran(
+    rt: &impl Abort,
+    alloc: Global,
+    kind: EntryKind,
+    ending: Ending,
+    words: &str,
+) -> Result<(), AllocError> {
+    let line = ran_line(alloc, kind, ending)?;
+    has_words(rt, line.as_str(), words);
+    Ok(())
 }
 
 #[test]
@@ -59,37 +85,42 @@ fn prints_each_kind_of_callback(rt: HostRuntime) -> Result<(), Fail> {
         (EntryKind::Check, "check 8 spent"),
         (EntryKind::Close, "close 8 spent"),
     ] {
-        let expected = expected_of(rt.alloc(), words)?;
-        check_line(
-            &rt,
-            ran(rt.alloc(), kind, Ending::Spent)?,
-            expected.as_str(),
-        )?;
+        check_ran(&rt, rt.alloc(), kind, Ending::Spent, words)?;
+    }
+    Ok(())
+}
+
+fn check_end(
+    rt: &impl Abort,
+    alloc: Global,
+    ending: Ending,
+    words: &str,
+) -> Result<(), AllocError> {
+    check_ran(rt, alloc, EntryKind::Close, ending, words)
+}
+
+#[test]
+fn prints_each_trap_of_a_callback(rt: HostRuntime) -> Result<(), Fail> {
+    for (code, words) in [
+        (TrapCode::Unreachable, "close 8 trap 1"),
+        (TrapCode::DivideByZero, "close 8 trap 2"),
+        (TrapCode::Overflow, "close 8 trap 3"),
+        (TrapCode::Memory, "close 8 trap 4"),
+        (TrapCode::Table, "close 8 trap 5"),
+        (TrapCode::EmptyElement, "close 8 trap 6"),
+        (TrapCode::OtherType, "close 8 trap 7"),
+    ] {
+        check_end(&rt, rt.alloc(), Ending::Trap(code), words)?;
     }
     Ok(())
 }
 
 #[test]
-fn prints_each_ending_of_a_callback(rt: HostRuntime) -> Result<(), Fail> {
-    for (ending, words) in [
-        (Ending::Return(Values::from_slice(&[])), "close 8 return"),
-        (Ending::Trap(TrapCode::Unreachable), "close 8 trap 1"),
-        (Ending::Trap(TrapCode::DivideByZero), "close 8 trap 2"),
-        (Ending::Trap(TrapCode::Overflow), "close 8 trap 3"),
-        (Ending::Trap(TrapCode::Memory), "close 8 trap 4"),
-        (Ending::Trap(TrapCode::Table), "close 8 trap 5"),
-        (Ending::Trap(TrapCode::EmptyElement), "close 8 trap 6"),
-        (Ending::Trap(TrapCode::OtherType), "close 8 trap 7"),
-        (Ending::Depth, "close 8 depth"),
-    ] {
-        let expected = expected_of(rt.alloc(), words)?;
-        check_line(
-            &rt,
-            ran(rt.alloc(), EntryKind::Close, ending)?,
-            expected.as_str(),
-        )?;
-    }
-    Ok(())
+fn prints_each_other_ending_of_a_callback(rt: HostRuntime) -> Result<(), AllocError> {
+    let none = Values::from_slice(&[]);
+    check_end(&rt, rt.alloc(), Ending::Return(none), "close 8 return")?;
+    check_end(&rt, rt.alloc(), Ending::Depth, "close 8 depth")?;
+    check_end(&rt, rt.alloc(), Ending::Spent, "close 8 spent")
 }
 
 const FINISH: LogEntry = LogEntry::Finish {
@@ -115,13 +146,10 @@ const SEND: LogEntry = LogEntry::Send {
 };
 
 #[test]
-fn prints_what_a_world_has_no_way_to(rt: HostRuntime) -> Result<(), Fail> {
-    for (entry, expected) in [
-        (FINISH, "finish 15 loop 1 request 2147483647 nomemory\n"),
-        (COLLECT, "collect 2 stranger\n"),
-        (SEND, "send 0 2 refused\n"),
-    ] {
-        check_line(&rt, entry, expected)?;
-    }
-    Ok(())
+fn prints_what_a_world_has_no_way_to(rt: HostRuntime) -> Result<(), AllocError> {
+    let alloc = rt.alloc();
+    let finished = "finish 15 loop 1 request 2147483647 nomemory\n";
+    check_line(&rt, alloc, FINISH, finished)?;
+    check_line(&rt, alloc, COLLECT, "collect 2 stranger\n")?;
+    check_line(&rt, alloc, SEND, "send 0 2 refused\n")
 }

@@ -1,13 +1,18 @@
 // What scripts are read as.
 
-use script::{ScriptFault, read};
+use crate::telling::is_told;
+use script::{Plan, ScriptFault, read};
 use std::alloc::{AllocError, Global};
 use std::test::Fail;
+
+fn plan_told(alloc: Global, plan: &Plan) -> Result<String, AllocError> {
+    format!(in alloc; "{plan:?}")
+}
 
 /// What this script is read as.
 fn plan_of(alloc: Global, text: &str) -> Result<String, Fail> {
     let plan = read(alloc, text)?;
-    Ok(format!(in alloc; "{plan:?}")?)
+    Ok(plan_told(alloc, &plan)?)
 }
 
 /// Escapes, keys in another order, and every step.
@@ -16,15 +21,17 @@ const EVERY_STEP: &str = "{\"modules\":[\"0061736d\",\"F\\u0066\"],\n\
     \"st\\u0065ps\":[[\"l\\u006fop\",0],[\"post\",1],[\"take\",2],[\"start\",3],[\"finish\",4],\
     [\"collect\",5],[\"send\",6,7],[\"cancel\",8,9],[\"clock\",4294967295,10]],\"workers\":16}";
 
+/// What it is read as.
+const PLAN: &str =
+    "Plan { modules: [[0, 97, 115, 109], [255]], loops: [LoopPlan { module: 1, settings: \
+    LoopSettings { fuel: 18446744073709551615, work_fuel: 0, depth: 8 } }], workers: 16, steps: \
+    [Loop(0), Post(1), Take(2), Start(3), Finish(4), Collect(5), Send(6, 7), Cancel(8, 9), \
+    Clock(4294967295, 10)] }";
+
 #[test]
 fn reads_every_step(rt: HostRuntime) -> Result<(), Fail> {
-    assert_eq!(rt;
-        plan_of(rt.alloc(), EVERY_STEP)?.as_str(),
-        "Plan { modules: [[0, 97, 115, 109], [255]], loops: [LoopPlan { module: 1, settings: \
-        LoopSettings { fuel: 18446744073709551615, work_fuel: 0, depth: 8 } }], workers: 16, steps: \
-        [Loop(0), Post(1), Take(2), Start(3), Finish(4), Collect(5), Send(6, 7), Cancel(8, 9), \
-        Clock(4294967295, 10)] }"
-    );
+    let plan = plan_of(rt.alloc(), EVERY_STEP)?;
+    is_told(&rt, plan.as_str(), PLAN);
     Ok(())
 }
 

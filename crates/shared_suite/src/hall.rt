@@ -147,7 +147,8 @@ impl<'a> Spares<'a> {
             unreachable!()
         };
         Ok(WorkerSide {
-            hall: self.hall,
+            board: &self.hall.board,
+            claims: &self.hall.claims,
             pass,
             seat,
         })
@@ -172,23 +173,26 @@ fn end_of(did: Did) -> End {
     }
 }
 
+// It refers to the board and the claims, not to their hall: threads hold it, and each type that is in between makes
+// `Send` of what they hold longer to show.
 #[derive(Drop)]
 pub struct WorkerSide<'a> {
-    hall: &'a Hall,
+    board: &'a Board,
+    claims: &'a Claims,
     pass: Pass,
     seat: WorkerSeat,
-    ghost pass_own: { IsPassOf hall.now.board pass },
-    ghost seat_own: { seat.claims ≡ hall.now.claims.id },
+    ghost pass_own: { IsPassOf board.now pass },
+    ghost seat_own: { seat.claims ≡ claims.now.id },
+    ghost loops: { length board.now.replies ≡ claims.now.loops },
 }
 
 impl<'a> WorkerSide<'a> {
     pub fn turn<G: Gate, R: Wait>(&mut self, rt: &R, gate: &G) -> End {
-        let hall = self.hall;
         end_of(work_one(
             rt,
-            &hall.board,
+            self.board,
             &mut self.pass,
-            &hall.claims,
+            self.claims,
             &mut self.seat,
             gate,
         ))
@@ -196,17 +200,18 @@ impl<'a> WorkerSide<'a> {
 
     pub fn work_until_closed<G: Gate, R: Wait>(self, rt: &R, gate: &G) {
         let WorkerSide {
-            hall,
+            board,
+            claims,
             mut pass,
             mut seat,
         } = self;
-        work_until_closed(rt, &hall.board, &mut pass, &hall.claims, &mut seat, gate);
+        work_until_closed(rt, board, &mut pass, claims, &mut seat, gate);
     }
 
     // The same, but that request 1 is held once it is started, until the board is closed.
     pub fn work_held<R: Wait>(self, rt: &R) {
-        let hall = self.hall;
-        self.work_until_closed(rt, &UntilClosed { board: &hall.board });
+        let board = self.board;
+        self.work_until_closed(rt, &UntilClosed { board });
     }
 }
 

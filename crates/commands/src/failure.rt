@@ -4,12 +4,13 @@ ghost use Rattle.std.specs.Prelude.{◌≡◌};
 
 use crate::file::ReadFault;
 use crate::status::Status;
-use host::{Refusal, WorldFault};
 use instance::fault::InstFault;
+use loader::{Place, Refusal};
 use script::ScriptFault;
 use std::alloc::{AllocError, AllocFailed};
 use std::fmt;
 use std::io::{self, ErrorKind, Write};
+use world::WorldFault;
 
 /// Why a command has no result.
 #[derive(Drop)]
@@ -24,7 +25,7 @@ pub enum Failure<'a> {
     Refused {
         module: Option<usize>,
         refusal: Refusal,
-        place: Option<host::Place>,
+        place: Option<Place>,
     },
     /// The file is no script.
     Script {

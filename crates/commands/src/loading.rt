@@ -6,8 +6,9 @@ ghost use Rattle.commands.specs.Accepted.{enough};
 
 use crate::failure::Failure;
 use crate::file::Reader;
-use host::{Linked, Refusal};
+use imports::Linked;
 use limits::MAX_MODULE_BYTES;
+use loader::Refusal;
 use std::alloc::Global;
 
 /// One byte more than a module may have: whatever comes behind it changes no answer.
@@ -29,7 +30,7 @@ pub fn accept(alloc: Global, bytes: &[u8]) -> Result<Linked, Failure<'static>>
     ensures same { IfOk result (λ linked. linked.bytes ≡ bytes.now) }
     ensures accepted { IfOk result (λ linked. IsAccepted linked.bytes linked.contents) }
 {
-    match host::load(alloc, bytes) {
+    match loader::load(alloc, bytes) {
         Ok(linked) => Ok(linked),
         Err(refusal) => Err(refused(alloc, bytes, refusal)),
     }

@@ -9,13 +9,15 @@ use crate::failure::Failure;
 use crate::file::Reader;
 use crate::loading::accept;
 use crate::status::Status;
-use host::{Config, Linked, Log, LogEntry, LoopConfig, Step, World, WorldFault};
+use imports::Linked;
 use limits::MAX_SCRIPT_BYTES;
 use script::{LoopPlan, Plan, ScriptFault, ScriptPlace, print, read};
 use std::alloc::{AllocError, Global};
 use std::io::Write;
 use std::str;
 use std::sync::Arc;
+use world::{Config, LoopConfig, World, WorldFault};
+use world_log::{Log, LogEntry, Step};
 
 /// What the file asks for.
 fn plan_of<R: Reader>(alloc: Global, file: &str, reader: &R) -> Result<Plan, Failure<'static>>

@@ -14,8 +14,10 @@ mod shelf;
 
 use crate::list::{Line, read_line};
 use crate::shelf::Shelf;
+use board::JobBox;
 use commands::perform;
-use host::{JobBox, Reply, Task};
+use order::Reply;
+use serve::Task;
 use std::alloc::{AllocError, Global};
 use std::io::{self, BufRead, BufReader, Write};
 use std::process::ExitCode;

@@ -4,8 +4,10 @@
 ghost use Rattle.std.specs.Prelude.{◌≡◌};
 ghost use Rattle.board.specs.Jobs.{ticket_of};
 
+use board::JobBox;
 use commands::{SystemFiles, perform};
-use host::{JobBox, Reply, Task};
+use order::Reply;
+use serve::Task;
 use std::alloc::{AllocError, Global};
 use std::io::ErrorKind;
 use std::process::ExitCode;

@@ -27,11 +27,20 @@ impl Fits<Reply> for OfLoop {
 /// A board: a bounded queue of jobs, one of replies for each loop, and whether it was closed.
 ///
 /// To a contract it is a `BoardView`: its lines, each with how many it has places for.
-#[derive(Drop)]
 pub struct Board<J = JobBox> {
     jobs: Line<J, Any>,
     replies: Vec<Line<Reply, OfLoop>>,
     closed: AtomicBool,
+}
+
+impl<J: Drop> Drop for Board<J> {
+    fn drop(self) {
+        let Board {
+            jobs: _,
+            replies: _,
+            closed: _,
+        } = self;
+    }
 }
 
 impl<J> Model for Board<J> {
@@ -47,10 +56,18 @@ impl<J> Model for Board<J> {
 }
 
 /// With which one thread steps on a board. To a contract it is a `PassView`: what was done with it on each line.
-#[derive(Drop)]
 pub struct Pass<J = JobBox> {
     jobs: Hand<J>,
     replies: Vec<Hand<Reply>>,
+}
+
+impl<J: Drop> Drop for Pass<J> {
+    fn drop(self) {
+        let Pass {
+            jobs: _,
+            replies: _,
+        } = self;
+    }
 }
 
 impl<J> Model for Pass<J> {

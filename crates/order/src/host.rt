@@ -17,13 +17,22 @@ use syntax::types::Value;
 
 /// The host of a work function: it has the module, the bytes that there are to read, and the bytes of the reply as
 /// they were set last.
-#[derive(Drop)]
 pub struct WorkHost {
     pub linked: Arc<Linked, Global>,
     pub bytes: Arc<Vec<u8>, Global>,
     pub reply: Vec<u8>,
     pub ghost few: { length (arc_value bytes).items ≤ MAX_BYTES },
     pub ghost room: { MAX_BYTES ≤ vec_capacity reply },
+}
+
+impl Drop for WorkHost {
+    fn drop(self) {
+        let WorkHost {
+            linked: _,
+            bytes: _,
+            reply: _,
+        } = self;
+    }
 }
 
 impl WorkHost {
@@ -50,7 +59,12 @@ impl WorkHost {
     pub fn into_reply(self) -> Vec<u8>
         ensures { result.items ≡ self.reply.items }
     {
-        self.reply
+        let WorkHost {
+            linked: _,
+            bytes: _,
+            reply,
+        } = self;
+        reply
     }
 
     fn set_out(&mut self, place: u32, count: u32, memory: &Memory) -> u32

@@ -11,7 +11,6 @@ use syntax::laws::one_module;
 
 /// A work request of a loop: whose it is, the operation and the bytes, the module that computes it, and what it may
 /// use.
-#[derive(Drop)]
 pub struct Order {
     /// The loop that asks.
     pub loop_no: u32,
@@ -29,6 +28,21 @@ pub struct Order {
     pub fuel: u64,
     /// How many calls may stand open, 1 to `MAX_DEPTH`.
     pub depth: u32,
+}
+
+impl Drop for Order {
+    fn drop(self) {
+        let Order {
+            loop_no: _,
+            request: _,
+            slot: _,
+            module: _,
+            op: _,
+            bytes: _,
+            fuel: _,
+            depth: _,
+        } = self;
+    }
 }
 
 /// What becomes of a request.

@@ -27,13 +27,38 @@ use std::alloc::Global;
 use syntax::types::Value;
 
 /// The host of a loop's callbacks: what the loop is made of, its state, and what it shares with other threads.
-#[derive(Drop)]
 pub struct Guest<B: Shared + Drop> {
     pub(crate) alloc: Global,
     pub(crate) setting: Setting,
     pub(crate) state: LoopState,
     pub(crate) shared: B,
     pub ghost opened: { AreOpenedUpTo state.requests.last (B.calls.view shared) },
+}
+
+impl<B: Shared + Drop> Guest<B> {
+    /// What the loop shares, as it stands.
+    pub(crate) fn into_shared(self) -> B
+        ensures { result ≡ self.shared }
+    {
+        let Guest {
+            alloc: _,
+            setting: _,
+            state: _,
+            shared,
+        } = self;
+        shared
+    }
+}
+
+impl<B: Shared + Drop> Drop for Guest<B> {
+    fn drop(self) {
+        let Guest {
+            alloc: _,
+            setting: _,
+            state: _,
+            shared: _,
+        } = self;
+    }
 }
 
 fn start_timer(state: &mut LoopState, args: (u32, u32, u64, u64)) -> u32

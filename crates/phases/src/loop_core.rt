@@ -49,11 +49,20 @@ pub enum Accepted {
 /// One event loop, over what it shares with other threads.
 ///
 /// Contracts see what it is made of, and the loop as it stands.
-#[derive(Drop)]
 pub struct LoopCore<B: Shared + Drop> {
     linked: Arc<Linked, Global>,
     instance: Instance,
     guest: Guest<B>,
+}
+
+impl<B: Shared + Drop> Drop for LoopCore<B> {
+    fn drop(self) {
+        let LoopCore {
+            linked: _,
+            instance: _,
+            guest: _,
+        } = self;
+    }
 }
 
 impl<B: Shared + Drop> Model for LoopCore<B> {
@@ -355,8 +364,12 @@ impl<B: Shared + Drop> LoopCore<B> {
     pub fn into_shared(self) -> B
         ensures { result ≡ self.loop.shared }
     {
-        let guest = self.guest;
-        guest.shared
+        let LoopCore {
+            linked: _,
+            instance: _,
+            guest,
+        } = self;
+        guest.into_shared()
     }
 
     /// The order of the lowest request that is open and not handed out, which is then handed out. A failed loop has

@@ -32,7 +32,6 @@ use std::alloc::{AllocError, Global};
 use std::marker::Model;
 
 /// The state of a loop.
-#[derive(Drop)]
 pub struct LoopState {
     pub(crate) roster: Roster,
     pub(crate) requests: Requests,
@@ -43,6 +42,22 @@ pub struct LoopState {
     pub(crate) reply: Option<Vec<u8>>,
     pub(crate) emits: ArrayVec<u64, MAX_EMITS>,
     pub(crate) status: Status,
+}
+
+impl Drop for LoopState {
+    fn drop(self) {
+        let LoopState {
+            roster: _,
+            requests: _,
+            clock: _,
+            time: _,
+            phase: _,
+            entries: _,
+            reply: _,
+            emits: _,
+            status: _,
+        } = self;
+    }
 }
 
 impl Model for LoopState {

@@ -14,10 +14,18 @@ use std::marker::Model;
 use std::mem;
 
 /// An outstanding request: its order, and how far it has come.
-#[derive(Drop)]
 pub struct Outstanding {
     order: Order,
     progress: Progress,
+}
+
+impl Drop for Outstanding {
+    fn drop(self) {
+        let Outstanding {
+            order: _,
+            progress: _,
+        } = self;
+    }
 }
 
 impl Model for Outstanding {

@@ -23,10 +23,15 @@ use std::marker::Model;
 pub const LAST_REQUEST: u32 = 2_147_483_647;
 
 /// The outstanding requests of a loop by their numbers, which rise, and the last number that was given.
-#[derive(Drop)]
 pub struct Requests {
     items: Vec<Outstanding>,
     last: u32,
+}
+
+impl Drop for Requests {
+    fn drop(self) {
+        let Requests { items: _, last: _ } = self;
+    }
 }
 
 impl Model for Requests {
@@ -237,7 +242,7 @@ impl Requests {
         if item.is_settled() || !item.is_for(&reply.order) {
             return Err(reply);
         }
-        item.answer(reply.outcome);
+        item.answer(reply.into_outcome());
         Ok(())
     }
 

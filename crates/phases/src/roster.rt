@@ -17,12 +17,22 @@ use std::marker::Model;
 
 /// The handles of a loop: the table, the asyncs by number, the closing handles in the order of their closing, and the
 /// functions that callbacks name.
-#[derive(Drop)]
 pub struct Roster {
     handles: Handles,
     asyncs: ArrayVec<Option<u32>, MAX_ASYNCS>,
     closing: ArrayVec<u32, MAX_HANDLES>,
     callbacks: Vec<Option<u32>>,
+}
+
+impl Drop for Roster {
+    fn drop(self) {
+        let Roster {
+            handles: _,
+            asyncs: _,
+            closing: _,
+            callbacks: _,
+        } = self;
+    }
 }
 
 impl Model for Roster {

@@ -12,13 +12,24 @@ use std::sync::Arc;
 
 /// What a loop is made of: its module, its number, the fuel of a callback and of a work function, and how many calls
 /// may stand open.
-#[derive(Drop)]
 pub struct Setting {
     pub linked: Arc<Linked, Global>,
     pub loop_no: u32,
     pub fuel: u64,
     pub work_fuel: u64,
     pub depth: u32,
+}
+
+impl Drop for Setting {
+    fn drop(self) {
+        let Setting {
+            linked: _,
+            loop_no: _,
+            fuel: _,
+            work_fuel: _,
+            depth: _,
+        } = self;
+    }
 }
 
 impl Setting {

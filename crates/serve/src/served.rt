@@ -32,7 +32,6 @@ impl LoopEnding {
 ///
 /// A loop of this number has a history from its opening, over its seats, in which its callbacks put out just this, and
 /// at whose end it has ended so.
-#[derive(Drop)]
 pub struct Served {
     /// The loop's number, from 0.
     pub loop_no: u32,
@@ -41,6 +40,16 @@ pub struct Served {
     /// What its callbacks put out, in order.
     pub emits: Vec<u64>,
     pub ghost told: { ∥ HasServed loop_no ending emits.items ∥₁ },
+}
+
+impl Drop for Served {
+    fn drop(self) {
+        let Served {
+            loop_no: _,
+            ending: _,
+            emits: _,
+        } = self;
+    }
 }
 
 impl fmt::Display for Served {

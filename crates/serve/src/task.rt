@@ -11,9 +11,14 @@ use std::alloc::Global;
 use std::marker::Model;
 
 /// An order that can be run, of a loop and a slot that can be. To a contract it is the order.
-#[derive(Drop)]
 pub struct Task {
     order: Order,
+}
+
+impl Drop for Task {
+    fn drop(self) {
+        let Task { order: _ } = self;
+    }
 }
 
 impl Model for Task {
@@ -60,6 +65,7 @@ impl Task {
     pub fn run(self, alloc: Global) -> Reply
         ensures { result.order ≡ self }
     {
-        self.order.run(alloc)
+        let Task { order } = self;
+        order.run(alloc)
     }
 }

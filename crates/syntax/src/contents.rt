@@ -5,26 +5,52 @@ use crate::items::Items;
 use crate::types::{Limits, ValType};
 
 /// The type of a function.
-#[derive(Drop)]
 pub struct FuncType {
     pub params: Items<ValType>,
     pub results: Items<ValType>,
 }
 
+impl Drop for FuncType {
+    fn drop(self) {
+        let FuncType {
+            params: _,
+            results: _,
+        } = self;
+    }
+}
+
 /// An imported function. Its names are UTF-8.
-#[derive(Drop)]
 pub struct Import {
     pub module: Items<u8>,
     pub name: Items<u8>,
     pub type_index: u32,
 }
 
+impl Drop for Import {
+    fn drop(self) {
+        let Import {
+            module: _,
+            name: _,
+            type_index: _,
+        } = self;
+    }
+}
+
 /// A defined function. Its locals come behind its parameters.
-#[derive(Drop)]
 pub struct Func {
     pub type_index: u32,
     pub locals: Items<ValType>,
     pub body: Body,
+}
+
+impl Drop for Func {
+    fn drop(self) {
+        let Func {
+            type_index: _,
+            locals: _,
+            body: _,
+        } = self;
+    }
 }
 
 /// Whether a global may be set.
@@ -34,11 +60,20 @@ pub enum Mutability {
     Var,
 }
 
-#[derive(Drop)]
 pub struct Global {
     pub value_type: ValType,
     pub mutability: Mutability,
     pub init: Body,
+}
+
+impl Drop for Global {
+    fn drop(self) {
+        let Global {
+            value_type: _,
+            mutability: _,
+            init: _,
+        } = self;
+    }
 }
 
 /// What an export names.
@@ -50,31 +85,57 @@ pub enum ExternKind {
     Global,
 }
 
-#[derive(Drop)]
 pub struct ModuleExport {
     pub name: Items<u8>,
     pub kind: ExternKind,
     pub index: u32,
 }
 
+impl Drop for ModuleExport {
+    fn drop(self) {
+        let ModuleExport {
+            name: _,
+            kind: _,
+            index: _,
+        } = self;
+    }
+}
+
 /// An element segment: functions that are written into a table, from the offset on.
-#[derive(Drop)]
 pub struct Element {
     pub table: u32,
     pub offset: Body,
     pub functions: Items<u32>,
 }
 
+impl Drop for Element {
+    fn drop(self) {
+        let Element {
+            table: _,
+            offset: _,
+            functions: _,
+        } = self;
+    }
+}
+
 /// A data segment: bytes that are written into a memory, from the offset on.
-#[derive(Drop)]
 pub struct Data {
     pub memory: u32,
     pub offset: Body,
     pub bytes: Items<u8>,
 }
 
+impl Drop for Data {
+    fn drop(self) {
+        let Data {
+            memory: _,
+            offset: _,
+            bytes: _,
+        } = self;
+    }
+}
+
 /// What a module contains, by the order of its sections. Functions are counted from the imported ones on.
-#[derive(Drop)]
 pub struct Contents {
     pub types: Items<FuncType>,
     pub imports: Items<Import>,
@@ -86,4 +147,21 @@ pub struct Contents {
     pub start: Option<u32>,
     pub elements: Items<Element>,
     pub data: Items<Data>,
+}
+
+impl Drop for Contents {
+    fn drop(self) {
+        let Contents {
+            types: _,
+            imports: _,
+            functions: _,
+            table: _,
+            memory: _,
+            globals: _,
+            exports: _,
+            start: _,
+            elements: _,
+            data: _,
+        } = self;
+    }
 }

@@ -26,13 +26,24 @@ use world_log::{
 
 /// Some loops and workers, which take turns in one thread, step by step. Contracts see the loops, the jobs that no
 /// worker took, what each worker has, and the replies that no loop was offered.
-#[derive(Drop)]
 pub struct World {
     alloc: Global,
     loops: Vec<LoopCore<Desk>>,
     jobs: VecDeque<Order>,
     workers: Vec<Worker>,
     replies: Vec<VecDeque<Reply>>,
+}
+
+impl Drop for World {
+    fn drop(self) {
+        let World {
+            alloc: _,
+            loops: _,
+            jobs: _,
+            workers: _,
+            replies: _,
+        } = self;
+    }
 }
 
 impl Model for World {

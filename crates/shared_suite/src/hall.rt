@@ -26,11 +26,19 @@ pub fn ticket(request: u32) -> Ticket
     }
 }
 
-#[derive(Drop)]
 pub struct Hall {
     pub board: Board,
     pub claims: Claims,
     ghost loops: { (length board.replies ≡ 1) × (claims.loops ≡ 1) },
+}
+
+impl Drop for Hall {
+    fn drop(self) {
+        let Hall {
+            board: _,
+            claims: _,
+        } = self;
+    }
 }
 
 // What a new hall hands out.
@@ -128,7 +136,6 @@ impl Hall {
 }
 
 // The passes and seats that no worker has yet.
-#[derive(Drop)]
 pub struct Spares<'a> {
     hall: &'a Hall,
     passes: Vec<Pass>,
@@ -137,14 +144,24 @@ pub struct Spares<'a> {
     ghost seats_own: { All (λ s. s.claims ≡ hall.now.claims.id) seats.items },
 }
 
+impl Drop for Spares<'_> {
+    fn drop(self) {
+        let Spares {
+            hall: _,
+            passes: _,
+            seats: _,
+        } = self;
+    }
+}
+
 impl<'a> Spares<'a> {
     // The next worker's side.
     pub fn worker(&mut self) -> Result<WorkerSide<'a>, AllocError> {
-        if self.passes.is_empty() || self.seats.is_empty() {
+        let Some(pass) = self.passes.pop() else {
             return Err(AllocError);
-        }
-        let (Some(pass), Some(seat)) = (self.passes.pop(), self.seats.pop()) else {
-            unreachable!()
+        };
+        let Some(seat) = self.seats.pop() else {
+            return Err(AllocError);
         };
         Ok(WorkerSide {
             board: &self.hall.board,
@@ -175,7 +192,6 @@ fn end_of(did: Did) -> End {
 
 // It refers to the board and the claims, not to their hall: threads hold it, and each type that is in between makes
 // `Send` of what they hold longer to show.
-#[derive(Drop)]
 pub struct WorkerSide<'a> {
     board: &'a Board,
     claims: &'a Claims,
@@ -184,6 +200,17 @@ pub struct WorkerSide<'a> {
     ghost pass_own: { IsPassOf board.now pass },
     ghost seat_own: { seat.claims ≡ claims.now.id },
     ghost loops: { length board.now.replies ≡ claims.now.loops },
+}
+
+impl Drop for WorkerSide<'_> {
+    fn drop(self) {
+        let WorkerSide {
+            board: _,
+            claims: _,
+            pass: _,
+            seat: _,
+        } = self;
+    }
 }
 
 impl<'a> WorkerSide<'a> {
@@ -198,25 +225,23 @@ impl<'a> WorkerSide<'a> {
         ))
     }
 
-    pub fn work_until_closed<G: Gate, R: Wait>(self, rt: &R, gate: &G) {
+    // Works until the board is closed. Until then this request is held once it is started; no request is 0.
+    pub fn work_until_closed<R: Wait>(self, rt: &R, held: u32) {
         let WorkerSide {
             board,
             claims,
             mut pass,
             mut seat,
         } = self;
-        work_until_closed(rt, board, &mut pass, claims, &mut seat, gate);
-    }
-
-    // The same, but that request 1 is held once it is started, until the board is closed.
-    pub fn work_held<R: Wait>(self, rt: &R) {
-        let board = self.board;
-        self.work_until_closed(rt, &UntilClosed { board });
+        let gate = UntilClosed {
+            board,
+            request: held,
+        };
+        work_until_closed(rt, board, &mut pass, claims, &mut seat, &gate);
     }
 }
 
 // The loop opens its requests in the slots in turn, and pops the job that it posts. It keeps one that was refused.
-#[derive(Drop)]
 pub struct LoopSide<'a> {
     hall: &'a Hall,
     jobs: Vec<JobBox>,
@@ -227,6 +252,19 @@ pub struct LoopSide<'a> {
     ghost pass_own: { IsPassOf hall.now.board pass },
     ghost seat_own: { (seat.claims ≡ hall.now.claims.id) × (seat.loop_no ≡ 0) },
     ghost rising: { (0 < next) × All (λ c. c.1 < next) seat.opened },
+}
+
+impl Drop for LoopSide<'_> {
+    fn drop(self) {
+        let LoopSide {
+            hall: _,
+            jobs: _,
+            pass: _,
+            seat: _,
+            next: _,
+            kept: _,
+        } = self;
+    }
 }
 
 // The largest request that a loop may open here.

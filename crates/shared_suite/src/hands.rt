@@ -8,12 +8,17 @@ use order::Reply;
 use std::sync::Wait;
 use std::test::Fail;
 
-#[derive(Drop)]
 pub struct Hand<'a> {
     board: &'a Board,
     pass: Pass,
     ghost own: { IsPassOf board.now pass },
     ghost loops: { 0 < length board.now.replies },
+}
+
+impl Drop for Hand<'_> {
+    fn drop(self) {
+        let Hand { board: _, pass: _ } = self;
+    }
 }
 
 impl<'a> Hand<'a> {

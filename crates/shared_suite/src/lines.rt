@@ -6,6 +6,7 @@ ghost use Rattle.board.specs.Boards.{IsPassOf, IsNewPass};
 
 use crate::hands::{Hand, two_hands};
 use crate::jobs::Jobs;
+use crate::showing::shows;
 use board::{Board, JobBox};
 use claims::Ticket;
 use std::alloc::{AllocError, Global};
@@ -168,6 +169,6 @@ fn both_jobs(alloc: Global, jobs: &Jobs) -> Result<(Vec<JobBox>, Vec<JobBox>), A
 #[test]
 fn jobs_come_out_in_the_order_of_each_pass(rt: HostRuntime) -> Result<(), Fail> {
     let jobs = both_jobs(rt.alloc(), &Jobs::new(rt.alloc())?)?;
-    assert_eq!(rt; by_four_threads(&rt, rt.alloc(), jobs)?, (true, true));
+    shows(&rt, by_four_threads(&rt, rt.alloc(), jobs)?, (true, true));
     Ok(())
 }

@@ -3,6 +3,7 @@ ghost use Rattle.std.specs.Prelude.{◌≡◌, IfOk};
 ghost use Rattle.phases.specs.View.{IsAbove};
 ghost use Rattle.claims.specs.Views.{new_loop_view};
 
+use crate::showing::shows;
 use claims::{Claims, LoopSeat, NewClaims};
 use marks::Marks;
 use phases::Shared;
@@ -47,6 +48,6 @@ fn seats_share(alloc: Global) -> Result<((bool, bool, u64), u32), AllocError> {
 
 #[test]
 fn seats_are_what_a_loop_shares(rt: HostRuntime) -> Result<(), Fail> {
-    assert_eq!(rt; seats_share(rt.alloc())?, ((true, true, 1), 0));
+    shows(&rt, seats_share(rt.alloc())?, ((true, true, 1), 0));
     Ok(())
 }

@@ -5,6 +5,7 @@ ghost use Rattle.board.specs.Boards.{IsPassOf};
 ghost use Rattle.claims.specs.Views.{new_loop_view};
 
 use crate::gates::UntilClosed;
+use crate::hands::Hand;
 use board::{Board, JobBox, Pass};
 use claims::{Claims, LoopSeat, NewClaims, Ticket, WorkerSeat};
 use limits::MAX_REQUESTS;
@@ -119,10 +120,13 @@ impl Hall {
             worker_seats,
         } = gear;
         let side = LoopSide {
-            hall: self,
-            jobs,
-            pass: loop_pass,
+            hand: Hand {
+                board: &self.board,
+                pass: loop_pass,
+            },
+            claims: &self.claims,
             seat: loop_seat,
+            jobs,
             next: 1,
             kept: None,
         };
@@ -243,24 +247,23 @@ impl<'a> WorkerSide<'a> {
 
 // The loop opens its requests in the slots in turn, and pops the job that it posts. It keeps one that was refused.
 pub struct LoopSide<'a> {
-    hall: &'a Hall,
-    jobs: Vec<JobBox>,
-    pass: Pass,
+    hand: Hand<'a>,
+    claims: &'a Claims,
     seat: LoopSeat,
+    jobs: Vec<JobBox>,
     next: u32,
     kept: Option<JobBox>,
-    ghost pass_own: { IsPassOf hall.now.board pass },
-    ghost seat_own: { (seat.claims ≡ hall.now.claims.id) × (seat.loop_no ≡ 0) },
+    ghost seat_own: { (seat.claims ≡ claims.now.id) × (seat.loop_no ≡ 0) },
     ghost rising: { (0 < next) × All (λ c. c.1 < next) seat.opened },
 }
 
 impl Drop for LoopSide<'_> {
     fn drop(self) {
         let LoopSide {
-            hall: _,
-            jobs: _,
-            pass: _,
+            hand: _,
+            claims: _,
             seat: _,
+            jobs: _,
             next: _,
             kept: _,
         } = self;
@@ -279,13 +282,13 @@ impl<'a> LoopSide<'a> {
             return Err(Fail::from("no number left"));
         }
         let slot = ticket(request).slot;
-        self.hall.claims.open(&mut self.seat, slot, request);
+        self.claims.open(&mut self.seat, slot, request);
         self.next = request + 1;
         Ok(request)
     }
 
     pub fn cancel(&mut self, request: u32) -> bool {
-        self.hall.claims.cancel(&mut self.seat, ticket(request))
+        self.claims.cancel(&mut self.seat, ticket(request))
     }
 
     // Posts the next job. Whether the board took it.
@@ -293,13 +296,11 @@ impl<'a> LoopSide<'a> {
         let Some(job) = self.jobs.pop() else {
             return false;
         };
-        match self.hall.board.post(rt, &mut self.pass, job) {
-            Ok(()) => true,
-            Err(job) => {
-                self.kept = Some(job);
-                false
-            }
-        }
+        let Some(back) = self.hand.offer(rt, job) else {
+            return true;
+        };
+        self.kept = Some(back);
+        false
     }
 
     // Posts the job that was refused. Whether the board took it.
@@ -307,23 +308,22 @@ impl<'a> LoopSide<'a> {
         let Some(job) = self.kept.take() else {
             return false;
         };
-        self.hall.board.post(rt, &mut self.pass, job).is_ok()
+        self.hand.post(rt, job).is_none()
     }
 
     // Puts a reply. Whether the board took it.
     pub fn put_reply<R: Wait>(&mut self, rt: &R, reply: Reply) -> bool
         requires { reply.order.loop_no ≡ 0 }
     {
-        self.hall.board.put_reply(rt, &mut self.pass, reply).is_ok()
+        self.hand.put(rt, reply).is_none()
     }
 
     // Collects a reply. Its request.
     pub fn collect<R: Wait>(&mut self, rt: &R) -> Option<u32> {
-        let reply = self.hall.board.collect(rt, &mut self.pass, 0)?;
-        Some(reply.order.request)
+        self.hand.collect(rt)
     }
 
     pub fn close(&self) {
-        self.hall.board.close();
+        self.hand.board.close();
     }
 }

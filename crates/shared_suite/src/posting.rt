@@ -6,7 +6,7 @@ use crate::jobs::Jobs;
 use crate::showing::shows;
 use board::{Board, Pass};
 use limits::{MAX_JOBS, MAX_LOOPS, MAX_REPLIES};
-use std::alloc::Global;
+use std::alloc::{AllocError, Global};
 use std::process::Abort;
 use std::sync::Wait;
 use std::test::Fail;
@@ -17,7 +17,7 @@ fn pass_on<R: Wait + Abort>(
     jobs: &Jobs,
     poster: &mut Hand<'_>,
     worker: &mut Hand<'_>,
-) -> Result<(), Fail> {
+) -> Result<(), AllocError> {
     shows(rt, worker.take(rt), None);
     shows(rt, poster.post(rt, jobs.job(ticket(1))?), None);
     shows(rt, worker.take(rt), Some(ticket(1)));
@@ -31,7 +31,7 @@ fn pass_on<R: Wait + Abort>(
 }
 
 // So many jobs and replies are taken in, and the next of each comes back.
-fn fill<R: Wait + Abort>(rt: &R, jobs: &Jobs, hand: &mut Hand<'_>) -> Result<(), Fail> {
+fn fill<R: Wait + Abort>(rt: &R, jobs: &Jobs, hand: &mut Hand<'_>) -> Result<(), AllocError> {
     for request in 0..MAX_JOBS as u32 {
         shows(rt, hand.post(rt, jobs.job(ticket(request))?), None);
     }
@@ -45,15 +45,15 @@ fn fill<R: Wait + Abort>(rt: &R, jobs: &Jobs, hand: &mut Hand<'_>) -> Result<(),
     Ok(())
 }
 
-fn by_two_hands<R: Wait + Abort>(rt: &R, alloc: Global, jobs: &Jobs) -> Result<(), Fail> {
+fn by_two_hands<R: Wait + Abort>(rt: &R, alloc: Global, jobs: &Jobs) -> Result<(), AllocError> {
     let (board, mut passes) = Board::new(alloc, 1, 2)?;
-    let (mut poster, mut worker) = two_hands(&board, &mut passes)?;
+    let (mut poster, mut worker) = two_hands(&board, &mut passes);
     pass_on(rt, jobs, &mut poster, &mut worker)
 }
 
-fn by_one_hand<R: Wait + Abort>(rt: &R, alloc: Global, jobs: &Jobs) -> Result<(), Fail> {
+fn by_one_hand<R: Wait + Abort>(rt: &R, alloc: Global, jobs: &Jobs) -> Result<(), AllocError> {
     let (board, mut passes) = Board::new(alloc, 2, 2)?;
-    let (mut hand, _other) = two_hands(&board, &mut passes)?;
+    let (mut hand, _other) = two_hands(&board, &mut passes);
     fill(rt, jobs, &mut hand)
 }
 
@@ -63,7 +63,8 @@ fn what_one_pass_posts_another_takes_and_a_full_line_gives_back(
 ) -> Result<(), Fail> {
     let jobs = Jobs::new(rt.alloc())?;
     by_two_hands(&rt, rt.alloc(), &jobs)?;
-    by_one_hand(&rt, rt.alloc(), &jobs)
+    by_one_hand(&rt, rt.alloc(), &jobs)?;
+    Ok(())
 }
 
 fn is_closed_once(rt: &impl Abort, board: &Board) {

@@ -51,8 +51,9 @@ pub struct Gear {
     worker_seats: Vec<WorkerSeat>,
 }
 
+// Claims for one loop and so many workers, with their seats.
 #[tactic(auto, using(crate::proofs::Crew::all_own))]
-fn with_workers(
+pub fn with_workers(
     alloc: Global,
     workers: u32,
 ) -> Result<(Claims, LoopSeat, Vec<WorkerSeat>), AllocError>

@@ -2,6 +2,7 @@
 ghost use Rattle.std.specs.Prelude.{◌≡◌};
 
 use crate::serving::{ample, served};
+use crate::showing::shows;
 use serve::LoopEnding;
 use std::sync::Wait;
 use std::test::Fail;
@@ -68,6 +69,6 @@ fn keeps_the_law<R: Threads + Wait + Sync + AllocGlobal>(rt: &R) -> Result<bool,
 #[test]
 fn cancels_of_one_callback_are_answered_apart(rt: HostRuntime) -> Result<(), Fail> {
     let kept = keeps_the_law(&rt)?;
-    assert!(rt; kept);
+    shows(&rt, kept, true);
     Ok(())
 }

@@ -3,12 +3,12 @@ ghost use Rattle.std.specs.Prelude.{◌≡◌};
 ghost use Rattle.std.specs.Thread.{IsSync};
 
 use crate::gates::{Open, comes};
-use crate::hall::{End, Hall, LoopSide, WorkerSide, ticket};
+use crate::hall::{End, LoopSide, Spares, WorkerSide, ticket};
 use crate::jobs::Jobs;
-use board::JobBox;
+use crate::scenes::{Scene, played};
+use crate::showing::shows;
 use claims::Ticket;
 use pool::{Gate, Point};
-use std::alloc::Global;
 use std::sync::Wait;
 use std::sync::atomic::{AtomicU64, Ordering};
 use std::test::Fail;
@@ -16,12 +16,22 @@ use std::thread;
 use std::thread::Threads;
 
 // Holds a worker at one point until it is let go.
-#[derive(Drop)]
 struct HoldAt {
     point: Point,
     reached: AtomicU64,
     let_go: AtomicU64,
     ran_out: AtomicU64,
+}
+
+impl Drop for HoldAt {
+    fn drop(self) {
+        let HoldAt {
+            point: _,
+            reached: _,
+            let_go: _,
+            ran_out: _,
+        } = self;
+    }
 }
 
 impl HoldAt {
@@ -64,7 +74,7 @@ struct Seen {
 }
 
 // Where the request is cancelled.
-#[derive(Clone, Copy, Debug)]
+#[derive(Clone, Copy, Debug, PartialEq)]
 enum When {
     Opened,
     Posted,
@@ -135,22 +145,18 @@ fn turn<R: Threads + Wait + Sync>(
     })
 }
 
-// By one worker, with these jobs.
-fn in_hall<R: Threads + Wait + Sync>(
-    rt: &R,
-    alloc: Global,
-    jobs: &Jobs,
-    made: Vec<JobBox>,
-    when: When,
-) -> Result<Seen, Fail> {
-    let (hall, gear) = Hall::new(alloc, 1)?;
-    let (mut side, mut spares) = hall.settle(made, gear);
-    turn(rt, jobs, &mut side, &mut spares.worker()?, when)
-}
+impl Scene for When {
+    type Seen = Seen;
 
-fn cancelled<R: Threads + Wait + Sync>(rt: &R, alloc: Global, when: When) -> Result<Seen, Fail> {
-    let jobs = Jobs::new(alloc)?;
-    in_hall(rt, alloc, &jobs, jobs.in_turn(1)?, when)
+    fn play<R: Threads + Wait + Sync>(
+        &self,
+        rt: &R,
+        jobs: &Jobs,
+        side: &mut LoopSide<'_>,
+        spares: &mut Spares<'_>,
+    ) -> Result<Seen, Fail> {
+        turn(rt, jobs, side, &mut spares.worker()?, *self)
+    }
 }
 
 #[test]
@@ -184,8 +190,8 @@ fn a_request_is_cancelled_until_it_is_started(rt: HostRuntime) -> Result<(), Fai
         (When::HeldAt(Point::Replied), replied),
     ];
     for (when, expected) in cases {
-        let seen = cancelled(&rt, rt.alloc(), when)?;
-        assert_eq!(rt; seen, expected, "{when:?}");
+        let seen = played(&rt, rt.alloc(), &when, 1, 1)?;
+        shows(&rt, (when, seen), (when, (expected, 1)));
     }
     Ok(())
 }

@@ -3,6 +3,7 @@ ghost use Rattle.std.specs.Prelude.{◌≡◌, ◌+◌, ◌^◌, ◌<◌, All, I
 ghost use Rattle.limits.specs.declared.TheConstants.{MAX_REQUESTS};
 ghost use Rattle.claims.specs.Views.{new_loop_view, new_worker_view};
 
+use crate::showing::shows;
 use claims::{Claims, LoopSeat, NewClaims, Ticket, WorkerSeat};
 use limits::{MAX_LOOPS, MAX_WORKERS};
 use std::alloc::{AllocError, Global};
@@ -15,16 +16,26 @@ use std::thread::{Promise, Threads};
 const ROUNDS: u32 = 1_000;
 
 // A thread gives a loop's seat back with the requests that it had opened.
-#[derive(Drop)]
 struct SameLoop(Snapshot<LoopSeat>);
+
+impl Drop for SameLoop {
+    fn drop(self) {
+        let SameLoop(_) = self;
+    }
+}
 
 impl Promise<(bool, LoopSeat)> for SameLoop {
     ghost kept_by = { λ p r. (r.1.claims ≡ p.0.value.claims) × (r.1.loop_no ≡ p.0.value.loop_no) × (r.1.opened ≡ p.0.value.opened) };
 }
 
 // A thread gives a worker's seat of the same claims back.
-#[derive(Drop)]
 struct SameWorker(Snapshot<WorkerSeat>);
+
+impl Drop for SameWorker {
+    fn drop(self) {
+        let SameWorker(_) = self;
+    }
+}
 
 impl Promise<(bool, WorkerSeat)> for SameWorker {
     ghost kept_by = { λ p r. r.1.claims ≡ p.0.value.claims };
@@ -153,10 +164,10 @@ fn one_of_cancel_and_start_wins(rt: HostRuntime) -> Result<(), Fail> {
         loop_seat = canceller;
         worker_seat = starter;
         let then = again(&claims, &mut loop_seat, &mut worker_seat, ticket);
-        assert_eq!(rt;
-            (cancelled != started, then),
-            (true, (false, false)),
-            "{round}"
+        shows(
+            &rt,
+            (round, cancelled != started, then),
+            (round, true, (false, false)),
         );
     }
     Ok(())
@@ -169,7 +180,7 @@ fn an_open_request_is_started(rt: HostRuntime) -> Result<(), Fail> {
         let ticket = opened(&claims, &mut loop_seat, round + 1);
         let started = claims.start(&mut worker_seat, ticket);
         let then = again(&claims, &mut loop_seat, &mut worker_seat, ticket);
-        assert_eq!(rt; (started, then), (true, (false, false)), "{round}");
+        shows(&rt, (round, started, then), (round, true, (false, false)));
     }
     Ok(())
 }
@@ -204,21 +215,48 @@ fn opens_anew(
 fn a_slot_opened_anew_is_not_the_old_request(rt: HostRuntime) -> Result<(), Fail> {
     let (claims, mut loop_seat, mut worker_seat) = one_of_each(rt.alloc())?;
     let seen = opens_anew(&claims, &mut loop_seat, &mut worker_seat);
-    assert_eq!(rt; seen, (true, false, true));
+    shows(&rt, seen, (true, false, true));
     Ok(())
+}
+
+// How many loops' seats there are, if they are numbered in turn.
+fn loops_in_turn(seats: &[LoopSeat]) -> Option<u32> {
+    let mut count = 0;
+    for seat in seats {
+        if seat.loop_no() != count {
+            return None;
+        }
+        count = count.checked_add(1)?;
+    }
+    Some(count)
+}
+
+// How many workers' seats there are, if they are numbered in turn.
+fn workers_in_turn(seats: &[WorkerSeat]) -> Option<u32> {
+    let mut count = 0;
+    for seat in seats {
+        if seat.worker_no() != count {
+            return None;
+        }
+        count = count.checked_add(1)?;
+    }
+    Some(count)
 }
 
 #[test]
 fn seats_are_numbered(rt: HostRuntime) -> Result<(), Fail> {
     let opened = Claims::new(rt.alloc(), MAX_LOOPS, MAX_WORKERS)?;
-    let loops = opened.loop_seats.iter().map(|seat| seat.loop_no());
-    let workers = opened.worker_seats.iter().map(|seat| seat.worker_no());
-    let told = (
-        opened.claims.loops(),
-        loops.eq(0..MAX_LOOPS),
-        workers.eq(0..MAX_WORKERS),
+    shows(&rt, opened.claims.loops(), MAX_LOOPS);
+    shows(
+        &rt,
+        loops_in_turn(opened.loop_seats.as_slice()),
+        Some(MAX_LOOPS),
     );
-    assert_eq!(rt; told, (MAX_LOOPS, true, true));
+    shows(
+        &rt,
+        workers_in_turn(opened.worker_seats.as_slice()),
+        Some(MAX_WORKERS),
+    );
     Ok(())
 }
 
@@ -239,6 +277,6 @@ fn joins(claims: &Claims, loop_seat: &mut LoopSeat, mut worker_seat: WorkerSeat)
 fn a_joined_worker_tells_what_it_started(rt: HostRuntime) -> Result<(), Fail> {
     let (claims, mut loop_seat, worker_seat) = one_of_each(rt.alloc())?;
     let told = joins(&claims, &mut loop_seat, worker_seat);
-    assert_eq!(rt; told, (true, true));
+    shows(&rt, told, (true, true));
     Ok(())
 }

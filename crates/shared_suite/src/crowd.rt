@@ -1,13 +1,13 @@
 // Several workers that work until the board is closed, on a line of replies that is full at first.
 ghost use Rattle.std.specs.Prelude.{◌≡◌};
-ghost use Rattle.std.specs.Thread.{IsSync};
 
-use crate::gates::{Open, comes};
-use crate::hall::{Hall, LoopSide, Spares, ticket};
+use crate::gates::comes;
+use crate::hall::{LoopSide, Spares, ticket};
 use crate::jobs::Jobs;
-use board::JobBox;
+use crate::scenes::{Scene, Watch, at_work, played};
+use crate::showing::shows;
 use limits::MAX_REPLIES;
-use std::alloc::{AllocError, Global};
+use std::alloc::AllocError;
 use std::sync::Wait;
 use std::test::Fail;
 use std::thread;
@@ -80,49 +80,6 @@ fn collect<R: Wait>(rt: &R, side: &mut LoopSide<'_>, most: usize) -> Times {
     times
 }
 
-// The workers, in a thread each.
-fn start<'s, R: Wait + Sync, E>(
-    scope: &thread::Scope<'s, E>,
-    rt: &'s R,
-    mut spares: Spares<'s>,
-) -> Result<(), AllocError>
-    requires { IsSync R.row }
-{
-    for _ in 0..WORKERS {
-        let worker = spares.worker()?;
-        scope.spawn(
-            move ||
-                requires { IsSync R.row }
-            { worker.work_until_closed(rt, &Open) },
-        )?;
-    }
-    Ok(())
-}
-
-// How many jobs the workers call while the line is full, and what is collected then. The board is closed at the end.
-fn watch<R: Threads + Wait + Sync>(
-    rt: &R,
-    jobs: &Jobs,
-    mut side: LoopSide<'_>,
-    spares: Spares<'_>,
-    most: usize,
-) -> Result<(u64, Times), AllocError> {
-    thread::scope(
-        thread::scope_env(),
-        rt,
-        move |scope| -> Result<(u64, Times), AllocError>
-            requires { IsSync R.row }
-        {
-            let started = start(scope, rt, spares);
-            let called = called_while_full(jobs);
-            let times = collect(rt, &mut side, most);
-            side.close();
-            started?;
-            Ok((called, times))
-        },
-    )
-}
-
 // Fills the line of replies and posts the jobs.
 fn load<R: Wait>(rt: &R, jobs: &Jobs, side: &mut LoopSide<'_>) -> Result<(), Fail> {
     if !fill(rt, jobs, side)? || !post_all(rt, side)? {
@@ -131,40 +88,62 @@ fn load<R: Wait>(rt: &R, jobs: &Jobs, side: &mut LoopSide<'_>) -> Result<(), Fai
     Ok(())
 }
 
-// The workers on these jobs, where so many replies are collected before the board is closed.
-fn worked<R: Threads + Wait + Sync>(
-    rt: &R,
-    alloc: Global,
-    jobs: &Jobs,
-    made: Vec<JobBox>,
-    most: usize,
-) -> Result<(u64, Times), Fail> {
-    let (hall, gear) = Hall::new(alloc, WORKERS)?;
-    let (mut side, spares) = hall.settle(made, gear);
-    load(rt, jobs, &mut side)?;
-    Ok(watch(rt, jobs, side, spares, most)?)
-}
-
-// What was seen of the posted jobs: how many were called while the line was full, how often each was collected, how many
-// were called at the end, and how many owners the counter of calls has once the board is gone.
+// What was seen of the posted jobs: how many were called while the line was full, how often each was collected, and how
+// many were called at the end.
 #[derive(Clone, Copy, Debug, PartialEq)]
 struct Seen {
     called_while_full: u64,
     times: Times,
     calls: u64,
-    owners: usize,
 }
 
-fn watched<R: Threads + Wait + Sync>(rt: &R, alloc: Global, most: usize) -> Result<Seen, Fail> {
-    let jobs = Jobs::new(alloc)?;
-    let made = jobs.in_turn(POSTED as u32)?;
-    let (called_while_full, times) = worked(rt, alloc, &jobs, made, most)?;
-    Ok(Seen {
-        called_while_full,
-        times,
-        calls: jobs.called(),
-        owners: jobs.owners(),
-    })
+// So many replies are collected before the board is closed.
+#[derive(Clone, Copy)]
+struct Crowd {
+    most: usize,
+}
+
+impl Scene for Crowd {
+    type Seen = Seen;
+
+    fn play<R: Threads + Wait + Sync>(
+        &self,
+        rt: &R,
+        jobs: &Jobs,
+        side: &mut LoopSide<'_>,
+        spares: &mut Spares<'_>,
+    ) -> Result<Seen, Fail> {
+        load(rt, jobs, side)?;
+        let most = self.most;
+        let (called_while_full, times) = at_work(
+            rt,
+            &Collecting { jobs, most },
+            side,
+            spares,
+            WORKERS,
+            0,
+        )?;
+        Ok(Seen {
+            called_while_full,
+            times,
+            calls: jobs.called(),
+        })
+    }
+}
+
+// How many jobs the workers call while the line is full, and what is collected then.
+#[derive(Clone, Copy)]
+struct Collecting<'a> {
+    jobs: &'a Jobs,
+    most: usize,
+}
+
+impl Watch for Collecting<'_> {
+    type Seen = (u64, Times);
+
+    fn watch<R: Wait>(&self, rt: &R, side: &mut LoopSide<'_>) -> (u64, Times) {
+        (called_while_full(self.jobs), collect(rt, side, self.most))
+    }
 }
 
 #[test]
@@ -173,9 +152,12 @@ fn a_refused_reply_is_put_once_there_is_room(rt: HostRuntime) -> Result<(), Fail
         called_while_full: u64::from(WORKERS),
         times: [1; POSTED],
         calls: POSTED as u64,
-        owners: 1,
     };
-    assert_eq!(rt; watched(&rt, rt.alloc(), MAX_REPLIES + POSTED)?, expected);
+    let crowd = Crowd {
+        most: MAX_REPLIES + POSTED,
+    };
+    let seen = played(&rt, rt.alloc(), &crowd, WORKERS, POSTED as u32)?;
+    shows(&rt, seen, (expected, 1));
     Ok(())
 }
 
@@ -185,8 +167,8 @@ fn workers_end_though_their_replies_are_refused(rt: HostRuntime) -> Result<(), F
         called_while_full: u64::from(WORKERS),
         times: [0; POSTED],
         calls: u64::from(WORKERS),
-        owners: 1,
     };
-    assert_eq!(rt; watched(&rt, rt.alloc(), 0)?, expected);
+    let seen = played(&rt, rt.alloc(), &Crowd { most: 0 }, WORKERS, POSTED as u32)?;
+    shows(&rt, seen, (expected, 1));
     Ok(())
 }

@@ -13,15 +13,16 @@ impl Gate for Open {
     fn at(&self, _point: Point, _ticket: Ticket) {}
 }
 
-// A gate that holds request 1 once it is started, until the board is closed, for at most 1,000,000 turns.
-#[derive(Drop)]
+// A gate that holds one request once it is started, until the board is closed, for at most 1,000,000 turns.
+#[derive(Clone, Copy)]
 pub struct UntilClosed<'a> {
     pub board: &'a Board,
+    pub request: u32,
 }
 
 impl Gate for UntilClosed<'_> {
     fn at(&self, point: Point, ticket: Ticket) {
-        if point != Point::Started || ticket.request != 1 {
+        if point != Point::Started || ticket.request != self.request {
             return;
         }
         for _ in 0..1_000_000 {

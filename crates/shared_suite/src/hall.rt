@@ -5,6 +5,7 @@ ghost use Rattle.board.specs.Boards.{IsPassOf};
 ghost use Rattle.claims.specs.Views.{new_loop_view};
 
 use crate::gates::UntilClosed;
+use crate::hands::Hand;
 use board::{Board, JobBox, Pass};
 use claims::{Claims, LoopSeat, NewClaims, Ticket, WorkerSeat};
 use limits::MAX_REQUESTS;
@@ -26,11 +27,19 @@ pub fn ticket(request: u32) -> Ticket
     }
 }
 
-#[derive(Drop)]
 pub struct Hall {
     pub board: Board,
     pub claims: Claims,
     ghost loops: { (length board.replies ≡ 1) × (claims.loops ≡ 1) },
+}
+
+impl Drop for Hall {
+    fn drop(self) {
+        let Hall {
+            board: _,
+            claims: _,
+        } = self;
+    }
 }
 
 // What a new hall hands out.
@@ -42,8 +51,9 @@ pub struct Gear {
     worker_seats: Vec<WorkerSeat>,
 }
 
+// Claims for one loop and so many workers, with their seats.
 #[tactic(auto, using(crate::proofs::Crew::all_own))]
-fn with_workers(
+pub fn with_workers(
     alloc: Global,
     workers: u32,
 ) -> Result<(Claims, LoopSeat, Vec<WorkerSeat>), AllocError>
@@ -111,10 +121,13 @@ impl Hall {
             worker_seats,
         } = gear;
         let side = LoopSide {
-            hall: self,
-            jobs,
-            pass: loop_pass,
+            hand: Hand {
+                board: &self.board,
+                pass: loop_pass,
+            },
+            claims: &self.claims,
             seat: loop_seat,
+            jobs,
             next: 1,
             kept: None,
         };
@@ -128,7 +141,6 @@ impl Hall {
 }
 
 // The passes and seats that no worker has yet.
-#[derive(Drop)]
 pub struct Spares<'a> {
     hall: &'a Hall,
     passes: Vec<Pass>,
@@ -137,14 +149,24 @@ pub struct Spares<'a> {
     ghost seats_own: { All (λ s. s.claims ≡ hall.now.claims.id) seats.items },
 }
 
+impl Drop for Spares<'_> {
+    fn drop(self) {
+        let Spares {
+            hall: _,
+            passes: _,
+            seats: _,
+        } = self;
+    }
+}
+
 impl<'a> Spares<'a> {
     // The next worker's side.
     pub fn worker(&mut self) -> Result<WorkerSide<'a>, AllocError> {
-        if self.passes.is_empty() || self.seats.is_empty() {
+        let Some(pass) = self.passes.pop() else {
             return Err(AllocError);
-        }
-        let (Some(pass), Some(seat)) = (self.passes.pop(), self.seats.pop()) else {
-            unreachable!()
+        };
+        let Some(seat) = self.seats.pop() else {
+            return Err(AllocError);
         };
         Ok(WorkerSide {
             board: &self.hall.board,
@@ -175,7 +197,6 @@ fn end_of(did: Did) -> End {
 
 // It refers to the board and the claims, not to their hall: threads hold it, and each type that is in between makes
 // `Send` of what they hold longer to show.
-#[derive(Drop)]
 pub struct WorkerSide<'a> {
     board: &'a Board,
     claims: &'a Claims,
@@ -184,6 +205,17 @@ pub struct WorkerSide<'a> {
     ghost pass_own: { IsPassOf board.now pass },
     ghost seat_own: { seat.claims ≡ claims.now.id },
     ghost loops: { length board.now.replies ≡ claims.now.loops },
+}
+
+impl Drop for WorkerSide<'_> {
+    fn drop(self) {
+        let WorkerSide {
+            board: _,
+            claims: _,
+            pass: _,
+            seat: _,
+        } = self;
+    }
 }
 
 impl<'a> WorkerSide<'a> {
@@ -198,35 +230,45 @@ impl<'a> WorkerSide<'a> {
         ))
     }
 
-    pub fn work_until_closed<G: Gate, R: Wait>(self, rt: &R, gate: &G) {
+    // Works until the board is closed. Until then this request is held once it is started; no request is 0.
+    pub fn work_until_closed<R: Wait>(self, rt: &R, held: u32) {
         let WorkerSide {
             board,
             claims,
             mut pass,
             mut seat,
         } = self;
-        work_until_closed(rt, board, &mut pass, claims, &mut seat, gate);
-    }
-
-    // The same, but that request 1 is held once it is started, until the board is closed.
-    pub fn work_held<R: Wait>(self, rt: &R) {
-        let board = self.board;
-        self.work_until_closed(rt, &UntilClosed { board });
+        let gate = UntilClosed {
+            board,
+            request: held,
+        };
+        work_until_closed(rt, board, &mut pass, claims, &mut seat, &gate);
     }
 }
 
 // The loop opens its requests in the slots in turn, and pops the job that it posts. It keeps one that was refused.
-#[derive(Drop)]
 pub struct LoopSide<'a> {
-    hall: &'a Hall,
-    jobs: Vec<JobBox>,
-    pass: Pass,
+    hand: Hand<'a>,
+    claims: &'a Claims,
     seat: LoopSeat,
+    jobs: Vec<JobBox>,
     next: u32,
     kept: Option<JobBox>,
-    ghost pass_own: { IsPassOf hall.now.board pass },
-    ghost seat_own: { (seat.claims ≡ hall.now.claims.id) × (seat.loop_no ≡ 0) },
+    ghost seat_own: { (seat.claims ≡ claims.now.id) × (seat.loop_no ≡ 0) },
     ghost rising: { (0 < next) × All (λ c. c.1 < next) seat.opened },
+}
+
+impl Drop for LoopSide<'_> {
+    fn drop(self) {
+        let LoopSide {
+            hand: _,
+            claims: _,
+            seat: _,
+            jobs: _,
+            next: _,
+            kept: _,
+        } = self;
+    }
 }
 
 // The largest request that a loop may open here.
@@ -241,13 +283,13 @@ impl<'a> LoopSide<'a> {
             return Err(Fail::from("no number left"));
         }
         let slot = ticket(request).slot;
-        self.hall.claims.open(&mut self.seat, slot, request);
+        self.claims.open(&mut self.seat, slot, request);
         self.next = request + 1;
         Ok(request)
     }
 
     pub fn cancel(&mut self, request: u32) -> bool {
-        self.hall.claims.cancel(&mut self.seat, ticket(request))
+        self.claims.cancel(&mut self.seat, ticket(request))
     }
 
     // Posts the next job. Whether the board took it.
@@ -255,13 +297,11 @@ impl<'a> LoopSide<'a> {
         let Some(job) = self.jobs.pop() else {
             return false;
         };
-        match self.hall.board.post(rt, &mut self.pass, job) {
-            Ok(()) => true,
-            Err(job) => {
-                self.kept = Some(job);
-                false
-            }
-        }
+        let Some(back) = self.hand.offer(rt, job) else {
+            return true;
+        };
+        self.kept = Some(back);
+        false
     }
 
     // Posts the job that was refused. Whether the board took it.
@@ -269,23 +309,22 @@ impl<'a> LoopSide<'a> {
         let Some(job) = self.kept.take() else {
             return false;
         };
-        self.hall.board.post(rt, &mut self.pass, job).is_ok()
+        self.hand.post(rt, job).is_none()
     }
 
     // Puts a reply. Whether the board took it.
     pub fn put_reply<R: Wait>(&mut self, rt: &R, reply: Reply) -> bool
         requires { reply.order.loop_no ≡ 0 }
     {
-        self.hall.board.put_reply(rt, &mut self.pass, reply).is_ok()
+        self.hand.put(rt, reply).is_none()
     }
 
     // Collects a reply. Its request.
     pub fn collect<R: Wait>(&mut self, rt: &R) -> Option<u32> {
-        let reply = self.hall.board.collect(rt, &mut self.pass, 0)?;
-        Some(reply.order.request)
+        self.hand.collect(rt)
     }
 
     pub fn close(&self) {
-        self.hall.board.close();
+        self.hand.board.close();
     }
 }

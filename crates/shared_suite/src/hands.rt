@@ -1,35 +1,34 @@
 // A board with one of its passes.
-ghost use Rattle.std.specs.Prelude.{◌≡◌, ◌<◌, length, All};
+ghost use Rattle.std.specs.Prelude.{◌≡◌, ◌+◌, ◌<◌, ◌≤◌, length, All};
 ghost use Rattle.board.specs.Boards.{IsPassOf, IsNewPass};
 
 use board::{Board, JobBox, Pass};
 use claims::Ticket;
 use order::Reply;
 use std::sync::Wait;
-use std::test::Fail;
 
-#[derive(Drop)]
 pub struct Hand<'a> {
-    board: &'a Board,
-    pass: Pass,
+    pub board: &'a Board,
+    pub pass: Pass,
     ghost own: { IsPassOf board.now pass },
     ghost loops: { 0 < length board.now.replies },
 }
 
-impl<'a> Hand<'a> {
-    // With the next of the board's passes.
-    fn next(board: &'a Board, passes: &mut Vec<Pass>) -> Option<Hand<'a>>
-        requires loops { 0 < length board.now.replies }
-        requires passes { All (IsNewPass board.now) passes.old.items }
-        ensures { All (IsNewPass board.now) passes.new.items }
-    {
-        let pass = passes.pop()?;
-        Some(Hand { board, pass })
+impl Drop for Hand<'_> {
+    fn drop(self) {
+        let Hand { board: _, pass: _ } = self;
+    }
+}
+
+impl Hand<'_> {
+    // Posts a job. The one that comes back.
+    pub fn offer<R: Wait>(&mut self, rt: &R, job: JobBox) -> Option<JobBox> {
+        self.board.post(rt, &mut self.pass, job).err()
     }
 
     // Posts a job. The ticket of one that comes back.
     pub fn post<R: Wait>(&mut self, rt: &R, job: JobBox) -> Option<Ticket> {
-        let back = self.board.post(rt, &mut self.pass, job).err()?;
+        let back = self.offer(rt, job)?;
         Some(back.ticket)
     }
 
@@ -54,12 +53,16 @@ impl<'a> Hand<'a> {
     }
 }
 
-pub fn two_hands<'a>(board: &'a Board, passes: &mut Vec<Pass>) -> Result<(Hand<'a>, Hand<'a>), Fail>
+// With two of the board's passes.
+pub fn two_hands<'a>(board: &'a Board, passes: &mut Vec<Pass>) -> (Hand<'a>, Hand<'a>)
     requires loops { 0 < length board.now.replies }
+    requires count { 2 ≤ length passes.old.items }
     requires passes { All (IsNewPass board.now) passes.old.items }
-    ensures { All (IsNewPass board.now) passes.new.items }
+    ensures count { length passes.old.items ≡ length passes.new.items + 2 }
+    ensures passes { All (IsNewPass board.now) passes.new.items }
 {
-    let one = Hand::next(board, passes);
-    let two = Hand::next(board, passes);
-    Ok((one.ok_or("no pass")?, two.ok_or("no pass")?))
+    let (Some(one), Some(two)) = (passes.pop(), passes.pop()) else {
+        unreachable!()
+    };
+    (Hand { board, pass: one }, Hand { board, pass: two })
 }

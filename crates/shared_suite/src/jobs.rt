@@ -18,12 +18,22 @@ use std::sync::atomic::{AtomicU64, Ordering};
 use std::test::Fail;
 
 // What jobs are made of, and how often they were called.
-#[derive(Drop)]
 pub struct Jobs {
-    alloc: Global,
+    pub alloc: Global,
     module: Arc<Linked>,
     bytes: Arc<Vec<u8>>,
     pub calls: Arc<AtomicU64>,
+}
+
+impl Drop for Jobs {
+    fn drop(self) {
+        let Jobs {
+            alloc: _,
+            module: _,
+            bytes: _,
+            calls: _,
+        } = self;
+    }
 }
 
 // Their module has a work function, and their bytes are none. A test needs to know nothing of them.
@@ -70,17 +80,23 @@ impl Jobs {
     fn into_reply(self, ticket: Ticket) -> Reply
         ensures { ticket_of result.order ≡ ticket }
     {
+        let Jobs {
+            alloc,
+            module,
+            bytes,
+            calls: _,
+        } = self;
         let order = Order {
             loop_no: ticket.loop_no,
             request: ticket.request,
             slot: ticket.slot,
-            module: self.module,
+            module,
             op: 0,
-            bytes: self.bytes,
+            bytes,
             fuel: 0,
             depth: 1,
         };
-        order.run(self.alloc)
+        order.run(alloc)
     }
 
     // The reply to the ticket's request.

@@ -29,8 +29,12 @@ mod modules;
 #[cfg(test)]
 mod posting;
 #[cfg(test)]
+mod scenes;
+#[cfg(test)]
 mod seating;
 #[cfg(test)]
 mod serving;
+#[cfg(test)]
+mod showing;
 #[cfg(test)]
 mod turns;

@@ -1,11 +1,11 @@
 // Jobs that two threads take while two others post.
-ghost use Rattle.std.specs.Prelude.{◌≡◌, ◌<◌, All};
+ghost use Rattle.std.specs.Prelude.{◌≡◌, ◌<◌};
 ghost use Rattle.std.specs.Thread.{IsSync};
 ghost use Rattle.limits.specs.declared.TheConstants.{MAX_LOOPS};
-ghost use Rattle.board.specs.Boards.{IsPassOf, IsNewPass};
 
 use crate::hands::{Hand, two_hands};
 use crate::jobs::Jobs;
+use crate::showing::shows;
 use board::{Board, JobBox};
 use claims::Ticket;
 use std::alloc::{AllocError, Global};
@@ -92,13 +92,13 @@ fn start_to_post<'s, R: Wait + Sync, E>(
     Ok(())
 }
 
-// What two threads take while two others post.
+// Whether two threads take the jobs of each of two others in their order.
 fn post_and_take<R: Threads + Wait + Sync>(
     rt: &R,
     posters: (Hand<'_>, Hand<'_>),
     takers: (Hand<'_>, Hand<'_>),
     jobs: (Vec<JobBox>, Vec<JobBox>),
-) -> Result<(TakenOfBoth, TakenOfBoth), AllocError> {
+) -> Result<(bool, bool), AllocError> {
     let count = AtomicU64::new(0);
     let count = &count;
     let (one, two) = posters;
@@ -107,14 +107,14 @@ fn post_and_take<R: Threads + Wait + Sync>(
     thread::scope(
         thread::scope_env(),
         rt,
-        move |scope| -> Result<(TakenOfBoth, TakenOfBoth), AllocError>
+        move |scope| -> Result<(bool, bool), AllocError>
             requires { IsSync R.row }
         {
             start_to_post(scope, rt, one, first)?;
             start_to_post(scope, rt, two, second)?;
             let left = scope.spawn(move || take_all(rt, &mut three, count))?;
             let right = take_all(rt, &mut four, count);
-            Ok((left.join(rt), right))
+            Ok(are_both_in_order(&left.join(rt), &right))
         },
     )
 }
@@ -127,6 +127,12 @@ fn are_in_order(left: &Taken, right: &Taken) -> bool {
         }
     }
     left.rises && right.rises
+}
+
+fn are_both_in_order(left: &TakenOfBoth, right: &TakenOfBoth) -> (bool, bool) {
+    let [a, b] = left;
+    let [c, d] = right;
+    (are_in_order(a, c), are_in_order(b, d))
 }
 
 fn hundred_jobs(alloc: Global, jobs: &Jobs, loop_no: u32) -> Result<Vec<JobBox>, AllocError>
@@ -144,30 +150,29 @@ fn hundred_jobs(alloc: Global, jobs: &Jobs, loop_no: u32) -> Result<Vec<JobBox>,
     Ok(made)
 }
 
-// Whether the jobs of each of the two posters are taken in their order.
 fn by_four_threads<R: Threads + Wait + Sync>(
     rt: &R,
     alloc: Global,
     jobs: (Vec<JobBox>, Vec<JobBox>),
-) -> Result<(bool, bool), Fail> {
+) -> Result<(bool, bool), AllocError> {
     let (board, mut passes) = Board::new(alloc, 1, 4)?;
-    let posters = two_hands(&board, &mut passes)?;
-    let takers = two_hands(&board, &mut passes)?;
-    let (left, right) = post_and_take(rt, posters, takers, jobs)?;
-    Ok((
-        are_in_order(&left[0], &right[0]),
-        are_in_order(&left[1], &right[1]),
-    ))
+    let posters = two_hands(&board, &mut passes);
+    let takers = two_hands(&board, &mut passes);
+    post_and_take(rt, posters, takers, jobs)
 }
 
 // Hundred jobs of each of two posters.
-fn both_jobs(alloc: Global, jobs: &Jobs) -> Result<(Vec<JobBox>, Vec<JobBox>), AllocError> {
-    Ok((hundred_jobs(alloc, jobs, 0)?, hundred_jobs(alloc, jobs, 1)?))
+fn both_jobs(alloc: Global) -> Result<(Vec<JobBox>, Vec<JobBox>), Fail> {
+    let jobs = Jobs::new(alloc)?;
+    Ok((
+        hundred_jobs(alloc, &jobs, 0)?,
+        hundred_jobs(alloc, &jobs, 1)?,
+    ))
 }
 
 #[test]
 fn jobs_come_out_in_the_order_of_each_pass(rt: HostRuntime) -> Result<(), Fail> {
-    let jobs = both_jobs(rt.alloc(), &Jobs::new(rt.alloc())?)?;
-    assert_eq!(rt; by_four_threads(&rt, rt.alloc(), jobs)?, (true, true));
+    let jobs = both_jobs(rt.alloc())?;
+    shows(&rt, by_four_threads(&rt, rt.alloc(), jobs)?, (true, true));
     Ok(())
 }

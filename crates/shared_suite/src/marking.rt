@@ -4,6 +4,7 @@ ghost use Rattle.std.specs.Thread.{IsSync};
 ghost use Rattle.tallies.specs.Counts.{none_counted};
 ghost use Rattle.marks.specs.Counts.{new_sender, new_taker};
 
+use crate::showing::{is_told, shows};
 use limits::{MAX_ASYNCS, MAX_SEND_SEATS, MAX_SENDS};
 use marks::{Marks, SendSeat, SendsUsedUp, TakeSeat};
 use std::alloc::{AllocError, Global};
@@ -42,10 +43,10 @@ fn send_times(marks: &Marks, mut seat: SendSeat, times: u32) -> SendSeat
 fn an_unjoined_seats_sends_are_taken_once(rt: HostRuntime) -> Result<(), Fail> {
     let (marks, mut taker, seat) = one_sender(rt.alloc())?;
     let seat = send_times(&marks, seat, 3);
-    assert_eq!(rt; marks.take(&mut taker, 0), 3);
-    assert_eq!(rt; marks.take(&mut taker, 0), 0);
+    shows(&rt, marks.take(&mut taker, 0), 3);
+    shows(&rt, marks.take(&mut taker, 0), 0);
     drop(seat);
-    assert_eq!(rt; marks.take(&mut taker, 0), 0);
+    shows(&rt, marks.take(&mut taker, 0), 0);
     Ok(())
 }
 
@@ -55,7 +56,7 @@ fn a_joined_seats_sends_are_taken(rt: HostRuntime) -> Result<(), Fail> {
     let seat = send_times(&marks, seat, 5);
     let before = marks.take(&mut taker, 0);
     marks.join(&mut taker, seat);
-    assert_eq!(rt; before + marks.take(&mut taker, 0), 5);
+    shows(&rt, before + marks.take(&mut taker, 0), 5);
     Ok(())
 }
 
@@ -76,8 +77,12 @@ fn each_async_counts_by_itself(rt: HostRuntime) -> Result<(), Fail> {
         send_own_times(&marks, &mut taker, async_no, async_no + 1);
     }
     for async_no in 0..MAX_ASYNCS as u32 {
-        assert_eq!(rt; marks.take(&mut taker, async_no), u64::from(async_no) + 1);
-        assert_eq!(rt; marks.take(&mut taker, async_no), 0);
+        shows(
+            &rt,
+            marks.take(&mut taker, async_no),
+            u64::from(async_no) + 1,
+        );
+        shows(&rt, marks.take(&mut taker, async_no), 0);
     }
     Ok(())
 }
@@ -89,16 +94,25 @@ fn all_send_seats_send_and_join(rt: HostRuntime) -> Result<(), Fail> {
         assert_eq!(rt; marks.send(&mut seat, LAST), Ok(()));
         marks.join(&mut taker, seat);
     }
-    assert_eq!(rt; marks.take(&mut taker, LAST), MAX_SEND_SEATS as u64);
+    shows(&rt, marks.take(&mut taker, LAST), MAX_SEND_SEATS as u64);
     Ok(())
 }
 
 // What a loop took while others sent: the sum, and how many takes found something.
-#[derive(Drop)]
 struct Taken {
     taker: TakeSeat,
     sum: u64,
     callbacks: u64,
+}
+
+impl Drop for Taken {
+    fn drop(self) {
+        let Taken {
+            taker: _,
+            sum: _,
+            callbacks: _,
+        } = self;
+    }
 }
 
 // Takes so often from async 0.
@@ -214,18 +228,16 @@ fn race<R: Threads + Sync>(rt: &R, alloc: Global) -> Result<Taken, AllocError>
 #[test]
 fn three_threads_sends_are_taken_once(rt: HostRuntime) -> Result<(), Fail> {
     let taken = race(&rt, rt.alloc())?;
-    assert_eq!(rt; taken.sum, 23);
-    assert!(rt; (1..=23).contains(&taken.callbacks));
+    shows(&rt, taken.sum, 23);
+    shows(&rt, (1..=23).contains(&taken.callbacks), true);
     Ok(())
 }
 
 #[test]
 fn limits_and_their_text(rt: HostRuntime) -> Result<(), Fail> {
-    assert_eq!(rt;
-        (MAX_ASYNCS, MAX_SEND_SEATS, MAX_SENDS),
-        (16, 64, 4_294_967_296)
-    );
+    let limits = (MAX_ASYNCS, MAX_SEND_SEATS, MAX_SENDS);
+    shows(&rt, limits, (16, 64, 4_294_967_296));
     let text = format!(in rt.alloc(); "{SendsUsedUp}")?;
-    assert_eq!(rt; text.as_str(), "the seat's sends are used up");
+    is_told(&rt, text.as_str(), "the seat's sends are used up");
     Ok(())
 }

@@ -3,9 +3,10 @@
 use crate::hall::ticket;
 use crate::hands::{Hand, two_hands};
 use crate::jobs::Jobs;
+use crate::showing::shows;
 use board::{Board, Pass};
 use limits::{MAX_JOBS, MAX_LOOPS, MAX_REPLIES};
-use std::alloc::Global;
+use std::alloc::{AllocError, Global};
 use std::process::Abort;
 use std::sync::Wait;
 use std::test::Fail;
@@ -16,36 +17,43 @@ fn pass_on<R: Wait + Abort>(
     jobs: &Jobs,
     poster: &mut Hand<'_>,
     worker: &mut Hand<'_>,
-) -> Result<(), Fail> {
-    assert_eq!(rt; worker.take(rt), None);
-    assert_eq!(rt; poster.post(rt, jobs.job(ticket(1))?), None);
-    assert_eq!(rt; worker.take(rt), Some(ticket(1)));
-    assert_eq!(rt; worker.put(rt, jobs.reply(ticket(1))?), None);
-    assert_eq!(rt; (poster.collect(rt), poster.collect(rt)), (Some(1), None));
+) -> Result<(), AllocError> {
+    shows(rt, worker.take(rt), None);
+    shows(rt, poster.post(rt, jobs.job(ticket(1))?), None);
+    shows(rt, worker.take(rt), Some(ticket(1)));
+    shows(rt, worker.put(rt, jobs.reply(ticket(1))?), None);
+    shows(
+        rt,
+        (poster.collect(rt), poster.collect(rt)),
+        (Some(1), None),
+    );
     Ok(())
 }
 
 // So many jobs and replies are taken in, and the next of each comes back.
-fn fill<R: Wait + Abort>(rt: &R, jobs: &Jobs, hand: &mut Hand<'_>) -> Result<(), Fail> {
+fn fill<R: Wait + Abort>(rt: &R, jobs: &Jobs, hand: &mut Hand<'_>) -> Result<(), AllocError> {
     for request in 0..MAX_JOBS as u32 {
-        assert_eq!(rt; hand.post(rt, jobs.job(ticket(request))?), None);
+        shows(rt, hand.post(rt, jobs.job(ticket(request))?), None);
     }
     let last = ticket(MAX_JOBS as u32);
-    assert_eq!(rt; hand.post(rt, jobs.job(last)?), Some(last));
+    shows(rt, hand.post(rt, jobs.job(last)?), Some(last));
     for request in 0..MAX_REPLIES as u32 {
-        assert_eq!(rt; hand.put(rt, jobs.reply(ticket(request))?), None);
+        shows(rt, hand.put(rt, jobs.reply(ticket(request))?), None);
     }
     let last = ticket(MAX_REPLIES as u32);
-    assert_eq!(rt; hand.put(rt, jobs.reply(last)?), Some(last.request));
+    shows(rt, hand.put(rt, jobs.reply(last)?), Some(last.request));
     Ok(())
 }
 
-fn on_two_boards<R: Wait + Abort>(rt: &R, alloc: Global, jobs: &Jobs) -> Result<(), Fail> {
+fn by_two_hands<R: Wait + Abort>(rt: &R, alloc: Global, jobs: &Jobs) -> Result<(), AllocError> {
     let (board, mut passes) = Board::new(alloc, 1, 2)?;
-    let (mut poster, mut worker) = two_hands(&board, &mut passes)?;
-    pass_on(rt, jobs, &mut poster, &mut worker)?;
+    let (mut poster, mut worker) = two_hands(&board, &mut passes);
+    pass_on(rt, jobs, &mut poster, &mut worker)
+}
+
+fn by_one_hand<R: Wait + Abort>(rt: &R, alloc: Global, jobs: &Jobs) -> Result<(), AllocError> {
     let (board, mut passes) = Board::new(alloc, 2, 2)?;
-    let (mut hand, _other) = two_hands(&board, &mut passes)?;
+    let (mut hand, _other) = two_hands(&board, &mut passes);
     fill(rt, jobs, &mut hand)
 }
 
@@ -53,13 +61,16 @@ fn on_two_boards<R: Wait + Abort>(rt: &R, alloc: Global, jobs: &Jobs) -> Result<
 fn what_one_pass_posts_another_takes_and_a_full_line_gives_back(
     rt: HostRuntime,
 ) -> Result<(), Fail> {
-    on_two_boards(&rt, rt.alloc(), &Jobs::new(rt.alloc())?)
+    let jobs = Jobs::new(rt.alloc())?;
+    by_two_hands(&rt, rt.alloc(), &jobs)?;
+    by_one_hand(&rt, rt.alloc(), &jobs)?;
+    Ok(())
 }
 
 fn is_closed_once(rt: &impl Abort, board: &Board) {
-    assert_eq!(rt; (board.loops(), board.is_closed()), (MAX_LOOPS, false));
+    shows(rt, (board.loops(), board.is_closed()), (MAX_LOOPS, false));
     board.close();
-    assert!(rt; board.is_closed());
+    shows(rt, board.is_closed(), true);
 }
 
 #[test]

@@ -1,29 +1,14 @@
 // A loop's seats are what it shares.
-ghost use Rattle.std.specs.Prelude.{◌≡◌, IfOk};
+ghost use Rattle.std.specs.Prelude.{◌≡◌};
 ghost use Rattle.phases.specs.View.{IsAbove};
-ghost use Rattle.claims.specs.Views.{new_loop_view};
 
-use claims::{Claims, LoopSeat, NewClaims};
+use crate::hall::with_workers;
+use crate::showing::shows;
 use marks::Marks;
 use phases::Shared;
 use pool::Seats;
 use std::alloc::{AllocError, Global};
 use std::test::Fail;
-
-// Claims for one loop, with its seat.
-fn for_one_loop(alloc: Global) -> Result<(Claims, LoopSeat), AllocError>
-    ensures { IfOk result (λ m. m.1 ≡ new_loop_view m.0.id 0) }
-{
-    let NewClaims {
-        claims,
-        mut loop_seats,
-        worker_seats: _,
-    } = Claims::new(alloc, 1, 0)?;
-    let Some(loop_seat) = loop_seats.pop() else {
-        unreachable!()
-    };
-    Ok((claims, loop_seat))
-}
 
 // Opens and cancels request 1, and sends to async 0 and takes.
 fn shares<B: Shared>(shared: &mut B) -> (bool, bool, u64)
@@ -37,7 +22,7 @@ fn shares<B: Shared>(shared: &mut B) -> (bool, bool, u64)
 
 // What new seats share, and the loop's number in the seat that they give back.
 fn seats_share(alloc: Global) -> Result<((bool, bool, u64), u32), AllocError> {
-    let (claims, loop_seat) = for_one_loop(alloc)?;
+    let (claims, loop_seat, _) = with_workers(alloc, 0)?;
     let (marks, taker, _send_seats) = Marks::new(alloc, 0)?;
     let mut seats = Seats::new(&claims, loop_seat, &marks, taker);
     let shared = shares(&mut seats);
@@ -47,6 +32,6 @@ fn seats_share(alloc: Global) -> Result<((bool, bool, u64), u32), AllocError> {
 
 #[test]
 fn seats_are_what_a_loop_shares(rt: HostRuntime) -> Result<(), Fail> {
-    assert_eq!(rt; seats_share(rt.alloc())?, ((true, true, 1), 0));
+    shows(&rt, seats_share(rt.alloc())?, ((true, true, 1), 0));
     Ok(())
 }

@@ -3,12 +3,14 @@ ghost use Rattle.std.specs.Prelude.{◌≡◌, ◌≤◌};
 ghost use Rattle.board.specs.Jobs.{ticket_of};
 
 use crate::modules::linked_of;
+use crate::showing::is_told;
 use board::JobBox;
 use limits::{MAX_LOOPS, MAX_WORKERS};
 use order::Reply;
 use serve::{Served, Serving, Task, serve};
 use std::alloc::{AllocError, Global};
 use std::fmt::Write;
+use std::process::Abort;
 use std::sync::Wait;
 use std::test::Fail;
 use std::thread::Threads;
@@ -107,6 +109,18 @@ fn text_of(alloc: Global, served: &[Served]) -> Result<String, Fail> {
     Ok(text)
 }
 
+// That these are the lines of the loops that are served so.
+fn check<R: Threads + Wait + Sync + AllocGlobal + Abort>(
+    rt: &R,
+    digits: &str,
+    serving: Serving,
+    wanted: &str,
+) -> Result<(), Fail> {
+    let text = lines(rt, digits, serving)?;
+    is_told(rt, text.as_str(), wanted);
+    Ok(())
+}
+
 #[test]
 fn a_job_that_a_full_board_refused_is_posted_again(rt: HostRuntime) -> Result<(), Fail> {
     let serving = Serving {
@@ -116,30 +130,27 @@ fn a_job_that_a_full_board_refused_is_posted_again(rt: HostRuntime) -> Result<()
         work_fuel: 100_000,
         depth: 64,
     };
-    let one = lines(&rt, FILLS, serving)?;
-    assert_eq!(rt; one.as_str(), "loop 0 over emits 361\n");
-    Ok(())
+    check(&rt, FILLS, serving, "loop 0 over emits 361\n")
 }
 
 #[test]
 fn a_reply_comes_back_to_each_loop(rt: HostRuntime) -> Result<(), Fail> {
-    let text = lines(&rt, ASKS_ONCE, ample(2, 3))?;
-    assert_eq!(rt; text.as_str(), "loop 0 over emits 6\nloop 1 over emits 6\n");
-    Ok(())
+    check(
+        &rt,
+        ASKS_ONCE,
+        ample(2, 3),
+        "loop 0 over emits 6\nloop 1 over emits 6\n",
+    )
 }
 
 #[test]
 fn the_clock_is_raised_to_the_nearest_timer(rt: HostRuntime) -> Result<(), Fail> {
-    let text = lines(&rt, TIMER, ample(1, 1))?;
-    assert_eq!(rt; text.as_str(), "loop 0 over emits 50\n");
-    Ok(())
+    check(&rt, TIMER, ample(1, 1), "loop 0 over emits 50\n")
 }
 
 #[test]
 fn a_repeated_timer_runs_until_it_is_stopped(rt: HostRuntime) -> Result<(), Fail> {
-    let text = lines(&rt, TICKS, ample(1, 1))?;
-    assert_eq!(rt; text.as_str(), "loop 0 over emits 5 15 25\n");
-    Ok(())
+    check(&rt, TICKS, ample(1, 1), "loop 0 over emits 5 15 25\n")
 }
 
 #[test]
@@ -151,9 +162,7 @@ fn work_without_fuel_is_told(rt: HostRuntime) -> Result<(), Fail> {
         work_fuel: 2,
         depth: 64,
     };
-    let text = lines(&rt, ASKS_ONCE, serving)?;
-    assert_eq!(rt; text.as_str(), "loop 0 over emits 0\n");
-    Ok(())
+    check(&rt, ASKS_ONCE, serving, "loop 0 over emits 0\n")
 }
 
 #[test]
@@ -165,49 +174,50 @@ fn a_loop_fails(rt: HostRuntime) -> Result<(), Fail> {
         work_fuel: 1_000_000,
         depth: 3,
     };
-    let text = lines(&rt, CALLS_ITSELF, serving)?;
-    assert_eq!(rt; text.as_str(), "loop 0 failed emits\nloop 1 failed emits\n");
-    Ok(())
+    check(
+        &rt,
+        CALLS_ITSELF,
+        serving,
+        "loop 0 failed emits\nloop 1 failed emits\n",
+    )
 }
 
 #[test]
 fn a_loop_that_nothing_wakes_waits(rt: HostRuntime) -> Result<(), Fail> {
-    let text = lines(&rt, WAITS, ample(1, 1))?;
-    assert_eq!(rt; text.as_str(), "loop 0 waiting emits\n");
-    Ok(())
+    check(&rt, WAITS, ample(1, 1), "loop 0 waiting emits\n")
 }
 
 #[test]
 fn a_loop_ends_at_once_with_its_last_callback(rt: HostRuntime) -> Result<(), Fail> {
-    let text = lines(&rt, COUNTS, ample(1, 1))?;
-    assert_eq!(rt; text.as_str(), "loop 0 limit emits 99998 99999\n");
-    Ok(())
+    check(&rt, COUNTS, ample(1, 1), "loop 0 limit emits 99998 99999\n")
 }
 
 #[test]
 fn a_last_callback_that_fails_is_a_failure(rt: HostRuntime) -> Result<(), Fail> {
-    let text = lines(&rt, TRAPS, ample(1, 1))?;
-    assert_eq!(rt; text.as_str(), "loop 0 failed emits\n");
-    Ok(())
+    check(&rt, TRAPS, ample(1, 1), "loop 0 failed emits\n")
+}
+
+// The lines of as many loops as may be, each of which emits the sum of its results.
+fn all_over(alloc: Global) -> Result<String, Fail> {
+    let mut text = String::new(alloc);
+    for loop_no in 0..MAX_LOOPS {
+        writeln!(text, "loop {loop_no} over emits 992")?;
+    }
+    Ok(text)
 }
 
 #[test]
 fn many_loops_share_many_workers(rt: HostRuntime) -> Result<(), Fail> {
-    let text = lines(&rt, ASKS, ample(MAX_LOOPS, MAX_WORKERS))?;
-    let mut expected = String::new(rt.alloc());
-    for loop_no in 0..MAX_LOOPS {
-        writeln!(expected, "loop {loop_no} over emits 992")?;
-    }
-    assert_eq!(rt; text, expected);
-    Ok(())
+    let wanted = all_over(rt.alloc())?;
+    check(&rt, ASKS, ample(MAX_LOOPS, MAX_WORKERS), wanted.as_str())
 }
 
 #[test]
 fn each_request_has_one_after_work_of_the_right_kind(rt: HostRuntime) -> Result<(), Fail> {
-    let text = lines(&rt, CANCELS, ample(2, 3))?;
-    assert_eq!(rt;
-        text.as_str(),
-        "loop 0 over emits 200 0\nloop 1 over emits 200 0\n"
-    );
-    Ok(())
+    check(
+        &rt,
+        CANCELS,
+        ample(2, 3),
+        "loop 0 over emits 200 0\nloop 1 over emits 200 0\n",
+    )
 }

@@ -1,12 +1,13 @@
 // One worker's turns, with the loop's calls between them.
 use crate::gates::Open;
-use crate::hall::{End, Hall, LoopSide, WorkerSide, ticket};
+use crate::hall::{End, LoopSide, Spares, WorkerSide, ticket};
 use crate::jobs::Jobs;
-use board::JobBox;
+use crate::scenes::{Scene, played};
+use crate::showing::shows;
 use limits::MAX_JOBS;
-use std::alloc::Global;
 use std::sync::Wait;
 use std::test::Fail;
+use std::thread::Threads;
 
 // What was seen of two requests, where the second is cancelled before it is posted.
 #[derive(Clone, Copy, Debug, PartialEq)]
@@ -42,15 +43,20 @@ fn three_turns<R: Wait>(
     })
 }
 
-fn in_three_turns<R: Wait>(
-    rt: &R,
-    alloc: Global,
-    jobs: &Jobs,
-    made: Vec<JobBox>,
-) -> Result<Seen, Fail> {
-    let (hall, gear) = Hall::new(alloc, 1)?;
-    let (mut side, mut spares) = hall.settle(made, gear);
-    three_turns(rt, jobs, &mut side, &mut spares.worker()?)
+struct ThreeTurns;
+
+impl Scene for ThreeTurns {
+    type Seen = Seen;
+
+    fn play<R: Threads + Wait + Sync>(
+        &self,
+        rt: &R,
+        jobs: &Jobs,
+        side: &mut LoopSide<'_>,
+        spares: &mut Spares<'_>,
+    ) -> Result<Seen, Fail> {
+        three_turns(rt, jobs, side, &mut spares.worker()?)
+    }
 }
 
 #[test]
@@ -66,9 +72,11 @@ fn a_started_job_is_called_and_a_cancelled_one_dropped(rt: HostRuntime) -> Resul
         collected: (Some(1), None),
         calls: 1,
     };
-    let jobs = Jobs::new(rt.alloc())?;
-    let seen = in_three_turns(&rt, rt.alloc(), &jobs, jobs.in_turn(2)?)?;
-    assert_eq!(rt; seen, expected);
+    shows(
+        &rt,
+        played(&rt, rt.alloc(), &ThreeTurns, 1, 2)?,
+        (expected, 1),
+    );
     Ok(())
 }
 
@@ -126,15 +134,20 @@ fn full_board<R: Wait>(
     })
 }
 
-fn on_a_full_board<R: Wait>(
-    rt: &R,
-    alloc: Global,
-    jobs: &Jobs,
-    made: Vec<JobBox>,
-) -> Result<SeenFull, Fail> {
-    let (hall, gear) = Hall::new(alloc, 1)?;
-    let (mut side, mut spares) = hall.settle(made, gear);
-    full_board(rt, jobs, &mut side, &mut spares.worker()?)
+struct FullBoard;
+
+impl Scene for FullBoard {
+    type Seen = SeenFull;
+
+    fn play<R: Threads + Wait + Sync>(
+        &self,
+        rt: &R,
+        jobs: &Jobs,
+        side: &mut LoopSide<'_>,
+        spares: &mut Spares<'_>,
+    ) -> Result<SeenFull, Fail> {
+        full_board(rt, jobs, side, &mut spares.worker()?)
+    }
 }
 
 #[test]
@@ -147,8 +160,7 @@ fn a_full_board_of_cancelled_jobs_is_dropped(rt: HostRuntime) -> Result<(), Fail
         calls: 1,
         owners: 1,
     };
-    let jobs = Jobs::new(rt.alloc())?;
-    let seen = on_a_full_board(&rt, rt.alloc(), &jobs, jobs.in_turn(MAX_JOBS as u32 + 1)?)?;
-    assert_eq!(rt; seen, expected);
+    let seen = played(&rt, rt.alloc(), &FullBoard, 1, MAX_JOBS as u32 + 1)?;
+    shows(&rt, seen, (expected, 1));
     Ok(())
 }

@@ -1,6 +1,9 @@
-"""Proves and builds a program of this repository and the libraries below it, several side by side, and says how far it is.
+"""Proves and builds a program of this repository, or a static library for C, and the libraries below it, several side by side, and
+says how far it is.
 
-usage: build.py PROGRAM
+usage: build.py PROGRAM [--over-gate]
+
+With --over-gate the libraries are those that `rt ci` has just proved, in out/rlib, and the program alone is proved and built.
 
 `rt run` alone does the same, one library at a time: rt locks all libraries below the one that it works on. Here the locks
 are taken once for all, as `rt all` takes them, and two or more libraries are built at a time, each once those below it
@@ -31,13 +34,21 @@ MOST_JOBS = 4
 BESIDE, NEARLY = ["nice", "-n", "10"], 0.9
 # How long nothing is said, in seconds.
 QUIET = 30
-# What a crate takes before its first function, and what a function takes, in seconds of one processor of 2.5 GHz.
-START, EACH = 15, 3
+# What the crates took on 4 processors, in seconds, three side by side; another one is guessed to take as long as most.
+TAKES = {
+    "limits": 4, "tallies": 9, "leb": 18, "desk": 32, "world_log": 37, "syntax": 48, "pool": 53, "order": 55, "claims": 60, "instance": 63,
+    "marks": 69, "handles": 71, "interp": 75, "commands": 96, "numeric": 99, "wasmloop": 104, "validate": 112, "imports": 120, "words": 136,
+    "serve": 156, "phases": 167, "engine": 175, "board": 185, "script": 262, "world": 264, "loader": 280, "decode": 324,
+}
+GUESSED = 100
+# How many of those seconds the pace that is seen needs before it counts as much as the one that was measured.
+TRUSTED = 300
 sys.dont_write_bytecode = True
+program_name = "build.py"
 
 
 def say(text):
-    print(f"wasmloop: {text}", file=sys.stderr, flush=True)
+    print(f"{program_name}: {text}", file=sys.stderr, flush=True)
 
 
 def clock(seconds):
@@ -66,42 +77,44 @@ def kit():
 class Plan:
     """The libraries below the program and the program, what each is likely to take, and what has been done."""
 
-    def __init__(self, program):
+    def __init__(self, program, at_once=1):
         self.crates = [*program.below(), program]
-        self.work = {it: START + EACH * functions(it) for it in self.crates}
+        self.at_once = at_once
+        self.work = {it: TAKES.get(it.name, GUESSED) for it in self.crates}
         # what the longest chain of crates from each one up to the program takes (each crate stands behind those that it uses)
         self.behind = {}
         for crate in reversed(self.crates):
             above = [self.behind[it] for it in self.behind if crate in it.deps]
             self.behind[crate] = self.work[crate] + max(above, default=0)
-        self.done, self.began = [], time.monotonic()
+        self.done, self.running, self.began = [], {}, time.monotonic()
+        self.planned, self.taken = TRUSTED, TRUSTED
+
+    def begins(self, crate):
+        self.running[crate] = time.monotonic()
 
     def ended(self, crate, was_built):
         self.done.append(crate)
-        # (what was there is no part of the pace)
-        self.work[crate] *= was_built
+        took = time.monotonic() - self.running.pop(crate)
+        if was_built:
+            self.planned += self.work[crate]
+            self.taken += took
 
     def elapsed(self):
         return time.monotonic() - self.began
 
     def left(self):
-        """Returns how many seconds are left, at the pace so far."""
-        planned = sum(self.work[it] for it in self.done)
-        rest = sum(self.work.values()) - planned
-        # (before the first crate is built, as many processors count as were seen to be used of 2 and of 4)
-        pace = self.elapsed() / planned if planned else len(os.sched_getaffinity(0)) ** -0.75
-        return pace * rest
-
-
-def functions(crate):
-    """Returns how many functions the crate's sources have, leaving out its tests."""
-    found = 0
-    for at, _, names in os.walk(f"{crate.folder}/src"):
-        for name in names:
-            if name.endswith(".rt") and "tests" not in f"{at}/{name}".split("/src", 1)[1]:
-                with open(f"{at}/{name}", encoding="utf-8") as it:
-                    found += len(re.findall(r"(?m)^\s*(?:pub(?:\([^)]*\))? )?fn ", it.read()))
-    return found
+        """Returns how many seconds are left, at the pace so far, where each crate is built once those below it are and a builder is free."""
+        pace, now = self.taken / self.planned, time.monotonic()
+        ends = {it: 0 for it in self.done}
+        for crate, began in self.running.items():
+            ends[crate] = max(pace * self.work[crate] - (now - began), 0)
+        free = sorted([ends[it] for it in self.running] + [0] * (self.at_once - len(self.running)))
+        # (what the longer chain stands on goes first, so each crate comes behind those below it)
+        for crate in sorted(set(self.crates) - set(ends), key=lambda it: -self.behind[it]):
+            begins = max([free.pop(0), *(ends[it] for it in crate.deps)])
+            ends[crate] = begins + pace * self.work[crate]
+            free = sorted([*free, ends[crate]])
+        return max(ends.values())
 
 
 def log_of(crate):
@@ -130,7 +143,7 @@ def text_of(file):
 def build(rtlib, crate, jobs, is_first):
     """Builds a crate, where it isn't built, and returns the status of what did it and whether there was anything to do."""
     crate = copy.copy(crate)
-    if crate.is_program:
+    if not crate.makes_rlib():
         with open(log_of(crate), "w", encoding="utf-8") as crate.out:
             return link(rtlib, crate, jobs), True
     folder = os.path.dirname(crate.rlib)
@@ -149,9 +162,15 @@ def build(rtlib, crate, jobs, is_first):
     return status, True
 
 
+def made_of(program):
+    return f"out/lib{program.name}.a" if program.is_static else f"out/{program.name}"
+
+
 def link(rtlib, program, jobs):
-    """Proves the program over the libraries' statements, compiles and links it, and returns the status."""
-    made = f"out/{program.name}"
+    """Proves the program over the libraries' statements, compiles and links it, and returns the status. A static library is not linked."""
+    if program.is_static:
+        return program.compile(["--jobs", str(jobs)], made_of(program))
+    made = made_of(program)
     status = program.compile(["--jobs", str(jobs)], f"{made}.o")
     if status:
         return status
@@ -203,6 +222,7 @@ def build_all(rtlib, plan):
                 waiting.remove(crate)
                 longest = max(plan.behind[it] for it in [*waiting, *running.values(), crate])
                 is_first = plan.behind[crate] >= NEARLY * longest
+                plan.begins(crate)
                 running[pool.submit(build, rtlib, crate, jobs, is_first)] = crate
             ended = wait(running, timeout=QUIET, return_when=FIRST_COMPLETED).done
             for it in ended:
@@ -216,7 +236,12 @@ def build_all(rtlib, plan):
                 say(f"at {', '.join(it.name for it in running.values())}; {clock(plan.elapsed())} so far")
 
 
-def main(name):
+def main(name, over_gate=False):
+    global program_name
+    program_name = name
+    if not shutil.which("rt"):
+        say("`rt`, which proves and builds, is not in the path: unpack Rattle's kit and put its folder 'bin' into PATH")
+        return 1
     rtlib = kit()
     os.chdir(TOP)
     folder = f"{TOP}/crates/{name}"
@@ -229,7 +254,11 @@ def main(name):
     # with its own handler, Python would wait at Ctrl-C for the libraries that are being built
     if signal.getsignal(signal.SIGINT) is signal.default_int_handler:
         signal.signal(signal.SIGINT, signal.SIG_DFL)
-    plan = Plan(program)
+    at_once, jobs = shares(rtlib)
+    if over_gate:
+        program.out = sys.stderr
+        return link(rtlib, program, jobs)
+    plan = Plan(program, at_once)
     for it in plan.crates:
         it.rlib = f"{it.folder}/out/statements/{it.name}.rlib"
     held = rtlib.lock(plan.crates)
@@ -238,10 +267,10 @@ def main(name):
     build_all(rtlib, plan)
     for it in held:
         os.close(it)
-    os.utime(f"{folder}/out/{name}")
+    os.utime(f"{folder}/{made_of(program)}")
     say(f"{name} is proved and built; it took {clock(plan.elapsed())}, and later calls start at once")
     return 0
 
 
 if __name__ == "__main__":
-    sys.exit(main(sys.argv[1]))
+    sys.exit(main(sys.argv[1], "--over-gate" in sys.argv[2:]))

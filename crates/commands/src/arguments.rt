@@ -5,6 +5,7 @@ ghost use Rattle.validate.specs.Typing.{type_of};
 ghost use Rattle.commands.specs.Arguments.{Spells, AllSpell};
 
 use crate::failure::Failure;
+use crate::mismatch::Mismatch;
 use std::alloc::Global;
 use syntax::types::{ValType, Value};
 use words::{decimal, small_decimal};
@@ -21,21 +22,27 @@ fn value_of(value_type: ValType, word: &str) -> Option<Value>
 }
 
 /// The values of these types that the words spell, one each.
-pub fn values(
+pub fn values<'a>(
     alloc: Global,
     types: &[ValType],
-    words: &[String],
-) -> Result<Vec<Value>, Failure<'static>>
+    words: &'a [String],
+) -> Result<Vec<Value>, Failure<'a>>
     ensures typed { IfOk result (λ values. map type_of values.items ≡ types.now) }
     ensures spelled { IfOk result (λ values. AllSpell (map string_bytes words.now) values.items) }
 {
     if types.len() != words.len() {
-        return Err(Failure::Arguments);
+        return Err(Failure::Arguments(Mismatch::count(alloc, types, words.len())));
     }
     let mut values = Vec::with_capacity(alloc, types.len())?;
     for index in 0..types.len() {
-        let Some(value) = value_of(types[index], words[index].as_str()) else {
-            return Err(Failure::Arguments);
+        let value_type = types[index];
+        let word = words[index].as_str();
+        let Some(value) = value_of(value_type, word) else {
+            return Err(Failure::Arguments(Mismatch::Word {
+                number: index + 1,
+                value_type,
+                word,
+            }));
         };
         values.push(value)?;
     }

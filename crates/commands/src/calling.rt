@@ -91,23 +91,23 @@ fn start(valid: &Valid, instance: &mut Instance, budget: Budget) -> Ended
 }
 
 /// Calls a function on a new instance of its module: first the start function, and where that returns the function,
-/// with the fuel that is left. Every import answers -1.
+/// with the fuel that is left. Every import answers -1. The instance comes back as the call left it.
 pub fn call(
     alloc: Global,
     valid: &Valid,
     function: u32,
     args: &[Value],
     budget: Budget,
-) -> Result<Called, Failure<'static>>
+) -> Result<(Called, Instance), Failure<'static>>
     requires { TakesArguments valid.now.contents function args.now }
-    ensures { IfOk result (IsCalled valid.now.contents budget function args.now) }
+    ensures { IfOk result (λ done. IsCalled valid.now.contents budget function args.now done.0) }
 {
     let mut instance = Instance::new(alloc, valid)?;
     let started = start(valid, &mut instance, budget);
     if !has_returned(&started.ending) {
-        return Ok(Called::Start(started));
+        return Ok((Called::Start(started), instance));
     }
     let fuel = budget.fuel - started.used;
     let ended = run(valid, &mut instance, function, args, fuel, budget.depth);
-    Ok(Called::Function(ended))
+    Ok((Called::Function(ended), instance))
 }

@@ -3,20 +3,35 @@
 ghost use Rattle.std.specs.Prelude.{◌≡◌};
 
 use crate::file::ReadFault;
+use crate::listing::Listing;
+use crate::mismatch::Mismatch;
 use crate::status::Status;
 use instance::fault::InstFault;
-use loader::{Place, Refusal};
+use loader::{Account, Refusal};
 use script::ScriptFault;
-use std::alloc::{AllocError, AllocFailed};
-use std::fmt;
+use std::alloc::{AllocError, AllocFailed, Global};
 use std::io::{self, ErrorKind, Write};
+use std::{fmt, str};
+use syntax::contents::{Contents, ExternKind};
 use world::WorldFault;
+
+/// What is known of a refusal beside its own words.
+#[derive(Drop)]
+pub enum Site {
+    /// The module has more bytes than one may have.
+    TooLong,
+    /// Where it is, and why.
+    Told(Account),
+}
 
 /// Why a command has no result.
 #[derive(Drop)]
 pub enum Failure<'a> {
-    /// The file can't be read, for this reason.
-    File(io::Error),
+    /// The file of this name can't be read, for this reason.
+    File {
+        name: &'a str,
+        reason: io::Error,
+    },
     /// There is not enough memory.
     Memory,
     /// The result can't be written.
@@ -25,42 +40,94 @@ pub enum Failure<'a> {
     Refused {
         module: Option<usize>,
         refusal: Refusal,
-        place: Option<Place>,
+        site: Site,
     },
     /// The file is no script.
     Script {
         fault: ScriptFault,
         place: Option<script::ScriptPlace>,
     },
-    /// The module exports no function of this name.
-    NoFunction(&'a str),
+    /// The module exports no function of this name. Those that it exports are told where there is memory for them.
+    NoFunction {
+        name: &'a str,
+        there: Option<String>,
+    },
     /// The words are not the arguments that the function takes.
-    Arguments,
+    Arguments(Mismatch<'a>),
 }
 
-impl Failure<'_> {
+/// The names under which the module exports functions.
+fn exported_functions(alloc: Global, contents: &Contents) -> Result<String, AllocError> {
+    let mut listing = Listing::new(alloc);
+    for export in contents.exports.as_slice() {
+        if matches!(export.kind, ExternKind::Func) {
+            listing.add(str::from_utf8(export.name.as_slice()).unwrap_or(""))?;
+        }
+    }
+    listing.finish()
+}
+
+impl<'a> Failure<'a> {
     ghost use Rattle.commands.specs.Statuses.{status_of_failure};
+
+    /// The file of this name is not read.
+    pub fn unread(name: &'a str, fault: ReadFault) -> Failure<'a> {
+        match fault {
+            ReadFault::File(reason) => Failure::File { name, reason },
+            ReadFault::Memory => Failure::Memory,
+        }
+    }
+
+    /// The module exports no function of this name.
+    pub fn no_function(alloc: Global, contents: &Contents, name: &'a str) -> Failure<'a> {
+        Failure::NoFunction {
+            name,
+            there: exported_functions(alloc, contents).ok(),
+        }
+    }
 
     /// What the program ends with.
     pub fn status(&self) -> Status
         ensures { result ≡ status_of_failure self.now }
     {
         match self {
-            Failure::File(_) | Failure::Memory | Failure::Output | Failure::Script { .. } => {
-                Status::Failed
-            }
+            Failure::File { .. } | Failure::Memory | Failure::Output | Failure::Script { .. } =>
+                Status::Failed,
             Failure::Refused { .. } => Status::Refused,
-            Failure::NoFunction(_) | Failure::Arguments => Status::Usage,
+            Failure::NoFunction { .. } | Failure::Arguments(_) => Status::Usage,
         }
     }
 
-    /// Says in a sentence what is wrong with a module or a script, and where.
+    /// Says in a sentence what is wrong, and where.
     pub fn explain<E: Write>(&self, err: &mut E) -> io::Result<()> {
         match self {
-            Failure::Refused { refusal, place, .. } => tell_place(place, refusal.meaning(), err),
+            Failure::Refused { module, site, .. } => {
+                let what = if module.is_some() { "module" } else { "file" };
+                tell_site(what, site, err)
+            }
             Failure::Script { fault, place } => tell_place(place, fault.meaning(), err),
-            _ => Ok(()),
+            Failure::NoFunction { there, .. } => tell_functions(there, err),
+            Failure::Arguments(mismatch) => writeln!(err, "{mismatch}"),
+            Failure::File { .. } | Failure::Memory | Failure::Output => Ok(()),
         }
+    }
+}
+
+fn tell_functions<E: Write>(there: &Option<String>, err: &mut E) -> io::Result<()> {
+    match there {
+        Some(names) if names.is_empty() => writeln!(err, "the module exports no functions"),
+        Some(names) => writeln!(err, "exported functions: {names}"),
+        None => Ok(()),
+    }
+}
+
+fn tell_site<E: Write>(what: &str, site: &Site, err: &mut E) -> io::Result<()> {
+    match site {
+        Site::TooLong => writeln!(
+            err,
+            "the {what} has more than 1,048,576 bytes (strip its debug names)"
+        ),
+        Site::Told(account) => writeln!(err, "{account}"),
     }
 }
 
@@ -78,7 +145,7 @@ fn tell_place<P: fmt::Display, E: Write>(
 impl fmt::Display for Failure<'_> {
     fn fmt<W: fmt::Write>(&self, f: &mut fmt::Formatter<W>) -> fmt::Result {
         match self {
-            Failure::File(reason) => write!(f, "file\n{reason}"),
+            Failure::File { name, reason } => write!(f, "file\n{name}: {reason}"),
             Failure::Memory => f.write_str("memory"),
             Failure::Output => f.write_str("output"),
             Failure::Refused {
@@ -91,17 +158,8 @@ impl fmt::Display for Failure<'_> {
                 let code = fault.code();
                 write!(f, "script {code} {fault}")
             }
-            Failure::NoFunction(name) => write!(f, "no function {name}"),
-            Failure::Arguments => f.write_str("arguments"),
-        }
-    }
-}
-
-impl From<ReadFault> for Failure<'_> {
-    fn from(fault: ReadFault) -> Self {
-        match fault {
-            ReadFault::File(reason) => Failure::File(reason),
-            ReadFault::Memory => Failure::Memory,
+            Failure::NoFunction { name, .. } => write!(f, "no function {name}"),
+            Failure::Arguments(_) => f.write_str("arguments"),
         }
     }
 }

@@ -4,7 +4,7 @@ ghost use Rattle.std.specs.Prelude.{◌≡◌, IfOk};
 ghost use Rattle.loader.specs.Loading.{IsAccepted};
 ghost use Rattle.commands.specs.Accepted.{enough};
 
-use crate::failure::Failure;
+use crate::failure::{Failure, Site};
 use crate::file::Reader;
 use imports::Linked;
 use limits::MAX_MODULE_BYTES;
@@ -14,13 +14,20 @@ use std::alloc::Global;
 /// One byte more than a module may have: whatever comes behind it changes no answer.
 const ENOUGH: usize = MAX_MODULE_BYTES + 1;
 
+fn site_of(alloc: Global, bytes: &[u8], refusal: Refusal) -> Site {
+    if bytes.len() > MAX_MODULE_BYTES {
+        return Site::TooLong;
+    }
+    Site::Told(refusal.explain(alloc, bytes))
+}
+
 fn refused(alloc: Global, bytes: &[u8], refusal: Refusal) -> Failure<'static> {
     match refusal {
         Refusal::Memory => Failure::Memory,
         _ => Failure::Refused {
             module: None,
             refusal,
-            place: refusal.place(alloc, bytes),
+            site: site_of(alloc, bytes, refusal),
         },
     }
 }
@@ -36,11 +43,29 @@ pub fn accept(alloc: Global, bytes: &[u8]) -> Result<Linked, Failure<'static>>
     }
 }
 
+/// The module of the file, read, validated and linked, with the bytes of the file.
+pub fn load_whole<'a, R: Reader>(
+    alloc: Global,
+    reader: &R,
+    file: &'a str,
+) -> Result<(Linked, Vec<u8>), Failure<'a>>
+    ensures read { IfOk result (λ loaded. R.gives reader.now file.now enough loaded.0.bytes) }
+    ensures accepted { IfOk result (λ loaded. IsAccepted loaded.0.bytes loaded.0.contents) }
+{
+    match reader.read(alloc, file, ENOUGH) {
+        Ok(bytes) => {
+            let linked = accept(alloc, bytes.as_slice())?;
+            Ok((linked, bytes))
+        }
+        Err(fault) => Err(Failure::unread(file, fault)),
+    }
+}
+
 /// The module of the file, read, validated and linked.
-pub fn load<R: Reader>(alloc: Global, reader: &R, file: &str) -> Result<Linked, Failure<'static>>
+pub fn load<'a, R: Reader>(alloc: Global, reader: &R, file: &'a str) -> Result<Linked, Failure<'a>>
     ensures read { IfOk result (λ linked. R.gives reader.now file.now enough linked.bytes) }
     ensures accepted { IfOk result (λ linked. IsAccepted linked.bytes linked.contents) }
 {
-    let bytes = reader.read(alloc, file, ENOUGH)?;
-    accept(alloc, bytes.as_slice())
+    let loaded = load_whole(alloc, reader, file)?;
+    Ok(loaded.0)
 }

@@ -12,12 +12,17 @@ use crate::calling::{Called, call, exported_function, has_returned};
 use crate::failure::Failure;
 use crate::file::Reader;
 use crate::line::EndedLine;
-use crate::loading::load;
+use crate::loading::{load, load_whole};
 use crate::scripting::script;
 use crate::serving::serve_file;
 use crate::status::Status;
+use crate::stopping::{Stopped, tell_stopped};
+use crate::tracing::tell_used;
+use crate::warning::warn;
 use crate::working::work;
-use interp::ended::Ending;
+use instance::state::Instance;
+use interp::ended::{Ended, Ending};
+use order::Trail;
 use serve::{Job, Task};
 use std::alloc::{AllocError, Global};
 use std::io::{self, Write};
@@ -27,17 +32,19 @@ use validate::Valid;
 use words::{Command, Invocation};
 
 /// Tells whether the module of the file is accepted.
-fn check<R: Reader, O: Write>(
+fn check<'a, R: Reader, O: Write, E: Write>(
     alloc: Global,
-    file: &str,
+    file: &'a str,
     reader: &R,
     out: &mut O,
-) -> Result<Status, Failure<'static>>
+    err: &mut E,
+) -> Result<Status, Failure<'a>>
     ensures accepted { OnOk result ((contents : Contents) × Holds (R.gives reader.now) file.now contents) }
     ensures told { OnOk result (Appends (O.contents out.old) (O.contents out.new) (codes "accepted\n")) }
 {
-    load(alloc, reader, file)?;
+    let linked = load(alloc, reader, file)?;
     out.write_all(b"accepted\n")?;
+    warn(&linked, err);
     Ok(Status::Done)
 }
 
@@ -46,12 +53,12 @@ fn call_named<'a>(
     alloc: Global,
     valid: &Valid,
     invocation: &'a Invocation,
-) -> Result<Called, Failure<'a>>
-    ensures { IfOk result (IsCallOf valid.now.contents invocation.now) }
+) -> Result<(Called, Instance), Failure<'a>>
+    ensures { IfOk result (λ done. IsCallOf valid.now.contents invocation.now done.0) }
 {
     let name = invocation.name.as_str();
     let Some((function, func_type)) = exported_function(valid, name) else {
-        return Err(Failure::NoFunction(name));
+        return Err(Failure::no_function(alloc, valid.contents(), name));
     };
     let args = values(
         alloc,
@@ -88,30 +95,73 @@ fn status_of(ending: &Ending) -> Status
     Status::Ended
 }
 
+/// What was called, and how it ended.
+fn ended_call<'c>(name: &'c str, called: &'c Called) -> (&'c str, &'c Ended) {
+    match called {
+        Called::Start(ended) => ("start", ended),
+        Called::Function(ended) => (name, ended),
+    }
+}
+
+/// Says in a sentence where a call stopped.
+fn explain<E: Write>(
+    name: &str,
+    bytes: &[u8],
+    called: &Called,
+    instance: &Instance,
+    err: &mut E,
+) -> io::Result<()> {
+    let (what, ended) = ended_call(name, called);
+    let Some(stop) = instance.last_stop() else {
+        return Ok(());
+    };
+    match Stopped::of_call(ended, &Trail::of(&stop)) {
+        Some(stopped) => tell_stopped(&what, bytes, &stopped, err),
+        None => Ok(()),
+    }
+}
+
+/// Tells what a call used of the fuel that it was given, if that is asked for.
+fn trace<E: Write>(invocation: &Invocation, called: &Called, err: &mut E) -> io::Result<()> {
+    if !invocation.is_traced {
+        return Ok(());
+    }
+    let (_, ended) = ended_call("", called);
+    tell_used(ended.used, invocation.budget.fuel, err)
+}
+
 /// Calls the function of the module that the words name, and tells how it ended.
-fn call_and_tell<'a, O: Write>(
+fn call_and_tell<'a, O: Write, E: Write>(
     alloc: Global,
     valid: &Valid,
+    bytes: &[u8],
     invocation: &'a Invocation,
     out: &mut O,
+    err: &mut E,
 ) -> Result<Status, Failure<'a>>
     ensures { IfOk result (λ status. status ≡ Status.Done → Returns valid.now.contents invocation.now) }
 {
-    let called = call_named(alloc, valid, invocation)?;
-    Ok(tell_called(&called, out)?)
+    let (called, instance) = call_named(alloc, valid, invocation)?;
+    let status = tell_called(&called, out)?;
+    // a sentence that can't be written changes nothing
+    let _ = explain(invocation.name.as_str(), bytes, &called, &instance, err);
+    let _ = trace(invocation, &called, err);
+    Ok(status)
 }
 
 /// Calls an exported function of the file's module, and tells how it ended.
-fn invoke<'a, R: Reader, O: Write>(
+fn invoke<'a, R: Reader, O: Write, E: Write>(
     alloc: Global,
     invocation: &'a Invocation,
     reader: &R,
     out: &mut O,
+    err: &mut E,
 ) -> Result<Status, Failure<'a>>
     ensures { IfOk result (λ status. status ≡ Status.Done → HasInvoked (R.gives reader.now) invocation.entry.now) }
 {
-    let linked = load(alloc, reader, invocation.file.as_str())?;
-    call_and_tell(alloc, linked.valid(), invocation, out)
+    let loaded = load_whole(alloc, reader, invocation.file.as_str())?;
+    let bytes = loaded.1.as_slice();
+    call_and_tell(alloc, loaded.0.valid(), bytes, invocation, out, err)
 }
 
 /// Tells why there is no result: a refused module to `out`, everything else to `err`.
@@ -141,18 +191,18 @@ pub fn perform<
     J: Job + Send,
     R: Reader,
     O: Write,
-    E: Write,
+    E: Write + Send,
 >(rt: &H, alloc: Global, command: &Command, reader: &R, out: &mut O, err: &mut E, make: &M) -> u8
     requires make { M.IsAlwaysCallable make.now }
     ensures known { result ≤ 4 }
     ensures done { result ≡ 0 → IsDone (R.gives reader.now) (O.contents out.old) (O.contents out.new) command.now }
 {
     let result = match command {
-        Command::Check { file } => check(alloc, file.as_str(), reader, out),
-        Command::Invoke(invocation) => invoke(alloc, invocation, reader, out),
-        Command::Work(order) => work(alloc, order, reader, out),
-        Command::Script { file } => script(alloc, file.as_str(), reader, out),
-        Command::Serve(service) => serve_file(rt, alloc, service, reader, out, make),
+        Command::Check { file } => check(alloc, file.as_str(), reader, out, err),
+        Command::Invoke(invocation) => invoke(alloc, invocation, reader, out, err),
+        Command::Work(order) => work(alloc, order, reader, out, err),
+        Command::Script { file } => script(alloc, file.as_str(), reader, out, err),
+        Command::Serve(service) => serve_file(rt, alloc, service, reader, out, err, make),
     };
     let status = match result {
         Ok(status) => status,

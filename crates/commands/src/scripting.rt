@@ -8,23 +8,30 @@ use crate::calling::has_returned;
 use crate::failure::Failure;
 use crate::file::Reader;
 use crate::loading::accept;
+use crate::missing::{Counts, Missing};
+use crate::ran::Ran;
 use crate::status::Status;
+use crate::stopping::{Reason, Stopped, tell_stopped};
 use imports::Linked;
+use interp::ended::Ended;
 use limits::MAX_SCRIPT_BYTES;
+use order::Trail;
 use script::{LoopPlan, Plan, ScriptFault, ScriptPlace, print, read};
 use std::alloc::{AllocError, Global};
-use std::io::Write;
+use std::io::{self, Write};
 use std::str;
 use std::sync::Arc;
-use world::{Config, LoopConfig, World, WorldFault};
-use world_log::{Log, LogEntry, Step};
+use world::{Config, LoopConfig, Undone, World, WorldFault};
+use world_log::{FinishOutcome, JobId, Log, LogEntry};
 
 /// What the file asks for.
-fn plan_of<R: Reader>(alloc: Global, file: &str, reader: &R) -> Result<Plan, Failure<'static>>
+fn plan_of<'a, R: Reader>(alloc: Global, file: &'a str, reader: &R) -> Result<Plan, Failure<'a>>
     ensures { IfOk result IsWithinLimits }
 {
-    let bytes = reader.read(alloc, file, MAX_SCRIPT_BYTES + 1)?;
-    plan_in(alloc, bytes.as_slice())
+    match reader.read(alloc, file, MAX_SCRIPT_BYTES + 1) {
+        Ok(bytes) => plan_in(alloc, bytes.as_slice()),
+        Err(fault) => Err(Failure::unread(file, fault)),
+    }
 }
 
 /// What the bytes ask for.
@@ -58,10 +65,10 @@ fn module_of(alloc: Global, bytes: &[u8]) -> Result<Arc<Linked, Global>, Failure
 /// A refused module is told with its number.
 fn numbered(number: usize, failure: Failure<'static>) -> Failure<'static> {
     match failure {
-        Failure::Refused { refusal, place, .. } => Failure::Refused {
+        Failure::Refused { refusal, site, .. } => Failure::Refused {
             module: Some(number),
             refusal,
-            place,
+            site,
         },
         other => other,
     }
@@ -142,31 +149,149 @@ fn tell_fault<O: Write>(fault: WorldFault, out: &mut O) -> Result<Status, Failur
     Ok(Status::Failed)
 }
 
-/// Takes the steps, and prints what each did.
-fn take_steps<O: Write>(
+/// Says why this step, counted from 0, was not taken.
+fn explain_fault<E: Write>(
+    fault: WorldFault,
+    number: usize,
+    missing: &Missing,
+    err: &mut E,
+) -> io::Result<()> {
+    match fault {
+        WorldFault::NoSuch => writeln!(err, "step {number}, {missing}"),
+        WorldFault::Memory => writeln!(err, "step {number}: there is not enough memory"),
+    }
+}
+
+/// Says why the step behind those of the log was not taken. A sentence that can't be written changes nothing.
+fn explain_stop<E: Write>(fault: WorldFault, plan: &Plan, log: &Log, err: &mut E) {
+    let number = log.entries().len();
+    if let Some(step) = plan.steps.as_slice().get(number).copied() {
+        let missing = Missing {
+            step,
+            counts: counts_of(plan),
+        };
+        let _ = explain_fault(fault, number, &missing, err);
+    }
+}
+
+/// The bytes of the module that this loop runs.
+fn module_bytes(plan: &Plan, loop_no: u32) -> &[u8] {
+    let Some(planned) = plan.loops.as_slice().get(loop_no as usize) else {
+        return &[];
+    };
+    match plan.modules.as_slice().get(planned.module as usize) {
+        Some(bytes) => bytes.as_slice(),
+        None => &[],
+    }
+}
+
+/// What is kept of a job, if its work did not return.
+fn undone_in(world: &World, job: JobId) -> Option<&Undone> {
+    world.undone().iter().find(|undone| undone.job.loop_no == job.loop_no
+        && undone.job.request == job.request)
+}
+
+/// Tells where a callback of a loop stopped, if it did not return: the loop has failed, so that it was the last.
+fn explain_callback<E: Write>(
+    world: &World,
+    plan: &Plan,
+    ran: Ran,
+    ended: &Ended,
+    err: &mut E,
+) -> io::Result<()> {
+    let Some(stop) = world.last_stop(ran.loop_no) else {
+        return Ok(());
+    };
+    let bytes = module_bytes(plan, ran.loop_no);
+    match Stopped::of_call(ended, &Trail::of(&stop)) {
+        Some(stopped) => tell_stopped(&ran, bytes, &stopped, err),
+        None => Ok(()),
+    }
+}
+
+/// Tells where the work of a job stopped, if it did not return.
+fn explain_work<E: Write>(world: &World, plan: &Plan, job: JobId, err: &mut E) -> io::Result<()> {
+    let Some(undone) = undone_in(world, job) else {
+        return Ok(());
+    };
+    let Some(reason) = Reason::of_work(undone.ending) else {
+        return Ok(());
+    };
+    let stopped = Stopped {
+        reason,
+        used: undone.used,
+        trail: &undone.trail,
+    };
+    let ran = Ran::work(job.loop_no, job.request);
+    tell_stopped(&ran, module_bytes(plan, job.loop_no), &stopped, err)
+}
+
+/// Tells where each run of the log stopped that did not return, in the order of the log.
+fn explain_log<E: Write>(world: &World, plan: &Plan, log: &Log, err: &mut E) -> io::Result<()> {
+    for entry in log.entries() {
+        match entry {
+            LogEntry::Ran {
+                loop_no,
+                kind,
+                number,
+                ended,
+                ..
+            } => {
+                let ran = Ran::callback(*loop_no, *kind, *number);
+                explain_callback(world, plan, ran, ended, err)?;
+            }
+            LogEntry::Finish {
+                outcome: FinishOutcome::Ended(job, _),
+                ..
+            } => explain_work(world, plan, *job, err)?,
+            _ => {}
+        }
+    }
+    Ok(())
+}
+
+/// Takes the steps, and prints what each did. A step that isn't taken is told to `err`, and where runs
+/// stopped that did not return.
+fn take_steps<O: Write, E: Write>(
     alloc: Global,
     world: &mut World,
-    steps: &[Step],
+    plan: &Plan,
     out: &mut O,
+    err: &mut E,
 ) -> Result<Status, Failure<'static>> {
     let mut log = Log::new(alloc);
-    let ran = world.run(steps, &mut log);
+    let ran = world.run(plan.steps.as_slice(), &mut log);
     tell_log(alloc, &log, out)?;
-    match ran {
-        Ok(()) => Ok(status_of(&log)),
-        Err(fault) => tell_fault(fault, out),
+    let status = match ran {
+        Ok(()) => status_of(&log),
+        Err(fault) => {
+            let status = tell_fault(fault, out)?;
+            explain_stop(fault, plan, &log, err);
+            status
+        }
+    };
+    // a sentence that can't be written changes nothing
+    let _ = explain_log(world, plan, &log, err);
+    Ok(status)
+}
+
+fn counts_of(plan: &Plan) -> Counts {
+    Counts {
+        loops: plan.loops.len(),
+        workers: plan.workers,
     }
 }
 
 /// Takes the steps of a script, and prints what each did. A step that names what is not there, or for which there is
 /// no memory, is told behind the steps before it.
-pub fn script<R: Reader, O: Write>(
+pub fn script<'a, R: Reader, O: Write, E: Write>(
     alloc: Global,
-    file: &str,
+    file: &'a str,
     reader: &R,
     out: &mut O,
-) -> Result<Status, Failure<'static>> {
+    err: &mut E,
+) -> Result<Status, Failure<'a>> {
     let plan = plan_of(alloc, file, reader)?;
     let mut world = world_of(alloc, &plan)?;
-    take_steps(alloc, &mut world, plan.steps.as_slice(), out)
+    take_steps(alloc, &mut world, &plan, out, err)
 }

@@ -7,12 +7,15 @@ use crate::failure::Failure;
 use crate::file::Reader;
 use crate::loading::load;
 use crate::status::Status;
+use crate::stopping::{Stopped, tell_stopped};
+use crate::tracing::tell_used;
 use imports::{EntryPoint, Linked};
 use interp::trap::TrapCode;
-use order::{Order, Outcome, Reply};
+use order::{Order, Outcome, Told, Trail};
 use std::alloc::{AllocError, Global};
 use std::io::{self, Write};
 use std::sync::Arc;
+use syntax::contents::Contents;
 use words::WorkRequest;
 
 fn shared(alloc: Global, bytes: &[u8]) -> Result<Arc<Vec<u8>>, AllocError>
@@ -89,23 +92,65 @@ fn tell_outcome<O: Write>(
     }
 }
 
-/// The reply that the module computes.
-fn reply_of(alloc: Global, linked: Linked, work: &WorkRequest) -> Result<Reply, Failure<'static>> {
+fn no_work(alloc: Global, linked: &Linked) -> Failure<'static> {
+    Failure::no_function(alloc, linked.valid().contents(), EntryPoint::Work.name())
+}
+
+/// The reply that the module computes, what it used and where it stopped.
+fn reply_of(alloc: Global, linked: Linked, work: &WorkRequest) -> Result<Told, Failure<'static>> {
     let Some(_function) = linked.entry(EntryPoint::Work) else {
-        return Err(Failure::NoFunction(EntryPoint::Work.name()));
+        return Err(no_work(alloc, &linked));
     };
     let order = request(alloc, linked, work)?;
-    Ok(order.run(alloc))
+    Ok(order.run_told(alloc))
+}
+
+/// Which function the outermost call of a trail is of.
+fn name_of_run(contents: &Contents, trail: &Trail) -> &'static str {
+    let work = EntryPoint::Work.name();
+    let Some(start) = contents.start else {
+        return work;
+    };
+    let Some(last) = trail.as_slice().last() else {
+        return work;
+    };
+    if trail.more() > 0 {
+        return "start function or uv_work";
+    }
+    if last.function.saturating_add(contents.imports.len()) == start as usize {
+        "start function"
+    } else {
+        work
+    }
+}
+
+/// Says in a sentence where the work stopped, if it did not return.
+fn explain<E: Write>(told: &Told, err: &mut E) -> io::Result<()> {
+    let module = told.reply.order.module.valid().module();
+    match Stopped::of_told(told) {
+        Some(stopped) => {
+            let what = name_of_run(module.contents(), stopped.trail);
+            tell_stopped(&what, module.bytes(), &stopped, err)
+        }
+        None => Ok(()),
+    }
 }
 
 /// Lets the module of the file compute the reply of a work order, and tells what came of it.
-pub fn work<R: Reader, O: Write>(
+pub fn work<'a, R: Reader, O: Write, E: Write>(
     alloc: Global,
-    work: &WorkRequest,
+    work: &'a WorkRequest,
     reader: &R,
     out: &mut O,
-) -> Result<Status, Failure<'static>> {
+    err: &mut E,
+) -> Result<Status, Failure<'a>> {
     let linked = load(alloc, reader, work.file.as_str())?;
-    let reply = reply_of(alloc, linked, work)?;
-    tell_outcome(alloc, &reply.outcome, out)
+    let told = reply_of(alloc, linked, work)?;
+    let status = tell_outcome(alloc, &told.reply.outcome, out)?;
+    // a sentence that can't be written changes nothing
+    let _ = explain(&told, err);
+    if work.is_traced {
+        let _ = tell_used(told.used, work.budget.fuel, err);
+    }
+    Ok(status)
 }

@@ -8,6 +8,7 @@ ghost use Rattle.decode.specs.Locals.{LocalsOf, as_pair};
 use crate::fault::DecodeFault;
 use crate::integers::unsigned;
 use crate::spelled::Spelled;
+use crate::stop::Stop;
 use limits::MAX_LOCALS;
 use std::alloc::Global;
 use syntax::items::Items;
@@ -21,22 +22,18 @@ pub(crate) struct LocalGroup {
 }
 
 /// The locals of a body, which stand in groups.
-pub(crate) fn locals(alloc: Global, bytes: &[u8]) -> Result<(Items<ValType>, &[u8]), DecodeFault>
+pub(crate) fn locals(alloc: Global, bytes: &[u8]) -> Result<(Items<ValType>, &[u8]), Stop>
     ensures { Reads Locals bytes.now result }
 {
     let (groups, rest) = unsigned(bytes)?;
     if groups as usize > rest.len() {
-        return Err(DecodeFault::End);
+        return Err(Stop::at_end(DecodeFault::End));
     }
     read_groups(alloc, rest, groups)
 }
 
 /// The locals of so many groups. No group takes memory before its count is known to fit.
-fn read_groups(
-    alloc: Global,
-    bytes: &[u8],
-    groups: u32,
-) -> Result<(Items<ValType>, &[u8]), DecodeFault>
+fn read_groups(alloc: Global, bytes: &[u8], groups: u32) -> Result<(Items<ValType>, &[u8]), Stop>
     ensures { Reads (LocalsOf groups) bytes.now result }
 {
     let mut all = Vec::new(alloc);
@@ -44,7 +41,7 @@ fn read_groups(
     for _ in 0..groups {
         let (next, behind) = group(alloc, rest)?;
         if next.count as usize > MAX_LOCALS - all.len() {
-            return Err(DecodeFault::Limit);
+            return Err(Stop::behind(DecodeFault::Limit, behind));
         }
         all.resize(all.len() + next.count as usize, next.value_type)?;
         rest = behind;
@@ -52,7 +49,7 @@ fn read_groups(
     Ok((Items::from_vec(all), rest))
 }
 
-fn group(alloc: Global, bytes: &[u8]) -> Result<(LocalGroup, &[u8]), DecodeFault>
+fn group(alloc: Global, bytes: &[u8]) -> Result<(LocalGroup, &[u8]), Stop>
     ensures { ReadsBy as_pair spells_group bytes.now result }
 {
     let (count, rest) = unsigned(bytes)?;

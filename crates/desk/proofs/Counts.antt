@@ -11,13 +11,13 @@ use Rattle.desk.specs.Rule.{AreCounts, IsCounted, IsSized, waiting_place}
 
 -- the lists keep their lengths
 pub own-sized : (d : Desk) (a : ℕ) → IsSized d → IsSized (sent_own d a)
-own-sized d a is = record { own = length-raised d.view.own a 1 ∙ is.own; taken = is.taken; waiting = length-raised d.waiting a 1 ∙ is.waiting; sent = is.sent }
+own-sized d a is = record { own = length-raised d.view.own a 1 ∙ is.own; untaken = length-raised d.view.untaken a 1 ∙ is.untaken; taken = is.taken; waiting = length-raised d.waiting a 1 ∙ is.waiting; sent = is.sent }
 
 pub others-sized : (d : Desk) (a : ℕ) → IsSized d → IsSized (sent_by_another d a)
-others-sized d a is = record { own = is.own; taken = is.taken; waiting = length-raised d.waiting a 1 ∙ is.waiting; sent = length-raised d.sent a 1 ∙ is.sent }
+others-sized d a is = record { own = is.own; untaken = is.untaken; taken = is.taken; waiting = length-raised d.waiting a 1 ∙ is.waiting; sent = length-raised d.sent a 1 ∙ is.sent }
 
 pub taken-sized : (d : Desk) (a : ℕ) → IsSized d → IsSized (taken d a)
-taken-sized d a is = record { own = is.own; taken = length-raised d.view.taken a (slice_index d.waiting a) ∙ is.taken; waiting = length-set d.waiting a 0 ∙ is.waiting; sent = is.sent }
+taken-sized d a is = record { own = is.own; untaken = length-set d.view.untaken a 0 ∙ is.untaken; taken = length-raised d.view.taken a (slice_index d.waiting a) ∙ is.taken; waiting = length-set d.waiting a 0 ∙ is.waiting; sent = is.sent }
 
 -- and the sums are counted
 pub own-counted : (d : Desk) (n m a : ℕ) → IsSized d → IsCounted d n m → a < MAX_ASYNCS → n < MAX_SENDS → IsCounted (sent_own d a) (n + 1) m
@@ -58,8 +58,15 @@ module _ (words : List ℕ) (d : Desk) (a : ℕ) (size : length words ≡ MAX_RE
   one_more = ap (λ n. n + 1) (is.word a there)
 
   pub own-counts : AreCounts (set words i (slice_index words i + 1)) (sent_own d a)
-  own-counts = record { word = λ b low. alike (slice_index words i + 1) (slice_index d.waiting a + 1) b one_more low; sends = sends }
+  own-counts = record { word = λ b low. alike (slice_index words i + 1) (slice_index d.waiting a + 1) b one_more low; sends = sends; untaken = untaken }
     where
+      untaken : (b : ℕ) → b < MAX_ASYNCS → slice_index (raised d.view.untaken a 1) b ≤ slice_index (raised d.waiting a 1) b
+      untaken b low = elim (ℕ_discrete b a) [
+        | yes e ↦ subst (λ (j : ℕ). slice_index (raised d.view.untaken a 1) j ≤ slice_index (raised d.waiting a 1) j) (sym e)
+            (let size = sized.untaken in let waits = sized.waiting in let u = raised-there d.view.untaken a 1 (omega arith) in let w = raised-there d.waiting a 1 (omega arith) in let was = is.untaken a there in omega arith)
+        | no ne ↦ (let u = raised-elsewhere d.view.untaken a 1 b ne in let w = raised-elsewhere d.waiting a 1 b ne in let was = is.untaken b low in omega arith)
+      ]
+
       sends : (b : ℕ) → b < MAX_ASYNCS → slice_index (raised d.view.own a 1) b + slice_index d.sent b ≡ slice_index d.view.taken b + slice_index (raised d.waiting a 1) b
       sends b low = elim (ℕ_discrete b a) [
         | yes e ↦ subst (λ (j : ℕ). slice_index (raised d.view.own a 1) j + slice_index d.sent j ≡ slice_index d.view.taken j + slice_index (raised d.waiting a 1) j) (sym e) here
@@ -70,8 +77,15 @@ module _ (words : List ℕ) (d : Desk) (a : ℕ) (size : length words ≡ MAX_RE
           here = let own = sized.own in let waits = sized.waiting in let o = raised-there d.view.own a 1 (omega arith) in let w = raised-there d.waiting a 1 (omega arith) in let was = is.sends a there in omega arith
 
   pub others-counts : AreCounts (set words i (slice_index words i + 1)) (sent_by_another d a)
-  others-counts = record { word = λ b low. alike (slice_index words i + 1) (slice_index d.waiting a + 1) b one_more low; sends = sends }
+  others-counts = record { word = λ b low. alike (slice_index words i + 1) (slice_index d.waiting a + 1) b one_more low; sends = sends; untaken = untaken }
     where
+      untaken : (b : ℕ) → b < MAX_ASYNCS → slice_index d.view.untaken b ≤ slice_index (raised d.waiting a 1) b
+      untaken b low = elim (ℕ_discrete b a) [
+        | yes e ↦ subst (λ (j : ℕ). slice_index d.view.untaken j ≤ slice_index (raised d.waiting a 1) j) (sym e)
+            (let waits = sized.waiting in let w = raised-there d.waiting a 1 (omega arith) in let was = is.untaken a there in omega arith)
+        | no ne ↦ (let w = raised-elsewhere d.waiting a 1 b ne in let was = is.untaken b low in omega arith)
+      ]
+
       sends : (b : ℕ) → b < MAX_ASYNCS → slice_index d.view.own b + slice_index (raised d.sent a 1) b ≡ slice_index d.view.taken b + slice_index (raised d.waiting a 1) b
       sends b low = elim (ℕ_discrete b a) [
         | yes e ↦ subst (λ (j : ℕ). slice_index d.view.own j + slice_index (raised d.sent a 1) j ≡ slice_index d.view.taken j + slice_index (raised d.waiting a 1) j) (sym e) here
@@ -104,8 +118,19 @@ module _ (words : List ℕ) (d : Desk) (a : ℕ) (size : length words ≡ MAX_RE
   own-taken = let now = taken-here in let was = is.sends a there in omega arith
 
   pub taken-counts : AreCounts (set words i 0) (taken d a)
-  taken-counts = record { word = λ b low. alike 0 0 b refl low; sends = sends }
+  taken-counts = record { word = λ b low. alike 0 0 b refl low; sends = sends; untaken = untaken }
     where
+      untaken : (b : ℕ) → b < MAX_ASYNCS → slice_index (slice_set d.view.untaken a 0) b ≤ slice_index (slice_set d.waiting a 0) b
+      untaken b low = elim (ℕ_discrete b a) [
+        | yes e ↦ subst (λ (j : ℕ). slice_index (slice_set d.view.untaken a 0) j ≤ slice_index (slice_set d.waiting a 0) j) (sym e)
+            (let size = sized.untaken in let u : slice_index (slice_set d.view.untaken a 0) a ≡ 0 = get_or-set_same d.view.untaken a 0 0 (omega arith) in omega arith)
+        | no ne ↦ (
+            let u : slice_index (slice_set d.view.untaken a 0) b ≡ slice_index d.view.untaken b = get_or-set_other d.view.untaken a b 0 0 ne in
+            let w : slice_index (slice_set d.waiting a 0) b ≡ slice_index d.waiting b = get_or-set_other d.waiting a b 0 0 ne in
+            let was = is.untaken b low in
+            omega arith)
+      ]
+
       sends : (b : ℕ) → b < MAX_ASYNCS → slice_index d.view.own b + slice_index d.sent b ≡ slice_index (taken d a).view.taken b + slice_index (slice_set d.waiting a 0) b
       sends b low = elim (ℕ_discrete b a) [
         | yes e ↦ subst (λ (j : ℕ). slice_index d.view.own j + slice_index d.sent j ≡ slice_index (taken d a).view.taken j + slice_index (slice_set d.waiting a 0) j) (sym e) here

@@ -37,6 +37,7 @@ counts-kept : (words : List ℕ) (d : Desk) (slot n : ℕ) → AreCounts words d
 counts-kept words d slot n is there = record {
   word = λ a low. get_or-set_other words slot (waiting_place a) n 0 (λ k. omega arith) ∙ is.word a low;
   sends = is.sends;
+  untaken = is.untaken;
 }
 
 -- and a slot's from an async's
@@ -54,7 +55,7 @@ opens_allowed slots slot r v held there above rises = moved slots slot v held (�
   (let counts = counts-kept words d slot r is.counts there in record {
     size = length-set words slot r ∙ is.size;
     slots = opened-slots words d slot r is.size is.slots there above rises;
-    counts = record { word = counts.word; sends = counts.sends };
+    counts = record { word = counts.word; sends = counts.sends; untaken = counts.untaken };
   }),
   refl,
 ))
@@ -84,14 +85,14 @@ module _ (slot r : ℕ) (d : Desk) (words : List ℕ) (is : Agrees words d) (the
   cancelled_agrees e = let counts = counts-kept words d slot 0 is.counts there in record {
     size = size;
     slots = cancelled-slots words d slot r is.size is.slots there above (hit e);
-    counts = record { word = counts.word; sends = counts.sends };
+    counts = record { word = counts.word; sends = counts.sends; untaken = counts.untaken };
   }
 
   started_agrees : found ≡ r → Agrees (set words slot 0) (started d (slot, r))
   started_agrees e = let counts = counts-kept words d slot 0 is.counts there in record {
     size = size;
     slots = started-slots words d slot r is.size is.slots there above (hit e);
-    counts = record { word = counts.word; sends = counts.sends };
+    counts = record { word = counts.word; sends = counts.sends; untaken = counts.untaken };
   }
 
   -- it was not, and the word stays
@@ -102,8 +103,8 @@ module _ (slot r : ℕ) (d : Desk) (words : List ℕ) (is : Agrees words d) (the
   found_agrees ne = record { size = is.size; slots = found-slots words d slot r is.size is.slots there above ne; counts = by_pending (is_pending d.view.opened d.view.cancelled (slot, r)) refl }
     where
       by_pending : (b : Bool) → is_pending d.view.opened d.view.cancelled (slot, r) ≡ b → AreCounts words (found_started d (slot, r))
-      by_pending true p = rw p (record { word = is.counts.word; sends = is.counts.sends })
-      by_pending false p = rw p (record { word = is.counts.word; sends = is.counts.sends })
+      by_pending true p = rw p (record { word = is.counts.word; sends = is.counts.sends; untaken = is.counts.untaken })
+      by_pending false p = rw p (record { word = is.counts.word; sends = is.counts.sends; untaken = is.counts.untaken })
 
   abbrev Goes : (Bool → Desk → Type 0) → Bool → Type 0
   Goes told b = (e : Desk) × Agrees (set words slot (either b 0 found)) e × told b e
@@ -190,7 +191,8 @@ module _ {S : Type 0} (slots a i : ℕ) (v : History) (held : List (ℕ × S)) (
       told : (words : List ℕ) → Agrees words d → (b : ℕ) → i ≡ waiting_place b → DeskTakes d b (slice_index words i) (taken d a)
       told words is b other =
           let same : a ≡ b = omega arith in
-          subst (λ k. DeskTakes d k (slice_index words i) (taken d a)) same (ap (slice_index words) place ∙ is.counts.word a there, refl, own-taken words d a is.size is.counts sized there)
+          let is_found : slice_index words i ≡ slice_index d.waiting a = ap (slice_index words) place ∙ is.counts.word a there in
+          subst (λ k. DeskTakes d k (slice_index words i) (taken d a)) same (is_found, refl, own-taken words d a is.size is.counts sized there, (let waits = is.counts.untaken a there in omega arith))
 
 -- a table on which nothing was done
 pub begins : (loop_no : ℕ) → IsKept (replicate (MAX_REQUESTS + MAX_ASYNCS) 0) (history_of (new_desk loop_no) ∷ [])
@@ -200,7 +202,7 @@ begins loop_no = (
   record {
     size = refl;
     slots = record { word = word; opened = λ c h. absurd (omega arith); found = λ c h. h };
-    counts = record { word = λ a low. zeros (MAX_REQUESTS + MAX_ASYNCS) (waiting_place a) ∙ sym (zeros MAX_ASYNCS a); sends = λ a low. refl };
+    counts = record { word = λ a low. zeros (MAX_REQUESTS + MAX_ASYNCS) (waiting_place a) ∙ sym (zeros MAX_ASYNCS a); sends = λ a low. refl; untaken = λ a low. omega arith };
   },
 )
   where

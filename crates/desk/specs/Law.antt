@@ -1,5 +1,6 @@
 -- The calls of a desk meet the law of what a loop shares, and those of others leave what the loop knows.
 use Rattle.std.proofs.Common.{◌≡◌, ℕ, Bool, true, false, ◌&&◌, refl, sym, ap, ◌∙◌}
+use Rattle.std.specs.Prelude.{slice_set}
 use Rattle.tallies.specs.Counts.{raised}
 use Rattle.phases.specs.View.{Cancelled, Sent, Taken}
 use Rattle.phases.specs.Calls.{IsLawful, AreBeside}
@@ -22,8 +23,10 @@ takes d e a n h = (
   ap (λ x. x.view) h.1 ∙ ap (λ k. record d.view {
     takes = raised d.view.takes a 1;
     taken = raised d.view.taken a k;
+    untaken = slice_set d.view.untaken a 0;
   }) (sym h.0),
   h.2,
+  h.3,
 )
 
 starts : (d e : Desk) (c : ℕ × ℕ) (ok : Bool) → DeskStarts d c ok e → e.view ≡ d.view

@@ -16,6 +16,7 @@ desk_of h = record {
     takes = h.takes;
     taken = h.taken;
     own = h.own;
+    untaken = h.untaken;
   };
   started = h.started;
   waiting = h.waiting;
@@ -31,6 +32,7 @@ history_of d = record {
   takes = d.view.takes;
   taken = d.view.taken;
   own = d.view.own;
+  untaken = d.view.untaken;
   started = d.started;
   waiting = d.waiting;
   sent = d.sent;
@@ -56,6 +58,8 @@ pub record AreCounts (words : List ℕ) (d : Desk) : Type 0 where
   -- what was sent, by the loop and by others, was taken or waits
   pub sends : (a : ℕ) → a < MAX_ASYNCS
       → slice_index d.view.own a + slice_index d.sent a ≡ slice_index d.view.taken a + slice_index d.waiting a
+  -- what the loop has sent and not taken waits
+  pub untaken : (a : ℕ) → a < MAX_ASYNCS → slice_index d.view.untaken a ≤ slice_index d.waiting a
 
 pub record Agrees (words : List ℕ) (d : Desk) : Type 0 where
   pub size : length words ≡ MAX_REQUESTS + MAX_ASYNCS
@@ -76,6 +80,7 @@ pub record IsCounted (d : Desk) (by_loop by_others : ℕ) : Type 0 where
 -- each list has a number for each async
 pub record IsSized (d : Desk) : Type 0 where
   pub own : length d.view.own ≡ MAX_ASYNCS
+  pub untaken : length d.view.untaken ≡ MAX_ASYNCS
   pub taken : length d.view.taken ≡ MAX_ASYNCS
   pub waiting : length d.waiting ≡ MAX_ASYNCS
   pub sent : length d.sent ≡ MAX_ASYNCS

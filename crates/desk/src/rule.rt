@@ -14,10 +14,11 @@ pub(crate) struct History {
     pub(crate) opened: LinkedList<(u64, u64)>,
     pub(crate) cancelled: LinkedList<(u64, u64)>,
     pub(crate) found_started: LinkedList<(u64, u64)>,
-    /// For each async the takes, the sum of what they found, and the loop's own sends.
+    /// For each async the takes, the sum of what they found, the loop's own sends, and those of them behind the last take.
     pub(crate) takes: [u64; MAX_ASYNCS],
     pub(crate) taken: [u64; MAX_ASYNCS],
     pub(crate) own: [u64; MAX_ASYNCS],
+    pub(crate) untaken: [u64; MAX_ASYNCS],
     /// The requests that workers started.
     pub(crate) started: LinkedList<(u64, u64)>,
     /// For each async what waits, and the sends of others.

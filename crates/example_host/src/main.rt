@@ -4,7 +4,7 @@
 ghost use Rattle.std.specs.Prelude.{◌≡◌};
 ghost use Rattle.board.specs.Jobs.{ticket_of};
 
-use host::{Desk, Hint, JobBox, Linked, LoopCore, Reply, Serving, StepDid, Task, load, serve};
+use embed::{Desk, Hint, JobBox, Linked, LoopCore, Reply, Serving, StepDid, Task, load, serve};
 use std::sync::Arc;
 use std::{alloc, fs};
 

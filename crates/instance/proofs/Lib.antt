@@ -2,3 +2,4 @@ pub mod Overwriting
 pub mod Initial
 pub mod FreshStores
 pub mod Keeping
+pub mod Stopping

@@ -6,3 +6,4 @@ pub mod Storing
 pub mod Fresh
 pub mod Lending
 pub mod LendingStack
+pub mod Stops

@@ -1,22 +1,18 @@
 -- A typed sequence within the limits of height and nesting takes so many operands to so many.
-use Rattle.std.proofs.Common.{◌≡◌, ℕ, ◌+◌, ◌-◌, ◌≤◌, List, [], ◌∷◌, ◌++◌, length, map, Some, refl, ap, ◌∙◌, subst, max, arith, length-append}
+use Rattle.interp.proofs.Words.{◌≡◌, ℕ, ◌+◌, ◌-◌, ◌≤◌, List, [], ◌∷◌, ◌++◌, length, map, Some, refl, ap, ◌∙◌, subst, arith, length-append, slice_get}
+use Rattle.interp.proofs.Words.{length-map, ValType, Instr, Br, BrIf, BrTable, Contents, FuncType, Code, Done, Plain, Block, Loop, If, pushed}
+use Rattle.interp.proofs.Words.{type_of, HasFunctionType, type_of_function}
+use Rattle.std.proofs.Common.{max}
 use Rattle.std.specs.Option.{option_map}
-use Rattle.std.specs.Prelude.{slice_get}
 use Rattle.std.proofs.lemmas.Option.{slice_get-map}
-use Rattle.std.proofs.lemmas.List.{length-map}
 use Rattle.std.proofs.Math.Nat.{le-max_left, le-max_right}
-use Rattle.syntax.specs.declared.types.ValType.{ValType}
 use Rattle.syntax.specs.declared.types.ValType.TheVariants as type
 use Rattle.syntax.specs.declared.operator.Conversion.{Conversion}
 use Rattle.syntax.specs.declared.operator.Conversion.TheVariants.{I32WrapI64, I64ExtendI32S, I64ExtendI32U}
-use Rattle.syntax.specs.declared.instruction.Instr.{Instr}
-use Rattle.syntax.specs.declared.instruction.Instr.TheVariants.{Unreachable, Nop, Br, BrIf, BrTable, Return, Call, CallIndirect, Drop, Select, LocalGet, LocalSet, LocalTee, GlobalGet, GlobalSet, Load, LoadNarrow, Store, StoreNarrow, MemorySize, MemoryGrow, Const, Eqz, Unary, Binary, Compare, Convert}
-use Rattle.syntax.specs.declared.contents.Contents.{Contents}
-use Rattle.syntax.specs.declared.contents.FuncType.{FuncType}
-use Rattle.syntax.specs.Code.{Code, Done, Plain, Block, Loop, If}
-use Rattle.validate.specs.Stack.{pushed}
-use Rattle.validate.specs.Typing.{Context, inside, type_of, Turns, ConversionTurns, HasFunctionType, InstrTyped, Typed, type_of_function}
+use Rattle.syntax.specs.declared.instruction.Instr.TheVariants.{Unreachable, Nop, Return, Call, CallIndirect, Drop, Select, LocalGet, LocalSet, LocalTee, GlobalGet, GlobalSet, Load, LoadNarrow, Store, StoreNarrow, MemorySize, MemoryGrow, Const, Eqz, Unary, Binary, Compare, Convert}
+use Rattle.validate.specs.Typing.{Context, inside, Turns, ConversionTurns, InstrTyped, Typed}
 use Rattle.validate.specs.Height.{Effect, Changes, Ends, effect_of, after_effect, greatest_height, nesting}
+use Rattle.validate.proofs.Checks.{all_there}
 use Rattle.interp.specs.Scaffold.Heights.{Fits, counts, Follows, Counted}
 use Rattle.interp.proofs.Lists.{length-pushed}
 
@@ -64,17 +60,17 @@ agrees_convert c I64ExtendI32U before mid turns = (refl, turned (type.I32 ∷ []
 pub agrees : (c : Context) (i : Instr) (before mid : List ValType) → InstrTyped c i before mid → Agrees (effect_of c i) (counts c.module_contents (arities c) i) before mid
 agrees c Unreachable before mid t = refl
 agrees c Nop before mid t = (refl, turned [] [] before mid t)
-agrees c (Br label) before mid t = refl
+agrees c (Br label) before mid h = rw h.1.0 refl
 agrees c (BrIf label) before mid (types, at, t) =
     let r = turned_on types types before mid type.I32 t in
     let there : slice_get (arities c) label ≡ Some (length types) =
     slice_get-map (λ (ts : List ValType). length ts) c.labels label ∙ ap (option_map (λ (ts : List ValType). length ts)) at in
     rw (at, there) (refl, r)
-agrees c (BrTable labels default) before mid t = refl
+agrees c (BrTable labels default) before mid h = rw (h.2, all_there c h.0 labels h.1) refl
 agrees c Return before mid t = refl
 agrees c (Call f) before mid (type, h, t) = agrees_call c f before mid type h t
 agrees c (CallIndirect x) before mid (table, ft, at, t) =
-    let r = turned_on ft.params ft.results before mid type.I32 t in rw at (refl, r)
+    let r = turned_on ft.params ft.results before mid type.I32 t in rw (table, at) (refl, r)
 agrees c Drop before mid (t, turns) = (refl, turned (t ∷ []) [] before mid turns)
 agrees c Select before mid (t, turns) = (refl, turned (t ∷ t ∷ type.I32 ∷ []) (t ∷ []) before mid turns)
 agrees c (LocalGet x) before mid (t, at, turns) = rw at (refl, turned [] (t ∷ []) before mid turns)
@@ -82,12 +78,12 @@ agrees c (LocalSet x) before mid (t, at, turns) = rw at (refl, turned (t ∷ [])
 agrees c (LocalTee x) before mid (t, at, turns) = rw at (refl, turned (t ∷ []) (t ∷ []) before mid turns)
 agrees c (GlobalGet x) before mid (g, at, turns) = rw at (refl, turned [] (g.value_type ∷ []) before mid turns)
 agrees c (GlobalSet x) before mid (g, at, var, turns) = rw at (refl, turned (g.value_type ∷ []) [] before mid turns)
-agrees c (Load t at) before mid (access, turns) = (refl, turned (type.I32 ∷ []) (t ∷ []) before mid turns)
-agrees c (LoadNarrow t width extension at) before mid (access, turns) = (refl, turned (type.I32 ∷ []) (t ∷ []) before mid turns)
-agrees c (Store t at) before mid (access, turns) = (refl, turned (type.I32 ∷ t ∷ []) [] before mid turns)
-agrees c (StoreNarrow t width at) before mid (access, turns) = (refl, turned (type.I32 ∷ t ∷ []) [] before mid turns)
-agrees c MemorySize before mid (access, turns) = (refl, turned [] (type.I32 ∷ []) before mid turns)
-agrees c MemoryGrow before mid (access, turns) = (refl, turned (type.I32 ∷ []) (type.I32 ∷ []) before mid turns)
+agrees c (Load t at) before mid (access, turns) = rw access.0 (refl, turned (type.I32 ∷ []) (t ∷ []) before mid turns)
+agrees c (LoadNarrow t width extension at) before mid (access, turns) = rw access.0 (refl, turned (type.I32 ∷ []) (t ∷ []) before mid turns)
+agrees c (Store t at) before mid (access, turns) = rw access.0 (refl, turned (type.I32 ∷ t ∷ []) [] before mid turns)
+agrees c (StoreNarrow t width at) before mid (access, turns) = rw access.0 (refl, turned (type.I32 ∷ t ∷ []) [] before mid turns)
+agrees c MemorySize before mid (access, turns) = rw access (refl, turned [] (type.I32 ∷ []) before mid turns)
+agrees c MemoryGrow before mid (access, turns) = rw access (refl, turned (type.I32 ∷ []) (type.I32 ∷ []) before mid turns)
 agrees c (Const v) before mid turns = (refl, turned [] (type_of v ∷ []) before mid turns)
 agrees c (Eqz t) before mid turns = (refl, turned (t ∷ []) (type.I32 ∷ []) before mid turns)
 agrees c (Unary t op) before mid turns = (refl, turned (t ∷ []) (t ∷ []) before mid turns)

@@ -1,21 +1,12 @@
 -- A call of a function of a valid module begins within the limits, and its run stays within them.
-use Rattle.std.proofs.Common.{option_and_then, ◌≡◌, ℕ, ◌+◌, ◌≤◌, List, [], ◌∷◌, ◌++◌, length, map, Option, Some, None, refl, sym, ap, ◌∙◌, subst, arith, length-append}
-use Rattle.std.specs.Prelude.{slice_get}
-use Rattle.std.proofs.lemmas.List.{length-map}
-use Rattle.std.proofs.lemmas.Option.{slice_get_within, get_or_from_slice_get}
-use Rattle.syntax.specs.declared.types.ValType.{ValType}
-use Rattle.syntax.specs.declared.types.Value.{Value}
-use Rattle.syntax.specs.declared.contents.Contents.{Contents}
-use Rattle.syntax.specs.declared.contents.FuncType.{FuncType}
-use Rattle.syntax.specs.declared.contents.Func.{Func}
-use Rattle.syntax.specs.Code.{Done}
-use Rattle.validate.specs.Stack.{pushed}
-use Rattle.validate.specs.Typing.{type_of, HasFunctionType, function_types, type_of_function}
-use Rattle.validate.specs.Valid.{ValidModule, ValidFunc, body_context}
-use Rattle.instance.specs.Store.{Store, value_of}
-use Rattle.interp.specs.Configuration.{Context, Frame, entered, receiving, types_of}
-use Rattle.interp.specs.Step.{Move, Calls, next}
-use Rattle.interp.specs.Run.{as_operands, IsDefined}
+use Rattle.interp.proofs.Words.{◌≡◌, ℕ, ◌+◌, ◌≤◌, List, [], ◌∷◌, ◌++◌, length, map, Option, Some, None, refl, sym, ap, ◌∙◌, subst, arith}
+use Rattle.interp.proofs.Words.{length-append, slice_get, length-map, slice_get_within, ValType, Value, Contents, FuncType, Func, Done, pushed}
+use Rattle.interp.proofs.Words.{type_of, HasFunctionType, type_of_function, ValidModule, Store, value_of, Context, Frame, entered, receiving}
+use Rattle.interp.proofs.Words.{types_of, Move, Calls, next, as_operands, IsDefined}
+use Rattle.std.proofs.Common.{option_and_then}
+use Rattle.std.proofs.lemmas.Option.{get_or_from_slice_get}
+use Rattle.validate.specs.Typing.{function_types}
+use Rattle.validate.specs.Valid.{ValidFunc, body_context}
 use Rattle.interp.specs.Hosting.{Answers}
 use Rattle.interp.specs.Scaffold.Heights.{Counted, Beneath, IsWithin}
 use Rattle.interp.specs.Scaffold.HeightsOfRuns.{Arrives, here, goes, calls, asks, IsReached}

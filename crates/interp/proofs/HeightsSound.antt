@@ -1,27 +1,19 @@
 -- Soundness with the limits: a step of typed contexts within them leads to such contexts.
-use Rattle.std.proofs.Common.{◌≡◌, ℕ, ◌<◌, ◌≤◌, List, [], ◌∷◌, length, Some, sym, ap, ◌∙◌, subst, arith}
-use Rattle.std.proofs.lemmas.List.{length-map}
-use Rattle.syntax.specs.declared.types.ValType.{ValType}
-use Rattle.syntax.specs.declared.types.Value.{Value}
-use Rattle.syntax.specs.declared.contents.Contents.{Contents}
-use Rattle.syntax.specs.declared.contents.FuncType.{FuncType}
-use Rattle.syntax.specs.declared.contents.Func.{Func}
-use Rattle.validate.specs.Stack.{pushed}
-use Rattle.validate.specs.Typing.{type_of, HasFunctionType, type_of_function}
-use Rattle.validate.specs.Valid.{ValidModule}
-use Rattle.instance.specs.Store.{Store}
+use Rattle.interp.proofs.Contexts.{frames-receiving}
+use Rattle.interp.proofs.Words.{◌≡◌, ℕ, ◌<◌, ◌≤◌, List, [], ◌∷◌, length, Some, sym, ap, ◌∙◌, subst, arith, length-map, ValType, Value, Contents}
+use Rattle.interp.proofs.Words.{FuncType, Func, pushed, type_of, HasFunctionType, type_of_function, ValidModule, Store, Context, entered, receiving}
+use Rattle.interp.proofs.Words.{types_of, Move, Goes, Traps, Calls, Stuck, next, IsDefined, Bounded}
 use Rattle.instance.specs.Storing.{HaveGlobalTypes}
-use Rattle.interp.specs.Configuration.{Context, entered, frames, receiving, types_of}
-use Rattle.interp.specs.Step.{Move, Goes, Traps, Calls, Ends, Stuck, next}
-use Rattle.interp.specs.Run.{IsDefined}
+use Rattle.interp.specs.Configuration.{frames}
+use Rattle.interp.specs.Step.{Ends}
 use Rattle.interp.specs.Scaffold.Typed.{Sound}
 use Rattle.interp.specs.Scaffold.Heights.{IsWithin}
-use Rattle.interp.specs.Scaffold.HeightsTyped.{Bounded, AwaitsWithin, SoundWithin}
+use Rattle.interp.specs.Scaffold.HeightsTyped.{AwaitsWithin, SoundWithin}
 use Rattle.interp.proofs.Lists.{length-pushed}
 use Rattle.interp.proofs.Soundness.{sound}
 use Rattle.interp.proofs.Entering.{enters_call, starts_call, answers_call}
 use Rattle.interp.proofs.HeightsKept.{Kept, kept, received}
-use Rattle.interp.proofs.HeightsFrames.{Opens, opens, frames-receiving}
+use Rattle.interp.proofs.HeightsFrames.{Opens, opens}
 use Rattle.interp.proofs.HeightsOfRuns.{Awaited, entered_within}
 
 module _ (m : Contents) (depth : ℕ) (answers : List ValType) where

@@ -1,12 +1,11 @@
 -- The operands, the contexts and the locals of contexts within the limits.
-use Rattle.std.proofs.Common.{ℕ, suc, ◌+◌, ◌*◌, ◌≤◌, List, [], ◌∷◌, length, arith, length-append}
-use Rattle.syntax.specs.declared.contents.Contents.{Contents}
-use Rattle.syntax.specs.Code.{Code, Done, Plain, Block, Loop, If}
-use Rattle.interp.specs.Configuration.{Context, Label, Frame, frames}
-use Rattle.interp.specs.Scaffold.Typed.{code_of, operands_of}
-use Rattle.interp.specs.Scaffold.Heights.{Fits, Counted, labels_of, height_of, base_of, GoesOn, Beneath, IsWithin}
+use Rattle.interp.proofs.Contexts.{height-parts}
+use Rattle.interp.proofs.Words.{ℕ, suc, ◌+◌, ◌≤◌, List, [], ◌∷◌, length, arith, length-append, Contents, Code, Done, Plain, Block, Loop, If, Context}
+use Rattle.interp.proofs.Words.{Label, Frame, code_of, operands_of, height_of}
+use Rattle.std.proofs.Common.{◌*◌}
+use Rattle.interp.specs.Configuration.{frames}
+use Rattle.interp.specs.Scaffold.Heights.{Fits, Counted, labels_of, base_of, GoesOn, Beneath, IsWithin}
 use Rattle.interp.specs.Scaffold.HeightsOfRuns.{all_operands, all_locals}
-use Rattle.interp.proofs.HeightsKept.{height-parts}
 
 fits_of : (m : Contents) (labels : List ℕ) (base before after : ℕ) (code : Code) → Counted m labels base before after code → Fits labels base before
 fits_of m labels base before after Done k = k.0

@@ -1,11 +1,9 @@
 -- Two calls of a function from outside, from one start.
-use Rattle.std.proofs.Common.{◌≡◌, ℕ, List, [], ◌∷◌, reverse, get_or, refl, sym, ap, ◌∙◌, subst}
+use Rattle.interp.proofs.Words.{◌≡◌, ℕ, List, [], ◌∷◌, reverse, refl, sym, ap, ◌∙◌, subst, Value, Contents, Store, Context, entered, as_operands}
+use Rattle.std.proofs.Common.{get_or}
 use Rattle.std.proofs.lemmas.List.{reverse-reverse}
-use Rattle.syntax.specs.declared.types.Value.{Value}
-use Rattle.syntax.specs.declared.contents.Contents.{Contents}
-use Rattle.instance.specs.Store.{Store, with_memory}
-use Rattle.interp.specs.Configuration.{Context, entered}
-use Rattle.interp.specs.Run.{HostCall, Outcome, Returned, Trapped, TooDeep, OutOfFuel, RunsWithin, as_operands}
+use Rattle.instance.specs.Store.{with_memory}
+use Rattle.interp.specs.Run.{HostCall, Outcome, Returned, Trapped, TooDeep, OutOfFuel, RunsWithin}
 use Rattle.interp.specs.Hosting.{Lawful, IsDetermined}
 use Rattle.interp.specs.Invoking.{Invokes, defined, imported, Invoked}
 use Rattle.interp.specs.Running.{outcome_of}

@@ -1,14 +1,11 @@
 -- Two runs from one start.
-use Rattle.std.proofs.Common.{◌≡◌, ℕ, zero, suc, ◌+◌, ◌<◌, ◌≤◌, List, [], ◌∷◌, Some, refl, sym, ap, ◌∙◌, subst, arith}
-use Rattle.std.specs.Prelude.{slice_get}
-use Rattle.syntax.specs.declared.types.Value.{Value}
-use Rattle.syntax.specs.declared.contents.Contents.{Contents}
-use Rattle.syntax.specs.declared.contents.FuncType.{FuncType}
-use Rattle.syntax.specs.declared.contents.Func.{Func}
-use Rattle.instance.specs.Store.{Store, with_memory}
-use Rattle.interp.specs.Configuration.{Context, entered, frames, receiving}
-use Rattle.interp.specs.Step.{Move, Goes, Traps, Calls, Ends, next}
-use Rattle.interp.specs.Run.{HostCall, Outcome, Returned, Trapped, TooDeep, OutOfFuel, IsDefined, IsImported, IsCharged, as_operands, Run, ends, traps, spent, too_deep, goes, calls, asks, RunsWithin}
+use Rattle.interp.proofs.Words.{◌≡◌, ℕ, zero, suc, ◌+◌, ◌<◌, ◌≤◌, List, [], ◌∷◌, Some, refl, sym, ap, ◌∙◌, subst, arith, slice_get, Value, Contents}
+use Rattle.interp.proofs.Words.{FuncType, Func, Store, Context, entered, receiving, Move, Goes, Traps, Calls, next, IsDefined, as_operands}
+use Rattle.instance.specs.Store.{with_memory}
+use Rattle.interp.specs.Configuration.{frames}
+use Rattle.interp.specs.Step.{Ends}
+use Rattle.interp.specs.Run.{HostCall, Outcome, Returned, Trapped, TooDeep, OutOfFuel, IsImported, IsCharged, Run, ends, traps, spent, too_deep, goes}
+use Rattle.interp.specs.Run.{calls, asks, RunsWithin}
 use Rattle.interp.specs.Hosting.{Lawful, IsDetermined}
 
 -- a function is defined by one type and one body
@@ -23,7 +20,7 @@ one_function m function type type' f f' (i, e, found, known) (i', e', found', kn
 pub not_both : (m : Contents) (function : ℕ) (type : FuncType) (f : Func) → IsDefined m function type f → IsImported m function → ⊥
 not_both m function type f (i, e, found, known) imported = omega arith
 
-some_charge : (charge : ℕ) (s : Store) (contexts : List Context) → IsCharged (Goes charge s contexts) → 0 < charge
+pub some_charge : (charge : ℕ) (s : Store) (contexts : List Context) → IsCharged (Goes charge s contexts) → 0 < charge
 some_charge zero s contexts charged = absurd charged
 some_charge (suc n) s contexts charged = omega arith
 

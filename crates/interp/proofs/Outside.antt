@@ -1,17 +1,11 @@
 -- Calls of imported functions from outside.
-use Rattle.std.proofs.Common.{◌≡◌, ℕ, List, [], ◌∷◌, length, reverse, Some, None, refl, sym, ap, ◌∙◌}
-use Rattle.std.specs.Prelude.{slice_get, Option}
-use Rattle.syntax.specs.declared.types.Value.{Value}
-use Rattle.syntax.specs.declared.contents.Contents.{Contents}
-use Rattle.syntax.specs.declared.contents.FuncType.{FuncType}
-use Rattle.validate.specs.Typing.{HasFunctionType, type_of_function}
-use Rattle.validate.specs.Stack.{pushed}
-use Rattle.instance.specs.Store.{Store, with_memory_instance, MemoryInstance}
-use Rattle.instance.specs.Storing.{IsStoreOf}
+use Rattle.interp.proofs.Words.{◌≡◌, ℕ, List, [], ◌∷◌, length, reverse, Some, None, refl, sym, ap, ◌∙◌, slice_get, Value, Contents, FuncType}
+use Rattle.interp.proofs.Words.{HasFunctionType, type_of_function, pushed, Store, IsStoreOf, as_operands, types_of}
+use Rattle.std.specs.Prelude.{Option}
+use Rattle.instance.specs.Store.{with_memory_instance, MemoryInstance}
 use Rattle.interp.specs.declared.ended.Ending.TheVariants.{Return}
-use Rattle.interp.specs.Run.{HostCall, IsImported, as_operands}
+use Rattle.interp.specs.Run.{HostCall, IsImported}
 use Rattle.interp.specs.Hosting.{Names, Takes, Answers}
-use Rattle.interp.specs.Configuration.{types_of}
 use Rattle.interp.specs.Invoking.{imported, TakesArguments, Invoked}
 use Rattle.interp.proofs.Lists.{in_order}
 use Rattle.interp.proofs.Stores.{with_memory_of}

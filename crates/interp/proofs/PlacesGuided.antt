@@ -1,23 +1,20 @@
 -- A typed body with which its side table agrees stands in its operations as the table tells.
-use Rattle.std.proofs.Common.{◌≡◌, ℕ, zero, suc, ◌+◌, ◌-◌, max, List, [], ◌∷◌, length, drop, Some, sym, ap, ◌∙◌, subst, arith}
-use Rattle.std.specs.Prelude.{slice_get}
-use Rattle.syntax.specs.declared.types.ValType.{ValType}
-use Rattle.syntax.specs.declared.instruction.Operation.{Operation}
+use Rattle.interp.proofs.Words.{◌≡◌, ℕ, zero, suc, ◌+◌, ◌-◌, List, [], ◌∷◌, length, drop, Some, sym, ap, ◌∙◌, subst, arith, slice_get, ValType}
+use Rattle.interp.proofs.Words.{Operation, Code, Done, Plain, Block, Loop, If, pushed, Target, Body}
+use Rattle.std.proofs.Common.{max}
 use Rattle.syntax.specs.declared.instruction.Operation.TheVariants as op
-use Rattle.syntax.specs.Code.{Code, Done, Plain, Block, Loop, If, operations_to}
-use Rattle.validate.specs.Stack.{pushed}
+use Rattle.syntax.specs.Code.{operations_to}
 use Rattle.validate.specs.Typing.{Context, inside, Typed}
 use Rattle.validate.specs.Height.{Effect, Changes, Ends, effect_of, after_effect}
-use Rattle.validate.specs.declared.side_table.Target.{Target}
 use Rattle.validate.specs.Targets.{size, Agrees}
 use Rattle.validate.specs.Writing.{target}
 use Rattle.interp.specs.Scaffold.Heights.{counts, Follows}
-use Rattle.interp.specs.Scaffold.Places.{Body, keeps, ClosesTo, Guided}
+use Rattle.interp.specs.Scaffold.Places.{keeps, ClosesTo, Guided}
 use Rattle.interp.proofs.Lists.{length-pushed}
 use Rattle.interp.proofs.Heights.{Agrees as SameEffect, agrees, arities}
 
 -- the operation at a place, and what is behind it
-first_at : (ops : List Operation) (at : ℕ) (o : Operation) (rest : List Operation) → drop at ops ≡ o ∷ rest → (slice_get ops at ≡ Some o) × (drop (at + 1) ops ≡ rest)
+pub first_at : (ops : List Operation) (at : ℕ) (o : Operation) (rest : List Operation) → drop at ops ≡ o ∷ rest → (slice_get ops at ≡ Some o) × (drop (at + 1) ops ≡ rest)
 first_at [] zero o rest e = absurd (cc)
 first_at [] (suc at) o rest e = absurd (cc)
 first_at (x ∷ ops) zero o rest e = (cc, cc)
@@ -27,7 +24,7 @@ first_at (x ∷ ops) (suc at) o rest e =
     (r.0, subst (λ (k : ℕ). drop k (x ∷ ops) ≡ rest) same r.1)
 
 -- what is behind a sequence
-behind_code : (ops : List Operation) (close : Operation) (c : Code) (at : ℕ) (after : List Operation) → drop at ops ≡ operations_to close c after → drop (at + size c) ops ≡ after
+pub behind_code : (ops : List Operation) (close : Operation) (c : Code) (at : ℕ) (after : List Operation) → drop at ops ≡ operations_to close c after → drop (at + size c) ops ≡ after
 behind_code ops close Done at after e = (first_at ops at close after e).1
 behind_code ops close (Plain i rest) at after e =
     let r = behind_code ops close rest (at + 1) after (first_at ops at (op.Plain i) (operations_to close rest after) e).1 in

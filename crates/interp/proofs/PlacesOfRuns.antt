@@ -1,27 +1,14 @@
 -- The calls of a run stand at places that the side tables tell.
-use Rattle.std.proofs.Common.{◌≡◌, ℕ, ◌+◌, List, [], ◌∷◌, ◌++◌, length, map, Some, refl, sym, ap, subst, arith}
-use Rattle.std.specs.Prelude.{slice_get}
-use Rattle.std.proofs.lemmas.List.{length-map}
-use Rattle.syntax.specs.declared.types.Value.{Value}
-use Rattle.syntax.specs.declared.instruction.Operation.{Operation}
+use Rattle.interp.proofs.Words.{◌≡◌, ℕ, ◌+◌, List, [], ◌∷◌, ◌++◌, length, map, Some, refl, sym, ap, subst, arith, slice_get, length-map, Value}
+use Rattle.interp.proofs.Words.{Operation, Contents, FuncType, Func, Code, Done, Plain, Block, Loop, If, pushed, type_of, ValidModule, Target, Store}
+use Rattle.interp.proofs.Words.{value_of, Context, Frame, entered, receiving, types_of, Move, Calls, next, as_operands, IsDefined, operands_of, Body}
+use Rattle.interp.proofs.Words.{Place, Over, IsPlaced, AreBodies}
 use Rattle.syntax.specs.declared.instruction.Operation.TheVariants as op
-use Rattle.syntax.specs.declared.contents.Contents.{Contents}
-use Rattle.syntax.specs.declared.contents.FuncType.{FuncType}
-use Rattle.syntax.specs.declared.contents.Func.{Func}
-use Rattle.syntax.specs.Code.{Code, Done, Plain, Block, Loop, If}
-use Rattle.validate.specs.Stack.{pushed}
-use Rattle.validate.specs.Typing.{type_of}
-use Rattle.validate.specs.Valid.{ValidModule, body_context}
-use Rattle.validate.specs.declared.side_table.Target.{Target}
+use Rattle.validate.specs.Valid.{body_context}
 use Rattle.validate.specs.Targets.{size}
-use Rattle.instance.specs.Store.{Store, value_of}
 use Rattle.validate.proofs.Tables.{length-operations}
-use Rattle.interp.specs.Configuration.{Context, Frame, entered, receiving, types_of}
-use Rattle.interp.specs.Step.{Move, Calls, next}
-use Rattle.interp.specs.Run.{as_operands, IsDefined}
-use Rattle.interp.specs.Scaffold.Typed.{operands_of}
 use Rattle.interp.specs.Scaffold.HeightsOfRuns.{Arrives, here, goes, calls, asks, IsReached}
-use Rattle.interp.specs.Scaffold.Places.{Body, Place, Guided, Over, IsPlaced, AreBodies, stepped, ArePlaced, Leads}
+use Rattle.interp.specs.Scaffold.Places.{Guided, stepped, ArePlaced, Leads}
 use Rattle.interp.proofs.Lists.{length-pushed}
 use Rattle.interp.proofs.Entering.{valid_function, body_typed}
 use Rattle.interp.proofs.HeightsOfRuns.{same_type}

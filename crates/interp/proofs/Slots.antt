@@ -10,6 +10,7 @@ pub mod Steps
 pub mod Jumps
 pub mod Returns
 pub mod Calling
+pub mod Callers
 pub mod Targets
 pub mod Following
 pub mod Taking

@@ -6,5 +6,7 @@ pub mod Run
 pub mod Running
 pub mod Hosting
 pub mod Invoking
+pub mod Stopping
 pub mod Scaffold
 pub mod Slots
+pub mod Laws

@@ -6,3 +6,4 @@ pub mod HeightsTyped
 pub mod Places
 pub mod Plainly
 pub mod Bodies
+pub mod Walks

@@ -8,3 +8,4 @@ pub mod ValuesRead
 pub mod HostAsked
 pub mod Hosted
 pub mod CallsBegun
+pub mod Laws

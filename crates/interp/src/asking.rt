@@ -1,6 +1,7 @@
 // The host is asked for an import.
 
-ghost use Rattle.std.specs.Prelude.{◌≡◌, ◌≤◌, ◌<◌, ◌+◌, ◌^◌, length};
+ghost use Rattle.std.specs.Prelude.{◌≡◌, ◌≤◌, ◌<◌, ◌+◌, ◌^◌, length, IfSome};
+ghost use Rattle.validate.specs.Typing.{type_of_function as type_in};
 ghost use Rattle.interp.specs.Run.{as_operands};
 ghost use Rattle.interp.specs.Hosting.{Names};
 ghost use Rattle.interp.specs.Slots.Holding.{AreSmall};
@@ -15,6 +16,9 @@ use limits::MAX_HEIGHT;
 use syntax::contents::Contents;
 use syntax::types::Value;
 use validate::type_of_function;
+
+/// How many arguments most imports have at most: an array of so few is filled fast.
+const FEW_ARGUMENTS: usize = 8;
 
 /// Lays an answer down, where there is one, and tells how many slots it takes.
 fn lay_answer(slots: &mut [u64], place: usize, answer: Option<Value>) -> usize
@@ -32,9 +36,8 @@ fn lay_answer(slots: &mut [u64], place: usize, answer: Option<Value>) -> usize
     }
 }
 
-/// Asks the host for an import, whose arguments are the topmost slots up to a height. Its answer takes their place, and
-/// the run goes on behind the call.
-pub fn ask_host<H: Host>(
+/// The same as `ask_host`, with places that the arguments are read into.
+fn ask_over<H: Host>(
     contents: &Contents,
     state: &mut State,
     host: &mut H,
@@ -42,11 +45,12 @@ pub fn ask_host<H: Host>(
     at: At,
     import: usize,
     height: usize,
-    values: &mut [Value; MAX_HEIGHT],
+    values: &mut [Value],
 ) -> At
     requires can { CanAsk contents.now import height (length slots.old) }
     requires names { Names contents.now (H.types host.old) }
     requires steps { at.pc + 1 < 2 ^ 64 }
+    requires places { IfSome (type_in contents.now import) (λ t. length t.params ≤ length values.old) }
     ensures asked { Asks contents.now H.moves import height at slots.old state.old host.old result slots.new state.new host.new }
     ensures types { H.types host.new ≡ H.types host.old }
 {
@@ -65,4 +69,32 @@ pub fn ask_host<H: Host>(
         sp: place + results,
         ..at
     }
+}
+
+/// Asks the host for an import, whose arguments are the topmost slots up to a height. Its answer takes their place, and
+/// the run goes on behind the call.
+pub fn ask_host<H: Host>(
+    contents: &Contents,
+    state: &mut State,
+    host: &mut H,
+    slots: &mut [u64],
+    at: At,
+    import: usize,
+    height: usize,
+) -> At
+    requires can { CanAsk contents.now import height (length slots.old) }
+    requires names { Names contents.now (H.types host.old) }
+    requires steps { at.pc + 1 < 2 ^ 64 }
+    ensures asked { Asks contents.now H.moves import height at slots.old state.old host.old result slots.new state.new host.new }
+    ensures types { H.types host.new ≡ H.types host.old }
+{
+    let Some(import_type) = type_of_function(contents, import as u32) else {
+        unreachable!()
+    };
+    if import_type.params.len() <= FEW_ARGUMENTS {
+        let mut few = [Value::I32(0); FEW_ARGUMENTS];
+        return ask_over(contents, state, host, slots, at, import, height, &mut few);
+    }
+    let mut many = [Value::I32(0); MAX_HEIGHT];
+    ask_over(contents, state, host, slots, at, import, height, &mut many)
 }

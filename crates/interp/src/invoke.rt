@@ -1,12 +1,14 @@
 // Calls of functions from outside (WebAssembly Core 1.0, 4.5.5).
 
-ghost use Rattle.std.specs.Prelude.{◌≡◌, ◌+◌, ◌≤◌, ◌<◌, length};
+ghost use Rattle.std.specs.Prelude.{◌≡◌, ◌+◌, ◌≤◌, ◌<◌, length, None, IfSome};
 ghost use Rattle.validate.specs.Valid.{ValidModule};
 ghost use Rattle.validate.specs.Targets.{AreTables};
 ghost use Rattle.instance.specs.Storing.{IsStoreOf};
 ghost use Rattle.interp.specs.Run.{as_operands};
 ghost use Rattle.interp.specs.Hosting.{Names};
 ghost use Rattle.interp.specs.Invoking.{TakesArguments, Invoked, ReturnsTyped};
+ghost use Rattle.interp.specs.Stopping.{Tells};
+ghost use Rattle.instance.specs.Stops.{stop_of};
 
 use crate::ended::{Ended, Ending};
 use crate::host::{Args, Host};
@@ -14,7 +16,7 @@ use crate::opening::open;
 use crate::over_host::run_over_host;
 use crate::values::Values;
 use engine::Program;
-use instance::stack::{Frame, Slots};
+use instance::stack::{Frame, Last, Slots, Stack};
 use instance::state::{Instance, State};
 use limits::MAX_DEPTH;
 use syntax::contents::Contents;
@@ -50,6 +52,7 @@ fn invoke_import<H: Host>(
     ensures results { ReturnsTyped contents.now import result.ending }
     ensures kept { IsStoreOf contents.now state.new }
     ensures types { H.types host.new ≡ H.types host.old }
+    ensures stops { Tells contents.now depth H.moves state.old host.old import args.now result state.new host.new None }
 {
     let answer = host.call(import, &Args::new(args), state.memory_mut());
     Ended {
@@ -59,6 +62,7 @@ fn invoke_import<H: Host>(
 }
 
 /// Calls a defined function.
+#[inline(always)]
 fn invoke_defined<H: Host>(
     contents: &Contents,
     tables: &[SideTable],
@@ -66,10 +70,12 @@ fn invoke_defined<H: Host>(
     host: &mut H,
     slots: &mut Slots,
     frames: &mut [Frame],
+    last: &mut Option<Last>,
+    ended: &mut Ended,
     function: u32,
     args: &[Value],
     fuel: u64,
-) -> Ended
+)
     requires valid { ValidModule contents.now }
     requires agree { AreTables contents.now tables.now }
     requires store { IsStoreOf contents.now state.old }
@@ -77,11 +83,13 @@ fn invoke_defined<H: Host>(
     requires typed { TakesArguments contents.now function args.now }
     requires defined { length contents.now.imports ≤ function }
     requires deep { length frames.old + 1 ≤ MAX_DEPTH }
-    ensures runs { Invoked contents.now (length frames.old + 1) fuel H.moves state.old host.old function args.now result state.new host.new }
-    ensures within { result.used ≤ fuel }
-    ensures results { ReturnsTyped contents.now function result.ending }
+    ensures runs { Invoked contents.now (length frames.old + 1) fuel H.moves state.old host.old function args.now ended.new state.new host.new }
+    ensures within { ended.new.used ≤ fuel }
+    ensures results { ReturnsTyped contents.now function ended.new.ending }
     ensures kept { IsStoreOf contents.now state.new }
     ensures types { H.types host.new ≡ H.types host.old }
+    ensures stops { Tells contents.now (length frames.old + 1) H.moves state.old host.old function args.now ended.new state.new host.new (stop_of last.new frames.new) }
+    ensures callers { IfSome last.new (λ l. l.depth ≤ length frames.new) }
 {
     let Some(func_type) = type_of_function(contents, function) else {
         unreachable!()
@@ -97,8 +105,88 @@ fn invoke_defined<H: Host>(
         state,
         host,
         start,
+        last,
+        ended,
         fuel,
-    )
+    );
+}
+
+/// The same, with room for more callers than so deep calls have.
+#[inline(always)]
+fn invoke_below<H: Host>(
+    contents: &Contents,
+    tables: &[SideTable],
+    state: &mut State,
+    host: &mut H,
+    slots: &mut Slots,
+    frames: &mut [Frame],
+    last: &mut Option<Last>,
+    ended: &mut Ended,
+    function: u32,
+    args: &[Value],
+    fuel: u64,
+    depth: u32,
+)
+    requires valid { ValidModule contents.now }
+    requires agree { AreTables contents.now tables.now }
+    requires store { IsStoreOf contents.now state.old }
+    requires names { Names contents.now (H.types host.old) }
+    requires typed { TakesArguments contents.now function args.now }
+    requires defined { length contents.now.imports ≤ function }
+    requires depth { (1 ≤ depth) × (depth ≤ MAX_DEPTH) }
+    requires room { MAX_DEPTH ≤ length frames.old }
+    ensures runs { Invoked contents.now depth fuel H.moves state.old host.old function args.now ended.new state.new host.new }
+    ensures within { ended.new.used ≤ fuel }
+    ensures results { ReturnsTyped contents.now function ended.new.ending }
+    ensures kept { IsStoreOf contents.now state.new }
+    ensures types { H.types host.new ≡ H.types host.old }
+    ensures stops { Tells contents.now depth H.moves state.old host.old function args.now ended.new state.new host.new (stop_of last.new frames.new) }
+    ensures callers { IfSome last.new (λ l. l.depth ≤ MAX_DEPTH) }
+    ensures room { length frames.new ≡ length frames.old }
+{
+    let callers = &mut frames[..depth as usize - 1];
+    invoke_defined(
+        contents, tables, state, host, slots, callers, last, ended, function, args, fuel,
+    );
+}
+
+/// The same, with room for the callers of calls so deep.
+#[inline(always)]
+fn invoke_within<H: Host>(
+    contents: &Contents,
+    tables: &[SideTable],
+    state: &mut State,
+    host: &mut H,
+    slots: &mut Slots,
+    frames: &mut Vec<Frame>,
+    last: &mut Option<Last>,
+    ended: &mut Ended,
+    function: u32,
+    args: &[Value],
+    fuel: u64,
+    depth: u32,
+)
+    requires valid { ValidModule contents.now }
+    requires agree { AreTables contents.now tables.now }
+    requires store { IsStoreOf contents.now state.old }
+    requires names { Names contents.now (H.types host.old) }
+    requires typed { TakesArguments contents.now function args.now }
+    requires defined { length contents.now.imports ≤ function }
+    requires depth { (1 ≤ depth) × (depth ≤ MAX_DEPTH) }
+    requires room { MAX_DEPTH ≤ length frames.old.items }
+    ensures runs { Invoked contents.now depth fuel H.moves state.old host.old function args.now ended.new state.new host.new }
+    ensures within { ended.new.used ≤ fuel }
+    ensures results { ReturnsTyped contents.now function ended.new.ending }
+    ensures kept { IsStoreOf contents.now state.new }
+    ensures types { H.types host.new ≡ H.types host.old }
+    ensures stops { Tells contents.now depth H.moves state.old host.old function args.now ended.new state.new host.new (stop_of last.new frames.new.items) }
+    ensures callers { IfSome last.new (λ l. l.depth ≤ MAX_DEPTH) }
+    ensures room { length frames.new.items ≡ length frames.old.items }
+{
+    let callers = frames.as_mut_slice();
+    invoke_below(
+        contents, tables, state, host, slots, callers, last, ended, function, args, fuel, depth,
+    );
 }
 
 /// Calls a function of a module on one of its instances, with these arguments and so much fuel. At most `depth`
@@ -123,19 +211,50 @@ pub fn invoke<H: Host>(
     ensures kept { IsStoreOf valid.now.contents instance.new }
     ensures types { H.types host.new ≡ H.types host.old }
 {
+    let Instance { state, stack } = instance;
+    invoke_on(valid, state, stack, host, function, args, fuel, depth)
+}
+
+/// The same, on the state and the stack of an instance. The stack then tells where the call stopped, if it was over but by
+/// return: at which operation of which function, and within which calls.
+pub fn invoke_on<H: Host>(
+    valid: &Valid,
+    state: &mut State,
+    stack: &mut Stack,
+    host: &mut H,
+    function: u32,
+    args: &[Value],
+    fuel: u64,
+    depth: u32,
+) -> Ended
+    requires store { IsStoreOf valid.now.contents state.old }
+    requires names { Names valid.now.contents (H.types host.old) }
+    requires typed { TakesArguments valid.now.contents function args.now }
+    requires depth { (1 ≤ depth) × (depth ≤ MAX_DEPTH) }
+    ensures runs { Invoked valid.now.contents depth fuel H.moves state.old host.old function args.now result state.new host.new }
+    ensures within { result.used ≤ fuel }
+    ensures results { ReturnsTyped valid.now.contents function result.ending }
+    ensures kept { IsStoreOf valid.now.contents state.new }
+    ensures types { H.types host.new ≡ H.types host.old }
+    ensures stops { Tells valid.now.contents depth H.moves state.old host.old function args.now result state.new host.new stack.new }
+{
     let contents = valid.contents();
-    let Instance {
-        state,
+    let Stack {
         slots,
         frames,
-        ..
-    } = instance;
+        last,
+    } = stack;
     if (function as usize) < contents.imports.len() {
+        *last = None;
         return invoke_import(contents, state, host, function, args, fuel, depth);
     }
     let tables = valid.tables();
-    let callers = frames.first(depth as usize - 1);
-    invoke_defined(
-        contents, tables, state, host, slots, callers, function, args, fuel,
-    )
+    let mut ended = Ended {
+        ending: Ending::Spent,
+        used: 0,
+    };
+    invoke_within(
+        contents, tables, state, host, slots, frames, last, &mut ended, function, args, fuel, depth,
+    );
+    ended
 }

@@ -1,10 +1,12 @@
 -- When bytes are a guest, and why they are none.
-use Rattle.std.specs.Prelude.{ℕ, List}
+use Rattle.std.specs.Prelude.{◌≡◌, ℕ, List}
 use Rattle.syntax.specs.declared.contents.Contents.{Contents}
 use Rattle.syntax.specs.Binary.{Spells}
 use Rattle.decode.specs.Modules.{SpellsNothing}
+use Rattle.decode.specs.declared.fault.DecodeFault.TheVariants as decoding
 use Rattle.validate.specs.Valid.{ValidModule}
 use Rattle.validate.specs.Refusals.{Refutes}
+use Rattle.validate.specs.declared.fault.ValidFault.TheVariants as checking
 use Rattle.imports.specs.Linking.{IsLinked, Breaks}
 use Rattle.loader.specs.declared.refusal.Refusal.{Refusal}
 use Rattle.loader.specs.declared.refusal.Refusal.TheVariants.{Memory, Decode, Validate, Link}
@@ -19,6 +21,6 @@ pub record IsAccepted (bytes : List ℕ) (contents : Contents) : Type 0 where
 -- fault, or a valid one of which that is the first rule of the host that it breaks
 abbrev pub IsRefused : List ℕ → Refusal → Type 0
 IsRefused bytes Memory = Unit {0}
-IsRefused bytes (Decode fault) = SpellsNothing bytes
-IsRefused bytes (Validate fault) = (contents : Contents) × Spells bytes contents × (ValidModule contents → ⊥) × Refutes contents fault
+IsRefused bytes (Decode fault) = (fault ≡ decoding.Memory → ⊥) × SpellsNothing bytes
+IsRefused bytes (Validate fault) = (fault ≡ checking.Memory → ⊥) × (contents : Contents) × Spells bytes contents × (ValidModule contents → ⊥) × Refutes contents fault
 IsRefused bytes (Link fault) = (contents : Contents) × Spells bytes contents × ValidModule contents × Breaks contents fault

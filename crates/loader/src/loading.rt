@@ -13,7 +13,7 @@ use syntax::module::Module;
 use validate::{Valid, ValidFault, validate};
 
 /// The module that the bytes spell.
-fn decoded(alloc: Global, bytes: &[u8]) -> Result<Module, Refusal>
+pub(crate) fn decoded(alloc: Global, bytes: &[u8]) -> Result<Module, Refusal>
     ensures same { IfOk result (λ m. m.bytes ≡ bytes.now) }
     ensures spelled { IfOk result (λ m. Spells bytes.now m.contents) }
     ensures refused { IfErr result (IsRefused bytes.now) }

@@ -1,45 +1,43 @@
 // The operations of a body that was decoded: their names, and by their lengths alone their places (WebAssembly Core 1.0,
 // 5.4, 5.5.13 and appendix, index of instructions; the sign extensions are those of WebAssembly Core 2.0).
 
-use crate::spans::Span;
+use crate::place::Place;
+use crate::spans::{CODE, Span, body_at, find, function_of};
 use leb::read_u32;
+use limits::MAX_NESTING;
 
 const BR_TABLE: u8 = 0x0e;
 
-/// The names of the operations in the order of their opcodes, eight a line. A dash is for an opcode that none has.
+/// How many blocks may be open, with the first one too many.
+const MAX_OPEN: usize = MAX_NESTING + 1;
+
+/// The names of the operations in the order of their opcodes, eight a line, of those on floats too. A dash is for an opcode that none
+/// has.
 const NAMES: &str = "unreachable nop block loop if else - - \
     - - - end br br_if br_table return \
     call call_indirect - - - - - - \
     - - drop select - - - - \
     local.get local.set local.tee global.get global.set - - - \
-    i32.load i64.load - - i32.load8_s i32.load8_u i32.load16_s i32.load16_u \
+    i32.load i64.load f32.load f64.load i32.load8_s i32.load8_u i32.load16_s i32.load16_u \
     i64.load8_s i64.load8_u i64.load16_s i64.load16_u i64.load32_s i64.load32_u i32.store i64.store \
-    - - i32.store8 i32.store16 i64.store8 i64.store16 i64.store32 memory.size \
-    memory.grow i32.const i64.const - - i32.eqz i32.eq i32.ne \
+    f32.store f64.store i32.store8 i32.store16 i64.store8 i64.store16 i64.store32 memory.size \
+    memory.grow i32.const i64.const f32.const f64.const i32.eqz i32.eq i32.ne \
     i32.lt_s i32.lt_u i32.gt_s i32.gt_u i32.le_s i32.le_u i32.ge_s i32.ge_u \
     i64.eqz i64.eq i64.ne i64.lt_s i64.lt_u i64.gt_s i64.gt_u i64.le_s \
-    i64.le_u i64.ge_s i64.ge_u - - - - - \
-    - - - - - - - i32.clz \
+    i64.le_u i64.ge_s i64.ge_u f32.eq f32.ne f32.lt f32.gt f32.le \
+    f32.ge f64.eq f64.ne f64.lt f64.gt f64.le f64.ge i32.clz \
     i32.ctz i32.popcnt i32.add i32.sub i32.mul i32.div_s i32.div_u i32.rem_s \
     i32.rem_u i32.and i32.or i32.xor i32.shl i32.shr_s i32.shr_u i32.rotl \
     i32.rotr i64.clz i64.ctz i64.popcnt i64.add i64.sub i64.mul i64.div_s \
     i64.div_u i64.rem_s i64.rem_u i64.and i64.or i64.xor i64.shl i64.shr_s \
-    i64.shr_u i64.rotl i64.rotr - - - - - \
-    - - - - - - - - \
-    - - - - - - - - \
-    - - - - - - - i32.wrap_i64 \
-    - - - - i64.extend_i32_s i64.extend_i32_u - - \
-    - - - - - - - - \
-    - - - - - - - - \
+    i64.shr_u i64.rotl i64.rotr f32.abs f32.neg f32.ceil f32.floor f32.trunc \
+    f32.nearest f32.sqrt f32.add f32.sub f32.mul f32.div f32.min f32.max \
+    f32.copysign f64.abs f64.neg f64.ceil f64.floor f64.trunc f64.nearest f64.sqrt \
+    f64.add f64.sub f64.mul f64.div f64.min f64.max f64.copysign i32.wrap_i64 \
+    i32.trunc_f32_s i32.trunc_f32_u i32.trunc_f64_s i32.trunc_f64_u i64.extend_i32_s i64.extend_i32_u i64.trunc_f32_s i64.trunc_f32_u \
+    i64.trunc_f64_s i64.trunc_f64_u f32.convert_i32_s f32.convert_i32_u f32.convert_i64_s f32.convert_i64_u f32.demote_f64 f64.convert_i32_s \
+    f64.convert_i32_u f64.convert_i64_s f64.convert_i64_u f64.promote_f32 i32.reinterpret_f32 i64.reinterpret_f64 f32.reinterpret_i32 f64.reinterpret_i64 \
     i32.extend8_s i32.extend16_s i64.extend8_s i64.extend16_s i64.extend32_s";
-
-/// Where an operation of a body begins.
-#[derive(Clone, Copy)]
-pub struct Spot {
-    pub at: usize,
-    /// How many blocks are open there.
-    pub open: usize,
-}
 
 /// The byte behind an integer.
 fn behind_integer(bytes: &[u8], at: usize) -> Option<usize> {
@@ -80,37 +78,91 @@ fn behind_operation(bytes: &[u8], at: usize) -> Option<usize> {
     behind_integers(bytes, next, immediates(opcode))
 }
 
-/// The spot behind the operation at this one.
-fn next_spot(bytes: &[u8], spot: Spot) -> Option<Spot> {
-    let open = match bytes.get(spot.at)? {
-        0x02..=0x04 => spot.open.saturating_add(1),
-        0x0b => spot.open.saturating_sub(1),
-        _ => spot.open,
-    };
-    let at = behind_operation(bytes, spot.at)?;
-    Some(Spot { at, open })
-}
-
-/// The spot of a body's first operation, behind its locals.
-fn first_spot(bytes: &[u8], body: Span) -> Option<Spot> {
+/// Where a body's first operation begins, behind its locals.
+pub fn first_operation(bytes: &[u8], body: Span) -> Option<usize> {
     let (groups, first) = read_u32(bytes, body.from).ok()?;
-    let at = behind_integers(bytes, first, groups.checked_mul(2)?)?;
-    Some(Spot { at, open: 0 })
+    behind_integers(bytes, first, groups.checked_mul(2)?)
 }
 
-/// The spot of the operation of this number, counted from 0, or the end of the body.
-pub fn spot_of(bytes: &[u8], body: Span, number: usize) -> Option<Spot> {
-    let mut spot = first_spot(bytes, body)?;
-    for _ in 0..number {
-        if spot.at >= body.to {
-            break;
+/// The blocks that are open, and of each whether it is an `if` whose `else` may still come.
+#[derive(Drop)]
+struct Open {
+    ifs: [bool; MAX_OPEN],
+    depth: usize,
+}
+
+impl Open {
+    fn begin(&mut self, is_if: bool) {
+        if let Some(place) = self.ifs.get_mut(self.depth) {
+            *place = is_if;
         }
-        spot = next_spot(bytes, spot)?;
+        self.depth = self.depth.saturating_add(1);
     }
-    Some(spot)
+
+    /// Ends the innermost block. The answer is whether it was an `if` without an `else`.
+    fn end(&mut self) -> bool {
+        self.depth = self.depth.saturating_sub(1);
+        match self.ifs.get_mut(self.depth) {
+            Some(place) => {
+                let lacks_else = *place;
+                *place = false;
+                lacks_else
+            }
+            None => false,
+        }
+    }
+
+    /// Goes past an operation. The answer is how many it is once decoded: the `end` of an `if` without an `else` is both.
+    fn pass(&mut self, opcode: u8) -> usize {
+        match opcode {
+            0x02 | 0x03 => self.begin(false),
+            0x04 => self.begin(true),
+            0x05 => {
+                self.end();
+                self.begin(false);
+            }
+            0x0b => return if self.end() { 2 } else { 1 },
+            _ => {}
+        }
+        1
+    }
+}
+
+/// Where the decoded operation of this number begins in a body, and its number among those that are spelled there.
+fn spot_of(bytes: &[u8], body: Span, operation: usize) -> Option<(usize, usize)> {
+    let mut at = first_operation(bytes, body)?;
+    let mut passed = 0usize;
+    let mut open = Open {
+        ifs: [false; MAX_OPEN],
+        depth: 0,
+    };
+    for number in 0..bytes.len() {
+        if at >= body.to {
+            return None;
+        }
+        passed = passed.saturating_add(open.pass(*bytes.get(at)?));
+        if passed > operation {
+            return Some((at, number));
+        }
+        at = behind_operation(bytes, at)?;
+    }
+    None
 }
 
 /// The name of the operation that begins with this byte.
 pub fn name_of(opcode: u8) -> Option<&'static str> {
     NAMES.split_whitespace().nth(usize::from(opcode))
+}
+
+/// The place of an operation of a function, by the function's number among those with bodies and the operation's in its body as it was
+/// decoded, where each `if` has an `else`. In the place the number is that among the operations that are spelled.
+pub fn place_of_operation(bytes: &[u8], function: usize, operation: usize) -> Option<Place> {
+    let body = body_at(bytes, find(bytes, CODE)?, function)?;
+    let (at, number) = spot_of(bytes, body, operation)?;
+    Some(Place::Operation {
+        function: function_of(bytes, function),
+        number,
+        name: name_of(*bytes.get(at)?)?,
+        at,
+    })
 }

@@ -1,11 +1,6 @@
 // Where in its bytes a module is refused.
 
-use crate::invalid::place_of_invalid;
-use crate::refusal::Refusal;
 use crate::spans::CODE;
-use crate::undecoded::place_of_undecoded;
-use crate::unlinked::place_of_unlinked;
-use std::alloc::Global;
 use std::fmt;
 
 /// A part of a module.
@@ -93,19 +88,6 @@ impl fmt::Display for Place {
                 name,
             } => { write!(f, "import {number}, \"{module}\" \"{name}\"") }
             Place::Export { name } => write!(f, "export \"{name}\""),
-        }
-    }
-}
-
-impl Refusal {
-    /// Where these bytes are refused so, as far as that can be told of a part of them. It looks at the bytes anew, and takes
-    /// memory; where there is none it answers that there is no place.
-    pub fn place(self, alloc: Global, bytes: &[u8]) -> Option<Place> {
-        match self {
-            Refusal::Memory => None,
-            Refusal::Decode(fault) => place_of_undecoded(alloc, bytes, fault),
-            Refusal::Validate(fault) => place_of_invalid(alloc, bytes, fault),
-            Refusal::Link(fault) => place_of_unlinked(alloc, bytes, fault),
         }
     }
 }

@@ -1,13 +1,10 @@
 // The sections and bodies of a module, by their sizes alone (WebAssembly Core 1.0, 5.5.2 and 5.5.13).
 
+use crate::place::Part;
 use leb::read_u32;
-use std::alloc::{AllocError, Global};
 
 /// The id of the section of imports.
 pub const IMPORTS: u8 = 2;
-
-/// The id of the section of the functions' types.
-pub const FUNCTIONS: u8 = 3;
 
 /// The id of the section of element segments.
 pub const ELEMENTS: u8 = 9;
@@ -18,8 +15,8 @@ pub const CODE: u8 = 10;
 /// The id of the section of data segments.
 pub const DATA: u8 = 11;
 
-/// What a module begins with: the magic number and the version.
-pub const OPENING: [u8; 8] = [0x00, 0x61, 0x73, 0x6d, 0x01, 0x00, 0x00, 0x00];
+/// How many bytes a module begins with, of the magic number and the version.
+pub const OPENING: usize = 8;
 
 /// Where something lies that has its size in front.
 #[derive(Clone, Copy)]
@@ -45,58 +42,79 @@ pub fn section_at(bytes: &[u8], at: usize) -> Option<Span> {
     sized(bytes, at, at.checked_add(1)?)
 }
 
-/// The sections from first to last, up to one that is cut off.
-pub fn sections(alloc: Global, bytes: &[u8]) -> Result<Vec<Span>, AllocError> {
-    let mut found = Vec::new(alloc);
-    let mut at = OPENING.len();
-    for _ in 0..bytes.len() {
-        let Some(span) = section_at(bytes, at) else {
-            return Ok(found);
-        };
-        found.push(span)?;
-        at = span.to;
-    }
-    Ok(found)
-}
-
 /// The section with this id.
-pub fn section_of(bytes: &[u8], sections: &[Span], id: u8) -> Option<Span> {
-    for span in sections {
-        if bytes.get(span.at) == Some(&id) {
-            return Some(*span);
+pub fn find(bytes: &[u8], id: u8) -> Option<Span> {
+    let mut at = OPENING;
+    for _ in 0..bytes.len() {
+        let section = section_at(bytes, at)?;
+        if bytes.get(section.at) == Some(&id) {
+            return Some(section);
         }
+        at = section.to;
     }
     None
 }
 
-/// How many items stand in the section with this id; none where it is absent.
-pub fn count_in(bytes: &[u8], sections: &[Span], id: u8) -> u32 {
-    let Some(section) = section_of(bytes, sections, id) else {
-        return 0;
-    };
-    match read_u32(bytes, section.from) {
-        Ok((count, _)) => count,
-        Err(_) => 0,
-    }
-}
-
-/// The bodies of a code section, up to one that is cut off.
-pub fn bodies(alloc: Global, bytes: &[u8], code: Span) -> Result<Vec<Span>, AllocError> {
-    let mut found = Vec::new(alloc);
-    let Ok((count, mut at)) = read_u32(bytes, code.from) else {
-        return Ok(found);
-    };
-    for _ in 0..count {
-        let Some(span) = sized(bytes, at, at) else {
-            return Ok(found);
-        };
-        found.push(span)?;
+/// The body of this number in a code section.
+pub fn body_at(bytes: &[u8], code: Span, number: usize) -> Option<Span> {
+    let (count, mut at) = read_u32(bytes, code.from).ok()?;
+    for index in 0..count {
+        let span = sized(bytes, at, at)?;
+        if index as usize == number {
+            return Some(span);
+        }
         at = span.to;
     }
-    Ok(found)
+    None
+}
+
+/// How many functions a module imports. In the host's profile every import is a function.
+pub fn imported(bytes: &[u8]) -> u32 {
+    match find(bytes, IMPORTS) {
+        Some(section) => read_u32(bytes, section.from).map_or(0, |(count, _)| count),
+        None => 0,
+    }
 }
 
 /// The number of the function with this body. The imported functions are counted first.
-pub fn function_of(bytes: &[u8], sections: &[Span], body: usize) -> u64 {
-    u64::from(count_in(bytes, sections, IMPORTS)).saturating_add(body as u64)
+pub fn function_of(bytes: &[u8], body: usize) -> u64 {
+    u64::from(imported(bytes)).saturating_add(body as u64)
+}
+
+/// The function whose body of a code section has this byte.
+fn function_at(bytes: &[u8], code: Span, byte: usize) -> Option<u64> {
+    let (count, mut at) = read_u32(bytes, code.from).ok()?;
+    for number in 0..count {
+        let span = sized(bytes, at, at)?;
+        if byte >= span.at && byte < span.to {
+            return Some(function_of(bytes, number as usize));
+        }
+        at = span.to;
+    }
+    None
+}
+
+/// The section that has this byte behind its id.
+fn section_with(bytes: &[u8], byte: usize) -> Option<Span> {
+    let mut at = OPENING;
+    for _ in 0..bytes.len() {
+        let section = section_at(bytes, at)?;
+        if byte > section.at && byte < section.to {
+            return Some(section);
+        }
+        at = section.to;
+    }
+    None
+}
+
+/// The section that has this byte behind its id, or the function where it is in a body.
+pub fn part_with(bytes: &[u8], byte: usize) -> Option<Part> {
+    let section = section_with(bytes, byte)?;
+    let id = *bytes.get(section.at)?;
+    if id == CODE
+        && let Some(function) = function_at(bytes, section, byte)
+    {
+        return Some(Part::Function(function));
+    }
+    Some(Part::Section(id))
 }

@@ -1,148 +1,125 @@
-// At which byte a module is refused by its form.
+// At which byte a module is refused by its form, and for what.
 
-use crate::parts::{body_front, section_front};
+use crate::operations::{first_operation, name_of};
 use crate::place::{Part, Place};
-use crate::search::{Fronts, first_failing};
-use crate::spans::{CODE, Span, bodies, function_of, sections};
-use decode::{DecodeFault, decode};
-use limits::MAX_MODULE_BYTES;
+use crate::reason::{NO_TABLES, OPTIMIZED, PLAIN, Reason};
+use crate::spans::{CODE, body_at, find, imported, part_with};
+use decode::{DecodeFault, RefusedAt, refused_at};
 use std::alloc::Global;
 
-/// How many bytes a section or a body may have at most for its bytes to be looked at.
-const LONGEST: usize = 262_144;
+/// Floats can be computed by functions on integers.
+const SOFT: &str = "floating point is lowered by examples/kit/lower.py";
 
-/// What is decoded by itself.
-#[derive(Clone, Copy, PartialEq, Eq)]
-enum Piece {
-    /// All that there is.
-    Module,
-    /// A module of one section alone.
-    Section,
-    /// A module of one body alone.
-    Body,
+/// What begins with an opcode that the host doesn't take. What stands behind it is known of 0xfc alone.
+fn of_opcode(opcode: u8, behind: Option<&u8>) -> Reason {
+    let what = match (opcode, behind) {
+        (0x05, _) => return Reason::byte(opcode, "else outside the first branch of an if"),
+        (0x06..=0x0a | 0x18 | 0x19 | 0x1f, _) => "exceptions",
+        (0x12..=0x15, _) => "tail calls and function references",
+        (0x1c | 0x25 | 0x26 | 0xd0..=0xd2, _) => "reference types",
+        (0xfb, _) => "garbage collection",
+        (0xfc, Some(0x00..=0x07)) => "conversions that saturate",
+        (0xfc, Some(0x08..=0x0b)) => "bulk memory",
+        (0xfc, _) => "bulk memory or reference types",
+        (0xfd, _) => "vectors",
+        (0xfe, _) => "threads",
+        _ => return Reason::byte(opcode, "no instruction"),
+    };
+    Reason::byte(opcode, what).with(PLAIN)
 }
 
-/// Bytes that are refused, and a piece of them, which lies here. Its fronts end at a byte.
-#[derive(Clone, Copy)]
-struct Undecoded<'a> {
-    alloc: Global,
-    bytes: &'a [u8],
-    fault: DecodeFault,
-    piece: Piece,
-    span: Span,
+/// What is of another profile: a type, an import or an instruction.
+fn of_profile(byte: u8) -> Option<Reason> {
+    let reason = match byte {
+        0x01 => Reason::byte(byte, "a table is imported, which no host gives"),
+        0x02 => Reason::byte(byte, "a memory is imported; a module has its own"),
+        0x03 => Reason::byte(byte, "a global is imported; only functions can be"),
+        0x7c => Reason::byte(byte, "the type f64").with(SOFT),
+        0x7d => Reason::byte(byte, "the type f32").with(SOFT),
+        _ => Reason::operation(name_of(byte)?).with(SOFT),
+    };
+    Some(reason)
 }
 
-impl Fronts for Undecoded<'_> {
-    fn fails(&self, to: usize) -> Option<bool> {
-        let text = match self.piece {
-            Piece::Module => Vec::from_slice(self.alloc, self.bytes.get(..to)?),
-            Piece::Section => section_front(self.alloc, self.bytes, self.span, to),
-            Piece::Body => body_front(self.alloc, self.bytes, self.span, to),
-        };
-        Some(decode(self.alloc, text.ok()?).err() == Some(self.fault))
-    }
+/// Whether the byte is one of the locals of a function.
+fn is_in_locals(bytes: &[u8], function: u64, at: usize) -> Option<bool> {
+    let number = function.checked_sub(u64::from(imported(bytes)))?;
+    let body = body_at(bytes, find(bytes, CODE)?, number as usize)?;
+    Some(at < first_operation(bytes, body)?)
 }
 
-impl Undecoded<'_> {
-    fn with(self, piece: Piece, span: Span) -> Self {
-        Undecoded {
-            piece,
-            span,
-            ..self
-        }
-    }
-
-    /// Whether the piece is a part that is too long for its bytes to be looked at.
-    fn is_long(&self) -> bool {
-        self.piece != Piece::Module && self.span.to.saturating_sub(self.span.from) > LONGEST
-    }
-
-    /// The byte at which the piece is refused, or at which what it holds begins where that is long.
-    fn stop(&self) -> Option<usize> {
-        let Span { at, from, to } = self.span;
-        match self.fault {
-            DecodeFault::End => Some(to),
-            DecodeFault::Counts => Some(from),
-            _ if self.is_long() => Some(from),
-            _ => Some(first_failing(self, at, to)?.saturating_sub(1)),
-        }
-    }
-
-    /// The first of these pieces that has the fault by itself, and its number.
-    fn first(&self, piece: Piece, spans: &[Span]) -> Option<(usize, Span)> {
-        for (number, span) in spans.iter().enumerate() {
-            if self.with(piece, *span).fails(span.to)? {
-                return Some((number, *span));
+/// Which limit is meant in a part.
+fn of_limit(bytes: &[u8], at: usize, part: Option<Part>) -> Option<Reason> {
+    let reason = match part? {
+        Part::Section(1) => Reason::plain(
+            "more than 1,024 types, or more than 256 parameters of a type",
+        ),
+        Part::Section(2) => Reason::plain("more than 64 imports"),
+        Part::Section(3 | CODE) => Reason::plain("more than 4,096 functions"),
+        Part::Section(4) => Reason::plain(
+            "more than one table, or more than 4,096 elements at first, or more than its most",
+        ),
+        Part::Section(5) => Reason::plain(
+            "more than one memory, or more than 64 pages at first, or more than its most",
+        ).with("less static data, or a smaller stack by -z stack-size=65536"),
+        Part::Section(6) => Reason::plain("more than 256 globals"),
+        Part::Section(7) => Reason::plain("more than 1,024 exports"),
+        Part::Section(_) => return None,
+        Part::Function(function) => {
+            if is_in_locals(bytes, function, at)? {
+                Reason::plain("more than 256 locals").with(OPTIMIZED)
+            } else {
+                Reason::plain("more than 4,096 labels of a br_table").with(NO_TABLES)
             }
         }
-        None
-    }
+    };
+    Some(reason)
+}
 
-    /// The byte in a section; it is in no part where it stands in front of what the section holds.
-    fn in_section(&self, section: Span) -> Option<Place> {
-        let id = *self.bytes.get(section.at)?;
-        let at = self.with(Piece::Section, section).stop()?;
-        let part = if at < section.from {
-            None
-        } else {
-            Some(Part::Section(id))
-        };
-        Some(Place::Byte { at, part })
-    }
-
-    /// The first body that has the fault by itself, and its number.
-    fn body(&self, code: Span) -> Option<(usize, Span)> {
-        let found = bodies(self.alloc, self.bytes, code).ok()?;
-        self.first(Piece::Body, found.as_slice())
-    }
-
-    /// The byte in the code section: in a body where one has the fault by itself.
-    fn in_code(&self, sections: &[Span], code: Span) -> Option<Place> {
-        let Some((number, body)) = self.body(code) else {
-            return self.in_section(code);
-        };
-        let function = function_of(self.bytes, sections, number);
-        Some(Place::Byte {
-            at: self.with(Piece::Body, body).stop()?,
-            part: Some(Part::Function(function)),
-        })
-    }
-
-    /// The byte in the first section that has the fault by itself, else in what is round the sections.
-    fn in_sections(&self, sections: &[Span]) -> Option<Place> {
-        let Some((_, section)) = self.first(Piece::Section, sections) else {
-            return Some(Place::Byte {
-                at: self.stop()?,
-                part: None,
-            });
-        };
-        if self.bytes.get(section.at) == Some(&CODE) && self.fault != DecodeFault::Counts {
-            return self.in_code(sections, section);
-        }
-        self.in_section(section)
+/// What is known of the fault beyond its meaning.
+fn reason_of(bytes: &[u8], refused: RefusedAt, part: Option<Part>) -> Option<Reason> {
+    let RefusedAt { fault, at } = refused;
+    let byte = bytes.get(at);
+    match fault {
+        DecodeFault::Opcode => Some(of_opcode(*byte?, bytes.get(at.checked_add(1)?))),
+        DecodeFault::Profile => of_profile(*byte?),
+        DecodeFault::Limit if part.is_none() => Some(Reason::plain(
+            "the module has more than 1,048,576 bytes",
+        ).with("strip its debug names")),
+        DecodeFault::Limit => of_limit(bytes, at, part),
+        DecodeFault::Kind => Some(of_kind(*byte?, part)),
+        _ => None,
     }
 }
 
-/// The byte at which the bytes are refused with this fault: the last one that has to be read to see it, the end where bytes
-/// are missing, and the number of functions where there are more or fewer than bodies.
-pub fn place_of_undecoded(alloc: Global, bytes: &[u8], fault: DecodeFault) -> Option<Place> {
-    if bytes.len() > MAX_MODULE_BYTES {
-        return Some(Place::Byte {
-            at: MAX_MODULE_BYTES,
-            part: None,
-        });
+/// What a byte should be that is of no kind.
+fn of_kind(byte: u8, part: Option<Part>) -> Reason {
+    match (part, byte) {
+        (None, _) => Reason::byte(byte, "no kind of section").with(PLAIN),
+        (Some(Part::Function(_)), _) => Reason::byte(
+            byte,
+            "no type of a local or a block, or no 0 where one must stand",
+        )
+        .with(PLAIN),
+        (Some(Part::Section(_)), 0x63..=0x7b) => Reason::byte(
+            byte,
+            "no type that is taken there",
+        ).with(PLAIN),
+        (Some(Part::Section(_)), _) => Reason::byte(
+            byte,
+            "no kind of type, import, export or limits",
+        ),
     }
-    let all = Undecoded {
-        alloc,
-        bytes,
-        fault,
-        piece: Piece::Module,
-        span: Span {
-            at: 0,
-            from: 0,
-            to: bytes.len(),
-        },
+}
+
+/// The byte at which the bytes are refused, the part in which it or what is missing there lies, and what is found.
+pub fn undecoded(alloc: Global, bytes: &[u8]) -> Option<(Place, Option<Reason>)> {
+    let refused = refused_at(alloc, bytes)?;
+    let at = refused.at;
+    let last = match refused.fault {
+        DecodeFault::End => at.saturating_sub(1),
+        _ => at,
     };
-    let spans = sections(alloc, bytes).ok()?;
-    all.in_sections(spans.as_slice())
+    let part = part_with(bytes, last);
+    Some((Place::Byte { at, part }, reason_of(bytes, refused, part)))
 }

@@ -1,5 +1,5 @@
 -- An order has one end.
-use Rattle.std.proofs.Common.{◌≡◌, ℕ, ◌-◌, List, [], ◌∷◌, Option, Some, None, refl, sym, ap, ◌∙◌, subst}
+use Rattle.std.proofs.Common.{◌≡◌, ℕ, ◌+◌, ◌-◌, List, [], ◌∷◌, Option, Some, None, refl, sym, ap, ◌∙◌, subst}
 use Rattle.std.specs.Prelude.{codes}
 use Rattle.std.specs.List.{slice_get}
 use Rattle.syntax.specs.declared.types.Value.{Value}
@@ -18,7 +18,7 @@ use Rattle.imports.specs.declared.call.Call.TheVariants.{Now, InLen, InCopy, Out
 use Rattle.imports.specs.Linking.{Imports, ExportsFunction}
 use Rattle.imports.specs.Uv.{AreNamedApart}
 use Rattle.order.specs.Bytes.{copied_in, set_out}
-use Rattle.order.specs.Work.{WorkOrder, WorkEnd, EndsAs, Gives, WorkAnswers, WorkCall, WorkRun, StartRun, Works, stops, works}
+use Rattle.order.specs.Work.{WorkOrder, WorkEnd, EndsAs, Gives, WorkAnswers, WorkCall, WorkRun, StartRun, Computes, Works, stops, works}
 
 -- an import is one function of the host
 pub one_import : AreNamedApart → (m : Contents) (number : ℕ) (f g : Call) → Imports m number f → Imports m number g → f ≡ g
@@ -106,23 +106,26 @@ module _ (apart : AreNamedApart) (o : WorkOrder) where
       let again = subst (λ (x : Store). StartRun o o.loaded.contents.start x e' u' t' reply') (fresh_one s' s fresh' fresh) r' in
       starts_one o.loaded.contents.start s e e' u u' t t' reply reply' r again
 
-  pub one_end : (e e' : WorkEnd) → ValidModule o.loaded.contents → Works o e → Works o e' → e ≡ e'
-  one_end e e' valid (stops s t outcome used reply fresh run not end) (stops s' t' outcome' used' reply' fresh' run' not' end') =
-      let one = begun_one s s' outcome outcome' used used' t t' reply reply' fresh fresh' run run' in
-      ends_one outcome outcome' reply reply' e e' one.0 one.3 end end'
-  one_end e e' valid (stops s t outcome used reply fresh run not end) (works s' t' v' results' outcome' used' more' reply' last' function' fresh' started' exported' run' end') =
-      let one = begun_one s s' outcome (Returned results') used used' t t' reply reply' fresh fresh' run started' in
+  pub one_run : (e e' : WorkEnd) (u u' : ℕ) → ValidModule o.loaded.contents → Computes o e u → Computes o e' u' → (e ≡ e') × (u ≡ u')
+  one_run e e' u u' valid (stops s t outcome reply fresh run not end) (stops s' t' outcome' reply' fresh' run' not' end') =
+      let one = begun_one s s' outcome outcome' u u' t t' reply reply' fresh fresh' run run' in
+      (ends_one outcome outcome' reply reply' e e' one.0 one.3 end end', one.1)
+  one_run e e' u u' valid (stops s t outcome reply fresh run not end) (works s' t' v' results' outcome' first' second' reply' last' function' fresh' started' exported' run' used' end') =
+      let one = begun_one s s' outcome (Returned results') u first' t t' reply reply' fresh fresh' run started' in
       absurd (not results' one.0)
-  one_end e e' valid (works s t v results outcome used more reply last function fresh started exported run end) (stops s' t' outcome' used' reply' fresh' run' not' end') =
-      let one = begun_one s s' (Returned results) outcome' used used' t t' reply reply' fresh fresh' started run' in
+  one_run e e' u u' valid (works s t v results outcome first second reply last function fresh started exported run used end) (stops s' t' outcome' reply' fresh' run' not' end') =
+      let one = begun_one s s' (Returned results) outcome' first u' t t' reply reply' fresh fresh' started run' in
       absurd (not' results (sym one.0))
-  one_end e e' valid (works s t v results outcome used more reply last function fresh started exported run end) (works s' t' v' results' outcome' used' more' reply' last' function' fresh' started' exported' run' end') =
-      let one = begun_one s s' (Returned results) (Returned results') used used' t t' reply reply' fresh fresh' started started' in
+  one_run e e' u u' valid (works s t v results outcome first second reply last function fresh started exported run used end) (works s' t' v' results' outcome' first' second' reply' last' function' fresh' started' exported' run' used' end') =
+      let one = begun_one s s' (Returned results) (Returned results') first first' t t' reply reply' fresh fresh' started started' in
       let named : function' ≡ function = one_export o.loaded.contents (codes "uv_work") function' function valid.distinct exported' exported in
-      let again : WorkRun o (o.fuel - used) t reply function (I32 o.op ∷ []) outcome' more' v' last' =
-      subst (λ (f : ℕ). WorkRun o (o.fuel - used) t reply f (I32 o.op ∷ []) outcome' more' v' last') named
-      (subst (λ (x : List ℕ). WorkRun o (o.fuel - used) t x function' (I32 o.op ∷ []) outcome' more' v' last') (sym one.3)
-      (subst (λ (x : Store). WorkRun o (o.fuel - used) x reply' function' (I32 o.op ∷ []) outcome' more' v' last') (sym one.2)
-      (subst (λ (x : ℕ). WorkRun o (o.fuel - x) t' reply' function' (I32 o.op ∷ []) outcome' more' v' last') (sym one.1) run'))) in
-      let both = runs_one (o.fuel - used) t reply function (I32 o.op ∷ []) outcome outcome' more more' v v' last last' run again in
-      ends_one outcome outcome' last last' e e' both.0 both.3 end end'
+      let again : WorkRun o (o.fuel - first) t reply function (I32 o.op ∷ []) outcome' second' v' last' =
+      subst (λ (f : ℕ). WorkRun o (o.fuel - first) t reply f (I32 o.op ∷ []) outcome' second' v' last') named
+      (subst (λ (x : List ℕ). WorkRun o (o.fuel - first) t x function' (I32 o.op ∷ []) outcome' second' v' last') (sym one.3)
+      (subst (λ (x : Store). WorkRun o (o.fuel - first) x reply' function' (I32 o.op ∷ []) outcome' second' v' last') (sym one.2)
+      (subst (λ (x : ℕ). WorkRun o (o.fuel - x) t' reply' function' (I32 o.op ∷ []) outcome' second' v' last') (sym one.1) run'))) in
+      let both = runs_one (o.fuel - first) t reply function (I32 o.op ∷ []) outcome outcome' second second' v v' last last' run again in
+      (ends_one outcome outcome' last last' e e' both.0 both.3 end end', used ∙ (λ i. one.1 i + both.1 i) ∙ sym used')
+
+  pub one_end : (e e' : WorkEnd) → ValidModule o.loaded.contents → Works o e → Works o e' → e ≡ e'
+  one_end e e' valid (u, h) (u', h') = (one_run e e' u u' valid h h').0

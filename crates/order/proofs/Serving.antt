@@ -12,7 +12,7 @@ use Rattle.order.specs.Numbers.{not_here}
 use Rattle.order.specs.Work.{WorkOrder, WorkEnd, Done, Trap, Depth, Spent, NoMemory, WorkAnswers, WorkCall, Works, IsTheEnd, IsEndOf, Gives}
 use Rattle.order.specs.WorkHosting.{Answered}
 use Rattle.order.specs.Serving.{Serves}
-use Rattle.std.proofs.Common.{Result, Ok, Err, IfOk, reverse, ◌-◌, codes}
+use Rattle.std.proofs.Common.{Result, Ok, Err, IfOk, reverse, ◌+◌, ◌-◌, codes}
 use Rattle.syntax.specs.declared.types.Value.TheVariants.{I32}
 use Rattle.validate.specs.Valid.{ValidModule}
 use Rattle.instance.specs.Store.{Store}
@@ -28,7 +28,7 @@ use Rattle.interp.specs.declared.ended.Ending.TheVariants as ending
 use Rattle.imports.specs.Linking.{IsLinked, ExportsFunction}
 use Rattle.imports.specs.Uv.{AreNamedApart}
 use Rattle.order.specs.Hosting.{import_types}
-use Rattle.order.specs.Work.{WorkRun, StartRun, EndsAs, stops, works}
+use Rattle.order.specs.Work.{WorkRun, StartRun, EndsAs, Computes, Uses, stops, works}
 use Rattle.order.proofs.Naming.{names}
 use Rattle.order.proofs.OneEnd.{one_end}
 
@@ -100,18 +100,25 @@ not_returned ending.Depth h results e = absurd (cc)
 not_returned ending.Spent h results e = absurd (cc)
 
 -- the start function does not return
-pub stops_end : AreNamedApart → (o : WorkOrder) (s t : Store) (how : Ending) (used : ℕ) (reply : List ℕ) (e : WorkEnd) → ValidModule o.loaded.contents → IsFresh o.loaded.contents s
+pub stops_end : (o : WorkOrder) (s t : Store) (how : Ending) (used : ℕ) (reply : List ℕ) (e : WorkEnd) → IsFresh o.loaded.contents s
     → StartRun o o.loaded.contents.start s (outcome_of how) used t reply → ((values : List Value) → how ≡ Return values → ⊥)
-    → EndsAs (outcome_of how) reply e → IsEndOf o e
-stops_end apart o s t how used reply e valid fresh run not end =
-    is_end apart o e valid (stops s t (outcome_of how) used reply fresh run (not_returned how not) end)
+    → EndsAs (outcome_of how) reply e → Computes o e used
+stops_end o s t how used reply e fresh run not end = stops s t (outcome_of how) reply fresh run (not_returned how not) end
 
 -- it returns, and `uv_work` runs with the fuel that is left
-pub works_end : AreNamedApart → (o : WorkOrder) (s t u : Store) (started ended : Ended) (values : List Value) (reply reply' : List ℕ) (e : WorkEnd) → ValidModule o.loaded.contents → IsFresh o.loaded.contents s
+pub works_end : (o : WorkOrder) (s t u : Store) (started ended : Ended) (values : List Value) (reply reply' : List ℕ) (e : WorkEnd) → IsFresh o.loaded.contents s
     → started.ending ≡ Return values → StartRun o o.loaded.contents.start s (outcome_of started.ending) started.used t reply
     → (f : ℕ) × ExportsFunction o.loaded.contents (codes "uv_work") f × WorkRun o (o.fuel - started.used) t reply f (I32 o.op ∷ []) (outcome_of ended.ending) ended.used u reply'
-    → EndsAs (outcome_of ended.ending) reply' e → IsEndOf o e
-works_end apart o s t u started ended values reply reply' e valid fresh returned run work end =
+    → EndsAs (outcome_of ended.ending) reply' e → Computes o e (started.used + ended.used)
+works_end o s t u started ended values reply reply' e fresh returned run work end =
     let first : StartRun o o.loaded.contents.start s (Returned (reverse values)) started.used t reply =
     subst (λ (x : Ending). StartRun o o.loaded.contents.start s (outcome_of x) started.used t reply) returned run in
-    is_end apart o e valid (works s t u (reverse values) (outcome_of ended.ending) started.used ended.used reply reply' work.0 fresh first work.1 work.2 end)
+    works s t u (reverse values) (outcome_of ended.ending) started.used ended.used reply reply' work.0 fresh first work.1 work.2 refl end
+
+-- what is computed is what is used for it
+pub uses : (o : WorkOrder) (e : WorkEnd) (used : ℕ) → e ≢ NoMemory → Computes o e used → Uses o e used
+uses o (Done value bytes) used told h = h
+uses o (Trap code) used told h = h
+uses o Depth used told h = h
+uses o Spent used told h = h
+uses o NoMemory used told h = absurd (told refl)

@@ -15,7 +15,7 @@ use Rattle.imports.specs.declared.call.Call.{Call}
 use Rattle.imports.specs.declared.call.Call.TheVariants.{Now, InLen, InCopy, OutSet}
 use Rattle.order.specs.Numbers.{invalid, outside_memory}
 use Rattle.order.specs.Bytes.{set_out, taken_out}
-use Rattle.order.specs.Work.{WorkOrder, WorkEnd, Done, Trap, Depth, Spent, NoMemory, EndsAs, WorkAnswers, WorkCall, StartRun, Works, stops, works, IsEndOf, IsShortEnd}
+use Rattle.order.specs.Work.{WorkOrder, WorkEnd, Done, Trap, Depth, Spent, NoMemory, EndsAs, WorkAnswers, WorkCall, StartRun, Computes, stops, works, IsEndOf, IsShortEnd}
 
 abbrev IsShort : List ℕ → Type 0
 IsShort bytes = length bytes ≤ MAX_BYTES
@@ -61,13 +61,13 @@ end_short (Trapped code) reply e h short = rw h tt
 end_short TooDeep reply e h short = rw h tt
 end_short OutOfFuel reply e h short = rw h tt
 
-works_short : (o : WorkOrder) (e : WorkEnd) → Works o e → IsShortEnd e
-works_short o e (stops s t outcome used reply fresh run not as_end) = end_short outcome reply e as_end (start_short o o.loaded.contents.start s t outcome used reply run)
-works_short o e (works s t u results outcome used more reply reply' function fresh started exported run as_end) =
-    end_short outcome reply' e as_end (trace_short o run.trace reply reply' run.answers (start_short o o.loaded.contents.start s t (Returned results) used reply started))
+computes_short : (o : WorkOrder) (e : WorkEnd) (u : ℕ) → Computes o e u → IsShortEnd e
+computes_short o e u (stops s t outcome reply fresh run not as_end) = end_short outcome reply e as_end (start_short o o.loaded.contents.start s t outcome u reply run)
+computes_short o e u (works s t v results outcome first second reply reply' function fresh started exported run used as_end) =
+    end_short outcome reply' e as_end (trace_short o run.trace reply reply' run.answers (start_short o o.loaded.contents.start s t (Returned results) first reply started))
 
 pub short : (o : WorkOrder) (e : WorkEnd) → ∥ IsEndOf o e ∥₁ → IsShortEnd e
-short o (Done value bytes) h = ∥∥₁_elim h le_prop (λ it. works_short o (Done value bytes) it.computed)
+short o (Done value bytes) h = ∥∥₁_elim h le_prop (λ it. computes_short o (Done value bytes) it.computed.0 it.computed.1)
 short o (Trap code) h = tt
 short o Depth h = tt
 short o Spent h = tt

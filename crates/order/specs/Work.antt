@@ -1,5 +1,5 @@
 -- What one work request is, and what becomes of it.
-use Rattle.std.specs.Prelude.{◌≡◌, ◌≢◌, ℕ, ◌-◌, ◌^◌, ◌≤◌, List, [], ◌∷◌, length, Some, None, Option, codes}
+use Rattle.std.specs.Prelude.{◌≡◌, ◌≢◌, ℕ, ◌+◌, ◌-◌, ◌^◌, ◌≤◌, List, [], ◌∷◌, length, Some, None, Option, codes}
 use Rattle.limits.specs.declared.TheConstants.{MAX_BYTES}
 use Rattle.syntax.specs.declared.types.Value.{Value}
 use Rattle.syntax.specs.declared.types.Value.TheVariants.{I32, I64}
@@ -77,25 +77,35 @@ abbrev pub StartRun : WorkOrder → Option ℕ → Store → Outcome → (used :
 StartRun o None s outcome used t reply = (outcome ≡ Returned []) × (used ≡ 0) × (t ≡ s) × (reply ≡ [])
 StartRun o (Some function) s outcome used t reply = WorkRun o o.fuel s [] function [] outcome used t reply
 
--- What one thread computes from the order alone: the start function and then `uv_work`, on a new instance, with
--- the fuel that is left.
-pub data Works (o : WorkOrder) (end : WorkEnd) : Type 0 where
+-- What one thread computes from the order alone, and the units of fuel that it uses: the start function and then `uv_work`,
+-- on a new instance, with the fuel that is left.
+pub data Computes (o : WorkOrder) (end : WorkEnd) (used : ℕ) : Type 0 where
   -- the start function does not return
-  stops : (s t : Store) (outcome : Outcome) (used : ℕ) (reply : List ℕ) → IsFresh o.loaded.contents s
+  stops : (s t : Store) (outcome : Outcome) (reply : List ℕ) → IsFresh o.loaded.contents s
       → StartRun o o.loaded.contents.start s outcome used t reply
       → ((results : List Value) → outcome ≢ Returned results)
-      → EndsAs outcome reply end → Works o end
-  works : (s t u : Store) (results : List Value) (outcome : Outcome) (used more : ℕ) (reply reply' : List ℕ) (function : ℕ)
+      → EndsAs outcome reply end → Computes o end used
+  works : (s t u : Store) (results : List Value) (outcome : Outcome) (first second : ℕ) (reply reply' : List ℕ) (function : ℕ)
       → IsFresh o.loaded.contents s
-      → StartRun o o.loaded.contents.start s (Returned results) used t reply
+      → StartRun o o.loaded.contents.start s (Returned results) first t reply
       → ExportsFunction o.loaded.contents (codes "uv_work") function
-      → WorkRun o (o.fuel - used) t reply function (I32 o.op ∷ []) outcome more u reply'
-      → EndsAs outcome reply' end → Works o end
+      → WorkRun o (o.fuel - first) t reply function (I32 o.op ∷ []) outcome second u reply'
+      → used ≡ first + second
+      → EndsAs outcome reply' end → Computes o end used
+
+-- what it computes, whatever it uses
+abbrev pub Works : WorkOrder → WorkEnd → Type 0
+Works o end = (used : ℕ) × Computes o end used
 
 -- the end of the order: one thread computes it, and no other
 pub record IsTheEnd (o : WorkOrder) (end : WorkEnd) : Type 0 where
   pub computed : Works o end
   pub only : (other : WorkEnd) → Works o other → other ≡ end
+
+-- what a run of the order uses; where there is no memory, nothing runs
+abbrev pub Uses : WorkOrder → WorkEnd → (used : ℕ) → Type 0
+Uses o NoMemory used = used ≡ 0
+Uses o end used = Computes o end used
 
 -- what a reply to the order may say: its end, or that there was no memory
 abbrev pub IsEndOf : WorkOrder → WorkEnd → Type 0

@@ -3,7 +3,8 @@
 //!
 //! `Order::run` makes an instance, runs the start function and then `uv_work`, and gives the reply. A `Reply` keeps in its type that it
 //! holds the end of its own order, which is one (`laws::one_end`), or that there was no memory: so whoever holds a reply
-//! knows it, whatever thread made it. `Order::is_same` compares two orders in every field.
+//! knows it, whatever thread made it. `Order::run_told` tells beside the reply what the run used and where it stopped.
+//! `Order::is_same` compares two orders in every field.
 //!
 //! Begin with `order` and `run`; what one thread computes is `specs/Work.antt`.
 #![tactic(auto)]
@@ -15,6 +16,9 @@ pub mod laws;
 mod order;
 mod reply;
 mod run;
+mod trail;
 
 pub use order::{Order, Outcome};
 pub use reply::Reply;
+pub use run::Told;
+pub use trail::{MAX_TRAIL, Trail};

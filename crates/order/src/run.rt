@@ -1,6 +1,6 @@
 // What one thread computes from an order.
 
-ghost use Rattle.std.specs.Prelude.{◌≡◌, ◌≤◌, ℕ, [], ◌∷◌, Some, length, codes, IfOk};
+ghost use Rattle.std.specs.Prelude.{◌≡◌, ◌≢◌, ◌≤◌, ℕ, [], ◌∷◌, Some, length, codes, IfOk};
 ghost use Rattle.std.specs.Arc.{arc_value};
 ghost use Rattle.limits.specs.declared.TheConstants.{MAX_BYTES, MAX_DEPTH};
 ghost use Rattle.syntax.specs.declared.types.ValType.TheVariants as valtype;
@@ -12,13 +12,15 @@ ghost use Rattle.interp.specs.Running.{outcome_of, AreResults};
 ghost use Rattle.imports.specs.Linking.{ExportsFunction};
 ghost use Rattle.order.specs.Orders.{order_of, end_of};
 ghost use Rattle.order.specs.Serving.{Serves};
-ghost use Rattle.order.specs.Work.{WorkRun, WorkEnd, StartRun, IsEndOf, EndsAs};
+ghost use Rattle.order.specs.Work.{WorkRun, WorkEnd, NoMemory, StartRun, Computes, Uses, IsEndOf, EndsAs};
 
 use crate::host::WorkHost;
 use crate::order::{Order, Outcome};
 use crate::reply::Reply;
+use crate::trail::Trail;
 use imports::EntryPoint;
 use imports::laws::names_are_apart;
+use instance::fault::InstFault;
 use instance::state::Instance;
 use interp::ended::{Ended, Ending};
 use interp::invoke::invoke;
@@ -29,7 +31,8 @@ use syntax::types::Value;
 /// How `uv_work`, or the start function where that did not return, reads as an outcome.
 fn outcome_from(ending: Ending, reply: Vec<u8>) -> Outcome
     requires { AreResults ending (valtype.I32 ∷ []) }
-    ensures { EndsAs (outcome_of ending) reply.items (end_of result) }
+    ensures end { EndsAs (outcome_of ending) reply.items (end_of result) }
+    ensures told { end_of result ≢ NoMemory }
 {
     match ending {
         Ending::Return(values) => match values.get(0) {
@@ -42,6 +45,31 @@ fn outcome_from(ending: Ending, reply: Vec<u8>) -> Outcome
     }
 }
 
+/// A run of an order: its reply, what it used and where it stopped.
+#[derive(Drop)]
+pub struct Told {
+    /// The order with what became of it.
+    pub reply: Reply,
+    /// The units of fuel that the start function and `uv_work` used together, at most those of the order; 0 where there was
+    /// no memory.
+    pub used: u64,
+    /// Where the start function or `uv_work` stopped, if it was over but by return.
+    pub trail: Option<Trail>,
+}
+
+/// The same of an order whose instance and reply were reserved.
+#[derive(Drop)]
+struct Computed {
+    outcome: Outcome,
+    used: u64,
+    trail: Option<Trail>,
+}
+
+/// What is kept of where the last call of one of an instance's functions stopped.
+fn trail_of(instance: &Instance) -> Option<Trail> {
+    Some(Trail::of(&instance.last_stop()?))
+}
+
 impl Order {
     /// Runs the order: the start function and then `uv_work` on a new instance, with the fuel that is left. Its module
     /// exports `uv_work`, and its bytes and its depth are within their limits, as of each order that a loop hands out.
@@ -52,60 +80,95 @@ impl Order {
         requires depth { (1 ≤ self.depth) × (self.depth ≤ MAX_DEPTH) }
         ensures { result.order ≡ self }
     {
-        let outcome = match self.compute(alloc) {
-            Ok(outcome) => outcome,
-            Err(AllocError) => Outcome::NoMemory,
+        let Told { reply, .. } = self.run_told(alloc);
+        reply
+    }
+
+    /// Runs the order as `run` does, and tells beside the reply what the run used and where it stopped.
+    pub fn run_told(self, alloc: Global) -> Told
+        requires work { (f : ℕ) × ExportsFunction (arc_value self.module).contents (codes "uv_work") f }
+        requires bytes { length (arc_value self.bytes).items ≤ MAX_BYTES }
+        requires depth { (1 ≤ self.depth) × (self.depth ≤ MAX_DEPTH) }
+        ensures order { result.reply.order ≡ self }
+        ensures used { Uses (order_of self) (end_of result.reply.outcome) result.used }
+        ensures within { result.used ≤ self.fuel }
+    {
+        let computed = match self.compute(alloc) {
+            Ok(computed) => computed,
+            Err(AllocError) => Computed {
+                outcome: Outcome::NoMemory,
+                used: 0,
+                trail: None,
+            },
         };
-        Reply {
-            order: self,
-            outcome,
+        Told {
+            reply: Reply {
+                order: self,
+                outcome: computed.outcome,
+            },
+            used: computed.used,
+            trail: computed.trail,
         }
     }
 
-    fn compute(&self, alloc: Global) -> Result<Outcome, AllocError>
+    fn compute(&self, alloc: Global) -> Result<Computed, AllocError>
         requires work { (f : ℕ) × ExportsFunction (arc_value self.now.module).contents (codes "uv_work") f }
         requires bytes { length (arc_value self.now.bytes).items ≤ MAX_BYTES }
         requires depth { (1 ≤ self.now.depth) × (self.now.depth ≤ MAX_DEPTH) }
-        ensures { IfOk result (λ outcome. IsEndOf (order_of self.now) (end_of outcome)) }
+        ensures end { IfOk result (λ computed. IsEndOf (order_of self.now) (end_of computed.outcome)) }
+        ensures used { IfOk result (λ computed. Uses (order_of self.now) (end_of computed.outcome) computed.used) }
+        ensures within { IfOk result (λ computed. computed.used ≤ self.now.fuel) }
     {
         let mut instance = self.new_instance(alloc)?;
-        self.compute_on(alloc, &mut instance)
+        let host = WorkHost::new(alloc, &self.module, &self.bytes)?;
+        Ok(self.compute_on(&mut instance, host))
     }
 
-    /// The same, on a new instance.
-    fn compute_on(&self, alloc: Global, instance: &mut Instance) -> Result<Outcome, AllocError>
+    /// The same, on a new instance, for a host that has set no bytes. Nothing is reserved.
+    fn compute_on(&self, instance: &mut Instance, host: WorkHost) -> Computed
         requires work { (f : ℕ) × ExportsFunction (arc_value self.now.module).contents (codes "uv_work") f }
         requires valid { ValidModule (arc_value self.now.module).contents }
         requires fresh { IsFresh (arc_value self.now.module).contents instance.old }
         requires store { IsStoreOf (arc_value self.now.module).contents instance.old }
-        requires bytes { length (arc_value self.now.bytes).items ≤ MAX_BYTES }
+        requires serves { Serves host (order_of self.now) }
+        requires empty { host.reply.items ≡ [] }
         requires depth { (1 ≤ self.now.depth) × (self.now.depth ≤ MAX_DEPTH) }
-        ensures { IfOk result (λ outcome. IsEndOf (order_of self.now) (end_of outcome)) }
+        ensures end { IsEndOf (order_of self.now) (end_of result.outcome) }
+        ensures told { end_of result.outcome ≢ NoMemory }
+        ensures used { Uses (order_of self.now) (end_of result.outcome) result.used }
+        ensures within { result.used ≤ self.now.fuel }
     {
-        let mut host = WorkHost::new(alloc, &self.module, &self.bytes)?;
-        let ending = self.start_and_work(instance, &mut host);
-        Ok(outcome_from(ending, host.into_reply()))
+        names_are_apart();
+        let mut host = host;
+        let ended = self.start_and_work(instance, &mut host);
+        Computed {
+            outcome: outcome_from(ended.ending, host.into_reply()),
+            used: ended.used,
+            trail: trail_of(instance),
+        }
     }
 
     /// The start function and, where it returns, `uv_work`.
-    fn start_and_work(&self, instance: &mut Instance, host: &mut WorkHost) -> Ending
+    fn start_and_work(&self, instance: &mut Instance, host: &mut WorkHost) -> Ended
         requires work { (f : ℕ) × ExportsFunction (arc_value self.now.module).contents (codes "uv_work") f }
-        requires valid { ValidModule (arc_value self.now.module).contents }
         requires fresh { IsFresh (arc_value self.now.module).contents instance.old }
         requires store { IsStoreOf (arc_value self.now.module).contents instance.old }
         requires serves { Serves host.old (order_of self.now) }
         requires empty { host.old.reply.items ≡ [] }
         requires depth { (1 ≤ self.now.depth) × (self.now.depth ≤ MAX_DEPTH) }
-        ensures end { (end : WorkEnd) → EndsAs (outcome_of result) host.new.reply.items end → IsEndOf (order_of self.now) end }
-        ensures results { AreResults result (valtype.I32 ∷ []) }
+        ensures computes { (end : WorkEnd) → EndsAs (outcome_of result.ending) host.new.reply.items end → Computes (order_of self.now) end result.used }
+        ensures within { result.used ≤ self.now.fuel }
+        ensures results { AreResults result.ending (valtype.I32 ∷ []) }
     {
-        names_are_apart();
         let started = self.start(instance, host);
         let Ending::Return(_) = started.ending else {
-            return started.ending;
+            return started;
         };
         let ended = self.work(instance, host, self.fuel - started.used);
-        ended.ending
+        Ended {
+            ending: ended.ending,
+            used: started.used + ended.used,
+        }
     }
 
     fn new_instance(&self, alloc: Global) -> Result<Instance, AllocError>
@@ -117,7 +180,8 @@ impl Order {
         let _contents = valid.contents();
         match Instance::new(alloc, valid) {
             Ok(instance) => Ok(instance),
-            Err(_) => Err(AllocError),
+            Err(InstFault::Memory) => Err(AllocError),
+            Err(_) => unreachable!(),
         }
     }
 
@@ -150,6 +214,7 @@ impl Order {
         requires depth { (1 ≤ self.now.depth) × (self.now.depth ≤ MAX_DEPTH) }
         ensures run { (f : ℕ) × ExportsFunction (arc_value self.now.module).contents (codes "uv_work") f
             × WorkRun (order_of self.now) fuel instance.old host.old.reply.items f (Value.I32 self.now.op ∷ []) (outcome_of result.ending) result.used instance.new host.new.reply.items }
+        ensures within { result.used ≤ fuel }
         ensures results { AreResults result.ending (valtype.I32 ∷ []) }
     {
         let Some(function) = self.module.entry(EntryPoint::Work) else {

@@ -28,6 +28,7 @@ use crate::setting::Setting;
 use crate::shared::{Beside, Shared};
 use handles::Kind;
 use imports::{EntryPoint, Linked};
+use instance::stack::Stop;
 use instance::state::Instance;
 use interp::invoke::invoke;
 use order::laws::imports_are_named;
@@ -342,6 +343,11 @@ impl<B: Shared + Drop> LoopCore<B> {
         ensures setting { self.new.setting ≡ self.old.setting }
     {
         self.guest.state.raise(ms)
+    }
+
+    /// Where the last callback stopped, if it was over but by return: at which operation, and within which calls.
+    pub fn last_stop(&self) -> Option<Stop<'_>> {
+        self.instance.last_stop()
     }
 
     /// Whether a callback did not return, after which the loop does nothing more.

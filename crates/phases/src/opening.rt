@@ -10,6 +10,7 @@ ghost use Rattle.phases.specs.State.{opening};
 use crate::callbacks::callbacks_of;
 use crate::loop_state::LoopState;
 use imports::{EntryPoint, Linked};
+use instance::fault::InstFault;
 use instance::state::Instance;
 use std::alloc::{AllocError, Global};
 
@@ -30,7 +31,8 @@ fn instance_of(alloc: Global, linked: &Linked) -> Result<Instance, AllocError>
 {
     match Instance::new(alloc, linked.valid()) {
         Ok(instance) => Ok(instance),
-        Err(_) => Err(AllocError),
+        Err(InstFault::Memory) => Err(AllocError),
+        Err(_) => unreachable!(),
     }
 }
 

@@ -152,7 +152,7 @@ module _ (c : ℕ × ℕ) (d e : Desk) (stands : is_open e c ≡ true) where
   takes_ahead : (a count : ℕ) → DeskTakes d a count e → Ahead (Takes a count)
   takes_ahead a count h = record {
     open_before = still (ap (λ (y : Desk). y.view.opened) h.1) (ap (λ (y : Desk). y.view.cancelled) h.1) (ap (λ (y : Desk). y.started) h.1);
-    moves = (h.0, ap (λ y. started y c) h.1, h.2);
+    moves = (h.0, ap (λ y. started y c) h.1, h.2, h.3);
   }
 
   one_ahead : (a : Access) → OpensOther c.1 a → Moves d a e → Ahead a

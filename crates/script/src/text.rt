@@ -25,6 +25,15 @@ pub fn print(alloc: Global, log: &Log) -> Result<String, AllocError>
     Ok(text)
 }
 
+/// The line of one entry, as `print` has it. The only error is want of memory.
+pub fn print_entry(alloc: Global, entry: &LogEntry) -> Result<String, AllocError>
+    ensures { IfOk result (λ text. string_bytes text ≡ line_of entry.now) }
+{
+    let mut text = String::new(alloc);
+    write_line(&mut text, entry)?;
+    Ok(text)
+}
+
 fn write_line(text: &mut String, entry: &LogEntry) -> Result<(), AllocError>
     ensures { OnOk result (string_bytes text.new ≡ string_bytes text.old ++ line_of entry.now) }
 {

@@ -1,34 +1,44 @@
 -- One event more of a thread's loop.
-use Rattle.std.proofs.Common.{◌≡◌, ◌≢◌, ℕ, ◌+◌, ◌≤◌, true, false, cond, List, [], ◌∷◌, ◌++◌, refl, sym, ap, subst, ◌∙◌, append_assoc, append-nil, add-zero}
+use Rattle.std.proofs.Common.{◌≡◌, ◌≢◌, ℕ, ◌+◌, ◌≤◌, true, false, cond, List, [], ◌∷◌, ◌++◌, refl, sym, ap, subst, ◌∙◌, append_assoc, append-nil, add-zero, arith}
 use Rattle.std.proofs.lemmas.List.Sums.{sum_by_push}
 use Rattle.std.proofs.Math.Logic.{∥∥₁_map}
 use Rattle.limits.specs.declared.TheConstants.{MAX_CALLBACKS}
 use Rattle.syntax.specs.Loaded.{Loaded}
+use Rattle.handles.specs.Table.{saturated}
 use Rattle.instance.specs.Fresh.{IsFresh}
 use Rattle.order.specs.declared.reply.Reply.{Reply}
 use Rattle.order.specs.Orders.{order_of, end_of}
 use Rattle.phases.specs.declared.did.StepDid.{StepDid}
 use Rattle.phases.specs.declared.did.StepDid.TheVariants as did
+use Rattle.phases.specs.declared.did.Hint.TheVariants.{For}
 use Rattle.phases.specs.declared.entry.EntryKind.{EntryKind}
+use Rattle.phases.specs.declared.entry.Status.{Status}
+use Rattle.phases.specs.declared.entry.Status.TheVariants as status
 use Rattle.interp.specs.declared.ended.Ended.{Ended}
 use Rattle.phases.specs.declared.loop_core.Accepted.{Accepted}
 use Rattle.phases.specs.declared.loop_core.Accepted.TheVariants as accepted
 use Rattle.phases.specs.Accepting.{Accepts}
 use Rattle.phases.specs.Guests.{GuestCall, loop_calls}
 use Rattle.phases.specs.History.{Event, Stepped, OrderAsked, EndOffered, ClockRaised, EventStep, History, IsOpening, emits_in, emitted}
-use Rattle.phases.specs.Outside.{next_order_of, after_clock}
-use Rattle.phases.specs.PhaseList.{begin_list}
+use Rattle.phases.specs.Outside.{next_order_of, clock_in, after_clock}
+use Rattle.phases.specs.PhaseList.{begin_list, hint_of}
 use Rattle.phases.specs.Roster.{opening_roster}
 use Rattle.phases.specs.State.{Setting, Loop, opening}
 use Rattle.phases.specs.Step.{LoopStep}
 use Rattle.phases.specs.View.{new_view}
 use Rattle.pool.specs.declared.seats.Seats.{Seats}
 use Rattle.serve.specs.declared.served.LoopEnding.{LoopEnding}
-use Rattle.serve.specs.Histories.{HasDone, HasEnded, HasServed, EndsBy, thread_calls, is_callback, callbacks_in}
+use Rattle.serve.specs.Histories.{HasDone, HasEnded, HasServed, EndsBy, thread_calls, is_callback, callbacks_in, IsByThread, AreByThread}
 
 push : (g : Setting) (events : List Event) (e : Event) (start old new : Loop Seats) → History thread_calls g start events old → EventStep thread_calls g e old new → History thread_calls g start (events ++ e ∷ []) new
 push g [] e start old new h step = (new, subst (λ l. EventStep thread_calls g e l new) h step, refl)
 push g (x ∷ events) e start old new h step = (h.0, h.1, push g events e h.0 old new h.2 step)
+
+push_own : (g : Setting) (events : List Event) (e : Event) (start old new : Loop Seats) (h : History thread_calls g start events old) (step : EventStep thread_calls g e old new)
+    → AreByThread g start events old h → IsByThread e old.state → AreByThread g start (events ++ e ∷ []) new (push g events e start old new h step)
+unfolding push
+push_own g [] e start old new h step all own = (subst (λ l. IsByThread e l.state) h own, tt)
+push_own g (x ∷ events) e start old new h step all own = (all.0, push_own g events e h.0 old new h.2 step all.1 own)
 
 emitted_push : (events : List Event) (e : Event) → emitted (events ++ e ∷ []) ≡ emitted events ++ emits_in e
 emitted_push [] e = append-nil (emits_in e)
@@ -41,40 +51,41 @@ abbrev pub Does : Setting → Loop Seats → ℕ → List ℕ → Type 0
 Does g l ran emits = ∥ HasDone g l ran emits ∥₁
 
 pub does_nothing : (g : Setting) (l : Loop Seats) (emits : List ℕ) → emits ≡ [] → IsOpening thread_calls g l → Does g l 0 emits
-does_nothing g l emits none opens = ∣ record { start = l; opens = opens; events = []; history = refl; counted = refl; told = none } ∣₁
+does_nothing g l emits none opens = ∣ record { start = l; opens = opens; events = []; history = refl; own = tt; counted = refl; told = none } ∣₁
 
-does_more : (g g' : Setting) (l m : Loop Seats) (ran ran' : ℕ) (emits emits' : List ℕ) (e : Event) → g' ≡ g → EventStep thread_calls g e l m
+does_more : (g g' : Setting) (l m : Loop Seats) (ran ran' : ℕ) (emits emits' : List ℕ) (e : Event) → g' ≡ g → EventStep thread_calls g e l m → IsByThread e l.state
     → ran' ≡ ran + cond (is_callback e) 1 0 → emits' ≡ emits ++ emits_in e → Does g l ran emits → Does g' m ran' emits'
-does_more g g' l m ran ran' emits emits' e same step count more was = subst (λ x. Does x m ran' emits') (sym same) (∥∥₁_map was one) where
+does_more g g' l m ran ran' emits emits' e same step own count more was = subst (λ x. Does x m ran' emits') (sym same) (∥∥₁_map was one) where
   one : HasDone g l ran emits → HasDone g m ran' emits'
   one h = record {
     start = h.start;
     opens = h.opens;
     events = h.events ++ e ∷ [];
     history = push g h.events e h.start l m h.history step;
+    own = push_own g h.events e h.start l m h.history step h.own own;
     counted = count ∙ ap (λ n. n + cond (is_callback e) 1 0) h.counted ∙ sym (callbacks_push h.events e);
     told = more ∙ ap (λ xs. xs ++ emits_in e) h.told ∙ sym (emitted_push h.events e);
   }
 
 -- an event that is no callback
-does_quiet : (g g' : Setting) (l m : Loop Seats) (ran : ℕ) (emits emits' : List ℕ) (e : Event) → is_callback e ≡ false → emits_in e ≡ [] → g' ≡ g → EventStep thread_calls g e l m
+does_quiet : (g g' : Setting) (l m : Loop Seats) (ran : ℕ) (emits emits' : List ℕ) (e : Event) → is_callback e ≡ false → emits_in e ≡ [] → g' ≡ g → EventStep thread_calls g e l m → IsByThread e l.state
     → emits' ≡ emits → Does g l ran emits → Does g' m ran emits'
-does_quiet g g' l m ran emits emits' e quiet none same step kept was =
-    does_more g g' l m ran ran emits emits' e same step (sym (add-zero ran) ∙ ap (λ b. ran + cond b 1 0) (sym quiet)) (kept ∙ sym (append-nil emits) ∙ ap (λ xs. emits ++ xs) (sym none)) was
+does_quiet g g' l m ran emits emits' e quiet none same step own kept was =
+    does_more g g' l m ran ran emits emits' e same step own (sym (add-zero ran) ∙ ap (λ b. ran + cond b 1 0) (sym quiet)) (kept ∙ sym (append-nil emits) ∙ ap (λ xs. emits ++ xs) (sym none)) was
 
 -- a step that runs a callback
 pub does_run : (g g' : Setting) (l m : Loop Seats) (ran ran' : ℕ) (emits emits' : List ℕ) (kind : EntryKind) (number : ℕ) (ended : Ended) (told : StepDid) → told ≡ did.Ran kind number ended → g' ≡ g
     → LoopStep thread_calls g l told m → ran' ≡ ran + 1 → emits' ≡ emits ++ m.state.emits → Does g l ran emits → Does g' m ran' emits'
 does_run g g' l m ran ran' emits emits' kind number ended told is same step count more was =
     let ran_it : LoopStep thread_calls g l (did.Ran kind number ended) m = subst (λ d. LoopStep thread_calls g l d m) is step in
-    does_more g g' l m ran ran' emits emits' (Stepped (did.Ran kind number ended) m.state.emits (loop_calls thread_calls g l (did.Ran kind number ended) m ran_it)) same (ran_it, refl, refl) count more was
+    does_more g g' l m ran ran' emits emits' (Stepped (did.Ran kind number ended) m.state.emits (loop_calls thread_calls g l (did.Ran kind number ended) m ran_it)) same (ran_it, refl, refl) tt count more was
 
 -- a step that runs none
 pub does_other : (g g' : Setting) (l m : Loop Seats) (ran : ℕ) (emits emits' : List ℕ) (told : StepDid) → g' ≡ g → LoopStep thread_calls g l told m
     → emits' ≡ emits → ((kind : EntryKind) (number : ℕ) (ended : Ended) → told ≢ did.Ran kind number ended) → Does g l ran emits → Does g' m ran emits'
 does_other g g' l m ran emits emits' told same step kept other was =
     let it = quiet told (loop_calls thread_calls g l told m step) other in
-    does_quiet g g' l m ran emits emits' (Stepped told m.state.emits (loop_calls thread_calls g l told m step)) it.0 it.1 same (step, refl, refl) kept was where
+    does_quiet g g' l m ran emits emits' (Stepped told m.state.emits (loop_calls thread_calls g l told m step)) it.0 it.1 same (step, refl, refl) tt kept was where
       quiet : (d : StepDid) (made : List GuestCall) → ((kind : EntryKind) (number : ℕ) (ended : Ended) → d ≢ did.Ran kind number ended)
           → (is_callback (Stepped d m.state.emits made) ≡ false) × (emits_in (Stepped d m.state.emits made) ≡ [])
       quiet (did.Ran kind number ended) made not = absurd (not kind number ended refl)
@@ -85,17 +96,28 @@ does_other g g' l m ran emits emits' told same step kept other was =
 
 pub does_order : (g g' : Setting) (l m : Loop Seats) (ran : ℕ) (emits emits' : List ℕ) → g' ≡ g → m ≡ record l { state = (next_order_of l.state).1 } → emits' ≡ emits → Does g l ran emits → Does g' m ran emits'
 does_order g g' l m ran emits emits' same is kept was =
-    does_quiet g g' l m ran emits emits' (OrderAsked (next_order_of l.state).0) refl refl same (refl, is) kept was
+    does_quiet g g' l m ran emits emits' (OrderAsked (next_order_of l.state).0) refl refl same (refl, is) tt kept was
 
 pub does_accept : (g g' : Setting) (l m : Loop Seats) (ran : ℕ) (emits emits' : List ℕ) (reply : Reply) (a : Accepted) → g' ≡ g → Accepts reply l a m → emits' ≡ emits → Does g l ran emits → Does g' m ran emits'
 does_accept g g' l m ran emits emits' reply accepted.Accepted same h kept was =
-    does_quiet g g' l m ran emits emits' (EndOffered (order_of reply.order) (end_of reply.outcome) true) refl refl same (reply.computed, (h.0, h.1)) kept was
+    does_quiet g g' l m ran emits emits' (EndOffered (order_of reply.order) (end_of reply.outcome) true) refl refl same (reply.computed, (h.0, h.1)) tt kept was
 does_accept g g' l m ran emits emits' reply (accepted.Stranger other) same h kept was =
-    does_quiet g g' l m ran emits emits' (EndOffered (order_of reply.order) (end_of reply.outcome) false) refl refl same (reply.computed, (h.2, h.1)) kept was
+    does_quiet g g' l m ran emits emits' (EndOffered (order_of reply.order) (end_of reply.outcome) false) refl refl same (reply.computed, (h.2, h.1)) tt kept was
 
-pub does_clock : (g g' : Setting) (l m : Loop Seats) (ran : ℕ) (emits emits' : List ℕ) (ms : ℕ) → g' ≡ g → m ≡ record l { state = after_clock l.state ms } → emits' ≡ emits → Does g l ran emits → Does g' m ran emits'
-does_clock g g' l m ran emits emits' ms same is kept was =
-    does_quiet g g' l m ran emits emits' (ClockRaised ms) refl refl same is kept was
+-- to raise the clock to 0 is to read it
+clock_read : (s : Status) (n : ℕ) → clock_in s n 0 ≡ n
+clock_read status.Failed n = refl
+clock_read status.Running n = omega arith
+clock_read status.Over n = omega arith
+
+-- the clock is read, and raised by how long the loop has nothing to do
+pub does_wait : (g g' g'' : Setting) (l mid m : Loop Seats) (ran : ℕ) (emits : List ℕ) (d clock ms : ℕ) → g' ≡ g → g'' ≡ g'
+    → mid ≡ record l { state = after_clock l.state 0 } → clock ≡ mid.state.clock → ms ≡ saturated (clock + d) → m ≡ record mid { state = after_clock mid.state ms }
+    → l.state.requests.outstanding ≡ [] → hint_of l.state ≡ For d → Does g l ran emits → Does g'' m ran emits
+does_wait g g' g'' l mid m ran emits d clock ms same same' read is_clock is_ms raised none hint was =
+    let still : mid ≡ l = read ∙ ap (λ (n : ℕ). record l { state = record l.state { clock = n } }) (clock_read l.state.status l.state.clock) in
+    let moment = is_ms ∙ ap (λ (n : ℕ). saturated (n + d)) (is_clock ∙ ap (λ (x : Loop Seats). x.state.clock) still) in
+    does_quiet g g'' l m ran emits emits (ClockRaised ms) refl refl (same' ∙ same) (raised ∙ ap (λ (x : Loop Seats). record x { state = after_clock x.state ms }) still) (none, (d, hint, moment)) refl was
 
 -- a new loop opens so
 pub opens_new : (g : Setting) (l : Loop Seats) (loaded : Loaded) (loop_no fuel work_fuel depth : ℕ) (seats : Seats) → g ≡ record { loaded = loaded; loop_no = loop_no; fuel = fuel; work_fuel = work_fuel; depth = depth }

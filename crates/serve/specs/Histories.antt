@@ -1,14 +1,15 @@
 -- What a thread has done with its loop: a history over the loop's seats, and how it ended.
-use Rattle.std.specs.Prelude.{◌≡◌, ℕ, ◌<◌, ◌≤◌, Bool, true, false, List, [], count_by, Option, Some, None}
+use Rattle.std.specs.Prelude.{◌≡◌, ℕ, ◌+◌, ◌<◌, ◌≤◌, Bool, true, false, List, [], ◌∷◌, count_by, Option, Some, None}
 use Rattle.limits.specs.declared.TheConstants.{MAX_CALLBACKS}
 use Rattle.syntax.specs.Loaded.{Loaded}
 use Rattle.phases.specs.declared.did.StepDid.TheVariants.{Ran}
-use Rattle.phases.specs.declared.did.Hint.TheVariants.{Forever}
+use Rattle.handles.specs.Table.{saturated}
+use Rattle.phases.specs.declared.did.Hint.TheVariants.{For, Forever}
 use Rattle.phases.specs.declared.entry.Status.TheVariants as status
 use Rattle.phases.specs.Calls.{Calls}
-use Rattle.phases.specs.History.{Event, Stepped, History, IsOpening, emitted}
+use Rattle.phases.specs.History.{Event, Stepped, OrderAsked, EndOffered, CancelAnswered, ClockRaised, MovedBeside, History, IsOpening, emitted}
 use Rattle.phases.specs.PhaseList.{hint_of}
-use Rattle.phases.specs.State.{Setting, Loop}
+use Rattle.phases.specs.State.{Setting, Loop, State}
 use Rattle.pool.specs.declared.seats.Seats.{Seats}
 use Rattle.pool.specs.Share.{seats_calls}
 use Rattle.serve.specs.declared.served.LoopEnding.{LoopEnding}
@@ -37,12 +38,32 @@ is_callback _ = false
 abbrev pub callbacks_in : List Event → ℕ
 callbacks_in events = count_by is_callback events
 
+-- The clock is raised to this moment only where no request is outstanding and the loop has nothing to do for so long,
+-- and then by that.
+abbrev pub WaitsUntil : (ms : ℕ) → State → Type 0
+WaitsUntil ms s = (s.requests.outstanding ≡ []) × ((d : ℕ) × (hint_of s ≡ For d) × (ms ≡ saturated (s.clock + d)))
+
+-- What a thread does of its own with a loop that stands so: it cancels no request, and leaves what the loop shares.
+abbrev pub IsByThread : Event → State → Type 0
+IsByThread (Stepped did emits made) s = Unit {0}
+IsByThread (OrderAsked order) s = Unit {0}
+IsByThread (EndOffered o end is_taken) s = Unit {0}
+IsByThread (CancelAnswered request answer) s = ⊥
+IsByThread (ClockRaised ms) s = WaitsUntil ms s
+IsByThread MovedBeside s = ⊥
+
+-- each event of a history is one that a thread does
+abbrev pub AreByThread : (g : Setting) (old : Loop Seats) (events : List Event) (new : Loop Seats) → History thread_calls g old events new → Type 0
+AreByThread g old [] new history = Unit {0}
+AreByThread g old (e ∷ events) new history = IsByThread e old.state × AreByThread g history.0 events new history.2
+
 -- a history of a loop of this setting from its opening, in which so many callbacks ran and put out these values, in order
 pub record HasDone (g : Setting) (now : Loop Seats) (ran : ℕ) (emits : List ℕ) : Type 0 where
   pub start : Loop Seats
   pub opens : IsOpening thread_calls g start
   pub events : List Event
   pub history : History thread_calls g start events now
+  pub own : AreByThread g start events now history
   pub counted : ran ≡ callbacks_in events
   pub told : emits ≡ emitted events
 

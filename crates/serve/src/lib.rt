@@ -8,6 +8,7 @@
 //! each such history. Begin with `specs/Promises.antt` and `specs/Histories.antt`; the code with `threads` and `turn`.
 #![tactic(auto)]
 
+mod account;
 mod job;
 pub mod laws;
 mod place;
@@ -18,9 +19,12 @@ mod serving;
 mod task;
 mod threads;
 mod turn;
+mod watch;
 
+pub use account::{Account, Callback};
 pub use job::Job;
 pub use served::{LoopEnding, Served};
 pub use serving::Serving;
 pub use task::Task;
-pub use threads::serve;
+pub use threads::{serve, serve_watched};
+pub use watch::{Nobody, Watch};

@@ -11,6 +11,7 @@ use crate::served::Served;
 use crate::serving::Serving;
 use crate::task::Task;
 use crate::turn::Turns;
+use crate::watch::Watch;
 use imports::Linked;
 use marks::{Marks, TakeSeat};
 use std::alloc::{AllocError, Global};
@@ -61,34 +62,36 @@ impl Plan {
     }
 
     /// One loop, until it has ended.
-    pub fn run<R: Wait, M: Fn(Task) -> Result<J, AllocError>, J: Drop>(
+    pub fn run<R: Wait, M: Fn(Task) -> Result<J, AllocError>, J: Drop, W: Watch>(
         &self,
         rt: &R,
         place: LoopPlace<'_, J>,
         make: &M,
+        watch: &W,
     ) -> Outcome
         requires make { M.IsAlwaysCallable make.now }
         ensures { IfOk result (λ s. IsServed (setting_at (arc_value self.now.module) self.now.serving place.entry.seat.loop_no) s) }
     {
-        let outcome = self.turns(rt, place, make);
+        let outcome = self.turns(rt, place, make, watch);
         if outcome.is_err() {
             self.ran_out.store(true, Ordering::SeqCst);
         }
         outcome
     }
 
-    fn turns<R: Wait, M: Fn(Task) -> Result<J, AllocError>, J: Drop>(
+    fn turns<R: Wait, M: Fn(Task) -> Result<J, AllocError>, J: Drop, W: Watch>(
         &self,
         rt: &R,
         place: LoopPlace<'_, J>,
         make: &M,
+        watch: &W,
     ) -> Outcome
         requires make { M.IsAlwaysCallable make.now }
         ensures { IfOk result (λ s. IsServed (setting_at (arc_value self.now.module) self.now.serving place.entry.seat.loop_no) s) }
     {
         let (marks, taker) = own_marks(self.alloc)?;
         let turns = self.begin(&marks, taker, place)?;
-        turns.run(rt, make)
+        turns.run(rt, make, watch)
     }
 
     // The turns of a loop, of which none is taken yet.

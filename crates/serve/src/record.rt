@@ -5,13 +5,16 @@ ghost use Rattle.limits.specs.declared.TheConstants.{MAX_CALLBACKS, MAX_REQUESTS
 ghost use Rattle.order.specs.Orders.{order_of};
 ghost use Rattle.phases.specs.History.{IsOpening};
 ghost use Rattle.phases.specs.Keeping.{CanRun};
+ghost use Rattle.phases.specs.PhaseList.{hint_of};
 ghost use Rattle.phases.specs.declared.entry.Status.TheVariants as status;
 ghost use Rattle.serve.specs.Answers.{IsServed};
 ghost use Rattle.serve.specs.Histories.{HasDone, EndsBy, ComesTo, thread_calls};
 
+use crate::account::Account;
 use crate::served::{LoopEnding, Served};
+use crate::watch::Watch;
 use limits::{MAX_CALLBACKS, MAX_EMITS};
-use order::{Order, Reply};
+use order::{Order, Reply, Trail};
 use phases::{Accepted, Hint, LoopCore, Phase, StepDid};
 use pool::Seats;
 use std::alloc::{AllocError, Global};
@@ -24,6 +27,7 @@ pub struct Record<'a> {
     pub(crate) core: LoopCore<Seats<'a>>,
     pub(crate) ran: u32,
     emits: Vec<u64>,
+    account: Account,
     ghost few: { ran ≤ MAX_CALLBACKS },
     ghost told: { ∥ HasDone core.setting core.loop ran emits.items ∥₁ },
 }
@@ -38,9 +42,18 @@ fn enters_timers(did: &StepDid) -> bool {
     )
 }
 
+fn is_taken(accepted: &Accepted) -> bool {
+    matches!(accepted, Accepted::Accepted)
+}
+
+// Where the last callback stopped, if it did not return.
+fn last_trail(core: &LoopCore<Seats<'_>>) -> Option<Trail> {
+    Some(Trail::of(&core.last_stop()?))
+}
+
 impl<'a> Record<'a> {
     /// Of a loop that has done nothing.
-    pub fn new(alloc: Global, core: LoopCore<Seats<'a>>) -> Record<'a>
+    pub fn new(alloc: Global, core: LoopCore<Seats<'a>>, account: Account) -> Record<'a>
         requires { IsOpening thread_calls core.setting core.loop }
         ensures setting { result.core.setting ≡ core.entry.setting }
         ensures none { result.ran ≡ 0 }
@@ -49,17 +62,18 @@ impl<'a> Record<'a> {
             core,
             ran: 0,
             emits: Vec::new(alloc),
+            account,
         }
     }
 
-    /// Offers a reply to the loop, which drops it where it is not the loop's.
-    pub fn accept(&mut self, reply: Reply)
+    /// Offers a reply to the loop, which drops it where it is not the loop's. Whether the loop takes it.
+    pub fn accept(&mut self, reply: Reply) -> bool
         ensures setting { self.new.core.setting ≡ self.old.core.setting }
         ensures ran { self.new.ran ≡ self.old.ran }
     {
-        match self.core.accept(reply) {
-            Accepted::Accepted | Accepted::Stranger(_) => {}
-        }
+        self.account.heard(&reply);
+        let accepted = self.core.accept(reply);
+        is_taken(&accepted)
     }
 
     /// The loop's next order, if there is one.
@@ -73,17 +87,25 @@ impl<'a> Record<'a> {
         self.core.next_order()
     }
 
-    /// Steps until the timers phase is entered or the loop has ended. How it ended, if it did.
-    pub fn step_through<R: Wait>(&mut self, rt: &R) -> Result<Option<LoopEnding>, AllocError>
+    /// Steps until the timers phase is entered or the loop has ended, and tells each step. How it ended, if it did.
+    pub fn step_through<R: Wait, W: Watch>(
+        &mut self,
+        rt: &R,
+        loop_no: u32,
+        watch: &W,
+    ) -> Result<Option<LoopEnding>, AllocError>
         requires room { self.old.ran < MAX_CALLBACKS }
         ensures setting { self.new.core.setting ≡ self.old.core.setting }
         ensures comes { IfOk result (λ ended. ComesTo ended self.new.core.loop self.new.ran) }
     {
         for _ in rt.forever() {
             let did = self.step()?;
-            match self.ended(&did) {
+            let is_turn = enters_timers(&did);
+            let ended = self.ended(&did);
+            watch.step(rt, loop_no, did, self.core.emits());
+            match ended {
                 Some(ending) => return Ok(Some(ending)),
-                None if enters_timers(&did) => return Ok(None),
+                None if is_turn => return Ok(None),
                 None => {}
             }
         }
@@ -98,6 +120,7 @@ impl<'a> Record<'a> {
     {
         self.emits.reserve(MAX_EMITS)?;
         let did = self.core.step();
+        self.account.saw(&did);
         if let StepDid::Ran { .. } = did {
             self.ran += 1;
             let Ok(()) = self.emits.extend_from_slice(self.core.emits()) else {
@@ -126,8 +149,8 @@ impl<'a> Record<'a> {
         matches!(self.core.hint(), Hint::Now)
     }
 
-    /// Raises the clock to the next timer. Without one the loop waits for ever.
-    pub fn wait(&mut self) -> Option<LoopEnding>
+    /// Raises the clock to the next timer, and tells it. Without one the loop waits for ever.
+    pub fn wait<R: Wait, W: Watch>(&mut self, rt: &R, loop_no: u32, watch: &W) -> Option<LoopEnding>
         requires room { self.old.ran < MAX_CALLBACKS }
         requires none { self.old.core.loop.state.requests.outstanding ≡ [] }
         ensures setting { self.new.core.setting ≡ self.old.core.setting }
@@ -136,20 +159,25 @@ impl<'a> Record<'a> {
         match self.core.hint() {
             Hint::Now => None,
             Hint::For(ms) => {
-                self.pass(ms);
+                let clock = self.pass(ms);
+                watch.clock(rt, loop_no, clock);
                 None
             }
             Hint::Forever => Some(LoopEnding::Waiting),
         }
     }
 
-    // Raises the clock by so many milliseconds.
-    fn pass(&mut self, ms: u64)
+    // Raises the clock by so many milliseconds, for which the loop has nothing to do. To which moment.
+    fn pass(&mut self, ms: u64) -> u64
+        requires none { self.old.core.loop.state.requests.outstanding ≡ [] }
+        requires hint { hint_of self.old.core.loop.state ≡ Hint.For ms }
         ensures setting { self.new.core.setting ≡ self.old.core.setting }
         ensures ran { self.new.ran ≡ self.old.ran }
     {
         let clock = self.core.clock(0);
-        self.core.clock(clock.saturating_add(ms));
+        let moment = clock.saturating_add(ms);
+        self.core.clock(moment);
+        moment
     }
 
     /// Whether requests are outstanding.
@@ -165,10 +193,13 @@ impl<'a> Record<'a> {
         requires ends { EndsBy ending self.core.loop self.ran }
         ensures { IsServed self.entry.core.setting result }
     {
+        let trail = last_trail(&self.core);
         Served {
             loop_no,
             ending,
             emits: self.emits,
+            account: self.account,
+            trail,
         }
     }
 }

@@ -1,6 +1,8 @@
 // What became of a loop.
 ghost use Rattle.serve.specs.Histories.{HasServed};
 
+use crate::account::Account;
+use order::{Order, Trail};
 use std::fmt;
 
 /// How a loop ended.
@@ -39,7 +41,25 @@ pub struct Served {
     pub ending: LoopEnding,
     /// What its callbacks put out, in order.
     pub emits: Vec<u64>,
+    /// What it did last.
+    pub account: Account,
+    /// Where its last callback stopped, if that did not return.
+    pub trail: Option<Trail>,
     pub ghost told: { ∥ HasServed loop_no ending emits.items ∥₁ },
+}
+
+impl Served {
+    /// The orders of the loop whose work did not return, in the order in which it was offered their replies: the first 16.
+    pub fn into_undone(self) -> Vec<Order> {
+        let Served {
+            loop_no: _,
+            ending: _,
+            emits: _,
+            account,
+            trail: _,
+        } = self;
+        account.into_undone()
+    }
 }
 
 impl Drop for Served {
@@ -48,6 +68,8 @@ impl Drop for Served {
             loop_no: _,
             ending: _,
             emits: _,
+            account: _,
+            trail: _,
         } = self;
     }
 }

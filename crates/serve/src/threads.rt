@@ -14,6 +14,7 @@ use crate::plan::{OfLoop, Outcome, Plan};
 use crate::served::Served;
 use crate::serving::Serving;
 use crate::task::Task;
+use crate::watch::{Nobody, Watch};
 use board::Board;
 use claims::{Claims, LoopSeat, NewClaims, WorkerSeat};
 use imports::Linked;
@@ -39,8 +40,29 @@ pub fn serve<R: Threads + Wait + Sync, M: Fn(Task) -> Result<J, AllocError> + Sy
     ensures count { IfOk result (λ served. length served.items ≡ serving.loops) }
     ensures each { IfOk result (λ served. EachServed (arc_value «module») serving served.items) }
 {
+    serve_watched(rt, alloc, module, serving, make, &Nobody)
+}
+
+/// Serves as `serve` does, and tells `watch` what the loops do, as they do it.
+pub fn serve_watched<
+    R: Threads + Wait + Sync,
+    M: Fn(Task) -> Result<J, AllocError> + Sync,
+    J: Job + Send,
+    W: Watch + Sync,
+>(
+    rt: &R,
+    alloc: Global,
+    module: Arc<Linked>,
+    serving: Serving,
+    make: &M,
+    watch: &W,
+) -> Result<Vec<Served>, AllocError>
+    requires make { M.IsAlwaysCallable make.now }
+    ensures count { IfOk result (λ served. length served.items ≡ serving.loops) }
+    ensures each { IfOk result (λ served. EachServed (arc_value «module») serving served.items) }
+{
     let plan = Plan::new(alloc, module, serving);
-    with_claims(rt, &plan, make)
+    with_claims(rt, &plan, make, watch)
 }
 
 // The same of what all loops are made of, with claims for them.
@@ -48,7 +70,8 @@ fn with_claims<
     R: Threads + Wait + Sync,
     M: Fn(Task) -> Result<J, AllocError> + Sync,
     J: Job + Send,
->(rt: &R, plan: &Plan, make: &M) -> Result<Vec<Served>, AllocError>
+    W: Watch + Sync,
+>(rt: &R, plan: &Plan, make: &M, watch: &W) -> Result<Vec<Served>, AllocError>
     requires make { M.IsAlwaysCallable make.now }
     ensures count { IfOk result (λ served. length served.items ≡ plan.now.serving.loops) }
     ensures each { IfOk result (λ served. EachServed (arc_value plan.now.module) plan.now.serving served.items) }
@@ -58,17 +81,23 @@ fn with_claims<
         loop_seats,
         worker_seats,
     } = Claims::new(plan.alloc, plan.serving.loops, plan.serving.workers)?;
-    with_board(rt, plan, &claims, loop_seats, worker_seats, make)
+    with_board(rt, plan, &claims, loop_seats, worker_seats, make, watch)
 }
 
 // With a board for them too.
-fn with_board<R: Threads + Wait + Sync, M: Fn(Task) -> Result<J, AllocError> + Sync, J: Job + Send>(
+fn with_board<
+    R: Threads + Wait + Sync,
+    M: Fn(Task) -> Result<J, AllocError> + Sync,
+    J: Job + Send,
+    W: Watch + Sync,
+>(
     rt: &R,
     plan: &Plan,
     claims: &Claims,
     loop_seats: Vec<LoopSeat>,
     worker_seats: Vec<WorkerSeat>,
     make: &M,
+    watch: &W,
 ) -> Result<Vec<Served>, AllocError>
     requires make { M.IsAlwaysCallable make.now }
     requires claims { claims.now.loops ≡ plan.now.serving.loops }
@@ -80,7 +109,7 @@ fn with_board<R: Threads + Wait + Sync, M: Fn(Task) -> Result<J, AllocError> + S
     let passes = (plan.serving.loops + plan.serving.workers) as usize;
     let (board, passes) = Board::new(plan.alloc, plan.serving.loops, passes)?;
     let (workers, loops) = places(plan.alloc, &board, passes, claims, worker_seats, loop_seats)?;
-    run_all(rt, plan, &board, workers, loops, make)
+    run_all(rt, plan, &board, workers, loops, make, watch)
 }
 
 // The thread of a loop.
@@ -92,6 +121,7 @@ fn run_all<
     R: Threads + Wait + Sync,
     M: Fn(Task) -> Result<J, AllocError> + Sync,
     J: Job + Send,
+    W: Watch + Sync,
 >(
     rt: &R,
     plan: &Plan,
@@ -99,6 +129,7 @@ fn run_all<
     workers: Vec<WorkerPlace<'a, J>>,
     loops: Vec<LoopPlace<'a, J>>,
     make: &M,
+    watch: &W,
 ) -> Result<Vec<Served>, AllocError>
     requires make { M.IsAlwaysCallable make.now }
     requires numbered { EachFrom (λ k p. p.seat.loop_no ≡ k) 0 loops.items }
@@ -110,13 +141,13 @@ fn run_all<
         rt,
         move |scope| -> Result<Vec<Served>, AllocError>
             requires make { M.IsAlwaysCallable make.now }
-            requires sync { IsSync R.row × IsSync M.row }
+            requires sync { IsSync R.row × IsSync M.row × IsSync W.row }
             requires numbered { EachFrom (λ k p. p.seat.loop_no ≡ k) 0 loops.items }
             ensures count { IfOk result (λ served. length served.items ≡ length loops.entry.items) }
             ensures each { IfOk result (λ served. EachServed (arc_value plan.entry.now.module) plan.entry.now.serving served.items) }
         {
             let served = match start_workers(scope, rt, workers) {
-                Ok(()) => run_loops(scope, rt, plan, loops, make),
+                Ok(()) => run_loops(scope, rt, plan, loops, make, watch),
                 Err(AllocError) => Err(AllocError),
             };
             board.close();
@@ -149,6 +180,7 @@ fn run_loops<
     R: Threads + Wait + Sync,
     M: Fn(Task) -> Result<J, AllocError> + Sync,
     J: Drop + Send,
+    W: Watch + Sync,
     E,
 >(
     scope: &Scope<'s, E>,
@@ -156,16 +188,17 @@ fn run_loops<
     plan: &'s Plan,
     places: Vec<LoopPlace<'s, J>>,
     make: &'s M,
+    watch: &'s W,
 ) -> Result<Vec<Served>, AllocError>
     requires make { M.IsAlwaysCallable make.now }
-    requires sync { IsSync R.row × IsSync M.row }
+    requires sync { IsSync R.row × IsSync M.row × IsSync W.row }
     requires numbered { EachFrom (λ k p. p.seat.loop_no ≡ k) 0 places.items }
     ensures count { IfOk result (λ served. length served.items ≡ length places.entry.items) }
     ensures each { IfOk result (λ served. EachServed (arc_value plan.now.module) plan.now.serving served.items) }
 {
     let mut started = Vec::with_capacity(plan.alloc, places.len())?;
     let mut served = Vec::with_capacity(plan.alloc, places.len())?;
-    let starting = start_loops(scope, rt, plan, places, make, &mut started);
+    let starting = start_loops(scope, rt, plan, places, make, watch, &mut started);
     let ending = join_all(rt, plan, started, &mut served);
     starting?;
     ending?;
@@ -173,16 +206,24 @@ fn run_loops<
 }
 
 // A thread for each loop, the first loop's first, until memory runs out.
-fn start_loops<'s, R: Wait + Sync, M: Fn(Task) -> Result<J, AllocError> + Sync, J: Drop + Send, E>(
+fn start_loops<
+    's,
+    R: Wait + Sync,
+    M: Fn(Task) -> Result<J, AllocError> + Sync,
+    J: Drop + Send,
+    W: Watch + Sync,
+    E,
+>(
     scope: &Scope<'s, E>,
     rt: &'s R,
     plan: &'s Plan,
     places: Vec<LoopPlace<'s, J>>,
     make: &'s M,
+    watch: &'s W,
     started: &mut Vec<LoopThread<'s>>,
 ) -> Result<(), AllocError>
     requires make { M.IsAlwaysCallable make.now }
-    requires sync { IsSync R.row × IsSync M.row }
+    requires sync { IsSync R.row × IsSync M.row × IsSync W.row }
     requires room { length places.items ≤ vec_capacity started.old }
     requires none { started.old.items ≡ [] }
     requires numbered { EachFrom (λ k p. p.seat.loop_no ≡ k) 0 places.items }
@@ -191,22 +232,30 @@ fn start_loops<'s, R: Wait + Sync, M: Fn(Task) -> Result<J, AllocError> + Sync, 
     ensures promised { EachFrom (λ k h. IsThreadOf plan.now k h.promise) 0 started.new.items }
 {
     for place in places {
-        let thread = start_loop(scope, rt, plan, place, make)?;
+        let thread = start_loop(scope, rt, plan, place, make, watch)?;
         started.push_reserved(thread);
     }
     Ok(())
 }
 
 // A thread for a loop, unless memory ran out.
-fn start_loop<'s, R: Wait + Sync, M: Fn(Task) -> Result<J, AllocError> + Sync, J: Drop + Send, E>(
+fn start_loop<
+    's,
+    R: Wait + Sync,
+    M: Fn(Task) -> Result<J, AllocError> + Sync,
+    J: Drop + Send,
+    W: Watch + Sync,
+    E,
+>(
     scope: &Scope<'s, E>,
     rt: &'s R,
     plan: &'s Plan,
     place: LoopPlace<'s, J>,
     make: &'s M,
+    watch: &'s W,
 ) -> Result<LoopThread<'s>, AllocError>
     requires make { M.IsAlwaysCallable make.now }
-    requires sync { IsSync R.row × IsSync M.row }
+    requires sync { IsSync R.row × IsSync M.row × IsSync W.row }
     ensures { IfOk result (λ h. IsThreadOf plan.now place.entry.seat.loop_no h.promise) }
 {
     if plan.ran_out() {
@@ -217,9 +266,9 @@ fn start_loop<'s, R: Wait + Sync, M: Fn(Task) -> Result<J, AllocError> + Sync, J
         OfLoop { plan, loop_no },
         move || -> Outcome
             requires make { M.IsAlwaysCallable make.now }
-            requires sync { IsSync R.row × IsSync M.row }
+            requires sync { IsSync R.row × IsSync M.row × IsSync W.row }
             ensures { IfOk result (λ s. IsServed (setting_at (arc_value plan.entry.now.module) plan.entry.now.serving place.entry.seat.loop_no) s) }
-        { plan.run(rt, place, make) },
+        { plan.run(rt, place, make, watch) },
     )?;
     Ok(thread)
 }

@@ -7,11 +7,13 @@ ghost use Rattle.marks.specs.Counts.{new_taker};
 ghost use Rattle.serve.specs.Answers.{IsServed};
 ghost use Rattle.serve.specs.Histories.{ComesTo, EndsBy, setting_at};
 
+use crate::account::Account;
 use crate::place::LoopPlace;
 use crate::record::Record;
 use crate::served::{LoopEnding, Served};
 use crate::serving::Serving;
 use crate::task::Task;
+use crate::watch::Watch;
 use board::{Board, Event, Heard, Pass};
 use imports::Linked;
 use marks::{Marks, TakeSeat};
@@ -67,26 +69,28 @@ impl<'a, J: Drop> Turns<'a, J> {
             serving.work_fuel,
             serving.depth,
         )?;
+        let account = Account::empty(alloc)?;
         Ok(Turns {
             board,
             pass,
             loop_no,
-            told: Record::new(alloc, core),
+            told: Record::new(alloc, core, account),
             kept: None,
         })
     }
 
     /// Takes turns until the loop has ended.
-    pub fn run<R: Wait, M: Fn(Task) -> Result<J, AllocError>>(
+    pub fn run<R: Wait, M: Fn(Task) -> Result<J, AllocError>, W: Watch>(
         mut self,
         rt: &R,
         make: &M,
+        watch: &W,
     ) -> Result<Served, AllocError>
         requires make { M.IsAlwaysCallable make.now }
         requires room { self.told.ran < MAX_CALLBACKS }
         ensures { IfOk result (λ served. IsServed self.entry.told.core.setting served) }
     {
-        let ending = self.until_ended(rt, make)?;
+        let ending = self.until_ended(rt, make, watch)?;
         Ok(self.into_served(ending))
     }
 
@@ -98,10 +102,11 @@ impl<'a, J: Drop> Turns<'a, J> {
         self.told.into_served(self.loop_no, ending)
     }
 
-    fn until_ended<R: Wait, M: Fn(Task) -> Result<J, AllocError>>(
+    fn until_ended<R: Wait, M: Fn(Task) -> Result<J, AllocError>, W: Watch>(
         &mut self,
         rt: &R,
         make: &M,
+        watch: &W,
     ) -> Result<LoopEnding, AllocError>
         requires make { M.IsAlwaysCallable make.now }
         requires room { self.old.told.ran < MAX_CALLBACKS }
@@ -109,7 +114,7 @@ impl<'a, J: Drop> Turns<'a, J> {
         ensures ends { IfOk result (λ ending. EndsBy ending self.new.told.core.loop self.new.told.ran) }
     {
         for _ in rt.forever() {
-            if let Some(ending) = self.turn(rt, make)? {
+            if let Some(ending) = self.turn(rt, make, watch)? {
                 return Ok(ending);
             }
         }
@@ -117,10 +122,11 @@ impl<'a, J: Drop> Turns<'a, J> {
     }
 
     // One turn. How the loop ended, if it did.
-    fn turn<R: Wait, M: Fn(Task) -> Result<J, AllocError>>(
+    fn turn<R: Wait, M: Fn(Task) -> Result<J, AllocError>, W: Watch>(
         &mut self,
         rt: &R,
         make: &M,
+        watch: &W,
     ) -> Result<Option<LoopEnding>, AllocError>
         requires make { M.IsAlwaysCallable make.now }
         requires room { self.old.told.ran < MAX_CALLBACKS }
@@ -130,18 +136,19 @@ impl<'a, J: Drop> Turns<'a, J> {
         let board = self.board;
         let reply = board.listen(Event::Put(self.loop_no));
         let room = board.listen(Event::Taken);
-        self.accept_all(rt);
-        self.post_all(rt, make)?;
+        self.accept_all(rt, watch);
+        self.post_all(rt, make, watch)?;
         let heard = if self.kept.is_some() { room } else { reply };
-        self.step_through(rt, board, heard)
+        self.step_through(rt, board, heard, watch)
     }
 
     // Steps through the loop, and rests where no callback ran and the loop has nothing to do.
-    fn step_through<R: Wait>(
+    fn step_through<R: Wait, W: Watch>(
         &mut self,
         rt: &R,
         board: &Board<J>,
         heard: Heard,
+        watch: &W,
     ) -> Result<Option<LoopEnding>, AllocError>
         requires room { self.old.told.ran < MAX_CALLBACKS }
         requires heard { IsEventOf board.now heard.event }
@@ -149,17 +156,23 @@ impl<'a, J: Drop> Turns<'a, J> {
         ensures comes { IfOk result (λ ended. ComesTo ended self.new.told.core.loop self.new.told.ran) }
     {
         let ran = self.told.ran;
-        let ended = self.told.step_through(rt)?;
+        let ended = self.told.step_through(rt, self.loop_no, watch)?;
         if ended.is_some() || self.told.ran > ran || self.told.is_due() {
             return Ok(ended);
         }
-        Ok(self.rest(rt, board, heard))
+        Ok(self.rest(rt, board, heard, watch))
     }
 
     // Where requests are outstanding, the loop sleeps until one is answered, or, where a job is kept, until there is room
     // for it: a worker that has put a reply takes a job next. Without requests the clock is raised to the next timer, and
     // without a timer the loop waits for ever.
-    fn rest<R: Wait>(&mut self, rt: &R, board: &Board<J>, heard: Heard) -> Option<LoopEnding>
+    fn rest<R: Wait, W: Watch>(
+        &mut self,
+        rt: &R,
+        board: &Board<J>,
+        heard: Heard,
+        watch: &W,
+    ) -> Option<LoopEnding>
         requires room { self.old.told.ran < MAX_CALLBACKS }
         requires heard { IsEventOf board.now heard.event }
         ensures setting { self.new.told.core.setting ≡ self.old.told.core.setting }
@@ -169,11 +182,11 @@ impl<'a, J: Drop> Turns<'a, J> {
             board.wait(rt, heard);
             return None;
         }
-        self.told.wait()
+        self.told.wait(rt, self.loop_no, watch)
     }
 
     // Accepts all replies that are there.
-    fn accept_all<R: Wait>(&mut self, rt: &R)
+    fn accept_all<R: Wait, W: Watch>(&mut self, rt: &R, watch: &W)
         ensures setting { self.new.told.core.setting ≡ self.old.told.core.setting }
         ensures ran { self.new.told.ran ≡ self.old.told.ran }
     {
@@ -181,22 +194,25 @@ impl<'a, J: Drop> Turns<'a, J> {
             let Some(reply) = self.board.collect(rt, &mut self.pass, self.loop_no) else {
                 return;
             };
-            self.told.accept(reply);
+            let request = reply.order.request;
+            let is_taken = self.told.accept(reply);
+            watch.collect(rt, self.loop_no, request, is_taken);
         }
     }
 
     // Posts the job that was kept and all orders that are there, until a post is refused. That job is kept.
-    fn post_all<R: Wait, M: Fn(Task) -> Result<J, AllocError>>(
+    fn post_all<R: Wait, M: Fn(Task) -> Result<J, AllocError>, W: Watch>(
         &mut self,
         rt: &R,
         make: &M,
+        watch: &W,
     ) -> Result<(), AllocError>
         requires make { M.IsAlwaysCallable make.now }
         ensures setting { self.new.told.core.setting ≡ self.old.told.core.setting }
         ensures ran { self.new.told.ran ≡ self.old.told.ran }
     {
         for _ in rt.forever() {
-            let Some(job) = self.next_job(make)? else {
+            let Some(job) = self.next_job(rt, make, watch)? else {
                 return Ok(());
             };
             if let Err(job) = self.board.post(rt, &mut self.pass, job) {
@@ -207,10 +223,12 @@ impl<'a, J: Drop> Turns<'a, J> {
         unreachable!()
     }
 
-    // The job that was kept, or one for the next order.
-    fn next_job<M: Fn(Task) -> Result<J, AllocError>>(
+    // The job that was kept, or one for the next order, of which it is told that it is posted.
+    fn next_job<R: Wait, M: Fn(Task) -> Result<J, AllocError>, W: Watch>(
         &mut self,
+        rt: &R,
         make: &M,
+        watch: &W,
     ) -> Result<Option<J>, AllocError>
         requires make { M.IsAlwaysCallable make.now }
         ensures setting { self.new.told.core.setting ≡ self.old.told.core.setting }
@@ -222,6 +240,7 @@ impl<'a, J: Drop> Turns<'a, J> {
         let Some(order) = self.told.next_order() else {
             return Ok(None);
         };
+        watch.post(rt, self.loop_no, order.request);
         Ok(Some(make(Task::new(order))?))
     }
 }

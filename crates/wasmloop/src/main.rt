@@ -1,4 +1,4 @@
-//! The program: checks WebAssembly modules of strangers and runs their functions.
+//! The program: checks untrusted WebAssembly modules and runs their functions.
 #![tactic(auto)]
 
 ghost use Rattle.std.specs.Prelude.{◌≡◌};

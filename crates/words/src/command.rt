@@ -24,6 +24,8 @@ pub struct Invocation {
     pub arguments: Vec<String>,
     /// What the start function and the function may use together.
     pub budget: Budget,
+    /// Whether it is told what was used.
+    pub is_traced: bool,
 }
 
 /// A work order for a module.
@@ -37,6 +39,8 @@ pub struct WorkRequest {
     pub bytes: Vec<u8>,
     /// What the start function and `uv_work` may use together.
     pub budget: Budget,
+    /// Whether it is told what was used.
+    pub is_traced: bool,
     pub ghost short: { vec_len bytes ≤ MAX_BYTES },
 }
 
@@ -53,6 +57,8 @@ pub struct Service {
     pub budget: Budget,
     /// How many instructions a work function may pay for.
     pub work_fuel: u64,
+    /// Whether it is told what the loops do, as they do it.
+    pub is_traced: bool,
     pub ghost few_loops: { (1 ≤ loops) × (loops ≤ MAX_LOOPS) },
     pub ghost few_workers: { (1 ≤ workers) × (workers ≤ MAX_WORKERS) },
 }

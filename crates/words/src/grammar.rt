@@ -5,12 +5,17 @@ use std::alloc::{AllocError, Global};
 
 const FUEL_HELP: &str = "How many instructions may be run";
 
+const USED_HELP: &str = "Tells on standard error what was used";
+
+/// The option that asks to be told what happens.
+pub(crate) const TRACE: &str = "trace";
+
 const PROGRAM_TEXT: &str = "\
 Status: 0 done; 1 a file, a script, the memory or the output failed; 2 wrong words; 3 a module is refused;
 4 a call ended otherwise than by return, or a loop failed. What is said of 1 and 2 goes to standard error.
 
 Example:
-  wasmloop work examples/m2.wasm 41 00ff";
+  wasmloop work examples/adds_one.wasm 41 00ff";
 
 const CHECK_TEXT: &str = "\
 Prints `accepted`, or what refuses the module, with its number and word, as `decode 10 Counts`,
@@ -19,7 +24,7 @@ Prints `accepted`, or what refuses the module, with its number and word, as `dec
 Status: 0 accepted; 1 the file, the memory or the output failed; 2 wrong words; 3 refused.
 
 Example:
-  wasmloop check examples/m1.wasm";
+  wasmloop check examples/seven.wasm";
 
 const INVOKE_TEXT: &str = "\
 An argument is an unsigned number. A negative one is written as the number of its bits: -1 is
@@ -34,7 +39,7 @@ Status: 0 returned; 1 the file, the memory or the output failed; 2 wrong words, 
 3 the module is refused; 4 it ended otherwise than by return.
 
 Example:
-  wasmloop invoke examples/m8.wasm f 0";
+  wasmloop invoke examples/table.wasm f 0";
 
 const WORK_TEXT: &str = "\
 The operation is an unsigned number: -1 is written as 4294967295.
@@ -46,7 +51,7 @@ Status: 0 done; 1 the file, the memory or the output failed; 2 wrong words, or n
 3 the module is refused; 4 it ended otherwise than by return.
 
 Example:
-  wasmloop work examples/m2.wasm 41 00ff";
+  wasmloop work examples/adds_one.wasm 41 00ff";
 
 const SCRIPT_TEXT: &str = "\
 Prints the log, a line for each step; behind it `fault 1` where a step names what isn't there, and `fault 2`
@@ -68,7 +73,7 @@ Status: 0 all ended; 1 the file, the memory or the output failed; 2 wrong words;
 4 a loop failed.
 
 Example:
-  wasmloop serve examples/m6.wasm --loops 2 --workers 3";
+  wasmloop serve examples/asks.wasm --loops 2 --workers 3";
 
 /// A word that has to stand there.
 fn wanted<'a>(alloc: Global, id: &'a str, name: &'a str, help: &'a str) -> Arg<'a> {
@@ -97,6 +102,13 @@ fn depth_option<'a>(alloc: Global) -> Arg<'a> {
         .value_name("N")
         .default_value("64")
         .help("How many calls may stand open, 1 to 128")
+}
+
+fn trace_option<'a>(alloc: Global, help: &'a str) -> Arg<'a> {
+    Arg::new(alloc, TRACE)
+        .long(TRACE)
+        .action(ArgAction::SetTrue)
+        .help(help)
 }
 
 /// A count of threads, which has to be told.
@@ -154,6 +166,7 @@ fn invoke_words<'a>(alloc: Global) -> Result<Command<'a>, AllocError> {
             arguments_word(alloc),
             fuel_option(alloc, "fuel", FUEL_HELP),
             depth_option(alloc),
+            trace_option(alloc, USED_HELP),
         ]?,
     )
 }
@@ -187,6 +200,7 @@ fn work_words<'a>(alloc: Global) -> Result<Command<'a>, AllocError> {
             bytes_word(alloc),
             fuel_option(alloc, "fuel", FUEL_HELP),
             depth_option(alloc),
+            trace_option(alloc, USED_HELP),
         ]?,
     )
 }
@@ -227,6 +241,10 @@ fn serve_words<'a>(alloc: Global) -> Result<Command<'a>, AllocError> {
                 "How many instructions a work function may run"
             ),
             depth_option(alloc),
+            trace_option(
+                alloc,
+                "Tells on standard error what the loops do, as they do it"
+            ),
         ]?,
     )
 }
@@ -264,7 +282,7 @@ pub(crate) fn program<'a>(alloc: Global) -> Result<Command<'a>, AllocError> {
     let mut program = Command::new(alloc, "wasmloop")
         .version("0.1.0")
         .override_usage("wasmloop <COMMAND>")
-        .about("Runs WebAssembly modules of strangers on event loops")
+        .about("Runs untrusted WebAssembly modules on event loops")
         .after_help(PROGRAM_TEXT);
     for verb in VERBS {
         program = program.subcommand(verb_words(alloc, verb)?)?;

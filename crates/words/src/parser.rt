@@ -3,7 +3,7 @@
 ghost use Rattle.std.specs.Prelude.{◌≤◌, IfOk, vec_len};
 
 use crate::command::{Budget, Command, Invocation, Service, WorkRequest};
-use crate::grammar;
+use crate::grammar::{self, TRACE};
 use crate::number::{decimal, small_decimal};
 use crate::refused::Refused;
 use clap::ArgMatches;
@@ -44,7 +44,8 @@ fn option(
     match decimal(value) {
         Some(number) if least <= number && number <= most => Ok(number),
         _ => Err(Refused::Usage(format!(in alloc;
-            "error: invalid value '{value}' for '--{name} <N>': no whole number from {least} to {most}\n\n\
+            "error: invalid value '{value}' for '--{name} <N>': no whole number from {least} to {most}\n\n  \
+             tip: '--{name}' takes a whole number from {least} to {most}\n\n\
              For more information, try '--help'."
         )?)),
     }
@@ -54,6 +55,10 @@ fn budget(alloc: Global, matches: &ArgMatches<'_>) -> Result<Budget, Refused> {
     let fuel = option(alloc, matches, "fuel", 0, u64::MAX)?;
     let depth = option(alloc, matches, "depth", 1, MAX_DEPTH.into())? as u32;
     Ok(Budget { fuel, depth })
+}
+
+fn is_traced(matches: &ArgMatches<'_>) -> bool {
+    matches.get_flag(TRACE)
 }
 
 fn check(alloc: Global, matches: &ArgMatches<'_>) -> Result<Command, Refused> {
@@ -75,6 +80,7 @@ fn invoke(alloc: Global, matches: &ArgMatches<'_>) -> Result<Command, Refused> {
         file: text(alloc, matches, "file")?,
         name: text(alloc, matches, "name")?,
         arguments: arguments(alloc, matches)?,
+        is_traced: is_traced(matches),
     }))
 }
 
@@ -84,19 +90,30 @@ fn bytes(alloc: Global, word: &str) -> Result<Vec<u8>, Refused>
 {
     match hex::decode(alloc, word) {
         Ok(bytes) if bytes.len() <= MAX_BYTES => Ok(bytes),
+        Ok(bytes) => Err(Refused::TooManyBytes(bytes.len())),
         Err(FromHexError::OutOfMemory) => Err(Refused::Memory),
-        _ => Err(Refused::Arguments),
+        Err(fault) => Err(Refused::Digits(fault)),
+    }
+}
+
+/// The number of an operation.
+fn operation(alloc: Global, matches: &ArgMatches<'_>) -> Result<u32, Refused> {
+    let word = word(matches, "operation")?;
+    match small_decimal(word) {
+        Some(number) => Ok(number),
+        None => Err(Refused::Operation(String::from_str(alloc, word)?)),
     }
 }
 
 fn work(alloc: Global, matches: &ArgMatches<'_>) -> Result<Command, Refused> {
-    let operation = small_decimal(word(matches, "operation")?).ok_or(Refused::Arguments)?;
+    let operation = operation(alloc, matches)?;
     let bytes = bytes(alloc, matches.get_str("bytes").unwrap_or(""))?;
     Ok(Command::Work(WorkRequest {
         budget: budget(alloc, matches)?,
         file: text(alloc, matches, "file")?,
         operation,
         bytes,
+        is_traced: is_traced(matches),
     }))
 }
 
@@ -116,6 +133,7 @@ fn serve(alloc: Global, matches: &ArgMatches<'_>) -> Result<Command, Refused> {
         workers,
         budget,
         work_fuel,
+        is_traced: is_traced(matches),
     }))
 }
 
@@ -144,8 +162,9 @@ fn missing(alloc: Global, program: &mut clap::Command<'_>) -> Refused {
 
 /// The command that the words ask for. The first of them is the program's name.
 ///
-/// They are refused by `Help` where they ask for help or for the version, by `Arguments` where the number or the bytes of
-/// a work order are not written as they should be, by `Memory` where memory was refused, and else by `Usage`.
+/// They are refused by `Help` where they ask for help or for the version, by `Operation`, `Digits` or `TooManyBytes` where
+/// the number or the bytes of a work order are not written as they should be, by `Memory` where memory was refused, and
+/// else by `Usage`.
 pub fn parse(alloc: Global, words: &[String]) -> Result<Command, Refused> {
     let mut program = grammar::program(alloc)?;
     let matches = match program.try_get_matches_from_mut(words) {

@@ -10,9 +10,11 @@
 mod config;
 mod fault;
 pub mod laws;
+mod undone;
 mod worker;
 mod world;
 
 pub use config::{Config, LoopConfig};
 pub use fault::WorldFault;
-pub use world::World;
+pub use undone::Undone;
+pub use world::{World, told};

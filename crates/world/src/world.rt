@@ -8,10 +8,12 @@ ghost use Rattle.order.specs.Orders.{order_of, end_of};
 
 use crate::config::{Config, LoopConfig};
 use crate::fault::WorldFault;
+use crate::undone::Undone;
 use crate::worker::Worker;
 use desk::Desk;
+use instance::stack::Stop;
 use limits::{MAX_ASYNCS, MAX_EMITS, MAX_JOBS};
-use order::{Order, Outcome, Reply};
+use order::{Order, Outcome, Reply, Trail};
 use phases::{Accepted, LoopCore, StepDid};
 use std::alloc::{AllocError, Global};
 use std::collections::VecDeque;
@@ -24,6 +26,9 @@ use world_log::{
     WorkEnding,
 };
 
+/// How many jobs are kept at most whose work did not return.
+const MAX_UNDONE: usize = 16;
+
 /// Some loops and workers, which take turns in one thread, step by step. Contracts see the loops, the jobs that no
 /// worker took, what each worker has, and the replies that no loop was offered.
 pub struct World {
@@ -32,6 +37,7 @@ pub struct World {
     jobs: VecDeque<Order>,
     workers: Vec<Worker>,
     replies: Vec<VecDeque<Reply>>,
+    undone: Vec<Undone>,
 }
 
 impl Drop for World {
@@ -42,6 +48,7 @@ impl Drop for World {
             jobs: _,
             workers: _,
             replies: _,
+            undone: _,
         } = self;
     }
 }
@@ -66,8 +73,8 @@ impl Model for World {
     ghost invariant = { λ a. IsKept a.loops.items a.jobs.items a.workers.items (length a.replies.items) (deque_capacity a.jobs) };
 }
 
-// What is told of a loop's step.
-fn told(loop_no: u32, did: StepDid, emits: Items<u64>) -> LogEntry
+/// What a log tells of a loop's step, of which these are the values that its callback put out.
+pub fn told(loop_no: u32, did: StepDid, emits: Items<u64>) -> LogEntry
     ensures { result ≡ told_of loop_no did emits }
 {
     match did {
@@ -116,6 +123,31 @@ fn ending_of(outcome: &Outcome) -> WorkEnding
         Outcome::Depth => WorkEnding::Depth,
         Outcome::Spent => WorkEnding::Spent,
         Outcome::NoMemory => WorkEnding::NoMemory,
+    }
+}
+
+fn none_undone(alloc: Global) -> Result<Vec<Undone>, AllocError> {
+    Vec::with_capacity(alloc, MAX_UNDONE)
+}
+
+// Keeps a job whose work did not return, while there is room.
+fn keep_undone(
+    undone: &mut Vec<Undone>,
+    job: JobId,
+    ending: WorkEnding,
+    used: u64,
+    trail: Option<Trail>,
+) {
+    let Some(trail) = trail else {
+        return;
+    };
+    if undone.len() < undone.capacity() {
+        undone.push_reserved(Undone {
+            job,
+            ending,
+            used,
+            trail,
+        });
     }
 }
 
@@ -192,7 +224,20 @@ impl World {
             jobs: VecDeque::with_capacity(alloc, MAX_JOBS)?,
             workers: idle_workers(alloc, config.workers)?,
             replies: no_replies(alloc, config.loops.len())?,
+            undone: none_undone(alloc)?,
         })
+    }
+
+    /// Where the last callback of a loop stopped, if it was over but by return: at which operation, and within which calls.
+    /// Of a loop that has failed, this stays.
+    pub fn last_stop(&self, loop_no: u32) -> Option<Stop<'_>> {
+        let core = self.loops.get(loop_no as usize)?;
+        core.last_stop()
+    }
+
+    /// The jobs whose work did not return, in the order in which they were finished: the first 16.
+    pub fn undone(&self) -> &[Undone] {
+        self.undone.as_slice()
     }
 
     /// Takes these steps one after another, and writes what each did behind the log. It stops at a step that names a
@@ -354,9 +399,10 @@ impl World {
         let Worker::Started(order) = mem::replace(state, Worker::Idle) else {
             unreachable!();
         };
-        let reply = order.run(self.alloc);
-        let ending = ending_of(&reply.outcome);
-        replies.push_back_reserved(reply);
+        let told = order.run_told(self.alloc);
+        let ending = ending_of(&told.reply.outcome);
+        keep_undone(&mut self.undone, job, ending, told.used, told.trail);
+        replies.push_back_reserved(told.reply);
         Ok(LogEntry::Finish {
             worker,
             outcome: FinishOutcome::Ended(job, ending),

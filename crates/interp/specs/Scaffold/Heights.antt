@@ -3,12 +3,13 @@
 use Rattle.std.specs.Prelude.{◌≡◌, ℕ, ◌+◌, ◌≤◌, List, [], ◌∷◌, length, Option, Some, None, slice_get}
 use Rattle.limits.specs.declared.TheConstants.{MAX_HEIGHT, MAX_LOCALS, MAX_NESTING}
 use Rattle.syntax.specs.declared.instruction.Instr.{Instr}
-use Rattle.syntax.specs.declared.instruction.Instr.TheVariants.{BrIf, LocalGet, LocalSet, LocalTee, GlobalGet, GlobalSet}
+use Rattle.syntax.specs.declared.instruction.Instr.TheVariants.{Br, BrIf, BrTable, CallIndirect, LocalGet, LocalSet, LocalTee, GlobalGet, GlobalSet}
+use Rattle.syntax.specs.declared.instruction.Instr.TheVariants.{Load, LoadNarrow, Store, StoreNarrow, MemorySize, MemoryGrow}
 use Rattle.syntax.specs.declared.contents.Contents.{Contents}
 use Rattle.syntax.specs.declared.contents.FuncType.{FuncType}
 use Rattle.syntax.specs.Code.{Code, Done, Plain, Block, Loop, If}
 use Rattle.validate.specs.Typing.{Context as Typing, block_type}
-use Rattle.validate.specs.Height.{Effect, Changes, Ends, effect_of}
+use Rattle.validate.specs.Height.{Effect, Changes, Ends, named, calls, effect_of}
 use Rattle.interp.specs.Configuration.{Context, Label, Frame}
 use Rattle.interp.specs.Scaffold.Typed.{code_of, operands_of}
 
@@ -26,15 +27,24 @@ tests (Some arity) = Changes (arity + 1) arity
 abbrev pub around : Contents → Typing
 around m = record { module_contents = m; locals = []; labels = []; results = [] }
 
--- What an instruction that contains no other takes and leaves: what the validator counts, for locals and globals that are
--- there, and where a branch to each label takes so many along.
+-- What an instruction that contains no other takes and leaves: what the validator counts, where labels, locals, globals,
+-- table and memory are there, and where a branch to each label takes so many along.
 abbrev pub counts : Contents → (labels : List ℕ) → Instr → Effect
+counts m labels (Br label) = Ends
+counts m labels (BrTable names default) = Ends
 counts m labels (BrIf label) = tests (slice_get labels label)
 counts m labels (LocalGet x) = Changes 0 1
 counts m labels (LocalSet x) = Changes 1 0
 counts m labels (LocalTee x) = Changes 1 1
 counts m labels (GlobalGet x) = Changes 0 1
 counts m labels (GlobalSet x) = Changes 1 0
+counts m labels (CallIndirect t) = named (slice_get m.types t) (calls 1)
+counts m labels (Load t at) = Changes 1 1
+counts m labels (LoadNarrow t width extension at) = Changes 1 1
+counts m labels (Store t at) = Changes 2 0
+counts m labels (StoreNarrow t width at) = Changes 2 0
+counts m labels MemorySize = Changes 0 1
+counts m labels MemoryGrow = Changes 1 1
 counts m labels i = effect_of (around m) i
 
 -- where an instruction is followed by what comes next, it finds its operands, and this holds of the number behind it

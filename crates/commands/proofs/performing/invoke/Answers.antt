@@ -9,7 +9,7 @@ returns g c =
     let i = c.args.invocation.now in
     let contents = c.valid.result.now.contents in
     let gives = g.R.Reader.gives c.args.reader.now in
-    let linked = c.in_ok-linked.linked in
+    let linked = c.in_ok-loaded.loaded.0 in
     let held : Holds gives (string_bytes i.file) contents =
-    rw (c.valid.ensures.same, ← c.as_str.ensures.value) (linked.bytes, c.in_ok-linked.ensures.read, c.in_ok-linked.ensures.accepted) in
+    rw (c.valid.ensures.same, ← c.as_str.ensures.value) (linked.bytes, c.in_ok-loaded.ensures.read, c.in_ok-loaded.ensures.accepted) in
     IfOk-weaker c.call_and_tell.result _ _ (λ status returned done. invoked gives i contents held (returned done)) c.call_and_tell.ensures

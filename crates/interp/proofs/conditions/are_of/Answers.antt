@@ -1,9 +1,6 @@
-use Rattle.std.proofs.Common.{◌≡◌, length, arith, refl}
-use Rattle.std.proofs.lemmas.List.{ext_get_or, length-map}
+use Rattle.interp.proofs.Words.{◌≡◌, length, arith, refl, length-map, Value, type_of, types_of}
+use Rattle.std.proofs.lemmas.List.{ext_get_or}
 use Rattle.syntax.specs.declared.types.ValType.TheVariants.{I32}
-use Rattle.syntax.specs.declared.types.Value.{Value}
-use Rattle.validate.specs.Typing.{type_of}
-use Rattle.interp.specs.Configuration.{types_of}
 use Rattle.interp.proofs.conditions.are_of.Goals as goal
 
 pub returns : goal.returns

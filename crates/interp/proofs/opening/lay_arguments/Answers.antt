@@ -1,5 +1,4 @@
-use Rattle.std.proofs.Common.{arith}
-use Rattle.syntax.specs.declared.types.Value.TheVariants.{I32}
+use Rattle.interp.proofs.Words.{arith, I32}
 use Rattle.interp.proofs.Slots.ValuesRead.{one_laid, one_small}
 use Rattle.interp.proofs.opening.lay_arguments.Goals as goal
 

@@ -1,5 +1,4 @@
-use Rattle.std.proofs.Common.{◌≡◌, ◌++◌, take, drop}
-use Rattle.interp.specs.Slots.Holding.{AreSmall, erased}
+use Rattle.interp.proofs.Words.{◌≡◌, ◌++◌, take, drop, AreSmall, erased}
 use Rattle.interp.proofs.opening.lay_arguments.Given as goal
 
 abbrev pub invariant-loop-index : goal.invariant-loop-index

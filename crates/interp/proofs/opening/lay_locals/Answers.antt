@@ -1,8 +1,5 @@
-use Rattle.std.proofs.Common.{List, ℕ, length, replicate, ap, ◌∙◌}
+use Rattle.interp.proofs.Words.{List, ℕ, length, replicate, ap, ◌∙◌, length-map, number_in, erased}
 use Rattle.std.proofs.Math.Seq.{paste}
-use Rattle.std.proofs.lemmas.List.{length-map}
-use Rattle.validate.specs.Segments.{number_in}
-use Rattle.interp.specs.Slots.Holding.{erased}
 use Rattle.interp.proofs.Slots.ValuesRead.{zeros_behind}
 use Rattle.interp.proofs.opening.lay_locals.Goals as goal
 

@@ -1,10 +1,7 @@
-use Rattle.std.proofs.Common.{◌≡◌, ℕ, ◌+◌, ◌-◌, ◌≤◌, ◌++◌, Some, List, length, drop, replicate, ap, ◌∙◌, arith, length-append}
-use Rattle.std.specs.Prelude.{slice_get}
+use Rattle.interp.proofs.Words.{◌≡◌, ℕ, ◌+◌, ◌-◌, ◌≤◌, ◌++◌, Some, List, length, drop, replicate, ap, ◌∙◌, arith, length-append, slice_get, FuncType}
+use Rattle.interp.proofs.Words.{Func, erased}
 use Rattle.std.specs.List.{refill}
 use Rattle.std.proofs.lemmas.List.{length-replicate}
-use Rattle.syntax.specs.declared.contents.FuncType.{FuncType}
-use Rattle.syntax.specs.declared.contents.Func.{Func}
-use Rattle.interp.specs.Slots.Holding.{erased}
 use Rattle.interp.proofs.OneRun.{one_function}
 use Rattle.interp.proofs.Slots.Hosted.{refilled}
 use Rattle.interp.proofs.opening.open.Goals as goal

@@ -7,4 +7,4 @@ pub returns-in-Err : goal.returns-in-Err
 returns-in-Err c =
     let other : c.in-Err.fault ≡ Memory → ⊥ = search rules in
     let none : SpellsNothing c.args.bytes.now = rw (← c.in-Ok.ensures.items) (c.in-Err.ensures.refused other) in
-    record { same = tt; spelled = tt; refused = none }
+    record { same = tt; spelled = tt; refused = (other, none) }

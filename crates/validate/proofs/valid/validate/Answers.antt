@@ -6,7 +6,7 @@ use Rattle.validate.proofs.valid.validate.Goals as goal
 pub returns-in_err-tables-clause-invalid : goal.returns-in_err-tables-clause-invalid
 returns-in_err-tables-clause-invalid c =
     let m = c.args.module.contents in
-    let e = c.in_err-tables.field-0.0 in
+    let e = c.in_err-tables.field-0.0.fault in
     let p = err_from_is_err_and c.from_residual.result c.from_residual.ensures.1 in
     let refutes : Refutes m e = c.in_err-tables.ensures.refused in
     rw (p.1, p.2) (refuted m e refutes)

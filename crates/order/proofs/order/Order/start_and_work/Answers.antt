@@ -2,12 +2,12 @@ use Rattle.order.specs.Orders.{order_of}
 use Rattle.order.proofs.Serving.{stops_end, works_end}
 use Rattle.order.proofs.order.Order.start_and_work.Goals as goal
 
-pub returns-in_default-clause-end : goal.returns-in_default-clause-end
-returns-in_default-clause-end c = λ end reads.
-    stops_end c.names_are_apart.ensures (order_of c.args.self.now) c.args.instance.now c.start-started.new.instance c.start-started.result.ending c.start-started.result.used c.start-started.new.host.reply.items end
-    c.requires.valid c.requires.fresh c.start-started.ensures.run c.in_default.not-Return reads
+pub returns-in_default-clause-computes : goal.returns-in_default-clause-computes
+returns-in_default-clause-computes c = λ end reads.
+    stops_end (order_of c.args.self.now) c.args.instance.now c.start-started.new.instance c.start-started.result.ending c.start-started.result.used c.start-started.new.host.reply.items end
+    c.requires.fresh c.start-started.ensures.run c.in_default.not-Return reads
 
-pub returns-clause-end : goal.returns-clause-end
-returns-clause-end c = λ end reads.
-    works_end c.names_are_apart.ensures (order_of c.args.self.now) c.args.instance.now c.start-started.new.instance c.work-ended.new.instance c.start-started.result c.work-ended.result c.in-Return.field-0 c.start-started.new.host.reply.items c.work-ended.new.host.reply.items end
-    c.requires.valid c.requires.fresh c.in-Return.is c.start-started.ensures.run c.work-ended.ensures.run reads
+pub returns-clause-computes : goal.returns-clause-computes
+returns-clause-computes c = λ end reads.
+    works_end (order_of c.args.self.now) c.args.instance.now c.start-started.new.instance c.work-ended.new.instance c.start-started.result c.work-ended.result c.in-Return.field-0 c.start-started.new.host.reply.items c.work-ended.new.host.reply.items end
+    c.requires.fresh c.in-Return.is c.start-started.ensures.run c.work-ended.ensures.run reads

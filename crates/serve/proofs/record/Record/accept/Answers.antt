@@ -7,5 +7,5 @@ invariant_of-self c =
     let r = c.args.self.now in
     record {
       few = r.few;
-      told = does_accept r.core.setting c.accept.new.self.setting r.core.loop c.accept.new.self.loop r.ran r.emits.items r.emits.items c.args.reply c.accept.result c.accept.ensures.setting c.accept.ensures.told refl r.told;
+      told = does_accept r.core.setting c.accept-accepted.new.self.setting r.core.loop c.accept-accepted.new.self.loop r.ran r.emits.items r.emits.items c.args.reply c.accept-accepted.result c.accept-accepted.ensures.setting c.accept-accepted.ensures.told refl r.told;
     }

@@ -1,0 +1,81 @@
+// What a step of a script names that is not there.
+
+use limits::MAX_ASYNCS;
+use std::fmt;
+use world_log::Step;
+
+/// The greatest number of an async.
+const LAST_ASYNC: usize = MAX_ASYNCS - 1;
+
+/// How many loops and workers a script has.
+#[derive(Clone, Copy, Debug)]
+pub struct Counts {
+    pub loops: usize,
+    pub workers: u32,
+}
+
+/// A step that names what is not there, in a script with these counts.
+#[derive(Clone, Copy, Debug)]
+pub struct Missing {
+    pub step: Step,
+    pub counts: Counts,
+}
+
+fn write_step<W: fmt::Write>(f: &mut fmt::Formatter<W>, step: Step) -> fmt::Result {
+    match step {
+        Step::Loop(number) => write!(f, "[\"loop\",{number}]"),
+        Step::Post(number) => write!(f, "[\"post\",{number}]"),
+        Step::Take(number) => write!(f, "[\"take\",{number}]"),
+        Step::Start(number) => write!(f, "[\"start\",{number}]"),
+        Step::Finish(number) => write!(f, "[\"finish\",{number}]"),
+        Step::Collect(number) => write!(f, "[\"collect\",{number}]"),
+        Step::Send(loop_no, number) => write!(f, "[\"send\",{loop_no},{number}]"),
+        Step::Cancel(loop_no, number) => write!(f, "[\"cancel\",{loop_no},{number}]"),
+        Step::Clock(loop_no, clock) => write!(f, "[\"clock\",{loop_no},{clock}]"),
+    }
+}
+
+fn write_loop<W: fmt::Write>(
+    f: &mut fmt::Formatter<W>,
+    number: u32,
+    counts: Counts,
+) -> fmt::Result {
+    let loops = counts.loops;
+    write!(f, "there is no loop {number}; loops of the script: {loops}")
+}
+
+fn write_worker<W: fmt::Write>(
+    f: &mut fmt::Formatter<W>,
+    number: u32,
+    counts: Counts,
+) -> fmt::Result {
+    let workers = counts.workers;
+    write!(
+        f,
+        "there is no worker {number}; workers of the script: {workers}"
+    )
+}
+
+impl fmt::Display for Missing {
+    fn fmt<W: fmt::Write>(&self, f: &mut fmt::Formatter<W>) -> fmt::Result {
+        write_step(f, self.step)?;
+        f.write_str(": ")?;
+        match self.step {
+            Step::Take(number) | Step::Start(number) | Step::Finish(number) => {
+                write_worker(f, number, self.counts)
+            }
+            Step::Send(loop_no, number) if (loop_no as usize) < self.counts.loops => {
+                write!(
+                    f,
+                    "there is no async {number}; they are numbered from 0 to {LAST_ASYNC}"
+                )
+            }
+            Step::Loop(number)
+            | Step::Post(number)
+            | Step::Collect(number)
+            | Step::Send(number, _)
+            | Step::Cancel(number, _)
+            | Step::Clock(number, _) => write_loop(f, number, self.counts),
+        }
+    }
+}

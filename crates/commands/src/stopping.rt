@@ -1,0 +1,193 @@
+// Where a run stopped that did not return, told in a sentence.
+
+use crate::names::is_printable;
+use instance::stack::Site;
+use interp::ended::{Ended, Ending};
+use interp::trap::TrapCode;
+use loader::{Place, function_name, place_of_operation};
+use order::{MAX_TRAIL, Outcome, Told, Trail};
+use std::fmt;
+use std::io::{self, Write};
+use world_log::WorkEnding;
+
+/// Why a run did not return.
+#[derive(Clone, Copy, Debug)]
+pub enum Reason {
+    /// It trapped.
+    Trap(TrapCode),
+    /// The limit of calls was met.
+    Depth,
+    /// The fuel was spent.
+    Spent,
+}
+
+/// How a run ended that did not return.
+#[derive(Clone, Copy, Debug)]
+pub struct Stopped<'a> {
+    pub reason: Reason,
+    /// The units of fuel that it used.
+    pub used: u64,
+    pub trail: &'a Trail,
+}
+
+impl Reason {
+    /// Why a call did not return, if it didn't.
+    pub fn of_ending(ending: &Ending) -> Option<Reason> {
+        match ending {
+            Ending::Return(_) => None,
+            Ending::Trap(trap) => Some(Reason::Trap(*trap)),
+            Ending::Depth => Some(Reason::Depth),
+            Ending::Spent => Some(Reason::Spent),
+        }
+    }
+
+    /// Why a work function did not return, if it didn't.
+    pub fn of_outcome(outcome: &Outcome) -> Option<Reason> {
+        match outcome {
+            Outcome::Done(_, _) | Outcome::NoMemory => None,
+            Outcome::Trap(trap) => Some(Reason::Trap(*trap)),
+            Outcome::Depth => Some(Reason::Depth),
+            Outcome::Spent => Some(Reason::Spent),
+        }
+    }
+
+    /// The same, of what a log tells.
+    pub fn of_work(ending: WorkEnding) -> Option<Reason> {
+        match ending {
+            WorkEnding::Done(_) | WorkEnding::NoMemory => None,
+            WorkEnding::Trap(trap) => Some(Reason::Trap(trap)),
+            WorkEnding::Depth => Some(Reason::Depth),
+            WorkEnding::Spent => Some(Reason::Spent),
+        }
+    }
+}
+
+impl<'a> Stopped<'a> {
+    /// How a call ended that stopped there, if it did not return.
+    pub fn of_call(ended: &Ended, trail: &'a Trail) -> Option<Stopped<'a>> {
+        Some(Stopped {
+            reason: Reason::of_ending(&ended.ending)?,
+            used: ended.used,
+            trail,
+        })
+    }
+
+    /// How the run of an order ended, if it did not return.
+    pub fn of_told(told: &'a Told) -> Option<Stopped<'a>> {
+        Some(Stopped {
+            reason: Reason::of_outcome(&told.reply.outcome)?,
+            used: told.used,
+            trail: told.trail.as_ref()?,
+        })
+    }
+}
+
+/// What a trap means.
+fn meaning(trap: TrapCode) -> &'static str {
+    match trap {
+        TrapCode::Unreachable => "unreachable",
+        TrapCode::DivideByZero => "division by zero",
+        TrapCode::Overflow => "a result that its type doesn't hold",
+        TrapCode::Memory => "an address beyond the memory",
+        TrapCode::Table => "an index beyond the table",
+        TrapCode::EmptyElement => "an empty element of the table",
+        TrapCode::OtherType => "a function of another type",
+    }
+}
+
+/// Writes why a run did not return.
+fn write_reason<E: Write>(reason: Reason, err: &mut E) -> io::Result<()> {
+    match reason {
+        Reason::Trap(trap) => {
+            let (meaning, code) = (meaning(trap), trap.code());
+            write!(err, "trapped: {meaning} ({code})")
+        }
+        Reason::Depth => err.write_all(b"made too many nested calls"),
+        Reason::Spent => err.write_all(b"spent its fuel"),
+    }
+}
+
+/// A function's name, if it can be printed on one line.
+fn printed_name(bytes: &[u8], function: u64) -> Option<&str> {
+    let index = u32::try_from(function).ok()?;
+    let name = function_name(bytes, index)?;
+    if is_printable(name) {
+        return Some(name);
+    }
+    None
+}
+
+/// Writes a function's index and, where the module has it, its name.
+fn write_function<E: Write>(bytes: &[u8], function: u64, err: &mut E) -> io::Result<()> {
+    match printed_name(bytes, function) {
+        Some(name) => write!(err, "function {function} ({name})"),
+        None => write!(err, "function {function}"),
+    }
+}
+
+/// Writes the operation at which a run stopped.
+fn write_innermost<E: Write>(bytes: &[u8], site: Site, err: &mut E) -> io::Result<()> {
+    let Some(
+        Place::Operation {
+            function,
+            number,
+            name,
+            at,
+        },
+    ) = place_of_operation(bytes, site.function, site.operation)
+    else {
+        return Ok(());
+    };
+    err.write_all(b", in ")?;
+    write_function(bytes, function, err)?;
+    write!(err, ", operation {number} ({name}) at byte {at}")
+}
+
+/// Writes one of the calls around it.
+fn write_caller<E: Write>(bytes: &[u8], site: Site, err: &mut E) -> io::Result<()> {
+    let Some(Place::Operation { function, at, .. }) = place_of_operation(
+        bytes,
+        site.function,
+        site.operation,
+    ) else {
+        return Ok(());
+    };
+    err.write_all(b"by ")?;
+    write_function(bytes, function, err)?;
+    write!(err, " at byte {at}")
+}
+
+/// Writes the calls around it, from the inside outwards, and how many are left out.
+fn write_callers<E: Write>(bytes: &[u8], trail: &Trail, err: &mut E) -> io::Result<()> {
+    let mut between = "; called ";
+    for index in 1..MAX_TRAIL {
+        let Some(site) = trail.get(index) else {
+            return Ok(());
+        };
+        err.write_all(between.as_bytes())?;
+        write_caller(bytes, site, err)?;
+        between = "; ";
+    }
+    match trail.more() {
+        0 => Ok(()),
+        more => write!(err, "; and {more} more"),
+    }
+}
+
+/// Tells in a line how a run of a module of these bytes ended that did not return, and where.
+pub fn tell_stopped<W: fmt::Display, E: Write>(
+    what: &W,
+    bytes: &[u8],
+    stopped: &Stopped<'_>,
+    err: &mut E,
+) -> io::Result<()> {
+    let used = stopped.used;
+    write!(err, "{what} ")?;
+    write_reason(stopped.reason, err)?;
+    write!(err, ", after {used} units")?;
+    if let Some(site) = stopped.trail.get(0) {
+        write_innermost(bytes, site, err)?;
+    }
+    write_callers(bytes, stopped.trail, err)?;
+    err.write_all(b"\n")
+}

@@ -1,0 +1,138 @@
+// Why the loops that were served ended as they did, told in sentences.
+
+use crate::ran::{Ran, What};
+use crate::stopping::{Stopped, tell_stopped};
+use imports::EntryPoint;
+use limits::{MAX_BYTES, MAX_DEPTH};
+use order::{Order, Told};
+use phases::EntryKind;
+use serve::{Account, Callback, LoopEnding, Served};
+use std::alloc::Global;
+use std::io::{self, Write};
+use words::Service;
+
+/// Tells why loops of a module of these bytes, which were served so, ended as they did.
+#[derive(Drop)]
+pub struct Teller<'a> {
+    pub alloc: Global,
+    pub bytes: &'a [u8],
+    pub service: &'a Service,
+}
+
+/// Runs an order once more, which ends as it did the first time.
+fn run_again(alloc: Global, order: Order) -> Option<Told> {
+    let Some(_function) = order.module.entry(EntryPoint::Work) else {
+        return None;
+    };
+    if order.bytes.len() > MAX_BYTES {
+        return None;
+    }
+    match order.depth {
+        1..=MAX_DEPTH => Some(order.run_told(alloc)),
+        _ => None,
+    }
+}
+
+/// How the last callback of a loop ended, if it did not return.
+fn last_stopped(served: &Served) -> Option<(Ran, Stopped<'_>)> {
+    let Callback { kind, number } = served.account.last()?;
+    let stopped = Stopped::of_call(served.account.stopped()?, served.trail.as_ref()?)?;
+    Some((Ran::callback(served.loop_no, kind, number), stopped))
+}
+
+/// Tells which callbacks were the last of a loop that ran as many as it may.
+fn tell_limit<E: Write>(account: &Account, err: &mut E) -> io::Result<()> {
+    let Some(Callback { kind, number }) = account.last() else {
+        return Ok(());
+    };
+    let last = What::Callback { kind, number };
+    let (in_row, now) = (account.in_row(), account.now());
+    write!(
+        err,
+        "the last {in_row} callbacks are of {last}, at moment {now}"
+    )?;
+    match kind {
+        EntryKind::Idle | EntryKind::Check => {
+            err.write_all(b"; while an idle or a check is active, no time passes\n")
+        }
+        _ => err.write_all(b"\n"),
+    }
+}
+
+/// Tells for which asyncs a loop waits.
+fn tell_waiting<E: Write>(account: &Account, err: &mut E) -> io::Result<()> {
+    err.write_all(b"nobody sends to")?;
+    let mut between = " async ";
+    for handle in account.asyncs() {
+        write!(err, "{between}{handle}")?;
+        between = ", ";
+    }
+    err.write_all(b"\n")
+}
+
+impl Teller<'_> {
+    /// Tells it of all loops.
+    pub fn tell_all<E: Write>(&self, served: Vec<Served>, err: &mut E) -> io::Result<()> {
+        for one in served {
+            self.tell_ending(&one, err)?;
+            self.tell_most(&one, err)?;
+            self.tell_work(one, err)?;
+        }
+        Ok(())
+    }
+
+    fn tell_ending<E: Write>(&self, served: &Served, err: &mut E) -> io::Result<()> {
+        let loop_no = served.loop_no;
+        match served.ending {
+            LoopEnding::Over => Ok(()),
+            LoopEnding::Failed => self.tell_failed(served, err),
+            LoopEnding::Waiting => {
+                write!(err, "loop {loop_no}: ")?;
+                tell_waiting(&served.account, err)
+            }
+            LoopEnding::Limit => {
+                write!(err, "loop {loop_no}: ")?;
+                tell_limit(&served.account, err)
+            }
+        }
+    }
+
+    fn tell_failed<E: Write>(&self, served: &Served, err: &mut E) -> io::Result<()> {
+        match last_stopped(served) {
+            Some((ran, stopped)) => tell_stopped(&ran, self.bytes, &stopped, err),
+            None => Ok(()),
+        }
+    }
+
+    /// The greatest fuel that a callback used, if that is asked for.
+    fn tell_most<E: Write>(&self, served: &Served, err: &mut E) -> io::Result<()> {
+        if !self.service.is_traced {
+            return Ok(());
+        }
+        let (loop_no, most) = (served.loop_no, served.account.most_used());
+        let fuel = self.service.budget.fuel;
+        writeln!(
+            err,
+            "loop {loop_no}: a callback used {most} of {fuel} units at most"
+        )
+    }
+
+    /// Where the work of requests stopped that did not return.
+    fn tell_work<E: Write>(&self, served: Served, err: &mut E) -> io::Result<()> {
+        let loop_no = served.loop_no;
+        for order in served.into_undone() {
+            let ran = Ran::work(loop_no, order.request);
+            if let Some(told) = run_again(self.alloc, order) {
+                self.tell_undone(ran, &told, err)?;
+            }
+        }
+        Ok(())
+    }
+
+    fn tell_undone<E: Write>(&self, ran: Ran, told: &Told, err: &mut E) -> io::Result<()> {
+        match Stopped::of_told(told) {
+            Some(stopped) => tell_stopped(&ran, self.bytes, &stopped, err),
+            None => Ok(()),
+        }
+    }
+}

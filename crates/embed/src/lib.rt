@@ -1,0 +1,34 @@
+//! What an embedder needs of the crates below, in one list.
+//!
+//! Bytes become a guest by `load`, which answers a `Linked`, or a `Refusal` that prints the stage, number and word of what
+//! refused them. A guest lives on a `LoopCore`: over a `Desk` where the embedder drives it in one thread, `step` by `step`, runs
+//! its orders and brings back the replies; `serve` runs loops and workers in threads of their own. A `World` takes the steps of
+//! several loops and workers one by one, for tests. Where a callback stopped that did not return, `LoopCore::last_stop` answers.
+//!
+//! Each contract is that of the crate which the name comes from. Begin with `load`, and with docs/EMBEDDING.md.
+#![tactic(auto)]
+
+pub use board::JobBox;
+pub use decode::DecodeFault;
+pub use desk::Desk;
+pub use imports::{EntryPoint, LinkFault, Linked};
+pub use instance::stack::{Site, Stop};
+pub use interp::ended::{Ended, Ending};
+pub use interp::trap::TrapCode;
+pub use interp::values::Values;
+pub use limits::{
+    MAX_BYTES, MAX_DEPTH, MAX_LOOPS, MAX_MODULE_BYTES, MAX_PAGES, MAX_REQUESTS, MAX_WORKERS,
+};
+pub use loader::{Part, Place, Refusal, function_name, load, place_of_operation};
+pub use order::{Order, Outcome, Reply, Told, Trail};
+pub use phases::{Accepted, Beside, EntryKind, Hint, LoopCore, Phase, Shared, StepDid};
+pub use serve::{
+    Account, Callback, Job, LoopEnding, Served, Serving, Task, Watch, serve, serve_watched,
+};
+pub use syntax::types::Value;
+pub use validate::ValidFault;
+pub use world::{Config, LoopConfig, Undone, World, WorldFault};
+pub use world_log::{
+    CollectOutcome, FinishOutcome, Log, LogEntry, LoopSettings, PostOutcome, StartOutcome, Step,
+    WorkEnding,
+};

@@ -1,0 +1,67 @@
+use Rattle.interp.proofs.Words.{◌≡◌, ℕ, ◌+◌, ◌-◌, ◌≤◌, Option, Some, List, length, map, take, drop, sym, ap, ◌∙◌, subst, arith, slice_get, ValType}
+use Rattle.interp.proofs.Words.{Value, FuncType, type_of, as_operands}
+use Rattle.std.proofs.Common.{length-drop}
+use Rattle.std.proofs.lemmas.List.{length-take}
+use Rattle.instance.specs.Store.{MemoryInstance}
+use Rattle.interp.specs.Hosting.{Takes, Answers}
+use Rattle.interp.specs.Slots.Resuming.{laid}
+use Rattle.interp.specs.Slots.ValuesRead.{typed_values}
+use Rattle.interp.specs.Slots.HostAsked.{arguments}
+use Rattle.interp.proofs.Slots.ValuesRead.{between, typed_types}
+use Rattle.interp.proofs.asking.ask_over.Goals as goal
+
+pub call-answer-requires : goal.call-answer-requires
+call-answer-requires g c =
+    let found = c.in-Some.ensures in
+    let can = c.requires.can in
+    let known = can.known in
+    let both : Some c.in-Some.import_type.now ≡ Some can.type = found ∙ known in
+    let type : c.in-Some.import_type.now ≡ can.type = cc in
+    let params = c.as_slice-params.result.now in
+    let is : params ≡ can.type.params = c.as_slice-params.ensures ∙ ap (λ (t : FuncType). t.params) type in
+    let count : length params ≡ length can.type.params = ap (λ (ts : List ValType). length ts) is in
+    let place = c.args.height - length params in
+    let slots = take (c.args.height - place) (drop place c.args.slots.now) in
+    let there = can.there in
+    let within = can.within in
+    let enough : length params ≤ length slots =
+    omega (arith, length-take (c.args.height - place) (drop place c.args.slots.now), length-drop place c.args.slots.now, count, there, within) in
+    let typed : map type_of c.new-args.result ≡ params = ap (λ (vs : List Value). map type_of vs) (c.new-args.ensures ∙ c.read.ensures.read) ∙ typed_types params slots enough in
+    let named : slice_get (g.H.Host.types c.args.host.now) c.args.import ≡ Some can.type = c.requires.names c.args.import can.imported ∙ known in
+    subst (λ (o : Option FuncType). Takes o c.new-args.result) (sym named) (typed ∙ is)
+
+pub returns-clause-asked : goal.returns-clause-asked
+returns-clause-asked g c = λ type known.
+    let found = c.in-Some.ensures in
+    let can = c.requires.can in
+    let both : Some c.in-Some.import_type.now ≡ Some type = found ∙ known in
+    let same : c.in-Some.import_type.now ≡ type = cc in
+    let again : Some can.type ≡ Some type = sym can.known ∙ known in
+    let one : can.type ≡ type = cc in
+    let height = c.args.height in
+    let slots = c.args.slots.now in
+    let params = c.as_slice-params.result.now in
+    let is : params ≡ type.params = c.as_slice-params.ensures ∙ ap (λ (t : FuncType). t.params) same in
+    let count : length params ≡ length type.params = ap (λ (ts : List ValType). length ts) is in
+    let there : length type.params ≤ height = subst (λ (t : FuncType). length t.params ≤ height) one can.there in
+    let named : slice_get (g.H.Host.types c.args.host.now) c.args.import ≡ Some type = c.requires.names c.args.import can.imported ∙ known in
+    let read : c.new-args.result ≡ arguments type height slots =
+    c.new-args.ensures ∙ c.read.ensures.read
+    ∙ ap (λ (ts : List ValType). typed_values ts (take (height - (height - length ts)) (drop (height - length ts) slots))) is
+    ∙ ap (λ (xs : List ℕ). typed_values type.params xs) (between (height - length type.params) height slots (omega (arith, there))) in
+    let before : c.memory_mut.result.now.bytes ≡ c.args.state.now.memory = ap (λ (m : MemoryInstance). m.bytes) c.memory_mut.ensures.value in
+    let limit : c.call-answer.new.memory.limit ≡ c.args.state.now.limit = c.call-answer.ensures.limit ∙ ap (λ (m : MemoryInstance). m.limit) c.memory_mut.ensures.value in
+    let answer = c.call-answer.result in
+    let sp : height - length params + c.lay_answer-results.result ≡ height - length type.params + length (as_operands answer) = omega (arith, count, c.lay_answer-results.ensures.count) in
+    record {
+      answer = answer;
+      memory = c.call-answer.new.memory.bytes;
+      typed = subst (λ (o : Option FuncType). Answers o answer) named c.call-answer.ensures.typed;
+      small = c.lay_answer-results.ensures.small;
+      same = c.call-answer.ensures.kept ∙ ap (λ (xs : List ℕ). length xs) before;
+      moved = subst (λ (vs : List Value). g.H.Host.moves c.args.host.now (record { function = c.args.import; args = vs; before = c.args.state.now.memory; answer = answer; after = c.call-answer.new.memory.bytes }) c.call-answer.new.self) read
+          (subst (λ (xs : List ℕ). g.H.Host.moves c.args.host.now (record { function = c.args.import; args = c.new-args.result; before = xs; answer = answer; after = c.call-answer.new.memory.bytes }) c.call-answer.new.self) before c.call-answer.ensures.moved);
+      at_is = λ i. record { function = c.args.at.function; pc = c.args.at.pc + 1; sp = sp i; base = c.args.at.base; depth = c.args.at.depth };
+      slots_are = c.lay_answer-results.ensures.laid ∙ ap (λ (n : ℕ). laid answer (height - n) slots) count;
+      store_is = λ i. record { globals = c.args.state.now.globals; table = c.args.state.now.table; memory = c.call-answer.new.memory.bytes; limit = limit i };
+    }

@@ -1,0 +1,264 @@
+// Instances that are told turn by turn what to do: their memories, tables, globals and segments.
+
+use crate::instances::Turn::{Element, Get, Grow, Length, Load, Read, Set, Store, Write};
+use crate::rows::{check_rows, check_told_of};
+use instance::access::AccessSize::{self, Eight, Four, One, Two};
+use instance::fault::InstFault;
+use instance::memory::Memory;
+use instance::state::{Instance, State};
+use std::alloc::{AllocError, Global};
+use std::process::Abort;
+use std::test::Fail;
+use syntax::types::{Limits, Value};
+use test_fixtures::{module_of, valid_of};
+use validate::Valid;
+
+/// What is done with an instance.
+#[derive(Clone, Copy)]
+enum Turn {
+    /// The memory is to grow by so many pages. What that answers is told, and how many there are then.
+    Grow(u32),
+    /// A number is loaded, by its address and offset.
+    Load(u32, u32, AccessSize),
+    /// A number is stored. Whether it was is told.
+    Store(u32, u32, AccessSize, u64),
+    /// How many bytes the memory has is told.
+    Length,
+    /// So many bytes of the memory are read.
+    Read(usize, usize),
+    /// Bytes are written to the memory. Whether they were is told.
+    Write(usize, &'static [u8]),
+    /// An element of the table is looked up.
+    Element(u32),
+    /// A global is looked up.
+    Get(u32),
+    /// A global is set. Whether it was is told.
+    Set(u32, Value),
+}
+
+fn take(text: &mut String, state: &mut State, turn: Turn) -> Result<(), AllocError> {
+    match turn {
+        Grow(delta) => write!(
+            text,
+            "{} of {}; ",
+            state.grow(delta).cast_signed(),
+            state.size()
+        ),
+        Load(address, offset, size) => write!(text, "{:?}; ", state.load(address, offset, size)),
+        Store(address, offset, size, number) => {
+            write!(
+                text,
+                "{}; ",
+                state.store(address, offset, size, number).is_some()
+            )
+        }
+        Length => write!(text, "{}; ", state.memory().len()),
+        Read(at, length) => write!(text, "{:?}; ", state.memory().read(at, length)),
+        Write(at, bytes) => write!(text, "{}; ", state.memory_mut().write(at, bytes)),
+        Element(index) => write!(text, "{:?}; ", state.element(index)),
+        Get(index) => write!(text, "{:?}; ", state.global(index)),
+        Set(index, value) => write!(text, "{}; ", state.set_global(index, value)),
+    }
+}
+
+fn take_all(text: &mut String, state: &mut State, turns: &[Turn]) -> Result<(), AllocError> {
+    for turn in turns {
+        take(text, state, *turn)?;
+    }
+    Ok(())
+}
+
+fn told_by(alloc: Global, state: &mut State, turns: &[Turn]) -> Result<String, AllocError> {
+    let mut text = String::new(alloc);
+    take_all(&mut text, state, turns)?;
+    Ok(text)
+}
+
+/// What an instance of this module answers in these turns.
+fn told_of(alloc: Global, valid: &Valid, turns: &[Turn]) -> Result<String, Fail> {
+    let mut instance = Instance::new(alloc, valid)?;
+    Ok(told_by(alloc, &mut instance, turns)?)
+}
+
+/// The valid module that has these sections.
+fn valid_with(alloc: Global, sections: &str) -> Result<Valid, Fail> {
+    valid_of(alloc, module_of(alloc, sections)?)
+}
+
+/// What an instance of a module with these sections answers in these turns.
+fn told(alloc: Global, sections: &str, turns: &[Turn]) -> Result<String, Fail> {
+    let valid = valid_with(alloc, sections)?;
+    told_of(alloc, &valid, turns)
+}
+
+fn check(
+    rt: &impl Abort,
+    alloc: Global,
+    sections: &str,
+    turns: &[Turn],
+    wanted: &str,
+) -> Result<(), Fail> {
+    let told = told(alloc, sections, turns)?;
+    check_told_of(rt, told.as_str(), wanted, sections);
+    Ok(())
+}
+
+/// One page, and at most two.
+const BOUNDED: &str = "050401010102";
+
+/// One page, and no maximum.
+const ONE_PAGE: &str = "0503010001";
+
+#[test]
+fn grows_up_to_its_maximum(rt: HostRuntime) -> Result<(), Fail> {
+    let turns = [
+        Grow(1),
+        Grow(1),
+        Grow(0),
+        Grow(u32::MAX),
+        Load(131_064, 0, Eight),
+    ];
+    let wanted = "1 of 2; -1 of 2; 2 of 2; -1 of 2; Some(0); ";
+    check(&rt, rt.alloc(), BOUNDED, &turns, wanted)
+}
+
+#[test]
+fn grows_up_to_its_limit(rt: HostRuntime) -> Result<(), Fail> {
+    let turns = [Grow(63), Grow(1), Length];
+    let wanted = "1 of 64; -1 of 64; 4194304; ";
+    check(&rt, rt.alloc(), ONE_PAGE, &turns, wanted)
+}
+
+/// One page, with 80 ff at its start.
+const BEGINS_WITH_FF80: &str = "0503010001 0b08010041000b0280ff";
+
+/// Its bytes from the lowest on are 17, 34, 51 and so on.
+const NUMBER: u64 = 0x8877_6655_4433_2211;
+
+const LOADS_AND_STORES: [Turn; 16] = [
+    Load(0, 0, One),
+    Load(0, 0, Two),
+    Load(0, 0, Four),
+    Load(0, 0, Eight),
+    Store(8, 0, Eight, 0),
+    Store(3, 5, One, NUMBER),
+    Read(8, 9),
+    Store(8, 0, Eight, 0),
+    Store(3, 5, Two, NUMBER),
+    Read(8, 9),
+    Store(8, 0, Eight, 0),
+    Store(3, 5, Four, NUMBER),
+    Read(8, 9),
+    Store(8, 0, Eight, 0),
+    Store(3, 5, Eight, NUMBER),
+    Read(8, 9),
+];
+
+#[test]
+fn loads_and_stores_numbers(rt: HostRuntime) -> Result<(), Fail> {
+    let wanted = "Some(128); Some(65408); Some(65408); Some(65408); \
+        true; true; Some([17, 0, 0, 0, 0, 0, 0, 0, 0]); \
+        true; true; Some([17, 34, 0, 0, 0, 0, 0, 0, 0]); \
+        true; true; Some([17, 34, 51, 68, 0, 0, 0, 0, 0]); \
+        true; true; Some([17, 34, 51, 68, 85, 102, 119, 136, 0]); ";
+    check(&rt, rt.alloc(), BEGINS_WITH_FF80, &LOADS_AND_STORES, wanted)
+}
+
+const PAST_THE_END: [Turn; 7] = [
+    Load(65_532, 0, Four),
+    Load(65_533, 0, Four),
+    Load(u32::MAX, 1, One),
+    Store(65_535, 0, One, 7),
+    Store(65_535, 0, Two, 9),
+    Store(u32::MAX, 1, One, 9),
+    Load(65_528, 0, Eight),
+];
+
+#[test]
+fn refuses_accesses_past_the_end(rt: HostRuntime) -> Result<(), Fail> {
+    let wanted = "Some(0); None; None; true; false; false; Some(504403158265495552); ";
+    check(&rt, rt.alloc(), ONE_PAGE, &PAST_THE_END, wanted)
+}
+
+/// A table of three elements with functions 0, 0 from element 0 on, then 1 from element 1 on; a memory of one page with
+/// the bytes 1, 2, 3 from 0 on, then 9 from 1 on; a mutable global 42; and the two functions, of type [] to [].
+const OVERLAPPING: &str = "010401600000 0303020000 040401700003 0503010001 0606017f01412a0b
+    090e02 0041000b020000 0041010b0101 0a0702 02000b 02000b
+    0b0f02 0041000b03010203 0041010b0109";
+
+const LOOKS: [Turn; 9] = [
+    Element(0),
+    Element(1),
+    Element(2),
+    Element(3),
+    Load(0, 0, Four),
+    Get(0),
+    Set(0, Value::I32(7)),
+    Get(0),
+    Set(1, Value::I32(7)),
+];
+
+#[test]
+fn later_segments_overwrite_earlier_ones(rt: HostRuntime) -> Result<(), Fail> {
+    let wanted = "Some(Some(0)); Some(Some(1)); Some(None); None; Some(198913); \
+        Some(I32(42)); true; Some(I32(7)); false; ";
+    check(&rt, rt.alloc(), OVERLAPPING, &LOOKS, wanted)
+}
+
+#[test]
+fn lends_its_memory(rt: HostRuntime) -> Result<(), Fail> {
+    let turns = [
+        Write(65_534, &[1, 2]),
+        Write(65_535, &[3, 4]),
+        Read(65_534, 2),
+        Load(65_534, 0, Two),
+    ];
+    let wanted = "true; false; Some([1, 2]); Some(513); ";
+    check(&rt, rt.alloc(), ONE_PAGE, &turns, wanted)
+}
+
+#[test]
+fn without_a_memory_there_are_no_bytes(rt: HostRuntime) -> Result<(), Fail> {
+    let turns = [Length, Read(0, 0), Read(0, 1), Grow(1), Grow(0)];
+    let wanted = "0; Some([]); None; -1 of 0; 0 of 0; ";
+    check(&rt, rt.alloc(), "", &turns, wanted)
+}
+
+/// An empty table and one page; no functions and no bytes, at the end of each and one past it.
+const SEGMENTS: &str = "
+    040401700000 0503010001 0906010041000b00 0b08010041808004 0b00 = None
+    040401700000 0503010001 0906010041010b00 0b08010041808004 0b00 = Some(ElementRange)
+    040401700000 0503010001 0906010041000b00 0b08010041818004 0b00 = Some(DataRange)
+    040401700000 0503010001 0906010041010b00 0b08010041818004 0b00 = Some(ElementRange)
+";
+
+fn fault_of(alloc: Global, valid: &Valid) -> Option<InstFault> {
+    Instance::new(alloc, valid).err()
+}
+
+fn fault_with(alloc: Global, sections: &str) -> Result<Option<InstFault>, Fail> {
+    let valid = valid_with(alloc, sections)?;
+    Ok(fault_of(alloc, &valid))
+}
+
+/// The fault of the instance of a module that has these sections, if it has one.
+fn fault_told(alloc: Global, sections: &str) -> Result<String, Fail> {
+    let fault = fault_with(alloc, sections)?;
+    Ok(format!(in alloc; "{fault:?}")?)
+}
+
+#[test]
+fn segments_have_to_fit(rt: HostRuntime) -> Result<(), Fail> {
+    check_rows(&rt, SEGMENTS, |sections| fault_told(rt.alloc(), sections))
+}
+
+#[test]
+fn a_memory_begins_with_its_least_size(rt: HostRuntime) -> Result<(), AllocError> {
+    let limits = Limits {
+        min: 2,
+        max: Some(3),
+    };
+    let memory = Memory::new(rt.alloc(), Some(limits))?;
+    assert_eq!(rt; memory.len(), 131072);
+    Ok(())
+}

@@ -1,0 +1,89 @@
+// What is told of a run of an order: what becomes of it, the units that it used, and where it stopped.
+
+use crate::rows::check_rows;
+use imports::{EntryPoint, Linked};
+use order::{Order, Outcome, Told, Trail};
+use std::alloc::{AllocError, Global};
+use std::sync::Arc;
+use std::test::Fail;
+use test_fixtures::{guest_of, joined};
+
+/// A module's front, with a type from an i32 to an i32, and one from nothing to nothing.
+const FRONT: &str = "0061736d01000000 010902 60017f017f 600000";
+
+/// Sections behind it, and what is told of `uv_work` by operation 5, with 200 units and 64 calls: the sites are numbers of
+/// defined functions, each with that of an operation.
+const MODULES: &str = "
+    # it returns, by itself and behind a start function of two units
+    03020100 070b010775765f776f726b0000 0a090107002000 41016a0b = done 6 used 3
+    0303020001 070b010775765f776f726b0000 080101 0a0f0207002000 41016a0b 050041051a0b = done 6 used 5
+    # it divides by zero within two calls
+    030403000000 070b010775765f776f726b0002 0a180307002000 41006d0b 0700012000 10000b 0600200010010b = trap 2 used 8 in 0:2 1:2 2:1
+    # the start function traps behind a nop
+    0303020001 070b010775765f776f726b0000 080101 0a0e0207002000 41016a0b 040001000b = trap 1 used 2 in 1:1
+    # it calls itself
+    03020100 070b010775765f776f726b0000 0a08010600200010000b = depth used 128 in 0:1 0:1 0:1 0:1 0:1 0:1 0:1 0:1 0:1 0:1 0:1 0:1 0:1 0:1 0:1 0:1 0:1 and 47 more
+    # it never ends, by itself and behind a start function of three units
+    03020100 070b010775765f776f726b0000 0a0a0108000340 0c000b000b = spent used 200 in 0:0
+    0303020001 070b010775765f776f726b0000 080101 0a110208000340 0c000b000b 06000141051a0b = spent used 200 in 0:1
+";
+
+fn run(alloc: Global, module: Arc<Linked>) -> Result<Told, Fail> {
+    let Some(_work) = module.entry(EntryPoint::Work) else {
+        return Err(Fail::from("no `uv_work`"));
+    };
+    let order = Order {
+        loop_no: 0,
+        request: 1,
+        slot: 0,
+        module,
+        op: 5,
+        bytes: Arc::new(alloc, Vec::new(alloc))?,
+        fuel: 200,
+        depth: 64,
+    };
+    Ok(order.run_told(alloc))
+}
+
+fn tell_outcome(text: &mut String, outcome: &Outcome) -> Result<(), AllocError> {
+    match outcome {
+        Outcome::Done(value, _) => write!(text, "done {value}"),
+        Outcome::Trap(trap) => write!(text, "trap {}", trap.code()),
+        Outcome::Depth => text.push_str("depth"),
+        Outcome::Spent => text.push_str("spent"),
+        Outcome::NoMemory => text.push_str("no memory"),
+    }
+}
+
+fn tell_sites(text: &mut String, trail: &Trail) -> Result<(), AllocError> {
+    text.push_str(" in")?;
+    for site in trail.as_slice() {
+        write!(text, " {}:{}", site.function, site.operation)?;
+    }
+    match trail.more() {
+        0 => Ok(()),
+        more => write!(text, " and {more} more"),
+    }
+}
+
+fn tell(text: &mut String, told: &Told) -> Result<(), AllocError> {
+    tell_outcome(text, &told.reply.outcome)?;
+    write!(text, " used {}", told.used)?;
+    match &told.trail {
+        Some(trail) => tell_sites(text, trail),
+        None => Ok(()),
+    }
+}
+
+/// What is told of a run of the guest with these sections.
+fn told(alloc: Global, sections: &str) -> Result<String, Fail> {
+    let guest = guest_of(alloc, joined(alloc, FRONT, sections)?)?;
+    let mut text = String::new(alloc);
+    tell(&mut text, &run(alloc, guest)?)?;
+    Ok(text)
+}
+
+#[test]
+fn a_run_tells_what_it_used_and_where_it_stopped(rt: HostRuntime) -> Result<(), Fail> {
+    check_rows(&rt, MODULES, |sections| told(rt.alloc(), sections))
+}

@@ -1,0 +1,46 @@
+// Gates at which workers may be held.
+
+use board::Board;
+use claims::Ticket;
+use pool::{Gate, Point};
+use std::sync::atomic::{AtomicU64, Ordering};
+use std::thread;
+
+// A gate that holds nobody.
+pub struct Open;
+
+impl Gate for Open {
+    fn at(&self, _point: Point, _ticket: Ticket) {}
+}
+
+// A gate that holds one request once it is started, until the board is closed, for at most 1,000,000 turns.
+#[derive(Clone, Copy)]
+pub struct UntilClosed<'a> {
+    pub board: &'a Board,
+    pub request: u32,
+}
+
+impl Gate for UntilClosed<'_> {
+    fn at(&self, point: Point, ticket: Ticket) {
+        if point != Point::Started || ticket.request != self.request {
+            return;
+        }
+        for _ in 0..1_000_000 {
+            if self.board.is_closed() {
+                break;
+            }
+            thread::yield_now();
+        }
+    }
+}
+
+// Waits for the word to be this number at least, for at most 1,000,000 turns. Whether it came to be.
+pub fn comes(word: &AtomicU64, number: u64) -> bool {
+    for _ in 0..1_000_000 {
+        if word.load(Ordering::SeqCst) >= number {
+            return true;
+        }
+        thread::yield_now();
+    }
+    false
+}

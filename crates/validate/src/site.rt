@@ -1,0 +1,99 @@
+// Why and where a module is refused.
+
+ghost use Rattle.std.specs.Prelude.{◌≡◌, None};
+ghost use Rattle.validate.specs.declared.fault.ValidFault.TheVariants.{Memory};
+ghost use Rattle.validate.specs.Faults.{fault_of};
+
+use crate::fault::{BodyFault, ValidFault};
+use std::alloc::AllocFailed;
+use syntax::types::ValType;
+
+/// An operand that an operation wants, and what it finds there.
+#[derive(Clone, Copy, Debug, PartialEq, Eq)]
+pub struct Lack {
+    pub wanted: ValType,
+    /// Nothing where the block has no operand left.
+    pub found: Option<ValType>,
+}
+
+/// The part of a module that is refused. Functions are counted from 0 among those that have a body.
+#[derive(Clone, Copy, Debug, PartialEq, Eq)]
+pub enum Site {
+    /// The section with this id.
+    Section(u8),
+    /// A function, for its type or its locals.
+    Function(usize),
+    /// An operation of a function's body, counted from 0, and what it lacks where that is why.
+    Operation {
+        function: usize,
+        number: usize,
+        lack: Option<Lack>,
+    },
+}
+
+/// Why a module is refused, and where.
+#[derive(Clone, Copy, Debug, PartialEq, Eq)]
+pub struct RefusedAt {
+    pub fault: ValidFault,
+    /// Of `Memory` it says nothing.
+    pub site: Site,
+}
+
+impl From<RefusedAt> for ValidFault {
+    ghost from_gives = { λ refused fault. fault ≡ refused.fault };
+
+    fn from(refused: RefusedAt) -> ValidFault {
+        refused.fault
+    }
+}
+
+impl<T: Drop> From<AllocFailed<T>> for RefusedAt {
+    ghost from_gives = { λ _ refused. refused.fault ≡ Memory };
+
+    fn from(_e: AllocFailed<T>) -> RefusedAt {
+        RefusedAt {
+            fault: ValidFault::Memory,
+            site: Site::Section(10),
+        }
+    }
+}
+
+/// Why a function is refused, and at which of its operations, if it is at one.
+#[derive(Clone, Copy)]
+pub struct BodyRefused {
+    pub fault: BodyFault,
+    pub operation: Option<usize>,
+    pub lack: Option<Lack>,
+}
+
+impl BodyRefused {
+    /// The same of the function with this number.
+    pub fn in_function(self, function: usize) -> RefusedAt
+        ensures { result.fault ≡ fault_of self.fault }
+    {
+        let site = match self.operation {
+            Some(number) => Site::Operation {
+                function,
+                number,
+                lack: self.lack,
+            },
+            None => Site::Function(function),
+        };
+        RefusedAt {
+            fault: ValidFault::from(self.fault),
+            site,
+        }
+    }
+}
+
+impl From<BodyFault> for BodyRefused {
+    ghost from_gives = { λ fault refused. (refused.fault ≡ fault) × (refused.operation ≡ None) };
+
+    fn from(fault: BodyFault) -> BodyRefused {
+        BodyRefused {
+            fault,
+            operation: None,
+            lack: None,
+        }
+    }
+}

@@ -1,0 +1,197 @@
+-- What each call does to what its handles have.
+use Rattle.std.specs.Prelude.{◌≡◌, ◌≢◌, ◌⊎◌, ◌++◌, ℕ, Bool, ℤ, List, [], length, take, drop, codes, is_some, Option, Some, None, MatchOption, IsSomeAnd, if◌then◌else◌}
+use Rattle.std.specs.Arc.{arc_value}
+use Rattle.instance.specs.Fresh.{IsFresh}
+use Rattle.order.specs.Orders.{order_of, end_of}
+use Rattle.order.specs.declared.order.Order.{Order}
+use Rattle.order.specs.declared.order.Outcome.{Outcome}
+use Rattle.order.specs.declared.order.Outcome.TheVariants as outcome
+use Rattle.order.specs.Work.{WorkOrder, Uses}
+use Rattle.imports.specs.Linking.{ExportsFunction, ExportsNothing}
+use Rattle.syntax.specs.declared.contents.Contents.{Contents}
+use Rattle.phases.specs.Accepting.{Accepts}
+use Rattle.phases.specs.declared.loop_core.Accepted.TheVariants as accepted
+use Rattle.desk.specs.Desk.{new_desk}
+use Rattle.syntax.specs.Loaded.{Loaded}
+use Rattle.std.specs.Int.{w32, cast_unsigned}
+use Rattle.desk.specs.Desk.{Desk, desk_calls, desk_others}
+use Rattle.phases.specs.State.{Core, opening}
+use Rattle.phases.specs.Roster.{opening_roster}
+use Rattle.phases.specs.Step.{LoopStep, in_state}
+use Rattle.phases.specs.Outside.{after_clock, is_failed, next_order_of, CancelsLoop, StartsBeside, SendsBeside}
+use Rattle.phases.specs.PhaseList.{begin_list, is_alive}
+use Rattle.phases.specs.declared.did.StepDid.{StepDid}
+use Rattle.loader.specs.Loading.{IsAccepted, IsRefused}
+use Rattle.loader.specs.declared.refusal.Refusal.{Refusal}
+use Rattle.loader.specs.declared.refusal.Refusal.TheVariants.{Memory}
+use Rattle.wasmloop_c.specs.Numbers.{did_of, stage_number, code_number, about_order, about_told}
+use Rattle.wasmloop_c.specs.declared.fault.Fault.{Fault}
+use Rattle.wasmloop_c.specs.declared.work.About.{About}
+use Rattle.wasmloop_c.specs.declared.did.Did.{Did}
+use Rattle.wasmloop_c.specs.declared.loops.Limits.{Limits}
+use Rattle.wasmloop_c.specs.declared.loops.Standing.{Standing}
+use Rattle.wasmloop_c.specs.declared.lone.Task.{Task}
+use Rattle.wasmloop_c.specs.declared.shape.Shape.{Shape}
+use Rattle.wasmloop_c.specs.declared.status.TheConstants.{OK, NONE, EMPTY, KIND, MEMORY, STRANGER, USED_UP}
+use Rattle.wasmloop_c.specs.declared.thing.Thing.{Thing}
+use Rattle.wasmloop_c.specs.declared.thing.Thing.TheVariants as thing
+
+-- the loop that a handle has
+abbrev pub loop_of : Thing → Option (Core Desk)
+loop_of (thing.Loop core) = Some core.value
+loop_of _ = None
+
+-- a call on a handle: an empty one stays, and C is told so, and `Same` holds
+abbrev pub OnHandle : (old new : Option Thing) → (status : ℕ) → (Same : Type 0) → (Does : Thing → Thing → Type 0) → Type 0
+OnHandle old new status Same Does = MatchOption old ((status ≡ EMPTY) × (new ≡ None) × Same) (λ t. IsSomeAnd new (λ u. Does t u))
+
+-- a call on what a handle has: where that is no loop it stays, and C is told so, and `Same` holds
+abbrev pub OnLoop : (old new : Thing) → (status : ℕ) → (Same : Type 0) → (Does : Core Desk → Core Desk → Type 0) → Type 0
+OnLoop old new status Same Does =
+    MatchOption (loop_of old) ((status ≡ KIND) × (new ≡ old) × Same) (λ c. IsSomeAnd (loop_of new) (λ d. (d.setting ≡ c.setting) × Does c d))
+
+-- a step, told in numbers
+abbrev pub Steps : Core Desk → Core Desk → Did → Type 0
+Steps c d told = (t : StepDid) × LoopStep desk_calls c.setting c.loop t d.loop × (told ≡ did_of t (length d.loop.state.emits))
+
+-- what only reads a loop
+abbrev pub ReadsLoop : (old : Thing) → (status : ℕ) → (Same : Type 0) → (Does : Core Desk → Type 0) → Type 0
+ReadsLoop old status Same Does = MatchOption (loop_of old) ((status ≡ KIND) × Same) (λ c. (status ≡ OK) × Does c)
+
+-- a call that only reads what a handle has
+abbrev pub ReadsHandle : (old new : Option Thing) → (status : ℕ) → (Same : Type 0) → (Does : Thing → Type 0) → Type 0
+ReadsHandle old new status Same Does = (new ≡ old) × MatchOption old ((status ≡ EMPTY) × Same) Does
+
+-- as much of a list as there is room for
+abbrev pub copied : {A : Type 0} → List A → List A → List A
+copied from old = take (length old) from ++ drop (length from) old
+
+abbrev pub one_if : Bool → ℕ
+one_if b = if b then 1 else 0
+
+abbrev pub standing_of : Core Desk → Standing
+standing_of c = record { alive = one_if (is_alive c.loop.state); failed = one_if (is_failed c.loop.state.status); outstanding = length c.loop.state.requests.outstanding }
+
+abbrev pub Clocks : Core Desk → Core Desk → (ms now : ℕ) → Type 0
+Clocks c d ms now = (d.loop ≡ in_state c.loop (after_clock c.loop.state ms)) × (now ≡ d.loop.state.clock)
+
+-- a send from outside
+abbrev pub Sends : Core Desk → Core Desk → (async_no status : ℕ) → Type 0
+Sends c d async_no status = (sent : Bool) × SendsBeside desk_others c.loop async_no sent d.loop × (status ≡ (if sent then OK else USED_UP))
+
+abbrev pub Cancels : Core Desk → Core Desk → (request : ℕ) → ℤ → Type 0
+Cancels c d request answer = CancelsLoop desk_calls c.loop request (cast_unsigned w32 answer) d.loop
+
+-- the module that a thing is
+abbrev pub module_of : Thing → Option Loaded
+module_of (thing.Module m) = Some (arc_value m)
+module_of _ = None
+
+-- a loop that has done nothing, of this module and these limits
+pub record IsNewLoop (m : Loaded) (l : Limits) (c : Core Desk) : Type 0 where
+  pub setting : c.setting ≡ record { loaded = m; loop_no = l.loop_no; fuel = l.fuel; work_fuel = l.work_fuel; depth = l.depth }
+  pub state : c.loop.state ≡ opening (opening_roster m.contents) (begin_list m.contents)
+  pub store : IsFresh m.contents c.loop.store
+  pub shared : c.loop.shared ≡ new_desk l.loop_no
+
+-- a job that is handed out: the loop's lowest open request, or none; or, with a request outstanding, there was no memory for it
+abbrev pub HandsOut : Core Desk → Core Desk → (job : Option Thing) → (status : ℕ) → Type 0
+HandsOut c d None status =
+    ((status ≡ NONE) × ((next_order_of c.loop.state).0 ≡ None) × (d.loop ≡ in_state c.loop (next_order_of c.loop.state).1))
+    ⊎ ((status ≡ MEMORY) × (c.loop.state.requests.outstanding ≢ []) × (d ≡ c))
+HandsOut c d (Some (thing.Asked order)) status = (status ≡ OK) × ((next_order_of c.loop.state).0 ≡ Some (order_of order)) × (d.loop ≡ in_state c.loop (next_order_of c.loop.state).1)
+HandsOut c d (Some _) status = ⊥
+
+-- a job that is run becomes a reply to the very order, with the units that its run used; what is no job stays
+abbrev pub Answers : Order → Thing → Type 0
+Answers order (thing.Answered told) = (told.reply.order ≡ order) × Uses (order_of order) (end_of told.reply.outcome) told.used
+Answers order _ = ⊥
+
+abbrev pub Runs : (old new : Thing) → (status : ℕ) → Type 0
+Runs (thing.Asked order) new status = (status ≡ OK) × Answers order new
+Runs other new status = (status ≡ KIND) × (new ≡ other)
+
+-- a job's start, told to its loop
+abbrev pub Starts : Core Desk → Core Desk → (job : Thing) → (status : ℕ) → Type 0
+Starts c d (thing.Asked order) status =
+    (started : Bool) × StartsBeside desk_others c.loop order.slot order.request started d.loop × (status ≡ (if started then OK else STRANGER))
+Starts c d _ status = (status ≡ KIND) × (d ≡ c)
+
+-- a reply that a loop is offered is taken, and the thing that is left is none; or it is left as it is
+abbrev pub Offers : Core Desk → Core Desk → (offered left : Thing) → (status : ℕ) → Type 0
+Offers c d (thing.Answered told) left status =
+    ((status ≡ OK) × (left ≡ thing.Gone) × Accepts told.reply c.loop accepted.Accepted d.loop)
+    ⊎ ((status ≡ STRANGER) × (left ≡ thing.Answered told) × Accepts told.reply c.loop (accepted.Stranger told.reply) d.loop)
+Offers c d offered left status = (status ≡ KIND) × (left ≡ offered) × (d ≡ c)
+
+-- bytes that are loaded: a module of these very bytes, which is accepted; or why they are none
+abbrev pub Loads : (bytes : List ℕ) → Thing → Type 0
+Loads bytes (thing.Module m) = ((arc_value m).bytes ≡ bytes) × IsAccepted bytes (arc_value m).contents
+Loads bytes _ = ⊥
+
+abbrev pub Refuses : (bytes : List ℕ) → Fault → Type 0
+Refuses bytes fault = (refusal : Refusal) × IsRefused bytes refusal × (fault.stage ≡ stage_number refusal) × (fault.code ≡ code_number refusal)
+
+-- a sentence on why these bytes are refused, as far as there is room, and its length
+abbrev pub Explains : (bytes old new : List ℕ) → (count : ℕ) → Type 0
+Explains bytes old new count =
+    ((refusal : Refusal) × IsRefused bytes refusal × (refusal ≢ Memory)) × ((text : List ℕ) × (new ≡ copied text old) × (count ≡ length text))
+
+-- what is told of a job
+abbrev pub Tells : Thing → (old new : About) → (status : ℕ) → Type 0
+Tells (thing.Asked order) old new status = (status ≡ OK) × (new ≡ about_order order)
+Tells (thing.Answered told) old new status = (status ≡ OK) × (new ≡ about_told told)
+Tells other old new status = (status ≡ KIND) × (new ≡ old)
+
+-- what is left in a job's handle
+abbrev pub left_in : Option Thing → Thing
+left_in None = thing.Gone
+left_in (Some t) = t
+
+-- the order of a job that no loop asks for: its loop, request and slot are 0
+abbrev pub lone_order : Loaded → Task → (bytes : List ℕ) → WorkOrder
+lone_order m task bytes = record { loop_no = 0; request = 0; slot = 0; loaded = m; op = task.op; bytes = bytes; fuel = task.fuel; depth = task.depth }
+
+abbrev pub IsLoneJob : Loaded → Task → (bytes : List ℕ) → Thing → Type 0
+IsLoneJob m task bytes (thing.Asked order) = order_of order ≡ lone_order m task bytes
+IsLoneJob m task bytes _ = ⊥
+
+-- bytes that are copied, as far as there is room, and their count
+abbrev pub Copies : (bytes old new : List ℕ) → (count status : ℕ) → Type 0
+Copies bytes old new count status = (status ≡ OK) × (new ≡ copied bytes old) × (count ≡ length bytes)
+
+-- nothing is copied
+abbrev pub CopiesNothing : (old new : List ℕ) → (before count : ℕ) → Type 0
+CopiesNothing old new before count = (new ≡ old) × (count ≡ before)
+
+-- the bytes that a job may read
+abbrev pub ReadsInput : Thing → (old new : List ℕ) → (before count status : ℕ) → Type 0
+ReadsInput (thing.Asked order) old new before count status = Copies (arc_value order.bytes).items old new count status
+ReadsInput (thing.Answered told) old new before count status = Copies (arc_value told.reply.order.bytes).items old new count status
+ReadsInput other old new before count status = (status ≡ KIND) × CopiesNothing old new before count
+
+-- the bytes of an outcome
+abbrev pub ReadsOutcome : Outcome → (old new : List ℕ) → (before count status : ℕ) → Type 0
+ReadsOutcome (outcome.Done value bytes) old new before count status = Copies bytes.items old new count status
+ReadsOutcome other old new before count status = (status ≡ NONE) × CopiesNothing old new before count
+
+-- the bytes of a job's reply, where it was run and is done
+abbrev pub ReadsReply : Thing → (old new : List ℕ) → (before count status : ℕ) → Type 0
+ReadsReply (thing.Asked order) old new before count status = (status ≡ NONE) × CopiesNothing old new before count
+ReadsReply (thing.Answered told) old new before count status = ReadsOutcome told.reply.outcome old new before count status
+ReadsReply other old new before count status = (status ≡ KIND) × CopiesNothing old new before count
+
+-- what only reads a module
+abbrev pub ReadsModule : Thing → (status : ℕ) → (Same : Type 0) → (Does : Loaded → Type 0) → Type 0
+ReadsModule t status Same Does = MatchOption (module_of t) ((status ≡ KIND) × Same) (λ m. (status ≡ OK) × Does m)
+
+-- whether a function is exported under a name
+abbrev pub TellsEntry : Contents → (name : List ℕ) → (flag : ℕ) → Type 0
+TellsEntry m name flag = ((flag ≡ 1) × ((f : ℕ) × ExportsFunction m name f)) ⊎ ((flag ≡ 0) × ExportsNothing m name)
+
+pub record IsShapeOf (m : Contents) (shape : Shape) : Type 0 where
+  pub main : TellsEntry m (codes "uv_main") shape.main
+  pub work : TellsEntry m (codes "uv_work") shape.work
+  pub after_work : TellsEntry m (codes "uv_after_work") shape.after_work
+  pub table : shape.table ≡ one_if (is_some m.table)
+  pub imports : shape.imports ≡ length m.imports

@@ -1,0 +1,39 @@
+-- What is told of where a loop's last callback stopped, or a job.
+use Rattle.std.specs.Prelude.{◌≡◌, ℕ, List, length, map, Option, Some, None}
+use Rattle.instance.specs.declared.stack.Site.{Site as Operation}
+use Rattle.order.specs.Trails.{Innermost}
+use Rattle.wasmloop_c.specs.Calls.{copied}
+use Rattle.wasmloop_c.specs.declared.status.TheConstants.{OK, NONE, KIND}
+use Rattle.wasmloop_c.specs.declared.stops.Place.{Place}
+use Rattle.wasmloop_c.specs.declared.stops.Place.TheVariants as place
+use Rattle.wasmloop_c.specs.declared.stops.Site.{Site}
+use Rattle.wasmloop_c.specs.declared.thing.Thing.{Thing}
+use Rattle.wasmloop_c.specs.declared.thing.Thing.TheVariants as thing
+
+-- an operation, as C reads it
+abbrev pub site_of : Operation → Site
+site_of s = record { function = s.function; operation = s.operation }
+
+-- of a callback all calls are known
+abbrev pub whole : List Operation → Innermost
+whole sites = record { sites = sites; calls = length sites }
+
+abbrev pub told_of : Place → Innermost
+told_of (place.Callback stop) = whole stop
+told_of (place.Job trail) = trail.now
+
+abbrev pub IsWhole : Option Innermost → Type 0
+IsWhole None = Unit {0}
+IsWhole (Some stop) = stop.calls ≡ length stop.sites
+
+-- the sites are copied as far as there is room, and the count is how many calls were open
+abbrev pub TellsStop : Option Innermost → (old new : List Site) → (before count status : ℕ) → Type 0
+TellsStop None old new before count status = (status ≡ NONE) × (new ≡ old) × (count ≡ before)
+TellsStop (Some stop) old new before count status = (status ≡ OK) × (new ≡ copied (map site_of stop.sites) old) × (count ≡ stop.calls)
+
+-- where a loop's last callback stopped, all of it, or where a job did that was run, as far as that is kept
+abbrev pub ReadsStop : Thing → (old new : List Site) → (before count status : ℕ) → Type 0
+ReadsStop (thing.Loop core) old new before count status = (stop : Option Innermost) × IsWhole stop × TellsStop stop old new before count status
+ReadsStop (thing.Answered told) old new before count status = TellsStop told.trail old new before count status
+ReadsStop (thing.Asked order) old new before count status = TellsStop None old new before count status
+ReadsStop other old new before count status = (status ≡ KIND) × (new ≡ old) × (count ≡ before)

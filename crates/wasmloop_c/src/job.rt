@@ -1,0 +1,68 @@
+// An order that can be run.
+
+ghost use Rattle.std.specs.Prelude.{◌≡◌, ◌<◌};
+ghost use Rattle.limits.specs.declared.TheConstants.{MAX_REQUESTS};
+ghost use Rattle.order.specs.Orders.{order_of, end_of};
+ghost use Rattle.order.specs.Work.{Uses};
+ghost use Rattle.phases.specs.Keeping.{CanRun};
+
+use order::{Order, Told};
+use std::alloc::Global;
+use std::marker::Model;
+
+/// An order that can be run, in any thread. To a contract it is the order.
+pub struct Job {
+    order: Order,
+}
+
+impl Drop for Job {
+    fn drop(self) {
+        let Job { order: _ } = self;
+    }
+}
+
+impl Model for Job {
+    ghost use Rattle.std.specs.Prelude.{◌<◌};
+    ghost use Rattle.std.specs.Coded.{codes};
+    ghost use Rattle.limits.specs.declared.TheConstants.{MAX_REQUESTS};
+    ghost use Rattle.order.specs.Orders.{order_of};
+    ghost use Rattle.order.specs.declared.order.Order.{Order};
+    ghost use Rattle.order.specs.contracts.order.Order as request;
+    ghost use Rattle.phases.specs.Keeping.{CanRun};
+
+    ghost Value = { Order };
+
+    ghost coded = { Prim.hlevel (codes, request.the_row.coded) };
+
+    ghost view = { λ j. j.order };
+
+    ghost invariant = { λ j. CanRun (order_of j.order) × (j.order.slot < MAX_REQUESTS) };
+}
+
+impl Job {
+    /// The order as a job.
+    pub fn new(order: Order) -> Job
+        requires runs { CanRun (order_of order) }
+        requires slot { order.slot < MAX_REQUESTS }
+        ensures { result ≡ order }
+    {
+        Job { order }
+    }
+
+    /// The order.
+    pub fn order(&self) -> &Order
+        ensures same { result.now ≡ self.now }
+        ensures slot { result.now.slot < MAX_REQUESTS }
+    {
+        &self.order
+    }
+
+    /// Runs the order.
+    pub fn run(self, alloc: Global) -> Told
+        ensures order { result.reply.order ≡ self }
+        ensures used { Uses (order_of self) (end_of result.reply.outcome) result.used }
+    {
+        let Job { order } = self;
+        order.run_told(alloc)
+    }
+}

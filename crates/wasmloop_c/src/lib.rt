@@ -1,0 +1,33 @@
+//! The host for programs in C: modules, loops and jobs in handles that stand in C's own memory.
+//!
+//! Each exported call answers a status of `status`, waits for nothing, and leaves a handle that it can't use as it was. By its contract
+//! it does to what the handle has what `load`, `LoopCore` and `Order::run` do. A handle may go to another thread
+//! (`handles_may_go`). C's names for the calls, with tests for null pointers before them, are in capi/wasmloop.h.
+//!
+//! Begin with `handle` and `thing`; what the calls mean is `specs/Calls.antt`, and how it is told in numbers `specs/Numbers.antt`.
+//! The raw pointers are in `raw`, and in the crate `slot`.
+#![tactic(auto)]
+
+mod contents;
+mod copying;
+mod did;
+mod fault;
+mod handle;
+mod job;
+mod lone;
+mod loops;
+mod modules;
+mod raw;
+mod sentence;
+mod shape;
+mod status;
+mod stops;
+mod thing;
+mod work;
+
+fn may_go<T: Send>() {}
+
+/// A handle may go to another thread.
+pub fn handles_may_go() {
+    may_go::<handle::Handle>();
+}

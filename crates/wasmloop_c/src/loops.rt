@@ -1,0 +1,309 @@
+// Loops.
+
+ghost use Rattle.std.specs.Prelude.{◌≡◌, ◌≤◌, ◌<◌, None, length, IfOk, IsSomeAnd};
+ghost use Rattle.std.specs.Arc.{arc_value};
+ghost use Rattle.limits.specs.declared.TheConstants.{MAX_ASYNCS, MAX_DEPTH};
+ghost use Rattle.wasmloop_c.specs.Calls.{OnHandle, OnLoop, ReadsHandle, ReadsLoop, Steps, Clocks, Sends, Cancels, IsNewLoop, loop_of, module_of, copied, standing_of};
+ghost use Rattle.wasmloop_c.specs.Numbers.{hint_number};
+ghost use Rattle.phases.specs.PhaseList.{hint_of};
+
+use crate::copying::copy_front;
+use crate::did::Did;
+use crate::handle::Handle;
+use crate::status::{EMPTY, KIND, MEMORY, OK, RANGE, USED_UP};
+use crate::thing::Thing;
+use desk::Desk;
+use imports::Linked;
+use limits::{MAX_ASYNCS, MAX_DEPTH};
+use phases::{Hint, LoopCore};
+use std::alloc::{AllocError, Global};
+use std::sync::Arc;
+
+/// What a loop is made with.
+#[repr(C)]
+#[derive(Clone, Copy)]
+pub struct Limits {
+    /// The fuel of a callback.
+    pub fuel: u64,
+    /// The fuel of a work function.
+    pub work_fuel: u64,
+    /// The loop's number, which its jobs carry.
+    pub loop_no: u32,
+    /// How many calls may stand open, 1 to 128.
+    pub depth: u32,
+}
+
+/// How a loop stands.
+#[repr(C)]
+#[derive(Clone, Copy)]
+pub struct Standing {
+    /// 1 where it has an active handle, an outstanding request or a closing handle.
+    pub alive: u32,
+    /// 1 where a callback did not return.
+    pub failed: u32,
+    /// How many requests are outstanding.
+    pub outstanding: u64,
+}
+
+/// A loop that has done nothing.
+fn opened(
+    alloc: Global,
+    module: &Arc<Linked, Global>,
+    limits: Limits,
+) -> Result<Box<Thing, Global>, AllocError>
+    requires { (1 ≤ limits.depth) × (limits.depth ≤ MAX_DEPTH) }
+    ensures { IfOk result (λ b. IsSomeAnd (loop_of b.value) (IsNewLoop (arc_value module.now) limits)) }
+{
+    let core = LoopCore::new(
+        alloc,
+        Arc::try_clone(module)?,
+        Desk::new(alloc, limits.loop_no)?,
+        limits.loop_no,
+        limits.fuel,
+        limits.work_fuel,
+        limits.depth,
+    )?;
+    let core = Box::new(alloc, core)?;
+    Ok(Box::new(alloc, Thing::Loop(core))?)
+}
+
+fn open(alloc: Global, module: &Thing, limits: Limits, handle: &mut Handle) -> u32
+    requires depth { (1 ≤ limits.depth) × (limits.depth ≤ MAX_DEPTH) }
+    requires empty { handle.old.raw.value ≡ None }
+    ensures opens { result ≡ OK → IsSomeAnd (module_of module.now) (λ m. IsSomeAnd handle.new.raw.value (λ t. IsSomeAnd (loop_of t) (IsNewLoop m limits))) }
+    ensures refuses { (result ≡ OK → ⊥) → handle.new.raw.value ≡ None }
+{
+    let Thing::Module(linked) = module else {
+        return KIND;
+    };
+    match opened(alloc, linked, limits) {
+        Ok(core) => {
+            handle.put(core);
+            OK
+        }
+        Err(AllocError) => MEMORY,
+    }
+}
+
+/// Makes a loop of a module, in an empty handle.
+#[unsafe(no_mangle)]
+pub extern "C" fn wasmloop_rt_loop(
+    alloc: Global,
+    module: &mut Handle,
+    limits: &Limits,
+    handle: &mut Handle,
+) -> u32
+    ensures opens { result ≡ OK → IsSomeAnd module.old.raw.value (λ m. IsSomeAnd (module_of m) (λ l. IsSomeAnd handle.new.raw.value (λ t. IsSomeAnd (loop_of t) (IsNewLoop l limits.now)))) }
+    ensures refuses { (result ≡ OK → ⊥) → handle.new.raw.value ≡ handle.old.raw.value }
+    ensures kept { module.new.raw.value ≡ module.old.raw.value }
+{
+    if handle.is_full() {
+        return KIND;
+    }
+    let limits = *limits;
+    if limits.depth < 1 || limits.depth > MAX_DEPTH {
+        return RANGE;
+    }
+    let Some(held) = module.take(alloc) else {
+        return EMPTY;
+    };
+    let status = open(alloc, &held, limits, handle);
+    module.put(held);
+    status
+}
+
+fn step(thing: &mut Thing, did: &mut Did) -> u32
+    ensures { OnLoop thing.old thing.new result (did.new ≡ did.old) (λ c d. (result ≡ OK) × Steps c d did.new) }
+{
+    let Thing::Loop(core) = thing else {
+        return KIND;
+    };
+    let told = core.step();
+    let emits = core.emits().len() as u32;
+    *did = Did::of(&told, emits);
+    OK
+}
+
+/// Takes one step of a loop.
+#[unsafe(no_mangle)]
+pub extern "C" fn wasmloop_rt_step(alloc: Global, handle: &mut Handle, did: &mut Did) -> u32
+    ensures { OnHandle handle.old.raw.value handle.new.raw.value result (did.new ≡ did.old) (λ t u. OnLoop t u result (did.new ≡ did.old) (λ c d. (result ≡ OK) × Steps c d did.new)) }
+{
+    let Some(mut held) = handle.take(alloc) else {
+        return EMPTY;
+    };
+    let status = step(&mut held, did);
+    handle.put(held);
+    status
+}
+
+fn emits(thing: &Thing, into: &mut [u64], count: &mut u32) -> u32
+    ensures { ReadsLoop thing.now result ((into.new ≡ into.old) × (count.new ≡ count.old)) (λ c. (into.new ≡ copied c.loop.state.emits into.old) × (count.new ≡ length c.loop.state.emits)) }
+{
+    let Thing::Loop(core) = thing else {
+        return KIND;
+    };
+    let emits = core.emits();
+    copy_front(emits, into);
+    *count = emits.len() as u32;
+    OK
+}
+
+/// Copies what the last callback put out, as far as there is room.
+#[unsafe(no_mangle)]
+pub extern "C" fn wasmloop_rt_emits(
+    alloc: Global,
+    handle: &mut Handle,
+    into: &mut [u64],
+    count: &mut u32,
+) -> u32
+    ensures { ReadsHandle handle.old.raw.value handle.new.raw.value result ((into.new ≡ into.old) × (count.new ≡ count.old)) (λ t. ReadsLoop t result ((into.new ≡ into.old) × (count.new ≡ count.old)) (λ c. (into.new ≡ copied c.loop.state.emits into.old) × (count.new ≡ length c.loop.state.emits))) }
+{
+    let Some(held) = handle.take(alloc) else {
+        return EMPTY;
+    };
+    let status = emits(&held, into, count);
+    handle.put(held);
+    status
+}
+
+fn send(thing: &mut Thing, async_no: u32) -> u32
+    requires { async_no < MAX_ASYNCS }
+    ensures { OnLoop thing.old thing.new result (Unit {0}) (λ c d. Sends c d async_no result) }
+{
+    let Thing::Loop(core) = thing else {
+        return KIND;
+    };
+    if core.sent(async_no) { OK } else { USED_UP }
+}
+
+/// A send to an async from outside.
+#[unsafe(no_mangle)]
+pub extern "C" fn wasmloop_rt_async_send(alloc: Global, handle: &mut Handle, async_no: u32) -> u32
+    ensures sends { async_no < MAX_ASYNCS → OnHandle handle.old.raw.value handle.new.raw.value result (Unit {0}) (λ t u. OnLoop t u result (Unit {0}) (λ c d. Sends c d async_no result)) }
+    ensures range { MAX_ASYNCS ≤ async_no → (result ≡ RANGE) × (handle.new ≡ handle.old) }
+{
+    if async_no as usize >= MAX_ASYNCS {
+        return RANGE;
+    }
+    let Some(mut held) = handle.take(alloc) else {
+        return EMPTY;
+    };
+    let status = send(&mut held, async_no);
+    handle.put(held);
+    status
+}
+
+fn clock(thing: &mut Thing, ms: u64, now: &mut u64) -> u32
+    ensures { OnLoop thing.old thing.new result (now.new ≡ now.old) (λ c d. (result ≡ OK) × Clocks c d ms now.new) }
+{
+    let Thing::Loop(core) = thing else {
+        return KIND;
+    };
+    *now = core.clock(ms);
+    OK
+}
+
+/// Raises the clock, and tells it.
+#[unsafe(no_mangle)]
+pub extern "C" fn wasmloop_rt_clock(
+    alloc: Global,
+    handle: &mut Handle,
+    ms: u64,
+    now: &mut u64,
+) -> u32
+    ensures { OnHandle handle.old.raw.value handle.new.raw.value result (now.new ≡ now.old) (λ t u. OnLoop t u result (now.new ≡ now.old) (λ c d. (result ≡ OK) × Clocks c d ms now.new)) }
+{
+    let Some(mut held) = handle.take(alloc) else {
+        return EMPTY;
+    };
+    let status = clock(&mut held, ms, now);
+    handle.put(held);
+    status
+}
+
+fn hint(thing: &Thing, ms: &mut u64) -> u32
+    ensures { ReadsLoop thing.now result (ms.new ≡ ms.old) (λ c. ms.new ≡ hint_number (hint_of c.loop.state)) }
+{
+    let Thing::Loop(core) = thing else {
+        return KIND;
+    };
+    *ms = match core.hint() {
+        Hint::Now => 0,
+        Hint::For(wait) => wait,
+        Hint::Forever => u64::MAX,
+    };
+    OK
+}
+
+/// How long the loop has nothing to do: 0, or milliseconds until a timer is due, or all ones where nothing comes of itself.
+#[unsafe(no_mangle)]
+pub extern "C" fn wasmloop_rt_hint(alloc: Global, handle: &mut Handle, ms: &mut u64) -> u32
+    ensures { ReadsHandle handle.old.raw.value handle.new.raw.value result (ms.new ≡ ms.old) (λ t. ReadsLoop t result (ms.new ≡ ms.old) (λ c. ms.new ≡ hint_number (hint_of c.loop.state))) }
+{
+    let Some(held) = handle.take(alloc) else {
+        return EMPTY;
+    };
+    let status = hint(&held, ms);
+    handle.put(held);
+    status
+}
+
+fn cancel(thing: &mut Thing, request: u32, answer: &mut i32) -> u32
+    ensures { OnLoop thing.old thing.new result (answer.new ≡ answer.old) (λ c d. (result ≡ OK) × Cancels c d request answer.new) }
+{
+    let Thing::Loop(core) = thing else {
+        return KIND;
+    };
+    *answer = core.cancel(request);
+    OK
+}
+
+/// Cancels a request, as the guest does.
+#[unsafe(no_mangle)]
+pub extern "C" fn wasmloop_rt_cancel(
+    alloc: Global,
+    handle: &mut Handle,
+    request: u32,
+    answer: &mut i32,
+) -> u32
+    ensures { OnHandle handle.old.raw.value handle.new.raw.value result (answer.new ≡ answer.old) (λ t u. OnLoop t u result (answer.new ≡ answer.old) (λ c d. (result ≡ OK) × Cancels c d request answer.new)) }
+{
+    let Some(mut held) = handle.take(alloc) else {
+        return EMPTY;
+    };
+    let status = cancel(&mut held, request, answer);
+    handle.put(held);
+    status
+}
+
+fn tell_standing(thing: &Thing, standing: &mut Standing) -> u32
+    ensures { ReadsLoop thing.now result (standing.new ≡ standing.old) (λ c. standing.new ≡ standing_of c) }
+{
+    let Thing::Loop(core) = thing else {
+        return KIND;
+    };
+    *standing = Standing {
+        alive: core.alive() as u32,
+        failed: core.failed() as u32,
+        outstanding: core.outstanding() as u64,
+    };
+    OK
+}
+
+/// How a loop stands.
+#[unsafe(no_mangle)]
+pub extern "C" fn wasmloop_rt_standing(
+    alloc: Global,
+    handle: &mut Handle,
+    told: &mut Standing,
+) -> u32
+    ensures { ReadsHandle handle.old.raw.value handle.new.raw.value result (told.new ≡ told.old) (λ t. ReadsLoop t result (told.new ≡ told.old) (λ c. told.new ≡ standing_of c)) }
+{
+    let Some(held) = handle.take(alloc) else {
+        return EMPTY;
+    };
+    let status = tell_standing(&held, told);
+    handle.put(held);
+    status
+}

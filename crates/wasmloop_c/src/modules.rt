@@ -1,0 +1,113 @@
+// Modules, and what ends a handle.
+
+ghost use Rattle.std.specs.Prelude.{◌≡◌, Some, None, IfOk, IsNone, IsSomeAnd};
+ghost use Rattle.std.specs.Arc.{arc_value};
+ghost use Rattle.loader.specs.Loading.{IsAccepted};
+ghost use Rattle.wasmloop_c.specs.Calls.{Loads, Refuses, module_of};
+
+use crate::fault::Fault;
+use crate::handle::Handle;
+use crate::status::{EMPTY, KIND, MEMORY, OK, REFUSED};
+use crate::thing::Thing;
+use imports::Linked;
+use loader::{Refusal, load};
+use std::alloc::{AllocError, Global};
+use std::sync::Arc;
+
+fn boxed(alloc: Global, linked: Linked) -> Result<Box<Thing, Global>, AllocError>
+    requires { IsAccepted linked.bytes linked.contents }
+    ensures { IfOk result (λ b. Loads linked.bytes b.value) }
+{
+    let shared = Arc::new(alloc, linked)?;
+    Ok(Box::new(alloc, Thing::Module(shared))?)
+}
+
+/// Makes a module of the bytes that spell it, in an empty handle.
+///
+/// `OK`: the module is of these very bytes, which are a valid module that fits the host. `REFUSED`: they are none, and the fault
+/// says why and where. `MEMORY`: there is not enough to tell. `KIND`: the handle is not empty.
+#[unsafe(no_mangle)]
+pub extern "C" fn wasmloop_rt_load(
+    alloc: Global,
+    bytes: &[u8],
+    module: &mut Handle,
+    fault: &mut Fault,
+) -> u32
+    ensures loads { result ≡ OK → IsSomeAnd module.new.raw.value (Loads bytes.now) }
+    ensures refuses { result ≡ REFUSED → Refuses bytes.now fault.new }
+    ensures kept { (result ≡ OK → ⊥) → module.new.raw.value ≡ module.old.raw.value }
+    ensures fault { (result ≡ REFUSED → ⊥) → fault.new ≡ fault.old }
+{
+    if module.is_full() {
+        return KIND;
+    }
+    match load(alloc, bytes) {
+        Ok(linked) => {
+            let Ok(held) = boxed(alloc, linked) else {
+                return MEMORY;
+            };
+            module.put(held);
+            OK
+        }
+        Err(Refusal::Memory) => MEMORY,
+        Err(refusal) => {
+            *fault = Fault::new(alloc, refusal, bytes);
+            REFUSED
+        }
+    }
+}
+
+fn doubled(alloc: Global, module: &Arc<Linked, Global>) -> Result<Box<Thing, Global>, AllocError>
+    ensures { IfOk result (λ b. module_of b.value ≡ Some (arc_value module.now)) }
+{
+    let shared = Arc::try_clone(module)?;
+    Ok(Box::new(alloc, Thing::Module(shared))?)
+}
+
+fn share(alloc: Global, module: &Thing, other: &mut Handle) -> u32
+    requires { other.old.raw.value ≡ None }
+    ensures shares { result ≡ OK → IsSomeAnd (module_of module.now) (λ m. IsSomeAnd other.new.raw.value (λ t. module_of t ≡ Some m)) }
+    ensures refuses { (result ≡ OK → ⊥) → other.new.raw.value ≡ None }
+{
+    let Thing::Module(linked) = module else {
+        return KIND;
+    };
+    match doubled(alloc, linked) {
+        Ok(second) => {
+            other.put(second);
+            OK
+        }
+        Err(AllocError) => MEMORY,
+    }
+}
+
+/// Makes a second handle of the same module, in an empty one.
+#[unsafe(no_mangle)]
+pub extern "C" fn wasmloop_rt_share(alloc: Global, module: &mut Handle, other: &mut Handle) -> u32
+    ensures shares { result ≡ OK → IsSomeAnd module.old.raw.value (λ t. IsSomeAnd (module_of t) (λ m. IsSomeAnd other.new.raw.value (λ u. module_of u ≡ Some m))) }
+    ensures refuses { (result ≡ OK → ⊥) → other.new.raw.value ≡ other.old.raw.value }
+    ensures kept { module.new.raw.value ≡ module.old.raw.value }
+{
+    if other.is_full() {
+        return KIND;
+    }
+    let Some(held) = module.take(alloc) else {
+        return EMPTY;
+    };
+    let status = share(alloc, &held, other);
+    module.put(held);
+    status
+}
+
+/// Drops what a handle has, and leaves it empty.
+#[unsafe(no_mangle)]
+pub extern "C" fn wasmloop_rt_drop(alloc: Global, handle: &mut Handle) -> u32
+    ensures none { handle.new.raw.value ≡ None }
+    ensures empty { IsNone handle.old.raw.value → result ≡ EMPTY }
+    ensures dropped { (IsNone handle.old.raw.value → ⊥) → result ≡ OK }
+{
+    match handle.take(alloc) {
+        Some(_) => OK,
+        None => EMPTY,
+    }
+}

@@ -1,0 +1,42 @@
+// Why bytes are no guest, in a sentence.
+
+ghost use Rattle.std.specs.Prelude.{◌≡◌};
+ghost use Rattle.syntax.specs.declared.contents.Contents.{Contents};
+ghost use Rattle.loader.specs.Loading.{IsAccepted};
+ghost use Rattle.wasmloop_c.specs.Calls.{Explains};
+
+use crate::copying::copy_bytes;
+use crate::status::{MEMORY, NONE, OK};
+use loader::{Refusal, load};
+use std::alloc::{AllocError, Global};
+
+/// The sentence on a refusal of these bytes, as `check` prints it.
+fn sentence(alloc: Global, refusal: Refusal, bytes: &[u8]) -> Result<String, AllocError> {
+    let account = refusal.explain(alloc, bytes);
+    let mut text = String::new(alloc);
+    write!(text, "{account}")?;
+    Ok(text)
+}
+
+/// Copies the sentence on why bytes are no guest, as far as there is room.
+#[unsafe(no_mangle)]
+pub extern "C" fn wasmloop_rt_explain(
+    alloc: Global,
+    bytes: &[u8],
+    into: &mut [u8],
+    count: &mut u64,
+) -> u32
+    ensures explains { result ≡ OK → Explains bytes.now into.old into.new count.new }
+    ensures accepted { result ≡ NONE → (contents : Contents) × IsAccepted bytes.now contents }
+    ensures untold { (result ≡ OK → ⊥) → (into.new ≡ into.old) × (count.new ≡ count.old) }
+{
+    let refusal = match load(alloc, bytes) {
+        Ok(_) => return NONE,
+        Err(Refusal::Memory) => return MEMORY,
+        Err(refusal) => refusal,
+    };
+    let Ok(text) = sentence(alloc, refusal, bytes) else {
+        return MEMORY;
+    };
+    copy_bytes(text.as_bytes(), into, count)
+}

@@ -1,0 +1,72 @@
+// What a module has that a host looks for.
+
+ghost use Rattle.std.specs.Prelude.{◌≡◌, length, is_some};
+ghost use Rattle.imports.specs.Uv.{name_of_entry};
+ghost use Rattle.wasmloop_c.specs.Calls.{ReadsHandle, ReadsModule, IsShapeOf, TellsEntry, one_if};
+
+use crate::handle::Handle;
+use crate::status::{EMPTY, KIND, OK};
+use crate::thing::Thing;
+use imports::{EntryPoint, Linked};
+use std::alloc::Global;
+
+/// What a module has that a host looks for: 1 where it does.
+#[repr(C)]
+#[derive(Clone, Copy)]
+pub struct Shape {
+    /// It exports `uv_main`.
+    pub main: u32,
+    /// It exports `uv_work`.
+    pub work: u32,
+    /// It exports `uv_after_work`.
+    pub after_work: u32,
+    /// It has a table, from which callbacks are called.
+    pub table: u32,
+    /// How many functions it imports.
+    pub imports: u64,
+}
+
+fn has(linked: &Linked, entry: EntryPoint) -> u32
+    ensures { TellsEntry linked.now.contents (name_of_entry entry) result }
+{
+    match linked.entry(entry) {
+        Some(_) => 1,
+        None => 0,
+    }
+}
+
+fn shape_of(linked: &Linked) -> Shape
+    ensures { IsShapeOf linked.now.contents result }
+{
+    let contents = linked.valid().contents();
+    Shape {
+        main: has(linked, EntryPoint::Main),
+        work: has(linked, EntryPoint::Work),
+        after_work: has(linked, EntryPoint::AfterWork),
+        table: contents.table.is_some() as u32,
+        imports: contents.imports.len() as u64,
+    }
+}
+
+fn tell_shape(thing: &Thing, shape: &mut Shape) -> u32
+    ensures { ReadsModule thing.now result (shape.new ≡ shape.old) (λ m. IsShapeOf m.contents shape.new) }
+{
+    let Thing::Module(linked) = thing else {
+        return KIND;
+    };
+    *shape = shape_of(linked);
+    OK
+}
+
+/// What a module has that a host looks for.
+#[unsafe(no_mangle)]
+pub extern "C" fn wasmloop_rt_shape(alloc: Global, module: &mut Handle, told: &mut Shape) -> u32
+    ensures { ReadsHandle module.old.raw.value module.new.raw.value result (told.new ≡ told.old) (λ t. ReadsModule t result (told.new ≡ told.old) (λ m. IsShapeOf m.contents told.new)) }
+{
+    let Some(held) = module.take(alloc) else {
+        return EMPTY;
+    };
+    let status = tell_shape(&held, told);
+    module.put(held);
+    status
+}

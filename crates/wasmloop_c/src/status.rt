@@ -1,0 +1,31 @@
+// What a call answers.
+
+/// It is done.
+pub const OK: u32 = 0;
+
+/// There is nothing of what was asked for.
+pub const NONE: u32 = 1;
+
+/// The handle is empty: nothing was made in it, or it was dropped.
+pub const EMPTY: u32 = 2;
+
+/// The handle is of another kind, or, where it was to be filled, not empty.
+pub const KIND: u32 = 3;
+
+/// Memory was refused.
+pub const MEMORY: u32 = 4;
+
+/// The bytes are no guest.
+pub const REFUSED: u32 = 5;
+
+/// A number is out of its range.
+pub const RANGE: u32 = 6;
+
+/// The reply is not one that the loop waits for.
+pub const STRANGER: u32 = 7;
+
+/// The sends from outside are used up.
+pub const USED_UP: u32 = 8;
+
+/// The module exports no `uv_work`.
+pub const NO_WORK: u32 = 10;

@@ -1,0 +1,244 @@
+// Jobs: what a loop asks for, and in time the reply.
+
+ghost use Rattle.std.specs.Prelude.{◌≡◌, ◌⊎◌, None, IsNone, IsSomeAnd, IfSome};
+ghost use Rattle.wasmloop_c.specs.Calls.{OnHandle, OnLoop, ReadsHandle, HandsOut, Runs, Starts, Offers, Tells, left_in};
+ghost use Rattle.wasmloop_c.specs.Numbers.{about_order, about_told, outcome_numbers};
+
+use crate::handle::Handle;
+use crate::job::Job;
+use crate::status::{EMPTY, KIND, MEMORY, NONE, OK, STRANGER};
+use crate::thing::Thing;
+use order::{Order, Outcome, Told};
+use phases::Accepted;
+use std::alloc::Global;
+use std::mem::replace;
+
+/// What a job is about.
+#[repr(C)]
+#[derive(Clone, Copy)]
+pub struct About {
+    /// The number of the loop that asks.
+    pub loop_no: u32,
+    /// The number of the request.
+    pub request: u32,
+    /// The slot that the request was opened in.
+    pub slot: u32,
+    /// The operation.
+    pub op: u32,
+    /// What became of it: 0 not yet run, 1 done, 2 trap, 3 depth, 4 spent, 5 no memory.
+    pub outcome: u32,
+    /// The result of `uv_work`, or the trap's number, or 0.
+    pub value: u32,
+    /// How many bytes the guest may read.
+    pub bytes: u64,
+    /// How many bytes the reply has.
+    pub reply: u64,
+    /// The units of fuel that its run used, or 0.
+    pub used: u64,
+}
+
+fn of_order(order: &Order) -> About
+    ensures { result ≡ about_order order.now }
+{
+    About {
+        loop_no: order.loop_no,
+        request: order.request,
+        slot: order.slot,
+        op: order.op,
+        outcome: 0,
+        value: 0,
+        bytes: order.bytes.len() as u64,
+        reply: 0,
+        used: 0,
+    }
+}
+
+fn of_outcome(outcome: &Outcome) -> (u32, (u32, u64))
+    ensures { result ≡ outcome_numbers outcome.now }
+{
+    match outcome {
+        Outcome::Done(value, bytes) => (1, (*value, bytes.len() as u64)),
+        Outcome::Trap(trap) => (2, (trap.code(), 0)),
+        Outcome::Depth => (3, (0, 0)),
+        Outcome::Spent => (4, (0, 0)),
+        Outcome::NoMemory => (5, (0, 0)),
+    }
+}
+
+fn of_told(told: &Told) -> About
+    ensures { result ≡ about_told told.now }
+{
+    let (outcome, (value, bytes)) = of_outcome(&told.reply.outcome);
+    About {
+        outcome,
+        value,
+        reply: bytes,
+        used: told.used,
+        ..of_order(&told.reply.order)
+    }
+}
+
+fn next_job(alloc: Global, thing: &mut Thing, job: &mut Handle) -> u32
+    requires { job.old.raw.value ≡ None }
+    ensures { OnLoop thing.old thing.new result (job.new.raw.value ≡ None) (λ c d. HandsOut c d job.new.raw.value result) }
+{
+    let Thing::Loop(core) = thing else {
+        return KIND;
+    };
+    if core.outstanding() == 0 {
+        return NONE;
+    }
+    let Ok(mut room) = Box::new(alloc, Thing::Gone) else {
+        return MEMORY;
+    };
+    let Some(order) = core.next_order() else {
+        return NONE;
+    };
+    *room = Thing::Asked(Job::new(order));
+    job.put(room);
+    OK
+}
+
+/// Takes the loop's lowest request that is not handed out yet, as a job in an empty handle.
+#[unsafe(no_mangle)]
+pub extern "C" fn wasmloop_rt_next_job(alloc: Global, handle: &mut Handle, job: &mut Handle) -> u32
+    ensures hands_out { job.old.raw.value ≡ None → OnHandle handle.old.raw.value handle.new.raw.value result (job.new.raw.value ≡ None) (λ t u. OnLoop t u result (job.new.raw.value ≡ None) (λ c d. HandsOut c d job.new.raw.value result)) }
+    ensures kept { IsSomeAnd job.old.raw.value (λ _. (job.new.raw.value ≡ job.old.raw.value) × (handle.new.raw.value ≡ handle.old.raw.value) × (result ≡ KIND)) ⊎ (job.old.raw.value ≡ None) }
+{
+    if job.is_full() {
+        return KIND;
+    }
+    let Some(mut held) = handle.take(alloc) else {
+        return EMPTY;
+    };
+    let status = next_job(alloc, &mut held, job);
+    handle.put(held);
+    status
+}
+
+fn run(alloc: Global, thing: Thing) -> (Thing, u32)
+    ensures { Runs thing result.0 result.1 }
+{
+    match thing {
+        Thing::Asked(job) => (Thing::Answered(job.run(alloc)), OK),
+        other => (other, KIND),
+    }
+}
+
+/// Runs a job.
+#[unsafe(no_mangle)]
+pub extern "C" fn wasmloop_rt_job_run(alloc: Global, job: &mut Handle) -> u32
+    ensures { OnHandle job.old.raw.value job.new.raw.value result (Unit {0}) (λ t u. Runs t u result) }
+{
+    let Some(mut held) = job.take(alloc) else {
+        return EMPTY;
+    };
+    let (thing, status) = run(alloc, replace(&mut *held, Thing::Gone));
+    *held = thing;
+    job.put(held);
+    status
+}
+
+fn tell_about(thing: &Thing, about: &mut About) -> u32
+    ensures { Tells thing.now about.old about.new result }
+{
+    match thing {
+        Thing::Asked(job) => {
+            *about = of_order(job.order());
+            OK
+        }
+        Thing::Answered(told) => {
+            *about = of_told(told);
+            OK
+        }
+        _ => KIND,
+    }
+}
+
+/// What a job is about.
+#[unsafe(no_mangle)]
+pub extern "C" fn wasmloop_rt_job_about(alloc: Global, job: &mut Handle, told: &mut About) -> u32
+    ensures { ReadsHandle job.old.raw.value job.new.raw.value result (told.new ≡ told.old) (λ t. Tells t told.old told.new result) }
+{
+    let Some(held) = job.take(alloc) else {
+        return EMPTY;
+    };
+    let status = tell_about(&held, told);
+    job.put(held);
+    status
+}
+
+fn start(thing: &mut Thing, job: &Thing) -> u32
+    ensures { OnLoop thing.old thing.new result (Unit {0}) (λ c d. Starts c d job.now result) }
+{
+    let Thing::Loop(core) = thing else {
+        return KIND;
+    };
+    let Thing::Asked(job) = job else {
+        return KIND;
+    };
+    let order = job.order();
+    if core.start(order.slot, order.request) {
+        OK
+    } else {
+        STRANGER
+    }
+}
+
+/// Tells a loop that a job of its own is started.
+#[unsafe(no_mangle)]
+pub extern "C" fn wasmloop_rt_job_start(alloc: Global, handle: &mut Handle, job: &mut Handle) -> u32
+    ensures job { job.new.raw.value ≡ job.old.raw.value }
+    ensures empty { IsNone job.old.raw.value → (result ≡ EMPTY) × (handle.new.raw.value ≡ handle.old.raw.value) }
+    ensures starts { IfSome job.old.raw.value (λ asked. OnHandle handle.old.raw.value handle.new.raw.value result (Unit {0}) (λ t u. OnLoop t u result (Unit {0}) (λ c d. Starts c d asked result))) }
+{
+    let Some(asked) = job.take(alloc) else {
+        return EMPTY;
+    };
+    let Some(mut held) = handle.take(alloc) else {
+        job.put(asked);
+        return EMPTY;
+    };
+    let status = start(&mut held, &asked);
+    handle.put(held);
+    job.put(asked);
+    status
+}
+
+fn accept(thing: &mut Thing, answered: Thing) -> (Thing, u32)
+    ensures { OnLoop thing.old thing.new result.1 (result.0 ≡ answered) (λ c d. Offers c d answered result.0 result.1) }
+{
+    let Thing::Loop(core) = thing else {
+        return (answered, KIND);
+    };
+    let Thing::Answered(Told { reply, used, trail }) = answered else {
+        return (answered, KIND);
+    };
+    match core.accept(reply) {
+        Accepted::Accepted => (Thing::Gone, OK),
+        Accepted::Stranger(reply) => (Thing::Answered(Told { reply, used, trail }), STRANGER),
+    }
+}
+
+/// Brings the reply of a job back to its loop, and leaves the job's handle empty where the loop takes it.
+#[unsafe(no_mangle)]
+pub extern "C" fn wasmloop_rt_accept(alloc: Global, handle: &mut Handle, job: &mut Handle) -> u32
+    ensures taken { result ≡ OK → job.new.raw.value ≡ None }
+    ensures empty { IsNone job.old.raw.value → (result ≡ EMPTY) × (job.new.raw.value ≡ None) × (handle.new.raw.value ≡ handle.old.raw.value) }
+    ensures offers { IfSome job.old.raw.value (λ offered. OnHandle handle.old.raw.value handle.new.raw.value result (job.new.raw.value ≡ job.old.raw.value) (λ t u. OnLoop t u result (job.new.raw.value ≡ job.old.raw.value) (λ c d. Offers c d offered (left_in job.new.raw.value) result))) }
+{
+    let Some(mut answered) = job.take(alloc) else {
+        return EMPTY;
+    };
+    let Some(mut held) = handle.take(alloc) else {
+        job.put(answered);
+        return EMPTY;
+    };
+    let (left, status) = accept(&mut held, replace(&mut *answered, Thing::Gone));
+    handle.put(held);
+    if status != OK {
+        *answered = left;
+        job.put(answered);
+    }
+    status
+}

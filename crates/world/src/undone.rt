@@ -1,0 +1,17 @@
+// Work that did not return.
+
+use order::Trail;
+use world_log::{JobId, WorkEnding};
+
+/// A job whose work did not return.
+#[derive(Debug, Drop)]
+pub struct Undone {
+    /// The job.
+    pub job: JobId,
+    /// How it ended.
+    pub ending: WorkEnding,
+    /// The units of fuel that it used.
+    pub used: u64,
+    /// Where it stopped.
+    pub trail: Trail,
+}

@@ -84,4 +84,7 @@ def main(words):
     print("%d bytes, %d functions" % (len(large), len(bodies) * times))
 
 
-main(sys.argv[1:])
+if __name__ == "__main__":
+    if len(sys.argv) not in (3, 4):
+        sys.exit(__doc__)
+    main(sys.argv[1:])

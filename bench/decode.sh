@@ -1,10 +1,15 @@
 #!/bin/sh
-# How many megabytes of a module are read and checked in a second, beside wabt's wasm-validate.
+# How many megabytes of a module are read and checked in a second, beside wabt's wasm-validate: sh bench/decode.sh PROGRAM
 #
 # The module is the largest example, sha256.wasm, with its functions repeated up to nearly 1,048,576 bytes
 # (decode.py). `wasmloop check` reads, validates and links it, and `wasm-validate` reads and validates it; both are
 # run RUNS times over, and the time of as many runs on an empty module is taken off.
 set -eu
+if [ $# -ne 1 ]; then
+    echo "usage: sh bench/decode.sh PROGRAM" >&2
+    exit 2
+fi
+program=$1
 top=$(cd "$(dirname "$0")/.." && pwd)
 runs=${RUNS:-20}
 folder=$(mktemp -d)
@@ -26,8 +31,8 @@ throughput() { # of a command, which is given the file as its last word
     awk -v bytes="$((bytes * runs))" -v ns="$spent" 'BEGIN { printf "%.1f MB/s\n", bytes * 1000 / ns }'
 }
 
-"$top/wasmloop" check "$folder/large.wasm"
-printf 'wasmloop check: %s\n' "$(throughput "$top/crates/wasmloop/out/wasmloop" check)"
+"$program" check "$folder/large.wasm"
+printf 'wasmloop check: %s\n' "$(throughput "$program" check)"
 if command -v wasm-validate >/dev/null; then
     printf 'wasm-validate:  %s\n' "$(throughput wasm-validate)"
 fi

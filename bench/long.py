@@ -58,4 +58,5 @@ def main():
         print(f"{rounds} rounds of {options.loops} loops and {options.workers} workers: all as they should be")
 
 
-main()
+if __name__ == "__main__":
+    main()

@@ -1,12 +1,18 @@
 #!/usr/bin/env bash
-# Refuses the program each of its allocations in turn, and looks at how it ends. It needs cc and python3, and for the
-# program that goes on behind a fault a copy of the repository with what is proved of it, some gigabytes.
+# Refuses the program each of its allocations in turn, and looks at how it ends: bash bench/memory.sh PROGRAM
+#
+# It needs cc and python3, and for the program that goes on behind a fault, which it builds, a copy of the repository with
+# what is proved of it, some gigabytes.
 set -euo pipefail
+if [ $# -ne 1 ]; then
+    echo "usage: bash bench/memory.sh PROGRAM" >&2
+    exit 2
+fi
+program=$(realpath "$1")
 top=$(cd "$(dirname "$0")/.." && pwd)
 work=$(mktemp -d)
 trap 'rm -rf "$work"' EXIT
 
-"$top/wasmloop" --version
 cc -std=c11 -O1 -Wall -Wextra -shared -fPIC -o "$work/refuse.so" "$top/bench/memory/refuse.c"
 
 # The same program, but that it goes on with the next steps of a script where one found no memory.
@@ -16,6 +22,5 @@ cp -a "$top/HANDLES" "$top/crates.txt" "$top/wasmloop" "$top/build.py" "$top/cra
 python3 "$top/bench/memory/go_on.py" "$copy/crates/commands/src/scripting.rt"
 "$copy/wasmloop" --version
 
-built=crates/wasmloop/out/wasmloop
-python3 "$top/bench/memory/ends.py" "$top/$built" "$copy/$built" "$work/refuse.so"
+python3 "$top/bench/memory/ends.py" "$program" "$copy/crates/wasmloop/out/wasmloop" "$work/refuse.so"
 echo "each run ended as with memory, or by a named want of memory"

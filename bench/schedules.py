@@ -102,4 +102,5 @@ def main():
     print(f"{options.runs} runs: {len(seen)} outcomes, all lawful; {only_threads} that no script of one loop and one worker has")
 
 
-main()
+if __name__ == "__main__":
+    main()

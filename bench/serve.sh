@@ -11,7 +11,7 @@ top=$(cd "$(dirname "$0")/.." && pwd)
 runs=${RUNS:-1000}
 wanted=$(for loop in $(seq 0 7); do echo "loop $loop over emits 6"; done)
 for run in $(seq "$runs"); do
-    printed=$("$1" serve "$top/examples/m6.wasm" --loops 8 --workers 16)
+    printed=$("$1" serve "$top/examples/asks.wasm" --loops 8 --workers 16)
     if [ "$printed" != "$wanted" ]; then
         printf 'run %s printed other lines:\n%s\n' "$run" "$printed" >&2
         exit 1

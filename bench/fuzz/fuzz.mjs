@@ -1,11 +1,11 @@
 // Random modules through the program and through two other engines, side by side.
 //
-//     node bench/fuzz/fuzz.mjs [--count N] [--seed S] [--wabt EVERY] [--keep FOLDER]
+//     node bench/fuzz/fuzz.mjs ROWS [--count N] [--seed S] [--wabt EVERY] [--keep FOLDER]
 //
 // Of each four modules one is valid and is run too, two are valid ones with some instructions changed, and one has
 // some bytes changed. What the program says of each is compared with V8 (node); of one in EVERY also with wabt's
-// wasm-validate and wasm-interp (0: none), where it has no imports, which wasm-interp answers by 0. The program answers a whole list of modules in one process. Each difference is kept as
-// a file in FOLDER, with both answers. What the program refuses by a rule of its own, a limit or its profile, is
+// wasm-validate and wasm-interp (0: none), where it has no imports, which wasm-interp answers by 0. ROWS is the built program
+// crates/test_program/out/test_program, which answers a whole list of modules in one process. Each difference is kept as a file in FOLDER, with both answers. What the program refuses by a rule of its own, a limit or its profile, is
 // counted by that rule, and so is, where wabt is asked, what V8 alone accepts: it gives no type to what a `br_if` leaves
 // in dead code (WebAssembly Core 2.0, 3.3.8). The status is 1 where anything else differs.
 
@@ -18,14 +18,20 @@ import { answers } from "./program.mjs";
 import * as wabt from "./wabt.mjs";
 
 const BATCH = 1000;
-const options = parseArgs({
+const { values: options, positionals } = parseArgs({
+    allowPositionals: true,
     options: {
         count: { type: "string", default: "10000" },
         seed: { type: "string", default: "1" },
         wabt: { type: "string", default: "0" },
         keep: { type: "string", default: "fuzz-differences" },
     },
-}).values;
+});
+if (positionals.length !== 1) {
+    console.error("usage: node bench/fuzz/fuzz.mjs ROWS [--count N] [--seed S] [--wabt EVERY] [--keep FOLDER]");
+    process.exit(2);
+}
+const [rows] = positionals;
 
 // Refusals that are this project's own: limits, the profile, and rules on imports and segments.
 const OWN = [
@@ -91,7 +97,7 @@ function main() {
     const total = Number(options.count);
     for (let first = 0; first < total; first += BATCH) {
         const batch = Array.from({ length: Math.min(BATCH, total - first) }, (_, k) => made(first + k));
-        const lines = answers(batch.map((m) => ({ run: m.results !== undefined, bytes: m.bytes })));
+        const lines = answers(rows, batch.map((m) => ({ run: m.results !== undefined, bytes: m.bytes })));
         batch.forEach((module, k) => {
             if (module.results) compareRun(module, lines[k]);
             else compareCheck(module, lines[k]);

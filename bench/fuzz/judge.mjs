@@ -8,7 +8,7 @@ const TRAPS = [
     [/null function or function signature mismatch|indirect call to null/, 67], // an empty element, or another type
 ];
 
-function trapOf(error) {
+export function trapOf(error) {
     if (error instanceof RangeError) return "depth";
     const found = TRAPS.find(([words]) => words.test(error.message));
     return found ? `trap ${found[1]}` : `unknown ${error.message}`;

@@ -83,11 +83,11 @@ def done(text):
 
 
 COMMANDS = [
-    Command("check m4", ["check", "m4.wasm"], done("accepted\n"), {}),
-    Command("invoke m8 f 0", ["invoke", "m8.wasm", "f", "0"], done("return 7 used 3\n"), {}),
+    Command("check timer", ["check", "timer.wasm"], done("accepted\n"), {}),
+    Command("invoke table f 0", ["invoke", "table.wasm", "f", "0"], done("return 7 used 3\n"), {}),
     Command(
-        "work m3 5 616263",
-        ["work", "m3.wasm", "5", "616263"],
+        "work copies 5 616263",
+        ["work", "copies.wasm", "5", "616263"],
         done("done 8 bytes 3 616263\n"),
         {"nomemory": NO_MEMORY},
     ),
@@ -101,8 +101,8 @@ def serve_lines(*values):
 
 
 SERVE = Command(
-    "serve m6",
-    ["serve", "m6.wasm", "--loops", "2", "--workers", "2"],
+    "serve asks",
+    ["serve", "asks.wasm", "--loops", "2", "--workers", "2"],
     serve_lines(" 6", " 6"),
     {
         "loop 0 nomemory": serve_lines(" -12", " 6"),

@@ -1,4 +1,4 @@
-"""A small model of loops, workers and what passes between them, written from docs/LOOP.md and docs/FORMATS.md alone.
+"""A small model of loops, workers and what passes between them, written from docs/LOOP.md, UV.md and COMMANDS.md alone.
 
 It runs a script whose guests are guest.c with a table of calls, and tells the lines of its log, without the fuel used.
 A handle's number is the host's choice: the model asks `chosen` for it and says only that it must be a free one.

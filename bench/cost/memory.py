@@ -1,0 +1,83 @@
+#!/usr/bin/env python3
+"""memory.py PROGRAM [FOLDER]: resident memory (the most of a run, from a small parent) and least address space, by differences."""
+import json
+import pathlib
+import resource
+import subprocess
+import common
+
+KIB, MOST_SPACE, NEAR = 1024, 1 << 18, 8
+
+
+class Bench:
+    def __init__(self, program, folder):
+        self.program, self.folder, self.spawn = program, pathlib.Path(folder), common.spawner(folder)
+
+    def resident(self, *words):
+        command = [self.spawn, "3", self.program, *words]
+        return min(int(subprocess.run(command, stdout=subprocess.PIPE).stdout.split()[1]) for _ in range(3))
+
+    def ends_well(self, words, space):
+        def limit():
+            resource.setrlimit(resource.RLIMIT_AS, (space * KIB, space * KIB))
+        none = subprocess.DEVNULL
+        return subprocess.run([self.program, *words], stdout=none, stderr=none, preexec_fn=limit).returncode == 0
+
+    def space(self, *words):
+        """The least address space, in KiB, under which the run ends with 0."""
+        low, high = 0, MOST_SPACE
+        while high - low > NEAR:
+            middle = (low + high) // 2
+            low, high = (low, middle) if self.ends_well(words, middle) else (middle, high)
+        return high
+
+    def guest(self, source, **defines):
+        return common.guest(source, self.folder / "guest.wasm", **defines)
+
+    def script(self, module, steps, loops=1):
+        """A script of loops of one module."""
+        file = self.folder / "script.json"
+        loop = {"module": 0, "fuel": 10**6, "work_fuel": 10**6, "depth": 64}
+        file.write_text(json.dumps({"modules": [module.read_bytes().hex()], "loops": [loop] * loops, "workers": 16, "steps": steps}))
+        return file
+
+    def loops(self):
+        for scene, handles in (("IDLE", 1), ("IDLE", 64), ("TICK", 64)):
+            module = self.guest("guest.c", SCENE=scene, N=1000, K=handles)
+            one, eight = (["serve", module, "--loops", count, "--workers", "1"] for count in "18")
+            r, a = [self.resident(*it) for it in (one, eight)], [self.space(*it) for it in (one, eight)]
+            print(f"{scene.lower()} {handles}: one loop {r[0]} {a[0]}, eight {r[1]} {a[1]}: "
+                  f"each further {(r[1] - r[0]) / 7:.1f} {(a[1] - a[0]) / 7:.1f}")
+
+    def workers(self):
+        module = self.guest("work.c", N=100, SIZE=0, TURNS=0, TOUCH=0)
+        runs = {count: ["serve", module, "--loops", "1", "--workers", str(count)] for count in (1, 4, 16)}
+        print("workers: ", {count: (self.resident(*words), self.space(*words)) for count, words in runs.items()})
+
+    def requests(self):
+        """A world of one loop whose uv_main asks up to 32 times; without and with bytes."""
+        for size in (0, 1024, 65536):
+            seen = []
+            for count in (1, 32):
+                module = self.guest("work.c", N=count, SIZE=size, TURNS=0, TOUCH=0)
+                seen.append(self.resident("script", self.script(module, [["loop", 0]])))
+            print(f"request of {size} bytes: {(seen[1] - seen[0]) / 31:.2f} KiB resident each")
+
+    def scripts(self):
+        """Jobs that are being run stand one after another in a script, so instances beside each other are loops'."""
+        module = self.guest("work.c", N=100, SIZE=0, TURNS=0, TOUCH=0)
+        for count in (1, 8):
+            print(f"script of {count} idle loops: resident {self.resident('script', self.script(module, [['clock', 0, 1]], count))}")
+
+
+def main(program, folder, _):
+    bench = Bench(program, folder)
+    print("resident KiB, address space KiB")
+    bench.loops()
+    bench.workers()
+    bench.requests()
+    bench.scripts()
+
+
+if __name__ == "__main__":
+    common.start(__doc__, main)

@@ -1,0 +1,543 @@
+/* Each call with right handles, wrong kinds, empty and dropped ones, NULL, numbers at and past their limits, and memory that is
+ * refused. Prints "all N checks hold", or the lines that don't. Run it under AddressSanitizer, which also looks for leaks.
+ *
+ * usage: calls_test FOLDER      (examples/ of this repository)
+ */
+#include <pthread.h>
+#include <stdio.h>
+#include <stdlib.h>
+#include <string.h>
+#include "wasmloop.h"
+
+static unsigned checks, failed;
+static const char *folder;
+
+#define IS(got, want) is(__LINE__, #got, (long long)(got), (long long)(want))
+static void is(int line, const char *what, long long got, long long want) {
+    checks++;
+    if (got == want) return;
+    failed++;
+    printf("line %d: %s is %lld, not %lld\n", line, what, got, want);
+}
+
+static uint8_t bytes[1 << 21];
+
+static size_t read_file(const char *name) {
+    char path[4096];
+    snprintf(path, sizeof path, "%s/%s", folder, name);
+    FILE *file = fopen(path, "rb");
+    if (!file) {
+        printf("%s can't be read\n", path);
+        exit(1);
+    }
+    size_t length = fread(bytes, 1, sizeof bytes, file);
+    fclose(file);
+    return length;
+}
+
+static wasmloop_handle module_of(const char *name) {
+    wasmloop_handle module = WASMLOOP_HANDLE_INIT;
+    wasmloop_fault fault;
+    IS(wasmloop_load(bytes, read_file(name), &module, &fault), WASMLOOP_OK);
+    return module;
+}
+
+static const wasmloop_limits usual = { 1000000, 1000000, 0, 64 };
+
+static wasmloop_handle loop_of(const char *name) {
+    wasmloop_handle module = module_of(name), loop = WASMLOOP_HANDLE_INIT;
+    IS(wasmloop_loop(&module, &usual, &loop), WASMLOOP_OK);
+    IS(wasmloop_drop(&module), WASMLOOP_OK);
+    return loop;
+}
+
+/* steps until a callback of this kind ran, or anything else than that a phase was entered or an entry skipped */
+static wasmloop_did run_to(wasmloop_handle *loop, uint32_t kind) {
+    wasmloop_did did;
+    uint64_t moment;
+    for (int i = 0; i < 1000; i++) {
+        if (i % 10 == 9) IS(wasmloop_clock(loop, (uint64_t)i * 100, &moment), WASMLOOP_OK);
+        IS(wasmloop_step(loop, &did), WASMLOOP_OK);
+        if (did.what == WASMLOOP_OVER || did.what == WASMLOOP_FAILED || (did.what == WASMLOOP_RAN && did.kind == kind)) break;
+    }
+    return did;
+}
+
+static void loads(void) {
+    wasmloop_handle module = WASMLOOP_HANDLE_INIT;
+    wasmloop_fault fault;
+    size_t length = read_file("countdown.wasm");
+    IS(wasmloop_load(NULL, 1, &module, &fault), WASMLOOP_NULL);
+    IS(wasmloop_load(bytes, length, NULL, &fault), WASMLOOP_NULL);
+    IS(wasmloop_load(bytes, length, &module, NULL), WASMLOOP_NULL);
+    IS(wasmloop_load(bytes, SIZE_MAX, &module, &fault), WASMLOOP_RANGE);
+    IS(module.mark, 0);
+    /* each front of a module: what is no module is refused, and the handle stays empty */
+    for (size_t n = 0; n < length; n++) {
+        uint8_t *front = malloc(n ? n : 1); /* so that a read past the end is seen */
+        memcpy(front, bytes, n);
+        memset(&fault, 0xff, sizeof fault);
+        int told = wasmloop_load(n ? front : NULL, n, &module, &fault);
+        free(front);
+        if (told == WASMLOOP_OK) {
+            IS(n >= 8, 1); /* it ends behind a section */
+            IS(wasmloop_drop(&module), WASMLOOP_OK);
+            continue;
+        }
+        IS(told, WASMLOOP_REFUSED);
+        IS(fault.stage >= 1 && fault.stage <= 3, 1);
+        IS(fault.byte <= n, 1);
+        IS(module.mark, 0);
+    }
+    /* each byte changed in eight ways: accepted or refused, never more */
+    for (size_t n = 0; n < length; n++) {
+        for (int bit = 0; bit < 8; bit++) {
+            bytes[n] ^= (uint8_t)(1 << bit);
+            int told = wasmloop_load(bytes, length, &module, &fault);
+            IS(told == WASMLOOP_OK || told == WASMLOOP_REFUSED, 1);
+            IS(wasmloop_drop(&module), told == WASMLOOP_OK ? WASMLOOP_OK : WASMLOOP_EMPTY);
+            bytes[n] ^= (uint8_t)(1 << bit);
+        }
+    }
+    /* too long */
+    static uint8_t long_one[(1 << 20) + 1];
+    memcpy(long_one, bytes, length);
+    IS(wasmloop_load(long_one, sizeof long_one, &module, &fault), WASMLOOP_REFUSED);
+    IS(fault.stage, 1);
+    IS(fault.code, 12);
+    /* the bytes are copied */
+    IS(wasmloop_load(bytes, length, &module, &fault), WASMLOOP_OK);
+    memset(bytes, 0, length);
+    /* full */
+    read_file("countdown.wasm");
+    IS(wasmloop_load(bytes, length, &module, &fault), WASMLOOP_KIND);
+    IS(wasmloop_drop(&module), WASMLOOP_OK);
+    IS(wasmloop_drop(&module), WASMLOOP_EMPTY);
+    IS(wasmloop_drop(NULL), WASMLOOP_NULL);
+    /* a mark that is none is an empty handle */
+    wasmloop_handle odd = { 0x1234567890abcdef, (void *)16 };
+    IS(wasmloop_drop(&odd), WASMLOOP_EMPTY);
+    IS(odd.mark, 0);
+}
+
+static void loops(void) {
+    wasmloop_handle module = module_of("countdown.wasm"), loop = WASMLOOP_HANDLE_INIT, none = WASMLOOP_HANDLE_INIT;
+    wasmloop_limits limits = usual;
+    IS(wasmloop_loop(NULL, &limits, &loop), WASMLOOP_NULL);
+    IS(wasmloop_loop(&module, NULL, &loop), WASMLOOP_NULL);
+    IS(wasmloop_loop(&module, &limits, NULL), WASMLOOP_NULL);
+    IS(wasmloop_loop(&module, &limits, &module), WASMLOOP_KIND);
+    IS(wasmloop_loop(&none, &limits, &loop), WASMLOOP_EMPTY);
+    limits.depth = 0;
+    IS(wasmloop_loop(&module, &limits, &loop), WASMLOOP_RANGE);
+    limits.depth = 129;
+    IS(wasmloop_loop(&module, &limits, &loop), WASMLOOP_RANGE);
+    limits.depth = UINT32_MAX;
+    IS(wasmloop_loop(&module, &limits, &loop), WASMLOOP_RANGE);
+    IS(loop.mark, 0);
+    limits.depth = 1;
+    IS(wasmloop_loop(&module, &limits, &loop), WASMLOOP_OK);
+    IS(wasmloop_loop(&module, &limits, &loop), WASMLOOP_KIND);
+    IS(wasmloop_drop(&loop), WASMLOOP_OK);
+    limits.depth = 128;
+    limits.fuel = limits.work_fuel = UINT64_MAX;
+    limits.number = UINT32_MAX;
+    IS(wasmloop_loop(&module, &limits, &loop), WASMLOOP_OK);
+    /* a loop is no module */
+    IS(wasmloop_loop(&loop, &limits, &none), WASMLOOP_KIND);
+    IS(wasmloop_drop(&module), WASMLOOP_OK);
+    wasmloop_did did = run_to(&loop, 99);
+    IS(did.what, WASMLOOP_OVER);
+    wasmloop_standing standing;
+    IS(wasmloop_standing_of(&loop, &standing), WASMLOOP_OK);
+    IS(standing.alive, 0);
+    IS(standing.failed, 0);
+    IS(standing.outstanding, 0);
+    IS(wasmloop_drop(&loop), WASMLOOP_OK);
+    /* no fuel */
+    module = module_of("countdown.wasm");
+    limits.fuel = 0;
+    IS(wasmloop_loop(&module, &limits, &loop), WASMLOOP_OK);
+    did = run_to(&loop, WASMLOOP_RUN_MAIN);
+    IS(did.ending, WASMLOOP_SPENT);
+    IS(wasmloop_step(&loop, &did), WASMLOOP_OK);
+    IS(did.what, WASMLOOP_FAILED);
+    IS(wasmloop_standing_of(&loop, &standing), WASMLOOP_OK);
+    IS(standing.failed, 1);
+    int32_t answer;
+    IS(wasmloop_cancel(&loop, 1, &answer), WASMLOOP_OK);
+    IS(answer, -1);
+    IS(wasmloop_drop(&loop), WASMLOOP_OK);
+    IS(wasmloop_drop(&module), WASMLOOP_OK);
+    /* a trap */
+    loop = loop_of("endless.wasm");
+    did = run_to(&loop, 99);
+    IS(did.what, WASMLOOP_FAILED);
+    IS(wasmloop_drop(&loop), WASMLOOP_OK);
+}
+
+/* each call that wants a loop, at a handle that has none */
+static void refuse(wasmloop_handle *h, int want) {
+    wasmloop_did did;
+    wasmloop_standing standing;
+    wasmloop_handle job = WASMLOOP_HANDLE_INIT;
+    uint64_t moment = 7;
+    uint32_t count = 7;
+    int32_t answer = 7;
+    int64_t room[2] = { 7, 7 };
+    wasmloop_handle before = { 0, NULL };
+    if (h) before = *h;
+    memset(&did, 7, sizeof did);
+    memset(&standing, 7, sizeof standing);
+    wasmloop_did same = did;
+    wasmloop_standing same_standing = standing;
+    IS(wasmloop_step(h, &did), want);
+    IS(memcmp(&did, &same, sizeof did), 0);
+    IS(wasmloop_emits(h, room, 2, &count), want);
+    IS(room[0] == 7 && room[1] == 7 && count == 7, 1);
+    IS(wasmloop_clock(h, 5, &moment), want);
+    IS(wasmloop_hint(h, &moment), want);
+    IS(moment, 7);
+    IS(wasmloop_async_send(h, 0), want);
+    IS(wasmloop_cancel(h, 1, &answer), want);
+    IS(answer, 7);
+    IS(wasmloop_standing_of(h, &standing), want);
+    IS(memcmp(&standing, &same_standing, sizeof standing), 0);
+    IS(wasmloop_next_job(h, &job), want);
+    IS(job.mark, 0);
+    if (h) IS(h->mark == before.mark && h->at == before.at, 1);
+}
+
+static void wrong_handles(void) {
+    wasmloop_handle none = WASMLOOP_HANDLE_INIT, module = module_of("digest.wasm"), loop = loop_of("digest.wasm"), job = WASMLOOP_HANDLE_INIT;
+    wasmloop_about about;
+    refuse(&none, WASMLOOP_EMPTY);
+    refuse(&module, WASMLOOP_KIND);
+    refuse(NULL, WASMLOOP_NULL);
+    run_to(&loop, WASMLOOP_RUN_MAIN);
+    IS(wasmloop_next_job(&loop, NULL), WASMLOOP_NULL);
+    IS(wasmloop_next_job(&loop, &loop), WASMLOOP_KIND);
+    IS(wasmloop_next_job(&loop, &module), WASMLOOP_KIND);
+    IS(wasmloop_next_job(&loop, &job), WASMLOOP_OK);
+    IS(wasmloop_next_job(&loop, &job), WASMLOOP_KIND);
+    refuse(&job, WASMLOOP_KIND);
+    IS(wasmloop_loop(&job, &usual, &none), WASMLOOP_KIND);
+    IS(wasmloop_step(&loop, NULL), WASMLOOP_NULL);
+    IS(wasmloop_clock(&loop, 0, NULL), WASMLOOP_NULL);
+    IS(wasmloop_hint(&loop, NULL), WASMLOOP_NULL);
+    IS(wasmloop_cancel(&loop, 1, NULL), WASMLOOP_NULL);
+    IS(wasmloop_standing_of(&loop, NULL), WASMLOOP_NULL);
+    IS(wasmloop_emits(&loop, NULL, 1, NULL), WASMLOOP_NULL);
+    /* jobs: of another kind, not run, run twice */
+    IS(wasmloop_job_run(NULL), WASMLOOP_NULL);
+    IS(wasmloop_job_run(&none), WASMLOOP_EMPTY);
+    IS(wasmloop_job_run(&loop), WASMLOOP_KIND);
+    IS(wasmloop_job_run(&module), WASMLOOP_KIND);
+    IS(wasmloop_job_about(NULL, &about), WASMLOOP_NULL);
+    IS(wasmloop_job_about(&job, NULL), WASMLOOP_NULL);
+    IS(wasmloop_job_about(&none, &about), WASMLOOP_EMPTY);
+    IS(wasmloop_job_about(&loop, &about), WASMLOOP_KIND);
+    IS(wasmloop_job_about(&job, &about), WASMLOOP_OK);
+    IS(about.request, 1);
+    IS(about.outcome, WASMLOOP_NOT_RUN);
+    IS(wasmloop_accept(&loop, &job), WASMLOOP_KIND);
+    IS(wasmloop_accept(&loop, &loop), WASMLOOP_KIND);
+    IS(wasmloop_accept(NULL, &job), WASMLOOP_NULL);
+    IS(wasmloop_accept(&loop, NULL), WASMLOOP_NULL);
+    IS(wasmloop_accept(&none, &job), WASMLOOP_EMPTY);
+    IS(wasmloop_accept(&loop, &none), WASMLOOP_EMPTY);
+    IS(wasmloop_accept(&module, &job), WASMLOOP_KIND);
+    IS(wasmloop_accept(&loop, &module), WASMLOOP_KIND);
+    IS(wasmloop_job_run(&job), WASMLOOP_OK);
+    IS(wasmloop_job_run(&job), WASMLOOP_KIND);
+    IS(wasmloop_job_about(&job, &about), WASMLOOP_OK);
+    IS(about.outcome, WASMLOOP_WORK_DONE);
+    /* another loop's reply */
+    wasmloop_handle other = loop_of("countdown.wasm");
+    IS(wasmloop_accept(&other, &job), WASMLOOP_STRANGER);
+    IS(wasmloop_drop(&other), WASMLOOP_OK);
+    IS(wasmloop_accept(&other, &job), WASMLOOP_EMPTY);
+    IS(wasmloop_accept(&loop, &job), WASMLOOP_OK);
+    IS(job.mark, 0);
+    IS(wasmloop_accept(&loop, &job), WASMLOOP_EMPTY);
+    IS(wasmloop_job_run(&job), WASMLOOP_EMPTY);
+    /* a cancelled request's reply is a stranger */
+    int32_t answer;
+    IS(wasmloop_next_job(&loop, &job), WASMLOOP_OK);
+    IS(wasmloop_job_about(&job, &about), WASMLOOP_OK);
+    IS(wasmloop_cancel(&loop, about.request, &answer), WASMLOOP_OK);
+    IS(answer, 0);
+    IS(wasmloop_cancel(&loop, about.request, &answer), WASMLOOP_OK);
+    IS(answer, -22);
+    IS(wasmloop_cancel(&loop, 0, &answer), WASMLOOP_OK);
+    IS(answer, -22);
+    IS(wasmloop_cancel(&loop, UINT32_MAX, &answer), WASMLOOP_OK);
+    IS(answer, -22);
+    IS(wasmloop_job_run(&job), WASMLOOP_OK);
+    IS(wasmloop_accept(&loop, &job), WASMLOOP_STRANGER);
+    /* a job outlives its loop and its module */
+    wasmloop_handle last = WASMLOOP_HANDLE_INIT;
+    IS(wasmloop_next_job(&loop, &last), WASMLOOP_OK);
+    IS(wasmloop_drop(&loop), WASMLOOP_OK);
+    IS(wasmloop_drop(&module), WASMLOOP_OK);
+    refuse(&loop, WASMLOOP_EMPTY);
+    IS(wasmloop_job_run(&last), WASMLOOP_OK);
+    IS(wasmloop_drop(&last), WASMLOOP_OK);
+    IS(wasmloop_drop(&job), WASMLOOP_OK);
+    IS(wasmloop_drop(&job), WASMLOOP_EMPTY);
+}
+
+static void emits_and_clocks(void) {
+    wasmloop_handle loop = loop_of("chatter.wasm");
+    wasmloop_did did = run_to(&loop, WASMLOOP_RUN_MAIN);
+    uint32_t count = 0;
+    uint64_t moment;
+    IS(wasmloop_emits(&loop, NULL, 0, &count), WASMLOOP_OK);
+    IS(count, did.emits);
+    int64_t *one = malloc(sizeof *one); /* no more is written than there is room for */
+    IS(wasmloop_emits(&loop, one, 1, &count), WASMLOOP_OK);
+    IS(count, did.emits);
+    free(one);
+    int64_t all[70];
+    memset(all, 0x55, sizeof all);
+    IS(wasmloop_emits(&loop, all, 70, &count), WASMLOOP_OK);
+    IS(all[count], 0x5555555555555555);
+    IS(wasmloop_emits(&loop, all, SIZE_MAX, &count), WASMLOOP_RANGE);
+    IS(wasmloop_clock(&loop, 40, &moment), WASMLOOP_OK);
+    IS(moment, 40);
+    IS(wasmloop_clock(&loop, 39, &moment), WASMLOOP_OK);
+    IS(moment, 40);
+    IS(wasmloop_clock(&loop, UINT64_MAX, &moment), WASMLOOP_OK);
+    IS(moment, UINT64_MAX);
+    IS(wasmloop_hint(&loop, &moment), WASMLOOP_OK);
+    IS(wasmloop_async_send(&loop, 15), WASMLOOP_OK);
+    IS(wasmloop_async_send(&loop, 16), WASMLOOP_RANGE);
+    IS(wasmloop_async_send(&loop, UINT32_MAX), WASMLOOP_RANGE);
+    /* a handle may be moved */
+    wasmloop_handle *moved = malloc(sizeof *moved);
+    *moved = loop;
+    memset(&loop, 0, sizeof loop);
+    IS(wasmloop_step(moved, &did), WASMLOOP_OK);
+    IS(wasmloop_drop(moved), WASMLOOP_OK);
+    free(moved);
+}
+
+/* jobs of one loop in threads of their own, beside the loop */
+static void *in_thread(void *job) {
+    return (void *)(intptr_t)wasmloop_job_run(job);
+}
+
+static void threads(void) {
+    wasmloop_handle loop = loop_of("digest.wasm"), jobs[32];
+    pthread_t ids[32];
+    unsigned count = 0, taken = 0;
+    memset(jobs, 0, sizeof jobs);
+    run_to(&loop, WASMLOOP_RUN_MAIN);
+    while (count < 32 && wasmloop_next_job(&loop, &jobs[count]) == WASMLOOP_OK) {
+        IS(pthread_create(&ids[count], NULL, in_thread, &jobs[count]), 0);
+        count++;
+    }
+    IS(count > 1, 1);
+    for (unsigned i = 0; i < count; i++) {
+        void *told;
+        IS(pthread_join(ids[i], &told), 0);
+        IS((intptr_t)told, WASMLOOP_OK);
+        int answer = wasmloop_accept(&loop, &jobs[i]);
+        IS(answer == WASMLOOP_OK || answer == WASMLOOP_STRANGER, 1);
+        taken += answer == WASMLOOP_OK;
+        wasmloop_drop(&jobs[i]);
+    }
+    IS(taken > 0, 1);
+    IS(run_to(&loop, WASMLOOP_RUN_AFTER).what, WASMLOOP_RAN);
+    IS(wasmloop_drop(&loop), WASMLOOP_OK);
+}
+
+/* work with no loop, its bytes, and modules that are shared */
+static void works(void) {
+    wasmloop_handle module = module_of("crc32.wasm"), none = WASMLOOP_HANDLE_INIT, job = WASMLOOP_HANDLE_INIT, other = WASMLOOP_HANDLE_INIT;
+    wasmloop_task task = { 1000000, 0, 64 };
+    wasmloop_about about;
+    wasmloop_shape shape;
+    wasmloop_site sites[20];
+    uint64_t count = 7;
+    static uint8_t word[65537], room[65537];
+    for (size_t i = 0; i < sizeof word; i++) word[i] = (uint8_t)(i * 31);
+    IS(wasmloop_work(NULL, &task, word, 1, &job), WASMLOOP_NULL);
+    IS(wasmloop_work(&module, NULL, word, 1, &job), WASMLOOP_NULL);
+    IS(wasmloop_work(&module, &task, NULL, 1, &job), WASMLOOP_NULL);
+    IS(wasmloop_work(&module, &task, word, 1, NULL), WASMLOOP_NULL);
+    IS(wasmloop_work(&module, &task, word, 1, &module), WASMLOOP_KIND);
+    IS(wasmloop_work(&none, &task, word, 1, &job), WASMLOOP_EMPTY);
+    IS(wasmloop_work(&module, &task, word, 65537, &job), WASMLOOP_RANGE);
+    IS(wasmloop_work(&module, &task, word, SIZE_MAX, &job), WASMLOOP_RANGE);
+    task.depth = 0;
+    IS(wasmloop_work(&module, &task, word, 1, &job), WASMLOOP_RANGE);
+    task.depth = 129;
+    IS(wasmloop_work(&module, &task, word, 1, &job), WASMLOOP_RANGE);
+    task.depth = 128;
+    IS(job.mark, 0);
+    IS(wasmloop_job_new(&module, &task, word, 65536, &job), WASMLOOP_OK);
+    IS(wasmloop_job_new(&module, &task, word, 1, &job), WASMLOOP_KIND);
+    IS(wasmloop_job_new(&job, &task, word, 1, &none), WASMLOOP_KIND);
+    IS(wasmloop_job_input(&job, room, sizeof room, &count), WASMLOOP_OK);
+    IS(count == 65536 && memcmp(room, word, 65536) == 0 && room[65536] == 0, 1);
+    IS(wasmloop_job_input(&job, NULL, 0, &count), WASMLOOP_OK);
+    IS(wasmloop_job_input(&job, NULL, 1, &count), WASMLOOP_NULL);
+    IS(wasmloop_job_input(&job, room, SIZE_MAX, &count), WASMLOOP_RANGE);
+    IS(wasmloop_job_reply(&job, room, 4, &count), WASMLOOP_NONE);
+    IS(wasmloop_job_reply(&module, room, 4, &count), WASMLOOP_KIND);
+    IS(wasmloop_job_reply(&none, room, 4, &count), WASMLOOP_EMPTY);
+    IS(wasmloop_job_reply(NULL, room, 4, &count), WASMLOOP_NULL);
+    IS(wasmloop_job_about(&job, &about), WASMLOOP_OK);
+    IS(about.request, 0);
+    IS(about.used, 0);
+    count = 7;
+    IS(wasmloop_stop(&job, sites, 20, &count), WASMLOOP_NONE);
+    IS(wasmloop_stop(&module, sites, 20, &count), WASMLOOP_KIND);
+    IS(count, 7);
+    IS(wasmloop_drop(&job), WASMLOOP_OK);
+    /* its CRC-32, as IEEE 802.3 has it */
+    IS(wasmloop_work(&module, &task, (const uint8_t *)"123456789", 9, &job), WASMLOOP_OK);
+    IS(wasmloop_job_about(&job, &about), WASMLOOP_OK);
+    IS(about.outcome, WASMLOOP_WORK_DONE);
+    IS(about.value, 0xcbf43926);
+    IS(about.used > 9 && about.used < task.fuel, 1);
+    IS(wasmloop_stop(&job, sites, 20, &count), WASMLOOP_NONE);
+    IS(wasmloop_drop(&job), WASMLOOP_OK);
+    task.fuel = 3;
+    IS(wasmloop_work(&module, &task, word, 100, &job), WASMLOOP_OK);
+    IS(wasmloop_job_about(&job, &about), WASMLOOP_OK);
+    IS(about.outcome, WASMLOOP_WORK_SPENT);
+    IS(about.used, 3);
+    memset(sites, 0x55, sizeof sites);
+    IS(wasmloop_stop(&job, sites, 20, &count), WASMLOOP_OK);
+    IS(count, 1);
+    IS(sites[0].operation > 0 && sites[0].operation < 9 && sites[1].operation == 0x5555555555555555, 1);
+    IS(wasmloop_stop(&job, NULL, 0, &count), WASMLOOP_OK);
+    IS(count, 1);
+    count = 7;
+    IS(wasmloop_job_reply(&job, room, 4, &count), WASMLOOP_NONE);
+    IS(count, 7);
+    IS(wasmloop_drop(&job), WASMLOOP_OK);
+    /* a second handle of the module outlives the first */
+    IS(wasmloop_share(&module, NULL), WASMLOOP_NULL);
+    IS(wasmloop_share(&module, &module), WASMLOOP_KIND);
+    IS(wasmloop_share(&none, &other), WASMLOOP_EMPTY);
+    IS(wasmloop_share(&module, &other), WASMLOOP_OK);
+    IS(wasmloop_share(&module, &other), WASMLOOP_KIND);
+    IS(wasmloop_drop(&module), WASMLOOP_OK);
+    IS(wasmloop_shape_of(&other, &shape), WASMLOOP_OK);
+    IS(shape.work, 1);
+    IS(shape.main, 0);
+    IS(wasmloop_shape_of(&module, &shape), WASMLOOP_EMPTY);
+    IS(wasmloop_shape_of(&other, NULL), WASMLOOP_NULL);
+    task.fuel = 1000000;
+    IS(wasmloop_work(&other, &task, word, 1, &job), WASMLOOP_OK);
+    IS(wasmloop_share(&job, &module), WASMLOOP_KIND);
+    IS(wasmloop_shape_of(&job, &shape), WASMLOOP_KIND);
+    IS(wasmloop_drop(&job), WASMLOOP_OK);
+    IS(wasmloop_drop(&other), WASMLOOP_OK);
+    /* the bytes of a reply, as far as there is room */
+    module = module_of("sha256.wasm");
+    IS(wasmloop_work(&module, &task, (const uint8_t *)"abc", 3, &job), WASMLOOP_OK);
+    memset(room, 0x55, sizeof room);
+    IS(wasmloop_job_reply(&job, room, 2, &count), WASMLOOP_OK);
+    IS(count, 32);
+    IS(room[0] == 0xba && room[1] == 0x78 && room[2] == 0x55, 1);
+    IS(wasmloop_job_reply(&job, room, sizeof room, &count), WASMLOOP_OK);
+    IS(room[31] == 0xad && room[32] == 0x55, 1);
+    IS(wasmloop_drop(&job), WASMLOOP_OK);
+    IS(wasmloop_drop(&module), WASMLOOP_OK);
+    module = module_of("countdown.wasm");
+    IS(wasmloop_work(&module, &task, word, 1, &job), WASMLOOP_NO_WORK);
+    IS(wasmloop_shape_of(&module, &shape), WASMLOOP_OK);
+    IS(shape.main == 1 && shape.work == 0 && shape.table == 1, 1);
+    IS(wasmloop_drop(&module), WASMLOOP_OK);
+}
+
+/* sentences on modules of each shape */
+static void warns(void) {
+    wasmloop_shape shape;
+    IS(wasmloop_warning(NULL, 0) == NULL, 1);
+    for (uint32_t bits = 0; bits < 32; bits++) {
+        shape = (wasmloop_shape){ .main = bits & 1, .work = bits >> 1 & 1, .after_work = bits >> 2 & 1, .table = bits >> 3 & 1, .imports = bits >> 4 };
+        const char *first = wasmloop_warning(&shape, 0);
+        IS(first && strstr(first, "no table"), (bits & 25) == 17);
+        IS(first && strstr(first, "none of uv_main"), (bits & 7) == 0);
+        IS(first != NULL, (bits & 25) == 17 || (bits & 7) == 0);
+        IS(wasmloop_warning(&shape, 1) == NULL && wasmloop_warning(&shape, UINT32_MAX) == NULL, 1);
+    }
+}
+
+/* a job's start is told to its loop; where a failed loop stopped; sentences and names */
+static void tells(void) {
+    wasmloop_handle loop = loop_of("digest.wasm"), job = WASMLOOP_HANDLE_INIT, none = WASMLOOP_HANDLE_INIT;
+    wasmloop_about about;
+    wasmloop_site sites[4];
+    uint64_t count = 7;
+    int32_t answer;
+    char text[200];
+    run_to(&loop, WASMLOOP_RUN_MAIN);
+    IS(wasmloop_stop(&loop, sites, 4, &count), WASMLOOP_NONE);
+    IS(wasmloop_next_job(&loop, &job), WASMLOOP_OK);
+    IS(wasmloop_job_start(&loop, NULL), WASMLOOP_NULL);
+    IS(wasmloop_job_start(&loop, &loop), WASMLOOP_KIND);
+    IS(wasmloop_job_start(&loop, &none), WASMLOOP_EMPTY);
+    IS(wasmloop_job_start(&none, &job), WASMLOOP_EMPTY);
+    IS(wasmloop_job_start(&loop, &job), WASMLOOP_OK);
+    IS(wasmloop_job_start(&loop, &job), WASMLOOP_STRANGER);
+    IS(wasmloop_job_about(&job, &about), WASMLOOP_OK);
+    IS(wasmloop_cancel(&loop, about.request, &answer), WASMLOOP_OK);
+    IS(answer, -16);
+    IS(wasmloop_job_run(&job), WASMLOOP_OK);
+    IS(wasmloop_job_start(&loop, &job), WASMLOOP_KIND);
+    IS(wasmloop_accept(&loop, &job), WASMLOOP_OK);
+    IS(wasmloop_next_job(&loop, &job), WASMLOOP_OK);
+    IS(wasmloop_job_about(&job, &about), WASMLOOP_OK);
+    IS(wasmloop_cancel(&loop, about.request, &answer), WASMLOOP_OK);
+    IS(answer, 0);
+    IS(wasmloop_job_start(&loop, &job), WASMLOOP_STRANGER);
+    IS(wasmloop_drop(&job), WASMLOOP_OK);
+    IS(wasmloop_drop(&loop), WASMLOOP_OK);
+    loop = loop_of("endless.wasm");
+    run_to(&loop, 99);
+    IS(wasmloop_stop(&loop, sites, 4, &count), WASMLOOP_OK);
+    IS(count >= 1, 1);
+    IS(wasmloop_stop(&loop, NULL, 4, &count), WASMLOOP_NULL);
+    IS(wasmloop_stop(&loop, sites, SIZE_MAX, &count), WASMLOOP_RANGE);
+    IS(wasmloop_drop(&loop), WASMLOOP_OK);
+    IS(wasmloop_stop(&loop, sites, 4, &count), WASMLOOP_EMPTY);
+    IS(wasmloop_explain((const uint8_t *)"asm", 3, text, sizeof text, &count), WASMLOOP_OK);
+    IS(count > 10 && count < sizeof text && memcmp(text, "byte ", 5) == 0, 1);
+    memset(text, 'x', sizeof text);
+    IS(wasmloop_explain((const uint8_t *)"asm", 3, text, 2, &count), WASMLOOP_OK);
+    IS(text[1] == 'y' && text[2] == 'x', 1);
+    IS(wasmloop_explain(bytes, read_file("endless.wasm"), text, sizeof text, &count), WASMLOOP_NONE);
+    IS(wasmloop_explain(NULL, 1, text, 2, &count), WASMLOOP_NULL);
+    IS(wasmloop_explain(bytes, 1, text, SIZE_MAX, &count), WASMLOOP_RANGE);
+    IS(strcmp(wasmloop_status_name(WASMLOOP_NO_WORK), "NO_WORK"), 0);
+    IS(wasmloop_status_name(11) == NULL && wasmloop_status_name(-1) == NULL, 1);
+    IS(strcmp(wasmloop_trap_name(7), "a function of another type"), 0);
+    IS(wasmloop_trap_name(8) == NULL && wasmloop_trap_name(0) == NULL, 1);
+    IS(strcmp(wasmloop_fault_name(1, 12), "Limit"), 0);
+    IS(strcmp(wasmloop_fault_name(2, 11), "Nesting"), 0);
+    IS(strcmp(wasmloop_fault_name(3, 5), "Segments"), 0);
+    IS(wasmloop_fault_name(3, 6) == NULL && wasmloop_fault_name(4, 1) == NULL, 1);
+    IS(strcmp(wasmloop_outcome_name(WASMLOOP_WORK_MEMORY), "nomemory"), 0);
+    IS(strcmp(wasmloop_ending_name(WASMLOOP_SPENT), "spent"), 0);
+}
+
+int main(int argc, char **argv) {
+    folder = argc > 1 ? argv[1] : "examples";
+    loads();
+    loops();
+    wrong_handles();
+    emits_and_clocks();
+    threads();
+    works();
+    tells();
+    warns();
+    if (failed) printf("%u of %u checks fail\n", failed, checks);
+    else printf("all %u checks hold\n", checks);
+    return failed != 0;
+}

@@ -1,0 +1,104 @@
+"""The library against the program: random modules, work requests, and right and wrong calls of wasmloop.py.
+
+usage: calls_test.py EXAMPLES PROGRAM [COUNT]
+"""
+
+import random
+import subprocess
+import sys
+import tempfile
+from concurrent.futures import ThreadPoolExecutor
+from pathlib import Path
+
+import wasmloop
+
+EXAMPLES, PROGRAM = Path(sys.argv[1]), sys.argv[2]
+COUNT = int(sys.argv[3]) if len(sys.argv) > 3 else 300
+
+
+def same(got, wanted):
+    if got != wanted:
+        sys.exit(f"{got!r} is not {wanted!r}")
+
+
+def refused(make, status):
+    try:
+        make()
+    except wasmloop.Error as error:
+        same(error.status, status)
+        return error
+    sys.exit(f"nothing was refused with {status}")
+
+
+def fault_line(fault):
+    stage = ["", "decode", "validate", "link"][fault.stage]
+    return f"{stage} {fault.code} {wasmloop._lib.wasmloop_fault_name(fault.stage, fault.code).decode()}\n"
+
+
+def by_library(data, op, word):
+    """What `wasmloop work` prints, by the library."""
+    try:
+        module = wasmloop.Module(data)
+        reply = module.work(op, word)
+    except wasmloop.Refused as error:
+        return fault_line(error.fault), f"{error}\n"
+    except wasmloop.Error as error:
+        same(error.status, wasmloop.NO_WORK)
+        return "no function uv_work\n", ""
+    if reply.outcome == "done":
+        return f"done {reply.value} bytes {len(reply.data)}{' ' if reply.data else ''}{reply.data.hex()}\n", ""
+    return (f"trap {reply.value}\n" if reply.outcome == "trap" else f"{reply.outcome}\n"), ""
+
+
+def by_program(file, data, op, word):
+    file.write_bytes(data)
+    ran = subprocess.run([PROGRAM, "work", file, str(op), word.hex()], capture_output=True, check=False)
+    if ran.returncode == 2:
+        # (behind it stands what there is)
+        return ran.stderr.decode().splitlines(keepends=True)[0], ""
+    return ran.stdout.decode(), ran.stderr.decode() if ran.returncode == 3 else ""
+
+
+def changed(data, rng):
+    data = bytearray(data)
+    for _ in range(rng.choice([0, 1, 1, 2, 4])):
+        data[rng.randrange(len(data))] = rng.randrange(256)
+    return bytes(data)
+
+
+def compare(count):
+    rng, answers = random.Random(1), {}
+    modules = [it.read_bytes() for it in sorted(EXAMPLES.glob("*.wasm"))]
+    asked = [(changed(rng.choice(modules), rng), rng.randrange(4), rng.randbytes(rng.choice([0, 3, 64]))) for _ in range(count)]
+    with tempfile.TemporaryDirectory() as folder, ThreadPoolExecutor(2) as pool:
+        told = pool.map(lambda it: by_program(Path(folder, str(it[0])), *it[1]), enumerate(asked))
+        for it, wanted in zip(asked, told):
+            got = by_library(*it)
+            same(got, wanted)
+            answers[wanted[0].split()[0]] = answers.get(wanted[0].split()[0], 0) + 1
+    return answers
+
+
+def calls():
+    same(wasmloop.version(), subprocess.run([PROGRAM, "--version"], capture_output=True, text=True, check=True).stdout.split()[1])
+    data = (EXAMPLES / "crc32.wasm").read_bytes()
+    refused(lambda: wasmloop.Module(b"no module"), wasmloop.REFUSED)
+    module = wasmloop.Module(data)
+    same((module.shape().work, module.shape().after_work), (1, 0))
+    same(module.warnings, [])
+    (warning,) = wasmloop.Module(b"\0asm\1\0\0\0").warnings
+    same(warning.startswith("it exports none of uv_main"), True)
+    refused(lambda: module.work(0, bytes(65_537)), wasmloop.RANGE)
+    refused(lambda: module.work(0, b"", depth=129), wasmloop.RANGE)
+    same(module.job(0, b"abc").input(), b"abc")
+    job = module.job(0, b"abc", fuel=3).run()
+    same((job.reply().outcome, job.reply().used, len(job.stop())), ("spent", 3, 1))
+    job = module.job(0, b"abc").run()
+    same((job.reply().outcome, job.reply().used > 3, job.stop()), ("done", True, []))
+    refused(lambda: module.job(0).about() and module.job(0)._bytes("job_reply", 0), wasmloop.NONE)
+    module.close()
+    refused(lambda: module.work(0), wasmloop.EMPTY)
+
+
+calls()
+print(f"{COUNT} random modules answer as the program: {compare(COUNT)}")

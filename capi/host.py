@@ -1,0 +1,89 @@
+"""A host of wasmloop guests: some loops of one module take turns in this thread, and jobs run in a pool of threads.
+
+usage: host.py FILE LOOPS [WORKERS]
+
+The clock jumps to the next timer, and the lines are those of `wasmloop serve`.
+"""
+
+import sys
+from concurrent.futures import ThreadPoolExecutor
+
+from wasmloop import ENTERED, FAILED, FOREVER, OVER, RAN, TIMERS, Loop, Module, Refused
+
+MOST = 100_000
+
+
+class Guest:
+    """A loop, with what it has put out and the jobs that are under way."""
+
+    def __init__(self, module, number):
+        self.loop, self.number = Loop(module, number), number
+        self.emits, self.ran, self.jobs, self.ending = [], 0, [], None
+
+    def hand_out(self, pool):
+        while job := self.loop.next_job():
+            if self.loop.start(job):
+                self.jobs.append((job, pool.submit(job.run)))
+
+    def accept(self):
+        """Waits for the reply of the oldest job, and brings it back."""
+        job, running = self.jobs.pop(0)
+        running.result()
+        self.loop.accept(job)
+
+    def step(self):
+        did = self.loop.step()
+        if did.what == RAN:
+            self.ran += 1
+            self.emits += self.loop.emits()
+            if did.ending:
+                self.ending = "failed"
+        elif did.what in (OVER, FAILED):
+            self.ending = {OVER: "over", FAILED: "failed"}[did.what]
+        if not self.ending and self.ran == MOST:
+            self.ending = "limit"
+        return did
+
+    def turn(self, pool):
+        """One turn, up to the next timers phase or the loop's end."""
+        self.hand_out(pool)
+        before = self.ran
+        while True:
+            did = self.step()
+            if self.ending:
+                return
+            if did.what == ENTERED and did.phase == TIMERS:
+                break
+        self.hand_out(pool)
+        wait = self.loop.hint()
+        if self.ran > before or wait == 0:
+            return
+        if self.jobs:
+            self.accept()
+        elif wait != FOREVER:
+            self.loop.clock(self.loop.clock(0) + wait)
+        else:
+            self.ending = "waiting"
+
+
+def main(file, loops, workers=3):
+    with open(file, "rb") as it:
+        data = it.read()
+    try:
+        module = Module(data)
+    except Refused as refused:
+        print(f"host.py: {refused}", file=sys.stderr)
+        return 3
+    guests = [Guest(module, it) for it in range(loops)]
+    with ThreadPoolExecutor(workers) as pool:
+        while any(it.ending is None for it in guests):
+            for it in guests:
+                if it.ending is None:
+                    it.turn(pool)
+    for it in guests:
+        print(f"loop {it.number} {it.ending} emits" + "".join(f" {v}" for v in it.emits))
+    return 4 if any(it.ending == "failed" for it in guests) else 0
+
+
+if __name__ == "__main__":
+    sys.exit(main(sys.argv[1], *map(int, sys.argv[2:])))

@@ -1,0 +1,67 @@
+"""A loop of a module on asyncio.
+
+usage: host_asyncio.py FILE [--virtual]
+
+Its clock is the time that has passed; with --virtual it jumps to the next timer, as that of `wasmloop serve` does.
+"""
+
+import asyncio
+import sys
+import time
+
+from wasmloop import ENTERED, FAILED, FOREVER, OVER, RAN, TIMERS, Loop, Module
+
+MOST = 100_000
+
+
+def turn(loop, emits, most):
+    """Steps up to the next timers phase: how many callbacks ran, at most `most`, and how the loop ended, if it did."""
+    ran = 0
+    while ran < most:
+        did = loop.step()
+        if did.what == RAN:
+            ran += 1
+            emits.extend(loop.emits())
+        if did.what in (OVER, FAILED) or did.ending:
+            return ran, "over" if did.what == OVER else "failed"
+        if did.what == ENTERED and did.phase == TIMERS:
+            return ran, None
+    return ran, "limit"
+
+
+async def serve(loop, emits, jumps):
+    began, jobs, seen = time.monotonic(), set(), 0
+    while True:
+        now = loop.clock(0 if jumps else int((time.monotonic() - began) * 1000))
+        ran, ending = turn(loop, emits, MOST - seen)
+        seen += ran
+        if ending:
+            return ending
+        while job := loop.next_job():
+            if loop.start(job):
+                jobs.add(asyncio.create_task(asyncio.to_thread(job.run)))
+        wait = 0 if ran else loop.hint()
+        if wait == FOREVER and not jobs:
+            return "waiting"
+        if jumps and not jobs:
+            loop.clock(now + wait)
+            wait = 0
+        rest = asyncio.create_task(asyncio.sleep(min(wait, 2**30) / 1000))
+        done, _ = await asyncio.wait({rest, *jobs}, return_when=asyncio.FIRST_COMPLETED)
+        rest.cancel()
+        for task in done - {rest}:
+            jobs.remove(task)
+            loop.accept(task.result())
+
+
+def main(file, *flags):
+    emits = []
+    with open(file, "rb") as it:
+        module = Module(it.read())
+    ending = asyncio.run(serve(Loop(module), emits, "--virtual" in flags))
+    print(f"loop 0 {ending} emits" + "".join(f" {it}" for it in emits))
+    return 4 if ending == "failed" else 0
+
+
+if __name__ == "__main__":
+    sys.exit(main(*sys.argv[1:]))

@@ -1,0 +1,170 @@
+#!/bin/sh
+# Builds the library, its tests and its hosts, and runs them. A host is right where it prints what PROGRAM prints.
+#
+# usage: test.sh PROGRAM OUT       PROGRAM: the built wasmloop; OUT: a folder
+#
+# What needs a program or a package that isn't there is left out, and said. Ends with 1 where anything differs or fails.
+here=$(cd "$(dirname "$0")" && pwd) top=$(cd "$(dirname "$0")/.." && pwd)
+mkdir -p "$2" || exit 1
+program=$(readlink -f "$1") out=$(cd "$2" && pwd)
+examples=$top/examples
+failed=0
+# Debian's own python3, cargo and rustc come first
+case :$PATH: in *:/usr/bin:*) PATH=/usr/bin:$PATH; export PATH ;; esac
+
+say() { printf 'capi: %s\n' "$*"; }
+fail() { say "FAILED: $*"; failed=1; }
+left_out() { say "left out: $*"; }
+try() { "$@" > "$out/said" 2>&1 || { fail "$*"; cat "$out/said"; }; }
+
+# Whether a command ends with a report of a data race.
+reports() {
+    timeout 60 "$@" > "$out/said" 2>&1 && return 1
+    grep -q 'data race' "$out/said"
+}
+
+# What is compared of the lines of an example: all of them; but digest asks for four pieces of work, and threads decide which reply
+# comes first, so each line's replies are put in one order.
+exactly() {
+    case $1 in */digest.wasm) ;; *) cat; return ;; esac
+    while read -r line; do echo "$line" | sed 's/ \([1-4]\) \([05]\) /\n\1 \2 /g' | sort; done
+}
+
+# The same in real time, where a guest that emits the time is told another: how each loop ends, and how many values it puts out.
+counted() { awk '{ print $1, $2, $3, NF }'; }
+
+what() {
+    case $1 in
+    exactly) echo 'each line, and of digest each reply' ;;
+    counted) echo 'how each loop ends, and the number of its values' ;;
+    esac
+}
+
+# Whether a host agrees with serve: the words of serve, the host's command with $1 for the file, what is compared, and the file.
+agrees() {
+    # shellcheck disable=SC2086
+    "$program" serve "$4" $1 > "$out/wanted" 2> /dev/null
+    wanted=$?
+    sh -c "$2" host "$4" > "$out/got" 2> "$out/said"
+    [ $? = $wanted ] || return 1
+    "$3" "$4" < "$out/wanted" > "$out/wanted_lines"
+    "$3" "$4" < "$out/got" > "$out/got_lines"
+    [ -s "$out/got_lines" ] && cmp -s "$out/wanted_lines" "$out/got_lines"
+}
+
+# Runs a host on every example.
+compare() {
+    same=0 all=0
+    for example in "$examples"/*.wasm; do
+        all=$((all + 1))
+        if agrees "$2" "$3" "$4" "$example"; then same=$((same + 1)); continue; fi
+        fail "$1 on $(basename "$example")"
+        diff "$out/wanted" "$out/got"
+        cat "$out/said"
+    done
+    say "$1 agrees with serve on $same of $all examples: $(what "$4")"
+}
+
+# Whether a host prints this for a guest of this folder: how it is told, the guest's name, what is printed, the host's command.
+prints() {
+    if [ ! -f "$out/$2.wasm" ]; then left_out "$1 on $2.c: there is no clang with wasm-ld"; return; fi
+    [ "$(sh -c "$4" host "$out/$2.wasm" 2> "$out/said")" = "$3" ] || { fail "$1 on $2.c"; cat "$out/said"; }
+}
+
+# Two loops on two threads: no race is reported, and those that are built in are.
+races() {
+    for fault in SOUND WITHOUT_LOCK WITHOUT_WAIT; do
+        # shellcheck disable=SC2086
+        {
+            try cc $c -g -O1 -fsanitize=thread -D$fault -o "$out/threads_$fault" "$here/threads_test.c" "$out/libwasmloop.a" -lpthread
+            try cc $c -g -O1 -D$fault -o "$out/plain_$fault" "$here/threads_test.c" "$out/libwasmloop.a" -lpthread
+        }
+    done
+    "$out/threads_SOUND" "$examples/digest.wasm" 50 || fail "two loops on two threads, under ThreadSanitizer"
+    for fault in WITHOUT_LOCK WITHOUT_WAIT; do
+        reports env TSAN_OPTIONS=halt_on_error=1 "$out/threads_$fault" "$examples/digest.wasm" 200 || fail "ThreadSanitizer doesn't report $fault"
+    done
+    if ! command -v valgrind > /dev/null; then left_out "Helgrind: there is no valgrind"; return; fi
+    try valgrind -q --tool=helgrind --error-exitcode=66 "$out/plain_SOUND" "$examples/digest.wasm" 10
+    reports valgrind -q --tool=helgrind --error-exitcode=66 "$out/plain_WITHOUT_WAIT" "$examples/digest.wasm" 30 \
+        || fail "Helgrind doesn't report WITHOUT_WAIT"
+}
+
+[ -f "$top/crates/wasmloop_c/out/libwasmloop_c.a" ] || python3 "$top/build.py" wasmloop_c || exit 1
+if ! "$here/build.sh" "$out"; then say "the library can't be built"; exit 1; fi
+say "libwasmloop.a has $(stat -c %s "$out/libwasmloop.a") bytes, libwasmloop.so $(stat -c %s "$out/libwasmloop.so")"
+needs=$(nm -D --undefined-only "$out/libwasmloop.so" | awk '$1 == "U" { sub("@.*", "", $2); print $2 }' | sort | tr '\n' ' ')
+say "libwasmloop.so needs $needs"
+
+c="-std=c11 -D_GNU_SOURCE -Wall -Wextra -Werror -I$out"
+checked="-g -O1 -fsanitize=address,undefined -fno-sanitize-recover"
+# shellcheck disable=SC2086
+{
+    try cc $c $checked -o "$out/calls_test" "$here/calls_test.c" "$out/libwasmloop.a" -lpthread
+    try cc $c -g -O1 -fsanitize=thread -o "$out/calls_test_threads" "$here/calls_test.c" "$out/libwasmloop.a" -lpthread
+    try cc $c $checked -Wl,--wrap=malloc,--wrap=realloc -o "$out/refuse_memory" "$here/refuse_memory.c" "$out/libwasmloop.a"
+}
+"$out/calls_test" "$examples" || fail "the calls, under AddressSanitizer"
+"$out/calls_test_threads" "$examples" || fail "the calls, under ThreadSanitizer"
+races
+"$out/refuse_memory" "$examples/digest.wasm" "$examples/countdown.wasm" "$examples/chatter.wasm" || fail "refused memory"
+
+# the program with which docs/EMBEDDING.md begins
+awk '/^```c$/ { inside = 1; next } /^```$/ { if (inside) exit } inside' "$top/docs/EMBEDDING.md" > "$out/first.c"
+# shellcheck disable=SC2086
+try cc $c -o "$out/first" "$out/first.c" "$out/libwasmloop.a"
+[ "$("$out/first" "$examples/crc32.wasm" 2>&1)" = "$("$program" work "$examples/crc32.wasm" 0 616263 | sed 's/^done \([-0-9]*\) .*/\1/')" ] || fail "the first program of EMBEDDING.md"
+
+if command -v pkg-config > /dev/null; then
+    export PKG_CONFIG_PATH="$out"
+    # shellcheck disable=SC2046
+    try cc -o "$out/first_shared" "$out/first.c" $(pkg-config --cflags --libs wasmloop) "-Wl,-rpath,$out"
+    [ "$("$out/first_shared" "$examples/crc32.wasm")" = "$("$out/first" "$examples/crc32.wasm")" ] || fail "the shared library"
+else left_out "wasmloop.pc: there is no pkg-config"; fi
+
+if command -v c++ > /dev/null; then
+    printf '#include "wasmloop.h"\nint main() { return wasmloop_version() ? 0 : 1; }\n' > "$out/header.cc"
+    try c++ -Wall -Werror "-I$out" -o "$out/header" "$out/header.cc" "$out/libwasmloop.a"
+    try "$out/header"
+else left_out "the header in C++: there is no c++"; fi
+
+# Guests whose work is cancelled when it has been started, and which are sent to from another thread.
+cp "$here/cancels.c" "$here/waits.c" "$out"
+cancelled='loop 0 over emits -16 0 7'
+if command -v clang > /dev/null && command -v wasm-ld > /dev/null; then
+    try "$examples/build.sh" "$out/cancels" "$out/waits"
+else left_out "a cancel of work that runs: there is no clang with wasm-ld"; fi
+
+if [ -f /usr/include/uv.h ]; then
+    # shellcheck disable=SC2086
+    try cc $c $checked -o "$out/host_uv" "$here/host_uv.c" "$out/libwasmloop.a" -luv
+    compare host_uv '--loops 2 --workers 1' "VIRTUAL=1 '$out/host_uv' 2 < \"\$1\"" exactly
+    compare 'host_uv in real time' '--loops 2 --workers 1' "'$out/host_uv' 2 < \"\$1\"" counted
+    prints host_uv cancels "$cancelled" "'$out/host_uv' 1 < \"\$1\""
+    prints host_uv waits 'loop 0 over emits 1 121 0' "'$out/host_uv' 1 1 < \"\$1\""
+else left_out "the libuv host: libuv1-dev is not there"; fi
+
+if command -v python3 > /dev/null; then
+    export WASMLOOP_LIBRARY="$out/libwasmloop.so" PYTHONPATH="$here" PYTHONDONTWRITEBYTECODE=1
+    compare host.py '--loops 2 --workers 1' "python3 '$here/host.py' \"\$1\" 2" exactly
+    compare host_asyncio.py '--loops 1 --workers 1' "python3 '$here/host_asyncio.py' \"\$1\" --virtual" exactly
+    compare 'host_asyncio.py in real time' '--loops 1 --workers 1' "python3 '$here/host_asyncio.py' \"\$1\"" counted
+    prints host.py cancels "$cancelled" "python3 '$here/host.py' \"\$1\" 1"
+    prints host_asyncio.py cancels "$cancelled" "python3 '$here/host_asyncio.py' \"\$1\""
+    try python3 "$here/calls_test.py" "$examples" "$program"
+    tail -1 "$out/said"
+    if python3 -c 'import distributed' 2> /dev/null; then
+        seq 300000 > "$out/lines"
+        try timeout 200 python3 "$here/spread.py" "$examples/sha256.wasm" "$out/lines" --kill 4
+        tail -1 "$out/said"
+    else left_out "the blocks spread by Dask: python3-distributed is not there"; fi
+else left_out "the Python hosts: there is no python3"; fi
+
+if command -v cargo > /dev/null; then
+    try env WASMLOOP_FOLDER="$out" CARGO_TARGET_DIR="$out/rust" cargo build --quiet --offline --manifest-path "$here/rust/Cargo.toml"
+    compare host.rs '--loops 1 --workers 1' "'$out/rust/debug/host' \"\$1\"" exactly
+    prints host.rs cancels "$cancelled" "'$out/rust/debug/host' \"\$1\""
+else left_out "the Rust host: there is no cargo"; fi
+
+[ $failed = 0 ] && say "all is as it should be"
+exit $failed

@@ -1,0 +1,143 @@
+#!/usr/bin/env python3
+"""Runs the floating-point files of WebAssembly's official test suite through lower.py and then by the program.
+
+    suite.py PROGRAM SOFT.wasm FILE.json..
+
+Each FILE.json is what `wast2json` made of f32.wast, conversions.wast and the like, with its modules beside it. Each
+module is rewritten; an f32 or f64 among arguments and results is the number of its bits. A result has to be the
+suite's: bit for bit, and of a NaN the class that the suite names. Calls that the suite makes before on the same module
+are made again only where the module has a memory or a global that is written. The status is 1 where something differs
+or a module that the suite calls can't be run.
+"""
+import collections
+import json
+import pathlib
+import subprocess
+import sys
+import tempfile
+
+sys.path.insert(0, str(pathlib.Path(__file__).resolve().parent.parent))
+import lower  # noqa: E402
+
+BITS = {"i32": 32, "f32": 32, "i64": 64, "f64": 64}
+QUIET = {"f32": 0x7FC00000, "f64": 0x7FF8000000000000}
+FUEL = "100000000"
+
+
+def signed(text, bits):
+    number = int(text)
+    return number - (1 << bits) if number >> (bits - 1) else number
+
+
+def is_wanted(got, wanted):
+    """Whether a result, a signed number, is what the suite expects."""
+    kind, value = wanted["type"], wanted["value"]
+    bits = got & ((1 << BITS[kind]) - 1)
+    if value == "nan:canonical":
+        return bits & ((1 << BITS[kind] - 1) - 1) == QUIET[kind]
+    if value == "nan:arithmetic":
+        return bits & QUIET[kind] == QUIET[kind]
+    return got == signed(value, BITS[kind])
+
+
+class Runner:
+    def __init__(self, program, soft, folder):
+        self.program, self.soft, self.folder = program, soft, folder
+        self.counts, self.wrong, self.module, self.why, self.before = collections.Counter(), [], None, "no module", []
+
+    def load(self, path):
+        data, self.before = path.read_bytes(), []
+        try:
+            lowered, _ = lower.lower(data, self.soft)
+        except lower.Refused as why:
+            self.why = str(why)
+            return "module refused by lower.py"
+        self.module, self.why = self.folder / "module.wasm", None
+        self.module.write_bytes(lowered)
+        told = self.tell("check", self.module)
+        if told != "accepted":
+            self.why = told
+            return "module refused by the program"
+        self.writes = any(op in range(0x36, 0x3F) or op in (0x24, 0x40) for _, body in lower.Module(data).bodies
+                          for op, _, _ in lower.operations(body))
+        return "module rewritten and accepted"
+
+    def tell(self, *words):
+        done = subprocess.run([self.program, *map(str, words)], stdout=subprocess.PIPE, stderr=subprocess.PIPE)
+        return (done.stdout or done.stderr).decode().split("\n")[0]
+
+    def act(self, command):
+        action = command["action"]
+        if self.why or action["type"] != "invoke" or "module" in action:
+            return f"not run: {self.why or 'a read of a global or a named module'}"
+        if self.writes and self.before:
+            self.call_in_a_row(action)
+            words = ["row"]
+        else:
+            words = [action["field"]] + [a["value"] for a in action["args"]]
+        target = self.folder / "row.wasm" if words == ["row"] else self.module
+        told = self.tell("invoke", "--fuel", FUEL, "--depth", 128, "--", target, *words)
+        if self.writes and command["type"] in ("assert_return", "action"):
+            self.before.append(action)
+        return self.judge(command, told)
+
+    def call_in_a_row(self, action):
+        """A module whose "row" makes the earlier calls and then this one: an instance lives as long as one call."""
+        module = lower.Module(self.module.read_bytes())
+        exports = {n.decode(): i for n, kind, i in module.exports if kind == 0}
+        code = b""
+        for call in (*self.before, action):
+            index = exports[call["field"]]
+            results = module.types[module.functions[index]][1]
+            code += b"".join(lower.constant(lower.I32 if BITS[a["type"]] == 32 else lower.I64,
+                                            signed(a["value"], BITS[a["type"]])) for a in call["args"])
+            code += b"\x10" + lower.u(index) + (b"\x1a" * len(results) if call is not action else b"")
+        again = lower.Lowering(module, None)
+        kind = again.type_number((b"", results))
+        module.exports.append((b"row", 0, len(module.functions)))
+        module.functions.append(kind)
+        again.number[len(module.functions) - 1] = len(module.functions) - 1
+        again.function_types.append(kind)
+        module.bodies.append(([], code + b"\x0b"))
+        (self.folder / "row.wasm").write_bytes(again.module())
+
+    def judge(self, command, told):
+        kind = command["type"]
+        if kind == "action":
+            right = told.startswith("return")
+        elif kind == "assert_trap":
+            right = told.startswith("trap")
+        else:
+            got = [int(w) for w in told.split(" used ")[0].split()[1:]] if told.startswith("return") else None
+            wanted = command["expected"]
+            right = got is not None and len(got) == len(wanted) and all(map(is_wanted, got, wanted))
+        if right:
+            return "agrees"
+        action = command["action"]
+        self.wrong.append(f"line {command['line']}: {action['field']} {[a['value'] for a in action['args']]}: {told}; "
+                          f"expected {command.get('expected') or command.get('text')}")
+        return "differs"
+
+    def file(self, path):
+        counts = collections.Counter()
+        for command in json.loads(path.read_text())["commands"]:
+            if command["type"] == "module":
+                counts[self.load(path.parent / command["filename"])] += 1
+            elif command["type"] in ("assert_return", "assert_trap", "action"):
+                counts[self.act(command)] += 1
+        print(f"{path.stem}: " + ", ".join(f"{n} {what}" for what, n in sorted(counts.items())), flush=True)
+        self.counts.update(counts)
+
+
+def main(program, soft, *files):
+    with tempfile.TemporaryDirectory() as folder:
+        runner = Runner(program, pathlib.Path(soft).read_bytes(), pathlib.Path(folder))
+        for path in files:
+            runner.file(pathlib.Path(path))
+    print("\n".join(runner.wrong))
+    print(", ".join(f"{n} {what}" for what, n in sorted(runner.counts.items())))
+    return 1 if runner.wrong or runner.counts["agrees"] == 0 else 0
+
+
+if __name__ == "__main__":
+    sys.exit(main(*sys.argv[1:]))

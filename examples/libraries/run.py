@@ -1,0 +1,242 @@
+#!/usr/bin/env python3
+"""Compiles libraries of C as they are for work functions, and runs each beside its native build.
+
+    run.py [NAME..]
+
+Takes the sources from Debian's packages (`apt-get source`), compiles each library of ports.py with its file of glue/, once
+for the host and once as a native program, compares the answers, and prints a table: the fuel and the depth of calls that
+suffice, and the processor time of `work` over that of the native program and of V8. It wants clang, lld, wasi-libc,
+libclang-rt-14-dev-wasm32, zstd and node. apt takes the sources by lists of their own, or those that APT_CONFIG names.
+WASMLOOP names the program. All is written to out/ beside this file.
+"""
+import os
+import pathlib
+import re
+import resource
+import shutil
+import subprocess
+import sys
+
+import ports
+
+HERE = pathlib.Path(__file__).resolve().parent
+OUT = HERE / "out"
+SOURCES = OUT / "src"
+KIT = HERE.parent / "kit"
+HOST = os.environ.get("WASMLOOP", "wasmloop")
+CC, LD = os.environ.get("CC", "clang"), os.environ.get("LD", "wasm-ld")
+LIBC = pathlib.Path("/usr/lib/wasm32-wasi")
+BUILTINS = subprocess.run([CC, "--target=wasm32-wasi", "-print-libgcc-file-name"], stdout=subprocess.PIPE,
+                          check=True).stdout.decode().strip()
+WASM = [CC, "--target=wasm32-wasi", "-mcpu=mvp", "-O2", "-w", "-isystem", KIT, f"-I{KIT}", f"-I{HERE.parent}",
+        "-D_WASI_EMULATED_SIGNAL", "-D_WASI_EMULATED_PROCESS_CLOCKS", "-D_WASI_EMULATED_GETPID"]
+NATIVE = [CC, "-O2", "-w", f"-I{KIT}"]
+LINK = [LD, "--no-entry", "--export-table", "--stack-first", "--strip-all", "--compress-relocations",
+        "-zstack-size=131072"]
+LIBRARIES = [LIBC / "libc.a", LIBC / "libm.a", BUILTINS] + [LIBC / f"libwasi-emulated-{n}.a" for n in
+                                                  ("signal", "process-clocks", "getpid")]
+TIMES, PEERS_TIMES = 3, 15          # the least of so many runs counts
+AMPLE = 1 << 40
+DEPTHS = (16, 32, 64, 128)
+
+
+def call(*words, **more):
+    """Runs a command; an error of it ends this program with its words."""
+    done = subprocess.run([str(w) for w in words], stdout=subprocess.PIPE, stderr=subprocess.PIPE, **more)
+    if done.returncode:
+        sys.exit(f"{' '.join(str(w) for w in words)}\n{done.stderr.decode()[-2000:]}")
+    return done.stdout
+
+
+def apt_config():
+    """A configuration of apt with a list of Debian's sources, since many systems have packages alone in theirs."""
+    given = os.environ.get("APT_CONFIG")
+    if given:
+        return given
+    config = OUT / "apt" / "apt.conf"
+    if not config.exists():
+        lists = config.parent / "lists"
+        (lists / "partial").mkdir(parents=True, exist_ok=True)
+        parts = config.parent / "parts"
+        parts.mkdir(exist_ok=True)
+        whole = pathlib.Path("/etc/apt/sources.list.d/debian.sources")
+        if whole.exists():
+            (parts / whole.name).write_text(re.sub(r"(?m)^Types:.*", "Types: deb-src", whole.read_text()))
+        else:
+            lines = pathlib.Path("/etc/apt/sources.list").read_text().splitlines()
+            (parts / "debian.list").write_text("".join(f"deb-src {it[4:]}\n" for it in lines if it.startswith("deb ")))
+        part = config.with_suffix(".part")
+        part.write_text(f'Dir::Etc::sourcelist "/dev/null";\nDir::Etc::sourceparts "{parts}";\nDir::State::lists "{lists}";\n')
+        call("apt-get", "update", env=os.environ | {"APT_CONFIG": str(part)})
+        part.rename(config)
+    return str(config)
+
+
+def fetch(package):
+    """Debian's source of a package, unpacked as it is, without Debian's patches."""
+    folder = SOURCES / package
+    if folder.exists():
+        return
+    SOURCES.mkdir(parents=True, exist_ok=True)
+    call("apt-get", "source", "-q", "--tar-only", "--download-only", package, cwd=SOURCES,
+         env=os.environ | {"APT_CONFIG": apt_config()})
+    archive, = [p for p in SOURCES.glob(f"{package}_*.orig.tar.*") if p.suffix != ".asc"]
+    folder.mkdir()
+    call("tar", "xf", archive, "-C", folder, "--strip-components=1")
+
+
+def compile_all(compiler, sources, folder):
+    folder.mkdir(parents=True, exist_ok=True)
+    objects = []
+    for number, source in enumerate(sources):
+        made = folder / f"{number}_{pathlib.Path(source).stem}.o"
+        if not made.exists() or made.stat().st_mtime < os.path.getmtime(source):
+            call(*compiler, "-c", "-o", made, source)
+        objects.append(made)
+    return objects
+
+
+def files(patterns, without=()):
+    found = []
+    for pattern in patterns:
+        matching = sorted(SOURCES.glob(pattern))
+        if not matching:
+            sys.exit(f"no file {pattern}")
+        found += [f for f in matching if f.name not in without]
+    return found
+
+
+def soft():
+    """soft.c as a module of its own, of which lower.py takes what it needs."""
+    made, = compile_all(WASM + ["-ffreestanding"], [KIT / "soft.c"], OUT)
+    call(*LINK, "-o", OUT / "soft.wasm", made)
+    return OUT / "soft.wasm"
+
+
+def port_flags(port):
+    return port.flags.replace("@", str(SOURCES)).split()
+
+
+def module(name, port):
+    """The library with its glue as a module of the host's."""
+    folder = OUT / name
+    wasm = folder / f"{name}.wasm"
+    kit = [KIT / "guest.c", KIT / "wasi.c", HERE.parent / "mem.c"]
+    kit += [KIT / "nofiles.c"] if port.no_files else []
+    kit += [KIT / "setjmp.c"] if port.jumps else []
+    jumps = ["-mllvm", "-enable-emscripten-sjlj"] if port.jumps else []
+    sources = [HERE / "glue" / f"{name}.c"] + files(port.sources, port.without)
+    objects = compile_all(WASM + port_flags(port) + port.wasm_flags.split() + jumps, sources, folder / "w")
+    objects += compile_all(WASM + ["-ffreestanding"], kit, folder / "k")
+    call(*LINK, *(["--import-undefined"] if port.jumps else []), "-o", wasm, *objects, *LIBRARIES)
+    if port.lower:
+        print(name, call(sys.executable, KIT / "lower.py", wasm, wasm, "--soft", soft()).decode().strip(), flush=True)
+    return wasm
+
+
+def program(name, port):
+    """The same glue and library as a native program."""
+    native = OUT / name / f"{name}.native"
+    sources = [HERE / "glue" / f"{name}.c", KIT / "native.c"] + files(port.sources, port.without)
+    objects = compile_all(NATIVE + port_flags(port), sources + files(port.native_sources), OUT / name / "n")
+    call(CC, "-o", native, *objects, "-lm")
+    return native
+
+
+def loop_is_right():
+    """zlib in a loop under `serve`: each of eight texts has to come back from its two requests as it was."""
+    wasm = module("zloop", ports.LOOP)
+    told = call(HOST, "serve", wasm, "--loops", 1, "--workers", 3, "--fuel", 1 << 32, "--work-fuel", 1 << 32)
+    numbers = told.decode().split()
+    print("serve:", told.decode().strip())
+    return numbers[:4] == ["loop", "0", "over", "emits"] and numbers.count("1") == 8
+
+
+def timed(words, request=None):
+    """What a command prints, what it says, and its processor time: others use the machine too."""
+    before = resource.getrusage(resource.RUSAGE_CHILDREN)
+    done = subprocess.run([str(w) for w in words], input=request, stdout=subprocess.PIPE, stderr=subprocess.PIPE)
+    after = resource.getrusage(resource.RUSAGE_CHILDREN)
+    spent = after.ru_utime + after.ru_stime - before.ru_utime - before.ru_stime
+    return done.stdout.decode().split("\n")[0], done.stderr.decode().strip(), spent
+
+
+class Work:
+    """`wasmloop work` on one request."""
+
+    def __init__(self, wasm, operation, request):
+        self.words = [HOST, "work", wasm, operation] + ([request.hex()] if request else [])
+
+    def run(self, fuel, depth):
+        return timed(self.words + ["--fuel", fuel, "--depth", depth])
+
+    def depth(self):
+        for depth in DEPTHS:
+            if self.run(AMPLE, depth)[0] != "depth":
+                return depth
+        return DEPTHS[-1]
+
+    def fuel(self, depth):
+        """The least fuel that suffices, found by halving to the hundredth part."""
+        low, high = 0, 1 << 14
+        while self.run(high, depth)[0].startswith("spent"):
+            low, high = high, high * 4
+        while high - low > high // 100 + 1:
+            middle = (low + high) // 2
+            if self.run(middle, depth)[0].startswith("spent"):
+                low = middle
+            else:
+                high = middle
+        return high
+
+    def seconds(self, depth):
+        """The least time of a run, without what a run takes that has no fuel."""
+        full = min(self.run(AMPLE, depth)[2] for _ in range(TIMES))
+        return full - min(self.run(1, depth)[2] for _ in range(TIMES))
+
+
+def row(name, wasm, native, operation, request, what):
+    """A line of the table, and whether the answer is the native one."""
+    work = Work(wasm, operation, request)
+    depth = work.depth()
+    answer = work.run(AMPLE, depth)[0]
+    expected, nanoseconds, _ = timed([native, operation, PEERS_TIMES], request)
+    by_v8, v8_nanoseconds, _ = timed(["node", HERE / "v8.mjs", wasm, operation, PEERS_TIMES], request)
+    same = answer == expected and answer.startswith("done")
+    fuel, seconds = work.fuel(depth), work.seconds(depth)
+    cells = [name, f"{wasm.stat().st_size:,}", what, "yes" if same else "no", f"{fuel:,}",
+             f"{fuel // len(request):,}", str(depth), f"{seconds * 1e3:.1f}"]
+    for ns in (nanoseconds, v8_nanoseconds if by_v8 == expected else ""):
+        fit = ns.isdigit() and int(ns) > 0 and seconds > 0.002
+        cells.append(f"{seconds * 1e9 / int(ns):.0f}" if fit else "-")
+    if not same:
+        print(f"{name}: {answer[:80]} where native says {expected[:80]}", file=sys.stderr)
+    return "| " + " | ".join(cells) + " |", same
+
+
+HEAD = """| Library | Module | What | As native | Fuel | Units a byte in | Depth | ms | Over native | Over V8 |
+|---|---|---|---|---|---|---|---|---|---|"""
+
+
+def main(names):
+    if not shutil.which(HOST):
+        sys.exit(f"no program {HOST}: WASMLOOP names it")
+    names = names or list(ports.PORTS)
+    for package in {p.package for p in ports.PORTS.values()}:
+        fetch(package)
+    built = {n: (module(n, ports.PORTS[n]), program(n, ports.PORTS[n])) for n in names}
+    lines, wrong = [HEAD], 0
+    for name, operation, request, what in ports.rows(SOURCES):
+        if name in built:
+            line, same = row(name, *built[name], operation, request, what)
+            print(line, flush=True)
+            lines.append(line)
+            wrong += not same
+    (OUT / "table.md").write_text("\n".join(lines) + "\n")
+    wrong += "zlib" in names and not loop_is_right()
+    print(f"{len(lines) - 1} rows, {wrong} not as native")
+    return wrong != 0
+
+
+if __name__ == "__main__":
+    sys.exit(main(sys.argv[1:]))

@@ -19,9 +19,10 @@ pub use interp::values::Values;
 pub use limits::{
     MAX_BYTES, MAX_DEPTH, MAX_LOOPS, MAX_MODULE_BYTES, MAX_PAGES, MAX_REQUESTS, MAX_WORKERS,
 };
-pub use loader::{Part, Place, Refusal, function_name, load, place_of_operation};
+pub use loader::{Refusal, load};
 pub use order::{Order, Outcome, Reply, Told, Trail};
 pub use phases::{Accepted, Beside, EntryKind, Hint, LoopCore, Phase, Shared, StepDid};
+pub use places::{Part, Place, function_name, place_of_operation};
 pub use serve::{
     Account, Callback, Job, LoopEnding, Served, Serving, Task, Watch, serve, serve_watched,
 };

@@ -1,11 +1,11 @@
 // What is told of a refusal.
 
 use crate::invalid::invalid;
-use crate::place::Place;
 use crate::reason::Reason;
 use crate::refusal::Refusal;
 use crate::undecoded::undecoded;
 use crate::unlinked::place_of_unlinked;
+use places::Place;
 use std::alloc::Global;
 use std::fmt;
 

@@ -1,10 +1,8 @@
 // In which section, function and operation a module is not valid, and for what.
 
 use crate::loading::decoded;
-use crate::operations::place_of_operation;
-use crate::place::Place;
 use crate::reason::{NO_TABLES, OPTIMIZED, Reason};
-use crate::spans::{CODE, body_at, find, function_of};
+use places::{CODE, Place, body_at, find, function_of, place_of_operation};
 use std::alloc::Global;
 use validate::{Lack, Site, ValidFault, refused_at};
 

@@ -1,10 +1,8 @@
 // At which byte a module is refused by its form, and for what.
 
-use crate::operations::{first_operation, name_of};
-use crate::place::{Part, Place};
 use crate::reason::{NO_TABLES, OPTIMIZED, PLAIN, Reason};
-use crate::spans::{CODE, body_at, find, imported, part_with};
 use decode::{DecodeFault, RefusedAt, refused_at};
+use places::{CODE, Part, Place, body_at, find, first_operation, imported, name_of, part_with};
 use std::alloc::Global;
 
 /// Floats can be computed by functions on integers.

@@ -1,9 +1,8 @@
 // Which import, export or segments don't fit the host.
 
 use crate::loading::validated;
-use crate::place::Place;
-use crate::spans::{DATA, ELEMENTS, find};
 use imports::{Site, refused_at};
+use places::{DATA, ELEMENTS, Place, find};
 use std::alloc::Global;
 use std::str;
 use syntax::contents::{Contents, Import, ModuleExport};

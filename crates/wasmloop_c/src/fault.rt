@@ -3,7 +3,8 @@
 ghost use Rattle.std.specs.Prelude.{◌≡◌};
 ghost use Rattle.wasmloop_c.specs.Numbers.{stage_number, code_number};
 
-use loader::{Part, Place, Refusal};
+use loader::Refusal;
+use places::{Part, Place};
 use std::alloc::Global;
 
 /// Why bytes are no guest, and where.

@@ -1,7 +1,11 @@
 // What of a module doesn't fit the host.
 
+ghost use Rattle.std.specs.Prelude.{◌↔◌, All, IsTrue, MatchOption};
+ghost use Rattle.imports.specs.Linking.{IsKnown, IsCallable, IsLinked};
+ghost use Rattle.imports.specs.Sites.{FirstUnknown, FirstUncallable, IsMisfit};
+
 use crate::linked::{check_import, is_callable};
-use syntax::contents::Contents;
+use syntax::contents::{Contents, Import};
 use validate::Valid;
 
 /// The part of a valid module that doesn't fit the host.
@@ -17,25 +21,46 @@ pub enum Site {
     Data,
 }
 
-fn wrong_import(contents: &Contents) -> Option<Site> {
+/// Whether the import is a function of "uv" with its type.
+fn is_known(contents: &Contents, import: &Import) -> bool
+    ensures { IsTrue result ↔ IsKnown contents.now import.now }
+{
+    check_import(contents, import).is_ok()
+}
+
+fn first_unknown(contents: &Contents) -> Option<usize>
+    ensures { MatchOption result (All (IsKnown contents.now) contents.now.imports) (FirstUnknown contents.now) }
+{
     for (number, import) in contents.imports.as_slice().iter().enumerate() {
-        if check_import(contents, import).is_err() {
-            return Some(Site::Import(number));
+        if !is_known(contents, import) {
+            return Some(number);
         }
     }
     None
 }
 
-fn wrong_export(contents: &Contents) -> Option<Site> {
+fn first_uncallable(contents: &Contents) -> Option<usize>
+    ensures { MatchOption result (All (IsCallable contents.now) contents.now.exports) (FirstUncallable contents.now) }
+{
     for (number, export) in contents.exports.as_slice().iter().enumerate() {
         if !is_callable(contents, export) {
-            return Some(Site::Export(number));
+            return Some(number);
         }
     }
     None
 }
 
-fn wrong_segments(valid: &Valid) -> Option<Site> {
+/// The first part for which `link` refuses the module; nothing where it takes it.
+pub fn refused_at(valid: &Valid) -> Option<Site>
+    ensures { MatchOption result (IsLinked valid.now.contents) (IsMisfit valid.now.contents) }
+{
+    let contents = valid.contents();
+    if let Some(number) = first_unknown(contents) {
+        return Some(Site::Import(number));
+    }
+    if let Some(number) = first_uncallable(contents) {
+        return Some(Site::Export(number));
+    }
     if !valid.elements_fit() {
         return Some(Site::Elements);
     }
@@ -43,12 +68,4 @@ fn wrong_segments(valid: &Valid) -> Option<Site> {
         return Some(Site::Data);
     }
     None
-}
-
-/// The first part for which `link` refuses the module; nothing where it takes it.
-pub fn refused_at(valid: &Valid) -> Option<Site> {
-    let contents = valid.contents();
-    wrong_import(contents)
-        .or_else(|| wrong_export(contents))
-        .or_else(|| wrong_segments(valid))
 }

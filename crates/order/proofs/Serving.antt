@@ -93,7 +93,7 @@ module _ (o : WorkOrder) (fuel : ℕ) (v : Loaded) (is : v ≡ o.loaded) (s t : 
   pub work_serves : Invoked v.contents o.depth fuel Answered s old function args ended t new → Serves new o
   work_serves h = (served o h.trace old new serves h.lawful).serves
 
-not_returned : (how : Ending) → ((values : List Value) → how ≡ Return values → ⊥) → (results : List Value) → outcome_of how ≢ Returned results
+pub not_returned : (how : Ending) → ((values : List Value) → how ≡ Return values → ⊥) → (results : List Value) → outcome_of how ≢ Returned results
 not_returned (Return values) h results e = h values refl
 not_returned (ending.Trap trap) h results e = absurd (cc)
 not_returned ending.Depth h results e = absurd (cc)

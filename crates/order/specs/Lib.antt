@@ -3,6 +3,7 @@ pub mod Hosting
 pub mod Numbers
 pub mod Orders
 pub mod Serving
+pub mod Stopping
 pub mod Trails
 pub mod Work
 pub mod WorkHosting

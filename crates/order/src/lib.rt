@@ -6,7 +6,7 @@
 //! knows it, whatever thread made it. `Order::run_told` tells beside the reply what the run used and where it stopped.
 //! `Order::is_same` compares two orders in every field.
 //!
-//! Begin with `order` and `run`; what one thread computes is `specs/Work.antt`.
+//! Begin with `order` and `run`; what one thread computes is `specs/Work.antt`, and where it stops `specs/Stopping.antt`.
 #![tactic(auto)]
 
 pub mod answers;

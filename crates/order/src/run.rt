@@ -9,10 +9,12 @@ ghost use Rattle.instance.specs.Fresh.{IsFresh};
 ghost use Rattle.instance.specs.Storing.{IsStoreOf};
 ghost use Rattle.interp.specs.Invoking.{TakesArguments, ReturnsTyped};
 ghost use Rattle.interp.specs.Running.{outcome_of, AreResults};
+ghost use Rattle.interp.specs.Stopping.{Tells};
 ghost use Rattle.imports.specs.Linking.{ExportsFunction};
 ghost use Rattle.order.specs.Orders.{order_of, end_of};
 ghost use Rattle.order.specs.Serving.{Serves};
-ghost use Rattle.order.specs.Work.{WorkRun, WorkEnd, NoMemory, StartRun, Computes, Uses, IsEndOf, EndsAs};
+ghost use Rattle.order.specs.Stopping.{WorkStop, ComputesTo, Leaves};
+ghost use Rattle.order.specs.Work.{WorkCall, WorkRun, WorkEnd, NoMemory, StartRun, Computes, Uses, IsEndOf, EndsAs};
 
 use crate::host::WorkHost;
 use crate::order::{Order, Outcome};
@@ -21,9 +23,10 @@ use crate::trail::Trail;
 use imports::EntryPoint;
 use imports::laws::names_are_apart;
 use instance::fault::InstFault;
-use instance::state::Instance;
+use instance::stack::Stack;
+use instance::state::{Instance, State};
 use interp::ended::{Ended, Ending};
-use interp::invoke::invoke;
+use interp::invoke::invoke_on;
 use interp::values::Values;
 use std::alloc::{AllocError, Global};
 use syntax::types::Value;
@@ -65,11 +68,6 @@ struct Computed {
     trail: Option<Trail>,
 }
 
-/// What is kept of where the last call of one of an instance's functions stopped.
-fn trail_of(instance: &Instance) -> Option<Trail> {
-    Some(Trail::of(&instance.last_stop()?))
-}
-
 impl Order {
     /// Runs the order: the start function and then `uv_work` on a new instance, with the fuel that is left. Its module
     /// exports `uv_work`, and its bytes and its depth are within their limits, as of each order that a loop hands out.
@@ -92,6 +90,7 @@ impl Order {
         ensures order { result.reply.order ≡ self }
         ensures used { Uses (order_of self) (end_of result.reply.outcome) result.used }
         ensures within { result.used ≤ self.fuel }
+        ensures trail { Leaves (order_of self) (end_of result.reply.outcome) result.used result.trail }
     {
         let computed = match self.compute(alloc) {
             Ok(computed) => computed,
@@ -118,6 +117,7 @@ impl Order {
         ensures end { IfOk result (λ computed. IsEndOf (order_of self.now) (end_of computed.outcome)) }
         ensures used { IfOk result (λ computed. Uses (order_of self.now) (end_of computed.outcome) computed.used) }
         ensures within { IfOk result (λ computed. computed.used ≤ self.now.fuel) }
+        ensures trail { IfOk result (λ computed. Leaves (order_of self.now) (end_of computed.outcome) computed.used computed.trail) }
     {
         let mut instance = self.new_instance(alloc)?;
         let host = WorkHost::new(alloc, &self.module, &self.bytes)?;
@@ -137,34 +137,37 @@ impl Order {
         ensures told { end_of result.outcome ≢ NoMemory }
         ensures used { Uses (order_of self.now) (end_of result.outcome) result.used }
         ensures within { result.used ≤ self.now.fuel }
+        ensures trail { Leaves (order_of self.now) (end_of result.outcome) result.used result.trail }
     {
         names_are_apart();
+        let Instance { state, stack } = instance;
         let mut host = host;
-        let ended = self.start_and_work(instance, &mut host);
+        let ended = self.start_and_work(state, stack, &mut host);
         Computed {
             outcome: outcome_from(ended.ending, host.into_reply()),
             used: ended.used,
-            trail: trail_of(instance),
+            trail: Trail::of_last(stack),
         }
     }
 
     /// The start function and, where it returns, `uv_work`.
-    fn start_and_work(&self, instance: &mut Instance, host: &mut WorkHost) -> Ended
+    fn start_and_work(&self, state: &mut State, stack: &mut Stack, host: &mut WorkHost) -> Ended
         requires work { (f : ℕ) × ExportsFunction (arc_value self.now.module).contents (codes "uv_work") f }
-        requires fresh { IsFresh (arc_value self.now.module).contents instance.old }
-        requires store { IsStoreOf (arc_value self.now.module).contents instance.old }
+        requires fresh { IsFresh (arc_value self.now.module).contents state.old }
+        requires store { IsStoreOf (arc_value self.now.module).contents state.old }
         requires serves { Serves host.old (order_of self.now) }
         requires empty { host.old.reply.items ≡ [] }
         requires depth { (1 ≤ self.now.depth) × (self.now.depth ≤ MAX_DEPTH) }
         ensures computes { (end : WorkEnd) → EndsAs (outcome_of result.ending) host.new.reply.items end → Computes (order_of self.now) end result.used }
+        ensures stops { (end : WorkEnd) → EndsAs (outcome_of result.ending) host.new.reply.items end → ComputesTo (order_of self.now) end result.used stack.new }
         ensures within { result.used ≤ self.now.fuel }
         ensures results { AreResults result.ending (valtype.I32 ∷ []) }
     {
-        let started = self.start(instance, host);
+        let started = self.start(state, stack, host);
         let Ending::Return(_) = started.ending else {
             return started;
         };
-        let ended = self.work(instance, host, self.fuel - started.used);
+        let ended = self.work(state, stack, host, self.fuel - started.used);
         Ended {
             ending: ended.ending,
             used: started.used + ended.used,
@@ -186,19 +189,21 @@ impl Order {
     }
 
     /// The start function, where there is one.
-    fn start(&self, instance: &mut Instance, host: &mut WorkHost) -> Ended
-        requires store { IsStoreOf (arc_value self.now.module).contents instance.old }
+    fn start(&self, state: &mut State, stack: &mut Stack, host: &mut WorkHost) -> Ended
+        requires store { IsStoreOf (arc_value self.now.module).contents state.old }
         requires serves { Serves host.old (order_of self.now) }
         requires empty { host.old.reply.items ≡ [] }
         requires depth { (1 ≤ self.now.depth) × (self.now.depth ≤ MAX_DEPTH) }
-        ensures run { StartRun (order_of self.now) (arc_value self.now.module).contents.start instance.old (outcome_of result.ending) result.used instance.new host.new.reply.items }
+        ensures run { StartRun (order_of self.now) (arc_value self.now.module).contents.start state.old (outcome_of result.ending) result.used state.new host.new.reply.items }
+        ensures stops { (f : ℕ) → (arc_value self.now.module).contents.start ≡ Some f
+            → WorkStop (order_of self.now) self.now.fuel state.old [] f [] result state.new host.new.reply.items stack.new }
         ensures within { result.used ≤ self.now.fuel }
         ensures results { AreResults result.ending [] }
-        ensures store { IsStoreOf (arc_value self.now.module).contents instance.new }
+        ensures store { IsStoreOf (arc_value self.now.module).contents state.new }
         ensures serves { Serves host.new (order_of self.now) }
     {
         match self.module.valid().contents().start {
-            Some(function) => self.call(instance, host, function, &[], self.fuel),
+            Some(function) => self.call(state, stack, host, function, &[], self.fuel),
             None => Ended {
                 ending: Ending::Return(Values::from_slice(&[])),
                 used: 0,
@@ -207,42 +212,44 @@ impl Order {
     }
 
     /// `uv_work`, with the fuel that is left.
-    fn work(&self, instance: &mut Instance, host: &mut WorkHost, fuel: u64) -> Ended
+    fn work(&self, state: &mut State, stack: &mut Stack, host: &mut WorkHost, fuel: u64) -> Ended
         requires work { (f : ℕ) × ExportsFunction (arc_value self.now.module).contents (codes "uv_work") f }
-        requires store { IsStoreOf (arc_value self.now.module).contents instance.old }
+        requires store { IsStoreOf (arc_value self.now.module).contents state.old }
         requires serves { Serves host.old (order_of self.now) }
         requires depth { (1 ≤ self.now.depth) × (self.now.depth ≤ MAX_DEPTH) }
         ensures run { (f : ℕ) × ExportsFunction (arc_value self.now.module).contents (codes "uv_work") f
-            × WorkRun (order_of self.now) fuel instance.old host.old.reply.items f (Value.I32 self.now.op ∷ []) (outcome_of result.ending) result.used instance.new host.new.reply.items }
+            × WorkStop (order_of self.now) fuel state.old host.old.reply.items f (Value.I32 self.now.op ∷ []) result state.new host.new.reply.items stack.new }
         ensures within { result.used ≤ fuel }
         ensures results { AreResults result.ending (valtype.I32 ∷ []) }
     {
         let Some(function) = self.module.entry(EntryPoint::Work) else {
             unreachable!();
         };
-        self.call(instance, host, function, &[Value::I32(self.op)], fuel)
+        self.call(state, stack, host, function, &[Value::I32(self.op)], fuel)
     }
 
     /// A function of the order's module.
     fn call(
         &self,
-        instance: &mut Instance,
+        state: &mut State,
+        stack: &mut Stack,
         host: &mut WorkHost,
         function: u32,
         args: &[Value],
         fuel: u64,
     ) -> Ended
         requires takes { TakesArguments (arc_value self.now.module).contents function args.now }
-        requires store { IsStoreOf (arc_value self.now.module).contents instance.old }
+        requires store { IsStoreOf (arc_value self.now.module).contents state.old }
         requires serves { Serves host.old (order_of self.now) }
         requires depth { (1 ≤ self.now.depth) × (self.now.depth ≤ MAX_DEPTH) }
-        ensures run { WorkRun (order_of self.now) fuel instance.old host.old.reply.items function args.now (outcome_of result.ending) result.used instance.new host.new.reply.items }
+        ensures run { WorkRun (order_of self.now) fuel state.old host.old.reply.items function args.now (outcome_of result.ending) result.used state.new host.new.reply.items }
+        ensures stops { Tells (arc_value self.now.module).contents self.now.depth (WorkCall (order_of self.now)) state.old host.old.reply.items function args.now result state.new host.new.reply.items stack.new }
         ensures within { result.used ≤ fuel }
         ensures results { ReturnsTyped (arc_value self.now.module).contents function result.ending }
-        ensures store { IsStoreOf (arc_value self.now.module).contents instance.new }
+        ensures store { IsStoreOf (arc_value self.now.module).contents state.new }
         ensures serves { Serves host.new (order_of self.now) }
     {
         let valid = self.module.valid();
-        invoke(valid, instance, host, function, args, fuel, self.depth)
+        invoke_on(valid, state, stack, host, function, args, fuel, self.depth)
     }
 }

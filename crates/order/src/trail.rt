@@ -1,9 +1,9 @@
 // Where a run stopped, kept beyond its instance.
 
-ghost use Rattle.std.specs.Prelude.{◌≡◌, ◌-◌, ◌≤◌, length, take, slice_get};
+ghost use Rattle.std.specs.Prelude.{◌≡◌, ◌-◌, ◌≤◌, length, take, slice_get, option_map};
 ghost use Rattle.order.specs.Trails.{innermost};
 
-use instance::stack::{Site, Stop};
+use instance::stack::{Site, Stack, Stop};
 use std::marker::Model;
 
 /// How many sites a trail has at most: the operation at which the run stopped, and 16 calls around it.
@@ -61,6 +61,13 @@ impl Trail {
             count,
             calls,
         }
+    }
+
+    /// What is kept of where the last run on a stack stopped, if it was over but by return.
+    pub fn of_last(stack: &Stack) -> Option<Trail>
+        ensures { result ≡ option_map innermost stack.now }
+    {
+        Some(Trail::of(&stack.last_stop()?))
     }
 
     /// The sites, the innermost first: the operation at which the run stopped, the call around it, and so on.

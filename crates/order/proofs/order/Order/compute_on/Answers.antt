@@ -3,6 +3,7 @@ use Rattle.interp.specs.Running.{outcome_of}
 use Rattle.order.specs.Orders.{order_of, end_of}
 use Rattle.order.specs.Work.{EndsAs}
 use Rattle.order.proofs.Serving.{is_end, uses}
+use Rattle.order.proofs.Stopping.{leaves}
 use Rattle.order.proofs.order.Order.compute_on.Goals as goal
 
 pub returns-clause-end : goal.returns-clause-end
@@ -16,3 +17,9 @@ returns-clause-used c =
     let ended = c.start_and_work-ended in
     let reads = subst (λ (reply : List ℕ). EndsAs (outcome_of ended.result.ending) reply (end_of c.outcome_from.result)) c.into_reply.ensures c.outcome_from.ensures.end in
     uses (order_of c.args.self.now) (end_of c.outcome_from.result) ended.result.used c.outcome_from.ensures.told (ended.ensures.computes (end_of c.outcome_from.result) reads)
+
+pub returns-clause-trail : goal.returns-clause-trail
+returns-clause-trail c =
+    let ended = c.start_and_work-ended in
+    let reads = subst (λ (reply : List ℕ). EndsAs (outcome_of ended.result.ending) reply (end_of c.outcome_from.result)) c.into_reply.ensures c.outcome_from.ensures.end in
+    leaves (order_of c.args.self.now) (end_of c.outcome_from.result) ended.result.used ended.new.stack c.of_last.result c.outcome_from.ensures.told (ended.ensures.stops (end_of c.outcome_from.result) reads) c.of_last.ensures

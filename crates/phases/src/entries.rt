@@ -1,6 +1,7 @@
 // What is left of a phase's list.
 
 ghost use Rattle.std.specs.Prelude.{◌≡◌, ◌≤◌, ◌+◌, [], ◌∷◌, ◌++◌, ◌==◌, length, map, filter, drop, slice_get, ◌<◌, if◌then◌else◌};
+ghost use Rattle.handles.specs.Table.{entry};
 ghost use Rattle.limits.specs.declared.TheConstants.{MAX_REQUESTS};
 ghost use Rattle.phases.specs.PhaseList.{first_list, handle_entry, active_asyncs, is_active_handle};
 ghost use Rattle.phases.specs.Requests.{is_settled};
@@ -9,7 +10,7 @@ use crate::entry::Entry;
 use crate::outstanding::Outstanding;
 use crate::roster::Roster;
 use arrayvec::ArrayVec;
-use handles::{Kind, List};
+use handles::{Kind, Place};
 use limits::MAX_HANDLES;
 use std::marker::Model;
 
@@ -49,40 +50,40 @@ impl Entries {
         Entries { items, at: 0 }
     }
 
-    /// The listed handles of a kind.
-    pub fn of_handles(kind: Kind, list: &List) -> Self
-        ensures { result ≡ map (handle_entry kind) list.now }
+    /// Leaves no entry.
+    pub fn clear(&mut self)
+        ensures { self.new ≡ [] }
     {
-        let mut items = ArrayVec::new();
-        for index in 0..list.len() {
-            let Some((handle, start)) = list.get(index) else {
-                unreachable!();
-            };
-            items.push(Entry::of_handle(kind, handle, start));
-        }
-        Entries { items, at: 0 }
+        self.at = 0;
+        self.items.clear();
     }
 
-    /// The closing handles.
-    pub fn of_closing(handles: &[u32]) -> Self
+    /// Lists the handles of a kind that stand at these places.
+    pub fn list_handles(&mut self, kind: Kind, places: &[Place])
+        requires { length places.now ≤ MAX_HANDLES }
+        ensures { self.new ≡ map (handle_entry kind) (map entry places.now) }
+    {
+        self.at = 0;
+        list_handles(&mut self.items, kind, places);
+    }
+
+    /// Lists the closing handles.
+    pub fn list_closing(&mut self, handles: &[u32])
         requires { length handles.now ≤ MAX_HANDLES }
-        ensures { result ≡ map (λ handle. Entry.Close handle) handles.now }
+        ensures { self.new ≡ map (λ handle. Entry.Close handle) handles.now }
     {
-        let mut items = ArrayVec::new();
-        for handle in handles {
-            items.push(Entry::Close { handle: *handle });
-        }
-        Entries { items, at: 0 }
+        self.at = 0;
+        list_closing(&mut self.items, handles);
     }
 
-    /// The requests that are answered or cancelled, then the asyncs that are active, each by number.
-    pub fn of_poll(requests: &[Outstanding], roster: &Roster) -> Self
+    /// Lists the requests that are answered or cancelled, then the asyncs that are active, each by number.
+    pub fn list_poll(&mut self, requests: &[Outstanding], roster: &Roster)
         requires { length requests.now ≤ MAX_REQUESTS }
-        ensures { result ≡ map (λ r. Entry.After r.order.request) (filter (λ r. is_settled r.stage) requests.now) ++ map (λ a. Entry.Async a) (active_asyncs roster.now) }
+        ensures { self.new ≡ map (λ r. Entry.After r.order.request) (filter (λ r. is_settled r.stage) requests.now) ++ map (λ a. Entry.Async a) (active_asyncs roster.now) }
     {
-        let mut items = settled_entries(requests);
-        push_asyncs(&mut items, roster);
-        Entries { items, at: 0 }
+        self.at = 0;
+        list_settled(&mut self.items, requests);
+        push_asyncs(&mut self.items, roster);
     }
 
     /// The front entry.
@@ -102,12 +103,32 @@ impl Entries {
     }
 }
 
-fn settled_entries(requests: &[Outstanding]) -> ArrayVec<Entry, MAX_ENTRIES>
-    requires { length requests.now ≤ MAX_REQUESTS }
-    ensures entries { result.items ≡ map (λ r. Entry.After r.order.request) (filter (λ r. is_settled r.stage) requests.now) }
-    ensures few { length result.items ≤ MAX_REQUESTS }
+fn list_handles(items: &mut ArrayVec<Entry, MAX_ENTRIES>, kind: Kind, places: &[Place])
+    requires { length places.now ≤ MAX_HANDLES }
+    ensures { items.new.items ≡ map (λ place. handle_entry kind (entry place)) places.now }
 {
-    let mut items = ArrayVec::new();
+    items.clear();
+    for place in places {
+        items.push(Entry::of_handle(kind, place.handle, place.start));
+    }
+}
+
+fn list_closing(items: &mut ArrayVec<Entry, MAX_ENTRIES>, handles: &[u32])
+    requires { length handles.now ≤ MAX_HANDLES }
+    ensures { items.new.items ≡ map (λ handle. Entry.Close handle) handles.now }
+{
+    items.clear();
+    for handle in handles {
+        items.push(Entry::Close { handle: *handle });
+    }
+}
+
+fn list_settled(items: &mut ArrayVec<Entry, MAX_ENTRIES>, requests: &[Outstanding])
+    requires { length requests.now ≤ MAX_REQUESTS }
+    ensures entries { items.new.items ≡ map (λ r. Entry.After r.order.request) (filter (λ r. is_settled r.stage) requests.now) }
+    ensures few { length items.new.items ≤ MAX_REQUESTS }
+{
+    items.clear();
     for request in requests {
         if request.is_settled() {
             items.push(Entry::After {
@@ -115,7 +136,6 @@ fn settled_entries(requests: &[Outstanding]) -> ArrayVec<Entry, MAX_ENTRIES>
             });
         }
     }
-    items
 }
 
 fn push_asyncs(items: &mut ArrayVec<Entry, MAX_ENTRIES>, roster: &Roster)

@@ -314,7 +314,7 @@ impl LoopState {
         ensures { result ≡ hint_of self.now }
     {
         let over = !self.is_alive();
-        let idle = !self.roster.of_kind(Kind::Idle).is_empty();
+        let idle = self.roster.has(Kind::Idle);
         let closing = !self.roster.closing().is_empty();
         let settled = self.requests.has_settled();
         let busy = any(over, idle, closing || settled);

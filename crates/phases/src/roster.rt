@@ -2,14 +2,14 @@
 
 ghost use Rattle.std.specs.Prelude.{◌≡◌, ◌≢◌, ◌<◌, ◌≤◌, [], Some, None, true, false, length, map, slice_get, IfOk, IfSome, IfNone, MatchOption, IsSomeAnd, ◌⊎◌, ◌==◌, filter, not};
 ghost use Rattle.std.specs.List.{list_any, position_or_len};
-ghost use Rattle.handles.specs.Table.{empty_table, record_of, IsOpen, IsClosing, after_again, due_list, kind_list, nearest_due};
+ghost use Rattle.handles.specs.Table.{empty_table, record_of, IsOpen, IsClosing, after_again, entry, due_list, kind_list, nearest_due};
 ghost use Rattle.phases.specs.Roster.{callback_function, is_callback, is_open, is_open_of, async_number, async_handle, with_handles, with_made, without_handle, is_handle, unless_handle, stopped_in, started_in, again_in, closed_in, active_answer, Makes, MakesAsync};
 ghost use Rattle.phases.specs.PhaseList.{is_empty, has_active, active_asyncs, is_active_handle};
 ghost use Rattle.phases.specs.Fitting.{has_duty, IsKept};
 ghost use Rattle.phases.specs.Step.{is_as_listed, handle_function};
 
 use arrayvec::ArrayVec;
-use handles::{Handles, Kind, List, Record};
+use handles::{Handles, Kind, Place, Record};
 use limits::{MAX_ASYNCS, MAX_HANDLES};
 use order::answers::{INVALID, NO_ROOM, NONE_LEFT};
 use std::alloc::{AllocError, Global};
@@ -288,19 +288,29 @@ impl Roster {
             .flatten()
     }
 
-    /// The active timers that are due by `now`.
-    pub fn due(&self, now: u64) -> List
-        ensures { result ≡ due_list self.now.handles now }
+    /// The places of the active timers that are due by `now`.
+    pub fn due(&self, now: u64) -> &[Place]
+        ensures value { map entry result.now ≡ due_list self.now.handles now }
+        ensures few { length result.now ≤ MAX_HANDLES }
     {
-        self.handles.due(now)
+        self.handles.due_places(now)
     }
 
-    /// The active idle or check handles.
-    pub fn of_kind(&self, kind: Kind) -> List
+    /// The places of the active idle or check handles.
+    pub fn of_kind(&self, kind: Kind) -> &[Place]
         requires { (kind ≡ Kind.Idle) ⊎ (kind ≡ Kind.Check) }
-        ensures { result ≡ kind_list kind self.now.handles }
+        ensures value { map entry result.now ≡ kind_list kind self.now.handles }
+        ensures few { length result.now ≤ MAX_HANDLES }
     {
-        self.handles.of_kind(kind)
+        self.handles.places(kind)
+    }
+
+    /// Whether an idle or a check handle is active.
+    pub fn has(&self, kind: Kind) -> bool
+        requires { (kind ≡ Kind.Idle) ⊎ (kind ≡ Kind.Check) }
+        ensures { result ≡ not (is_empty (kind_list kind self.now.handles)) }
+    {
+        !self.of_kind(kind).is_empty()
     }
 
     /// The moment at which the first active timer is due.
@@ -323,9 +333,7 @@ impl Roster {
         ensures { result ≡ has_active self.now }
     {
         let timer = self.handles.nearest().is_some();
-        let idle = !self.handles.of_kind(Kind::Idle).is_empty();
-        let check = !self.handles.of_kind(Kind::Check).is_empty();
-        timer || idle || check || self.has_active_async()
+        timer || self.has(Kind::Idle) || self.has(Kind::Check) || self.has_active_async()
     }
 
     fn has_active_async(&self) -> bool

@@ -14,7 +14,6 @@ ghost use Rattle.phases.specs.Roster.{async_handle, with_handles, without_handle
 ghost use Rattle.phases.specs.Step.{turn, in_phase, now_in, moment_in, begun, finished, returns, is_as_listed, handle_function};
 
 use crate::did::StepDid;
-use crate::entries::Entries;
 use crate::entry::{Entry, Phase, Status};
 use crate::loop_state::LoopState;
 use crate::progress::Completion;
@@ -67,25 +66,26 @@ impl LoopState {
         if phase == Phase::Timers {
             self.time = self.clock;
         }
-        self.entries = self.listed();
+        self.list();
         StepDid::Entered {
             phase,
             now: self.time,
         }
     }
 
-    // The list of the phase that the loop is in.
-    fn listed(&self) -> Entries
-        ensures { result ≡ phase_list self.now self.now.phase }
+    // Lists anew what is to come in the phase that the loop is in.
+    fn list(&mut self)
+        ensures { self.new ≡ record self.old { list = phase_list self.old self.old.phase } }
     {
         let roster = &self.roster;
+        let entries = &mut self.entries;
         match self.phase {
-            Phase::Begin => Entries::first(false, false),
-            Phase::Timers => Entries::of_handles(Kind::Timer, &roster.due(self.time)),
-            Phase::Idle => Entries::of_handles(Kind::Idle, &roster.of_kind(Kind::Idle)),
-            Phase::Poll => Entries::of_poll(self.requests.as_slice(), roster),
-            Phase::Check => Entries::of_handles(Kind::Check, &roster.of_kind(Kind::Check)),
-            Phase::Closing => Entries::of_closing(roster.closing()),
+            Phase::Begin => entries.clear(),
+            Phase::Timers => entries.list_handles(Kind::Timer, roster.due(self.time)),
+            Phase::Idle => entries.list_handles(Kind::Idle, roster.of_kind(Kind::Idle)),
+            Phase::Poll => entries.list_poll(self.requests.as_slice(), roster),
+            Phase::Check => entries.list_handles(Kind::Check, roster.of_kind(Kind::Check)),
+            Phase::Closing => entries.list_closing(roster.closing()),
         }
     }
 

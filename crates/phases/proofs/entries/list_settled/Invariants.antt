@@ -1,7 +1,7 @@
 use Rattle.std.proofs.Common.{◌≡◌, ◌≤◌, map, filter, take, length}
 use Rattle.phases.specs.declared.entry.Entry.TheVariants.{After}
 use Rattle.phases.specs.Requests.{is_settled}
-use Rattle.phases.proofs.entries.settled_entries.Given as goal
+use Rattle.phases.proofs.entries.list_settled.Given as goal
 
 abbrev pub invariant-loop-request : goal.invariant-loop-request
 invariant-loop-request l =

@@ -20,3 +20,4 @@ pub mod Owning
 pub mod Readying
 pub mod Rostering
 pub mod Runnable
+pub mod Stopping

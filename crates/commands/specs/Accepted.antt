@@ -2,6 +2,7 @@
 use Rattle.std.specs.Prelude.{ℕ, ◌+◌, List}
 use Rattle.limits.specs.declared.TheConstants.{MAX_MODULE_BYTES}
 use Rattle.syntax.specs.declared.contents.Contents.{Contents}
+use Rattle.syntax.specs.Loaded.{Loaded}
 use Rattle.loader.specs.Loading.{IsAccepted}
 
 -- how many bytes of a file are read: one more than a module may have
@@ -11,3 +12,7 @@ enough = MAX_MODULE_BYTES + 1
 -- the file of this name, as a reader gives it, spells an accepted module with these contents
 abbrev pub Holds : (List ℕ → ℕ → List ℕ → Type 0) → List ℕ → Contents → Type 0
 Holds gives name contents = (bytes : List ℕ) × gives name enough bytes × IsAccepted bytes contents
+
+-- the file of this name, as a reader gives it, is of this module, which is accepted
+abbrev pub IsLoaded : (List ℕ → ℕ → List ℕ → Type 0) → List ℕ → Loaded → Type 0
+IsLoaded gives name loaded = gives name enough loaded.bytes × IsAccepted loaded.bytes loaded.contents

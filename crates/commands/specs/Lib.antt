@@ -3,4 +3,7 @@ pub mod Arguments
 pub mod Calling
 pub mod Performing
 pub mod Refusing
+pub mod Scripting
+pub mod Serving
 pub mod Statuses
+pub mod Working

@@ -1,5 +1,5 @@
 -- What a command has done that ends with the status 0.
-use Rattle.std.specs.Prelude.{◌≡◌, ℕ, List, Option, Some, map, string_bytes, codes}
+use Rattle.std.specs.Prelude.{ℕ, List, Option, Some, map, string_bytes, codes}
 use Rattle.std.specs.Io.KnownBytes.{Appends}
 use Rattle.syntax.specs.declared.types.Value.{Value}
 use Rattle.syntax.specs.declared.contents.Contents.{Contents}
@@ -14,6 +14,9 @@ use Rattle.commands.specs.declared.calling.Called.TheVariants.{Function}
 use Rattle.commands.specs.Accepted.{Holds}
 use Rattle.commands.specs.Calling.{IsCalled, HasReturned, HasFunctionReturned}
 use Rattle.commands.specs.Arguments.{AllSpell}
+use Rattle.commands.specs.Working.{HasWorked}
+use Rattle.commands.specs.Scripting.{HasRun}
+use Rattle.commands.specs.Serving.{HasServedAll}
 
 -- A module with these contents exports a function under the name, the words spell its arguments, and this comes of a call of
 -- it on a new instance.
@@ -46,9 +49,7 @@ abbrev pub IsDone : (List ℕ → ℕ → List ℕ → Type 0) → Option (List 
 IsDone gives before after (Check file) = ((contents : Contents) × Holds gives (string_bytes file) contents)
     × Appends before after (codes "accepted\n")
 IsDone gives before after (Invoke invocation) = HasInvoked gives invocation
--- what comes of a work order is the reply's own fact
-IsDone gives before after (Work order) = Unit {0}
--- the log of a script is the world's
-IsDone gives before after (Script file) = Unit {0}
+IsDone gives before after (Work order) = HasWorked gives before after order
+IsDone gives before after (Script file) = HasRun gives before after (string_bytes file)
 -- what loops in threads print is no clause's
-IsDone gives before after (Serve service) = (contents : Contents) × Holds gives (string_bytes service.file) contents
+IsDone gives before after (Serve service) = HasServedAll gives service

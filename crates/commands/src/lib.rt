@@ -1,9 +1,11 @@
 //! What each command does: `perform` takes a command, a reader of files and two writers, and answers the exit status.
 //!
-//! Its contract says what a command has done that ends with the status 0: the file of `check`, `invoke` and `serve` holds a
-//! module that is decoded, valid and linked, and the function that `invoke` called returned. Begin with `perform`.
+//! Its contract says what a command has done that ends with the status 0: the file of `check`, `invoke`, `work` and `serve` holds
+//! a module that is decoded, valid and linked; the function that `invoke` called returned; `work` wrote the line of a value and
+//! bytes, which are the one end of its order; `script` took all steps, every callback returned, and the text of the log was
+//! written; and no loop that `serve` ran has failed. Begin with `perform`.
 //!
-//! What a status says is `specs/Statuses.antt`, and what an `invoke` has done `specs/Performing.antt`. Each command has a module of
+//! What a status says is `specs/Statuses.antt`, and what each command has done `specs/Performing.antt`. Each command has a module of
 //! its own (`calling`, `working`, `scripting`, `serving`); files are read through `Reader`, which `SystemFiles` is for the program.
 #![tactic(auto)]
 

@@ -1,6 +1,6 @@
 // What each command does.
 
-ghost use Rattle.std.specs.Prelude.{◌≡◌, ◌≢◌, ◌≤◌, ◌⊎◌, OnOk, IfOk, codes};
+ghost use Rattle.std.specs.Prelude.{◌≡◌, ◌≢◌, ◌≤◌, ◌⊎◌, Ok, OnOk, IfOk, codes};
 ghost use Rattle.std.specs.Io.KnownBytes.{Appends};
 ghost use Rattle.syntax.specs.declared.contents.Contents.{Contents};
 ghost use Rattle.commands.specs.Accepted.{Holds};
@@ -181,6 +181,51 @@ fn tell<O: Write, E: Write>(failure: &Failure<'_>, out: &mut O, err: &mut E) -> 
     }
 }
 
+/// What the program ends with. Why there is no result is told.
+fn status_from<O: Write, E: Write>(
+    ended: Result<Status, Failure<'_>>,
+    out: &mut O,
+    err: &mut E,
+) -> Status
+    ensures done { result ≡ Status.Done → ended.entry ≡ Ok Status.Done }
+    ensures kept { result ≡ Status.Done → out.new ≡ out.old }
+{
+    match ended {
+        Ok(status) => status,
+        Err(failure) => tell(&failure, out, err),
+    }
+}
+
+/// Does what the command asks for.
+fn run<
+    'a,
+    H: Threads + Wait + Sync,
+    M: Fn(Task) -> Result<J, AllocError> + Sync,
+    J: Job + Send,
+    R: Reader,
+    O: Write,
+    E: Write + Send,
+>(
+    rt: &H,
+    alloc: Global,
+    command: &'a Command,
+    reader: &R,
+    out: &mut O,
+    err: &mut E,
+    make: &M,
+) -> Result<Status, Failure<'a>>
+    requires make { M.IsAlwaysCallable make.now }
+    ensures { IfOk result (λ status. status ≡ Status.Done → IsDone (R.gives reader.now) (O.contents out.old) (O.contents out.new) command.now) }
+{
+    match command {
+        Command::Check { file } => check(alloc, file.as_str(), reader, out, err),
+        Command::Invoke(invocation) => invoke(alloc, invocation, reader, out, err),
+        Command::Work(order) => work(alloc, order, reader, out, err),
+        Command::Script { file } => script(alloc, file.as_str(), reader, out, err),
+        Command::Serve(service) => serve_file(rt, alloc, service, reader, out, err, make),
+    }
+}
+
 /// Performs the command. Results are written to `out`, and messages to `err`. `make` makes the job of an order.
 ///
 /// The answer is what the program ends with: 0 done; 1 the file, the memory or the output stood in the way; 2 the
@@ -197,16 +242,7 @@ pub fn perform<
     ensures known { result ≤ 4 }
     ensures done { result ≡ 0 → IsDone (R.gives reader.now) (O.contents out.old) (O.contents out.new) command.now }
 {
-    let result = match command {
-        Command::Check { file } => check(alloc, file.as_str(), reader, out, err),
-        Command::Invoke(invocation) => invoke(alloc, invocation, reader, out, err),
-        Command::Work(order) => work(alloc, order, reader, out, err),
-        Command::Script { file } => script(alloc, file.as_str(), reader, out, err),
-        Command::Serve(service) => serve_file(rt, alloc, service, reader, out, err, make),
-    };
-    let status = match result {
-        Ok(status) => status,
-        Err(failure) => tell(&failure, out, err),
-    };
+    let ended = run(rt, alloc, command, reader, out, err, make);
+    let status = status_from(ended, out, err);
     status.number()
 }

@@ -1,8 +1,14 @@
 // What comes of a script.
 
-ghost use Rattle.std.specs.Prelude.{◌≡◌, All, IfOk, length};
+ghost use Rattle.std.specs.Prelude.{◌≡◌, ◌↔◌, ◌≤◌, All, OnOk, IfOk, IsTrue, ℕ, length, map};
+ghost use Rattle.std.specs.Arc.{arc_value};
+ghost use Rattle.std.specs.Io.KnownBytes.{Appends};
+ghost use Rattle.limits.specs.declared.TheConstants.{MAX_SCRIPT_BYTES};
+ghost use Rattle.script.specs.Fault.{IsJson};
 ghost use Rattle.script.specs.Limits.{IsWithinLimits, IsLoopWithinLimits};
-ghost use Rattle.world.specs.Making.{HasDepth};
+ghost use Rattle.script.specs.Text.{log_text};
+ghost use Rattle.world.specs.Making.{HasDepth, setting_from, settings_from};
+ghost use Rattle.commands.specs.Scripting.{HoldsJson, IsAcceptedModule, bytes_of, IsPlanned, ArePlanned, IsWorldOf, TellsNoFailure, HasTaken, HasRun};
 
 use crate::calling::has_returned;
 use crate::failure::Failure;
@@ -26,7 +32,8 @@ use world_log::{FinishOutcome, JobId, Log, LogEntry};
 
 /// What the file asks for.
 fn plan_of<'a, R: Reader>(alloc: Global, file: &'a str, reader: &R) -> Result<Plan, Failure<'a>>
-    ensures { IfOk result IsWithinLimits }
+    ensures limits { IfOk result IsWithinLimits }
+    ensures json { OnOk result (HoldsJson (R.gives reader.now) file.now) }
 {
     match reader.read(alloc, file, MAX_SCRIPT_BYTES + 1) {
         Ok(bytes) => plan_in(alloc, bytes.as_slice()),
@@ -36,7 +43,9 @@ fn plan_of<'a, R: Reader>(alloc: Global, file: &'a str, reader: &R) -> Result<Pl
 
 /// What the bytes ask for.
 fn plan_in(alloc: Global, bytes: &[u8]) -> Result<Plan, Failure<'static>>
-    ensures { IfOk result IsWithinLimits }
+    ensures limits { IfOk result IsWithinLimits }
+    ensures few { OnOk result (length bytes.now ≤ MAX_SCRIPT_BYTES) }
+    ensures json { OnOk result (IsJson bytes.now) }
 {
     if bytes.len() > MAX_SCRIPT_BYTES {
         return Err(no_script(ScriptFault::Range, None));
@@ -57,7 +66,10 @@ fn no_script(fault: ScriptFault, place: Option<ScriptPlace>) -> Failure<'static>
     }
 }
 
-fn module_of(alloc: Global, bytes: &[u8]) -> Result<Arc<Linked, Global>, Failure<'static>> {
+fn module_of(alloc: Global, bytes: &[u8]) -> Result<Arc<Linked, Global>, Failure<'static>>
+    ensures same { IfOk result (λ linked. bytes_of (arc_value linked) ≡ bytes.now) }
+    ensures accepted { IfOk result (λ linked. IsAcceptedModule (arc_value linked)) }
+{
     let linked = accept(alloc, bytes)?;
     Ok(Arc::new(alloc, linked)?)
 }
@@ -79,7 +91,8 @@ fn modules_of(
     alloc: Global,
     texts: &[Vec<u8>],
 ) -> Result<Vec<Arc<Linked, Global>>, Failure<'static>>
-    ensures { IfOk result (λ linked. length linked.items ≡ length texts.now) }
+    ensures same { IfOk result (λ linked. map bytes_of (map arc_value linked.items) ≡ map (λ t. t.items) texts.now) }
+    ensures accepted { IfOk result (λ linked. All IsAcceptedModule (map arc_value linked.items)) }
 {
     let mut linked = Vec::new(alloc);
     for number in 0..texts.len() {
@@ -91,6 +104,18 @@ fn modules_of(
     Ok(linked)
 }
 
+/// A loop, with its module.
+fn loop_of(modules: &[Arc<Linked, Global>], planned: &LoopPlan) -> Result<LoopConfig, AllocError>
+    requires { IsLoopWithinLimits (length modules.now) planned.now }
+    ensures depth { IfOk result HasDepth }
+    ensures planned { IfOk result (λ config. (n : ℕ) → IsPlanned (map arc_value modules.now) n planned.now (setting_from n config)) }
+{
+    Ok(LoopConfig {
+        linked: Arc::try_clone(&modules[planned.module as usize])?,
+        settings: planned.settings,
+    })
+}
+
 /// The loops, each with its module.
 fn loops_of(
     alloc: Global,
@@ -100,13 +125,11 @@ fn loops_of(
     requires { All (IsLoopWithinLimits (length modules.now)) planned.now }
     ensures count { IfOk result (λ loops. length loops.items ≡ length planned.now) }
     ensures depths { IfOk result (λ loops. All HasDepth loops.items) }
+    ensures planned { IfOk result (λ loops. ArePlanned (map arc_value modules.now) 0 planned.now (settings_from 0 loops.items)) }
 {
     let mut loops = Vec::new(alloc);
     for plan in planned {
-        loops.push(LoopConfig {
-            linked: Arc::try_clone(&modules[plan.module as usize])?,
-            settings: plan.settings,
-        })?;
+        loops.push(loop_of(modules, plan)?)?;
     }
     Ok(loops)
 }
@@ -114,6 +137,7 @@ fn loops_of(
 /// The world that the plan asks for.
 fn world_of(alloc: Global, plan: &Plan) -> Result<World, Failure<'static>>
     requires { IsWithinLimits plan.now }
+    ensures { IfOk result (λ world. IsWorldOf plan.now world) }
 {
     let modules = modules_of(alloc, plan.modules.as_slice())?;
     let loops = loops_of(alloc, modules.as_slice(), plan.loops.as_slice())?;
@@ -124,26 +148,38 @@ fn world_of(alloc: Global, plan: &Plan) -> Result<World, Failure<'static>>
     Ok(World::new(alloc, config)?)
 }
 
-/// A callback ended otherwise than by return, so that its loop failed.
-fn is_failure(entry: &LogEntry) -> bool {
-    matches!(entry, LogEntry::Ran { ended, .. } if !has_returned(&ended.ending))
+/// Not of a callback that ended otherwise than by return, so that its loop failed.
+fn tells_no_failure(entry: &LogEntry) -> bool
+    ensures { IsTrue result ↔ TellsNoFailure entry.now }
+{
+    match entry {
+        LogEntry::Ran { ended, .. } => has_returned(&ended.ending),
+        _ => true,
+    }
 }
 
-fn status_of(log: &Log) -> Status {
-    if log.entries().iter().any(is_failure) {
-        return Status::Ended;
+/// Done, where no callback ended otherwise than by return.
+fn status_of(log: &Log) -> Status
+    ensures { (result ≡ Status.Done) ↔ All TellsNoFailure log.now.entries }
+{
+    if log.entries().iter().all(tells_no_failure) {
+        return Status::Done;
     }
-    Status::Done
+    Status::Ended
 }
 
 /// Prints what each step did.
-fn tell_log<O: Write>(alloc: Global, log: &Log, out: &mut O) -> Result<(), Failure<'static>> {
+fn tell_log<O: Write>(alloc: Global, log: &Log, out: &mut O) -> Result<(), Failure<'static>>
+    ensures { OnOk result (Appends (O.contents out.old) (O.contents out.new) (log_text log.now.entries)) }
+{
     let text = print(alloc, log)?;
     out.write_all(text.as_bytes())?;
     Ok(())
 }
 
-fn tell_fault<O: Write>(fault: WorldFault, out: &mut O) -> Result<Status, Failure<'static>> {
+fn tell_fault<O: Write>(fault: WorldFault, out: &mut O) -> Result<Status, Failure<'static>>
+    ensures { IfOk result (λ status. status ≡ Status.Failed) }
+{
     let code = fault.code();
     writeln!(out, "fault {code}")?;
     Ok(Status::Failed)
@@ -258,7 +294,9 @@ fn take_steps<O: Write, E: Write>(
     plan: &Plan,
     out: &mut O,
     err: &mut E,
-) -> Result<Status, Failure<'static>> {
+) -> Result<Status, Failure<'static>>
+    ensures { IfOk result (λ status. status ≡ Status.Done → HasTaken plan.now.steps.items world.old (O.contents out.old) (O.contents out.new)) }
+{
     let mut log = Log::new(alloc);
     let ran = world.run(plan.steps.as_slice(), &mut log);
     tell_log(alloc, &log, out)?;
@@ -283,14 +321,16 @@ fn counts_of(plan: &Plan) -> Counts {
 }
 
 /// Takes the steps of a script, and prints what each did. A step that names what is not there, or for which there is
-/// no memory, is told behind the steps before it.
+/// no memory, is told behind the steps before it. Done, where all steps were taken and every callback returned.
 pub fn script<'a, R: Reader, O: Write, E: Write>(
     alloc: Global,
     file: &'a str,
     reader: &R,
     out: &mut O,
     err: &mut E,
-) -> Result<Status, Failure<'a>> {
+) -> Result<Status, Failure<'a>>
+    ensures { IfOk result (λ status. status ≡ Status.Done → HasRun (R.gives reader.now) (O.contents out.old) (O.contents out.new) file.now) }
+{
     let plan = plan_of(alloc, file, reader)?;
     let mut world = world_of(alloc, &plan)?;
     take_steps(alloc, &mut world, &plan, out, err)

@@ -1,10 +1,10 @@
 // What comes of loops and workers in threads.
 
-ghost use Rattle.std.specs.Prelude.{◌≡◌, OnOk, IfOk, length, string_bytes};
+ghost use Rattle.std.specs.Prelude.{◌≡◌, ◌↔◌, All, IfOk, IsTrue, length, string_bytes};
 ghost use Rattle.std.specs.Arc.{arc_value};
 ghost use Rattle.serve.specs.Answers.{EachServed};
-ghost use Rattle.syntax.specs.declared.contents.Contents.{Contents};
-ghost use Rattle.commands.specs.Accepted.{Holds};
+ghost use Rattle.commands.specs.Accepted.{IsLoaded};
+ghost use Rattle.commands.specs.Serving.{HasNotFailed, AreServed, HasServedAll};
 
 use crate::failure::Failure;
 use crate::file::Reader;
@@ -22,7 +22,12 @@ use std::thread::Threads;
 use words::Service;
 
 /// How many threads there are, and what each loop may spend.
-fn serving_of(service: &Service) -> Serving {
+fn serving_of(service: &Service) -> Serving
+    ensures loops { result.loops ≡ service.now.loops }
+    ensures fuel { result.fuel ≡ service.now.budget.fuel }
+    ensures work_fuel { result.work_fuel ≡ service.now.work_fuel }
+    ensures depth { result.depth ≡ service.now.budget.depth }
+{
     Serving {
         loops: service.loops,
         workers: service.workers,
@@ -40,11 +45,20 @@ fn tell_served<O: Write>(served: &[Served], out: &mut O) -> io::Result<()> {
     out.flush()
 }
 
-fn status_of(served: &[Served]) -> Status {
-    if served.iter().any(|one| one.ending == LoopEnding::Failed) {
-        return Status::Ended;
+fn has_not_failed(served: &Served) -> bool
+    ensures { IsTrue result ↔ HasNotFailed served.now }
+{
+    served.ending != LoopEnding::Failed
+}
+
+/// Done, where no loop failed.
+fn status_of(served: &[Served]) -> Status
+    ensures { (result ≡ Status.Done) ↔ All HasNotFailed served.now }
+{
+    if served.iter().all(has_not_failed) {
+        return Status::Done;
     }
-    Status::Done
+    Status::Ended
 }
 
 /// The module of the file, to be shared. What it lacks is told.
@@ -54,7 +68,7 @@ fn shared<'a, R: Reader, E: Write>(
     file: &'a str,
     err: &mut E,
 ) -> Result<Arc<Linked>, Failure<'a>>
-    ensures accepted { OnOk result ((contents : Contents) × Holds (R.gives reader.now) file.now contents) }
+    ensures { IfOk result (λ linked. IsLoaded (R.gives reader.now) file.now (arc_value linked)) }
 {
     let linked = load(alloc, reader, file)?;
     warn(&linked, err);
@@ -104,6 +118,7 @@ fn serve_module<
     make: &M,
 ) -> Result<Status, Failure<'static>>
     requires { M.IsAlwaysCallable make.now }
+    ensures { IfOk result (λ status. status ≡ Status.Done → AreServed service.now (arc_value «module»)) }
 {
     let same = Arc::try_clone(&module)?;
     let serving = serving_of(service);
@@ -140,7 +155,7 @@ pub fn serve_file<
     make: &M,
 ) -> Result<Status, Failure<'a>>
     requires make { M.IsAlwaysCallable make.now }
-    ensures accepted { OnOk result ((contents : Contents) × Holds (R.gives reader.now) (string_bytes service.now.file) contents) }
+    ensures { IfOk result (λ status. status ≡ Status.Done → HasServedAll (R.gives reader.now) service.now) }
 {
     let module = shared(alloc, reader, service.file.as_str(), err)?;
     let mut lines = BufWriter::new(alloc, out)?;

@@ -1,7 +1,12 @@
 // What comes of a work order.
 
-ghost use Rattle.std.specs.Prelude.{◌≡◌, IfOk};
+ghost use Rattle.std.specs.Prelude.{◌≡◌, ◌↔◌, [], ◌∷◌, OnOk, IfOk};
 ghost use Rattle.std.specs.Arc.{arc_value};
+ghost use Rattle.std.specs.Io.KnownBytes.{Appends};
+ghost use Rattle.interp.specs.Traps.{trap_number};
+ghost use Rattle.order.specs.Orders.{end_of};
+ghost use Rattle.order.specs.Work.{Done, Trap, Uses};
+ghost use Rattle.commands.specs.Working.{asked_order, done_words, line, end_line, IsResult, HasWorked};
 
 use crate::failure::Failure;
 use crate::file::Reader;
@@ -11,6 +16,7 @@ use crate::stopping::{Stopped, tell_stopped};
 use crate::tracing::tell_used;
 use imports::{EntryPoint, Linked};
 use interp::trap::TrapCode;
+use order::laws::one_end;
 use order::{Order, Outcome, Told, Trail};
 use std::alloc::{AllocError, Global};
 use std::io::{self, Write};
@@ -27,6 +33,9 @@ fn shared(alloc: Global, bytes: &[u8]) -> Result<Arc<Vec<u8>>, AllocError>
 
 /// The order as request 1 of loop 0, in slot 0.
 fn request(alloc: Global, linked: Linked, work: &WorkRequest) -> Result<Order, AllocError>
+    ensures loop_no { IfOk result (λ order. order.loop_no ≡ 0) }
+    ensures number { IfOk result (λ order. order.request ≡ 1) }
+    ensures slot { IfOk result (λ order. order.slot ≡ 0) }
     ensures module { IfOk result (λ order. arc_value order.«module» ≡ linked) }
     ensures operation { IfOk result (λ order. order.op ≡ work.now.operation) }
     ensures bytes { IfOk result (λ order. (arc_value order.bytes).items ≡ work.now.bytes.items) }
@@ -47,13 +56,20 @@ fn request(alloc: Global, linked: Linked, work: &WorkRequest) -> Result<Order, A
     })
 }
 
-/// Writes a result, as a signed number, and the bytes of the reply, of which there are so many, by their digits.
-fn write_done<O: Write>(value: u32, count: usize, digits: &str, out: &mut O) -> io::Result<()> {
+/// Writes a result, as a signed number, and how many bytes there are.
+fn write_value<O: Write>(value: u32, count: usize, out: &mut O) -> io::Result<()>
+    ensures { OnOk result (Appends (O.contents out.old) (O.contents out.new) (line (done_words value count []))) }
+{
     let value = value.cast_signed();
-    match count {
-        0 => writeln!(out, "done {value} bytes 0"),
-        _ => writeln!(out, "done {value} bytes {count} {digits}"),
-    }
+    writeln!(out, "done {value} bytes {count}")
+}
+
+/// The same, and the bytes by their digits.
+fn write_bytes<O: Write>(value: u32, count: usize, digits: &str, out: &mut O) -> io::Result<()>
+    ensures { OnOk result (Appends (O.contents out.old) (O.contents out.new) (line (done_words value count (digits.now ∷ [])))) }
+{
+    let value = value.cast_signed();
+    writeln!(out, "done {value} bytes {count} {digits}")
 }
 
 fn tell_done<O: Write>(
@@ -61,28 +77,40 @@ fn tell_done<O: Write>(
     value: u32,
     bytes: &[u8],
     out: &mut O,
-) -> Result<Status, Failure<'static>> {
+) -> Result<(), Failure<'static>>
+    ensures { OnOk result (Appends (O.contents out.old) (O.contents out.new) (end_line (Done value bytes.now))) }
+{
+    if bytes.is_empty() {
+        write_value(value, bytes.len(), out)?;
+        return Ok(());
+    }
     let digits = hex::encode(alloc, bytes)?;
-    write_done(value, bytes.len(), digits.as_str(), out)?;
-    Ok(Status::Done)
+    write_bytes(value, bytes.len(), digits.as_str(), out)?;
+    Ok(())
 }
 
-fn tell_trap<O: Write>(trap: TrapCode, out: &mut O) -> Result<Status, Failure<'static>> {
+fn tell_trap<O: Write>(trap: TrapCode, out: &mut O) -> Result<(), Failure<'static>>
+    ensures { OnOk result (Appends (O.contents out.old) (O.contents out.new) (end_line (Trap (trap_number trap)))) }
+{
     let code = trap.code();
     writeln!(out, "trap {code}")?;
-    Ok(Status::Ended)
+    Ok(())
 }
 
-fn tell_end<O: Write>(line: &[u8], out: &mut O) -> Result<Status, Failure<'static>> {
+fn tell_end<O: Write>(line: &[u8], out: &mut O) -> Result<(), Failure<'static>>
+    ensures { OnOk result (Appends (O.contents out.old) (O.contents out.new) line.now) }
+{
     out.write_all(line)?;
-    Ok(Status::Ended)
+    Ok(())
 }
 
 fn tell_outcome<O: Write>(
     alloc: Global,
     outcome: &Outcome,
     out: &mut O,
-) -> Result<Status, Failure<'static>> {
+) -> Result<(), Failure<'static>>
+    ensures { OnOk result (Appends (O.contents out.old) (O.contents out.new) (end_line (end_of outcome.now))) }
+{
     match outcome {
         Outcome::Done(value, bytes) => tell_done(alloc, *value, bytes.as_slice(), out),
         Outcome::Trap(trap) => tell_trap(*trap, out),
@@ -92,12 +120,23 @@ fn tell_outcome<O: Write>(
     }
 }
 
+fn status_of(outcome: &Outcome) -> Status
+    ensures { (result ≡ Status.Done) ↔ IsResult (end_of outcome.now) }
+{
+    match outcome {
+        Outcome::Done(_, _) => Status::Done,
+        Outcome::Trap(_) | Outcome::Depth | Outcome::Spent | Outcome::NoMemory => Status::Ended,
+    }
+}
+
 fn no_work(alloc: Global, linked: &Linked) -> Failure<'static> {
     Failure::no_function(alloc, linked.valid().contents(), EntryPoint::Work.name())
 }
 
 /// The reply that the module computes, what it used and where it stopped.
-fn reply_of(alloc: Global, linked: Linked, work: &WorkRequest) -> Result<Told, Failure<'static>> {
+fn reply_of(alloc: Global, linked: Linked, work: &WorkRequest) -> Result<Told, Failure<'static>>
+    ensures { IfOk result (λ told. Uses (asked_order work.now linked) (end_of told.reply.outcome) told.used) }
+{
     let Some(_function) = linked.entry(EntryPoint::Work) else {
         return Err(no_work(alloc, &linked));
     };
@@ -136,21 +175,25 @@ fn explain<E: Write>(told: &Told, err: &mut E) -> io::Result<()> {
     }
 }
 
-/// Lets the module of the file compute the reply of a work order, and tells what came of it.
+/// Lets the module of the file compute the reply of a work order, and tells what came of it. Done, where that is a value
+/// and bytes.
 pub fn work<'a, R: Reader, O: Write, E: Write>(
     alloc: Global,
     work: &'a WorkRequest,
     reader: &R,
     out: &mut O,
     err: &mut E,
-) -> Result<Status, Failure<'a>> {
+) -> Result<Status, Failure<'a>>
+    ensures { IfOk result (λ status. status ≡ Status.Done → HasWorked (R.gives reader.now) (O.contents out.old) (O.contents out.new) work.now) }
+{
+    one_end();
     let linked = load(alloc, reader, work.file.as_str())?;
     let told = reply_of(alloc, linked, work)?;
-    let status = tell_outcome(alloc, &told.reply.outcome, out)?;
+    tell_outcome(alloc, &told.reply.outcome, out)?;
     // a sentence that can't be written changes nothing
     let _ = explain(&told, err);
     if work.is_traced {
         let _ = tell_used(told.used, work.budget.fuel, err);
     }
-    Ok(status)
+    Ok(status_of(&told.reply.outcome))
 }

@@ -1,4 +1,11 @@
+use Rattle.commands.proofs.Ends.{is_asked}
 use Rattle.commands.proofs.working.reply_of.Goals as goal
 
 pub run_told-requires-clause-work : goal.run_told-requires-clause-work
 run_told-requires-clause-work c = rw c.in_ok-order.ensures.module (c.in-Some._function, c.in-Some.ensures.found)
+
+pub returns : goal.returns
+returns c =
+    let e = c.in_ok-order.ensures in
+    let asked = is_asked c.in_ok-order.order c.args.work.now c.args.linked e.loop_no e.number e.slot e.module e.operation e.bytes e.fuel e.depth in
+    rw asked at c.run_told.ensures.used

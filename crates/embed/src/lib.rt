@@ -3,8 +3,7 @@
 //! Bytes become a guest by `load`, which answers a `Linked`, or a `Refusal` that prints the stage, number and word of what
 //! refused them. A guest lives on a `LoopCore`: over a `Desk` where the embedder drives it in one thread, `step` by `step`, runs
 //! its orders and brings back the replies; `serve` runs loops and workers in threads of their own. A `World` takes the steps of
-//! several loops and workers one by one, for tests. `LoopCore::step_told` tells beside a step where its callback stopped, if it did
-//! not return.
+//! several loops and workers one by one, for tests. Where a callback stopped that did not return, `LoopCore::last_stop` answers.
 //!
 //! Each contract is that of the crate which the name comes from. Begin with `load`, and with docs/EMBEDDING.md.
 #![tactic(auto)]
@@ -22,7 +21,7 @@ pub use limits::{
 };
 pub use loader::{Refusal, load};
 pub use order::{Order, Outcome, Reply, Told, Trail};
-pub use phases::{Accepted, Beside, EntryKind, Hint, LoopCore, Phase, Shared, StepDid, StepTold};
+pub use phases::{Accepted, Beside, EntryKind, Hint, LoopCore, Phase, Shared, StepDid};
 pub use places::{Part, Place, function_name, place_of_operation};
 pub use serve::{
     Account, Callback, Job, LoopEnding, Served, Serving, Task, Watch, serve, serve_watched,

@@ -20,4 +20,3 @@ pub mod Owning
 pub mod Readying
 pub mod Rostering
 pub mod Runnable
-pub mod Stopping

@@ -17,5 +17,4 @@ pub mod Roster
 pub mod Setting
 pub mod State
 pub mod Step
-pub mod Stopping
 pub mod View

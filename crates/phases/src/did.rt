@@ -2,7 +2,6 @@
 
 use crate::entry::{EntryKind, Phase};
 use interp::ended::Ended;
-use order::Trail;
 
 /// What one step of a loop did.
 #[derive(Debug, Drop)]
@@ -27,14 +26,6 @@ pub enum StepDid {
     Over,
     /// The loop has failed.
     Failed,
-}
-
-/// What one step of a loop did, and where its callback stopped.
-#[derive(Debug, Drop)]
-pub struct StepTold {
-    pub did: StepDid,
-    /// Where the callback stopped, if one ran and was over but by return.
-    pub trail: Option<Trail>,
 }
 
 /// How long a loop has nothing to do.

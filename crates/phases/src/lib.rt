@@ -30,7 +30,7 @@ mod shared;
 mod stepping;
 mod work;
 
-pub use did::{Hint, StepDid, StepTold};
+pub use did::{Hint, StepDid};
 pub use entry::{Entry, EntryKind, Phase, Status};
 pub use loop_core::{Accepted, LoopCore};
 pub use shared::{Beside, Shared};

@@ -18,10 +18,9 @@ ghost use Rattle.phases.specs.Requests.{IsLowestOpen};
 ghost use Rattle.phases.specs.Roster.{opening_roster};
 ghost use Rattle.phases.specs.State.{opening};
 ghost use Rattle.phases.specs.Step.{LoopStep, ListStep, EntryStep, CallsBack, CallsHandle, RunsFrom, Skips, TakesFirst, AfterWork, is_as_listed};
-ghost use Rattle.phases.specs.Stopping.{Leaves};
 ghost use Rattle.phases.specs.View.{new_view};
 
-use crate::did::{Hint, StepDid, StepTold};
+use crate::did::{Hint, StepDid};
 use crate::entry::{Entry, EntryKind, Status};
 use crate::guest::Guest;
 use crate::opening::opened;
@@ -31,9 +30,9 @@ use handles::Kind;
 use imports::{EntryPoint, Linked};
 use instance::stack::Stop;
 use instance::state::Instance;
-use interp::invoke::invoke_on;
+use interp::invoke::invoke;
 use order::laws::imports_are_named;
-use order::{Order, Reply, Trail};
+use order::{Order, Reply};
 use std::alloc::{AllocError, Global};
 use std::marker::Model;
 use std::sync::Arc;
@@ -133,106 +132,75 @@ impl<B: Shared + Drop> LoopCore<B> {
         ensures step { LoopStep B.calls self.old.setting self.old.loop result self.new.loop }
         ensures setting { self.new.setting ≡ self.old.setting }
     {
-        self.step_leaving(&mut None)
-    }
-
-    /// One step as `step` does it, which tells beside what it did where its callback stopped.
-    pub fn step_told(&mut self) -> StepTold
-        ensures step { LoopStep B.calls self.old.setting self.old.loop result.did self.new.loop }
-        ensures setting { self.new.setting ≡ self.old.setting }
-        ensures trail { Leaves B.calls self.new.setting result.did self.new.loop result.trail }
-    {
-        let mut trail = None;
-        let did = self.step_leaving(&mut trail);
-        StepTold { did, trail }
-    }
-
-    // One step. Where its callback stopped, if one runs and does not return, is put into the trail.
-    fn step_leaving(&mut self, trail: &mut Option<Trail>) -> StepDid
-        requires none { trail.old ≡ None }
-        ensures step { LoopStep B.calls self.old.setting self.old.loop result self.new.loop }
-        ensures setting { self.new.setting ≡ self.old.setting }
-        ensures trail { Leaves B.calls self.new.setting result self.new.loop trail.new }
-    {
         match self.guest.state.status() {
-            Status::Running => self.go_on(trail),
+            Status::Running => self.go_on(),
             Status::Over => StepDid::Over,
             Status::Failed => StepDid::Failed,
         }
     }
 
-    fn go_on(&mut self, trail: &mut Option<Trail>) -> StepDid
-        requires none { trail.old ≡ None }
+    fn go_on(&mut self) -> StepDid
         ensures step { ListStep B.calls self.old.setting self.old.loop self.old.loop.state.list result self.new.loop }
         ensures setting { self.new.setting ≡ self.old.setting }
-        ensures trail { Leaves B.calls self.new.setting result self.new.loop trail.new }
     {
         let Some(entry) = self.guest.state.front() else {
             return self.guest.state.turn();
         };
         self.guest.state.pop();
-        self.run(entry, trail)
+        self.run(entry)
     }
 
     // Runs an entry that was taken off the list.
-    fn run(&mut self, entry: Entry, trail: &mut Option<Trail>) -> StepDid
-        requires none { trail.old ≡ None }
+    fn run(&mut self, entry: Entry) -> StepDid
         requires ready { IsReady self.old.setting.loaded.contents self.old.loop.state entry }
         requires apart { All (Spares entry) self.old.loop.state.list }
         ensures step { EntryStep B.calls self.old.setting self.old.loop entry result self.new.loop }
         ensures setting { self.new.setting ≡ self.old.setting }
-        ensures trail { Leaves B.calls self.new.setting result self.new.loop trail.new }
     {
         match entry {
-            Entry::Start => self.run_start(trail),
-            Entry::Main => self.run_main(trail),
-            Entry::Timer { handle, start } => self.run_timer(handle, start, trail),
+            Entry::Start => self.run_start(),
+            Entry::Main => self.run_main(),
+            Entry::Timer { handle, start } => self.run_timer(handle, start),
             Entry::Idle { handle, start } => {
-                self.run_listed(Kind::Idle, EntryKind::Idle, handle, start, trail)
+                self.run_listed(Kind::Idle, EntryKind::Idle, handle, start)
             }
             Entry::Check { handle, start } => {
-                self.run_listed(Kind::Check, EntryKind::Check, handle, start, trail)
+                self.run_listed(Kind::Check, EntryKind::Check, handle, start)
             }
-            Entry::After { request } => self.run_after_work(request, trail),
-            Entry::Async { async_no } => self.run_async(async_no, trail),
-            Entry::Close { handle } => self.run_close(handle, trail),
+            Entry::After { request } => self.run_after_work(request),
+            Entry::Async { async_no } => self.run_async(async_no),
+            Entry::Close { handle } => self.run_close(handle),
         }
     }
 
-    fn run_start(&mut self, trail: &mut Option<Trail>) -> StepDid
-        requires none { trail.old ≡ None }
+    fn run_start(&mut self) -> StepDid
         requires ready { IsReady self.old.setting.loaded.contents self.old.loop.state Entry.Start }
         ensures step { EntryStep B.calls self.old.setting self.old.loop Entry.Start result self.new.loop }
         ensures setting { self.new.setting ≡ self.old.setting }
-        ensures trail { Leaves B.calls self.new.setting result self.new.loop trail.new }
     {
         let Some(function) = self.linked.valid().contents().start else {
             unreachable!();
         };
-        self.call(EntryKind::Start, 0, function, &[], None, trail)
+        self.call(EntryKind::Start, 0, function, &[], None)
     }
 
-    fn run_main(&mut self, trail: &mut Option<Trail>) -> StepDid
-        requires none { trail.old ≡ None }
+    fn run_main(&mut self) -> StepDid
         requires ready { IsReady self.old.setting.loaded.contents self.old.loop.state Entry.Main }
         ensures step { EntryStep B.calls self.old.setting self.old.loop Entry.Main result self.new.loop }
         ensures setting { self.new.setting ≡ self.old.setting }
-        ensures trail { Leaves B.calls self.new.setting result self.new.loop trail.new }
     {
         let Some(function) = self.linked.entry(EntryPoint::Main) else {
             unreachable!();
         };
-        self.call(EntryKind::Main, 0, function, &[], None, trail)
+        self.call(EntryKind::Main, 0, function, &[], None)
     }
 
-    fn run_timer(&mut self, handle: u32, start: u64, trail: &mut Option<Trail>) -> StepDid
-        requires none { trail.old ≡ None }
+    fn run_timer(&mut self, handle: u32, start: u64) -> StepDid
         ensures step { EntryStep B.calls self.old.setting self.old.loop (Entry.Timer handle start) result self.new.loop }
         ensures setting { self.new.setting ≡ self.old.setting }
-        ensures trail { Leaves B.calls self.new.setting result self.new.loop trail.new }
     {
         match self.guest.state.fire(handle, start) {
-            Some(function) => self.call_handle(EntryKind::Timer, handle, function, trail),
+            Some(function) => self.call_handle(EntryKind::Timer, handle, function),
             None => StepDid::Skipped {
                 kind: EntryKind::Timer,
                 number: handle,
@@ -241,23 +209,14 @@ impl<B: Shared + Drop> LoopCore<B> {
     }
 
     // An idle or a check handle.
-    fn run_listed(
-        &mut self,
-        listed: Kind,
-        kind: EntryKind,
-        handle: u32,
-        start: u64,
-        trail: &mut Option<Trail>,
-    ) -> StepDid
-        requires none { trail.old ≡ None }
+    fn run_listed(&mut self, listed: Kind, kind: EntryKind, handle: u32, start: u64) -> StepDid
         ensures step { MatchBool (is_as_listed listed self.old.loop.state.roster handle start)
             (CallsHandle B.calls self.old.setting self.old.loop self.old.loop.state.roster kind handle result self.new.loop)
             (Skips B.calls self.old.setting self.old.loop kind handle result self.new.loop) }
         ensures setting { self.new.setting ≡ self.old.setting }
-        ensures trail { Leaves B.calls self.new.setting result self.new.loop trail.new }
     {
         match self.guest.state.listed_function(listed, handle, start) {
-            Some(function) => self.call_handle(kind, handle, function, trail),
+            Some(function) => self.call_handle(kind, handle, function),
             None => StepDid::Skipped {
                 kind,
                 number: handle,
@@ -265,13 +224,11 @@ impl<B: Shared + Drop> LoopCore<B> {
         }
     }
 
-    fn run_after_work(&mut self, request: u32, trail: &mut Option<Trail>) -> StepDid
-        requires none { trail.old ≡ None }
+    fn run_after_work(&mut self, request: u32) -> StepDid
         requires ready { IsReady self.old.setting.loaded.contents self.old.loop.state (Entry.After request) }
         requires apart { All (Spares (Entry.After request)) self.old.loop.state.list }
         ensures step { EntryStep B.calls self.old.setting self.old.loop (Entry.After request) result self.new.loop }
         ensures setting { self.new.setting ≡ self.old.setting }
-        ensures trail { Leaves B.calls self.new.setting result self.new.loop trail.new }
     {
         let Some(function) = self.linked.entry(EntryPoint::AfterWork) else {
             unreachable!();
@@ -288,17 +245,14 @@ impl<B: Shared + Drop> LoopCore<B> {
             function,
             &args,
             Some(completion.bytes),
-            trail,
         )
     }
 
     // What waits at the async is taken first; where that is nothing, no callback runs.
-    fn run_async(&mut self, async_no: u32, trail: &mut Option<Trail>) -> StepDid
-        requires none { trail.old ≡ None }
+    fn run_async(&mut self, async_no: u32) -> StepDid
         requires ready { IsReady self.old.setting.loaded.contents self.old.loop.state (Entry.Async async_no) }
         ensures step { EntryStep B.calls self.old.setting self.old.loop (Entry.Async async_no) result self.new.loop }
         ensures setting { self.new.setting ≡ self.old.setting }
-        ensures trail { Leaves B.calls self.new.setting result self.new.loop trail.new }
     {
         let Some(handle) = self.guest.state.async_at(async_no) else {
             unreachable!();
@@ -316,36 +270,27 @@ impl<B: Shared + Drop> LoopCore<B> {
                 number: handle,
             };
         }
-        self.call_handle(kind, handle, function, trail)
+        self.call_handle(kind, handle, function)
     }
 
     // The handle is removed first.
-    fn run_close(&mut self, handle: u32, trail: &mut Option<Trail>) -> StepDid
-        requires none { trail.old ≡ None }
+    fn run_close(&mut self, handle: u32) -> StepDid
         requires ready { IsReady self.old.setting.loaded.contents self.old.loop.state (Entry.Close handle) }
         requires apart { All (Spares (Entry.Close handle)) self.old.loop.state.list }
         ensures step { EntryStep B.calls self.old.setting self.old.loop (Entry.Close handle) result self.new.loop }
         ensures setting { self.new.setting ≡ self.old.setting }
-        ensures trail { Leaves B.calls self.new.setting result self.new.loop trail.new }
     {
         let function = self.guest.state.finish_closing(handle);
-        self.call_handle(EntryKind::Close, handle, function, trail)
+        self.call_handle(EntryKind::Close, handle, function)
     }
 
     // A handle's callback is given its number.
-    fn call_handle(
-        &mut self,
-        kind: EntryKind,
-        handle: u32,
-        function: u32,
-        trail: &mut Option<Trail>,
-    ) -> StepDid
+    fn call_handle(&mut self, kind: EntryKind, handle: u32, function: u32) -> StepDid
         requires callback { TakesArguments self.old.setting.loaded.contents function (Value.I32 handle ∷ []) }
         ensures run { RunsFrom B.calls self.old.setting self.old.loop kind handle function (Value.I32 handle ∷ []) None result self.new.loop }
         ensures setting { self.new.setting ≡ self.old.setting }
-        ensures trail { Leaves B.calls self.new.setting result self.new.loop trail.new }
     {
-        self.call(kind, handle, function, &[Value::I32(handle)], None, trail)
+        self.call(kind, handle, function, &[Value::I32(handle)], None)
     }
 
     fn call(
@@ -355,30 +300,25 @@ impl<B: Shared + Drop> LoopCore<B> {
         function: u32,
         args: &[Value],
         reply: Option<Vec<u8>>,
-        trail: &mut Option<Trail>,
     ) -> StepDid
         requires takes { TakesArguments self.old.setting.loaded.contents function args.now }
         requires short { IsShort (option_map (λ v. v.items) reply) }
         ensures run { RunsFrom B.calls self.old.setting self.old.loop kind number function args.now (option_map (λ v. v.items) reply) result self.new.loop }
         ensures setting { self.new.setting ≡ self.old.setting }
-        ensures trail { Leaves B.calls self.new.setting result self.new.loop trail.new }
     {
         self.guest.state.begin_callback(reply);
         let (fuel, depth) = (self.guest.setting.fuel, self.guest.setting.depth);
         imports_are_named(&self.linked);
         let valid = self.linked.valid();
-        let Instance { state, stack } = &mut self.instance;
-        let ended = invoke_on(
+        let ended = invoke(
             valid,
-            state,
-            stack,
+            &mut self.instance,
             &mut self.guest,
             function,
             args,
             fuel,
             depth,
         );
-        *trail = Trail::of_last(stack);
         self.guest.state.end_callback(&ended);
         StepDid::Ran {
             kind,

@@ -8,9 +8,6 @@ use Rattle.phases.specs.Setting.{setting_of}
 use Rattle.phases.specs.State.{Setting, State, Loop}
 use Rattle.phases.specs.View.{AreOpenedUpTo}
 use Rattle.phases.proofs.Kept.{names_of, runs_from, kept_after, same_setting}
-use Rattle.phases.proofs.Stopping.{leaves, invoked_from, tells_from}
-use Rattle.phases.specs.Stopping.{Leaves}
-use Rattle.phases.specs.declared.did.StepDid.TheVariants.{Ran}
 use Rattle.phases.proofs.loop_core.LoopCore.call.Goals as goal
 
 pub invariant_of-self-inside : goal.invariant_of-self-inside
@@ -18,14 +15,14 @@ invariant_of-self-inside g c = record {
   opened = subst (λ (s : State). AreOpenedUpTo s.requests.last (g.B.Shared.calls.view c.self.inside.guest.shared)) (sym c.begin_callback.ensures) c.self.inside.guest.opened;
 }
 
-pub invoke_on-ended-requires-clause-names : goal.invoke_on-ended-requires-clause-names
-invoke_on-ended-requires-clause-names g c =
+pub invoke-ended-requires-clause-names : goal.invoke-ended-requires-clause-names
+invoke-ended-requires-clause-names g c =
     names_of c.valid-valid.result.now c.deref.result.now (arc_value c.self.inside.linked) (arc_value c.self.inside.guest.setting.linked) (c.valid-valid.ensures.same ∙ c.deref-2.ensures ∙ sym c.deref.ensures) c.deref.ensures c.self.invariant.same
     c.imports_are_named.ensures
 
 pub invariant_of-self-inside-2 : goal.invariant_of-self-inside-2
 invariant_of-self-inside-2 g c = record {
-  opened = subst (λ (s : State). AreOpenedUpTo s.requests.last (g.B.Shared.calls.view c.invoke_on-ended.new.host.shared)) (sym c.end_callback.ensures) c.invoke_on-ended.new.host.opened;
+  opened = subst (λ (s : State). AreOpenedUpTo s.requests.last (g.B.Shared.calls.view c.invoke-ended.new.host.shared)) (sym c.end_callback.ensures) c.invoke-ended.new.host.opened;
 }
 
 pub invariant_of-self : goal.invariant_of-self
@@ -35,10 +32,10 @@ invariant_of-self g c =
     let begins = ap (λ (s : State). (s, c.self.inside.guest.shared)) c.begin_callback.ensures in
     let is = c.valid-valid.ensures.same ∙ c.deref-2.ensures in
     let old : Loop _ = record { state = c.self.inside.guest.state; store = c.self.inside.instance; shared = c.self.inside.guest.shared } in
-    let kept = kept_after g.B.Shared.calls (λ h. setting_of h.setting) (λ h. (h.state, h.shared)) (arc_value c.self.inside.linked) c.valid-valid.result.now is set old c.self.invariant _ c.invoke_on-ended.new.host refl reply begins c.invoke_on-ended.new.state c.args.function c.args.args.now c.invoke_on-ended.result (invoked_from c.self-2.view_is c.invoke_on-ended.ensures.runs)
-    (subst (λ (x : Loaded). IsLinked x.contents) (sym c.valid-valid.ensures.same) c.valid-valid.ensures.linked) c.invoke_on-ended.ensures.kept c.end_callback.new.self c.end_callback.ensures in
-    let same = same_setting g.B.Shared.calls (λ h. setting_of h.setting) (λ h. (h.state, h.shared)) (arc_value c.self.inside.linked) c.valid-valid.result.now is set old c.self.invariant _ c.invoke_on-ended.new.host refl reply begins c.invoke_on-ended.new.state c.args.function c.args.args.now c.invoke_on-ended.result (invoked_from c.self-2.view_is c.invoke_on-ended.ensures.runs) in
-    subst (λ (x : Setting). Keeps (arc_value c.self.inside.linked) x c.end_callback.new.self c.invoke_on-ended.new.state) (sym same) kept
+    let kept = kept_after g.B.Shared.calls (λ h. setting_of h.setting) (λ h. (h.state, h.shared)) (arc_value c.self.inside.linked) c.valid-valid.result.now is set old c.self.invariant _ c.invoke-ended.new.host refl reply begins c.invoke-ended.new.instance c.args.function c.args.args.now c.invoke-ended.result c.invoke-ended.ensures.runs
+    (subst (λ (x : Loaded). IsLinked x.contents) (sym c.valid-valid.ensures.same) c.valid-valid.ensures.linked) c.invoke-ended.ensures.kept c.end_callback.new.self c.end_callback.ensures in
+    let same = same_setting g.B.Shared.calls (λ h. setting_of h.setting) (λ h. (h.state, h.shared)) (arc_value c.self.inside.linked) c.valid-valid.result.now is set old c.self.invariant _ c.invoke-ended.new.host refl reply begins c.invoke-ended.new.instance c.args.function c.args.args.now c.invoke-ended.result c.invoke-ended.ensures.runs in
+    subst (λ (x : Setting). Keeps (arc_value c.self.inside.linked) x c.end_callback.new.self c.invoke-ended.new.instance) (sym same) kept
 
 pub returns-clause-run : goal.returns-clause-run
 returns-clause-run g c =
@@ -47,7 +44,7 @@ returns-clause-run g c =
     let begins = ap (λ (s : State). (s, c.self.inside.guest.shared)) c.begin_callback.ensures in
     let is = c.valid-valid.ensures.same ∙ c.deref-2.ensures in
     let old : Loop _ = record { state = c.self.inside.guest.state; store = c.self.inside.instance; shared = c.self.inside.guest.shared } in
-    rw (← c.self.view_is) (runs_from g.B.Shared.calls (λ h. setting_of h.setting) (λ h. (h.state, h.shared)) (arc_value c.self.inside.linked) c.valid-valid.result.now is set old c.self.invariant _ c.invoke_on-ended.new.host refl reply begins c.invoke_on-ended.new.state c.args.function c.args.args.now c.invoke_on-ended.result (invoked_from c.self-2.view_is c.invoke_on-ended.ensures.runs) c.args.kind c.args.number c.end_callback.new.self c.end_callback.ensures)
+    rw (← c.self.view_is) (runs_from g.B.Shared.calls (λ h. setting_of h.setting) (λ h. (h.state, h.shared)) (arc_value c.self.inside.linked) c.valid-valid.result.now is set old c.self.invariant _ c.invoke-ended.new.host refl reply begins c.invoke-ended.new.instance c.args.function c.args.args.now c.invoke-ended.result c.invoke-ended.ensures.runs c.args.kind c.args.number c.end_callback.new.self c.end_callback.ensures)
 
 pub returns-clause-setting : goal.returns-clause-setting
 returns-clause-setting g c =
@@ -56,17 +53,4 @@ returns-clause-setting g c =
     let begins = ap (λ (s : State). (s, c.self.inside.guest.shared)) c.begin_callback.ensures in
     let is = c.valid-valid.ensures.same ∙ c.deref-2.ensures in
     let old : Loop _ = record { state = c.self.inside.guest.state; store = c.self.inside.instance; shared = c.self.inside.guest.shared } in
-    rw (← c.self.view_is) (same_setting g.B.Shared.calls (λ h. setting_of h.setting) (λ h. (h.state, h.shared)) (arc_value c.self.inside.linked) c.valid-valid.result.now is set old c.self.invariant _ c.invoke_on-ended.new.host refl reply begins c.invoke_on-ended.new.state c.args.function c.args.args.now c.invoke_on-ended.result (invoked_from c.self-2.view_is c.invoke_on-ended.ensures.runs))
-
-pub returns-clause-trail : goal.returns-clause-trail
-returns-clause-trail g c =
-    let set = setting_of c.self.inside.guest.setting in
-    let reply = option_map (λ v. v.items) c.args.reply in
-    let begins = ap (λ (s : State). (s, c.self.inside.guest.shared)) c.begin_callback.ensures in
-    let is = c.valid-valid.ensures.same ∙ c.deref-2.ensures in
-    let old : Loop _ = record { state = c.self.inside.guest.state; store = c.self.inside.instance; shared = c.self.inside.guest.shared } in
-    let new : Loop _ = record { state = c.end_callback.new.self; store = c.invoke_on-ended.new.state; shared = c.invoke_on-ended.new.host.shared } in
-    let same = same_setting g.B.Shared.calls (λ h. setting_of h.setting) (λ h. (h.state, h.shared)) (arc_value c.self.inside.linked) c.valid-valid.result.now is set old c.self.invariant _ c.invoke_on-ended.new.host refl reply begins c.invoke_on-ended.new.state c.args.function c.args.args.now c.invoke_on-ended.result (invoked_from c.self-2.view_is c.invoke_on-ended.ensures.runs) in
-    subst (λ (x : Setting). Leaves g.B.Shared.calls x (Ran c.args.kind c.args.number c.invoke_on-ended.result) new c.of_last.result) (sym same)
-    (leaves g.B.Shared.calls (λ h. setting_of h.setting) (λ h. (h.state, h.shared)) (arc_value c.self.inside.linked) c.valid-valid.result.now is set old c.self.invariant _ c.invoke_on-ended.new.host refl reply begins c.invoke_on-ended.new.state c.args.function c.args.args.now c.invoke_on-ended.result (invoked_from c.self-2.view_is c.invoke_on-ended.ensures.runs)
-    c.invoke_on-ended.new.stack (tells_from c.self-2.view_is c.invoke_on-ended.ensures.stops) c.args.kind c.args.number c.end_callback.new.self c.end_callback.ensures c.of_last.result c.of_last.ensures)
+    rw (← c.self.view_is) (same_setting g.B.Shared.calls (λ h. setting_of h.setting) (λ h. (h.state, h.shared)) (arc_value c.self.inside.linked) c.valid-valid.result.now is set old c.self.invariant _ c.invoke-ended.new.host refl reply begins c.invoke-ended.new.instance c.args.function c.args.args.now c.invoke-ended.result c.invoke-ended.ensures.runs)

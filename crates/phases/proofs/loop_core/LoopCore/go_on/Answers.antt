@@ -11,7 +11,6 @@ use Rattle.phases.specs.declared.entry.Entry.{Entry}
 use Rattle.phases.specs.View.{AreOpenedUpTo}
 use Rattle.phases.proofs.Kept.{kept_with, turn_leaves, front_of, no_front}
 use Rattle.phases.proofs.Readying.{ready_front, ready_rest, spared_rest}
-use Rattle.phases.proofs.Stopping.{turn_leaves_none}
 use Rattle.phases.proofs.loop_core.LoopCore.go_on.Goals as goal
 
 pub invariant_of-self-inside : goal.invariant_of-self-inside
@@ -71,6 +70,3 @@ returns-clause-step g c =
     subst (λ now. ListStep g.B.Shared.calls now.setting now.loop now.loop.state.list c.run.result c.run.new.self.loop) c.self.view_is
     (subst (λ (list : List Entry). ListStep g.B.Shared.calls set (record { state = s; store = c.self.inside.instance; shared = c.self.inside.guest.shared }) list c.run.result c.run.new.self.loop) (sym is)
     (subst (λ (u : State). EntryStep g.B.Shared.calls set (record { state = u; store = c.self.inside.instance; shared = c.self.inside.guest.shared }) c.in-Some.entry c.run.result c.run.new.self.loop) c.pop.ensures c.run.ensures.step))
-
-pub returns-in_default-clause-trail : goal.returns-in_default-clause-trail
-returns-in_default-clause-trail g c = turn_leaves_none g.B.Shared.calls _ c.self.inside.guest.state c.turn.result _ c.args.trail.now c.requires.none c.turn.ensures.did

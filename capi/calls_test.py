@@ -98,6 +98,11 @@ def calls():
     refused(lambda: module.job(0).about() and module.job(0)._bytes("job_reply", 0), wasmloop.NONE)
     module.close()
     refused(lambda: module.work(0), wasmloop.EMPTY)
+    with wasmloop.Module((EXAMPLES / "digest.wasm").read_bytes()) as asking, wasmloop.Loop(asking) as loop:
+        while loop.step().what != wasmloop.RAN:
+            pass
+        standing = loop.standing()
+        same((standing.alive, standing.failed, standing.outstanding), (1, 0, 4))
 
 
 calls()

@@ -1,12 +1,12 @@
-"""Spreads one work request for each block of a file over processes, by Dask's distributed scheduler.
+"""Spreads the blocks of a file over processes, one work request for each block, by Dask's distributed scheduler.
 
-usage: spread.py MODULE FILE [--kill] [PROCESSES ..]
-
-Prints a digest of the replies and the time for this process alone, for each number of processes (1, 2 and 4), and with --kill for the
-last number once more, where one process is killed half way. The operation is 0. A request is a function of the module, the operation and the bytes alone, so the scheduler may run one
-again whose process ended. Ends with 1 where replies differ, or where no request was left for the killed process.
+The operation is 0, and a block has 65,536 bytes. Each process reads the blocks of its tasks itself, so FILE must lie where all of them
+find it; through the scheduler go numbers and replies alone. Printed are a digest of the replies and the time of this process alone and of
+each number of processes. A request is a function of the module, the operation and the bytes alone, so the scheduler may run one again
+whose process ended. Ends with 1 where replies differ, or where no task was left for the killed process.
 """
 
+import argparse
 import hashlib
 import os
 import signal
@@ -17,61 +17,118 @@ from distributed import Client, LocalCluster, as_completed
 
 from wasmloop import work
 
-BLOCK, FUEL = 65_536, 10**9
+BLOCK, FUEL, MOST_TASKS = 65_536, 10**9, 64
 
 
-def digest(replies):
-    return hashlib.sha256(repr(replies).encode()).hexdigest()[:16]
+def arguments():
+    words = argparse.ArgumentParser(description=__doc__, formatter_class=argparse.RawDescriptionHelpFormatter)
+    words.add_argument("module", metavar="MODULE")
+    words.add_argument("file", metavar="FILE")
+    words.add_argument("processes", metavar="PROCESSES", type=int, nargs="*", default=[1, 2, 4], help="how many processes (1, 2 and 4)")
+    words.add_argument("--rounds", metavar="N", type=int, default=1, help="do all so many times, and tell the least times (1)")
+    words.add_argument("--kill", action="store_true", help="at last once more on the last number, with one process killed half way")
+    return words.parse_intermixed_args()
 
 
-def gathered(client, futures):
+def replies_to(module, file, first, count):
+    """The replies to some blocks of a file, from the first of them on, and which process computed them."""
+    with open(file, "rb") as blocks:
+        blocks.seek(first * BLOCK)
+        return [work(module, 0, blocks.read(BLOCK), FUEL) for _ in range(count)], os.getpid()
+
+
+def tasks_of(blocks):
+    """The first block of each task and how many blocks it has. A task is many blocks of a large file, so that the work counts and not the
+    scheduler."""
+    each = -(-blocks // MOST_TASKS)
+    return [(first, min(each, blocks - first)) for first in range(0, blocks, each)]
+
+
+def gathered(client, futures, workers):
     return client.gather(futures)
 
 
-def with_a_kill(client, futures):
-    """Kills a process when half of the requests are answered, and then waits for all."""
-    address, victim = next(iter(client.run(os.getpid).items()))
+def with_a_kill(client, futures, workers):
+    """Kills a process when half of the tasks are done, and then waits for all."""
+    ((address, victim),) = client.run(os.getpid, workers=workers[:1]).items()
     for done, _ in enumerate(as_completed(futures)):
         if done == len(futures) // 2:
             os.kill(victim, signal.SIGKILL)
             left = sum(not it.done() for it in futures)
             break
-    replies = client.gather(futures)
+    parts = client.gather(futures)
     if not left or address in client.scheduler_info()["workers"]:
-        sys.exit(f"process {victim} was not killed half way: {left} requests were left")
-    return replies
+        sys.exit(f"process {victim} was not killed half way: {left} tasks were left")
+    return parts
 
 
-def spread(data, blocks, processes, gather):
-    """The replies, and how many seconds they took. The processes have loaded the module before."""
-    with LocalCluster(processes, threads_per_worker=1, dashboard_address=None, silence_logs=50) as cluster, Client(cluster) as client:
-        client.run(work, data, 0)
-        module = client.scatter(data, broadcast=True)
+class Bench:
+    def __init__(self, client, module, file):
+        with open(module, "rb") as it:
+            self.module = it.read()
+        self.client, self.file, self.workers = client, os.path.abspath(file), list(client.scheduler_info()["workers"])
+        self.blocks = -(-os.path.getsize(file) // BLOCK)
+        if not self.blocks:
+            sys.exit(f"{file} is empty")
+        # each process has loaded the module before
+        client.run(work, self.module, 0)
+        self.lent = client.scatter(self.module, broadcast=True)
+
+    def alone(self):
+        return replies_to(self.module, self.file, 0, self.blocks)[0]
+
+    def spread(self, processes, gather=gathered):
+        workers = self.workers[:processes]
+        first, count = zip(*tasks_of(self.blocks))
+        every = [self.lent] * len(first), [self.file] * len(first)
+        futures = self.client.map(replies_to, *every, first, count, workers=workers, pure=False)
+        parts = gather(self.client, futures, workers)
+        if len({process for _, process in parts}) > processes:
+            sys.exit(f"more than {processes} processes computed")
+        return [reply for replies, _ in parts for reply in replies]
+
+
+class Run:
+    """What was computed in some way, and how long it took, in seconds."""
+
+    def __init__(self, name, compute, *words):
+        self.name, self.compute, self.words, self.digests, self.took = name, compute, words, set(), []
+
+    def again(self):
         began = time.monotonic()
-        futures = client.map(work, [module] * len(blocks), [0] * len(blocks), blocks, [FUEL] * len(blocks), pure=False)
-        return gather(client, futures), time.monotonic() - began
+        replies = self.compute(*self.words)
+        self.took.append(time.monotonic() - began)
+        self.digests.add(hashlib.sha256(repr(replies).encode()).hexdigest()[:16])
+
+    def tell(self, alone):
+        least, most = min(self.took), max(self.took)
+        print(f"{self.name}: {' '.join(self.digests)} in {least:.2f} to {most:.2f} s, {min(alone.took) / least:.2f} times as fast", flush=True)
 
 
-def main(module, file, *words):
-    with open(module, "rb") as it:
-        data = it.read()
-    with open(file, "rb") as it:
-        whole = it.read()
-    blocks = [whole[at : at + BLOCK] for at in range(0, len(whole), BLOCK)]
-    began = time.monotonic()
-    alone = [work(data, 0, it, FUEL) for it in blocks]
-    alone_took = time.monotonic() - began
-    print(f"{len(blocks)} blocks, this process alone: {digest(alone)} in {alone_took:.2f} s", flush=True)
-    runs = [(int(it), gathered) for it in words if it != "--kill"] or [(1, gathered), (2, gathered), (4, gathered)]
-    if "--kill" in words:
-        runs.append((runs[-1][0], with_a_kill))
-    for processes, gather in runs:
-        replies, took = spread(data, blocks, processes, gather)
-        killed = ", one killed half way" if gather == with_a_kill else ""
-        print(f"processes: {processes}{killed}: {digest(replies)} in {took:.2f} s, {alone_took / took:.2f} times as fast", flush=True)
-        if replies != alone:
+def measure(bench, words):
+    """This process alone and each number of processes in turns, and then the killed one."""
+    alone, last = Run("this process alone", bench.alone), words.processes[-1]
+    runs = [alone, *(Run(f"processes: {it}", bench.spread, it) for it in words.processes)]
+    for it in runs * words.rounds:
+        it.again()
+    if words.kill:
+        runs.append(Run(f"processes: {last}, one killed half way", bench.spread, last, with_a_kill))
+        runs[-1].again()
+    for it in runs:
+        it.tell(alone)
+    return set().union(*(it.digests for it in runs))
+
+
+def main():
+    words = arguments()
+    load = os.getloadavg()[0]
+    settings = {"threads_per_worker": 1, "dashboard_address": None, "silence_logs": 50}
+    with LocalCluster(n_workers=max(words.processes), **settings) as cluster, Client(cluster) as client:
+        bench = Bench(client, words.module, words.file)
+        print(f"{bench.blocks} blocks, {len(tasks_of(bench.blocks))} tasks; the machine's load before was {load:.1f}", flush=True)
+        if len(measure(bench, words)) != 1:
             sys.exit("the replies differ")
 
 
 if __name__ == "__main__":
-    main(*sys.argv[1:])
+    main()

@@ -40,6 +40,7 @@ class About(c.Structure):
 Fault = _struct("Fault", u32="stage code place section", u64="byte function number")
 Shape = _struct("Shape", u32="main work after_work table", u64="imports")
 Site = _struct("Site", u64="function operation")
+Standing = _struct("Standing", u32="alive failed", u64="outstanding")
 
 
 class Limits(c.Structure):
@@ -219,6 +220,12 @@ class Loop(_Held):
         ms = c.c_uint64()
         _call("hint", self.handle, c.byref(ms))
         return ms.value
+
+    def standing(self):
+        """Whether it is alive, whether it has failed, and how many requests are outstanding."""
+        standing = Standing()
+        _call("standing_of", self.handle, standing)
+        return standing
 
     def send(self, number):
         _call("async_send", self.handle, c.c_uint32(number))

@@ -47,7 +47,6 @@ static void must(int told, const char *what) {
 
 static void on_timer(uv_timer_t *timer) { turn(timer->data); }
 static void on_idle(uv_idle_t *idle) { turn(idle->data); }
-
 /* in a thread of the pool */
 static void on_work(uv_work_t *work) { wasmloop_job_run(&((job *)work->data)->handle); }
 

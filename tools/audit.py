@@ -13,20 +13,23 @@ It starts from the calls that docs/AUDIT.md lists, takes their clauses and the t
 to its definition, and so on. Of a Rust type it takes the fields, and the ghost fields where they are public; where the
 type has a `Model`, its `Value` alone. It follows no invariant, no `view` and no private ghost field. A name is a token: a
 bound variable that is called as a definition counts as that. So it may ask for some lines too many, and leaves none out.
+
+It also compares what is reached with where it stands: nothing of specs/Inner is reached by these calls, and a file of specs/
+outside Inner is reached by them, by a call that docs/PROOFS.md names, or by a public call of a public module.
 """
 import re
 import sys
 from pathlib import Path
 
 TOP = Path(__file__).resolve().parent.parent
-CRATES, PAGE = TOP / 'crates', TOP / 'docs' / 'AUDIT.md'
+CRATES, PAGE, PROOFS = TOP / 'crates', TOP / 'docs' / 'AUDIT.md', TOP / 'docs' / 'PROOFS.md'
 WORD = r"[A-Za-z_][\w'-]*"
 NAMES = re.compile(rf"{WORD}(?:\.{WORD})*|[^\w\s]")
 ANTT = re.compile(rf"^(  )?(?:(?:abbrev|unfoldable) pub|pub (?:record|data)) (◌.◌|{WORD})|^()pub (?!mod )({WORD}) :")
 ITEM = re.compile(rf"^(?:pub(?:\([a-z]+\))? )?(struct|enum|trait|const) ({WORD})")
 BLOCK = re.compile(rf"^(?:pub )?(impl|trait)(?:<.*?>(?= ))? (?:(\w+)(?:<.*>)? for )?({WORD})")
 DOC = r"\s*(///|#\[)"
-FN = re.compile(rf"^(\s*)(pub )?(?:const )?fn ({WORD})")
+FN = re.compile(rf"^(\s*)(pub )?(?:const )?(?:extern .C. )?fn ({WORD})")
 
 
 def read(file):
@@ -185,15 +188,42 @@ class Tree:
         item = self.rust_type(crate, '', path[-1])
         return found + ([item] if item else []) or sys.exit(f"audit: there is no public call {call}")
 
+    def public_calls(self):
+        """The public functions of public modules, and those that a crate's root hands on."""
+        for (file, of), nodes in self.calls.items():
+            root = CRATES / file.relative_to(CRATES).parts[0] / 'src' / 'lib.rt'
+            text = read(root) if root.is_file() else ''
+            handed = ' '.join(re.findall(r"^pub use [^;]*", text, re.M))
+            known = file == root or re.search(rf"^pub mod {file.stem};", text, re.M)
+            yield from (node for node in nodes if known or 'extern' in node.text or re.search(rf"\b{of or node.name}\b", handed))
+
     def reach(self, calls):
         """The definitions that are reached from these calls."""
-        reached, waiting = {}, [node for call in calls for node in self.roots(call)]
+        return self.reach_from([node for call in calls for node in self.roots(call)])
+
+    def reach_from(self, nodes):
+        reached, waiting = {}, list(nodes)
         while waiting:
             node = waiting.pop()
             if node and id(node) not in reached:
                 reached[id(node)] = node
                 waiting += [self.resolve(node, word) for word in set(NAMES.findall(node.text))]
         return reached.values()
+
+
+def named_in(page):
+    """The calls that a page names."""
+    return sorted(set(re.findall(r"`([a-z_]+::[\w:]+)`", page)) - {'crate::call'})
+
+
+def misplaced(tree, reached):
+    """What stands in specs/Inner and is reached, and what stands outside and is not."""
+    yield from (f"{name} is reached, and stands in Inner" for name in sorted(reached) if '/specs/Inner' in name)
+    more = tree.reach_from([node for call in named_in(read(PROOFS)) for node in tree.roots(call)] + list(tree.public_calls()))
+    told = {str(node.file.relative_to(CRATES)) for node in more} | set(reached)
+    for name in sorted({str(file.relative_to(CRATES)) for file, _ in tree.nodes if file.suffix == '.antt'} - told):
+        if '/specs/Inner' not in name:
+            yield f"{name}: no public clause reaches it, and it stands outside Inner"
 
 
 ROW = re.compile(r"^\| ([a-z_]+/(?:specs|src): [^|]*) \| (\d+ of \d+) \|", re.M)
@@ -262,9 +292,9 @@ def main():
     if '--renew' in options:
         page = renew(PAGE.read_text(), counts)
         PAGE.write_text(page)
-    wrong = [] if '--from' in options else list(compare(page, counts))
+    wrong = [] if '--from' in options else [f"docs/AUDIT.md: {line}" for line in compare(page, counts)] + list(misplaced(tree, counts))
     for line in wrong:
-        print(f"docs/AUDIT.md: {line}", file=sys.stderr)
+        print(line, file=sys.stderr)
     sys.exit(1 if wrong else 0)
 
 

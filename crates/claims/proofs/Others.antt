@@ -8,7 +8,7 @@ use Rattle.tallies.specs.Requests.{last_in}
 use Rattle.tallies.proofs.Lists.{part_set, part_push, set_apart}
 use Rattle.claims.specs.declared.rule.View.{View}
 use Rattle.claims.specs.Rule.{IsWorker, with_worker, spent, seat_of, maker_of, place, of_loop, IsKept, IsClaimed}
-use Rattle.claims.specs.Steps.{with_opened}
+use Rattle.claims.specs.Inner.Steps.{with_opened}
 use Rattle.claims.proofs.Moves.{begins, hit, no_list, own, opens, makes_seat, joins_worker}
 
 no_last : (views : List View) (l slot : ℕ) → (of_loop views l).opened ≡ [] → last_in slot (of_loop views l).opened ≡ 0

@@ -2,7 +2,7 @@
 use Rattle.std.proofs.Common.{◌≡◌, refl, Result, Ok, Err, IfOk, OnOk}
 use Rattle.commands.specs.declared.status.Status.{Status}
 use Rattle.commands.specs.declared.status.Status.TheVariants as status
-use Rattle.commands.specs.Statuses.{number_of}
+use Rattle.commands.specs.Inner.Statuses.{number_of}
 
 pub done_of : (s : Status) → number_of s ≡ 0 → s ≡ status.Done
 done_of status.Done h = refl

@@ -5,5 +5,5 @@ pub mod Performing
 pub mod Refusing
 pub mod Scripting
 pub mod Serving
-pub mod Statuses
+pub mod Inner
 pub mod Working

@@ -68,7 +68,7 @@ fn exported_functions(alloc: Global, contents: &Contents) -> Result<String, Allo
 }
 
 impl<'a> Failure<'a> {
-    ghost use Rattle.commands.specs.Statuses.{status_of_failure};
+    ghost use Rattle.commands.specs.Inner.Statuses.{status_of_failure};
 
     /// The file of this name is not read.
     pub fn unread(name: &'a str, fault: ReadFault) -> Failure<'a> {

@@ -5,7 +5,7 @@
 //! bytes, which are the one end of its order; `script` took all steps, every callback returned, and the text of the log was
 //! written; and no loop that `serve` ran has failed. Begin with `perform`.
 //!
-//! What a status says is `specs/Statuses.antt`, and what each command has done `specs/Performing.antt`. Each command has a module of
+//! What a status says is `specs/Inner/Statuses.antt`, and what each command has done `specs/Performing.antt`. Each command has a module of
 //! its own (`calling`, `working`, `scripting`, `serving`); files are read through `Reader`, which `SystemFiles` is for the program.
 #![tactic(auto)]
 

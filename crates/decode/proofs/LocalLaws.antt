@@ -8,8 +8,8 @@ use Rattle.syntax.specs.Binary.{Locals, group, ungrouped}
 use Rattle.syntax.proofs.Joins.{joined, apart, items_none, free_u32, items_few}
 use Rattle.syntax.proofs.ModuleLaws.{free_group, leaves_locals}
 use Rattle.decode.specs.declared.stop.Stop.{Stop}
-use Rattle.decode.specs.Reading.{NoneLeaves, Reads}
-use Rattle.decode.specs.Locals.{LocalsOf}
+use Rattle.decode.specs.Inner.Reading.{NoneLeaves, Reads}
+use Rattle.decode.specs.Inner.Locals.{LocalsOf}
 use Rattle.decode.proofs.Exits.{past}
 use Rattle.decode.proofs.ItemLaws.{items_push, none_beyond}
 

@@ -2,8 +2,8 @@
 
 ghost use Rattle.std.specs.Prelude.{List, ℕ};
 ghost use Rattle.syntax.specs.Binary.{Locals, group as spells_group};
-ghost use Rattle.decode.specs.Reading.{Reads, ReadsBy};
-ghost use Rattle.decode.specs.Locals.{LocalsOf, as_pair};
+ghost use Rattle.decode.specs.Inner.Reading.{Reads, ReadsBy};
+ghost use Rattle.decode.specs.Inner.Locals.{LocalsOf, as_pair};
 
 use crate::fault::DecodeFault;
 use crate::integers::unsigned;

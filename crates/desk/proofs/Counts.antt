@@ -7,7 +7,7 @@ use Rattle.limits.specs.declared.TheConstants.{MAX_ASYNCS, MAX_REQUESTS, MAX_SEN
 use Rattle.tallies.specs.Counts.{raised}
 use Rattle.tallies.proofs.Counts.{raised-there, raised-elsewhere, at-le-sum, sum-raised, length-raised}
 use Rattle.desk.specs.Desk.{Desk, sent_own, taken, sent_by_another}
-use Rattle.desk.specs.Rule.{AreCounts, IsCounted, IsSized, waiting_place}
+use Rattle.desk.specs.Inner.Rule.{AreCounts, IsCounted, IsSized, waiting_place}
 
 -- the lists keep their lengths
 pub own-sized : (d : Desk) (a : ℕ) → IsSized d → IsSized (sent_own d a)

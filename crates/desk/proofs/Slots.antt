@@ -9,7 +9,7 @@ use Rattle.tallies.specs.Requests.{is_request, times, last_in, is_pending}
 use Rattle.tallies.proofs.Requests.{by_test, is_request_itself, same_request, times_grow, times_hit, times_miss, pushed, last_in-push_same, last_in-push_other, last_counts}
 use Rattle.phases.specs.View.{IsAbove}
 use Rattle.desk.specs.Desk.{Desk, is_open, opened, cancelled, found_started, started}
-use Rattle.desk.specs.Rule.{AreSlots}
+use Rattle.desk.specs.Inner.Rule.{AreSlots}
 
 -- what an open request is: by its number, the last one of its slot, and how often it was cancelled and started
 abbrev tests : (r q n m : ℕ) → Bool

@@ -13,7 +13,7 @@ use Rattle.tallies.proofs.Counts.{zeros}
 use Rattle.phases.specs.View.{IsAbove}
 use Rattle.desk.specs.declared.rule.History.{History}
 use Rattle.desk.specs.Desk.{Desk, new_desk, is_open, opened, cancelled, found_started, started, sent_own, sent_by_another, taken, DeskCancels, DeskStarts, DeskTakes}
-use Rattle.desk.specs.Rule.{desk_of, history_of, waiting_place, AreSlots, AreCounts, Agrees, IsKept, IsCounted, IsSized}
+use Rattle.desk.specs.Inner.Rule.{desk_of, history_of, waiting_place, AreSlots, AreCounts, Agrees, IsKept, IsCounted, IsSized}
 use Rattle.desk.proofs.Slots.{opened-slots, cancelled-slots, started-slots, found-slots, not_open, parts, fails}
 use Rattle.desk.proofs.Counts.{own-counts, others-counts, taken-counts, within, own-taken}
 

@@ -1,3 +1,2 @@
 pub mod Desk
-pub mod Law
-pub mod Rule
+pub mod Inner

@@ -45,7 +45,7 @@ impl Model for Desk {
     ghost use Rattle.std.specs.Prelude.{◌≡◌, ◌+◌};
     ghost use Rattle.limits.specs.declared.TheConstants.{MAX_REQUESTS, MAX_ASYNCS};
     ghost use Rattle.desk.specs.Desk as told;
-    ghost use Rattle.desk.specs.Rule.{desk_of, IsCounted, IsSized};
+    ghost use Rattle.desk.specs.Inner.Rule.{desk_of, IsCounted, IsSized};
 
     ghost Value = { told.Desk };
 
@@ -85,7 +85,7 @@ impl Desk {
 
 impl Shared for Desk {
     ghost use Rattle.desk.specs.Desk.{desk_calls};
-    ghost use Rattle.desk.specs.Law.{desk_lawful};
+    ghost use Rattle.desk.specs.Inner.Law.{desk_lawful};
 
     ghost calls = { desk_calls };
 
@@ -127,7 +127,7 @@ impl Shared for Desk {
 
 impl Beside for Desk {
     ghost use Rattle.desk.specs.Desk.{desk_others};
-    ghost use Rattle.desk.specs.Law.{desk_beside};
+    ghost use Rattle.desk.specs.Inner.Law.{desk_beside};
 
     ghost others = { desk_others };
 

@@ -1,7 +1,7 @@
 //! What the one seat knows, the rule that ties it to the words, and what each step tells.
 ghost use Rattle.std.specs.Prelude.{◌≡◌, ◌==◌, ℕ};
 ghost use Rattle.desk.specs.Desk.{new_desk, opened, DeskCancels, DeskTakes, DeskStarts, sent_own, sent_by_another};
-ghost use Rattle.desk.specs.Rule.{desk_of, history_of, waiting_place, IsKept};
+ghost use Rattle.desk.specs.Inner.Rule.{desk_of, history_of, waiting_place, IsKept};
 
 use atomic_table::{Play, TableRule};
 use limits::MAX_ASYNCS;

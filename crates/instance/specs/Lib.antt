@@ -1,9 +1,6 @@
 pub mod Store
-pub mod Room
+pub mod Inner
 pub mod Reads
 pub mod Faults
 pub mod Storing
 pub mod Fresh
-pub mod Lending
-pub mod LendingStack
-pub mod Stops

@@ -3,7 +3,7 @@ use Rattle.interp.proofs.Words.{◌≡◌, ℕ, List, ◌∷◌, Option, Some, N
 use Rattle.interp.proofs.Words.{Block, Loop, If, Context, Label, Frame, Body, Place, IsPlaced, Operation}
 use Rattle.syntax.specs.declared.instruction.Operation.TheVariants as op
 use Rattle.syntax.specs.declared.types.BlockType.{BlockType}
-use Rattle.interp.specs.Scaffold.Places.{ClosesTo}
+use Rattle.interp.specs.Inner.Scaffold.Places.{ClosesTo}
 
 -- contexts at this operation, or behind the last one
 pub data Begins : Option Operation → List Context → Type 0 where

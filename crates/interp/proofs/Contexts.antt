@@ -2,8 +2,8 @@
 use Rattle.interp.proofs.Words.{◌≡◌, ℕ, suc, ◌+◌, List, [], ◌∷◌, ◌++◌, length, refl, ap, arith, Value, Code, Done, Context, Label, Frame, locals_of}
 use Rattle.interp.proofs.Words.{with_locals, going_on, receiving, continuing, operands_of, code_of, height_of}
 use Rattle.interp.specs.Configuration.{frames}
-use Rattle.interp.specs.Scaffold.Heights.{labels_of, base_of}
-use Rattle.interp.specs.Scaffold.Places.{call_of}
+use Rattle.interp.specs.Inner.Scaffold.Heights.{labels_of, base_of}
+use Rattle.interp.specs.Inner.Scaffold.Places.{call_of}
 use Rattle.interp.proofs.Rules.{Reaches, InCall}
 use Rattle.interp.proofs.Rules as rule
 

@@ -13,7 +13,7 @@ use Rattle.syntax.specs.declared.instruction.Instr.TheVariants.{Unreachable, Nop
 use Rattle.validate.specs.Typing.{Context, inside, Turns, ConversionTurns, InstrTyped, Typed}
 use Rattle.validate.specs.Height.{Effect, Changes, Ends, effect_of, after_effect, greatest_height, nesting}
 use Rattle.validate.proofs.Checks.{all_there}
-use Rattle.interp.specs.Scaffold.Heights.{Fits, counts, Follows, Counted}
+use Rattle.interp.specs.Inner.Scaffold.Heights.{Fits, counts, Follows, Counted}
 use Rattle.interp.proofs.Lists.{length-pushed}
 
 -- by how many operands a branch to each label takes along

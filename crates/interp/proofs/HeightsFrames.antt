@@ -6,7 +6,7 @@ use Rattle.instance.specs.Store.{Store as Memory_and_globals}
 use Rattle.interp.specs.Configuration.{frames}
 use Rattle.interp.proofs.Rules.{Reaches, InCall, StepRule, next_rule}
 use Rattle.interp.proofs.Rules as rule
-use Rattle.interp.specs.Scaffold.HeightsOfRuns.{Arrives, here, goes, calls, asks, IsReached}
+use Rattle.interp.specs.Inner.Scaffold.HeightsOfRuns.{Arrives, here, goes, calls, asks, IsReached}
 
 -- a step leads to so many calls at most
 abbrev pub Opens : (most : ℕ) → Move → Type 0

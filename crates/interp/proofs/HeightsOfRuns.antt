@@ -8,8 +8,8 @@ use Rattle.std.proofs.lemmas.Option.{get_or_from_slice_get}
 use Rattle.validate.specs.Typing.{function_types}
 use Rattle.validate.specs.Valid.{ValidFunc, body_context}
 use Rattle.interp.specs.Hosting.{Answers}
-use Rattle.interp.specs.Scaffold.Heights.{Counted, Beneath, IsWithin}
-use Rattle.interp.specs.Scaffold.HeightsOfRuns.{Arrives, here, goes, calls, asks, IsReached}
+use Rattle.interp.specs.Inner.Scaffold.Heights.{Counted, Beneath, IsWithin}
+use Rattle.interp.specs.Inner.Scaffold.HeightsOfRuns.{Arrives, here, goes, calls, asks, IsReached}
 use Rattle.interp.proofs.Lists.{length-pushed}
 use Rattle.interp.proofs.Entering.{valid_function, defined_type}
 use Rattle.interp.proofs.Heights.{counted}

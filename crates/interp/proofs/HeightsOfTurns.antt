@@ -4,7 +4,7 @@ use Rattle.std.proofs.lemmas.List.{length-set}
 use Rattle.validate.specs.Height.{Effect, Changes, Ends}
 use Rattle.instance.specs.Store.{Store as Memory_and_globals}
 use Rattle.interp.specs.Step.{turn}
-use Rattle.interp.specs.Scaffold.Heights.{counts}
+use Rattle.interp.specs.Inner.Scaffold.Heights.{counts}
 use Rattle.interp.proofs.TurnLeaves.{LocalsLeft, same_locals, local_set, TurnView, turn_view}
 
 -- the operands behind an effect

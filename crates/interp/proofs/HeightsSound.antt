@@ -6,9 +6,9 @@ use Rattle.interp.proofs.Words.{types_of, Move, Goes, Traps, Calls, Stuck, next,
 use Rattle.instance.specs.Storing.{HaveGlobalTypes}
 use Rattle.interp.specs.Configuration.{frames}
 use Rattle.interp.specs.Step.{Ends}
-use Rattle.interp.specs.Scaffold.Typed.{Sound}
-use Rattle.interp.specs.Scaffold.Heights.{IsWithin}
-use Rattle.interp.specs.Scaffold.HeightsTyped.{AwaitsWithin, SoundWithin}
+use Rattle.interp.specs.Inner.Scaffold.Typed.{Sound}
+use Rattle.interp.specs.Inner.Scaffold.Heights.{IsWithin}
+use Rattle.interp.specs.Inner.Scaffold.HeightsTyped.{AwaitsWithin, SoundWithin}
 use Rattle.interp.proofs.Lists.{length-pushed}
 use Rattle.interp.proofs.Soundness.{sound}
 use Rattle.interp.proofs.Entering.{enters_call, starts_call, answers_call}

@@ -4,8 +4,8 @@ use Rattle.interp.proofs.Words.{ℕ, suc, ◌+◌, ◌≤◌, List, [], ◌∷�
 use Rattle.interp.proofs.Words.{Label, Frame, code_of, operands_of, height_of}
 use Rattle.std.proofs.Common.{◌*◌}
 use Rattle.interp.specs.Configuration.{frames}
-use Rattle.interp.specs.Scaffold.Heights.{Fits, Counted, labels_of, base_of, GoesOn, Beneath, IsWithin}
-use Rattle.interp.specs.Scaffold.HeightsOfRuns.{all_operands, all_locals}
+use Rattle.interp.specs.Inner.Scaffold.Heights.{Fits, Counted, labels_of, base_of, GoesOn, Beneath, IsWithin}
+use Rattle.interp.specs.Inner.Scaffold.HeightsOfRuns.{all_operands, all_locals}
 
 fits_of : (m : Contents) (labels : List ℕ) (base before after : ℕ) (code : Code) → Counted m labels base before after code → Fits labels base before
 fits_of m labels base before after Done k = k.0

@@ -14,8 +14,8 @@ use Rattle.syntax.specs.declared.instruction.Operation.TheVariants as op
 use Rattle.validate.specs.Targets.{Tells}
 use Rattle.interp.specs.Configuration.{branched}
 use Rattle.interp.specs.Step.{plain, on_contexts, label_for}
-use Rattle.interp.specs.Scaffold.HeightsOfRuns.{all_operands}
-use Rattle.interp.specs.Scaffold.Places.{Cuts, BranchesTo}
+use Rattle.interp.specs.Inner.Scaffold.HeightsOfRuns.{all_operands}
+use Rattle.interp.specs.Inner.Scaffold.Places.{Cuts, BranchesTo}
 use Rattle.interp.proofs.PlacesKept.{listed, continues}
 use Rattle.interp.proofs.Rules.{Reaches, Lands, lands_at}
 use Rattle.interp.proofs.Rules as rule

@@ -7,9 +7,9 @@ use Rattle.syntax.specs.Code.{operations_to}
 use Rattle.validate.specs.Typing.{Context, inside, Typed}
 use Rattle.validate.specs.Height.{Effect, Changes, Ends, effect_of, after_effect}
 use Rattle.validate.specs.Targets.{size, Agrees}
-use Rattle.validate.specs.Writing.{target}
-use Rattle.interp.specs.Scaffold.Heights.{counts, Follows}
-use Rattle.interp.specs.Scaffold.Places.{keeps, ClosesTo, Guided}
+use Rattle.validate.specs.Inner.Writing.{target}
+use Rattle.interp.specs.Inner.Scaffold.Heights.{counts, Follows}
+use Rattle.interp.specs.Inner.Scaffold.Places.{keeps, ClosesTo, Guided}
 use Rattle.interp.proofs.Lists.{length-pushed}
 use Rattle.interp.proofs.Heights.{Agrees as SameEffect, agrees, arities}
 

@@ -12,8 +12,8 @@ use Rattle.validate.specs.Height.{Effect}
 use Rattle.validate.specs.Targets.{pc_of, size, Lists, Tells}
 use Rattle.instance.specs.Store.{Store as Memory_and_globals}
 use Rattle.interp.specs.Step.{at_code, label_for, left_with, chosen}
-use Rattle.interp.specs.Scaffold.Heights.{Follows}
-use Rattle.interp.specs.Scaffold.Places.{keeps, ClosesTo, Guided, GoesOn, jumped, stepped, Leads}
+use Rattle.interp.specs.Inner.Scaffold.Heights.{Follows}
+use Rattle.interp.specs.Inner.Scaffold.Places.{keeps, ClosesTo, Guided, GoesOn, jumped, stepped, Leads}
 use Rattle.interp.proofs.HeightsKept.{tested, called, found}
 use Rattle.interp.proofs.Rules.{Reaches, InCall, Jumps, Calling, Opening, StepRule, next_rule}
 use Rattle.interp.proofs.Rules as rule

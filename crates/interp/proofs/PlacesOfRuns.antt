@@ -7,8 +7,8 @@ use Rattle.syntax.specs.declared.instruction.Operation.TheVariants as op
 use Rattle.validate.specs.Valid.{body_context}
 use Rattle.validate.specs.Targets.{size}
 use Rattle.validate.proofs.Tables.{length-operations}
-use Rattle.interp.specs.Scaffold.HeightsOfRuns.{Arrives, here, goes, calls, asks, IsReached}
-use Rattle.interp.specs.Scaffold.Places.{Guided, stepped, ArePlaced, Leads}
+use Rattle.interp.specs.Inner.Scaffold.HeightsOfRuns.{Arrives, here, goes, calls, asks, IsReached}
+use Rattle.interp.specs.Inner.Scaffold.Places.{Guided, stepped, ArePlaced, Leads}
 use Rattle.interp.proofs.Lists.{length-pushed}
 use Rattle.interp.proofs.Entering.{valid_function, body_typed}
 use Rattle.interp.proofs.HeightsOfRuns.{same_type}

@@ -6,9 +6,9 @@ use Rattle.interp.proofs.Words.{next, Target, operands_of, height_of}
 use Rattle.std.proofs.lemmas.List.{take-append-drop, take-append-le}
 use Rattle.std.proofs.Math.Seq.{drop-append_seam, drop-append-add}
 use Rattle.instance.specs.Store.{Store as Memory_and_globals}
-use Rattle.interp.specs.Scaffold.Heights.{base_of}
-use Rattle.interp.specs.Scaffold.HeightsOfRuns.{all_operands}
-use Rattle.interp.specs.Scaffold.Places.{Cuts, call_of, StaysIn, cut}
+use Rattle.interp.specs.Inner.Scaffold.Heights.{base_of}
+use Rattle.interp.specs.Inner.Scaffold.HeightsOfRuns.{all_operands}
+use Rattle.interp.specs.Inner.Scaffold.Places.{Cuts, call_of, StaysIn, cut}
 use Rattle.interp.proofs.Rules.{Reaches, InCall, StepRule, next_rule}
 use Rattle.interp.proofs.Rules as rule
 

@@ -9,7 +9,7 @@ use Rattle.limits.specs.declared.TheConstants.{PAGE_SIZE}
 use Rattle.validate.specs.Segments.{minimum}
 use Rattle.instance.specs.Store.{Store as Stored, page_limit, pages, grown, with_memory, written_at}
 use Rattle.interp.specs.Step.{Ends}
-use Rattle.interp.specs.Scaffold.HeightsTyped.{AwaitsWithin, SoundWithin}
+use Rattle.interp.specs.Inner.Scaffold.HeightsTyped.{AwaitsWithin, SoundWithin}
 use Rattle.instance.specs.Storing.{NamesFunction, HasPages}
 use Rattle.interp.proofs.Lists.{at_least}
 use Rattle.interp.proofs.HeightsSound.{sound_within}

@@ -8,9 +8,9 @@ pub use Rattle.syntax.specs.Code.{Code, Done, Loop, Plain, Block, If}
 pub use Rattle.instance.specs.Store.{Store, value_of}
 pub use Rattle.interp.specs.Configuration.{Context, Frame, Label, receiving, types_of, locals_of, entered, with_locals, going_on, continuing}
 pub use Rattle.interp.specs.Step.{next, Move, Calls, Goes, Stuck, Traps, Leaves, Lacks, Turn, Fails}
-pub use Rattle.interp.specs.Scaffold.Typed.{operands_of, code_of}
+pub use Rattle.interp.specs.Inner.Scaffold.Typed.{operands_of, code_of}
 pub use Rattle.interp.specs.Run.{IsDefined, as_operands}
-pub use Rattle.interp.specs.Scaffold.HeightsTyped.{Bounded}
+pub use Rattle.interp.specs.Inner.Scaffold.HeightsTyped.{Bounded}
 pub use Rattle.std.specs.Prelude.{slice_get, if◌then◌else◌, slice_set}
 pub use Rattle.std.proofs.lemmas.Option.{slice_get_within, slice_get_past}
 pub use Rattle.syntax.specs.declared.contents.FuncType.{FuncType}
@@ -18,20 +18,20 @@ pub use Rattle.syntax.specs.declared.contents.Func.{Func}
 pub use Rattle.validate.specs.Stack.{pushed}
 pub use Rattle.validate.specs.Typing.{type_of, type_of_function, HasFunctionType}
 pub use Rattle.validate.specs.Valid.{ValidModule}
-pub use Rattle.interp.specs.Scaffold.Places.{Body, Place, AreBodies, IsPlaced, Over}
+pub use Rattle.interp.specs.Inner.Scaffold.Places.{Body, Place, AreBodies, IsPlaced, Over}
 pub use Rattle.std.proofs.lemmas.List.{length-map, append_assoc}
 pub use Rattle.syntax.specs.declared.instruction.Instr.{Instr}
 pub use Rattle.syntax.specs.declared.instruction.Instr.TheVariants.{Br, BrIf, BrTable}
-pub use Rattle.interp.specs.Scaffold.Heights.{height_of}
+pub use Rattle.interp.specs.Inner.Scaffold.Heights.{height_of}
 pub use Rattle.instance.specs.Storing.{IsStoreOf}
 pub use Rattle.syntax.specs.declared.types.Value.TheVariants.{I32, I64}
-pub use Rattle.interp.specs.Scaffold.Plainly.{StaysInBlock}
+pub use Rattle.interp.specs.Inner.Scaffold.Plainly.{StaysInBlock}
 pub use Rattle.validate.specs.declared.side_table.Target.{Target}
 pub use Rattle.syntax.specs.declared.instruction.Operation.{Operation}
 pub use Rattle.validate.specs.Segments.{number_in}
 pub use Rattle.engine.specs.declared.at.At.{At}
-pub use Rattle.interp.specs.Slots.Holding.{Holds, onto, AreSmall, erased}
+pub use Rattle.interp.specs.Inner.Slots.Holding.{Holds, onto, AreSmall, erased}
 pub use Rattle.engine.specs.Programs.{Program, Function}
 pub use Rattle.engine.specs.Stepping.{State}
-pub use Rattle.interp.specs.Slots.Simulating.{IsProgramOf}
-pub use Rattle.interp.specs.Slots.Lying.{stacked, Lies, here}
+pub use Rattle.interp.specs.Inner.Slots.Simulating.{IsProgramOf}
+pub use Rattle.interp.specs.Inner.Slots.Lying.{stacked, Lies, here}

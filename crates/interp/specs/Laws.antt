@@ -22,11 +22,11 @@ use Rattle.interp.specs.Stopping.{Mark, Moment, RunsTo}
 use Rattle.interp.specs.Hosting.{Lawful, IsDetermined}
 use Rattle.interp.specs.Invoking.{Invokes, Invoked}
 use Rattle.interp.specs.declared.ended.Ended.{Ended}
-use Rattle.interp.specs.Scaffold.Typed.{operands_of}
-use Rattle.interp.specs.Scaffold.HeightsTyped.{Bounded, AwaitsWithin, SoundWithin}
-use Rattle.interp.specs.Scaffold.HeightsOfRuns.{IsReached, all_operands, all_locals}
-use Rattle.interp.specs.Scaffold.Places.{Body, Place, AreBodies, IsPlaced, stepped, ArePlaced, Leads, Cuts, BranchesTo, call_of}
-use Rattle.interp.specs.Scaffold.Places.{StaysIn, cut}
+use Rattle.interp.specs.Inner.Scaffold.Typed.{operands_of}
+use Rattle.interp.specs.Inner.Scaffold.HeightsTyped.{Bounded, AwaitsWithin, SoundWithin}
+use Rattle.interp.specs.Inner.Scaffold.HeightsOfRuns.{IsReached, all_operands, all_locals}
+use Rattle.interp.specs.Inner.Scaffold.Places.{Body, Place, AreBodies, IsPlaced, stepped, ArePlaced, Leads, Cuts, BranchesTo, call_of}
+use Rattle.interp.specs.Inner.Scaffold.Places.{StaysIn, cut}
 
 -- ---- how much stands open at once
 

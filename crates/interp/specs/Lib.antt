@@ -7,6 +7,5 @@ pub mod Running
 pub mod Hosting
 pub mod Invoking
 pub mod Stopping
-pub mod Scaffold
-pub mod Slots
+pub mod Inner
 pub mod Laws

@@ -4,9 +4,9 @@ ghost use Rattle.std.specs.Prelude.{◌≡◌, ◌≤◌, ◌<◌, ◌+◌, ◌^
 ghost use Rattle.validate.specs.Typing.{type_of_function as type_in};
 ghost use Rattle.interp.specs.Run.{as_operands};
 ghost use Rattle.interp.specs.Hosting.{Names};
-ghost use Rattle.interp.specs.Slots.Holding.{AreSmall};
-ghost use Rattle.interp.specs.Slots.Resuming.{laid};
-ghost use Rattle.interp.specs.Slots.HostAsked.{CanAsk, Asks};
+ghost use Rattle.interp.specs.Inner.Slots.Holding.{AreSmall};
+ghost use Rattle.interp.specs.Inner.Slots.Resuming.{laid};
+ghost use Rattle.interp.specs.Inner.Slots.HostAsked.{CanAsk, Asks};
 
 use crate::host::{Args, Host};
 use crate::reading::{number_of, read};

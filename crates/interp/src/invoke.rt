@@ -8,7 +8,7 @@ ghost use Rattle.interp.specs.Run.{as_operands};
 ghost use Rattle.interp.specs.Hosting.{Names};
 ghost use Rattle.interp.specs.Invoking.{TakesArguments, Invoked, ReturnsTyped};
 ghost use Rattle.interp.specs.Stopping.{Tells};
-ghost use Rattle.instance.specs.Stops.{stop_of};
+ghost use Rattle.instance.specs.Inner.Stops.{stop_of};
 
 use crate::ended::{Ended, Ending};
 use crate::host::{Args, Host};

@@ -5,7 +5,7 @@ ghost use Rattle.validate.specs.Segments.{number_in};
 ghost use Rattle.instance.specs.Store.{value_of};
 ghost use Rattle.engine.specs.Slots.{number};
 ghost use Rattle.engine.specs.Reading.{IsSmall};
-ghost use Rattle.interp.specs.Slots.ValuesRead.{typed_values};
+ghost use Rattle.interp.specs.Inner.Slots.ValuesRead.{typed_values};
 
 use engine::low;
 use syntax::types::{ValType, Value};

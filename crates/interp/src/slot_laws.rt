@@ -1,6 +1,6 @@
 // The laws of the slot machine.
 
-ghost use Rattle.interp.specs.Slots.Laws.{MachineComes, MachineStops, MachineIsSteady, MachineBegins, MachineResumes, MachineLengthens, ViewIsProgram};
+ghost use Rattle.interp.specs.Inner.Slots.Laws.{MachineComes, MachineStops, MachineIsSteady, MachineBegins, MachineResumes, MachineLengthens, ViewIsProgram};
 
 /// A law, with nothing to run: the slot machine does the reduction. Where it stands for contexts of a run and comes to a
 /// state, the run comes to contexts for which it stands there, for as much fuel (`comes`); where it stops, the run is

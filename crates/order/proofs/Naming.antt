@@ -13,7 +13,7 @@ use Rattle.interp.specs.Hosting.{Takes, Names}
 use Rattle.imports.specs.declared.call.Call.{Call}
 use Rattle.imports.specs.Uv.{type_of_call}
 use Rattle.imports.specs.Linking.{IsLinked, IsKnown, Imports}
-use Rattle.order.specs.Hosting.{import_type, import_types}
+use Rattle.order.specs.Inner.Hosting.{import_type, import_types}
 
 at_map : {X Y : Type 0} (f : X → Y) (xs : List X) (k : ℕ) (x : X) → slice_get xs k ≡ Some x → slice_get (map f xs) k ≡ Some (f x)
 at_map f xs k x h = slice_get-map f xs k ∙ ap (option_map f) h

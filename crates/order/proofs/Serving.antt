@@ -10,8 +10,8 @@ use Rattle.imports.specs.Linking.{Imports}
 use Rattle.order.specs.declared.host.WorkHost.{WorkHost}
 use Rattle.order.specs.Numbers.{not_here}
 use Rattle.order.specs.Work.{WorkOrder, WorkEnd, Done, Trap, Depth, Spent, NoMemory, WorkAnswers, WorkCall, Works, IsTheEnd, IsEndOf, Gives}
-use Rattle.order.specs.WorkHosting.{Answered}
-use Rattle.order.specs.Serving.{Serves}
+use Rattle.order.specs.Inner.WorkHosting.{Answered}
+use Rattle.order.specs.Inner.Serving.{Serves}
 use Rattle.std.proofs.Common.{Result, Ok, Err, IfOk, reverse, ◌+◌, ◌-◌, codes}
 use Rattle.syntax.specs.declared.types.Value.TheVariants.{I32}
 use Rattle.validate.specs.Valid.{ValidModule}
@@ -27,7 +27,7 @@ use Rattle.interp.specs.declared.ended.Ending.TheVariants.{Return}
 use Rattle.interp.specs.declared.ended.Ending.TheVariants as ending
 use Rattle.imports.specs.Linking.{IsLinked, ExportsFunction}
 use Rattle.imports.specs.Uv.{AreNamedApart}
-use Rattle.order.specs.Hosting.{import_types}
+use Rattle.order.specs.Inner.Hosting.{import_types}
 use Rattle.order.specs.Work.{WorkRun, StartRun, EndsAs, Computes, Uses, stops, works}
 use Rattle.order.proofs.Naming.{names}
 use Rattle.order.proofs.OneEnd.{one_end}

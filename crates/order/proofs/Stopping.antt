@@ -15,11 +15,11 @@ use Rattle.interp.specs.declared.ended.Ending.{Ending}
 use Rattle.interp.specs.declared.ended.Ending.TheVariants.{Return}
 use Rattle.imports.specs.Linking.{ExportsFunction}
 use Rattle.order.specs.declared.host.WorkHost.{WorkHost}
-use Rattle.order.specs.Serving.{Serves}
+use Rattle.order.specs.Inner.Serving.{Serves}
 use Rattle.order.specs.Stopping.{WorkStop, ComputesTo, Leaves, stops, works}
 use Rattle.order.specs.Trails.{Innermost, innermost}
 use Rattle.order.specs.Work.{WorkOrder, WorkEnd, Done, Trap, Depth, Spent, NoMemory, WorkCall, StartRun, EndsAs}
-use Rattle.order.specs.WorkHosting.{Answered}
+use Rattle.order.specs.Inner.WorkHosting.{Answered}
 use Rattle.order.proofs.Serving.{served, not_returned}
 
 -- a call of a function, as the order's

@@ -1,9 +1,7 @@
 pub mod Bytes
-pub mod Hosting
+pub mod Inner
 pub mod Numbers
 pub mod Orders
-pub mod Serving
 pub mod Stopping
 pub mod Trails
 pub mod Work
-pub mod WorkHosting

@@ -88,7 +88,7 @@ impl WorkHost {
 }
 
 impl Host for WorkHost {
-    ghost use Rattle.order.specs.WorkHosting.{types_of_host, Answered};
+    ghost use Rattle.order.specs.Inner.WorkHosting.{types_of_host, Answered};
 
     ghost types = { types_of_host };
 

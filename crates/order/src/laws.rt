@@ -1,7 +1,7 @@
 // Laws of orders and of linked modules.
 
 ghost use Rattle.interp.specs.Hosting.{Names};
-ghost use Rattle.order.specs.Hosting.{import_types};
+ghost use Rattle.order.specs.Inner.Hosting.{import_types};
 ghost use Rattle.std.specs.Prelude.{◌≡◌, ◌≢◌};
 ghost use Rattle.validate.specs.Valid.{ValidModule};
 ghost use Rattle.order.specs.Work.{WorkOrder, WorkEnd, NoMemory, Works, IsEndOf, IsShortEnd};

@@ -12,7 +12,7 @@ ghost use Rattle.interp.specs.Running.{outcome_of, AreResults};
 ghost use Rattle.interp.specs.Stopping.{Tells};
 ghost use Rattle.imports.specs.Linking.{ExportsFunction};
 ghost use Rattle.order.specs.Orders.{order_of, end_of};
-ghost use Rattle.order.specs.Serving.{Serves};
+ghost use Rattle.order.specs.Inner.Serving.{Serves};
 ghost use Rattle.order.specs.Stopping.{WorkStop, ComputesTo, Leaves};
 ghost use Rattle.order.specs.Work.{WorkCall, WorkRun, WorkEnd, NoMemory, StartRun, Computes, Uses, IsEndOf, EndsAs};
 

@@ -17,7 +17,7 @@ use Rattle.phases.specs.Requests.{Requests, Request, has_number, is_settled, set
 use Rattle.phases.specs.Roster.{Roster, in_table, async_handle}
 use Rattle.phases.specs.State.{State, opening}
 use Rattle.phases.specs.Step.{entered}
-use Rattle.phases.specs.Ready.{IsSettledIn, IsReady, Spares, AreApart, AreReady}
+use Rattle.phases.specs.Inner.Ready.{IsSettledIn, IsReady, Spares, AreApart, AreReady}
 use Rattle.phases.proofs.Booking.{number_of, rising_filter}
 use Rattle.phases.proofs.Rostering.{choose, both_false}
 use Rattle.phases.proofs.Growing.{IsSettledOne}

@@ -23,7 +23,7 @@ use Rattle.interp.specs.Running.{outcome_of}
 use Rattle.instance.specs.Storing.{IsStoreOf}
 use Rattle.interp.specs.declared.ended.Ended.{Ended}
 use Rattle.imports.specs.Linking.{IsLinked, ExportsFunction, ExportsNothing}
-use Rattle.order.specs.Hosting.{import_types}
+use Rattle.order.specs.Inner.Hosting.{import_types}
 use Rattle.order.specs.Orders.{order_of}
 use Rattle.order.specs.declared.order.Order.{Order}
 use Rattle.phases.specs.declared.did.StepDid.TheVariants.{Ran}
@@ -35,10 +35,10 @@ use Rattle.phases.specs.Outside.{CancelIn, next_in, next_of, next_order_of}
 use Rattle.phases.specs.Requests.{Requests, Request, Completion, completion_of}
 use Rattle.phases.specs.View.{AreOpenedUpTo}
 use Rattle.phases.specs.Host.{HostStep, Cancels, cancel_state_of, with_requests}
-use Rattle.phases.specs.Hosting.{Answered}
+use Rattle.phases.specs.Inner.Hosting.{Answered}
 use Rattle.phases.specs.Keeping.{Keeps, IsOrderOf, AreOrdersOf}
 use Rattle.phases.specs.PhaseList.{may_end, is_alive, exports, first_list, begin_list}
-use Rattle.phases.specs.Ready.{AreReady, Grows}
+use Rattle.phases.specs.Inner.Ready.{AreReady, Grows}
 use Rattle.phases.specs.Roster.{Roster, callback_in, callbacks_of, callback_function, in_table, takes_one_number, opening_roster}
 use Rattle.phases.specs.State.{Setting, State, Loop, opening}
 use Rattle.phases.specs.Step.{RunsFrom, begun, finished, turn, handle_function}

@@ -32,7 +32,7 @@ use Rattle.phases.specs.declared.entry.Status.{Status}
 use Rattle.phases.specs.declared.entry.Status.TheVariants.{Running, Over, Failed}
 use Rattle.phases.specs.Outside.{handing, next_in, next_order_of}
 use Rattle.phases.specs.Host.{emitted_in, next_work, CancelsAt, Cancels, Opens, QueuesWork, RelatesWork, CallStep, HostStep}
-use Rattle.phases.specs.Ready.{IsSettledIn}
+use Rattle.phases.specs.Inner.Ready.{IsSettledIn}
 use Rattle.phases.specs.Keeping.{CanRun, IsOrderOf, AreOrdersOf}
 
 decide : {P Q R : Type 0} (b : Bool) → (b ≡ true → P → R) → (b ≡ false → Q → R) → MatchBool b P Q → R

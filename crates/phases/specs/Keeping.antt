@@ -9,7 +9,7 @@ use Rattle.order.specs.Work.{WorkOrder}
 use Rattle.phases.specs.PhaseList.{exports}
 use Rattle.phases.specs.Requests.{Requests}
 use Rattle.phases.specs.Roster.{callbacks_of}
-use Rattle.phases.specs.Ready.{AreReady}
+use Rattle.phases.specs.Inner.Ready.{AreReady}
 use Rattle.phases.specs.State.{Setting, State}
 
 -- an order that can be run: its module exports `uv_work`, and its bytes and its depth are within their bounds

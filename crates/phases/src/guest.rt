@@ -8,9 +8,9 @@ ghost use Rattle.interp.specs.Hosting.{Answers};
 ghost use Rattle.imports.specs.Uv.{type_of_call};
 ghost use Rattle.order.specs.Bytes.{copied_in};
 ghost use Rattle.phases.specs.Host.{with_roster};
-ghost use Rattle.phases.specs.Hosting.{Replies};
+ghost use Rattle.phases.specs.Inner.Hosting.{Replies};
 ghost use Rattle.phases.specs.Roster.{started_in, closed_in};
-ghost use Rattle.phases.specs.Setting.{setting_of};
+ghost use Rattle.phases.specs.Inner.Setting.{setting_of};
 ghost use Rattle.phases.specs.View.{AreOpenedUpTo};
 
 use crate::loop_state::LoopState;
@@ -147,9 +147,9 @@ fn answer<B: Shared>(
 }
 
 impl<B: Shared + Drop> Host for Guest<B> {
-    ghost use Rattle.phases.specs.Hosting.{Answered};
-    ghost use Rattle.phases.specs.Setting.{setting_of};
-    ghost use Rattle.order.specs.Hosting.{import_types};
+    ghost use Rattle.phases.specs.Inner.Hosting.{Answered};
+    ghost use Rattle.phases.specs.Inner.Setting.{setting_of};
+    ghost use Rattle.order.specs.Inner.Hosting.{import_types};
 
     ghost types = { λ g. import_types (setting_of g.setting).loaded.contents };
 

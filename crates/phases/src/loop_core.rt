@@ -13,7 +13,7 @@ ghost use Rattle.phases.specs.Accepting.{Accepts};
 ghost use Rattle.phases.specs.Outside.{after_clock, is_failed, next_order_of, CancelsLoop, StartsBeside, SendsBeside};
 ghost use Rattle.phases.specs.Keeping.{CanRun};
 ghost use Rattle.phases.specs.PhaseList.{begin_list, hint_of, is_alive, IsAlive, IsHint};
-ghost use Rattle.phases.specs.Ready.{IsReady, Spares};
+ghost use Rattle.phases.specs.Inner.Ready.{IsReady, Spares};
 ghost use Rattle.phases.specs.Requests.{IsLowestOpen};
 ghost use Rattle.phases.specs.Roster.{opening_roster};
 ghost use Rattle.phases.specs.State.{opening};
@@ -68,11 +68,11 @@ impl<B: Shared + Drop> Drop for LoopCore<B> {
 
 impl<B: Shared + Drop> Model for LoopCore<B> {
     ghost use Rattle.std.specs.Coded.{codes};
-    ghost use Rattle.handles.specs.Codes.{table_code};
-    ghost use Rattle.phases.specs.Codes.{roster_code, requests_code};
+    ghost use Rattle.handles.specs.Inner.Codes.{table_code};
+    ghost use Rattle.phases.specs.Inner.Codes.{roster_code, requests_code};
     ghost use Rattle.syntax.specs.Loaded.{loaded_coded};
     ghost use Rattle.phases.specs.State.{Core};
-    ghost use Rattle.phases.specs.Setting.{setting_of};
+    ghost use Rattle.phases.specs.Inner.Setting.{setting_of};
     ghost use Rattle.phases.specs.Keeping.{Keeps};
     ghost use Rattle.std.specs.Arc.{arc_value};
 

@@ -8,7 +8,7 @@ ghost use Rattle.order.specs.Orders.{order_of, end_of};
 ghost use Rattle.phases.specs.Fitting.{AllRight};
 ghost use Rattle.phases.specs.Host.{with_roster, with_requests, emitted_in};
 ghost use Rattle.phases.specs.Outside.{after_clock, next_order_of, CancelIn, Takes, answered};
-ghost use Rattle.phases.specs.Ready.{Grows};
+ghost use Rattle.phases.specs.Inner.Ready.{Grows};
 ghost use Rattle.phases.specs.Requests.{IsLowestOpen};
 ghost use Rattle.phases.specs.PhaseList.{is_alive, hint_of, until_due, first_list, IsAlive, IsHint};
 ghost use Rattle.phases.specs.State.{opening};
@@ -63,7 +63,7 @@ impl Drop for LoopState {
 impl Model for LoopState {
     ghost use Rattle.std.specs.Coded.{codes};
     ghost use Rattle.std.specs.Prelude.{option_map};
-    ghost use Rattle.phases.specs.Codes.{roster_code, requests_code};
+    ghost use Rattle.phases.specs.Inner.Codes.{roster_code, requests_code};
     ghost use Rattle.phases.specs.State.{State};
 
     ghost Value = { State };

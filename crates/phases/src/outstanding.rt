@@ -1,7 +1,7 @@
 // One outstanding request.
 
 ghost use Rattle.std.specs.Prelude.{◌≡◌, ◌↔◌, [], Some, None, true, false, IsTrue, MatchOption};
-ghost use Rattle.phases.specs.Progress.{completion_in};
+ghost use Rattle.phases.specs.Inner.Progress.{completion_in};
 ghost use Rattle.order.specs.Orders.{order_of, end_of};
 ghost use Rattle.phases.specs.Host.{stage_cancel_state};
 ghost use Rattle.phases.specs.Requests.{Stage, HandedOut, Answered, Cancelled, is_open_stage, is_settled, completion_of, end_completion};
@@ -31,8 +31,8 @@ impl Drop for Outstanding {
 impl Model for Outstanding {
     ghost use Rattle.order.specs.Orders.{order_of};
     ghost use Rattle.phases.specs.Requests.{Request};
-    ghost use Rattle.phases.specs.Codes.{request_code};
-    ghost use Rattle.phases.specs.Progress.{stage_of, IsCopyOf};
+    ghost use Rattle.phases.specs.Inner.Codes.{request_code};
+    ghost use Rattle.phases.specs.Inner.Progress.{stage_of, IsCopyOf};
 
     ghost Value = { Request };
 

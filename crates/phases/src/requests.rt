@@ -6,7 +6,7 @@ ghost use Rattle.limits.specs.declared.TheConstants.{MAX_BYTES};
 ghost use Rattle.order.specs.Orders.{order_of, end_of};
 ghost use Rattle.phases.specs.Host.{cancel_state_of};
 ghost use Rattle.phases.specs.Outside.{IsOneOf, next_of, answered};
-ghost use Rattle.phases.specs.Progress.{completion_in};
+ghost use Rattle.phases.specs.Inner.Progress.{completion_in};
 ghost use Rattle.phases.specs.Requests.{Request, Cancelled, no_requests, has_number, request_of, with_stage, with_work, without_request, is_free_slot, is_settled, is_open_stage, settled, completion_of};
 ghost use Rattle.phases.specs.Fitting.{AllRight, AreKept, IsSlotBelow};
 ghost use Rattle.phases.specs.PhaseList.{is_empty};
@@ -38,7 +38,7 @@ impl Model for Requests {
     ghost use Rattle.std.specs.Prelude.{◌≤◌, vec_capacity};
     ghost use Rattle.limits.specs.declared.TheConstants.{MAX_REQUESTS};
     ghost use Rattle.phases.specs.Requests.{Requests as Value_of};
-    ghost use Rattle.phases.specs.Codes.{requests_code};
+    ghost use Rattle.phases.specs.Inner.Codes.{requests_code};
     ghost use Rattle.phases.specs.Fitting.{AreKept};
 
     ghost Value = { Value_of };

@@ -37,7 +37,7 @@ impl Drop for Roster {
 
 impl Model for Roster {
     ghost use Rattle.phases.specs.Roster.{Roster as Value_of};
-    ghost use Rattle.phases.specs.Codes.{roster_code};
+    ghost use Rattle.phases.specs.Inner.Codes.{roster_code};
     ghost use Rattle.phases.specs.Fitting.{IsKept};
 
     ghost Value = { Value_of };

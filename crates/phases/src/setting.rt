@@ -3,7 +3,7 @@
 ghost use Rattle.std.specs.Prelude.{◌≡◌, IfOk};
 ghost use Rattle.std.specs.Arc.{arc_value};
 ghost use Rattle.order.specs.Orders.{order_of};
-ghost use Rattle.phases.specs.Setting.{setting_of};
+ghost use Rattle.phases.specs.Inner.Setting.{setting_of};
 
 use imports::Linked;
 use order::Order;

@@ -5,7 +5,7 @@ ghost use Rattle.imports.specs.Uv.{name_of_entry};
 ghost use Rattle.order.specs.Numbers.{no_memory};
 ghost use Rattle.phases.specs.Host.{Cancels, Sends, QueuesWork, Opens};
 ghost use Rattle.phases.specs.PhaseList.{exports};
-ghost use Rattle.phases.specs.Setting.{setting_of};
+ghost use Rattle.phases.specs.Inner.Setting.{setting_of};
 ghost use Rattle.phases.specs.View.{AreOpenedUpTo};
 
 use crate::progress::CancelState;

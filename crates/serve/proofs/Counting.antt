@@ -2,7 +2,7 @@
 use Rattle.std.proofs.Common.{Result, Ok, Err, OnOk, ◌≡◌, ℕ, zero, suc, ◌+◌, ◌<◌, List, [], ◌∷◌, ◌++◌, length, Some, sym, ap, subst, ◌∙◌, arith}
 use Rattle.std.proofs.lemmas.List.{length_push}
 use Rattle.std.specs.List.{slice_get}
-use Rattle.serve.specs.Places.{EachFrom}
+use Rattle.serve.specs.Inner.Places.{EachFrom}
 
 module _ {A : Type 0} (P : ℕ → A → Type 0) where
   pub from_push : (n : ℕ) (xs : List A) (x : A) → EachFrom P n xs → P (n + length xs) x → EachFrom P n (xs ++ x ∷ [])

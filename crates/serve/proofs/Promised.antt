@@ -6,7 +6,7 @@ use Rattle.serve.specs.declared.plan.OfLoop.{OfLoop}
 use Rattle.serve.specs.declared.plan.Plan.{Plan}
 use Rattle.serve.specs.Answers.{IsServed}
 use Rattle.serve.specs.Histories.{setting_at}
-use Rattle.serve.specs.Promises.{IsThreadOf}
+use Rattle.serve.specs.Inner.Promises.{IsThreadOf}
 
 pub served_of : (plan : Plan) (k : ℕ) (promise : OfLoop) (s : Served) → IsThreadOf plan k promise
     → IsServed (setting_at (arc_value promise.plan.now.module) promise.plan.now.serving promise.loop_no) s → IsServed (setting_at (arc_value plan.module) plan.serving k) s

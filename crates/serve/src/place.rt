@@ -2,7 +2,7 @@
 ghost use Rattle.std.specs.Prelude.{◌≡◌, ◌<◌, ◌≤◌, ◌+◌, length, All, IfOk};
 ghost use Rattle.board.specs.Boards.{IsPassOf, IsNewPass};
 ghost use Rattle.claims.specs.Views.{new_loop_view};
-ghost use Rattle.serve.specs.Places.{IsNewSeat, EachFrom};
+ghost use Rattle.serve.specs.Inner.Places.{IsNewSeat, EachFrom};
 
 use crate::job::Job;
 use board::{Board, Pass};

@@ -5,8 +5,8 @@ ghost use Rattle.std.specs.Thread.{IsSync};
 ghost use Rattle.claims.specs.Views.{AreNewLoops, AreNewWorkers};
 ghost use Rattle.serve.specs.Answers.{IsServed, EachServed};
 ghost use Rattle.serve.specs.Histories.{setting_at};
-ghost use Rattle.serve.specs.Places.{EachFrom};
-ghost use Rattle.serve.specs.Promises.{IsThreadOf};
+ghost use Rattle.serve.specs.Inner.Places.{EachFrom};
+ghost use Rattle.serve.specs.Inner.Promises.{IsThreadOf};
 
 use crate::job::Job;
 use crate::place::{LoopPlace, WorkerPlace, places};

@@ -14,9 +14,9 @@ use Rattle.validate.specs.declared.scope.Scope.{Scope}
 use Rattle.validate.specs.Typing.{Context, inside}
 use Rattle.validate.specs.Height.{greatest_height, nesting, shape_of, type_or_none, effect_of, after_effect}
 use Rattle.validate.specs.Rules.{Rule, Kept}
-use Rattle.validate.specs.Frames.{label_of}
-use Rattle.validate.specs.Operands.{Held, held_of, around, with_left}
-use Rattle.validate.specs.Checking.{Checks, context_in, height_of}
+use Rattle.validate.specs.Inner.Frames.{label_of}
+use Rattle.validate.specs.Inner.Operands.{Held, held_of, around, with_left}
+use Rattle.validate.specs.Inner.Checking.{Checks, context_in, height_of}
 use Rattle.validate.proofs.Taking.{length-pushed}
 use Rattle.validate.proofs.Opens.{Open, open_of, shape_in, returned}
 use Rattle.validate.proofs.Remains.{IfKept, IfLow, IfNested, LowOpens}

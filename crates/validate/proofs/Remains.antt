@@ -9,9 +9,9 @@ use Rattle.validate.specs.declared.scope.Scope.{Scope}
 use Rattle.validate.specs.Typing.{Context}
 use Rattle.validate.specs.Height.{greatest_height, nesting}
 use Rattle.validate.specs.Rules.{Rule, Kept}
-use Rattle.validate.specs.Operands.{Held}
-use Rattle.validate.specs.Checking.{context_in, height_of}
-use Rattle.validate.specs.Rejecting.{Obeys, IsOpening}
+use Rattle.validate.specs.Inner.Operands.{Held}
+use Rattle.validate.specs.Inner.Checking.{context_in, height_of}
+use Rattle.validate.specs.Inner.Rejecting.{Obeys, IsOpening}
 use Rattle.validate.proofs.Opens.{Open, open_of, flat_of, shape_in, returned}
 
 -- ---- the rules of what is named

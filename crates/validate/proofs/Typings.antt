@@ -14,10 +14,10 @@ use Rattle.validate.specs.declared.scope.Scope.{Scope}
 use Rattle.validate.specs.Stack.{pushed}
 use Rattle.validate.specs.Typing.{Context, Typed, inside, block_type}
 use Rattle.validate.specs.Height.{type_or_none}
-use Rattle.validate.specs.Frames.{label_of}
-use Rattle.validate.specs.Operands.{Held, held_of, around, with_left, Fits}
-use Rattle.validate.specs.Checking.{Checks, context_in}
-use Rattle.validate.specs.Rejecting.{MayFollow}
+use Rattle.validate.specs.Inner.Frames.{label_of}
+use Rattle.validate.specs.Inner.Operands.{Held, held_of, around, with_left, Fits}
+use Rattle.validate.specs.Inner.Checking.{Checks, context_in}
+use Rattle.validate.specs.Inner.Rejecting.{MayFollow}
 use Rattle.validate.proofs.Items.{same_some}
 use Rattle.validate.proofs.Taking.{fits_more, pushed-push}
 use Rattle.validate.proofs.Opens.{Open, open_of, flat_of, shape_in, returned}

@@ -2,7 +2,7 @@
 
 ghost use Rattle.std.specs.Prelude.{◌≡◌, None};
 ghost use Rattle.validate.specs.declared.fault.ValidFault.TheVariants.{Memory};
-ghost use Rattle.validate.specs.Faults.{fault_of};
+ghost use Rattle.validate.specs.Inner.Faults.{fault_of};
 
 use crate::fault::{BodyFault, ValidFault};
 use std::alloc::AllocFailed;

@@ -1,4 +1,4 @@
 pub mod Calls
 pub mod Numbers
-pub mod Owned
+pub mod Inner
 pub mod Sites

@@ -23,7 +23,7 @@ use Rattle.phases.specs.State.{Setting, State, Loop, Core}
 use Rattle.phases.specs.Step.{in_state}
 use Rattle.phases.proofs.Histories.{calls_push}
 use Rattle.desk.specs.Desk.{Desk, desk_calls}
-use Rattle.desk.specs.Law.{desk_beside}
+use Rattle.desk.specs.Inner.Law.{desk_beside}
 use Rattle.world_log.specs.declared.step.Step.{Step}
 use Rattle.world_log.specs.declared.step.Step.TheVariants as step
 use Rattle.world_log.specs.declared.entry.LogEntry.{LogEntry}

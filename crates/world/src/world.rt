@@ -58,8 +58,8 @@ impl Model for World {
     ghost use Rattle.std.specs.VecDeque.{deque_capacity};
     ghost use Rattle.std.specs.Coded.{codes};
     ghost use Rattle.syntax.specs.Loaded.{loaded_coded};
-    ghost use Rattle.handles.specs.Codes.{table_code};
-    ghost use Rattle.phases.specs.Codes.{roster_code, requests_code};
+    ghost use Rattle.handles.specs.Inner.Codes.{table_code};
+    ghost use Rattle.phases.specs.Inner.Codes.{roster_code, requests_code};
     ghost use Rattle.order.specs.Orders.{order_of};
     ghost use Rattle.world.specs.World.{World as Value_of};
     ghost use Rattle.world.specs.Making.{answers_of, worker_of, IsKept};

@@ -1,6 +1,6 @@
 use Rattle.syntax.specs.Binary.{group as spells_group}
 use Rattle.syntax.proofs.Joins.{apart, joined, free_u32}
-use Rattle.decode.specs.Locals.{as_pair}
+use Rattle.decode.specs.Inner.Locals.{as_pair}
 use Rattle.decode.proofs.Exits.{exit_by, past}
 use Rattle.decode.proofs.locals.group.Goals as goal
 

@@ -1,5 +1,5 @@
 use Rattle.std.proofs.Common.{◌≡◌, ◌<◌, ◌+◌, length, arith, ◌∙◌}
-use Rattle.decode.specs.Locals.{as_pair}
+use Rattle.decode.specs.Inner.Locals.{as_pair}
 use Rattle.decode.proofs.Exits.{exit}
 use Rattle.decode.proofs.LocalLaws.{filled_up, group_more, no_group, too_many}
 use Rattle.decode.proofs.locals.read_groups.Goals as goal

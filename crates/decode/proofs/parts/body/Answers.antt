@@ -2,7 +2,7 @@ use Rattle.std.proofs.Common.{◌≡◌, ap, true, nat_eq, length, List, [], ℕ
 use Rattle.syntax.proofs.Joins.{apart, whole}
 use Rattle.syntax.proofs.ExprLaws.{free_expr}
 use Rattle.syntax.proofs.ModuleLaws.{free_locals}
-use Rattle.decode.specs.Locals.{held}
+use Rattle.decode.specs.Inner.Locals.{held}
 use Rattle.decode.proofs.Exits.{past}
 use Rattle.decode.proofs.AssemblyLaws.{all_exit}
 use Rattle.decode.proofs.parts.body.Goals as goal

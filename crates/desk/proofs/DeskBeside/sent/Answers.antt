@@ -1,5 +1,5 @@
 use Rattle.std.proofs.Common.{◌∙◌, arith}
-use Rattle.desk.specs.Rule.{desk_of}
+use Rattle.desk.specs.Inner.Rule.{desk_of}
 use Rattle.desk.proofs.Counts.{others-sized, others-counted}
 use Rattle.desk.proofs.Steps.{gets_allowed}
 use Rattle.desk.proofs.DeskBeside.sent.Goals as goal

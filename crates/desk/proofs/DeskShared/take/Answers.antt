@@ -1,5 +1,5 @@
 use Rattle.std.proofs.Common.{◌∙◌, arith}
-use Rattle.desk.specs.Rule.{desk_of}
+use Rattle.desk.specs.Inner.Rule.{desk_of}
 use Rattle.desk.proofs.Counts.{taken-sized, taken-counted}
 use Rattle.desk.proofs.Steps.{takes_allowed}
 use Rattle.desk.proofs.DeskShared.take.Goals as goal

@@ -1,6 +1,6 @@
 use Rattle.std.proofs.Common.{◌≡◌, ◌+◌, ◌-◌, ℕ, List, length, take, drop, Option, sym, subst, arith}
 use Rattle.std.proofs.lemmas.List.{length-take-le}
-use Rattle.instance.specs.Stops.{stop_of}
+use Rattle.instance.specs.Inner.Stops.{stop_of}
 use Rattle.instance.specs.declared.stack.Site.{Site}
 use Rattle.interp.specs.Stopping.{Tells}
 use Rattle.interp.proofs.Marked.{stop_first}

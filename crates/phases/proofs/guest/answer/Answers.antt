@@ -3,7 +3,7 @@ use Rattle.phases.specs.View.{AreOpenedUpTo}
 use Rattle.phases.specs.State.{State}
 use Rattle.phases.specs.declared.work.Asked.{Asked}
 use Rattle.phases.specs.Host.{QueuesWork}
-use Rattle.phases.specs.Setting.{setting_of}
+use Rattle.phases.specs.Inner.Setting.{setting_of}
 use Rattle.phases.proofs.Guesting.{no_arguments}
 use Rattle.phases.proofs.guest.answer.Goals as goal
 

@@ -1,6 +1,6 @@
 use Rattle.std.proofs.Common.{◌≡◌, ◌+◌, ◌≤◌, length, All}
 use Rattle.board.specs.Boards.{IsNewPass}
-use Rattle.serve.specs.Places.{IsNewSeat, EachFrom}
+use Rattle.serve.specs.Inner.Places.{IsNewSeat, EachFrom}
 use Rattle.serve.proofs.place.loop_places.Given as goal
 
 abbrev pub invariant-loop-seat : goal.invariant-loop-seat

@@ -2,8 +2,8 @@ use Rattle.std.proofs.Common.{◌≡◌, ◌≤◌, ◌+◌, length, vec_capacit
 use Rattle.std.specs.Arc.{arc_value}
 use Rattle.serve.specs.Answers.{IsServed}
 use Rattle.serve.specs.Histories.{setting_at}
-use Rattle.serve.specs.Places.{EachFrom}
-use Rattle.serve.specs.Promises.{IsThreadOf}
+use Rattle.serve.specs.Inner.Places.{EachFrom}
+use Rattle.serve.specs.Inner.Promises.{IsThreadOf}
 use Rattle.serve.proofs.threads.join_all.Given as goal
 
 abbrev pub invariant-loop-thread : goal.invariant-loop-thread

@@ -1,6 +1,6 @@
 use Rattle.std.proofs.Common.{◌≡◌, ◌≤◌, ◌+◌, length, vec_capacity}
-use Rattle.serve.specs.Places.{EachFrom}
-use Rattle.serve.specs.Promises.{IsThreadOf}
+use Rattle.serve.specs.Inner.Places.{EachFrom}
+use Rattle.serve.specs.Inner.Promises.{IsThreadOf}
 use Rattle.serve.proofs.threads.start_loops.Given as goal
 
 abbrev pub invariant-loop-place : goal.invariant-loop-place

@@ -1,4 +1,4 @@
-use Rattle.phases.specs.Setting.{setting_of}
+use Rattle.phases.specs.Inner.Setting.{setting_of}
 use Rattle.phases.proofs.Guesting.{replies_upto}
 use Rattle.phases.proofs.guest.GuestHost.call.Goals as goal
 

@@ -4,7 +4,7 @@ use Rattle.phases.specs.Host.{with_requests}
 use Rattle.phases.specs.Keeping.{Keeps}
 use Rattle.phases.specs.Outside.{answered}
 use Rattle.phases.specs.Requests.{Answered}
-use Rattle.phases.specs.Setting.{setting_of}
+use Rattle.phases.specs.Inner.Setting.{setting_of}
 use Rattle.phases.specs.State.{State}
 use Rattle.phases.specs.View.{AreOpenedUpTo}
 use Rattle.phases.proofs.Kept.{by_reply, kept_on}

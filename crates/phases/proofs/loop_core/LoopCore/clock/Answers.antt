@@ -2,7 +2,7 @@ use Rattle.std.proofs.Common.{sym, subst}
 use Rattle.std.specs.Arc.{arc_value}
 use Rattle.phases.specs.Keeping.{Keeps}
 use Rattle.phases.specs.Outside.{after_clock}
-use Rattle.phases.specs.Setting.{setting_of}
+use Rattle.phases.specs.Inner.Setting.{setting_of}
 use Rattle.phases.specs.State.{State}
 use Rattle.phases.specs.View.{AreOpenedUpTo}
 use Rattle.phases.proofs.Kept.{kept_on}

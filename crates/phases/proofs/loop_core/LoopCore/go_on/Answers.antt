@@ -1,10 +1,10 @@
 use Rattle.std.proofs.Common.{sym, subst, ap, drop, ◌∙◌, List}
 use Rattle.std.specs.Arc.{arc_value}
 use Rattle.phases.specs.Keeping.{Keeps, AreOrdersOf}
-use Rattle.phases.specs.Ready.{IsReady}
+use Rattle.phases.specs.Inner.Ready.{IsReady}
 use Rattle.phases.specs.Requests.{Requests}
 use Rattle.phases.specs.Roster.{Roster}
-use Rattle.phases.specs.Setting.{setting_of}
+use Rattle.phases.specs.Inner.Setting.{setting_of}
 use Rattle.phases.specs.State.{State}
 use Rattle.phases.specs.Step.{ListStep, EntryStep}
 use Rattle.phases.specs.declared.entry.Entry.{Entry}

@@ -3,7 +3,7 @@ use Rattle.limits.specs.declared.TheConstants.{MAX_REQUESTS}
 use Rattle.order.specs.Orders.{order_of}
 use Rattle.std.specs.Arc.{arc_value}
 use Rattle.phases.specs.Keeping.{CanRun, AreOrdersOf}
-use Rattle.phases.specs.Setting.{setting_of}
+use Rattle.phases.specs.Inner.Setting.{setting_of}
 use Rattle.phases.specs.State.{State}
 use Rattle.phases.specs.View.{AreOpenedUpTo}
 use Rattle.phases.proofs.Kept.{kept_on, own_order, own_of}

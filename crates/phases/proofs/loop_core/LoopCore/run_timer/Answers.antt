@@ -5,7 +5,7 @@ use Rattle.phases.specs.Host.{with_roster}
 use Rattle.phases.specs.Keeping.{Keeps}
 use Rattle.phases.specs.Requests.{Requests}
 use Rattle.phases.specs.Roster.{with_handles}
-use Rattle.phases.specs.Setting.{setting_of}
+use Rattle.phases.specs.Inner.Setting.{setting_of}
 use Rattle.phases.specs.State.{State}
 use Rattle.phases.specs.View.{AreOpenedUpTo}
 use Rattle.phases.proofs.Kept.{handle_takes, kept_on}

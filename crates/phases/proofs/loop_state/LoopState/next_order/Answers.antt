@@ -1,7 +1,7 @@
 use Rattle.std.proofs.Common.{sym, subst, ap, ◌∙◌}
 use Rattle.std.specs.Option.{option_map}
 use Rattle.phases.specs.Host.{with_requests}
-use Rattle.phases.specs.Ready.{Grows}
+use Rattle.phases.specs.Inner.Ready.{Grows}
 use Rattle.phases.specs.State.{State}
 use Rattle.phases.proofs.Kept.{next_unfailed}
 use Rattle.phases.proofs.Lowest.{lowest_next}

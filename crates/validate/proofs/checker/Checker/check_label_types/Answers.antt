@@ -1,5 +1,5 @@
 use Rattle.std.proofs.Common.{◌≡◌, ℕ, List, length, ◌<◌, get_or, take, All, Some, slice_get, refl, sym, ap, subst, ◌∙◌, arith}
-use Rattle.validate.specs.Checking.{context_at}
+use Rattle.validate.specs.Inner.Checking.{context_at}
 use Rattle.std.proofs.lemmas.List.{take_all, take_more}
 use Rattle.std.proofs.lemmas.List.Elements.{All-push}
 use Rattle.validate.proofs.checker.Checker.check_label_types.Goals as goal

@@ -1,7 +1,7 @@
 use Rattle.std.proofs.Common.{ℕ, List, length, ◌<◌, get_or, take, All, IsSome, slice_get, refl, sym, subst, arith}
 use Rattle.std.proofs.lemmas.List.{take_all, take_more}
 use Rattle.std.proofs.lemmas.List.Elements.{All-push}
-use Rattle.validate.specs.Checking.{context_at}
+use Rattle.validate.specs.Inner.Checking.{context_at}
 use Rattle.validate.proofs.checker.Checker.check_labels.Goals as goal
 
 pub loop-label-preserved : goal.loop-label-preserved

@@ -1,0 +1,2 @@
+-- No public clause reaches these: what a step tells a seat.
+pub mod Steps

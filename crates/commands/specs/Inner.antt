@@ -1,0 +1,2 @@
+-- No public clause reaches these: the numbers of statuses.
+pub mod Statuses

@@ -1,0 +1,2 @@
+-- No public clause reaches these: what a pointer owns.
+pub mod Slots

@@ -4,8 +4,8 @@ ghost use Rattle.limits.specs.declared.TheConstants.{MAX_LOOPS};
 ghost use Rattle.board.specs.Views.{IsIdle, makers_at, one_later};
 ghost use Rattle.board.specs.Boards.{IsPassOf, IsNewPass, AreNumbered, IsEventOf, Posts, TakesJob, Puts, Collects};
 
-use crate::bell::Bell;
 use crate::event::{Event, Heard};
+use crate::event_count::EventCount;
 use crate::job::JobBox;
 use crate::line::{Any, Fits, Hand, Line, Maker};
 use limits::{MAX_JOBS, MAX_REPLIES};
@@ -175,8 +175,8 @@ impl<J: Drop> Board<J> {
         }
     }
 
-    // The bell that rings for it.
-    fn bell(&self, event: Event) -> &Bell
+    // What counts it.
+    fn count_of(&self, event: Event) -> &EventCount
         requires { IsEventOf self.now event }
     {
         match event {
@@ -194,7 +194,7 @@ impl<J: Drop> Board<J> {
     {
         Heard {
             event,
-            rings: self.bell(event).rings(),
+            events: self.count_of(event).events(),
         }
     }
 
@@ -202,7 +202,7 @@ impl<J: Drop> Board<J> {
     pub fn wait<R: Wait>(&self, rt: &R, heard: Heard)
         requires { IsEventOf self.now heard.event }
     {
-        self.bell(heard.event).wait(rt, heard.rings);
+        self.count_of(heard.event).wait(rt, heard.events);
     }
 
     /// Whether it was closed.

@@ -19,5 +19,5 @@ pub enum Event {
 pub struct Heard {
     /// What was asked for.
     pub event: Event,
-    pub(crate) rings: u64,
+    pub(crate) events: u64,
 }

@@ -2,7 +2,7 @@ pub mod Accepted
 pub mod Arguments
 pub mod Calling
 pub mod Performing
-pub mod Refusing
+pub mod NoHost
 pub mod Scripting
 pub mod Serving
 pub mod Inner

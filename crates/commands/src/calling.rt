@@ -11,7 +11,7 @@ ghost use Rattle.validate.specs.Typing.{HasFunctionType};
 ghost use Rattle.commands.specs.Calling.{Runs, Starts, HasReturned, IsCalled};
 
 use crate::failure::Failure;
-use crate::refusing::Refusing;
+use crate::no_host::NoHost;
 use instance::state::Instance;
 use interp::ended::{Ended, Ending};
 use interp::invoke::invoke;
@@ -69,7 +69,7 @@ fn run(
     ensures within { result.used ≤ fuel }
     ensures kept { IsStoreOf valid.now.contents instance.new }
 {
-    let mut host = Refusing::new(valid);
+    let mut host = NoHost::new(valid);
     invoke(valid, instance, &mut host, function, args, fuel, depth)
 }
 

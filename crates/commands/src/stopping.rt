@@ -8,7 +8,7 @@ use order::{MAX_TRAIL, Outcome, Told, Trail};
 use places::{Place, function_name, place_of_operation};
 use std::fmt;
 use std::io::{self, Write};
-use world_log::WorkEnding;
+use world_log::JobEnd;
 
 /// Why a run did not return.
 #[derive(Clone, Copy, Debug)]
@@ -52,12 +52,12 @@ impl Reason {
     }
 
     /// The same, of what a log tells.
-    pub fn of_work(ending: WorkEnding) -> Option<Reason> {
+    pub fn of_work(ending: JobEnd) -> Option<Reason> {
         match ending {
-            WorkEnding::Done(_) | WorkEnding::NoMemory => None,
-            WorkEnding::Trap(trap) => Some(Reason::Trap(trap)),
-            WorkEnding::Depth => Some(Reason::Depth),
-            WorkEnding::Spent => Some(Reason::Spent),
+            JobEnd::Done(_) | JobEnd::NoMemory => None,
+            JobEnd::Trap(trap) => Some(Reason::Trap(trap)),
+            JobEnd::Depth => Some(Reason::Depth),
+            JobEnd::Spent => Some(Reason::Spent),
         }
     }
 }

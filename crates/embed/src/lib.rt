@@ -30,6 +30,6 @@ pub use syntax::types::Value;
 pub use validate::ValidFault;
 pub use world::{Config, LoopConfig, Undone, World, WorldFault};
 pub use world_log::{
-    CollectOutcome, FinishOutcome, Log, LogEntry, LoopSettings, PostOutcome, StartOutcome, Step,
-    WorkEnding,
+    CollectOutcome, FinishOutcome, JobEnd, Log, LogEntry, LoopSettings, PostOutcome, StartOutcome,
+    Step,
 };

@@ -1,5 +1,5 @@
-pub mod Overwriting
+pub mod SegmentsAreWritten
 pub mod Initial
 pub mod FreshStores
-pub mod Keeping
-pub mod Stopping
+pub mod BranchOperands
+pub mod CallersByNumber

@@ -10,7 +10,7 @@ use Rattle.syntax.specs.declared.types.ValType.TheVariants as type
 use Rattle.syntax.specs.declared.operator.Conversion.{Conversion}
 use Rattle.syntax.specs.declared.operator.Conversion.TheVariants.{I32WrapI64, I64ExtendI32S, I64ExtendI32U}
 use Rattle.syntax.specs.declared.instruction.Instr.TheVariants.{Unreachable, Nop, Return, Call, CallIndirect, Drop, Select, LocalGet, LocalSet, LocalTee, GlobalGet, GlobalSet, Load, LoadNarrow, Store, StoreNarrow, MemorySize, MemoryGrow, Const, Eqz, Unary, Binary, Compare, Convert}
-use Rattle.validate.specs.Typing.{Context, inside, Turns, ConversionTurns, InstrTyped, Typed}
+use Rattle.validate.specs.Typing.{Context, inside, TakesLeaves, ConversionTurns, InstrTyped, Typed}
 use Rattle.validate.specs.Height.{Effect, Changes, Ends, effect_of, after_effect, greatest_height, nesting}
 use Rattle.validate.proofs.Checks.{all_there}
 use Rattle.interp.specs.Inner.Scaffold.Heights.{Fits, counts, Follows, Counted}
@@ -26,7 +26,7 @@ Agrees Ends f before mid = f ≡ Ends
 Agrees (Changes pops pushes) f before mid =
     (f ≡ Changes pops pushes) × ((left : ℕ) × (length before ≡ pops + left) × (length mid ≡ pushes + left))
 
-turned : (taken given before after : List ValType) → Turns taken given before after
+turned : (taken given before after : List ValType) → TakesLeaves taken given before after
     → (left : ℕ) × (length before ≡ length taken + left) × (length after ≡ length given + left)
 turned taken given before after (rest, a, b) = (
   length rest,
@@ -35,7 +35,7 @@ turned taken given before after (rest, a, b) = (
 )
 
 -- where one operand is on top of the others
-turned_on : (taken given before after : List ValType) (t : ValType) → Turns (taken ++ (t ∷ [])) given before after
+turned_on : (taken given before after : List ValType) (t : ValType) → TakesLeaves (taken ++ (t ∷ [])) given before after
     → (left : ℕ) × (length before ≡ length taken + 1 + left) × (length after ≡ length given + left)
 turned_on taken given before after t turns =
     let r = turned (taken ++ (t ∷ [])) given before after turns in
@@ -44,7 +44,7 @@ turned_on taken given before after t turns =
 called : (m : Contents) (f : ℕ) (type : FuncType) → HasFunctionType m f type → (type_of_function m f ≡ Some type) × (type_of_function m f ≡ Some type)
 called m f type (t, a, b) = (rw a b, rw a b)
 
-agrees_call : (c : Context) (f : ℕ) (before mid : List ValType) (type : FuncType) → HasFunctionType c.module_contents f type → Turns type.params type.results before mid
+agrees_call : (c : Context) (f : ℕ) (before mid : List ValType) (type : FuncType) → HasFunctionType c.module_contents f type → TakesLeaves type.params type.results before mid
     → Agrees (effect_of c (Call f)) (counts c.module_contents (arities c) (Call f)) before mid
 agrees_call c f before mid type h turns =
     let r = turned type.params type.results before mid turns in

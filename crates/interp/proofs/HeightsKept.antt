@@ -9,7 +9,7 @@ use Rattle.std.proofs.lemmas.List.{length-take-le}
 use Rattle.validate.specs.Height.{Effect, named, calls}
 use Rattle.instance.specs.Store.{Store as Memory_and_globals}
 use Rattle.interp.specs.Inner.Scaffold.Heights.{GoesOn, Fits, tests, counts, Follows, Counted, labels_of, base_of, Beneath, IsWithin}
-use Rattle.interp.proofs.HeightsOfTurns.{as_many}
+use Rattle.interp.proofs.PlainStepHeights.{as_many}
 use Rattle.interp.proofs.Rules.{Reaches, InCall, Calling, Opening, StepRule, next_rule}
 use Rattle.interp.proofs.Rules as rule
 

@@ -11,7 +11,7 @@ use Rattle.interp.specs.Hosting.{Answers}
 use Rattle.interp.specs.Inner.Scaffold.Heights.{Counted, Beneath, IsWithin}
 use Rattle.interp.specs.Inner.Scaffold.HeightsOfRuns.{Arrives, here, goes, calls, asks, IsReached}
 use Rattle.interp.proofs.Lists.{length-pushed}
-use Rattle.interp.proofs.Entering.{valid_function, defined_type}
+use Rattle.interp.proofs.CallsAreTyped.{valid_function, defined_type}
 use Rattle.interp.proofs.Heights.{counted}
 use Rattle.interp.proofs.HeightsKept.{Kept, received, kept}
 

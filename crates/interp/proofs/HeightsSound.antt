@@ -11,7 +11,7 @@ use Rattle.interp.specs.Inner.Scaffold.Heights.{IsWithin}
 use Rattle.interp.specs.Inner.Scaffold.HeightsTyped.{AwaitsWithin, SoundWithin}
 use Rattle.interp.proofs.Lists.{length-pushed}
 use Rattle.interp.proofs.Soundness.{sound}
-use Rattle.interp.proofs.Entering.{enters_call, starts_call, answers_call}
+use Rattle.interp.proofs.CallsAreTyped.{enters_call, starts_call, answers_call}
 use Rattle.interp.proofs.HeightsKept.{Kept, kept, received}
 use Rattle.interp.proofs.HeightsFrames.{Opens, opens}
 use Rattle.interp.proofs.HeightsOfRuns.{Awaited, entered_within}

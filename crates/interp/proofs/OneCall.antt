@@ -3,10 +3,10 @@ use Rattle.interp.proofs.Words.{◌≡◌, ℕ, List, [], ◌∷◌, reverse, re
 use Rattle.std.proofs.Common.{get_or}
 use Rattle.std.proofs.lemmas.List.{reverse-reverse}
 use Rattle.instance.specs.Store.{with_memory}
-use Rattle.interp.specs.Run.{HostCall, Outcome, Returned, Trapped, TooDeep, OutOfFuel, RunsWithin}
+use Rattle.interp.specs.Run.{HostCall, RunEnd, Returned, Trapped, TooDeep, OutOfFuel, RunsWithin}
 use Rattle.interp.specs.Hosting.{Lawful, IsDetermined}
 use Rattle.interp.specs.Invoking.{Invokes, defined, imported, Invoked}
-use Rattle.interp.specs.Running.{outcome_of}
+use Rattle.interp.specs.Running.{end_of_run}
 use Rattle.interp.specs.Traps.{trap_number}
 use Rattle.interp.specs.declared.trap.TrapCode.{TrapCode}
 use Rattle.interp.specs.declared.trap.TrapCode.TheVariants as trap
@@ -23,7 +23,7 @@ module _ (m : Contents) (depth : ℕ) {H V : Type 0} (see : H → V) (moves : H 
       let one = determined old old' mid mid' call call' seen (record { function = f ∙ sym f'; args = a ∙ sym a'; before = b ∙ sym b' }) moved moved' in
       (one.0, ap see led ∙ one.1 ∙ sym (ap see led'))
 
-  pub one_call : (fuel : ℕ) (s : Store) (function : ℕ) (args : List Value) (trace trace' : List HostCall) (o o' : Outcome) (u u' : ℕ) (t t' : Store) (old old' new new' : H) → see old ≡ see old'
+  pub one_call : (fuel : ℕ) (s : Store) (function : ℕ) (args : List Value) (trace trace' : List HostCall) (o o' : RunEnd) (u u' : ℕ) (t t' : Store) (old old' new new' : H) → see old ≡ see old'
       → Invokes m depth fuel s function args trace o u t → Lawful moves trace old new
       → Invokes m depth fuel s function args trace' o' u' t' → Lawful moves trace' old' new'
       → (trace ≡ trace') × (o ≡ o') × (u ≡ u') × (t ≡ t') × (see new ≡ see new')
@@ -42,7 +42,7 @@ module _ (m : Contents) (depth : ℕ) {H V : Type 0} (see : H → V) (moves : H 
         one.1,
       )
 
-pub one_ending_of_call : (m : Contents) (depth fuel : ℕ) (s : Store) (function : ℕ) (args : List Value) (trace : List HostCall) (o o' : Outcome) (u u' : ℕ) (t t' : Store)
+pub one_ending_of_call : (m : Contents) (depth fuel : ℕ) (s : Store) (function : ℕ) (args : List Value) (trace : List HostCall) (o o' : RunEnd) (u u' : ℕ) (t t' : Store)
     → Invokes m depth fuel s function args trace o u t → Invokes m depth fuel s function args trace o' u' t' → (o ≡ o') × (u ≡ u') × (t ≡ t')
 one_ending_of_call m depth fuel s function args trace o o' u u' t t' r r' =
     let one = one_call m depth (λ (h : List HostCall). h) says says_one fuel s function args trace trace o o' u u' t t' trace trace [] [] refl r (says_all trace) r' (says_all trace) in
@@ -62,21 +62,21 @@ trap_back trap.Table = refl
 trap_back trap.EmptyElement = refl
 trap_back trap.OtherType = refl
 
-abbrev ending_back : Outcome → Ending
+abbrev ending_back : RunEnd → Ending
 ending_back (Returned results) = Return (reverse results)
 ending_back (Trapped number) = Trap (get_or traps_by_number number trap.Unreachable)
 ending_back TooDeep = Depth
 ending_back OutOfFuel = Spent
 
-back : (e : Ending) → ending_back (outcome_of e) ≡ e
+back : (e : Ending) → ending_back (end_of_run e) ≡ e
 back (Return values) = ap (λ (vs : List Value). Return vs) (reverse-reverse values)
 back (Trap t) = ap (λ (x : TrapCode). Trap x) (trap_back t)
 back Depth = refl
 back Spent = refl
 
-pub same_ended : (e e' : Ended) → outcome_of e.ending ≡ outcome_of e'.ending → e.used ≡ e'.used → e ≡ e'
+pub same_ended : (e e' : Ended) → end_of_run e.ending ≡ end_of_run e'.ending → e.used ≡ e'.used → e ≡ e'
 same_ended e e' ending used =
-    let same : e.ending ≡ e'.ending = sym (back e.ending) ∙ ap (λ (o : Outcome). ending_back o) ending ∙ back e'.ending in
+    let same : e.ending ≡ e'.ending = sym (back e.ending) ∙ ap (λ (o : RunEnd). ending_back o) ending ∙ back e'.ending in
     λ i. record { ending = same i; used = used i }
 
 pub one_invocation : {H V : Type 0} (see : H → V) (moves : H → HostCall → H → Type 0) → IsDetermined see moves
@@ -84,5 +84,5 @@ pub one_invocation : {H V : Type 0} (see : H → V) (moves : H → HostCall → 
     → Invoked m depth fuel moves s old function args ended t new → Invoked m depth fuel moves s old' function args ended' t' new'
     → (ended ≡ ended') × (t ≡ t') × (see new ≡ see new')
 one_invocation see moves determined m depth fuel s function args ended ended' t t' old old' new new' seen r r' =
-    let one = one_call m depth see moves determined fuel s function args r.trace r'.trace (outcome_of ended.ending) (outcome_of ended'.ending) ended.used ended'.used t t' old old' new new' seen r.invokes r.lawful r'.invokes r'.lawful in
+    let one = one_call m depth see moves determined fuel s function args r.trace r'.trace (end_of_run ended.ending) (end_of_run ended'.ending) ended.used ended'.used t t' old old' new new' seen r.invokes r.lawful r'.invokes r'.lawful in
     (same_ended ended ended' one.1 one.2, one.3, one.4)

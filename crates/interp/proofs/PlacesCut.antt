@@ -10,7 +10,7 @@ use Rattle.interp.proofs.Words.{Place, Over, IsPlaced}
 use Rattle.std.proofs.Common.{min}
 use Rattle.std.proofs.lemmas.List.{length-take-le}
 use Rattle.std.proofs.Math.Seq.{drop-append-add}
-use Rattle.syntax.specs.declared.instruction.Operation.TheVariants as op
+use Rattle.syntax.specs.declared.instruction.Token.TheVariants as op
 use Rattle.validate.specs.Targets.{Tells}
 use Rattle.interp.specs.Configuration.{branched}
 use Rattle.interp.specs.Step.{plain, on_contexts, label_for}

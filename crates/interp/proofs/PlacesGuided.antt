@@ -1,8 +1,8 @@
 -- A typed body with which its side table agrees stands in its operations as the table tells.
 use Rattle.interp.proofs.Words.{◌≡◌, ℕ, zero, suc, ◌+◌, ◌-◌, List, [], ◌∷◌, length, drop, Some, sym, ap, ◌∙◌, subst, arith, slice_get, ValType}
-use Rattle.interp.proofs.Words.{Operation, Code, Done, Plain, Block, Loop, If, pushed, Target, Body}
+use Rattle.interp.proofs.Words.{Token, Code, Done, Plain, Block, Loop, If, pushed, Target, Body}
 use Rattle.std.proofs.Common.{max}
-use Rattle.syntax.specs.declared.instruction.Operation.TheVariants as op
+use Rattle.syntax.specs.declared.instruction.Token.TheVariants as op
 use Rattle.syntax.specs.Code.{operations_to}
 use Rattle.validate.specs.Typing.{Context, inside, Typed}
 use Rattle.validate.specs.Height.{Effect, Changes, Ends, effect_of, after_effect}
@@ -14,7 +14,7 @@ use Rattle.interp.proofs.Lists.{length-pushed}
 use Rattle.interp.proofs.Heights.{Agrees as SameEffect, agrees, arities}
 
 -- the operation at a place, and what is behind it
-pub first_at : (ops : List Operation) (at : ℕ) (o : Operation) (rest : List Operation) → drop at ops ≡ o ∷ rest → (slice_get ops at ≡ Some o) × (drop (at + 1) ops ≡ rest)
+pub first_at : (ops : List Token) (at : ℕ) (o : Token) (rest : List Token) → drop at ops ≡ o ∷ rest → (slice_get ops at ≡ Some o) × (drop (at + 1) ops ≡ rest)
 first_at [] zero o rest e = absurd (cc)
 first_at [] (suc at) o rest e = absurd (cc)
 first_at (x ∷ ops) zero o rest e = (cc, cc)
@@ -24,7 +24,7 @@ first_at (x ∷ ops) (suc at) o rest e =
     (r.0, subst (λ (k : ℕ). drop k (x ∷ ops) ≡ rest) same r.1)
 
 -- what is behind a sequence
-pub behind_code : (ops : List Operation) (close : Operation) (c : Code) (at : ℕ) (after : List Operation) → drop at ops ≡ operations_to close c after → drop (at + size c) ops ≡ after
+pub behind_code : (ops : List Token) (close : Token) (c : Code) (at : ℕ) (after : List Token) → drop at ops ≡ operations_to close c after → drop (at + size c) ops ≡ after
 behind_code ops close Done at after e = (first_at ops at close after e).1
 behind_code ops close (Plain i rest) at after e =
     let r = behind_code ops close rest (at + 1) after (first_at ops at (op.Plain i) (operations_to close rest after) e).1 in
@@ -75,7 +75,7 @@ module _ (b : Body) where
       subst (λ (n : ℕ). Guided c.module_contents b labels base n after at behind rest) (length-pushed results below)
       (go (subst (λ (n : ℕ). Agrees c b.table labels at base n rest) (omega (arith, length-pushed results below)) a))
 
-  pub guided : (c : Context) (labels : List Target) (base at end behind : ℕ) (close : Operation) (tail : List Operation) (code : Code) (before after : List ValType)
+  pub guided : (c : Context) (labels : List Target) (base at end behind : ℕ) (close : Token) (tail : List Token) (code : Code) (before after : List ValType)
       → keeps labels ≡ arities c → Typed c code before after → Agrees c b.table labels at base (base + length before) code
       → drop at b.operations ≡ operations_to close code tail → end + 1 ≡ at + size code → ClosesTo b base (length after) end behind (Some close)
       → Guided c.module_contents b labels base (length before) (length after) at behind code

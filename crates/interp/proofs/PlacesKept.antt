@@ -1,13 +1,13 @@
 -- Each step leads the calls to the places that the operations and the side tables tell.
 use Rattle.interp.proofs.Contexts.{with_locals-height, with_locals-code}
 use Rattle.interp.proofs.Words.{◌≡◌, ℕ, zero, suc, ◌+◌, List, [], ◌∷◌, ◌++◌, length, take, drop, Option, Some, None, refl, sym, ap, ◌∙◌, subst, true}
-use Rattle.interp.proofs.Words.{false, Bool, arith, length-append, ◌==◌, slice_get, if◌then◌else◌, Value, Instr, Br, BrIf, BrTable, Operation}
+use Rattle.interp.proofs.Words.{false, Bool, arith, length-append, ◌==◌, slice_get, if◌then◌else◌, Value, Instr, Br, BrIf, BrTable, Token}
 use Rattle.interp.proofs.Words.{Contents, FuncType, Code, Done, Target, Context, Label, Frame, with_locals, going_on, receiving, continuing}
 use Rattle.interp.proofs.Words.{slice_get_past, Move, Goes, Stuck, next, code_of, operands_of, height_of, Body, Place, Over, IsPlaced, StaysInBlock}
 use Rattle.std.proofs.Common.{min, length-drop}
 use Rattle.std.proofs.lemmas.List.{length-take-le}
 use Rattle.syntax.specs.declared.instruction.Instr.TheVariants.{Return}
-use Rattle.syntax.specs.declared.instruction.Operation.TheVariants as op
+use Rattle.syntax.specs.declared.instruction.Token.TheVariants as op
 use Rattle.validate.specs.Height.{Effect}
 use Rattle.validate.specs.Targets.{pc_of, size, Lists, Tells}
 use Rattle.instance.specs.Store.{Store as Memory_and_globals}
@@ -154,7 +154,7 @@ module _ (m : Contents) (body : ℕ → Body) (function : ℕ) (callers : List P
 
   -- what stands in a block, and what its label and its end lead to
   record Opened (labels : List Target) (base after at behind : ℕ) (values : List Value) (t : FuncType) (arity : ℕ) (next inside rest : Code) (left : List Value) : Type 0 where
-    pub operation : Operation
+    pub operation : Token
     pub stands : slice_get (body function).operations at ≡ Some operation
     pub pc : ℕ
     pub end : ℕ
@@ -202,7 +202,7 @@ module _ (m : Contents) (body : ℕ → Body) (function : ℕ) (callers : List P
     }
 
     -- the end of the sequence
-    closing : (s : Memory_and_globals) (at : ℕ) (values : List Value) (o : Option Operation) → ClosesTo (body function) (height_of below) after at behind o → length values ≡ after
+    closing : (s : Memory_and_globals) (at : ℕ) (values : List Value) (o : Option Token) → ClosesTo (body function) (height_of below) after at behind o → length values ≡ after
         → Leads m body (stepped (body function) (here at) values callers o) (Goes 0 s (receiving values below))
     closing s at values o c e = by o c where
       beneath : (labels : List Target) → Over m body function callers labels after behind contexts → IsPlaced m body (here behind) callers (receiving values below) 0
@@ -210,7 +210,7 @@ module _ (m : Contents) (body : ℕ → Body) (function : ℕ) (callers : List P
       beneath (t ∷ labels) (keep, height, later, end, h, k, n) =
           received m body (here behind) callers after below values (record { labels = labels; after = later; behind = end; over = h; code = k }) e
 
-      by : (o : Option Operation) → ClosesTo (body function) (height_of below) after at behind o → Leads m body (stepped (body function) (here at) values callers o) (Goes 0 s (receiving values below))
+      by : (o : Option Token) → ClosesTo (body function) (height_of below) after at behind o → Leads m body (stepped (body function) (here at) values callers o) (Goes 0 s (receiving values below))
       by None c = absurd c
       by (Some op.End) c = subst (λ (to : ℕ). IsPlaced m body (here to) callers (receiving values below) 0) c (beneath labels h)
       by (Some op.Else) c = rw c.1 (beneath labels h)

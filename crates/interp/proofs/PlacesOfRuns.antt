@@ -1,16 +1,16 @@
 -- The calls of a run stand at places that the side tables tell.
 use Rattle.interp.proofs.Words.{◌≡◌, ℕ, ◌+◌, List, [], ◌∷◌, ◌++◌, length, map, Some, refl, sym, ap, subst, arith, slice_get, length-map, Value}
-use Rattle.interp.proofs.Words.{Operation, Contents, FuncType, Func, Code, Done, Plain, Block, Loop, If, pushed, type_of, ValidModule, Target, Store}
+use Rattle.interp.proofs.Words.{Token, Contents, FuncType, Func, Code, Done, Plain, Block, Loop, If, pushed, type_of, ValidModule, Target, Store}
 use Rattle.interp.proofs.Words.{value_of, Context, Frame, entered, receiving, types_of, Move, Calls, next, as_operands, IsDefined, operands_of, Body}
 use Rattle.interp.proofs.Words.{Place, Over, IsPlaced, AreBodies}
-use Rattle.syntax.specs.declared.instruction.Operation.TheVariants as op
+use Rattle.syntax.specs.declared.instruction.Token.TheVariants as op
 use Rattle.validate.specs.Valid.{body_context}
 use Rattle.validate.specs.Targets.{size}
 use Rattle.validate.proofs.Tables.{length-operations}
 use Rattle.interp.specs.Inner.Scaffold.HeightsOfRuns.{Arrives, here, goes, calls, asks, IsReached}
 use Rattle.interp.specs.Inner.Scaffold.Places.{Guided, stepped, ArePlaced, Leads}
 use Rattle.interp.proofs.Lists.{length-pushed}
-use Rattle.interp.proofs.Entering.{valid_function, body_typed}
+use Rattle.interp.proofs.CallsAreTyped.{valid_function, body_typed}
 use Rattle.interp.proofs.HeightsOfRuns.{same_type}
 use Rattle.interp.proofs.PlacesKept.{received, leads}
 use Rattle.interp.proofs.PlacesGuided.{guided}
@@ -46,7 +46,7 @@ module _ (m : Contents) (body : ℕ → Body) (valid : ValidModule m) (bodies : 
       → Awaiting places below (length type.results) → IsPlaced m body (record { function = defined.0; pc = 0 }) places (entered type f args below) 0
   enters function type f args places below (index, e, at, known) w =
       let size_of : size f.body ≡ length (body index).operations =
-      omega (arith, length-operations op.End f.body [], ap (λ (ops : List Operation). length ops) (bodies index f type at known).0) in
+      omega (arith, length-operations op.End f.body [], ap (λ (ops : List Token). length ops) (bodies index f type at known).0) in
       record {
         labels = record { pc = size f.body; keep = length type.results; height = 0 } ∷ [];
         after = length type.results;

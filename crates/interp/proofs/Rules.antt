@@ -2,7 +2,7 @@
 use Rattle.interp.proofs.Words.{◌≡◌, ℕ, zero, suc, ◌≤◌, List, [], ◌∷◌, length, take, drop, reverse, Option, Some, None, refl, ◌∙◌, true, false, Bool}
 use Rattle.interp.proofs.Words.{nat_le, slice_get, if◌then◌else◌, Value, I32, Instr, Br, BrIf, BrTable, Contents, FuncType, Code, Done, Plain, Block}
 use Rattle.interp.proofs.Words.{Loop, If, type_of_function, Store, Context, Label, Frame, types_of, locals_of, with_locals, going_on, receiving}
-use Rattle.interp.proofs.Words.{continuing, Move, Goes, Traps, Calls, Stuck, Turn, Leaves, Fails, Lacks, next, StaysInBlock, code_of, operands_of}
+use Rattle.interp.proofs.Words.{continuing, Move, Goes, Traps, Calls, Stuck, PlainStep, Leaves, Fails, Lacks, next, StaysInBlock, code_of, operands_of}
 use Rattle.std.proofs.Common.{◌&&◌}
 use Rattle.std.specs.Prelude.{is_some, ◌==◌}
 use Rattle.std.proofs.lemmas.Bool.{and_parts}
@@ -12,10 +12,10 @@ use Rattle.validate.specs.SameTypes.{same_valtypes, same_type}
 use Rattle.validate.specs.Typing.{block_type}
 use Rattle.validate.proofs.SameTypes.{same_valtypes-is}
 use Rattle.interp.specs.Configuration.{branched, returned}
-use Rattle.interp.specs.Step.{Ends, turn, turned, plain, at_code}
+use Rattle.interp.specs.Step.{Ends, plain_step, turned, plain, at_code}
 use Rattle.interp.specs.Step.{on_contexts, label_for, takes_topmost, call_typed, call_element, entering, block, loop, chosen}
 use Rattle.interp.proofs.Lists.{at_least}
-use Rattle.interp.proofs.TurnLeaves.{StoreLeft, same_store, TurnLeaves, TurnFails, TurnView, turn_view}
+use Rattle.interp.proofs.PlainStepView.{StoreLeft, same_store, TurnLeaves, TurnFails, PlainStepView, plain_step_view}
 
 -- ---- the parts of the rules
 
@@ -177,8 +177,8 @@ module _ (m : Contents) (s : Store) where
           let results = same_valtypes-is type.results other.results both.1 in
           call_rule (CallIndirect t) (I32 n ∷ values) values f rest contexts (Some type) (λ called is. through (e ∙ is) w (cc) (cc))
 
-  turn_rule : (i : Instr) (values : List Value) (rest : Code) (contexts : List Context) → StaysInBlock i → (o : Turn)
-      → TurnView m s (locals_of contexts) i values o → StepRule m s contexts values (Plain i rest) (turned o rest contexts)
+  turn_rule : (i : Instr) (values : List Value) (rest : Code) (contexts : List Context) → StaysInBlock i → (o : PlainStep)
+      → PlainStepView m s (locals_of contexts) i values o → StepRule m s contexts values (Plain i rest) (turned o rest contexts)
   turn_rule i values rest contexts still (Leaves t ls vs) h = leaves still h
   turn_rule i values rest contexts still (Fails trap) h = fails still h
   turn_rule i values rest contexts still Lacks h = stuck
@@ -196,7 +196,7 @@ module _ (m : Contents) (s : Store) where
   plain_rule (CallIndirect t) (I32 n ∷ values) rest contexts =
       if_holds contexts (I32 n ∷ values) (Plain (CallIndirect t) rest) (is_some m.table) _ (λ e. element_rule t n values rest contexts (slice_get s.table n))
   plain_rule (CallIndirect t) values rest contexts = stuck
-  plain_rule i values rest contexts = turn_rule i values rest contexts tt (turn m s (locals_of contexts) i values) (turn_view m s (locals_of contexts) i values)
+  plain_rule i values rest contexts = turn_rule i values rest contexts tt (plain_step m s (locals_of contexts) i values) (plain_step_view m s (locals_of contexts) i values)
 
   enter_rule : (code next inside rest : Code) (values left : List Value) (t : FuncType) (arity : ℕ) (contexts : List Context)
       → Opening m code values t arity next inside rest left

@@ -13,7 +13,7 @@ use Rattle.interp.specs.Inner.Scaffold.HeightsTyped.{AwaitsWithin, SoundWithin}
 use Rattle.instance.specs.Storing.{NamesFunction, HasPages}
 use Rattle.interp.proofs.Lists.{at_least}
 use Rattle.interp.proofs.HeightsSound.{sound_within}
-use Rattle.interp.proofs.TurnLeaves.{StoreLeft, same_store, global_set, written, enlarged}
+use Rattle.interp.proofs.PlainStepView.{StoreLeft, same_store, global_set, written, enlarged}
 use Rattle.interp.proofs.Rules.{LeavesStore, store_after}
 use Rattle.std.specs.Prelude.{All}
 

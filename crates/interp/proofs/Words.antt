@@ -7,7 +7,7 @@ pub use Rattle.syntax.specs.declared.contents.Contents.{Contents}
 pub use Rattle.syntax.specs.Code.{Code, Done, Loop, Plain, Block, If}
 pub use Rattle.instance.specs.Store.{Store, value_of}
 pub use Rattle.interp.specs.Configuration.{Context, Frame, Label, receiving, types_of, locals_of, entered, with_locals, going_on, continuing}
-pub use Rattle.interp.specs.Step.{next, Move, Calls, Goes, Stuck, Traps, Leaves, Lacks, Turn, Fails}
+pub use Rattle.interp.specs.Step.{next, Move, Calls, Goes, Stuck, Traps, Leaves, Lacks, PlainStep, Fails}
 pub use Rattle.interp.specs.Inner.Scaffold.Typed.{operands_of, code_of}
 pub use Rattle.interp.specs.Run.{IsDefined, as_operands}
 pub use Rattle.interp.specs.Inner.Scaffold.HeightsTyped.{Bounded}
@@ -27,7 +27,7 @@ pub use Rattle.instance.specs.Storing.{IsStoreOf}
 pub use Rattle.syntax.specs.declared.types.Value.TheVariants.{I32, I64}
 pub use Rattle.interp.specs.Inner.Scaffold.Plainly.{StaysInBlock}
 pub use Rattle.validate.specs.declared.side_table.Target.{Target}
-pub use Rattle.syntax.specs.declared.instruction.Operation.{Operation}
+pub use Rattle.syntax.specs.declared.instruction.Token.{Token}
 pub use Rattle.validate.specs.Segments.{number_in}
 pub use Rattle.engine.specs.declared.at.At.{At}
 pub use Rattle.interp.specs.Inner.Slots.Holding.{Holds, onto, AreSmall, erased}

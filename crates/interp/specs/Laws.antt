@@ -7,7 +7,7 @@ use Rattle.syntax.specs.declared.types.ValType.{ValType}
 use Rattle.syntax.specs.declared.contents.Contents.{Contents}
 use Rattle.syntax.specs.declared.contents.FuncType.{FuncType}
 use Rattle.syntax.specs.declared.contents.Func.{Func}
-use Rattle.syntax.specs.declared.instruction.Operation.TheVariants as op
+use Rattle.syntax.specs.declared.instruction.Token.TheVariants as op
 use Rattle.syntax.specs.declared.instruction.Instr.TheVariants as instr
 use Rattle.syntax.specs.Code.{Code}
 use Rattle.validate.specs.declared.side_table.Target.{Target}
@@ -17,7 +17,7 @@ use Rattle.instance.specs.Store.{Store}
 use Rattle.instance.specs.Storing.{HaveGlobalTypes}
 use Rattle.interp.specs.Configuration.{Context, Label, entered, frames, receiving, types_of}
 use Rattle.interp.specs.Step.{Goes, next}
-use Rattle.interp.specs.Run.{HostCall, Outcome, IsDefined, Run, RunsWithin}
+use Rattle.interp.specs.Run.{HostCall, RunEnd, IsDefined, Run, RunsWithin}
 use Rattle.interp.specs.Stopping.{Mark, Moment, RunsTo}
 use Rattle.interp.specs.Hosting.{Lawful, IsDetermined}
 use Rattle.interp.specs.Invoking.{Invokes, Invoked}
@@ -88,7 +88,7 @@ AnswersAreSound =
 abbrev pub RunsEndOnce : Type 0
 RunsEndOnce =
     (m : Contents) (depth fuel : ℕ) (s : Store) (contexts : List Context) (trace : List HostCall)
-    (outcome outcome' : Outcome) (used used' : ℕ) (t t' : Store)
+    (outcome outcome' : RunEnd) (used used' : ℕ) (t t' : Store)
     → RunsWithin m depth fuel s contexts trace outcome used t
     → RunsWithin m depth fuel s contexts trace outcome' used' t'
     → (outcome ≡ outcome') × (used ≡ used') × (t ≡ t')
@@ -97,7 +97,7 @@ RunsEndOnce =
 abbrev pub CallsEndOnce : Type 0
 CallsEndOnce =
     (m : Contents) (depth fuel : ℕ) (s : Store) (function : ℕ) (args : List Value) (trace : List HostCall)
-    (outcome outcome' : Outcome) (used used' : ℕ) (t t' : Store)
+    (outcome outcome' : RunEnd) (used used' : ℕ) (t t' : Store)
     → Invokes m depth fuel s function args trace outcome used t
     → Invokes m depth fuel s function args trace outcome' used' t'
     → (outcome ≡ outcome') × (used ≡ used') × (t ≡ t')
@@ -107,7 +107,7 @@ CallsEndOnce =
 -- two runs from one start in which the host answered the same calls, and which end alike, stop at one operation and within one list of calls
 abbrev pub RunsStopOnce : Type 0
 RunsStopOnce =
-    (m : Contents) (depth : ℕ) (s : Store) (contexts : List Context) (marks : List Mark) (trace : List HostCall) (outcome : Outcome) (used : ℕ)
+    (m : Contents) (depth : ℕ) (s : Store) (contexts : List Context) (marks : List Mark) (trace : List HostCall) (outcome : RunEnd) (used : ℕ)
     (t t' : Store) (last last' : Moment)
     → RunsTo m depth last s contexts marks trace outcome used t
     → RunsTo m depth last' s contexts marks trace outcome used t'
@@ -116,7 +116,7 @@ RunsStopOnce =
 -- and such a run is a run
 abbrev pub StoppedRunsAreRuns : Type 0
 StoppedRunsAreRuns =
-    (m : Contents) (depth : ℕ) (s : Store) (contexts : List Context) (marks : List Mark) (trace : List HostCall) (outcome : Outcome) (used : ℕ)
+    (m : Contents) (depth : ℕ) (s : Store) (contexts : List Context) (marks : List Mark) (trace : List HostCall) (outcome : RunEnd) (used : ℕ)
     (t : Store) (last : Moment)
     → RunsTo m depth last s contexts marks trace outcome used t → Run m depth s contexts trace outcome used t
 
@@ -125,13 +125,13 @@ StoppedRunsAreRuns =
 -- a run leaves it as it was
 abbrev pub RunsKeepTable : Type 0
 RunsKeepTable =
-    (m : Contents) (depth fuel : ℕ) (s : Store) (contexts : List Context) (trace : List HostCall) (outcome : Outcome) (used : ℕ) (t : Store)
+    (m : Contents) (depth fuel : ℕ) (s : Store) (contexts : List Context) (trace : List HostCall) (outcome : RunEnd) (used : ℕ) (t : Store)
     → RunsWithin m depth fuel s contexts trace outcome used t → t.table ≡ s.table
 
 -- so does a call from outside
 abbrev pub CallsKeepTable : Type 0
 CallsKeepTable =
-    (m : Contents) (depth fuel : ℕ) (s : Store) (function : ℕ) (args : List Value) (trace : List HostCall) (outcome : Outcome) (used : ℕ)
+    (m : Contents) (depth fuel : ℕ) (s : Store) (function : ℕ) (args : List Value) (trace : List HostCall) (outcome : RunEnd) (used : ℕ)
     (t : Store)
     → Invokes m depth fuel s function args trace outcome used t → t.table ≡ s.table
 
@@ -142,7 +142,7 @@ abbrev pub RunsAreDetermined : {H : Type 0} → (V : Type 0) → (H → HostCall
 RunsAreDetermined {H} V moves =
     (see : H → V) → IsDetermined see moves
     → (m : Contents) (depth fuel : ℕ) (s : Store) (contexts : List Context) (trace trace' : List HostCall)
-    (outcome outcome' : Outcome) (used used' : ℕ) (t t' : Store) (host host' new new' : H)
+    (outcome outcome' : RunEnd) (used used' : ℕ) (t t' : Store) (host host' new new' : H)
     → see host ≡ see host'
     → RunsWithin m depth fuel s contexts trace outcome used t → Lawful moves trace host new
     → RunsWithin m depth fuel s contexts trace' outcome' used' t' → Lawful moves trace' host' new'
@@ -153,7 +153,7 @@ abbrev pub CallsAreDetermined : {H : Type 0} → (V : Type 0) → (H → HostCal
 CallsAreDetermined {H} V moves =
     (see : H → V) → IsDetermined see moves
     → (m : Contents) (depth fuel : ℕ) (s : Store) (function : ℕ) (args : List Value) (trace trace' : List HostCall)
-    (outcome outcome' : Outcome) (used used' : ℕ) (t t' : Store) (host host' new new' : H)
+    (outcome outcome' : RunEnd) (used used' : ℕ) (t t' : Store) (host host' new new' : H)
     → see host ≡ see host'
     → Invokes m depth fuel s function args trace outcome used t → Lawful moves trace host new
     → Invokes m depth fuel s function args trace' outcome' used' t' → Lawful moves trace' host' new'

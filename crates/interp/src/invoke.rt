@@ -16,7 +16,7 @@ use crate::opening::open;
 use crate::over_host::run_over_host;
 use crate::values::Values;
 use engine::Program;
-use instance::stack::{Frame, Last, Slots, Stack};
+use instance::stack::{Caller, Last, Slots, Stack};
 use instance::state::{Instance, State};
 use limits::MAX_DEPTH;
 use syntax::contents::Contents;
@@ -69,7 +69,7 @@ fn invoke_defined<H: Host>(
     state: &mut State,
     host: &mut H,
     slots: &mut Slots,
-    frames: &mut [Frame],
+    frames: &mut [Caller],
     last: &mut Option<Last>,
     ended: &mut Ended,
     function: u32,
@@ -119,7 +119,7 @@ fn invoke_below<H: Host>(
     state: &mut State,
     host: &mut H,
     slots: &mut Slots,
-    frames: &mut [Frame],
+    frames: &mut [Caller],
     last: &mut Option<Last>,
     ended: &mut Ended,
     function: u32,
@@ -158,7 +158,7 @@ fn invoke_within<H: Host>(
     state: &mut State,
     host: &mut H,
     slots: &mut Slots,
-    frames: &mut Vec<Frame>,
+    frames: &mut Vec<Caller>,
     last: &mut Option<Last>,
     ended: &mut Ended,
     function: u32,

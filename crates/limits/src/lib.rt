@@ -72,6 +72,9 @@ pub const MAX_ASYNCS: usize = 16;
 /// How many work requests of a loop may be open at a time. Each has a slot below this.
 pub const MAX_REQUESTS: usize = 32;
 
+/// The greatest number of a request of a loop.
+pub const MAX_REQUEST_NUMBER: u32 = 2_147_483_647;
+
 /// How many numbers a callback may emit.
 pub const MAX_EMITS: usize = 64;
 

@@ -1,8 +1,8 @@
 pub mod Modules
-pub mod Naming
-pub mod Starting
-pub mod Serving
-pub mod Stopping
+pub mod ImportTypes
+pub mod NewInstance
+pub mod WorkHostAnswers
+pub mod WhereOrdersStop
 pub mod Short
 pub mod OneEnd
-pub mod Agreeing
+pub mod RepliesAgree

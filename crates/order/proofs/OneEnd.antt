@@ -10,7 +10,7 @@ use Rattle.syntax.specs.declared.contents.ModuleExport.{ModuleExport}
 use Rattle.validate.specs.Valid.{ValidModule, DistinctNames}
 use Rattle.instance.specs.Store.{Store}
 use Rattle.instance.specs.Fresh.{IsFresh}
-use Rattle.interp.specs.Run.{HostCall, Outcome, Returned, Trapped, TooDeep, OutOfFuel}
+use Rattle.interp.specs.Run.{HostCall, RunEnd, Returned, Trapped, TooDeep, OutOfFuel}
 use Rattle.interp.specs.Hosting.{IsDetermined}
 use Rattle.interp.proofs.OneCall.{one_call}
 use Rattle.imports.specs.declared.call.Call.{Call}
@@ -60,7 +60,7 @@ answers_one bytes old call call' new new' Now args same (a, m, r) (a', m', r') =
 answers_one bytes old call call' new new' _ args same g g' = gives_one call call' new new' _ _ _ _ _ _ refl same refl g g'
 
 -- an ending reads as one end
-reads_one : (outcome : Outcome) (reply : List ℕ) (e e' : WorkEnd) → EndsAs outcome reply e → EndsAs outcome reply e' → e ≡ e'
+reads_one : (outcome : RunEnd) (reply : List ℕ) (e e' : WorkEnd) → EndsAs outcome reply e → EndsAs outcome reply e' → e ≡ e'
 reads_one (Returned []) reply e e' h k = absurd h
 reads_one (Returned (I32 value ∷ [])) reply e e' h k = h ∙ sym k
 reads_one (Returned (I32 value ∷ more ∷ rest)) reply e e' h k = absurd h
@@ -69,10 +69,10 @@ reads_one (Trapped code) reply e e' h k = h ∙ sym k
 reads_one TooDeep reply e e' h k = h ∙ sym k
 reads_one OutOfFuel reply e e' h k = h ∙ sym k
 
-ends_one : (outcome outcome' : Outcome) (reply reply' : List ℕ) (e e' : WorkEnd) → outcome ≡ outcome' → reply ≡ reply'
+ends_one : (outcome outcome' : RunEnd) (reply reply' : List ℕ) (e e' : WorkEnd) → outcome ≡ outcome' → reply ≡ reply'
     → EndsAs outcome reply e → EndsAs outcome' reply' e' → e ≡ e'
 ends_one outcome outcome' reply reply' e e' same same' h k =
-    reads_one outcome reply e e' h (subst (λ (x : Outcome). EndsAs x reply e') (sym same) (subst (λ (x : List ℕ). EndsAs outcome' x e') (sym same') k))
+    reads_one outcome reply e e' h (subst (λ (x : RunEnd). EndsAs x reply e') (sym same) (subst (λ (x : List ℕ). EndsAs outcome' x e') (sym same') k))
 
 module _ (apart : AreNamedApart) (o : WorkOrder) where
   calls_one : IsDetermined (λ (reply : List ℕ). reply) (WorkCall o)
@@ -85,14 +85,14 @@ module _ (apart : AreNamedApart) (o : WorkOrder) where
       let one = answers_one o.bytes old call call' new new' f call.args asked.before answers there in
       (λ i. record { function = asked.function i; args = asked.args i; before = asked.before i; answer = one.answer i; after = one.after i }, one.reply)
 
-  runs_one : (fuel : ℕ) (s : Store) (old : List ℕ) (function : ℕ) (args : List Value) (e e' : Outcome) (u u' : ℕ) (t t' : Store) (new new' : List ℕ)
+  runs_one : (fuel : ℕ) (s : Store) (old : List ℕ) (function : ℕ) (args : List Value) (e e' : RunEnd) (u u' : ℕ) (t t' : Store) (new new' : List ℕ)
       → WorkRun o fuel s old function args e u t new → WorkRun o fuel s old function args e' u' t' new'
       → (e ≡ e') × (u ≡ u') × (t ≡ t') × (new ≡ new')
   runs_one fuel s old function args e e' u u' t t' new new' r r' =
       let one = one_call o.loaded.contents o.depth (λ (reply : List ℕ). reply) (WorkCall o) calls_one fuel s function args r.trace r'.trace e e' u u' t t' old old new new' refl r.run r.answers r'.run r'.answers in
       (one.1, one.2, one.3, one.4)
 
-  starts_one : (start : Option ℕ) (s : Store) (e e' : Outcome) (u u' : ℕ) (t t' : Store) (reply reply' : List ℕ)
+  starts_one : (start : Option ℕ) (s : Store) (e e' : RunEnd) (u u' : ℕ) (t t' : Store) (reply reply' : List ℕ)
       → StartRun o start s e u t reply → StartRun o start s e' u' t' reply' → (e ≡ e') × (u ≡ u') × (t ≡ t') × (reply ≡ reply')
   starts_one None s e e' u u' t t' reply reply' (a, b, c, d) (a', b', c', d') = (a ∙ sym a', b ∙ sym b', c ∙ sym c', d ∙ sym d')
   starts_one (Some function) s e e' u u' t t' reply reply' r r' = runs_one o.fuel s [] function [] e e' u u' t t' reply reply' r r'
@@ -100,7 +100,7 @@ module _ (apart : AreNamedApart) (o : WorkOrder) where
   fresh_one : (s s' : Store) → IsFresh o.loaded.contents s → IsFresh o.loaded.contents s' → s ≡ s'
   fresh_one s s' fresh fresh' = fresh.store ∙ sym fresh'.store
 
-  begun_one : (s s' : Store) (e e' : Outcome) (u u' : ℕ) (t t' : Store) (reply reply' : List ℕ) → IsFresh o.loaded.contents s → IsFresh o.loaded.contents s'
+  begun_one : (s s' : Store) (e e' : RunEnd) (u u' : ℕ) (t t' : Store) (reply reply' : List ℕ) → IsFresh o.loaded.contents s → IsFresh o.loaded.contents s'
       → StartRun o o.loaded.contents.start s e u t reply → StartRun o o.loaded.contents.start s' e' u' t' reply' → (e ≡ e') × (u ≡ u') × (t ≡ t') × (reply ≡ reply')
   begun_one s s' e e' u u' t t' reply reply' fresh fresh' r r' =
       let again = subst (λ (x : Store). StartRun o o.loaded.contents.start x e' u' t' reply') (fresh_one s' s fresh' fresh) r' in

@@ -9,7 +9,7 @@ use Rattle.limits.specs.declared.TheConstants.{MAX_BYTES}
 use Rattle.syntax.specs.declared.types.Value.{Value}
 use Rattle.syntax.specs.declared.types.Value.TheVariants.{I32, I64}
 use Rattle.instance.specs.Store.{Store}
-use Rattle.interp.specs.Run.{HostCall, Outcome, Returned, Trapped, TooDeep, OutOfFuel}
+use Rattle.interp.specs.Run.{HostCall, RunEnd, Returned, Trapped, TooDeep, OutOfFuel}
 use Rattle.interp.specs.Hosting.{Lawful}
 use Rattle.imports.specs.declared.call.Call.{Call}
 use Rattle.imports.specs.declared.call.Call.TheVariants.{Now, InLen, InCopy, OutSet}
@@ -48,11 +48,11 @@ trace_short o [] reply reply' h short = rw h short
 trace_short o (call ∷ trace) reply reply' h short =
     trace_short o trace h.0 reply' h.2 (call_short o.bytes reply call h.0 h.1.0 call.args h.1.2 short)
 
-start_short : (o : WorkOrder) (start : Option ℕ) (s t : Store) (outcome : Outcome) (used : ℕ) (reply : List ℕ) → StartRun o start s outcome used t reply → IsShort reply
+start_short : (o : WorkOrder) (start : Option ℕ) (s t : Store) (outcome : RunEnd) (used : ℕ) (reply : List ℕ) → StartRun o start s outcome used t reply → IsShort reply
 start_short o None s t outcome used reply h = rw h.3 (omega arith)
 start_short o (Some function) s t outcome used reply h = trace_short o h.trace [] reply h.answers (omega arith)
 
-end_short : (outcome : Outcome) (reply : List ℕ) (e : WorkEnd) → EndsAs outcome reply e → IsShort reply → IsShortEnd e
+end_short : (outcome : RunEnd) (reply : List ℕ) (e : WorkEnd) → EndsAs outcome reply e → IsShort reply → IsShortEnd e
 end_short (Returned []) reply e h short = absurd h
 end_short (Returned (I32 value ∷ [])) reply e h short = rw h short
 end_short (Returned (I32 value ∷ more ∷ rest)) reply e h short = absurd h

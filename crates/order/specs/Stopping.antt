@@ -7,7 +7,7 @@ use Rattle.instance.specs.Store.{Store}
 use Rattle.instance.specs.Fresh.{IsFresh}
 use Rattle.instance.specs.declared.stack.Site.{Site}
 use Rattle.interp.specs.Run.{Returned}
-use Rattle.interp.specs.Running.{outcome_of}
+use Rattle.interp.specs.Running.{end_of_run}
 use Rattle.interp.specs.Stopping.{Tells}
 use Rattle.interp.specs.declared.ended.Ended.{Ended}
 use Rattle.imports.specs.Linking.{ExportsFunction}
@@ -17,7 +17,7 @@ use Rattle.order.specs.Work.{WorkOrder, WorkEnd, NoMemory, WorkRun, WorkCall, St
 -- a function of the order's module runs so, and stops there if it does not return
 pub record WorkStop (o : WorkOrder) (fuel : ℕ) (s : Store) (reply : List ℕ) (function : ℕ) (args : List Value) (ended : Ended) (t : Store)
     (reply' : List ℕ) (stop : Option (List Site)) : Type 0 where
-  pub run : WorkRun o fuel s reply function args (outcome_of ended.ending) ended.used t reply'
+  pub run : WorkRun o fuel s reply function args (end_of_run ended.ending) ended.used t reply'
   pub tells : Tells o.loaded.contents o.depth (WorkCall o) s reply function args ended t reply' stop
 
 -- One thread computes this end from the order and uses so much, as in `Computes`, and stops there: where the start function
@@ -26,16 +26,16 @@ pub data ComputesTo (o : WorkOrder) (end : WorkEnd) (used : ℕ) (stop : Option 
   stops : (s t : Store) (ended : Ended) (reply : List ℕ) (function : ℕ) → IsFresh o.loaded.contents s
       → o.loaded.contents.start ≡ Some function
       → WorkStop o o.fuel s [] function [] ended t reply stop
-      → ((results : List Value) → outcome_of ended.ending ≢ Returned results)
+      → ((results : List Value) → end_of_run ended.ending ≢ Returned results)
       → used ≡ ended.used
-      → EndsAs (outcome_of ended.ending) reply end → ComputesTo o end used stop
+      → EndsAs (end_of_run ended.ending) reply end → ComputesTo o end used stop
   works : (s t u : Store) (results : List Value) (ended : Ended) (first : ℕ) (reply reply' : List ℕ) (function : ℕ)
       → IsFresh o.loaded.contents s
       → StartRun o o.loaded.contents.start s (Returned results) first t reply
       → ExportsFunction o.loaded.contents (codes "uv_work") function
       → WorkStop o (o.fuel - first) t reply function (I32 o.op ∷ []) ended u reply' stop
       → used ≡ first + ended.used
-      → EndsAs (outcome_of ended.ending) reply' end → ComputesTo o end used stop
+      → EndsAs (end_of_run ended.ending) reply' end → ComputesTo o end used stop
 
 -- the trail of a run of the order: what is kept of where it stopped; where there is no memory, nothing runs
 abbrev pub Leaves : WorkOrder → WorkEnd → (used : ℕ) → (trail : Option Innermost) → Type 0

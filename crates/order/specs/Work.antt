@@ -6,7 +6,7 @@ use Rattle.syntax.specs.declared.types.Value.TheVariants.{I32, I64}
 use Rattle.syntax.specs.Loaded.{Loaded}
 use Rattle.instance.specs.Store.{Store}
 use Rattle.instance.specs.Fresh.{IsFresh}
-use Rattle.interp.specs.Run.{HostCall, Outcome, Returned, Trapped, TooDeep, OutOfFuel}
+use Rattle.interp.specs.Run.{HostCall, RunEnd, Returned, Trapped, TooDeep, OutOfFuel}
 use Rattle.interp.specs.Hosting.{Lawful}
 use Rattle.interp.specs.Invoking.{Invokes}
 use Rattle.imports.specs.declared.call.Call.{Call}
@@ -35,7 +35,7 @@ pub data WorkEnd : Type 0 where
   NoMemory : WorkEnd
 
 -- A function's ending reads as this end of a request, with the bytes that were set last. Of returns, that of one i32 alone does.
-abbrev pub EndsAs : Outcome → (reply : List ℕ) → WorkEnd → Type 0
+abbrev pub EndsAs : RunEnd → (reply : List ℕ) → WorkEnd → Type 0
 EndsAs (Returned (I32 value ∷ [])) reply end = end ≡ Done value reply
 EndsAs (Returned _) reply end = ⊥
 EndsAs (Trapped code) reply end = end ≡ Trap code
@@ -66,14 +66,14 @@ abbrev pub WorkCall : WorkOrder → List ℕ → HostCall → List ℕ → Type 
 WorkCall o reply call reply' = (f : Call) × Imports o.loaded.contents call.function f × WorkAnswers o.bytes reply call reply' f call.args
 
 -- a function of the order's module runs so, on this store and with these bytes of the reply
-pub record WorkRun (o : WorkOrder) (fuel : ℕ) (s : Store) (reply : List ℕ) (function : ℕ) (args : List Value) (outcome : Outcome) (used : ℕ)
+pub record WorkRun (o : WorkOrder) (fuel : ℕ) (s : Store) (reply : List ℕ) (function : ℕ) (args : List Value) (outcome : RunEnd) (used : ℕ)
     (t : Store) (reply' : List ℕ) : Type 0 where
   pub trace : List HostCall
   pub run : Invokes o.loaded.contents o.depth fuel s function args trace outcome used t
   pub answers : Lawful (WorkCall o) trace reply reply'
 
 -- the start function, where there is one, runs so on a new instance
-abbrev pub StartRun : WorkOrder → Option ℕ → Store → Outcome → (used : ℕ) → Store → List ℕ → Type 0
+abbrev pub StartRun : WorkOrder → Option ℕ → Store → RunEnd → (used : ℕ) → Store → List ℕ → Type 0
 StartRun o None s outcome used t reply = (outcome ≡ Returned []) × (used ≡ 0) × (t ≡ s) × (reply ≡ [])
 StartRun o (Some function) s outcome used t reply = WorkRun o o.fuel s [] function [] outcome used t reply
 
@@ -81,11 +81,11 @@ StartRun o (Some function) s outcome used t reply = WorkRun o o.fuel s [] functi
 -- on a new instance, with the fuel that is left.
 pub data Computes (o : WorkOrder) (end : WorkEnd) (used : ℕ) : Type 0 where
   -- the start function does not return
-  stops : (s t : Store) (outcome : Outcome) (reply : List ℕ) → IsFresh o.loaded.contents s
+  stops : (s t : Store) (outcome : RunEnd) (reply : List ℕ) → IsFresh o.loaded.contents s
       → StartRun o o.loaded.contents.start s outcome used t reply
       → ((results : List Value) → outcome ≢ Returned results)
       → EndsAs outcome reply end → Computes o end used
-  works : (s t u : Store) (results : List Value) (outcome : Outcome) (first second : ℕ) (reply reply' : List ℕ) (function : ℕ)
+  works : (s t u : Store) (results : List Value) (outcome : RunEnd) (first second : ℕ) (reply reply' : List ℕ) (function : ℕ)
       → IsFresh o.loaded.contents s
       → StartRun o o.loaded.contents.start s (Returned results) first t reply
       → ExportsFunction o.loaded.contents (codes "uv_work") function

@@ -8,7 +8,7 @@ ghost use Rattle.validate.specs.Valid.{ValidModule};
 ghost use Rattle.instance.specs.Fresh.{IsFresh};
 ghost use Rattle.instance.specs.Storing.{IsStoreOf};
 ghost use Rattle.interp.specs.Invoking.{TakesArguments, ReturnsTyped};
-ghost use Rattle.interp.specs.Running.{outcome_of, AreResults};
+ghost use Rattle.interp.specs.Running.{end_of_run, AreResults};
 ghost use Rattle.interp.specs.Stopping.{Tells};
 ghost use Rattle.imports.specs.Linking.{ExportsFunction};
 ghost use Rattle.order.specs.Orders.{order_of, end_of};
@@ -34,7 +34,7 @@ use syntax::types::Value;
 /// How `uv_work`, or the start function where that did not return, reads as an outcome.
 fn outcome_from(ending: Ending, reply: Vec<u8>) -> Outcome
     requires { AreResults ending (valtype.I32 ∷ []) }
-    ensures end { EndsAs (outcome_of ending) reply.items (end_of result) }
+    ensures end { EndsAs (end_of_run ending) reply.items (end_of result) }
     ensures told { end_of result ≢ NoMemory }
 {
     match ending {
@@ -158,8 +158,8 @@ impl Order {
         requires serves { Serves host.old (order_of self.now) }
         requires empty { host.old.reply.items ≡ [] }
         requires depth { (1 ≤ self.now.depth) × (self.now.depth ≤ MAX_DEPTH) }
-        ensures computes { (end : WorkEnd) → EndsAs (outcome_of result.ending) host.new.reply.items end → Computes (order_of self.now) end result.used }
-        ensures stops { (end : WorkEnd) → EndsAs (outcome_of result.ending) host.new.reply.items end → ComputesTo (order_of self.now) end result.used stack.new }
+        ensures computes { (end : WorkEnd) → EndsAs (end_of_run result.ending) host.new.reply.items end → Computes (order_of self.now) end result.used }
+        ensures stops { (end : WorkEnd) → EndsAs (end_of_run result.ending) host.new.reply.items end → ComputesTo (order_of self.now) end result.used stack.new }
         ensures within { result.used ≤ self.now.fuel }
         ensures results { AreResults result.ending (valtype.I32 ∷ []) }
     {
@@ -194,7 +194,7 @@ impl Order {
         requires serves { Serves host.old (order_of self.now) }
         requires empty { host.old.reply.items ≡ [] }
         requires depth { (1 ≤ self.now.depth) × (self.now.depth ≤ MAX_DEPTH) }
-        ensures run { StartRun (order_of self.now) (arc_value self.now.module).contents.start state.old (outcome_of result.ending) result.used state.new host.new.reply.items }
+        ensures run { StartRun (order_of self.now) (arc_value self.now.module).contents.start state.old (end_of_run result.ending) result.used state.new host.new.reply.items }
         ensures stops { (f : ℕ) → (arc_value self.now.module).contents.start ≡ Some f
             → WorkStop (order_of self.now) self.now.fuel state.old [] f [] result state.new host.new.reply.items stack.new }
         ensures within { result.used ≤ self.now.fuel }
@@ -242,7 +242,7 @@ impl Order {
         requires store { IsStoreOf (arc_value self.now.module).contents state.old }
         requires serves { Serves host.old (order_of self.now) }
         requires depth { (1 ≤ self.now.depth) × (self.now.depth ≤ MAX_DEPTH) }
-        ensures run { WorkRun (order_of self.now) fuel state.old host.old.reply.items function args.now (outcome_of result.ending) result.used state.new host.new.reply.items }
+        ensures run { WorkRun (order_of self.now) fuel state.old host.old.reply.items function args.now (end_of_run result.ending) result.used state.new host.new.reply.items }
         ensures stops { Tells (arc_value self.now.module).contents self.now.depth (WorkCall (order_of self.now)) state.old host.old.reply.items function args.now result state.new host.new.reply.items stack.new }
         ensures within { result.used ≤ fuel }
         ensures results { ReturnsTyped (arc_value self.now.module).contents function result.ending }

@@ -20,9 +20,9 @@ use Rattle.phases.specs.Outside.{next_order_of, next_in, handing}
 use Rattle.phases.specs.Requests.{Stage, Open, HandedOut, Answered, Cancelled, Request, Requests, Completion, no_requests, request_of, with_stage, completion_of, end_completion, lowest_open}
 use Rattle.phases.specs.State.{Setting, State, Loop}
 use Rattle.phases.specs.Step.{AfterWork, in_state}
-use Rattle.phases.proofs.Cancelling.{CancelFate, cancelled, stayed, fate_in}
-use Rattle.phases.proofs.Held.{Held, WasWon, after_of, Steps, step_holds, nothing_more}
-use Rattle.phases.proofs.Numbered.{Fits, Same, Stages, numbered, Stands, Owned, fits_more, fits_staged, fits_handed, fits_answered, only_found, found_only}
+use Rattle.phases.proofs.CancelFates.{CancelFate, cancelled, stayed, fate_in}
+use Rattle.phases.proofs.StepFates.{Held, WasWon, after_of, Steps, step_holds, nothing_more}
+use Rattle.phases.proofs.RequestByNumber.{Fits, Same, Stages, numbered, Stands, Owned, fits_more, fits_staged, fits_handed, fits_answered, only_found, found_only}
 
 -- some events and then others
 history_split : {S : Type 0} (calls : Calls S) (g : Setting) (xs ys : List Event) (old new : Loop S) → History calls g old (xs ++ ys) new → (mid : Loop S) × History calls g old xs mid × History calls g mid ys new

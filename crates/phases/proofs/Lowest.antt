@@ -8,7 +8,7 @@ use Rattle.order.specs.Orders.{order_of}
 use Rattle.phases.specs.Fitting.{AreRising, AreKept}
 use Rattle.phases.specs.Outside.{handing, next_of}
 use Rattle.phases.specs.Requests.{Request, Requests, is_open_stage, lowest_open, IsLowestOpen}
-use Rattle.phases.proofs.Booking.{number_of, within}
+use Rattle.phases.proofs.RequestsRise.{number_of, within}
 
 module _ (p : Request → Bool) where
   -- the first is the lowest

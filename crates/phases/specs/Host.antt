@@ -1,7 +1,7 @@
 -- What a loop answers to a guest in a callback: each function of "uv".
 use Rattle.std.specs.Prelude.{◌≡◌, ℕ, ◌+◌, ◌<◌, ◌==◌, Bool, true, ◌&&◌, not, MatchBool, ◌⊎◌, List, [], ◌∷◌, ◌++◌, length}
 use Rattle.std.specs.Prelude.{nat_le, nat_lt, Option, Some, None, codes, if◌then◌else◌}
-use Rattle.limits.specs.declared.TheConstants.{MAX_BYTES, MAX_REQUESTS, MAX_EMITS}
+use Rattle.limits.specs.declared.TheConstants.{MAX_BYTES, MAX_REQUESTS, MAX_EMITS, MAX_REQUEST_NUMBER}
 use Rattle.syntax.specs.declared.types.Value.{Value}
 use Rattle.syntax.specs.declared.types.Value.TheVariants.{I32, I64}
 use Rattle.handles.specs.declared.handle.Kind.TheVariants as kind
@@ -97,7 +97,7 @@ module _ {S : Type 0} (calls : Calls S) where
       ((answer ≡ outside_memory) × (new ≡ old))
       (MatchBool (length old.0.outstanding == MAX_REQUESTS)
       ((answer ≡ no_room) × (new ≡ old))
-      (MatchBool (old.0.last == 2147483647)
+      (MatchBool (old.0.last == MAX_REQUEST_NUMBER)
       ((answer ≡ none_left) × (new ≡ old))
       (((answer ≡ no_memory) × (new ≡ old)) ⊎ Opens g old op (taken_out place count memory) answer new)))))
 

@@ -8,7 +8,7 @@ use Rattle.handles.specs.declared.handle.Kind.{Kind}
 use Rattle.handles.specs.declared.handle.Kind.TheVariants as handle_kind
 use Rattle.handles.specs.Table.{record_of, same_kind, after_again}
 use Rattle.interp.specs.Run.{HostCall}
-use Rattle.interp.specs.Running.{outcome_of}
+use Rattle.interp.specs.Running.{end_of_run}
 use Rattle.interp.specs.Hosting.{Lawful}
 use Rattle.interp.specs.Invoking.{Invokes}
 use Rattle.interp.specs.declared.ended.Ending.{Ending}
@@ -90,7 +90,7 @@ module _ {S : Type 0} (calls : Calls S) (g : Setting) where
     pub trace : List HostCall
     pub ended : Ended
     pub state : State
-    pub run : Invokes g.loaded.contents g.depth g.fuel old.store function args trace (outcome_of ended.ending) ended.used new.store
+    pub run : Invokes g.loaded.contents g.depth g.fuel old.store function args trace (end_of_run ended.ending) ended.used new.store
     pub answers : Lawful (HostStep calls g) trace (begun old.state reply, old.shared) (state, new.shared)
     pub told : did ≡ Ran kind number ended
     pub finished : new.state ≡ finished state ended

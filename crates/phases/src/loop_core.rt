@@ -22,7 +22,7 @@ ghost use Rattle.phases.specs.View.{new_view};
 
 use crate::did::{Hint, StepDid};
 use crate::entry::{Entry, EntryKind, Status};
-use crate::guest::Guest;
+use crate::loop_host::LoopHost;
 use crate::opening::opened;
 use crate::setting::Setting;
 use crate::shared::{Beside, Shared};
@@ -53,7 +53,7 @@ pub enum Accepted {
 pub struct LoopCore<B: Shared + Drop> {
     linked: Arc<Linked, Global>,
     instance: Instance,
-    guest: Guest<B>,
+    host: LoopHost<B>,
 }
 
 impl<B: Shared + Drop> Drop for LoopCore<B> {
@@ -61,7 +61,7 @@ impl<B: Shared + Drop> Drop for LoopCore<B> {
         let LoopCore {
             linked: _,
             instance: _,
-            guest: _,
+            host: _,
         } = self;
     }
 }
@@ -80,9 +80,9 @@ impl<B: Shared + Drop> Model for LoopCore<B> {
 
     ghost coded = { Prim.hlevel (codes, loaded_coded, roster_code, requests_code, B.code) };
 
-    ghost view = { λ a. record { setting = setting_of a.guest.setting; loop = record { state = a.guest.state; store = a.instance; shared = a.guest.shared } } };
+    ghost view = { λ a. record { setting = setting_of a.host.setting; loop = record { state = a.host.state; store = a.instance; shared = a.host.shared } } };
 
-    ghost invariant = { λ a. Keeps (arc_value a.linked) (setting_of a.guest.setting) a.guest.state a.instance };
+    ghost invariant = { λ a. Keeps (arc_value a.linked) (setting_of a.host.setting) a.host.state a.instance };
 }
 
 impl<B: Shared + Drop> LoopCore<B> {
@@ -113,7 +113,7 @@ impl<B: Shared + Drop> LoopCore<B> {
             depth,
         };
         let (instance, state) = opened(alloc, &linked)?;
-        let guest = Guest {
+        let host = LoopHost {
             alloc,
             setting,
             state,
@@ -122,7 +122,7 @@ impl<B: Shared + Drop> LoopCore<B> {
         Ok(LoopCore {
             linked,
             instance,
-            guest,
+            host,
         })
     }
 
@@ -132,7 +132,7 @@ impl<B: Shared + Drop> LoopCore<B> {
         ensures step { LoopStep B.calls self.old.setting self.old.loop result self.new.loop }
         ensures setting { self.new.setting ≡ self.old.setting }
     {
-        match self.guest.state.status() {
+        match self.host.state.status() {
             Status::Running => self.go_on(),
             Status::Over => StepDid::Over,
             Status::Failed => StepDid::Failed,
@@ -143,10 +143,10 @@ impl<B: Shared + Drop> LoopCore<B> {
         ensures step { ListStep B.calls self.old.setting self.old.loop self.old.loop.state.list result self.new.loop }
         ensures setting { self.new.setting ≡ self.old.setting }
     {
-        let Some(entry) = self.guest.state.front() else {
-            return self.guest.state.turn();
+        let Some(entry) = self.host.state.front() else {
+            return self.host.state.turn();
         };
-        self.guest.state.pop();
+        self.host.state.pop();
         self.run(entry)
     }
 
@@ -199,7 +199,7 @@ impl<B: Shared + Drop> LoopCore<B> {
         ensures step { EntryStep B.calls self.old.setting self.old.loop (Entry.Timer handle start) result self.new.loop }
         ensures setting { self.new.setting ≡ self.old.setting }
     {
-        match self.guest.state.fire(handle, start) {
+        match self.host.state.fire(handle, start) {
             Some(function) => self.call_handle(EntryKind::Timer, handle, function),
             None => StepDid::Skipped {
                 kind: EntryKind::Timer,
@@ -215,7 +215,7 @@ impl<B: Shared + Drop> LoopCore<B> {
             (Skips B.calls self.old.setting self.old.loop kind handle result self.new.loop) }
         ensures setting { self.new.setting ≡ self.old.setting }
     {
-        match self.guest.state.listed_function(listed, handle, start) {
+        match self.host.state.listed_function(listed, handle, start) {
             Some(function) => self.call_handle(kind, handle, function),
             None => StepDid::Skipped {
                 kind,
@@ -233,7 +233,7 @@ impl<B: Shared + Drop> LoopCore<B> {
         let Some(function) = self.linked.entry(EntryPoint::AfterWork) else {
             unreachable!();
         };
-        let completion = self.guest.state.take_request(self.guest.alloc, request);
+        let completion = self.host.state.take_request(self.host.alloc, request);
         let args = [
             Value::I32(request),
             Value::I32(completion.kind),
@@ -254,17 +254,17 @@ impl<B: Shared + Drop> LoopCore<B> {
         ensures step { EntryStep B.calls self.old.setting self.old.loop (Entry.Async async_no) result self.new.loop }
         ensures setting { self.new.setting ≡ self.old.setting }
     {
-        let Some(handle) = self.guest.state.async_at(async_no) else {
+        let Some(handle) = self.host.state.async_at(async_no) else {
             unreachable!();
         };
         let kind = EntryKind::Async;
-        let Some((_, function)) = self.guest.state.active_async(async_no) else {
+        let Some((_, function)) = self.host.state.active_async(async_no) else {
             return StepDid::Skipped {
                 kind,
                 number: handle,
             };
         };
-        if self.guest.shared.take(async_no) == 0 {
+        if self.host.shared.take(async_no) == 0 {
             return StepDid::Skipped {
                 kind,
                 number: handle,
@@ -280,7 +280,7 @@ impl<B: Shared + Drop> LoopCore<B> {
         ensures step { EntryStep B.calls self.old.setting self.old.loop (Entry.Close handle) result self.new.loop }
         ensures setting { self.new.setting ≡ self.old.setting }
     {
-        let function = self.guest.state.finish_closing(handle);
+        let function = self.host.state.finish_closing(handle);
         self.call_handle(EntryKind::Close, handle, function)
     }
 
@@ -306,20 +306,20 @@ impl<B: Shared + Drop> LoopCore<B> {
         ensures run { RunsFrom B.calls self.old.setting self.old.loop kind number function args.now (option_map (λ v. v.items) reply) result self.new.loop }
         ensures setting { self.new.setting ≡ self.old.setting }
     {
-        self.guest.state.begin_callback(reply);
-        let (fuel, depth) = (self.guest.setting.fuel, self.guest.setting.depth);
+        self.host.state.begin_callback(reply);
+        let (fuel, depth) = (self.host.setting.fuel, self.host.setting.depth);
         imports_are_named(&self.linked);
         let valid = self.linked.valid();
         let ended = invoke(
             valid,
             &mut self.instance,
-            &mut self.guest,
+            &mut self.host,
             function,
             args,
             fuel,
             depth,
         );
-        self.guest.state.end_callback(&ended);
+        self.host.state.end_callback(&ended);
         StepDid::Ran {
             kind,
             number,
@@ -332,7 +332,7 @@ impl<B: Shared + Drop> LoopCore<B> {
         ensures emits { result.now ≡ self.now.loop.state.emits }
         ensures few { length result.now ≤ MAX_EMITS }
     {
-        self.guest.state.emits()
+        self.host.state.emits()
     }
 
     /// Raises the clock to a moment in milliseconds, and answers the clock after it. A smaller moment leaves it, and
@@ -342,7 +342,7 @@ impl<B: Shared + Drop> LoopCore<B> {
         ensures clock { result ≡ self.new.loop.state.clock }
         ensures setting { self.new.setting ≡ self.old.setting }
     {
-        self.guest.state.raise(ms)
+        self.host.state.raise(ms)
     }
 
     /// Where the last callback stopped, if it was over but by return: at which operation, and within which calls.
@@ -354,7 +354,7 @@ impl<B: Shared + Drop> LoopCore<B> {
     pub fn failed(&self) -> bool
         ensures { result ≡ is_failed self.now.loop.state.status }
     {
-        matches!(self.guest.state.status(), Status::Failed)
+        matches!(self.host.state.status(), Status::Failed)
     }
 
     /// How many requests are outstanding. What is answered is what the request's own order gives, or that there was
@@ -363,7 +363,7 @@ impl<B: Shared + Drop> LoopCore<B> {
         ensures count { result ≡ length self.now.loop.state.requests.outstanding }
         ensures right { AllRight self.now.loop.state.requests }
     {
-        self.guest.state.outstanding()
+        self.host.state.outstanding()
     }
 
     /// Ends the loop and gives what it shares, as it stands.
@@ -373,9 +373,9 @@ impl<B: Shared + Drop> LoopCore<B> {
         let LoopCore {
             linked: _,
             instance: _,
-            guest,
+            host,
         } = self;
-        guest.into_shared()
+        host.into_shared()
     }
 
     /// The order of the lowest request that is open and not handed out, which is then handed out. A failed loop has
@@ -389,7 +389,7 @@ impl<B: Shared + Drop> LoopCore<B> {
         ensures can_run { IfSome result (λ o. CanRun (order_of o)) }
         ensures setting { self.new.setting ≡ self.old.setting }
     {
-        self.guest.state.next_order()
+        self.host.state.next_order()
     }
 
     /// Takes a reply whose order is, in every field and the module's bytes included, that of a request that is
@@ -398,7 +398,7 @@ impl<B: Shared + Drop> LoopCore<B> {
         ensures told { Accepts reply self.old.loop result self.new.loop }
         ensures setting { self.new.setting ≡ self.old.setting }
     {
-        match self.guest.state.accept(reply) {
+        match self.host.state.accept(reply) {
             Ok(()) => Accepted::Accepted,
             Err(reply) => Accepted::Stranger(reply),
         }
@@ -417,7 +417,7 @@ impl<B: Shared + Drop> LoopCore<B> {
         ensures told { CancelsLoop B.calls self.old.loop request result self.new.loop }
         ensures setting { self.new.setting ≡ self.old.setting }
     {
-        let Guest { state, shared, .. } = &mut self.guest;
+        let LoopHost { state, shared, .. } = &mut self.host;
         state.cancel(shared, request)
     }
 
@@ -426,7 +426,7 @@ impl<B: Shared + Drop> LoopCore<B> {
         ensures value { result ≡ hint_of self.now.loop.state }
         ensures means { IsHint self.now.loop.state result }
     {
-        self.guest.state.hint()
+        self.host.state.hint()
     }
 
     /// Whether the loop has an active handle, an outstanding request or a closing handle.
@@ -434,7 +434,7 @@ impl<B: Shared + Drop> LoopCore<B> {
         ensures value { result ≡ is_alive self.now.loop.state }
         ensures means { IsTrue (is_alive self.now.loop.state) ↔ IsAlive self.now.loop.state }
     {
-        self.guest.state.is_alive()
+        self.host.state.is_alive()
     }
 }
 
@@ -446,7 +446,7 @@ impl<B: Beside + Drop> LoopCore<B> {
         ensures told { StartsBeside B.others self.old.loop slot request result self.new.loop }
         ensures setting { self.new.setting ≡ self.old.setting }
     {
-        self.guest.shared.start(slot, request)
+        self.host.shared.start(slot, request)
     }
 
     /// Another's send to an async, where all stands in one thread; `false` where its sends are used up. Asyncs are
@@ -456,6 +456,6 @@ impl<B: Beside + Drop> LoopCore<B> {
         ensures told { SendsBeside B.others self.old.loop async_no result self.new.loop }
         ensures setting { self.new.setting ≡ self.old.setting }
     {
-        self.guest.shared.sent(async_no)
+        self.host.shared.sent(async_no)
     }
 }

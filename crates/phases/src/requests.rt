@@ -19,9 +19,6 @@ use order::{Order, Reply};
 use std::alloc::{AllocError, Global};
 use std::marker::Model;
 
-/// The greatest number of a request.
-pub const LAST_REQUEST: u32 = 2_147_483_647;
-
 /// The outstanding requests of a loop by their numbers, which rise, and the last number that was given.
 pub struct Requests {
     items: Vec<Outstanding>,

@@ -9,13 +9,13 @@ ghost use Rattle.phases.specs.Inner.Setting.{setting_of};
 ghost use Rattle.phases.specs.View.{AreOpenedUpTo};
 
 use crate::progress::CancelState;
-use crate::requests::{LAST_REQUEST, Requests};
+use crate::requests::Requests;
 use crate::roster::Roster;
 use crate::setting::Setting;
 use crate::shared::Shared;
 use imports::{EntryPoint, Linked};
 use instance::memory::Memory;
-use limits::{MAX_BYTES, MAX_REQUESTS};
+use limits::{MAX_BYTES, MAX_REQUEST_NUMBER, MAX_REQUESTS};
 use order::answers::{
     BUSY, INVALID, NO_MEMORY, NO_ROOM, NO_SUCH_EXPORT, NONE_LEFT, OUTSIDE_MEMORY,
 };
@@ -92,7 +92,7 @@ pub fn queue_work<B: Shared>(
     if requests.len() == MAX_REQUESTS {
         return NO_ROOM;
     }
-    if requests.last() == LAST_REQUEST {
+    if requests.last() == MAX_REQUEST_NUMBER {
         return NONE_LEFT;
     }
     open(alloc, setting, requests, shared, asked.op, bytes)

@@ -32,9 +32,9 @@ module _ {J : Type 0} (ticket : J → Ticket) where
   -- Nothing: no job was taken. Dropped: one was taken, and its start was answered false. Replied: it was taken and started,
   -- and its reply was put.
   -- Stuck: it was taken and started, and its reply is given back
-  abbrev pub Outcome : BoardView → (old new : PassView J) → (before after : WorkerView) → Did → Type 0
-  Outcome board old new before after Nothing = (new ≡ old) × (after ≡ before)
-  Outcome board old new before after (Dropped t) = Takes old new t × FindsNotOpen before after t
-  Outcome board old new before after (Replied t) = TakesAndPuts old new t × Starts before after t
-  Outcome board old new before after (Stuck reply) = Takes old new (ticket_of reply.order)
+  abbrev pub DidSo : BoardView → (old new : PassView J) → (before after : WorkerView) → Did → Type 0
+  DidSo board old new before after Nothing = (new ≡ old) × (after ≡ before)
+  DidSo board old new before after (Dropped t) = Takes old new t × FindsNotOpen before after t
+  DidSo board old new before after (Replied t) = TakesAndPuts old new t × Starts before after t
+  DidSo board old new before after (Stuck reply) = Takes old new (ticket_of reply.order)
       × Starts before after (ticket_of reply.order) × (reply.order.loop_no < length board.replies)

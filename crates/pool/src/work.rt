@@ -1,7 +1,7 @@
 // One job's way, and a worker's.
 ghost use Rattle.std.specs.Prelude.{◌≡◌, ◌<◌, length};
 ghost use Rattle.board.specs.Boards.{IsPassOf};
-ghost use Rattle.pool.specs.Work.{Outcome};
+ghost use Rattle.pool.specs.Work.{DidSo};
 
 use crate::gate::{Gate, Point};
 use board::{Board, Event, Pass};
@@ -34,7 +34,7 @@ pub fn work_one<G: Gate, R: Wait>(
     requires own { IsPassOf board.now pass.old × (seat.old.claims ≡ claims.now.id) }
     requires loops { length board.now.replies ≡ claims.now.loops }
     ensures own { IsPassOf board.now pass.new × (seat.new.claims ≡ seat.old.claims) }
-    ensures did { Outcome (λ job. job.ticket) board.now pass.old pass.new seat.old seat.new result }
+    ensures did { DidSo (λ job. job.ticket) board.now pass.old pass.new seat.old seat.new result }
 {
     let Some(job) = board.take(rt, pass) else {
         return Did::Nothing;

@@ -6,7 +6,7 @@ use Rattle.desk.specs.Desk.{Desk}
 use Rattle.world.specs.World.{opening_loop}
 use Rattle.schedules.specs.Accesses.{Access, Reach, StepsBy}
 use Rattle.schedules.specs.Schedule.{Underway}
-use Rattle.schedules.proofs.Sending.{Gets}
+use Rattle.schedules.proofs.SendsMoveBehind.{Gets}
 
 -- once something was done, sends may have come
 abbrev pub AreLate : (done : List Access) (late : List ℕ) → Type 0

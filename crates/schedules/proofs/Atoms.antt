@@ -27,8 +27,8 @@ use Rattle.schedules.proofs.Alike.{IsBehind, Alike, AllAlike, AreAlikeAt, alike_
 use Rattle.schedules.proofs.Behind.{behind_begun, behind_next, behind_started, behind_sent, behind_is, behind_ended, Received}
 use Rattle.schedules.proofs.Hands.{AreHeld, IsAt, handed, waiting, waiting_push, is_at, hand_posts, hand_takes, hand_goes, hand_drops}
 use Rattle.schedules.proofs.Owners.{Owned, owner_tells, owner_collects, owner_cancels, owner_clocks}
-use Rattle.schedules.proofs.Running.{beside, Runs, run_none, run_one, run_join, run_send, run_sends, once_quiet, once_took, count_one}
-use Rattle.schedules.proofs.Standing.{Stands}
+use Rattle.schedules.proofs.RunsOfOneJobEach.{beside, Runs, run_none, run_one, run_join, run_send, run_sends, once_quiet, once_took, count_one}
+use Rattle.schedules.proofs.KnownNumbers.{Stands}
 
 -- The world runs on, and stands as the threads do; and each job that was posted is in the bag, until a worker takes it.
 pub record RunsOn (all : ℕ) (t : Threads) (ls : List (Core Desk)) (ws : List Worker) (used : ℕ) (told : List LogEntry) (t' : Threads) : Type 0 where

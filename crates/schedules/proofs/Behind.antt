@@ -9,9 +9,9 @@ use Rattle.schedules.specs.Accesses.{Access, Moves, Reach, over, StepsBy}
 use Rattle.schedules.specs.Schedule.{Underway}
 use Rattle.schedules.proofs.Alike.{IsBehind, AreLate}
 use Rattle.schedules.proofs.Numbers.{step_opens, others_front}
-use Rattle.schedules.proofs.Sending.{Gets, gets_more, gets_open, gets_started, moves_first, TakesFirst, takes_first, no_take_behind}
-use Rattle.schedules.proofs.Splitting.{step_whole}
-use Rattle.schedules.proofs.Starting.{OpenOthers, StartsAhead, starts_ahead, reach_more}
+use Rattle.schedules.proofs.SendsMoveBehind.{Gets, gets_more, gets_open, gets_started, moves_first, TakesFirst, takes_first, no_take_behind}
+use Rattle.schedules.proofs.StepsByAccess.{step_whole}
+use Rattle.schedules.proofs.StartsMoveBefore.{OpenOthers, StartsAhead, starts_ahead, reach_more}
 
 -- as the step begins
 pub behind_begun : (g : Setting) (l : Loop Desk) (u : Underway) (q : Core Desk) → q ≡ core g l → StepsBy g l u.ahead u.did u.state u.store → IsBehind (core g l) u q

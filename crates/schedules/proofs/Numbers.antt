@@ -6,11 +6,11 @@ use Rattle.phases.specs.declared.did.StepDid.{StepDid}
 use Rattle.phases.specs.Guests.{GuestCall}
 use Rattle.phases.specs.Requests.{Stage, Request, Requests, has_number, in_stage, with_stage, without_request, is_open_stage}
 use Rattle.phases.specs.State.{Setting, State, Loop}
-use Rattle.phases.proofs.Cancelling.{IsBeside, unmoved, tried, sent, took}
-use Rattle.phases.proofs.Moving.{CallFate, changes_nothing, opens_one, cancels_one, CallMoves, leaves_all, opens, cancels_won, IsKeptInSteps, IsKeptBy, step_keeps}
+use Rattle.phases.proofs.CancelFates.{IsBeside, unmoved, tried, sent, took}
+use Rattle.phases.proofs.StepsByCalls.{CallFate, changes_nothing, opens_one, cancels_one, CallMoves, leaves_all, opens, cancels_won, IsKeptInSteps, IsKeptBy, step_keeps}
 use Rattle.desk.specs.Desk.{Desk}
 use Rattle.schedules.specs.Accesses.{Access, Opens, Cancels, Sends, Takes, listed_calls, over, StepsBy}
-use Rattle.schedules.proofs.Starting.{OpensOther, OpenOthers}
+use Rattle.schedules.proofs.StartsMoveBefore.{OpensOther, OpenOthers}
 
 -- the orders are of the loop of this number, and have numbers up to the last one
 abbrev pub AreOwn : (n last : ℕ) → List Request → Type 0

@@ -14,7 +14,7 @@ use Rattle.world_log.specs.declared.entry.LogEntry.TheVariants as line
 use Rattle.world_log.specs.declared.outcome.CollectOutcome.TheVariants as collect
 use Rattle.world.specs.World.{World, Worker, Answer, Only, UnlessFailed, Collects, CollectsFrom, Cancels, Clocks, WorldStep, with_loop, with_replies, core}
 use Rattle.schedules.specs.Laws.{is_taken_by}
-use Rattle.schedules.proofs.Running.{beside}
+use Rattle.schedules.proofs.RunsOfOneJobEach.{beside}
 
 -- The same step of the world, where the loop stands as it does among the threads.
 pub record Owned (r r' : World) (n : ℕ) (entry : LogEntry) (ls : List (Core Desk)) (ws : List Worker) (F : World → Type 0) : Type 0 where

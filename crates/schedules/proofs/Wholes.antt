@@ -12,8 +12,8 @@ use Rattle.schedules.specs.Schedule.{Threads, Atom, ThreadsRun, opening_threads}
 use Rattle.schedules.proofs.Alike.{AllAlike, alike_between, alike_open}
 use Rattle.schedules.proofs.Atoms.{atom_runs}
 use Rattle.schedules.proofs.Hands.{AreHeld, waiting, hands_open}
-use Rattle.schedules.proofs.Running.{beside, Runs, run_none, run_join, count_append}
-use Rattle.schedules.proofs.Standing.{Stands, step_stands, opening_stands}
+use Rattle.schedules.proofs.RunsOfOneJobEach.{beside, Runs, run_none, run_join, count_append}
+use Rattle.schedules.proofs.KnownNumbers.{Stands, step_stands, opening_stands}
 
 run_stands : (steps : List Step) (lines : List LogEntry) (w w' : World) → WorldRun w steps lines w' → Stands w → Stands w'
 run_stands [] [] w w' run s = subst Stands (sym run) s

@@ -10,9 +10,9 @@ use Rattle.phases.specs.declared.entry.Phase.{Phase}
 use Rattle.phases.specs.declared.entry.Phase.TheVariants as phase
 use Rattle.phases.specs.declared.entry.EntryKind.{EntryKind}
 use Rattle.phases.specs.declared.entry.EntryKind.TheVariants as kind
-use Rattle.world_log.specs.declared.outcome.WorkEnding.{WorkEnding}
-use Rattle.world_log.specs.declared.outcome.WorkEnding.TheVariants.{Done, Trap as WorkTrap, Depth as WorkDepth}
-use Rattle.world_log.specs.declared.outcome.WorkEnding.TheVariants.{Spent as WorkSpent, NoMemory}
+use Rattle.world_log.specs.declared.outcome.JobEnd.{JobEnd}
+use Rattle.world_log.specs.declared.outcome.JobEnd.TheVariants.{Done, Trap as WorkTrap, Depth as WorkDepth}
+use Rattle.world_log.specs.declared.outcome.JobEnd.TheVariants.{Spent as WorkSpent, NoMemory}
 use Rattle.world_log.specs.declared.outcome.JobId.{JobId}
 use Rattle.world_log.specs.declared.outcome.PostOutcome.{PostOutcome}
 use Rattle.world_log.specs.declared.outcome.PostOutcome.TheVariants.{Request as Posted, Nothing as NoOrder, Full}
@@ -62,7 +62,7 @@ ending_words (Trap trap) = codes "trap" ∷ decimal (trap_number trap) ∷ []
 ending_words Depth = codes "depth" ∷ []
 ending_words Spent = codes "spent" ∷ []
 
-abbrev pub work_words : WorkEnding → List (List ℕ)
+abbrev pub work_words : JobEnd → List (List ℕ)
 work_words (Done value) = codes "done" ∷ signed_i32 value ∷ []
 work_words (WorkTrap trap) = codes "trap" ∷ decimal (trap_number trap) ∷ []
 work_words WorkDepth = codes "depth" ∷ []

@@ -7,7 +7,7 @@ use interp::ended::{Ended, Ending};
 use phases::{EntryKind, Phase};
 use std::alloc::{AllocError, Global};
 use world_log::{
-    CollectOutcome, FinishOutcome, JobId, Log, LogEntry, PostOutcome, StartOutcome, WorkEnding,
+    CollectOutcome, FinishOutcome, JobEnd, JobId, Log, LogEntry, PostOutcome, StartOutcome,
 };
 
 /// The text of a log: a line for each entry, the oldest first.
@@ -233,16 +233,16 @@ fn write_finish(text: &mut String, worker: u32, outcome: FinishOutcome) -> Resul
     }
 }
 
-fn write_work_ending(text: &mut String, ending: WorkEnding) -> Result<(), AllocError>
+fn write_work_ending(text: &mut String, ending: JobEnd) -> Result<(), AllocError>
     ensures { OnOk result (string_bytes text.new
         ≡ string_bytes text.old ++ spaced (work_words ending)) }
 {
     match ending {
-        WorkEnding::Done(value) => write!(text, " done {}", value.cast_signed()),
-        WorkEnding::Trap(trap) => write!(text, " trap {}", trap.code()),
-        WorkEnding::Depth => text.push_str(" depth"),
-        WorkEnding::Spent => text.push_str(" spent"),
-        WorkEnding::NoMemory => text.push_str(" nomemory"),
+        JobEnd::Done(value) => write!(text, " done {}", value.cast_signed()),
+        JobEnd::Trap(trap) => write!(text, " trap {}", trap.code()),
+        JobEnd::Depth => text.push_str(" depth"),
+        JobEnd::Spent => text.push_str(" spent"),
+        JobEnd::NoMemory => text.push_str(" nomemory"),
     }
 }
 

@@ -1,5 +1,5 @@
-pub mod Counting
+pub mod NumberedLists
 pub mod Ends
 pub mod Promised
-pub mod Recording
+pub mod OneEventMore
 pub mod Seats

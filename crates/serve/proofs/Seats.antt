@@ -3,7 +3,7 @@ use Rattle.std.proofs.Common.{◌≡◌, ℕ, ◌<◌, List, All, refl, sym, ap,
 use Rattle.std.proofs.lemmas.Option.{get_or_from_slice_get}
 use Rattle.claims.specs.Views.{ClaimsView, LoopView, WorkerView, AreNewLoops, AreNewWorkers, new_loop_view, new_worker_view}
 use Rattle.serve.specs.Inner.Places.{IsNewSeat, EachFrom}
-use Rattle.serve.proofs.Counting.{all_from}
+use Rattle.serve.proofs.NumberedLists.{all_from}
 
 new_seat : (claims : ClaimsView) (k : ℕ) → k < claims.loops → IsNewSeat claims (new_loop_view claims.id k)
 new_seat claims k below = record { fresh = refl; there = below }

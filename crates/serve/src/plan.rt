@@ -29,7 +29,7 @@ pub struct Plan {
 }
 
 /// What comes of a loop's thread.
-pub type Outcome = Result<Served, AllocError>;
+pub type LoopResult = Result<Served, AllocError>;
 
 /// That what comes of a thread is said of this loop.
 #[derive(Clone, Copy)]
@@ -38,7 +38,7 @@ pub struct OfLoop<'a> {
     pub loop_no: u32,
 }
 
-impl<'a> Promise<Outcome> for OfLoop<'a> {
+impl<'a> Promise<LoopResult> for OfLoop<'a> {
     ghost kept_by = { λ p r. IfOk r (λ s. IsServed (setting_at (arc_value p.plan.now.module) p.plan.now.serving p.loop_no) s) };
 }
 
@@ -68,7 +68,7 @@ impl Plan {
         place: LoopPlace<'_, J>,
         make: &M,
         watch: &W,
-    ) -> Outcome
+    ) -> LoopResult
         requires make { M.IsAlwaysCallable make.now }
         ensures { IfOk result (λ s. IsServed (setting_at (arc_value self.now.module) self.now.serving place.entry.seat.loop_no) s) }
     {
@@ -85,7 +85,7 @@ impl Plan {
         place: LoopPlace<'_, J>,
         make: &M,
         watch: &W,
-    ) -> Outcome
+    ) -> LoopResult
         requires make { M.IsAlwaysCallable make.now }
         ensures { IfOk result (λ s. IsServed (setting_at (arc_value self.now.module) self.now.serving place.entry.seat.loop_no) s) }
     {

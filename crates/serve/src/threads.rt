@@ -10,7 +10,7 @@ ghost use Rattle.serve.specs.Inner.Promises.{IsThreadOf};
 
 use crate::job::Job;
 use crate::place::{LoopPlace, WorkerPlace, places};
-use crate::plan::{OfLoop, Outcome, Plan};
+use crate::plan::{LoopResult, OfLoop, Plan};
 use crate::served::Served;
 use crate::serving::Serving;
 use crate::task::Task;
@@ -113,7 +113,7 @@ fn with_board<
 }
 
 // The thread of a loop.
-type LoopThread<'s> = PromisedHandle<Outcome, OfLoop<'s>>;
+type LoopThread<'s> = PromisedHandle<LoopResult, OfLoop<'s>>;
 
 // Starts the workers and then the loops, and closes the board once all loops have ended.
 fn run_all<
@@ -264,7 +264,7 @@ fn start_loop<
     let loop_no = place.seat.loop_no();
     let thread = scope.spawn_with(
         OfLoop { plan, loop_no },
-        move || -> Outcome
+        move || -> LoopResult
             requires make { M.IsAlwaysCallable make.now }
             requires sync { IsSync R.row × IsSync M.row × IsSync W.row }
             ensures { IfOk result (λ s. IsServed (setting_at (arc_value plan.entry.now.module) plan.entry.now.serving place.entry.seat.loop_no) s) }

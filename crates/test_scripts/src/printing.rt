@@ -10,7 +10,7 @@ use std::alloc::{AllocError, Global};
 use std::process::Abort;
 use std::test::Fail;
 use syntax::items::Items;
-use world_log::{CollectOutcome, FinishOutcome, JobId, Log, LogEntry, WorkEnding};
+use world_log::{CollectOutcome, FinishOutcome, JobEnd, JobId, Log, LogEntry};
 
 fn line_of(alloc: Global, entry: LogEntry) -> Result<String, AllocError> {
     let mut log = Log::new(alloc);
@@ -130,7 +130,7 @@ const FINISH: LogEntry = LogEntry::Finish {
             loop_no: 1,
             request: 2_147_483_647,
         },
-        WorkEnding::NoMemory,
+        JobEnd::NoMemory,
     ),
 };
 

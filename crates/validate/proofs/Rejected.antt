@@ -5,7 +5,7 @@ use Rattle.syntax.specs.declared.types.ValType.{ValType}
 use Rattle.syntax.specs.declared.types.ValType.TheVariants.{I32}
 use Rattle.syntax.specs.declared.instruction.Instr.{Instr}
 use Rattle.syntax.specs.declared.instruction.Instr.TheVariants as instr
-use Rattle.syntax.specs.declared.instruction.Operation.TheVariants as op
+use Rattle.syntax.specs.declared.instruction.Token.TheVariants as op
 use Rattle.validate.specs.declared.operands.Operand.{Operand}
 use Rattle.validate.specs.declared.checker.Checker.{Checker}
 use Rattle.validate.specs.declared.fault.BodyFault.{BodyFault}
@@ -15,7 +15,7 @@ use Rattle.validate.specs.Inner.Operands.{Held, Fits, FitsList, Lacks, Takes}
 use Rattle.validate.specs.Inner.Checking.{context_at}
 use Rattle.validate.specs.Inner.Rejecting.{Rejects}
 use Rattle.validate.proofs.Items.{same_some}
-use Rattle.validate.proofs.Taking.{pushed-push, pushed-append, takes_none}
+use Rattle.validate.proofs.OperandTypes.{pushed-push, pushed-append, takes_none}
 use Rattle.validate.proofs.Checks.{IsTurn}
 
 -- what lies behind the operand that isn't there was taken

@@ -1,10 +1,10 @@
 -- What the rest of a body keeps where the whole does: the rules of what is named, the height and the nesting.
 use Rattle.std.proofs.Common.{◌≡◌, ℕ, ◌+◌, ◌≤◌, ◌<◌, List, [], ◌∷◌, length, Option, Some, None, subst, arith}
-use Rattle.syntax.specs.declared.instruction.Operation.{Operation}
-use Rattle.syntax.specs.declared.instruction.Operation.TheVariants as op
+use Rattle.syntax.specs.declared.instruction.Token.{Token}
+use Rattle.syntax.specs.declared.instruction.Token.TheVariants as op
 use Rattle.syntax.specs.declared.contents.FuncType.{FuncType}
 use Rattle.syntax.specs.Code.{Code, Done, Plain, Block, Loop, If}
-use Rattle.validate.specs.declared.frames.Frame.{Frame}
+use Rattle.validate.specs.declared.frames.ControlFrame.{ControlFrame}
 use Rattle.validate.specs.declared.scope.Scope.{Scope}
 use Rattle.validate.specs.Typing.{Context}
 use Rattle.validate.specs.Height.{greatest_height, nesting}
@@ -20,7 +20,7 @@ abbrev pub IfKept : Rule → Context → Option Code → Type 0
 IfKept r c None = Unit {0}
 IfKept r c (Some code) = Kept r c code
 
-abbrev pub KeptOpens : Rule → Scope → List Frame → List Open → Type 0
+abbrev pub KeptOpens : Rule → Scope → List ControlFrame → List Open → Type 0
 KeptOpens r scope [] os = Unit {0}
 KeptOpens r scope (f ∷ fs) [] = Unit {0}
 KeptOpens r scope (f ∷ fs) (o ∷ os) =
@@ -32,7 +32,7 @@ abbrev pub IfLow : Context → FuncType → ℕ → Option Code → Type 0
 IfLow c type base None = Unit {0}
 IfLow c type base (Some code) = greatest_height c base (length type.params + base) code ≤ 256
 
-abbrev pub LowOpens : Scope → List Frame → Held → List Open → Type 0
+abbrev pub LowOpens : Scope → List ControlFrame → Held → List Open → Type 0
 LowOpens scope [] h os = height_of h ≤ 256
 LowOpens scope (f ∷ fs) h [] = height_of h ≤ 256
 LowOpens scope (f ∷ fs) h (o ∷ os) =
@@ -46,7 +46,7 @@ abbrev pub IfNested : ℕ → Option Code → Type 0
 IfNested depth None = Unit {0}
 IfNested depth (Some code) = nesting code + depth ≤ 256
 
-abbrev pub NestedOpens : List Frame → List Open → Type 0
+abbrev pub NestedOpens : List ControlFrame → List Open → Type 0
 NestedOpens [] os = Unit {0}
 NestedOpens (f ∷ fs) [] = Unit {0}
 NestedOpens (f ∷ fs) (o ∷ os) = (nesting o.code + length fs ≤ 256) × IfNested (length fs) o.other × NestedOpens fs os
@@ -61,7 +61,7 @@ reaches c base height (Block type body rest) = omega arith
 reaches c base height (Loop type body rest) = omega arith
 reaches c base height (If type first second rest) = omega arith
 
-pub now_low : (scope : Scope) (frames : List Frame) (h : Held) (os : List Open) → LowOpens scope frames h os → height_of h ≤ 256
+pub now_low : (scope : Scope) (frames : List ControlFrame) (h : Held) (os : List Open) → LowOpens scope frames h os → height_of h ≤ 256
 now_low scope [] h os low = low
 now_low scope (f ∷ fs) h [] low = low
 now_low scope (f ∷ fs) h (o ∷ os) low =
@@ -69,22 +69,22 @@ now_low scope (f ∷ fs) h (o ∷ os) low =
     let l : greatest_height (context_in scope (f ∷ fs)) (length h.below) (height_of h) o.code ≤ 256 = low.0 in
     omega arith
 
-obeyed_first : (r : Rule) (c : Context) (o : Operation) (rest : List Operation) (code : Code) (other : Option Code) (os : List Open)
+obeyed_first : (r : Rule) (c : Context) (o : Token) (rest : List Token) (code : Code) (other : Option Code) (os : List Open)
     → o ∷ rest ≡ flat_of (open_of code other ∷ os) → Kept r c code → Obeys r c o
-obeyed_first r c o rest Done None os flat k = let e : op.End ≡ o = cc in subst (λ (x : Operation). Obeys r c x) e tt
-obeyed_first r c o rest Done (Some second) os flat k = let e : op.Else ≡ o = cc in subst (λ (x : Operation). Obeys r c x) e tt
-obeyed_first r c o rest (Plain i code) other os flat k = let e : op.Plain i ≡ o = cc in subst (λ (x : Operation). Obeys r c x) e k.0
-obeyed_first r c o rest (Block type body code) other os flat k = let e : op.Block type ≡ o = cc in subst (λ (x : Operation). Obeys r c x) e k.0
-obeyed_first r c o rest (Loop type body code) other os flat k = let e : op.Loop type ≡ o = cc in subst (λ (x : Operation). Obeys r c x) e k.0
-obeyed_first r c o rest (If type first second code) other os flat k = let e : op.If type ≡ o = cc in subst (λ (x : Operation). Obeys r c x) e k.0
+obeyed_first r c o rest Done None os flat k = let e : op.End ≡ o = cc in subst (λ (x : Token). Obeys r c x) e tt
+obeyed_first r c o rest Done (Some second) os flat k = let e : op.Else ≡ o = cc in subst (λ (x : Token). Obeys r c x) e tt
+obeyed_first r c o rest (Plain i code) other os flat k = let e : op.Plain i ≡ o = cc in subst (λ (x : Token). Obeys r c x) e k.0
+obeyed_first r c o rest (Block type body code) other os flat k = let e : op.Block type ≡ o = cc in subst (λ (x : Token). Obeys r c x) e k.0
+obeyed_first r c o rest (Loop type body code) other os flat k = let e : op.Loop type ≡ o = cc in subst (λ (x : Token). Obeys r c x) e k.0
+obeyed_first r c o rest (If type first second code) other os flat k = let e : op.If type ≡ o = cc in subst (λ (x : Token). Obeys r c x) e k.0
 
-pub obeyed : (r : Rule) (scope : Scope) (frames : List Frame) (o : Operation) (rest : List Operation) (opens : List Open)
+pub obeyed : (r : Rule) (scope : Scope) (frames : List ControlFrame) (o : Token) (rest : List Token) (opens : List Open)
     → o ∷ rest ≡ flat_of opens → length frames ≡ length opens → KeptOpens r scope frames opens → Obeys r (context_in scope frames) o
 obeyed r scope frames o rest [] flat same k = absurd cc
 obeyed r scope [] o rest (x ∷ os) flat same k = absurd (omega arith)
 obeyed r scope (f ∷ fs) o rest (x ∷ os) flat same k = obeyed_first r (context_in scope (f ∷ fs)) o rest x.code x.other os flat k.0
 
-shallow_first : (depth : ℕ) (o : Operation) (rest : List Operation) (code : Code) (other : Option Code) (os : List Open)
+shallow_first : (depth : ℕ) (o : Token) (rest : List Token) (code : Code) (other : Option Code) (os : List Open)
     → o ∷ rest ≡ flat_of (open_of code other ∷ os) → IsOpening o → nesting code + depth ≤ 256 → depth < 256
 shallow_first depth o rest Done None os flat opening n = let e : o ≡ op.End = cc in absurd (subst IsOpening e opening)
 shallow_first depth o rest Done (Some second) os flat opening n = let e : o ≡ op.Else = cc in absurd (subst IsOpening e opening)
@@ -93,7 +93,7 @@ shallow_first depth o rest (Block type body code) other os flat opening n = omeg
 shallow_first depth o rest (Loop type body code) other os flat opening n = omega arith
 shallow_first depth o rest (If type first second code) other os flat opening n = omega arith
 
-pub shallow_now : (frames : List Frame) (o : Operation) (rest : List Operation) (opens : List Open)
+pub shallow_now : (frames : List ControlFrame) (o : Token) (rest : List Token) (opens : List Open)
     → o ∷ rest ≡ flat_of opens → length frames ≡ length opens → IsOpening o → NestedOpens frames opens → length frames ≤ 256
 shallow_now frames o rest [] flat same opening n = absurd cc
 shallow_now [] o rest (x ∷ os) flat same opening n = omega arith

@@ -4,12 +4,12 @@ use Rattle.syntax.specs.declared.types.ValType.{ValType}
 use Rattle.syntax.specs.declared.types.ValType.TheVariants.{I32}
 use Rattle.syntax.specs.declared.types.BlockType.{BlockType}
 use Rattle.syntax.specs.declared.instruction.Instr.{Instr}
-use Rattle.syntax.specs.declared.instruction.Operation.{Operation}
-use Rattle.syntax.specs.declared.instruction.Operation.TheVariants as op
+use Rattle.syntax.specs.declared.instruction.Token.{Token}
+use Rattle.syntax.specs.declared.instruction.Token.TheVariants as op
 use Rattle.syntax.specs.declared.contents.FuncType.{FuncType}
 use Rattle.syntax.specs.Code.{Code, Done, Plain, Block, Loop, If}
 use Rattle.validate.specs.declared.operands.Operand.{Operand}
-use Rattle.validate.specs.declared.frames.Frame.{Frame}
+use Rattle.validate.specs.declared.frames.ControlFrame.{ControlFrame}
 use Rattle.validate.specs.declared.scope.Scope.{Scope}
 use Rattle.validate.specs.Stack.{pushed}
 use Rattle.validate.specs.Typing.{Context, Typed, inside, block_type}
@@ -19,10 +19,10 @@ use Rattle.validate.specs.Inner.Operands.{Held, held_of, around, with_left, Fits
 use Rattle.validate.specs.Inner.Checking.{Checks, context_in}
 use Rattle.validate.specs.Inner.Rejecting.{MayFollow}
 use Rattle.validate.proofs.Items.{same_some}
-use Rattle.validate.proofs.Taking.{fits_more, pushed-push}
+use Rattle.validate.proofs.OperandTypes.{fits_more, pushed-push}
 use Rattle.validate.proofs.Opens.{Open, open_of, flat_of, shape_in, returned}
 use Rattle.validate.proofs.Blocks.{Begun, begun, around-begun}
-use Rattle.validate.proofs.Parting.{label_results, label_params}
+use Rattle.validate.proofs.PartsAreKept.{label_results, label_params}
 
 -- the sequence leaves these results, from something that the operands stand for
 pub record TypedFrom (c : Context) (results : List ValType) (h : Held) (code : Code) : Type 0 where
@@ -34,7 +34,7 @@ abbrev pub IfTyped : Context → FuncType → Option Code → Type 0
 IfTyped c type None = Unit {0}
 IfTyped c type (Some code) = Typed c code (pushed type.params []) (pushed type.results [])
 
-abbrev pub TypedOpens : Scope → List Frame → Held → List Open → Type 0
+abbrev pub TypedOpens : Scope → List ControlFrame → Held → List Open → Type 0
 TypedOpens scope [] h os = Unit {0}
 TypedOpens scope (f ∷ fs) h [] = Unit {0}
 TypedOpens scope (f ∷ fs) h (o ∷ os) =
@@ -45,15 +45,15 @@ TypedOpens scope (f ∷ fs) h (o ∷ os) =
 -- ---- what follows for the next operation
 
 -- a typing rule lets the operation follow something that the operands stand for
-pub record Follows (scope : Scope) (frames : List Frame) (h : Held) (o : Operation) : Type 0 where
+pub record Follows (scope : Scope) (frames : List ControlFrame) (h : Held) (o : Token) : Type 0 where
   pub from : List ValType
   pub fits : Fits h from
   pub rule : MayFollow o (record { scope = scope; frames = frames; operands = h }) from
 
-follows_at : (scope : Scope) (frames : List Frame) (h : Held) (o p : Operation) → p ≡ o → Follows scope frames h p → Follows scope frames h o
-follows_at scope frames h o p e n = subst (λ (x : Operation). Follows scope frames h x) e n
+follows_at : (scope : Scope) (frames : List ControlFrame) (h : Held) (o p : Token) → p ≡ o → Follows scope frames h p → Follows scope frames h o
+follows_at scope frames h o p e n = subst (λ (x : Token). Follows scope frames h x) e n
 
-follows_first : (scope : Scope) (f : Frame) (fs : List Frame) (h : Held) (o : Operation) (rest : List Operation) (code : Code) (other : Option Code) (os : List Open)
+follows_first : (scope : Scope) (f : ControlFrame) (fs : List ControlFrame) (h : Held) (o : Token) (rest : List Token) (code : Code) (other : Option Code) (os : List Open)
     → o ∷ rest ≡ flat_of (open_of code other ∷ os)
     → TypedFrom (context_in scope (f ∷ fs)) (shape_in scope f).results h code
     → Follows scope (f ∷ fs) h o
@@ -81,7 +81,7 @@ follows_first scope f fs h o rest (If type first second code) other os flat p =
     follows_at scope (f ∷ fs) h o (op.If type) e
     (record { from = p.from; fits = p.fits; rule = (pushed t.0.params t.2, t.3, (t.0, t.1, t.2, refl)) })
 
-pub follows_now : (scope : Scope) (frames : List Frame) (h : Held) (o : Operation) (rest : List Operation) (opens : List Open)
+pub follows_now : (scope : Scope) (frames : List ControlFrame) (h : Held) (o : Token) (rest : List Token) (opens : List Open)
     → o ∷ rest ≡ flat_of opens → length frames ≡ length opens → TypedOpens scope frames h opens → Follows scope frames h o
 follows_now scope frames h o rest [] flat same k = absurd cc
 follows_now scope [] h o rest (x ∷ os) flat same k = absurd (omega arith)
@@ -89,7 +89,7 @@ follows_now scope (f ∷ fs) h o rest (x ∷ os) flat same k = follows_first sco
 
 -- ---- what is left behind one operation
 
-pub typed_plain : (scope : Scope) (f : Frame) (fs : List Frame) (h j : Held) (i : Instr) (code : Code) (other : Option Code) (os : List Open)
+pub typed_plain : (scope : Scope) (f : ControlFrame) (fs : List ControlFrame) (h j : Held) (i : Instr) (code : Code) (other : Option Code) (os : List Open)
     → Checks (context_in scope (f ∷ fs)) i h j
     → TypedOpens scope (f ∷ fs) h (open_of (Plain i code) other ∷ os)
     → TypedOpens scope (f ∷ fs) j (open_of code other ∷ os)
@@ -102,7 +102,7 @@ typed_plain scope f fs h j i code other os k p =
     )
 
 -- the second branch of an `if` begins
-pub typed_other : (scope : Scope) (f : Frame) (fs : List Frame) (type : FuncType) (h mid : Held) (second : Code) (os : List Open)
+pub typed_other : (scope : Scope) (f : ControlFrame) (fs : List ControlFrame) (type : FuncType) (h mid : Held) (second : Code) (os : List Open)
     → shape_in scope f ≡ type → mid.below ≡ h.below
     → IfTyped (context_in scope (f ∷ fs)) (shape_in scope f) (Some second) × TypedOpens scope fs (returned scope f h.below) os
     → TypedOpens scope (f ∷ fs) (with_left type.params (held_of [] mid.below false)) (open_of second None ∷ os)
@@ -118,7 +118,7 @@ typed_other scope f fs type h mid second os shape e p = (
 )
 
 -- the parts of a block that is typed
-pub record TypedParts (scope : Scope) (f g : Frame) (fs : List Frame) (type : FuncType) (mid : Held) (block code : Code) (other : Option Code) : Type 0 where
+pub record TypedParts (scope : Scope) (f g : ControlFrame) (fs : List ControlFrame) (type : FuncType) (mid : Held) (block code : Code) (other : Option Code) : Type 0 where
   pub body : Typed (context_in scope (g ∷ f ∷ fs)) block (pushed type.params []) (pushed type.results [])
   pub first : IfTyped (context_in scope (g ∷ f ∷ fs)) type other
   pub below : List ValType
@@ -126,7 +126,7 @@ pub record TypedParts (scope : Scope) (f g : Frame) (fs : List Frame) (type : Fu
   pub rest : Typed (context_in scope (f ∷ fs)) code (pushed type.results below) (pushed (shape_in scope f).results [])
 
 -- a block begins
-pub typed_begun : (scope : Scope) (f g : Frame) (fs : List Frame) (type : FuncType) (taken : List ValType) (h mid : Held) (body code : Code) (first other : Option Code) (os : List Open)
+pub typed_begun : (scope : Scope) (f g : ControlFrame) (fs : List ControlFrame) (type : FuncType) (taken : List ValType) (h mid : Held) (body code : Code) (first other : Option Code) (os : List Open)
     → Begun scope f g fs type taken h mid
     → TypedParts scope f g fs type mid body code first
     → IfTyped (context_in scope (f ∷ fs)) (shape_in scope f) other × TypedOpens scope fs (returned scope f h.below) os
@@ -151,12 +151,12 @@ typed_begun scope f g fs type taken h mid body code first other os b p l =
       subst (λ (k : Held). TypedOpens scope (f ∷ fs) k (open_of code other ∷ os)) (sym back) behind,
     )
 
-named_type : (scope : Scope) (g : Frame) (named : BlockType) (s type : FuncType) → g.block_type ≡ named
+named_type : (scope : Scope) (g : ControlFrame) (named : BlockType) (s type : FuncType) → g.block_type ≡ named
     → block_type scope.contents.now named ≡ Some s → block_type scope.contents.now g.block_type ≡ Some type → s ≡ type
 named_type scope g named s type e p q =
     same_some s type (block_type scope.contents.now named) p (subst (λ (t : BlockType). block_type scope.contents.now t ≡ Some type) e q)
 
-pub typed_block : (scope : Scope) (f g : Frame) (fs : List Frame) (type : FuncType) (named : BlockType) (h mid : Held) (body code : Code)
+pub typed_block : (scope : Scope) (f g : ControlFrame) (fs : List ControlFrame) (type : FuncType) (named : BlockType) (h mid : Held) (body code : Code)
     → g.is_loop ≡ false → g.block_type ≡ named → Begun scope f g fs type type.params h mid
     → TypedFrom (context_in scope (f ∷ fs)) (shape_in scope f).results h (Block named body code)
     → TypedParts scope f g fs type mid body code None
@@ -178,7 +178,7 @@ typed_block scope f g fs type named h mid body code plain e b p =
       rest = subst (λ (s : FuncType). Typed c code (pushed s.results t.2) (pushed (shape_in scope f).results [])) same t.5;
     }
 
-pub typed_loop : (scope : Scope) (f g : Frame) (fs : List Frame) (type : FuncType) (named : BlockType) (h mid : Held) (body code : Code)
+pub typed_loop : (scope : Scope) (f g : ControlFrame) (fs : List ControlFrame) (type : FuncType) (named : BlockType) (h mid : Held) (body code : Code)
     → g.is_loop ≡ true → g.block_type ≡ named → Begun scope f g fs type type.params h mid
     → TypedFrom (context_in scope (f ∷ fs)) (shape_in scope f).results h (Loop named body code)
     → TypedParts scope f g fs type mid body code None
@@ -200,7 +200,7 @@ typed_loop scope f g fs type named h mid body code loops e b p =
       rest = subst (λ (s : FuncType). Typed c code (pushed s.results t.2) (pushed (shape_in scope f).results [])) same t.5;
     }
 
-pub typed_if : (scope : Scope) (f g : Frame) (fs : List Frame) (type : FuncType) (named : BlockType) (h mid : Held) (first second code : Code)
+pub typed_if : (scope : Scope) (f g : ControlFrame) (fs : List ControlFrame) (type : FuncType) (named : BlockType) (h mid : Held) (first second code : Code)
     → g.is_loop ≡ false → g.block_type ≡ named → Begun scope f g fs type (type.params ++ I32 ∷ []) h mid
     → TypedFrom (context_in scope (f ∷ fs)) (shape_in scope f).results h (If named first second code)
     → TypedParts scope f g fs type mid first code (Some second)

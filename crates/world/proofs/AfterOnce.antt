@@ -27,9 +27,9 @@ use Rattle.world.specs.World.{World, Worker, Idle, Taken, Started, Answer, Unles
 use Rattle.world.specs.Guests.{step_calls, guest_calls}
 use Rattle.world.specs.Histories.{AreTold, HasHistory}
 use Rattle.world.specs.Laws.{is_after, WasCancelled, IsOwn}
-use Rattle.world.proofs.Finishing.{finished_after, given_end}
+use Rattle.world.proofs.EndsAreLogged.{finished_after, given_end}
 use Rattle.world.proofs.Runs.{Keeps, Told, AllEnds, step_next, run_keeps}
-use Rattle.world.proofs.Telling.{history_join, step_callback, tells_callback}
+use Rattle.world.proofs.LogsTellHistories.{history_join, step_callback, tells_callback}
 
 pub opening_is : (g : Setting) → IsOpening desk_calls g (opening_loop g).loop
 opening_is g = record { state = refl; store = refl; shared = refl }

@@ -22,10 +22,10 @@ use Rattle.phases.specs.Outside.{is_failed, next_order_of, after_clock}
 use Rattle.phases.specs.Requests.{Stage, Open, HandedOut, Answered, Cancelled, Request, Requests, has_number, request_of, in_stage, with_stage, without_request, with_work, is_open_stage, lowest_open}
 use Rattle.phases.specs.State.{Setting, State, Loop, Core}
 use Rattle.phases.specs.Step.{in_state}
-use Rattle.phases.proofs.Cancelling.{IsBeside, unmoved, tried, sent, took, CancelMoves, wins, leaves, moves_in}
+use Rattle.phases.proofs.CancelFates.{IsBeside, unmoved, tried, sent, took, CancelMoves, wins, leaves, moves_in}
 use Rattle.tallies.proofs.Filtered.{find_first, first_passes}
-use Rattle.phases.proofs.Handing.{UpTo, NoneOpen, up_to_push, none_push, up_to_staged, none_staged, none_after, up_to_filtered, none_filtered, found_up_to, found_open, IsLowest, handed_is}
-use Rattle.phases.proofs.Moving.{CallMoves, leaves_all, opens, cancels_won, IsKeptInSteps, step_keeps}
+use Rattle.phases.proofs.OrdersHandedOnce.{UpTo, NoneOpen, up_to_push, none_push, up_to_staged, none_staged, none_after, up_to_filtered, none_filtered, found_up_to, found_open, IsLowest, handed_is}
+use Rattle.phases.proofs.StepsByCalls.{CallMoves, leaves_all, opens, cancels_won, IsKeptInSteps, step_keeps}
 use Rattle.desk.specs.Desk.{Desk, desk_calls, is_open, found_started, DeskCancels, DeskSends, DeskStarts, DeskGets}
 use Rattle.world_log.specs.declared.step.Step.{Step}
 use Rattle.world_log.specs.declared.step.Step.TheVariants as step
@@ -38,7 +38,7 @@ use Rattle.world_log.specs.declared.outcome.CollectOutcome.TheVariants as collec
 use Rattle.world.specs.Guests.{calls_of_loop, step_calls, guest_calls}
 use Rattle.world.specs.Laws.{is_of_job, is_begun, is_finished, WasCancelled, AreInPlace}
 use Rattle.world.specs.World.{World, Worker, Idle, Taken, Started, Answer, Only, UnlessFailed, PostsOrder, TakesJob, StartsJob, FinishesJob, CollectsFrom, StepsLoop, WorldStep, WorldRun, HasLoop, opening_world, opening_loop, with_loop, with_worker, job_of, told_of, core}
-use Rattle.world.proofs.Finishing.{set_at}
+use Rattle.world.proofs.EndsAreLogged.{set_at}
 use Rattle.world.proofs.OneWay.{IsCounted, own_orders, step_counted, opening_counted, one_way_after}
 use Rattle.world.proofs.Runs.{set_there}
 

@@ -34,7 +34,7 @@ use Rattle.world.specs.World.{World, Worker, Idle, Taken, Started, Answer, Only,
 use Rattle.world.specs.Guests.{calls_of_loop, step_calls, guest_calls}
 use Rattle.world.specs.Histories.{is_of_owner, Tells, AreTold}
 use Rattle.world.specs.Laws.{is_after}
-use Rattle.world.proofs.Telling.{history_push, told_push, tells_callback, tells_cancel, contains_push, count_push}
+use Rattle.world.proofs.LogsTellHistories.{history_push, told_push, tells_callback, tells_cancel, contains_push, count_push}
 
 pub set_there : {X : Type 0} (xs : List X) (n k : ℕ) (v : X) → is_some (slice_get (slice_set xs n v) k) ≡ is_some (slice_get xs k)
 set_there [] n k v = refl

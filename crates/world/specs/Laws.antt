@@ -14,7 +14,7 @@ use Rattle.world_log.specs.declared.step.Step.{Step}
 use Rattle.world_log.specs.declared.entry.LogEntry.{LogEntry}
 use Rattle.world_log.specs.declared.entry.LogEntry.TheVariants as line
 use Rattle.world_log.specs.declared.outcome.JobId.{JobId}
-use Rattle.world_log.specs.declared.outcome.WorkEnding.{WorkEnding}
+use Rattle.world_log.specs.declared.outcome.JobEnd.{JobEnd}
 use Rattle.world_log.specs.declared.outcome.PostOutcome.TheVariants as post
 use Rattle.world_log.specs.declared.outcome.StartOutcome.TheVariants as start
 use Rattle.world_log.specs.declared.outcome.FinishOutcome.TheVariants as finish
@@ -41,7 +41,7 @@ WasCancelled l request log made = Contains log (line.Cancel l request (pos 0)) �
 -- a line tells that the job of this loop and request was finished, and ended so
 abbrev pub WasFinished : (l request : ℕ) → WorkEnd → List LogEntry → Type 0
 WasFinished l request end log =
-    (worker : ℕ) × (ending : WorkEnding) × Tells ending end
+    (worker : ℕ) × (ending : JobEnd) × Tells ending end
     × Contains log (line.Finish worker (finish.Ended (record { loop_no = l; request = request }) ending))
 
 -- The step took this request off its loop's list and removed it, ran its after-work callback, and gave it these

@@ -20,8 +20,8 @@ use Rattle.world_log.specs.declared.step.Step.TheVariants as step
 use Rattle.world_log.specs.declared.entry.LogEntry.{LogEntry}
 use Rattle.world_log.specs.declared.entry.LogEntry.TheVariants as line
 use Rattle.world_log.specs.declared.outcome.JobId.{JobId}
-use Rattle.world_log.specs.declared.outcome.WorkEnding.{WorkEnding}
-use Rattle.world_log.specs.declared.outcome.WorkEnding.TheVariants as ending
+use Rattle.world_log.specs.declared.outcome.JobEnd.{JobEnd}
+use Rattle.world_log.specs.declared.outcome.JobEnd.TheVariants as ending
 use Rattle.world_log.specs.declared.outcome.PostOutcome.TheVariants as post
 use Rattle.world_log.specs.declared.outcome.StartOutcome.TheVariants as start
 use Rattle.world_log.specs.declared.outcome.FinishOutcome.TheVariants as finish
@@ -139,7 +139,7 @@ StartsJob w n (Taken o) entry w' =
 StartsJob w n _ entry w' = Only w entry (line.Start n start.Nothing) w'
 
 -- how an end is told
-abbrev pub Tells : WorkEnding → WorkEnd → Type 0
+abbrev pub Tells : JobEnd → WorkEnd → Type 0
 Tells (ending.Done told) (Done value bytes) = told ≡ value
 Tells (ending.Trap told) (Trap code) = trap_number told ≡ code
 Tells told Depth = told ≡ ending.Depth
@@ -150,7 +150,7 @@ Tells _ _ = ⊥
 -- a job that was started is run, and its reply goes to the back of its loop's list
 pub record RunsJob (w : World) (n : ℕ) (o : WorkOrder) (entry : LogEntry) (w' : World) : Type 0 where
   pub end : WorkEnd
-  pub ending : WorkEnding
+  pub ending : JobEnd
   pub replies : List Answer
   pub right : ∥ IsEndOf o end ∥₁
   pub tells : Tells ending end

@@ -1,7 +1,7 @@
 // Work that did not return.
 
 use order::Trail;
-use world_log::{JobId, WorkEnding};
+use world_log::{JobEnd, JobId};
 
 /// A job whose work did not return.
 #[derive(Debug, Drop)]
@@ -9,7 +9,7 @@ pub struct Undone {
     /// The job.
     pub job: JobId,
     /// How it ended.
-    pub ending: WorkEnding,
+    pub ending: JobEnd,
     /// The units of fuel that it used.
     pub used: u64,
     /// Where it stopped.

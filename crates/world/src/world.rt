@@ -22,8 +22,7 @@ use std::mem;
 use std::sync::Arc;
 use syntax::items::Items;
 use world_log::{
-    CollectOutcome, FinishOutcome, JobId, Log, LogEntry, PostOutcome, StartOutcome, Step,
-    WorkEnding,
+    CollectOutcome, FinishOutcome, JobEnd, JobId, Log, LogEntry, PostOutcome, StartOutcome, Step,
 };
 
 /// How many jobs are kept at most whose work did not return.
@@ -114,15 +113,15 @@ fn job_of(order: &Order) -> JobId
 }
 
 // How an outcome is told.
-fn ending_of(outcome: &Outcome) -> WorkEnding
+fn ending_of(outcome: &Outcome) -> JobEnd
     ensures { Tells result (end_of outcome.now) }
 {
     match outcome {
-        Outcome::Done(value, _) => WorkEnding::Done(*value),
-        Outcome::Trap(trap) => WorkEnding::Trap(*trap),
-        Outcome::Depth => WorkEnding::Depth,
-        Outcome::Spent => WorkEnding::Spent,
-        Outcome::NoMemory => WorkEnding::NoMemory,
+        Outcome::Done(value, _) => JobEnd::Done(*value),
+        Outcome::Trap(trap) => JobEnd::Trap(*trap),
+        Outcome::Depth => JobEnd::Depth,
+        Outcome::Spent => JobEnd::Spent,
+        Outcome::NoMemory => JobEnd::NoMemory,
     }
 }
 
@@ -134,7 +133,7 @@ fn none_undone(alloc: Global) -> Result<Vec<Undone>, AllocError> {
 fn keep_undone(
     undone: &mut Vec<Undone>,
     job: JobId,
-    ending: WorkEnding,
+    ending: JobEnd,
     used: u64,
     trail: Option<Trail>,
 ) {

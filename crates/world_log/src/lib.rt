@@ -15,6 +15,6 @@ mod step;
 
 pub use entry::LogEntry;
 pub use log::Log;
-pub use outcome::{CollectOutcome, FinishOutcome, JobId, PostOutcome, StartOutcome, WorkEnding};
+pub use outcome::{CollectOutcome, FinishOutcome, JobEnd, JobId, PostOutcome, StartOutcome};
 pub use settings::LoopSettings;
 pub use step::Step;

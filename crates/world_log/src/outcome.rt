@@ -13,7 +13,7 @@ pub struct JobId {
 
 /// How a job ended.
 #[derive(Clone, Copy, Debug)]
-pub enum WorkEnding {
+pub enum JobEnd {
     /// The work function returned this i32, here as an unsigned number.
     Done(u32),
     /// The work trapped.
@@ -52,7 +52,7 @@ pub enum StartOutcome {
 #[derive(Clone, Copy, Debug)]
 pub enum FinishOutcome {
     /// The job ran, and ended like this.
-    Ended(JobId, WorkEnding),
+    Ended(JobId, JobEnd),
     /// The worker had started no job.
     Nothing,
 }

@@ -4,8 +4,8 @@ use Rattle.syntax.specs.declared.types.Value.TheVariants as value
 use Rattle.syntax.specs.declared.operator.MemArg.{MemArg}
 use Rattle.syntax.specs.declared.instruction.Instr.{Instr}
 use Rattle.syntax.specs.declared.instruction.Instr.TheVariants as instr
-use Rattle.syntax.specs.declared.instruction.Operation.{Operation}
-use Rattle.syntax.specs.declared.instruction.Operation.TheVariants as operation
+use Rattle.syntax.specs.declared.instruction.Token.{Token}
+use Rattle.syntax.specs.declared.instruction.Token.TheVariants as operation
 use Rattle.syntax.specs.declared.types.ValType.TheVariants.{I32, I64}
 use Rattle.syntax.specs.declared.operator.Extension.TheVariants.{Signed, Unsigned}
 use Rattle.syntax.specs.declared.operator.Width.TheVariants.{One, Two, Four}
@@ -58,7 +58,7 @@ abbrev pub HasNone : ℕ → Type 0
 HasNone op = (i : Instr) → Exists (payload i) → opcode i ≡ op → ⊥
 
 -- the operation is such an instruction
-abbrev pub IsSuch : (Instr → Type 0) → Operation → Type 0
+abbrev pub IsSuch : (Instr → Type 0) → Token → Type 0
 IsSuch P (operation.Plain i) = P i
 IsSuch P _ = ⊥
 
@@ -75,6 +75,6 @@ StandsFor op head.Float = HasNone op
 StandsFor op head.Unknown = HasNone op
 
 -- the instructions of an opcode, by what stands behind it
-abbrev pub behind_opcode : ℕ → Operation → Language
+abbrev pub behind_opcode : ℕ → Token → Language
 behind_opcode op (operation.Plain i) = only_if (opcode i ≡ op) (immediates i)
 behind_opcode op _ = nothing

@@ -6,14 +6,14 @@ use Rattle.syntax.specs.declared.contents.Contents.{Contents}
 use Rattle.syntax.specs.declared.contents.FuncType.{FuncType}
 use Rattle.validate.specs.declared.scope.Scope.{Scope}
 use Rattle.validate.specs.declared.scope.Extent.{Extent}
-use Rattle.validate.specs.declared.frames.Frame.{Frame}
+use Rattle.validate.specs.declared.frames.ControlFrame.{ControlFrame}
 use Rattle.validate.specs.declared.checker.Checker.{Checker}
 use Rattle.validate.specs.Inner.Operands.{Held, Fits}
 use Rattle.validate.specs.Typing.{Context, InstrTyped}
 use Rattle.validate.specs.Height.{effect_of, after_effect, shape_of}
 use Rattle.validate.specs.Inner.Frames.{context_of}
 
-abbrev pub context_in : Scope → List Frame → Context
+abbrev pub context_in : Scope → List ControlFrame → Context
 context_in scope frames = context_of scope.contents.now scope.func_type.now scope.func.now frames
 
 abbrev pub context_at : Checker → Context
@@ -24,7 +24,7 @@ abbrev pub height_of : Held → ℕ
 height_of h = length h.own + length h.below
 
 -- what the innermost block takes and leaves
-abbrev pub innermost : Contents → List Frame → FuncType
+abbrev pub innermost : Contents → List ControlFrame → FuncType
 innermost m [] = record { params = []; results = [] }
 innermost m (f ∷ frames) = shape_of m f.block_type
 

@@ -4,10 +4,10 @@ use Rattle.limits.specs.declared.TheConstants.{MAX_HEIGHT, MAX_NESTING}
 use Rattle.syntax.specs.declared.types.ValType.{ValType}
 use Rattle.syntax.specs.declared.types.ValType.TheVariants.{I32}
 use Rattle.syntax.specs.declared.types.BlockType.{BlockType}
-use Rattle.syntax.specs.declared.instruction.Operation.{Operation}
-use Rattle.syntax.specs.declared.instruction.Operation.TheVariants as op
+use Rattle.syntax.specs.declared.instruction.Token.{Token}
+use Rattle.syntax.specs.declared.instruction.Token.TheVariants as op
 use Rattle.syntax.specs.declared.contents.FuncType.{FuncType}
-use Rattle.validate.specs.declared.frames.Frame.{Frame}
+use Rattle.validate.specs.declared.frames.ControlFrame.{ControlFrame}
 use Rattle.validate.specs.declared.checker.Checker.{Checker}
 use Rattle.validate.specs.declared.fault.BodyFault.{BodyFault}
 use Rattle.validate.specs.declared.fault.BodyFault.TheVariants as fault
@@ -31,7 +31,7 @@ RefusesAccess c align bytes fault.Nesting = ⊥
 RefusesAccess c align bytes fault.Memory = ⊥
 
 -- the operation keeps the rule
-abbrev pub Obeys : Rule → Context → Operation → Type 0
+abbrev pub Obeys : Rule → Context → Token → Type 0
 Obeys r c (op.Plain i) = Keeps r c i
 Obeys r c (op.Block type) = KeepsType r c type
 Obeys r c (op.Loop type) = KeepsType r c type
@@ -40,7 +40,7 @@ Obeys r c op.Else = Unit {0}
 Obeys r c op.End = Unit {0}
 
 -- the operation begins a block
-abbrev pub IsOpening : Operation → Type 0
+abbrev pub IsOpening : Token → Type 0
 IsOpening (op.Plain i) = ⊥
 IsOpening (op.Block type) = Unit {0}
 IsOpening (op.Loop type) = Unit {0}
@@ -67,10 +67,10 @@ MayBegin type c from =
 -- the stack has the results of the innermost block, and nothing else
 abbrev pub MayEnd : Checker → List ValType → Type 0
 MayEnd c from =
-    (f : Frame) × (slice_get c.frames 0 ≡ Some f) × (from ≡ pushed (shape_of c.scope.contents.now f.block_type).results [])
+    (f : ControlFrame) × (slice_get c.frames 0 ≡ Some f) × (from ≡ pushed (shape_of c.scope.contents.now f.block_type).results [])
 
 -- a typing rule lets the operation follow a stack of these types
-abbrev pub MayFollow : Operation → Checker → List ValType → Type 0
+abbrev pub MayFollow : Token → Checker → List ValType → Type 0
 MayFollow (op.Plain i) c from = (to : List ValType) × InstrTyped (context_at c) i from to
 MayFollow (op.Block type) c from = MayBegin type c from
 MayFollow (op.Loop type) c from = MayBegin type c from
@@ -80,7 +80,7 @@ MayFollow op.End c from = MayEnd c from
 
 -- The operation follows nothing that the operands stand for, or breaks a rule, or leaves too many operands, or begins
 -- a block too deep.
-abbrev pub Rejects : Operation → Checker → BodyFault → Type 0
+abbrev pub Rejects : Token → Checker → BodyFault → Type 0
 Rejects o c fault.BadType = (from : List ValType) → Fits c.operands from → MayFollow o c from → ⊥
 Rejects o c fault.Index = Obeys Indexes (context_at c) o → ⊥
 Rejects o c fault.Label = Obeys Labels (context_at c) o → ⊥

@@ -3,7 +3,7 @@ use Rattle.std.proofs.lemmas.Result.{IfOk-weaker}
 use Rattle.syntax.specs.declared.contents.ExternKind.TheVariants.{Func}
 use Rattle.syntax.specs.Exporting.{IsFirst}
 use Rattle.commands.specs.Arguments.{AllSpell}
-use Rattle.commands.proofs.Invoking.{takes}
+use Rattle.commands.proofs.InvocationParts.{takes}
 use Rattle.commands.proofs.performing.call_named.Goals as goal
 
 pub call-requires : goal.call-requires

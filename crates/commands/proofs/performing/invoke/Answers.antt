@@ -1,7 +1,7 @@
 use Rattle.std.proofs.Common.{string_bytes}
 use Rattle.std.proofs.lemmas.Result.{IfOk-weaker}
 use Rattle.commands.specs.Accepted.{Holds}
-use Rattle.commands.proofs.Invoking.{invoked}
+use Rattle.commands.proofs.InvocationParts.{invoked}
 use Rattle.commands.proofs.performing.invoke.Goals as goal
 
 pub returns : goal.returns

@@ -1,6 +1,6 @@
 use Rattle.std.proofs.Common.{Some, arith, rules}
 use Rattle.std.proofs.lemmas.Grind.{common_steps}
-use Rattle.instance.proofs.Overwriting.{overwritten-map-take}
+use Rattle.instance.proofs.SegmentsAreWritten.{overwritten-map-take}
 use Rattle.instance.proofs.fresh.write_element.Goals as goal
 
 pub loop-at-preserved : goal.loop-at-preserved

@@ -1,6 +1,6 @@
 use Rattle.interp.proofs.Words.{◌≡◌, length, ap, ◌∙◌, arith, List, ValType, FuncType, ◌≤◌, ◌+◌, Option, subst, sym}
-use Rattle.interp.proofs.Slots.Beginning.{found_type, can_open, few_results, under_way, invoked, used_within, returns_typed, store_kept, tells}
-use Rattle.interp.proofs.Slots.Beginning.{callers_within}
+use Rattle.interp.proofs.Slots.CallsBegin.{found_type, can_open, few_results, under_way, invoked, used_within, returns_typed, store_kept, tells}
+use Rattle.interp.proofs.Slots.CallsBegin.{callers_within}
 use Rattle.interp.proofs.invoke.invoke_defined.Goals as goal
 use Rattle.std.specs.Prelude.{IfSome}
 use Rattle.instance.specs.declared.stack.Last.{Last}

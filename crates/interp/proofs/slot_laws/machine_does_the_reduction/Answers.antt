@@ -1,4 +1,4 @@
-use Rattle.interp.proofs.Slots.Running.{comes_so, ends_so}
+use Rattle.interp.proofs.Slots.RunsOfContexts.{comes_so, ends_so}
 use Rattle.interp.proofs.slot_laws.machine_does_the_reduction.Goals as goal
 
 pub returns : goal.returns

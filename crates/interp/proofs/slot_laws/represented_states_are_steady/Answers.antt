@@ -1,4 +1,4 @@
-use Rattle.interp.proofs.Slots.Steadying.{steady_so}
+use Rattle.interp.proofs.Slots.OperandsAreFound.{steady_so}
 use Rattle.interp.proofs.slot_laws.represented_states_are_steady.Goals as goal
 
 pub returns : goal.returns

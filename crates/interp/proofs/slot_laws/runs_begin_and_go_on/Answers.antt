@@ -1,4 +1,4 @@
-use Rattle.interp.proofs.Slots.Resuming.{begins, resumes, goes_on_longer}
+use Rattle.interp.proofs.Slots.RunsGoOn.{begins, resumes, goes_on_longer}
 use Rattle.interp.proofs.slot_laws.runs_begin_and_go_on.Goals as goal
 
 pub returns-clause-begins : goal.returns-clause-begins

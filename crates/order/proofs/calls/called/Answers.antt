@@ -1,5 +1,5 @@
 use Rattle.std.proofs.Common.{arith}
-use Rattle.order.proofs.Naming.{named, imported, arguments_of}
+use Rattle.order.proofs.ImportTypes.{named, imported, arguments_of}
 use Rattle.order.proofs.calls.called.Goals as goal
 
 pub unreachable-requires : goal.unreachable-requires

@@ -1,6 +1,6 @@
 use Rattle.syntax.specs.declared.types.ValType.TheVariants.{I32}
 use Rattle.syntax.specs.declared.types.Value.TheVariants as value
-use Rattle.order.proofs.Naming.{one_of}
+use Rattle.order.proofs.ImportTypes.{one_of}
 use Rattle.order.proofs.calls.one.Goals as goal
 
 pub returns : goal.returns

@@ -1,6 +1,6 @@
 use Rattle.syntax.specs.declared.types.ValType.TheVariants.{I32}
 use Rattle.syntax.specs.declared.types.Value.TheVariants as value
-use Rattle.order.proofs.Naming.{three_of}
+use Rattle.order.proofs.ImportTypes.{three_of}
 use Rattle.order.proofs.calls.three.Goals as goal
 
 pub returns : goal.returns

@@ -1,4 +1,4 @@
-use Rattle.order.proofs.Naming.{names}
+use Rattle.order.proofs.ImportTypes.{names}
 use Rattle.order.proofs.laws.imports_are_named.Goals as goal
 
 pub returns : goal.returns

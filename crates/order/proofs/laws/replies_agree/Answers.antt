@@ -1,4 +1,4 @@
-use Rattle.order.proofs.Agreeing.{agree}
+use Rattle.order.proofs.RepliesAgree.{agree}
 use Rattle.order.proofs.laws.replies_agree.Goals as goal
 
 pub returns : goal.returns

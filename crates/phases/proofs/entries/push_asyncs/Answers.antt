@@ -2,7 +2,7 @@ use Rattle.std.proofs.Common.{◌+◌, None, refl, arith, take, length-take-le, 
 use Rattle.std.proofs.Common.{map, cond, [], ◌∷◌}
 use Rattle.phases.specs.declared.entry.Entry.TheVariants.{Async}
 use Rattle.phases.specs.PhaseList.{active_from, is_active_handle}
-use Rattle.phases.proofs.Listing.{active_more, joined}
+use Rattle.phases.proofs.ActiveAsyncs.{active_more, joined}
 use Rattle.phases.proofs.entries.push_asyncs.Goals as goal
 
 pub loop-async_no-preserved : goal.loop-async_no-preserved

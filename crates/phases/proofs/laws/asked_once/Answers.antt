@@ -1,5 +1,5 @@
-use Rattle.phases.proofs.Asking.{asked_after}
-use Rattle.phases.proofs.Handing.{handed_after, handed_own}
+use Rattle.phases.proofs.EachNumberOnce.{asked_after}
+use Rattle.phases.proofs.OrdersHandedOnce.{handed_after, handed_own}
 use Rattle.phases.proofs.laws.asked_once.Goals as goal
 
 pub returns-clause-asked : goal.returns-clause-asked

@@ -7,8 +7,8 @@ use Rattle.imports.specs.declared.entry_point.EntryPoint.TheVariants.{Main}
 use Rattle.imports.specs.Uv.{name_of_entry}
 use Rattle.phases.specs.Roster.{callbacks_of}
 use Rattle.phases.specs.State.{State}
-use Rattle.phases.proofs.Exporting.{found_exports}
-use Rattle.phases.proofs.Kept.{new_state}
+use Rattle.phases.proofs.HostExports.{found_exports}
+use Rattle.phases.proofs.LoopsKeep.{new_state}
 use Rattle.phases.proofs.opening.machine_of.Goals as goal
 
 pub returns : goal.returns

@@ -2,8 +2,8 @@ use Rattle.std.proofs.Common.{sym, ap, ◌∙◌}
 use Rattle.std.specs.List.{list_any}
 use Rattle.std.proofs.lemmas.List.{take_all}
 use Rattle.phases.specs.Requests.{Request, is_settled}
-use Rattle.phases.proofs.Finding.{any_here, any_passed}
-use Rattle.phases.proofs.Booking.{any_filtered}
+use Rattle.phases.proofs.FrontSearches.{any_here, any_passed}
+use Rattle.phases.proofs.RequestsRise.{any_filtered}
 use Rattle.phases.proofs.requests.any_settled.Goals as goal
 
 pub loop-item-preserved : goal.loop-item-preserved

@@ -1,5 +1,5 @@
 use Rattle.limits.specs.declared.TheConstants.{MAX_REQUESTS}
-use Rattle.phases.proofs.Booking.{enough}
+use Rattle.phases.proofs.RequestsRise.{enough}
 use Rattle.phases.proofs.requests.free_slot.Goals as goal
 use Rattle.std.proofs.Common.{arith}
 

@@ -1,6 +1,6 @@
 use Rattle.std.proofs.Common.{sym, ◌∙◌, Bool}
 use Rattle.phases.specs.Requests.{Request, is_open_stage}
-use Rattle.phases.proofs.Finding.{found, here, passed}
+use Rattle.phases.proofs.FrontSearches.{found, here, passed}
 use Rattle.phases.proofs.requests.lowest_open.Goals as goal
 
 abbrev test : Request → Bool

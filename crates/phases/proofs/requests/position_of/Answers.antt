@@ -1,7 +1,7 @@
 use Rattle.std.proofs.Common.{sym, ◌∙◌}
 use Rattle.std.proofs.lemmas.Bool.{eq-eqb, ne_eqb}
 use Rattle.phases.specs.Requests.{has_number}
-use Rattle.phases.proofs.Finding.{found, here, passed}
+use Rattle.phases.proofs.FrontSearches.{found, here, passed}
 use Rattle.phases.proofs.requests.position_of.Goals as goal
 
 pub returns-then-number-clause-some : goal.returns-then-number-clause-some

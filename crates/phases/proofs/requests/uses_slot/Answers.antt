@@ -2,7 +2,7 @@ use Rattle.std.proofs.Common.{◌==◌, Bool, ℕ, sym, ◌∙◌}
 use Rattle.std.proofs.lemmas.Bool.{eq-eqb, ne_eqb}
 use Rattle.phases.specs.Requests.{Request}
 use Rattle.phases.proofs.requests.uses_slot.Goals as goal
-use Rattle.phases.proofs.Finding.{any_here, any_passed}
+use Rattle.phases.proofs.FrontSearches.{any_here, any_passed}
 
 abbrev uses : ℕ → Request → Bool
 uses slot r = r.order.slot == slot

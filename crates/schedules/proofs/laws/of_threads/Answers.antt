@@ -1,4 +1,4 @@
-use Rattle.schedules.proofs.Threading.{of_threads}
+use Rattle.schedules.proofs.RunsAreThreads.{of_threads}
 use Rattle.schedules.proofs.laws.of_threads.Goals as goal
 
 pub returns : goal.returns

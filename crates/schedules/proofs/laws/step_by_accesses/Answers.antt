@@ -1,4 +1,4 @@
-use Rattle.schedules.proofs.Splitting.{step_split, step_whole}
+use Rattle.schedules.proofs.StepsByAccess.{step_split, step_whole}
 use Rattle.schedules.proofs.laws.step_by_accesses.Goals as goal
 
 pub returns : goal.returns

@@ -3,7 +3,7 @@ use Rattle.std.proofs.lemmas.List.Elements.{All-tail}
 use Rattle.std.specs.List.{All}
 use Rattle.claims.specs.Views.{LoopView}
 use Rattle.serve.specs.Inner.Places.{IsNewSeat}
-use Rattle.serve.proofs.Counting.{from_first, from_rest, push_at, longer_by, shorter_by}
+use Rattle.serve.proofs.NumberedLists.{from_first, from_rest, push_at, longer_by, shorter_by}
 use Rattle.serve.proofs.place.loop_places.Goals as goal
 
 pub loop-seat-preserved : goal.loop-seat-preserved

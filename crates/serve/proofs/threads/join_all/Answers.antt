@@ -4,7 +4,7 @@ use Rattle.serve.specs.Answers.{IsServed}
 use Rattle.serve.specs.Histories.{setting_at}
 use Rattle.serve.specs.Inner.Places.{EachFrom}
 use Rattle.serve.specs.Inner.Promises.{IsThreadOf}
-use Rattle.serve.proofs.Counting.{from_first, from_rest, push_at, longer_by, shorter_by, on_ok, on_both}
+use Rattle.serve.proofs.NumberedLists.{from_first, from_rest, push_at, longer_by, shorter_by, on_ok, on_both}
 use Rattle.serve.proofs.Promised.{served_of}
 use Rattle.serve.proofs.threads.join_all.Goals as goal
 

@@ -1,7 +1,7 @@
 use Rattle.std.specs.Arc.{arc_value}
 use Rattle.serve.specs.Answers.{IsServed}
 use Rattle.serve.specs.Histories.{setting_at}
-use Rattle.serve.proofs.Counting.{each_get}
+use Rattle.serve.proofs.NumberedLists.{each_get}
 use Rattle.serve.proofs.threads.run_loops.Goals as goal
 
 pub returns-clause-each : goal.returns-clause-each

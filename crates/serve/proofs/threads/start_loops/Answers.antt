@@ -1,6 +1,6 @@
 use Rattle.std.proofs.Common.{length, subst, arith}
 use Rattle.serve.specs.Inner.Promises.{IsThreadOf}
-use Rattle.serve.proofs.Counting.{from_first, from_rest, push_at, longer_by, shorter_by}
+use Rattle.serve.proofs.NumberedLists.{from_first, from_rest, push_at, longer_by, shorter_by}
 use Rattle.serve.proofs.threads.start_loops.Goals as goal
 
 pub loop-place-preserved : goal.loop-place-preserved

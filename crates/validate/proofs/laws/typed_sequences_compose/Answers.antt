@@ -1,4 +1,4 @@
-use Rattle.validate.proofs.Framing as framing
+use Rattle.validate.proofs.TypingIsFramed as framing
 use Rattle.validate.proofs.laws.typed_sequences_compose.Goals as goal
 
 pub returns-clause-joins : goal.returns-clause-joins

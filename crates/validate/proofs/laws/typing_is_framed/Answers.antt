@@ -1,4 +1,4 @@
-use Rattle.validate.proofs.Framing.{instruction, sequence}
+use Rattle.validate.proofs.TypingIsFramed.{instruction, sequence}
 use Rattle.validate.proofs.laws.typing_is_framed.Goals as goal
 
 pub returns-clause-instructions : goal.returns-clause-instructions

@@ -1,4 +1,4 @@
-use Rattle.world.proofs.Stepping.{runs_join}
+use Rattle.world.proofs.RunsByStep.{runs_join}
 use Rattle.world.proofs.laws.runs_join.Goals as goal
 
 pub returns : goal.returns

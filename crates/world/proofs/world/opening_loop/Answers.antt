@@ -1,5 +1,5 @@
 use Rattle.world.specs.Making.{setting_from}
-use Rattle.world.proofs.Opening.{opens}
+use Rattle.world.proofs.WorldsOpen.{opens}
 use Rattle.world.proofs.world.opening_loop.Goals as goal
 
 pub returns : goal.returns

@@ -1,6 +1,6 @@
 use Rattle.std.proofs.Common.{◌++◌, ◌∷◌, [], ◌∙◌, Some, ap, sym}
 use Rattle.std.proofs.lemmas.Option.{slice_get-get_or}
-use Rattle.world.proofs.Opening.{loops_more}
+use Rattle.world.proofs.WorldsOpen.{loops_more}
 use Rattle.world.proofs.world.opening_loops.Goals as goal
 
 pub loop-place-preserved : goal.loop-place-preserved

@@ -1,7 +1,7 @@
 use Rattle.std.proofs.Common.{sym, ◌∙◌}
 use Rattle.order.specs.Orders.{order_of}
-use Rattle.order.proofs.Serving.{names_of, work_run, work_serves}
-use Rattle.order.proofs.Stopping.{work_tells}
+use Rattle.order.proofs.WorkHostAnswers.{names_of, work_run, work_serves}
+use Rattle.order.proofs.WhereOrdersStop.{work_tells}
 use Rattle.order.proofs.order.Order.call.Goals as goal
 
 pub invoke_on-requires-clause-names : goal.invoke_on-requires-clause-names

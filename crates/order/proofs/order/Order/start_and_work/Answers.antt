@@ -1,6 +1,6 @@
 use Rattle.order.specs.Orders.{order_of}
-use Rattle.order.proofs.Serving.{stops_end, works_end}
-use Rattle.order.proofs.Stopping.{stops_to, works_to}
+use Rattle.order.proofs.WorkHostAnswers.{stops_end, works_end}
+use Rattle.order.proofs.WhereOrdersStop.{stops_to, works_to}
 use Rattle.order.proofs.order.Order.start_and_work.Goals as goal
 
 pub returns-in_default-clause-computes : goal.returns-in_default-clause-computes

@@ -7,26 +7,26 @@ use Rattle.phases.specs.Requests.{Answered}
 use Rattle.phases.specs.Inner.Setting.{setting_of}
 use Rattle.phases.specs.State.{State}
 use Rattle.phases.specs.View.{AreOpenedUpTo}
-use Rattle.phases.proofs.Kept.{by_reply, kept_on}
-use Rattle.phases.proofs.Owning.{grows_answered}
+use Rattle.phases.proofs.LoopsKeep.{by_reply, kept_on}
+use Rattle.phases.proofs.OwnerCallsKeepListed.{grows_answered}
 use Rattle.phases.proofs.Runnable.{staged_orders}
 use Rattle.phases.proofs.loop_core.LoopCore.accept.Goals as goal
 
 pub invariant_of-self-inside : goal.invariant_of-self-inside
 invariant_of-self-inside g c =
-    let s = c.self.inside.guest.state in
+    let s = c.self.inside.host.state in
     let o = order_of c.args.reply.order in
     let end = end_of c.args.reply.outcome in
     let taken : State = with_requests s (answered s.requests o end) in
     record {
-      opened = by_reply (λ (u : State). AreOpenedUpTo u.requests.last (g.B.Shared.calls.view c.self.inside.guest.shared)) _ _ c.accept.result taken s c.accept.new.self c.self.inside.guest.opened c.self.inside.guest.opened c.accept.ensures.answered c.accept.ensures.refused;
+      opened = by_reply (λ (u : State). AreOpenedUpTo u.requests.last (g.B.Shared.calls.view c.self.inside.host.shared)) _ _ c.accept.result taken s c.accept.new.self c.self.inside.host.opened c.self.inside.host.opened c.accept.ensures.answered c.accept.ensures.refused;
     }
 
 pub invariant_of-self : goal.invariant_of-self
 invariant_of-self g c =
     let l = arc_value c.self.inside.linked in
-    let set = setting_of c.self.inside.guest.setting in
-    let s = c.self.inside.guest.state in
+    let set = setting_of c.self.inside.host.setting in
+    let s = c.self.inside.host.state in
     let o = order_of c.args.reply.order in
     let end = end_of c.args.reply.outcome in
     let taken : State = with_requests s (answered s.requests o end) in

@@ -7,17 +7,17 @@ use Rattle.phases.specs.Keeping.{Keeps}
 use Rattle.phases.specs.Inner.Setting.{setting_of}
 use Rattle.phases.specs.State.{Setting, State, Loop}
 use Rattle.phases.specs.View.{AreOpenedUpTo}
-use Rattle.phases.proofs.Kept.{names_of, runs_from, kept_after, same_setting}
+use Rattle.phases.proofs.LoopsKeep.{names_of, runs_from, kept_after, same_setting}
 use Rattle.phases.proofs.loop_core.LoopCore.call.Goals as goal
 
 pub invariant_of-self-inside : goal.invariant_of-self-inside
 invariant_of-self-inside g c = record {
-  opened = subst (λ (s : State). AreOpenedUpTo s.requests.last (g.B.Shared.calls.view c.self.inside.guest.shared)) (sym c.begin_callback.ensures) c.self.inside.guest.opened;
+  opened = subst (λ (s : State). AreOpenedUpTo s.requests.last (g.B.Shared.calls.view c.self.inside.host.shared)) (sym c.begin_callback.ensures) c.self.inside.host.opened;
 }
 
 pub invoke-ended-requires-clause-names : goal.invoke-ended-requires-clause-names
 invoke-ended-requires-clause-names g c =
-    names_of c.valid-valid.result.now c.deref.result.now (arc_value c.self.inside.linked) (arc_value c.self.inside.guest.setting.linked) (c.valid-valid.ensures.same ∙ c.deref-2.ensures ∙ sym c.deref.ensures) c.deref.ensures c.self.invariant.same
+    names_of c.valid-valid.result.now c.deref.result.now (arc_value c.self.inside.linked) (arc_value c.self.inside.host.setting.linked) (c.valid-valid.ensures.same ∙ c.deref-2.ensures ∙ sym c.deref.ensures) c.deref.ensures c.self.invariant.same
     c.imports_are_named.ensures
 
 pub invariant_of-self-inside-2 : goal.invariant_of-self-inside-2
@@ -27,11 +27,11 @@ invariant_of-self-inside-2 g c = record {
 
 pub invariant_of-self : goal.invariant_of-self
 invariant_of-self g c =
-    let set = setting_of c.self.inside.guest.setting in
+    let set = setting_of c.self.inside.host.setting in
     let reply = option_map (λ v. v.items) c.args.reply in
-    let begins = ap (λ (s : State). (s, c.self.inside.guest.shared)) c.begin_callback.ensures in
+    let begins = ap (λ (s : State). (s, c.self.inside.host.shared)) c.begin_callback.ensures in
     let is = c.valid-valid.ensures.same ∙ c.deref-2.ensures in
-    let old : Loop _ = record { state = c.self.inside.guest.state; store = c.self.inside.instance; shared = c.self.inside.guest.shared } in
+    let old : Loop _ = record { state = c.self.inside.host.state; store = c.self.inside.instance; shared = c.self.inside.host.shared } in
     let kept = kept_after g.B.Shared.calls (λ h. setting_of h.setting) (λ h. (h.state, h.shared)) (arc_value c.self.inside.linked) c.valid-valid.result.now is set old c.self.invariant _ c.invoke-ended.new.host refl reply begins c.invoke-ended.new.instance c.args.function c.args.args.now c.invoke-ended.result c.invoke-ended.ensures.runs
     (subst (λ (x : Loaded). IsLinked x.contents) (sym c.valid-valid.ensures.same) c.valid-valid.ensures.linked) c.invoke-ended.ensures.kept c.end_callback.new.self c.end_callback.ensures in
     let same = same_setting g.B.Shared.calls (λ h. setting_of h.setting) (λ h. (h.state, h.shared)) (arc_value c.self.inside.linked) c.valid-valid.result.now is set old c.self.invariant _ c.invoke-ended.new.host refl reply begins c.invoke-ended.new.instance c.args.function c.args.args.now c.invoke-ended.result c.invoke-ended.ensures.runs in
@@ -39,18 +39,18 @@ invariant_of-self g c =
 
 pub returns-clause-run : goal.returns-clause-run
 returns-clause-run g c =
-    let set = setting_of c.self.inside.guest.setting in
+    let set = setting_of c.self.inside.host.setting in
     let reply = option_map (λ v. v.items) c.args.reply in
-    let begins = ap (λ (s : State). (s, c.self.inside.guest.shared)) c.begin_callback.ensures in
+    let begins = ap (λ (s : State). (s, c.self.inside.host.shared)) c.begin_callback.ensures in
     let is = c.valid-valid.ensures.same ∙ c.deref-2.ensures in
-    let old : Loop _ = record { state = c.self.inside.guest.state; store = c.self.inside.instance; shared = c.self.inside.guest.shared } in
+    let old : Loop _ = record { state = c.self.inside.host.state; store = c.self.inside.instance; shared = c.self.inside.host.shared } in
     rw (← c.self.view_is) (runs_from g.B.Shared.calls (λ h. setting_of h.setting) (λ h. (h.state, h.shared)) (arc_value c.self.inside.linked) c.valid-valid.result.now is set old c.self.invariant _ c.invoke-ended.new.host refl reply begins c.invoke-ended.new.instance c.args.function c.args.args.now c.invoke-ended.result c.invoke-ended.ensures.runs c.args.kind c.args.number c.end_callback.new.self c.end_callback.ensures)
 
 pub returns-clause-setting : goal.returns-clause-setting
 returns-clause-setting g c =
-    let set = setting_of c.self.inside.guest.setting in
+    let set = setting_of c.self.inside.host.setting in
     let reply = option_map (λ v. v.items) c.args.reply in
-    let begins = ap (λ (s : State). (s, c.self.inside.guest.shared)) c.begin_callback.ensures in
+    let begins = ap (λ (s : State). (s, c.self.inside.host.shared)) c.begin_callback.ensures in
     let is = c.valid-valid.ensures.same ∙ c.deref-2.ensures in
-    let old : Loop _ = record { state = c.self.inside.guest.state; store = c.self.inside.instance; shared = c.self.inside.guest.shared } in
+    let old : Loop _ = record { state = c.self.inside.host.state; store = c.self.inside.instance; shared = c.self.inside.host.shared } in
     rw (← c.self.view_is) (same_setting g.B.Shared.calls (λ h. setting_of h.setting) (λ h. (h.state, h.shared)) (arc_value c.self.inside.linked) c.valid-valid.result.now is set old c.self.invariant _ c.invoke-ended.new.host refl reply begins c.invoke-ended.new.instance c.args.function c.args.args.now c.invoke-ended.result c.invoke-ended.ensures.runs)

@@ -1,24 +1,24 @@
 use Rattle.std.specs.Arc.{arc_value}
 use Rattle.phases.specs.Inner.Setting.{setting_of}
 use Rattle.phases.specs.State.{State}
-use Rattle.phases.proofs.Kept.{cancel_upto, cancel_orders, kept_on}
-use Rattle.phases.proofs.Owning.{grows_cancel}
+use Rattle.phases.proofs.LoopsKeep.{cancel_upto, cancel_orders, kept_on}
+use Rattle.phases.proofs.OwnerCallsKeepListed.{grows_cancel}
 use Rattle.phases.proofs.loop_core.LoopCore.cancel_number.Goals as goal
 
 pub invariant_of-self-inside : goal.invariant_of-self-inside
 invariant_of-self-inside g c =
-    let old : State × _ = (c.self.inside.guest.state, c.self.inside.guest.shared) in
+    let old : State × _ = (c.self.inside.host.state, c.self.inside.host.shared) in
     let new : State × _ = (c.cancel.new.self, c.cancel.new.shared) in
     record {
-      opened = cancel_upto g.B.Shared.calls g.met.B.Shared.lawful c.self.inside.guest.state.status old new c.args.request c.cancel.result c.cancel.ensures c.self.inside.guest.opened;
+      opened = cancel_upto g.B.Shared.calls g.met.B.Shared.lawful c.self.inside.host.state.status old new c.args.request c.cancel.result c.cancel.ensures c.self.inside.host.opened;
     }
 
 pub invariant_of-self : goal.invariant_of-self
 invariant_of-self g c =
     let l = arc_value c.self.inside.linked in
-    let set = setting_of c.self.inside.guest.setting in
-    let s = c.self.inside.guest.state in
-    let old : State × _ = (s, c.self.inside.guest.shared) in
+    let set = setting_of c.self.inside.host.setting in
+    let s = c.self.inside.host.state in
+    let old : State × _ = (s, c.self.inside.host.shared) in
     let new : State × _ = (c.cancel.new.self, c.cancel.new.shared) in
     kept_on l set s c.cancel.new.self c.self.inside.instance c.self.invariant
     (grows_cancel g.B.Shared.calls s.status old c.args.request c.cancel.result new c.cancel.ensures)

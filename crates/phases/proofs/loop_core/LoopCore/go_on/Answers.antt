@@ -9,21 +9,21 @@ use Rattle.phases.specs.State.{State}
 use Rattle.phases.specs.Step.{ListStep, EntryStep}
 use Rattle.phases.specs.declared.entry.Entry.{Entry}
 use Rattle.phases.specs.View.{AreOpenedUpTo}
-use Rattle.phases.proofs.Kept.{kept_with, turn_leaves, front_of, no_front}
-use Rattle.phases.proofs.Readying.{ready_front, ready_rest, spared_rest}
+use Rattle.phases.proofs.LoopsKeep.{kept_with, turn_leaves, front_of, no_front}
+use Rattle.phases.proofs.ListedStaysReady.{ready_front, ready_rest, spared_rest}
 use Rattle.phases.proofs.loop_core.LoopCore.go_on.Goals as goal
 
 pub invariant_of-self-inside : goal.invariant_of-self-inside
 invariant_of-self-inside g c =
-    let requests = ap (λ (s : State). s.requests) c.turn.ensures.state ∙ (turn_leaves c.self.inside.guest.state).1 in
+    let requests = ap (λ (s : State). s.requests) c.turn.ensures.state ∙ (turn_leaves c.self.inside.host.state).1 in
     record {
-      opened = subst (λ (rs : Requests). AreOpenedUpTo rs.last (g.B.Shared.calls.view c.self.inside.guest.shared)) (sym requests) c.self.inside.guest.opened;
+      opened = subst (λ (rs : Requests). AreOpenedUpTo rs.last (g.B.Shared.calls.view c.self.inside.host.shared)) (sym requests) c.self.inside.host.opened;
     }
 
 pub invariant_of-self : goal.invariant_of-self
 invariant_of-self g c =
-    let set = setting_of c.self.inside.guest.setting in
-    let s = c.self.inside.guest.state in
+    let set = setting_of c.self.inside.host.setting in
+    let s = c.self.inside.host.state in
     let roster = ap (λ (u : State). u.roster) c.turn.ensures.state ∙ (turn_leaves s).0 in
     let requests = ap (λ (u : State). u.requests) c.turn.ensures.state ∙ (turn_leaves s).1 in
     let empty = no_front s.list (sym c.front.ensures ∙ c.in_default.is) in
@@ -33,14 +33,14 @@ invariant_of-self g c =
 
 pub invariant_of-self-inside-2 : goal.invariant_of-self-inside-2
 invariant_of-self-inside-2 g c = record {
-  opened = subst (λ (s : State). AreOpenedUpTo s.requests.last (g.B.Shared.calls.view c.self.inside.guest.shared)) (sym c.pop.ensures) c.self.inside.guest.opened;
+  opened = subst (λ (s : State). AreOpenedUpTo s.requests.last (g.B.Shared.calls.view c.self.inside.host.shared)) (sym c.pop.ensures) c.self.inside.host.opened;
 }
 
 pub invariant_of-self-2 : goal.invariant_of-self-2
 invariant_of-self-2 g c =
     let l = arc_value c.self.inside.linked in
-    let set = setting_of c.self.inside.guest.setting in
-    let s = c.self.inside.guest.state in
+    let set = setting_of c.self.inside.host.setting in
+    let s = c.self.inside.host.state in
     let is = front_of s.list c.in-Some.entry (sym c.front.ensures ∙ c.in-Some.is) in
     let rest : State = record s { list = drop 1 s.list } in
     let ready = ready_rest set.loaded.contents s c.in-Some.entry (drop 1 s.list) c.self.invariant.ready is in
@@ -49,24 +49,24 @@ invariant_of-self-2 g c =
 
 pub run-requires-clause-ready : goal.run-requires-clause-ready
 run-requires-clause-ready g c =
-    let set = setting_of c.self.inside.guest.setting in
-    let s = c.self.inside.guest.state in
+    let set = setting_of c.self.inside.host.setting in
+    let s = c.self.inside.host.state in
     let is = front_of s.list c.in-Some.entry (sym c.front.ensures ∙ c.in-Some.is) in
     subst (λ (u : State). IsReady set.loaded.contents u c.in-Some.entry) (sym c.pop.ensures)
     (ready_front set.loaded.contents s c.in-Some.entry (drop 1 s.list) c.self.invariant.ready is)
 
 pub run-requires-clause-apart : goal.run-requires-clause-apart
 run-requires-clause-apart g c =
-    let set = setting_of c.self.inside.guest.setting in
-    let s = c.self.inside.guest.state in
+    let set = setting_of c.self.inside.host.setting in
+    let s = c.self.inside.host.state in
     let is = front_of s.list c.in-Some.entry (sym c.front.ensures ∙ c.in-Some.is) in
     rw c.pop.ensures (spared_rest set.loaded.contents s c.in-Some.entry (drop 1 s.list) c.self.invariant.ready is)
 
 pub returns-clause-step : goal.returns-clause-step
 returns-clause-step g c =
-    let s = c.self.inside.guest.state in
+    let s = c.self.inside.host.state in
     let is = front_of s.list c.in-Some.entry (sym c.front.ensures ∙ c.in-Some.is) in
-    let set = setting_of c.self.inside.guest.setting in
+    let set = setting_of c.self.inside.host.setting in
     subst (λ now. ListStep g.B.Shared.calls now.setting now.loop now.loop.state.list c.run.result c.run.new.self.loop) c.self.view_is
-    (subst (λ (list : List Entry). ListStep g.B.Shared.calls set (record { state = s; store = c.self.inside.instance; shared = c.self.inside.guest.shared }) list c.run.result c.run.new.self.loop) (sym is)
-    (subst (λ (u : State). EntryStep g.B.Shared.calls set (record { state = u; store = c.self.inside.instance; shared = c.self.inside.guest.shared }) c.in-Some.entry c.run.result c.run.new.self.loop) c.pop.ensures c.run.ensures.step))
+    (subst (λ (list : List Entry). ListStep g.B.Shared.calls set (record { state = s; store = c.self.inside.instance; shared = c.self.inside.host.shared }) list c.run.result c.run.new.self.loop) (sym is)
+    (subst (λ (u : State). EntryStep g.B.Shared.calls set (record { state = u; store = c.self.inside.instance; shared = c.self.inside.host.shared }) c.in-Some.entry c.run.result c.run.new.self.loop) c.pop.ensures c.run.ensures.step))

@@ -5,7 +5,7 @@ use Rattle.instance.specs.Storing.{IsStoreOf}
 use Rattle.phases.specs.PhaseList.{begin_list}
 use Rattle.phases.specs.Roster.{opening_roster}
 use Rattle.phases.specs.State.{opening}
-use Rattle.phases.proofs.Kept.{kept_new}
+use Rattle.phases.proofs.LoopsKeep.{kept_new}
 use Rattle.phases.proofs.loop_core.LoopCore.new.Goals as goal
 
 pub invariant_of-result : goal.invariant_of-result

@@ -6,34 +6,34 @@ use Rattle.phases.specs.Keeping.{CanRun, AreOrdersOf}
 use Rattle.phases.specs.Inner.Setting.{setting_of}
 use Rattle.phases.specs.State.{State}
 use Rattle.phases.specs.View.{AreOpenedUpTo}
-use Rattle.phases.proofs.Kept.{kept_on, own_order, own_of}
+use Rattle.phases.proofs.LoopsKeep.{kept_on, own_order, own_of}
 use Rattle.phases.proofs.Runnable.{next_orders, next_last}
 use Rattle.phases.proofs.loop_core.LoopCore.next_order.Goals as goal
 
 pub invariant_of-self-inside : goal.invariant_of-self-inside
 invariant_of-self-inside g c = record {
-  opened = subst (λ (s : State). AreOpenedUpTo s.requests.last (g.B.Shared.calls.view c.self.inside.guest.shared)) (sym c.next_order.ensures.state) (next_last c.self.inside.guest.state (λ n. AreOpenedUpTo n (g.B.Shared.calls.view c.self.inside.guest.shared)) c.self.inside.guest.opened);
+  opened = subst (λ (s : State). AreOpenedUpTo s.requests.last (g.B.Shared.calls.view c.self.inside.host.shared)) (sym c.next_order.ensures.state) (next_last c.self.inside.host.state (λ n. AreOpenedUpTo n (g.B.Shared.calls.view c.self.inside.host.shared)) c.self.inside.host.opened);
 }
 
 pub invariant_of-self : goal.invariant_of-self
 invariant_of-self g c =
     let l = arc_value c.self.inside.linked in
-    let set = setting_of c.self.inside.guest.setting in
-    let s = c.self.inside.guest.state in
+    let set = setting_of c.self.inside.host.setting in
+    let s = c.self.inside.host.state in
     kept_on l set s c.next_order.new.self c.self.inside.instance c.self.invariant c.next_order.ensures.grows
     (subst (λ (u : State). AreOrdersOf set u.requests) (sym c.next_order.ensures.state) (next_orders set s c.self.invariant.orders))
 
 pub returns-clause-own : goal.returns-clause-own
 returns-clause-own g c =
-    let set = setting_of c.self.inside.guest.setting in
-    rw (← c.self.view_is) (own_of (λ o. o.loop_no ≡ set.loop_no) set c.next_order.result (λ o h. h.loop_no) (own_order set c.self.inside.guest.state c.next_order.result c.next_order.ensures.order c.self.invariant.orders))
+    let set = setting_of c.self.inside.host.setting in
+    rw (← c.self.view_is) (own_of (λ o. o.loop_no ≡ set.loop_no) set c.next_order.result (λ o h. h.loop_no) (own_order set c.self.inside.host.state c.next_order.result c.next_order.ensures.order c.self.invariant.orders))
 
 pub returns-clause-slot : goal.returns-clause-slot
 returns-clause-slot g c =
-    let set = setting_of c.self.inside.guest.setting in
-    own_of (λ o. o.slot < MAX_REQUESTS) set c.next_order.result (λ o h. h.slot) (own_order set c.self.inside.guest.state c.next_order.result c.next_order.ensures.order c.self.invariant.orders)
+    let set = setting_of c.self.inside.host.setting in
+    own_of (λ o. o.slot < MAX_REQUESTS) set c.next_order.result (λ o h. h.slot) (own_order set c.self.inside.host.state c.next_order.result c.next_order.ensures.order c.self.invariant.orders)
 
 pub returns-clause-can_run : goal.returns-clause-can_run
 returns-clause-can_run g c =
-    let set = setting_of c.self.inside.guest.setting in
-    own_of (λ o. CanRun (order_of o)) set c.next_order.result (λ o h. h.runs) (own_order set c.self.inside.guest.state c.next_order.result c.next_order.ensures.order c.self.invariant.orders)
+    let set = setting_of c.self.inside.host.setting in
+    own_of (λ o. CanRun (order_of o)) set c.next_order.result (λ o h. h.runs) (own_order set c.self.inside.host.state c.next_order.result c.next_order.ensures.order c.self.invariant.orders)

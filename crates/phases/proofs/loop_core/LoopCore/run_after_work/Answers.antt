@@ -16,29 +16,29 @@ use Rattle.phases.specs.declared.entry.EntryKind.TheVariants.{After}
 use Rattle.phases.specs.State.{State, Loop}
 use Rattle.phases.specs.Step.{AfterWork, RunsFrom, in_state}
 use Rattle.phases.specs.View.{AreOpenedUpTo}
-use Rattle.phases.proofs.Kept.{takes, not_missing, kept_with, told_of}
-use Rattle.phases.proofs.Readying.{ready_without_request}
+use Rattle.phases.proofs.LoopsKeep.{takes, not_missing, kept_with, told_of}
+use Rattle.phases.proofs.ListedStaysReady.{ready_without_request}
 use Rattle.phases.proofs.Runnable.{request_heard, other_orders}
 use Rattle.phases.proofs.loop_core.LoopCore.run_after_work.Goals as goal
 
 pub unreachable-requires : goal.unreachable-requires
 unreachable-requires g c =
-    let set = setting_of c.self.inside.guest.setting in
-    let s = c.self.inside.guest.state in
+    let set = setting_of c.self.inside.host.setting in
+    let s = c.self.inside.host.state in
     let ready = rw (← c.self.view_is) at c.requires.ready in
     not_missing c.deref.result.now (arc_value c.self.inside.linked) set c.deref.ensures c.self.invariant.same (name_of_entry AfterWorkExport) c.entry.result c.entry.ensures.found c.in_default.is
     (request_heard set s.requests c.args.request ready c.self.invariant.orders)
 
 pub invariant_of-self-inside : goal.invariant_of-self-inside
 invariant_of-self-inside g c = record {
-  opened = subst (λ (s : State). AreOpenedUpTo s.requests.last (g.B.Shared.calls.view c.self.inside.guest.shared)) (sym c.take_request-completion.ensures.removed) c.self.inside.guest.opened;
+  opened = subst (λ (s : State). AreOpenedUpTo s.requests.last (g.B.Shared.calls.view c.self.inside.host.shared)) (sym c.take_request-completion.ensures.removed) c.self.inside.host.opened;
 }
 
 pub invariant_of-self : goal.invariant_of-self
 invariant_of-self g c =
     let l = arc_value c.self.inside.linked in
-    let set = setting_of c.self.inside.guest.setting in
-    let s = c.self.inside.guest.state in
+    let set = setting_of c.self.inside.host.setting in
+    let s = c.self.inside.host.state in
     let rest : State = with_requests s (without_request s.requests c.args.request) in
     let apart = rw (← c.self.view_is) at c.requires.apart in
     subst (λ (u : State). Keeps l set u c.self.inside.instance) (sym c.take_request-completion.ensures.removed)
@@ -47,14 +47,14 @@ invariant_of-self g c =
 pub call-requires-clause-takes : goal.call-requires-clause-takes
 call-requires-clause-takes g c =
     let typed = subst (λ (x : Loaded). type_of_function x.contents c.in-Some.function ≡ Some (type_of_entry AfterWorkExport)) (c.deref.ensures ∙ c.self.invariant.same) c.in-Some.ensures.typed in
-    takes (setting_of c.self.inside.guest.setting).loaded.contents c.in-Some.function (type_of_entry AfterWorkExport) _ typed refl
+    takes (setting_of c.self.inside.host.setting).loaded.contents c.in-Some.function (type_of_entry AfterWorkExport) _ typed refl
 
 pub returns-clause-step : goal.returns-clause-step
 returns-clause-step g c =
-    let set = setting_of c.self.inside.guest.setting in
-    let s = c.self.inside.guest.state in
+    let set = setting_of c.self.inside.host.setting in
+    let s = c.self.inside.host.state in
     let t = c.take_request-completion.result in
-    let old : Loop _ = record { state = s; store = c.self.inside.instance; shared = c.self.inside.guest.shared } in
+    let old : Loop _ = record { state = s; store = c.self.inside.instance; shared = c.self.inside.host.shared } in
     let exported = subst (λ (x : Loaded). ExportsFunction x.contents (name_of_entry AfterWorkExport) c.in-Some.function) (c.deref.ensures ∙ c.self.invariant.same) c.in-Some.ensures.found in
     let run = subst (λ (u : State). RunsFrom g.B.Shared.calls set (in_state old u) After c.args.request c.in-Some.function (I32 c.args.request ∷ I32 t.kind ∷ I32 t.code ∷ []) (Some t.bytes.items) c.call.result c.call.new.self.loop)
     c.take_request-completion.ensures.removed c.call.ensures.run in

@@ -6,21 +6,21 @@ use Rattle.phases.specs.Roster.{async_handle}
 use Rattle.phases.specs.Inner.Setting.{setting_of}
 use Rattle.phases.specs.State.{Loop}
 use Rattle.phases.specs.Step.{TakesFirst, Skips, CallsHandle, RunsFrom, handle_function, sharing}
-use Rattle.phases.proofs.Guesting.{taken_upto}
-use Rattle.phases.proofs.Kept.{handle_takes, active_step, none_taken, some_taken, called, same_some}
+use Rattle.phases.proofs.GuestCallsKeep.{taken_upto}
+use Rattle.phases.proofs.LoopsKeep.{handle_takes, active_step, none_taken, some_taken, called, same_some}
 use Rattle.phases.proofs.loop_core.LoopCore.run_async.Goals as goal
 
 pub invariant_of-self-inside : goal.invariant_of-self-inside
 invariant_of-self-inside g c = record {
-  opened = taken_upto g.B.Shared.calls g.met.B.Shared.lawful c.self.inside.guest.state.requests.last c.self.inside.guest.shared c.take.new.self c.args.async_no c.take.result c.take.ensures c.self.inside.guest.opened;
+  opened = taken_upto g.B.Shared.calls g.met.B.Shared.lawful c.self.inside.host.state.requests.last c.self.inside.host.shared c.take.new.self c.args.async_no c.take.result c.take.ensures c.self.inside.host.opened;
 }
 
 pub returns-then-take-eq0-clause-step : goal.returns-then-take-eq0-clause-step
 returns-then-take-eq0-clause-step g c =
-    let set = setting_of c.self.inside.guest.setting in
-    let s = c.self.inside.guest.state in
+    let set = setting_of c.self.inside.host.setting in
+    let s = c.self.inside.host.state in
     let handle = c.in-Some.handle in
-    let old : Loop _ = record { state = s; store = c.self.inside.instance; shared = c.self.inside.guest.shared } in
+    let old : Loop _ = record { state = s; store = c.self.inside.instance; shared = c.self.inside.host.shared } in
     let new : Loop _ = record { state = s; store = c.self.inside.instance; shared = c.take.new.self } in
     let is : async_handle s.roster c.args.async_no ≡ Some handle = sym c.in-Some.ensures.value in
     let same = same_some (async_handle s.roster c.args.async_no) c.in-Some-active_async.field-0-0 handle c.in-Some-active_async.ensures.some.1 is in
@@ -30,15 +30,15 @@ returns-then-take-eq0-clause-step g c =
 
 pub call_handle-requires : goal.call_handle-requires
 call_handle-requires g c = record {
-  callback = handle_takes _ c.in-Some-active_async.function c.in-Some.handle c.self.inside.guest.state.roster c.in-Some-active_async.field-0-0 c.self.invariant.callbacks c.in-Some-active_async.ensures.some.2;
+  callback = handle_takes _ c.in-Some-active_async.function c.in-Some.handle c.self.inside.host.state.roster c.in-Some-active_async.field-0-0 c.self.invariant.callbacks c.in-Some-active_async.ensures.some.2;
 }
 
 pub returns-clause-step : goal.returns-clause-step
 returns-clause-step g c =
-    let set = setting_of c.self.inside.guest.setting in
-    let s = c.self.inside.guest.state in
+    let set = setting_of c.self.inside.host.setting in
+    let s = c.self.inside.host.state in
     let handle = c.in-Some.handle in
-    let old : Loop _ = record { state = s; store = c.self.inside.instance; shared = c.self.inside.guest.shared } in
+    let old : Loop _ = record { state = s; store = c.self.inside.instance; shared = c.self.inside.host.shared } in
     let is : async_handle s.roster c.args.async_no ≡ Some handle = sym c.in-Some.ensures.value in
     let same = same_some (async_handle s.roster c.args.async_no) c.in-Some-active_async.field-0-0 handle c.in-Some-active_async.ensures.some.1 is in
     let active = subst (λ n. is_active_handle s.roster.handles (Some n) ≡ true) same c.in-Some-active_async.ensures.some.0 in

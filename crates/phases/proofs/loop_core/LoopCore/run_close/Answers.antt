@@ -6,20 +6,20 @@ use Rattle.phases.specs.Roster.{without_handle}
 use Rattle.phases.specs.Inner.Setting.{setting_of}
 use Rattle.phases.specs.State.{State}
 use Rattle.phases.specs.View.{AreOpenedUpTo}
-use Rattle.phases.proofs.Kept.{handle_takes, kept_with}
-use Rattle.phases.proofs.Readying.{ready_without_handle}
+use Rattle.phases.proofs.LoopsKeep.{handle_takes, kept_with}
+use Rattle.phases.proofs.ListedStaysReady.{ready_without_handle}
 use Rattle.phases.proofs.loop_core.LoopCore.run_close.Goals as goal
 
 pub invariant_of-self-inside : goal.invariant_of-self-inside
 invariant_of-self-inside g c = record {
-  opened = subst (λ (s : State). AreOpenedUpTo s.requests.last (g.B.Shared.calls.view c.self.inside.guest.shared)) (sym c.finish_closing-function.ensures.removed) c.self.inside.guest.opened;
+  opened = subst (λ (s : State). AreOpenedUpTo s.requests.last (g.B.Shared.calls.view c.self.inside.host.shared)) (sym c.finish_closing-function.ensures.removed) c.self.inside.host.opened;
 }
 
 pub invariant_of-self : goal.invariant_of-self
 invariant_of-self g c =
     let l = arc_value c.self.inside.linked in
-    let set = setting_of c.self.inside.guest.setting in
-    let s = c.self.inside.guest.state in
+    let set = setting_of c.self.inside.host.setting in
+    let s = c.self.inside.host.state in
     let closed : State = with_roster s (without_handle s.roster c.args.handle) in
     let apart = rw (← c.self.view_is) at c.requires.apart in
     subst (λ (u : State). Keeps l set u c.self.inside.instance) (sym c.finish_closing-function.ensures.removed)
@@ -27,5 +27,5 @@ invariant_of-self g c =
 
 pub call_handle-requires : goal.call_handle-requires
 call_handle-requires g c = record {
-  callback = handle_takes _ c.finish_closing-function.result c.args.handle c.self.inside.guest.state.roster c.args.handle c.self.invariant.callbacks c.finish_closing-function.ensures.function;
+  callback = handle_takes _ c.finish_closing-function.result c.args.handle c.self.inside.host.state.roster c.args.handle c.self.invariant.callbacks c.finish_closing-function.ensures.function;
 }

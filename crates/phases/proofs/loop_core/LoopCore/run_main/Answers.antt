@@ -6,15 +6,15 @@ use Rattle.imports.specs.declared.entry_point.EntryPoint.TheVariants.{Main}
 use Rattle.imports.specs.Uv.{name_of_entry, type_of_entry}
 use Rattle.phases.specs.Inner.Setting.{setting_of}
 use Rattle.std.proofs.Common.{[], ◌≡◌}
-use Rattle.phases.proofs.Kept.{takes, not_missing}
+use Rattle.phases.proofs.LoopsKeep.{takes, not_missing}
 use Rattle.phases.proofs.loop_core.LoopCore.run_main.Goals as goal
 
 pub unreachable-requires : goal.unreachable-requires
 unreachable-requires g c =
-    not_missing c.deref.result.now (arc_value c.self.inside.linked) (setting_of c.self.inside.guest.setting) c.deref.ensures c.self.invariant.same (name_of_entry Main) c.entry.result c.entry.ensures.found c.in_default.is
+    not_missing c.deref.result.now (arc_value c.self.inside.linked) (setting_of c.self.inside.host.setting) c.deref.ensures c.self.invariant.same (name_of_entry Main) c.entry.result c.entry.ensures.found c.in_default.is
     (rw (← c.self.view_is) at c.requires.ready)
 
 pub call-requires-clause-takes : goal.call-requires-clause-takes
 call-requires-clause-takes g c =
     let typed = subst (λ (x : Loaded). type_of_function x.contents c.in-Some.function ≡ Some (type_of_entry Main)) (c.deref.ensures ∙ c.self.invariant.same) c.in-Some.ensures.typed in
-    rw (← c.self.view_is) (takes (setting_of c.self.inside.guest.setting).loaded.contents c.in-Some.function (type_of_entry Main) [] typed refl)
+    rw (← c.self.view_is) (takes (setting_of c.self.inside.host.setting).loaded.contents c.in-Some.function (type_of_entry Main) [] typed refl)

@@ -8,25 +8,25 @@ use Rattle.phases.specs.Roster.{with_handles}
 use Rattle.phases.specs.Inner.Setting.{setting_of}
 use Rattle.phases.specs.State.{State}
 use Rattle.phases.specs.View.{AreOpenedUpTo}
-use Rattle.phases.proofs.Kept.{handle_takes, kept_on}
-use Rattle.phases.proofs.Readying.{grows_again}
+use Rattle.phases.proofs.LoopsKeep.{handle_takes, kept_on}
+use Rattle.phases.proofs.ListedStaysReady.{grows_again}
 use Rattle.phases.proofs.loop_core.LoopCore.run_timer.Goals as goal
 
 pub invariant_of-self-inside : goal.invariant_of-self-inside
 invariant_of-self-inside g c = record {
-  opened = subst (λ (rs : Requests). AreOpenedUpTo rs.last (g.B.Shared.calls.view c.self.inside.guest.shared)) (sym c.fire.ensures.requests) c.self.inside.guest.opened;
+  opened = subst (λ (rs : Requests). AreOpenedUpTo rs.last (g.B.Shared.calls.view c.self.inside.host.shared)) (sym c.fire.ensures.requests) c.self.inside.host.opened;
 }
 
 pub invariant_of-self : goal.invariant_of-self
 invariant_of-self g c =
     let l = arc_value c.self.inside.linked in
-    let set = setting_of c.self.inside.guest.setting in
-    let s = c.self.inside.guest.state in
+    let set = setting_of c.self.inside.host.setting in
+    let s = c.self.inside.host.state in
     let fired : State = with_roster s (with_handles s.roster (after_again s.roster.handles c.args.handle s.now)) in
     subst (λ (u : State). Keeps l set u c.self.inside.instance) (sym c.in-Some.ensures.fired)
     (kept_on l set s fired c.self.inside.instance c.self.invariant (grows_again s c.args.handle s.now) c.self.invariant.orders)
 
 pub call_handle-requires : goal.call_handle-requires
 call_handle-requires g c = record {
-  callback = handle_takes _ c.in-Some.function c.args.handle c.self.inside.guest.state.roster c.args.handle c.self.invariant.callbacks c.in-Some.ensures.some.1;
+  callback = handle_takes _ c.in-Some.function c.args.handle c.self.inside.host.state.roster c.args.handle c.self.invariant.callbacks c.in-Some.ensures.some.1;
 }

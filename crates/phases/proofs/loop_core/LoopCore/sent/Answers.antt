@@ -1,13 +1,13 @@
 use Rattle.std.proofs.Common.{ap}
 use Rattle.phases.specs.View.{View}
-use Rattle.phases.proofs.Guesting.{upto_view}
+use Rattle.phases.proofs.GuestCallsKeep.{upto_view}
 use Rattle.phases.proofs.loop_core.LoopCore.sent.Goals as goal
 
 pub invariant_of-self-inside : goal.invariant_of-self-inside
 invariant_of-self-inside g c =
-    let old = g.B.Shared.calls.view c.self.inside.guest.shared in
+    let old = g.B.Shared.calls.view c.self.inside.host.shared in
     let new = g.B.Shared.calls.view c.sent.new.self in
     record {
-      opened = upto_view g.B.Shared.calls g.met.B.Shared.lawful c.self.inside.guest.state.requests.last old new
-          (ap (λ (v : View). v.opened) (g.met.B.Beside.beside.gets c.self.inside.guest.shared c.sent.new.self c.args.async_no c.sent.result c.sent.ensures)) c.self.inside.guest.opened;
+      opened = upto_view g.B.Shared.calls g.met.B.Shared.lawful c.self.inside.host.state.requests.last old new
+          (ap (λ (v : View). v.opened) (g.met.B.Beside.beside.gets c.self.inside.host.shared c.sent.new.self c.args.async_no c.sent.result c.sent.ensures)) c.self.inside.host.opened;
     }

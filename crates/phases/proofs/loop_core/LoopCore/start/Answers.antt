@@ -1,13 +1,13 @@
 use Rattle.std.proofs.Common.{ap}
 use Rattle.phases.specs.View.{View}
-use Rattle.phases.proofs.Guesting.{upto_view}
+use Rattle.phases.proofs.GuestCallsKeep.{upto_view}
 use Rattle.phases.proofs.loop_core.LoopCore.start.Goals as goal
 
 pub invariant_of-self-inside : goal.invariant_of-self-inside
 invariant_of-self-inside g c =
-    let old = g.B.Shared.calls.view c.self.inside.guest.shared in
+    let old = g.B.Shared.calls.view c.self.inside.host.shared in
     let new = g.B.Shared.calls.view c.start.new.self in
     record {
-      opened = upto_view g.B.Shared.calls g.met.B.Shared.lawful c.self.inside.guest.state.requests.last old new
-          (ap (λ (v : View). v.opened) (g.met.B.Beside.beside.starts c.self.inside.guest.shared c.start.new.self c.args.slot c.args.request c.start.result c.start.ensures)) c.self.inside.guest.opened;
+      opened = upto_view g.B.Shared.calls g.met.B.Shared.lawful c.self.inside.host.state.requests.last old new
+          (ap (λ (v : View). v.opened) (g.met.B.Beside.beside.starts c.self.inside.host.shared c.start.new.self c.args.slot c.args.request c.start.result c.start.ensures)) c.self.inside.host.opened;
     }

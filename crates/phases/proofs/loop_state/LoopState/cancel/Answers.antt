@@ -2,7 +2,7 @@ use Rattle.std.proofs.Common.{refl}
 use Rattle.std.specs.Option.{option_map}
 use Rattle.phases.specs.State.{State}
 use Rattle.phases.specs.Host.{with_requests}
-use Rattle.phases.proofs.Kept.{cancel_unfailed}
+use Rattle.phases.proofs.LoopsKeep.{cancel_unfailed}
 use Rattle.phases.proofs.loop_state.LoopState.cancel.Goals as goal
 
 pub returns-in-Running : goal.returns-in-Running

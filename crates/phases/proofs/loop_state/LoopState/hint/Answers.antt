@@ -1,4 +1,4 @@
-use Rattle.phases.proofs.Living.{hint_means}
+use Rattle.phases.proofs.AliveMeans.{hint_means}
 use Rattle.phases.proofs.loop_state.LoopState.hint.Goals as goal
 
 pub returns-clause-means : goal.returns-clause-means

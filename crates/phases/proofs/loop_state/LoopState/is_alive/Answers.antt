@@ -1,4 +1,4 @@
-use Rattle.phases.proofs.Living.{alive_means}
+use Rattle.phases.proofs.AliveMeans.{alive_means}
 use Rattle.phases.proofs.loop_state.LoopState.is_alive.Goals as goal
 
 pub returns-clause-means : goal.returns-clause-means

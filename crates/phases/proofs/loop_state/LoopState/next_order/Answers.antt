@@ -3,9 +3,9 @@ use Rattle.std.specs.Option.{option_map}
 use Rattle.phases.specs.Host.{with_requests}
 use Rattle.phases.specs.Inner.Ready.{Grows}
 use Rattle.phases.specs.State.{State}
-use Rattle.phases.proofs.Kept.{next_unfailed}
+use Rattle.phases.proofs.LoopsKeep.{next_unfailed}
 use Rattle.phases.proofs.Lowest.{lowest_next}
-use Rattle.phases.proofs.Owning.{grows_next}
+use Rattle.phases.proofs.OwnerCallsKeepListed.{grows_next}
 use Rattle.phases.proofs.loop_state.LoopState.next_order.Goals as goal
 
 pub returns-in-Running : goal.returns-in-Running

@@ -2,7 +2,7 @@ use Rattle.std.proofs.Common.{sym, subst}
 use Rattle.phases.specs.Fitting.{IsKept, AreKept}
 use Rattle.phases.specs.Inner.Ready.{AreReady}
 use Rattle.phases.specs.State.{State}
-use Rattle.phases.proofs.Entering.{ready_entered}
+use Rattle.phases.proofs.PhaseListsAreReady.{ready_entered}
 use Rattle.phases.proofs.loop_state.LoopState.turn.Goals as goal
 
 pub returns-clause-ready : goal.returns-clause-ready

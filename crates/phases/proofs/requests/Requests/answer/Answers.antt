@@ -2,7 +2,7 @@ use Rattle.std.proofs.Common.{◌≡◌, sym, ap, ◌∙◌, refl, true, Some, m
 use Rattle.std.specs.List.{find}
 use Rattle.std.proofs.lemmas.Bool.{eqb-true}
 use Rattle.phases.specs.Requests.{Request, Requests, has_number, Answered}
-use Rattle.phases.proofs.Booking.{Staged, staged_there, same_item}
+use Rattle.phases.proofs.RequestsRise.{Staged, staged_there, same_item}
 use Rattle.phases.proofs.requests.Requests.answer.Goals as goal
 use Rattle.phases.proofs.requests.Requests.answer.Goals.{then-is_settled-via-then-is_settled, then-is_settled-via-else-is_settled+then-not-is_for}
 use Rattle.std.specs.Vec.{with_item}

@@ -1,10 +1,10 @@
 use Rattle.std.proofs.Common.{sym, ap, ◌∙◌, map, List}
 use Rattle.std.proofs.lemmas.Bool.{eqb-true}
 use Rattle.phases.specs.Requests.{Request, Requests, has_number, Cancelled}
-use Rattle.phases.proofs.Booking.{Staged, staged_there}
+use Rattle.phases.proofs.RequestsRise.{Staged, staged_there}
 use Rattle.phases.proofs.requests.Requests.cancel.Goals as goal
 use Rattle.phases.specs.Requests.{in_stage}
-use Rattle.phases.proofs.Booking.{untouched_all}
+use Rattle.phases.proofs.RequestsRise.{untouched_all}
 
 pub returns-in_default : goal.returns-in_default
 returns-in_default c =

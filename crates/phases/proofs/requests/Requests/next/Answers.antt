@@ -1,7 +1,7 @@
 use Rattle.std.proofs.Common.{◌≡◌, Bool, ap, Some, None, Option, List}
 use Rattle.std.specs.List.{find, slice_get}
 use Rattle.phases.specs.Requests.{Request, Requests, is_open_stage, HandedOut}
-use Rattle.phases.proofs.Booking.{Staged, staged_there, same_item, found_passes}
+use Rattle.phases.proofs.RequestsRise.{Staged, staged_there, same_item, found_passes}
 use Rattle.phases.proofs.requests.Requests.next.Goals as goal
 use Rattle.std.proofs.Common.{MatchOption}
 use Rattle.std.specs.Option.{option_map}

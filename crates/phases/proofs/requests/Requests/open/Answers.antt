@@ -1,6 +1,6 @@
 use Rattle.std.proofs.Common.{◌≡◌, ◌<◌, length}
 use Rattle.limits.specs.declared.TheConstants.{MAX_REQUESTS}
-use Rattle.phases.proofs.Booking.{kept_open}
+use Rattle.phases.proofs.RequestsRise.{kept_open}
 use Rattle.phases.proofs.requests.Requests.open.Goals as goal
 use Rattle.std.proofs.Common.{arith, ◌+◌, ◌^◌}
 use Rattle.order.specs.Orders.{order_of}

@@ -2,7 +2,7 @@ use Rattle.std.proofs.Common.{◌≡◌, sym, subst, ◌∙◌, true, arith}
 use Rattle.handles.specs.Table.{IsOpen}
 use Rattle.phases.specs.Roster.{Roster, is_callback}
 use Rattle.phases.specs.contracts.roster.Roster.{the_view}
-use Rattle.phases.proofs.Rostering.{kept_close, closing_room}
+use Rattle.phases.proofs.RosterKeeps.{kept_close, closing_room}
 use Rattle.phases.proofs.roster.Roster.close.Goals as goal
 
 pub push-requires : goal.push-requires

@@ -1,5 +1,5 @@
 use Rattle.phases.specs.contracts.roster.Roster.{the_view}
-use Rattle.phases.proofs.Rostering.{kept_remove}
+use Rattle.phases.proofs.RosterKeeps.{kept_remove}
 use Rattle.phases.proofs.roster.Roster.finish_closing.Goals as goal
 
 pub invariant_of-self : goal.invariant_of-self

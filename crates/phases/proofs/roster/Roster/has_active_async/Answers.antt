@@ -1,6 +1,6 @@
 use Rattle.std.proofs.Common.{ap, ◌∙◌}
 use Rattle.phases.specs.Roster.{Roster}
-use Rattle.phases.proofs.Listing.{active_here, active_none}
+use Rattle.phases.proofs.ActiveAsyncs.{active_here, active_none}
 use Rattle.phases.proofs.roster.Roster.has_active_async.Goals as goal
 
 pub returns-then-is_active : goal.returns-then-is_active

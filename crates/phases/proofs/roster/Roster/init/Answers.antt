@@ -2,7 +2,7 @@ use Rattle.std.proofs.Common.{◌≡◌}
 use Rattle.std.specs.FinMap as finite
 use Rattle.limits.specs.declared.TheConstants.{MAX_HANDLES}
 use Rattle.phases.specs.contracts.roster.Roster.{the_view}
-use Rattle.phases.proofs.Rostering.{kept_made}
+use Rattle.phases.proofs.RosterKeeps.{kept_made}
 use Rattle.phases.proofs.roster.Roster.init.Goals as goal
 
 pub invariant_of-self-2 : goal.invariant_of-self-2

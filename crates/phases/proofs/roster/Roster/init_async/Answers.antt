@@ -3,7 +3,7 @@ use Rattle.std.specs.FinMap as finite
 use Rattle.limits.specs.declared.TheConstants.{MAX_HANDLES}
 use Rattle.phases.specs.Roster.{Roster, is_callback}
 use Rattle.phases.specs.contracts.roster.Roster.{the_view}
-use Rattle.phases.proofs.Rostering.{kept_async, made_async_open}
+use Rattle.phases.proofs.RosterKeeps.{kept_async, made_async_open}
 use Rattle.phases.proofs.roster.Roster.init_async.Goals as goal
 
 pub start-requires : goal.start-requires

@@ -1,4 +1,4 @@
-use Rattle.phases.proofs.Rostering.{kept_empty}
+use Rattle.phases.proofs.RosterKeeps.{kept_empty}
 use Rattle.phases.proofs.roster.Roster.new.Goals as goal
 
 pub invariant_of-result : goal.invariant_of-result

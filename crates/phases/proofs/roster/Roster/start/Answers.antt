@@ -2,7 +2,7 @@ use Rattle.std.proofs.Common.{◌≡◌, sym, subst, ◌∙◌, true}
 use Rattle.handles.specs.Table.{IsOpen}
 use Rattle.phases.specs.Roster.{Roster, is_callback}
 use Rattle.phases.specs.contracts.roster.Roster.{the_view}
-use Rattle.phases.proofs.Rostering.{kept_start}
+use Rattle.phases.proofs.RosterKeeps.{kept_start}
 use Rattle.phases.proofs.roster.Roster.start.Goals as goal
 
 pub invariant_of-self : goal.invariant_of-self

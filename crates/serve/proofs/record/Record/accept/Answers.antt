@@ -1,5 +1,5 @@
 use Rattle.std.proofs.Common.{refl}
-use Rattle.serve.proofs.Recording.{does_accept}
+use Rattle.serve.proofs.OneEventMore.{does_accept}
 use Rattle.serve.proofs.record.Record.accept.Goals as goal
 
 pub invariant_of-self : goal.invariant_of-self

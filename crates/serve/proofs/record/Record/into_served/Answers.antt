@@ -1,4 +1,4 @@
-use Rattle.serve.proofs.Recording.{ended_by, served_by}
+use Rattle.serve.proofs.OneEventMore.{ended_by, served_by}
 use Rattle.serve.proofs.record.Record.into_served.Goals as goal
 
 pub invariant_of-result : goal.invariant_of-result

@@ -1,5 +1,5 @@
 use Rattle.std.proofs.Common.{arith}
-use Rattle.serve.proofs.Recording.{does_nothing}
+use Rattle.serve.proofs.OneEventMore.{does_nothing}
 use Rattle.serve.proofs.record.Record.new.Goals as goal
 
 pub invariant_of-result : goal.invariant_of-result

@@ -1,5 +1,5 @@
 use Rattle.std.proofs.Common.{refl}
-use Rattle.serve.proofs.Recording.{does_order}
+use Rattle.serve.proofs.OneEventMore.{does_order}
 use Rattle.serve.proofs.record.Record.next_order.Goals as goal
 
 pub invariant_of-self : goal.invariant_of-self

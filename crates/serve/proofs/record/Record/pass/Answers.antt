@@ -1,5 +1,5 @@
 use Rattle.std.proofs.Common.{arith}
-use Rattle.serve.proofs.Recording.{does_wait}
+use Rattle.serve.proofs.OneEventMore.{does_wait}
 use Rattle.serve.proofs.record.Record.pass.Goals as goal
 
 pub invariant_of-self : goal.invariant_of-self

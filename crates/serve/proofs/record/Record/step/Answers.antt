@@ -1,5 +1,5 @@
 use Rattle.std.proofs.Common.{◌≡◌, ◌++◌, ◌+◌, cond, refl, ap, ◌∙◌, arith}
-use Rattle.serve.proofs.Recording.{does_run, does_other}
+use Rattle.serve.proofs.OneEventMore.{does_run, does_other}
 use Rattle.serve.proofs.record.Record.step.Goals as goal
 
 pub invariant_of-self-in-Ran : goal.invariant_of-self-in-Ran

@@ -2,7 +2,7 @@ use Rattle.std.proofs.Common.{◌≡◌, sym, ap, ◌∙◌}
 use Rattle.phases.specs.View.{new_view}
 use Rattle.pool.specs.Share.{view_by}
 use Rattle.serve.specs.Histories.{thread_calls}
-use Rattle.serve.proofs.Recording.{opens_new}
+use Rattle.serve.proofs.OneEventMore.{opens_new}
 use Rattle.serve.proofs.turn.Turns.new.Goals as goal
 
 pub new-requires-2 : goal.new-requires-2

@@ -1,7 +1,7 @@
 use Rattle.std.proofs.Common.{◌∙◌, sym, refl, w32}
 use Rattle.std.specs.Int.{cast_signed, cast_unsigned}
 use Rattle.world.proofs.Sets.{kept_set}
-use Rattle.world.proofs.Turning.{read, cancel_failed, cancels}
+use Rattle.world.proofs.StepsAgree.{read, cancel_failed, cancels}
 use Rattle.world.proofs.world.World.cancel.Goals as goal
 
 pub returns-then-failed-clause-ran : goal.returns-then-failed-clause-ran

@@ -1,6 +1,6 @@
 use Rattle.std.proofs.Common.{◌∙◌, sym}
 use Rattle.world.proofs.Sets.{kept_set}
-use Rattle.world.proofs.Turning.{read, clock_failed, clocked}
+use Rattle.world.proofs.StepsAgree.{read, clock_failed, clocked}
 use Rattle.world.proofs.world.World.clock.Goals as goal
 
 pub returns-then-failed-clause-ran : goal.returns-then-failed-clause-ran

@@ -4,8 +4,8 @@ use Rattle.std.specs.VecDeque.{deque_capacity}
 use Rattle.std.proofs.lemmas.List.{length-map, length-set, map-set}
 use Rattle.world.specs.Making.{answers_of, IsKept}
 use Rattle.world.proofs.Sets.{kept_set}
-use Rattle.world.proofs.Turning.{read}
-use Rattle.world.proofs.Collecting.{reads_at, emptied, collect_failed, collect_nothing, collect_taken, collect_stranger}
+use Rattle.world.proofs.StepsAgree.{read}
+use Rattle.world.proofs.CollectsAgree.{reads_at, emptied, collect_failed, collect_nothing, collect_taken, collect_stranger}
 use Rattle.world.proofs.world.World.collect.Goals as goal
 use Rattle.world.proofs.world.World.collect.Goals.{in-Accepted, in-Stranger}
 

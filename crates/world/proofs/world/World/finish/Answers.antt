@@ -2,8 +2,8 @@ use Rattle.std.proofs.Common.{◌≡◌, ◌<◌, ◌++◌, ◌∷◌, [], lengt
 use Rattle.std.proofs.lemmas.List.{map-append}
 use Rattle.world.specs.Making.{IsJob, answer_of, answers_of}
 use Rattle.world.specs.declared.worker.Worker.TheVariants as worker
-use Rattle.world.proofs.Turning.{read}
-use Rattle.world.proofs.Working.{read_or, loop_there, on_err, started_same, job_held, kept_reply, finishes_nothing, reserves, finishes}
+use Rattle.world.proofs.StepsAgree.{read}
+use Rattle.world.proofs.WorkersAgree.{read_or, loop_there, on_err, started_same, job_held, kept_reply, finishes_nothing, reserves, finishes}
 use Rattle.world.proofs.world.World.finish.Goals as goal
 
 pub returns-in_default-state : goal.returns-in_default-state

@@ -1,7 +1,7 @@
 use Rattle.std.proofs.Common.{[], map, replicate, ap, ◌∙◌}
 use Rattle.world.specs.Making.{settings_from, answers_of}
 use Rattle.world.specs.World.{opening_loop}
-use Rattle.world.proofs.Opening.{opening_kept, opening_is}
+use Rattle.world.proofs.WorldsOpen.{opening_kept, opening_is}
 use Rattle.world.proofs.world.World.new.Goals as goal
 
 pub invariant_of-result : goal.invariant_of-result

@@ -5,7 +5,7 @@ use Rattle.limits.specs.declared.TheConstants.{MAX_JOBS}
 use Rattle.order.specs.Orders.{order_of}
 use Rattle.world.specs.Making.{IsJob}
 use Rattle.world.proofs.Sets.{kept_set, kept_push, numbered_at}
-use Rattle.world.proofs.Turning.{read, posts_failed, posts_full, posts_nothing, posts_order}
+use Rattle.world.proofs.StepsAgree.{read, posts_failed, posts_full, posts_nothing, posts_order}
 use Rattle.world.proofs.world.World.post.Goals as goal
 
 pub returns-then-failed-clause-ran : goal.returns-then-failed-clause-ran

@@ -1,6 +1,6 @@
 use Rattle.std.proofs.Common.{rules}
 use Rattle.std.proofs.lemmas.Result.{err_from_is_err_and}
-use Rattle.world.proofs.Stepping.{has_begun, has_run_more, has_run_all, has_stopped}
+use Rattle.world.proofs.RunsByStep.{has_begun, has_run_more, has_run_all, has_stopped}
 use Rattle.world.proofs.world.World.run.Goals as goal
 
 pub loop-step-init : goal.loop-step-init

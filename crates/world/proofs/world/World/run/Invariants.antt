@@ -1,5 +1,5 @@
 use Rattle.std.proofs.Common.{take}
-use Rattle.world.proofs.Stepping.{HasRun}
+use Rattle.world.proofs.RunsByStep.{HasRun}
 use Rattle.world.proofs.world.World.run.Given as goal
 
 abbrev pub invariant-loop-step : goal.invariant-loop-step

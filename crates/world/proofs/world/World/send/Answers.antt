@@ -1,6 +1,6 @@
 use Rattle.std.proofs.Common.{arith}
 use Rattle.world.proofs.Sets.{kept_set}
-use Rattle.world.proofs.Turning.{read, sends}
+use Rattle.world.proofs.StepsAgree.{read, sends}
 use Rattle.world.proofs.world.World.send.Goals as goal
 
 pub returns-clause-ran : goal.returns-clause-ran

@@ -2,8 +2,8 @@ use Rattle.std.proofs.Common.{◌≡◌, length, ◌∙◌, sym, subst}
 use Rattle.world.specs.Making.{IsJob}
 use Rattle.world.specs.declared.worker.Worker.TheVariants as worker
 use Rattle.world.proofs.Sets.{kept_set}
-use Rattle.world.proofs.Turning.{read}
-use Rattle.world.proofs.Working.{read_or, loop_there, taken_same, job_held, kept_worker, starts_nothing, begins, drops}
+use Rattle.world.proofs.StepsAgree.{read}
+use Rattle.world.proofs.WorkersAgree.{read_or, loop_there, taken_same, job_held, kept_worker, starts_nothing, begins, drops}
 use Rattle.world.proofs.world.World.start.Goals as goal
 
 pub returns-in_default-state : goal.returns-in_default-state

@@ -1,7 +1,7 @@
 use Rattle.std.proofs.Common.{◌∙◌, ◌++◌, ap}
 use Rattle.world.specs.World.{told_of}
 use Rattle.world.proofs.Sets.{kept_set}
-use Rattle.world.proofs.Turning.{read, steps}
+use Rattle.world.proofs.StepsAgree.{read, steps}
 use Rattle.world.proofs.world.World.step_loop.Goals as goal
 
 pub invariant_of-self-2 : goal.invariant_of-self-2

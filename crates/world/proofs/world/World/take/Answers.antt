@@ -1,6 +1,6 @@
 use Rattle.std.proofs.Common.{◌∙◌, sym}
-use Rattle.world.proofs.Turning.{read}
-use Rattle.world.proofs.Taking.{takes_busy, takes_nothing, takes_one, kept_take}
+use Rattle.world.proofs.StepsAgree.{read}
+use Rattle.world.proofs.TakesAgree.{takes_busy, takes_nothing, takes_one, kept_take}
 use Rattle.world.proofs.world.World.take.Goals as goal
 
 pub returns-in_default-state : goal.returns-in_default-state

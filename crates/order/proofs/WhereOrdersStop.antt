@@ -1,0 +1,62 @@
+-- Where the run of an order stopped.
+use Rattle.std.proofs.Common.{◌≡◌, ◌≢◌, ℕ, ◌+◌, ◌-◌, List, [], ◌∷◌, Option, Some, None, reverse, codes, refl, subst}
+use Rattle.std.specs.Option.{option_map}
+use Rattle.syntax.specs.declared.types.Value.{Value}
+use Rattle.syntax.specs.declared.types.Value.TheVariants.{I32}
+use Rattle.syntax.specs.Loaded.{Loaded}
+use Rattle.instance.specs.Store.{Store}
+use Rattle.instance.specs.Fresh.{IsFresh}
+use Rattle.instance.specs.declared.stack.Site.{Site}
+use Rattle.interp.specs.Run.{Returned}
+use Rattle.interp.specs.Running.{end_of_run}
+use Rattle.interp.specs.Stopping.{Tells, StopsAt}
+use Rattle.interp.specs.declared.ended.Ended.{Ended}
+use Rattle.interp.specs.declared.ended.Ending.{Ending}
+use Rattle.interp.specs.declared.ended.Ending.TheVariants.{Return}
+use Rattle.imports.specs.Linking.{ExportsFunction}
+use Rattle.order.specs.declared.host.WorkHost.{WorkHost}
+use Rattle.order.specs.Inner.Serving.{Serves}
+use Rattle.order.specs.Stopping.{WorkStop, ComputesTo, Leaves, stops, works}
+use Rattle.order.specs.Trails.{Innermost, innermost}
+use Rattle.order.specs.Work.{WorkOrder, WorkEnd, Done, Trap, Depth, Spent, NoMemory, WorkCall, StartRun, EndsAs}
+use Rattle.order.specs.Inner.WorkHosting.{Answered}
+use Rattle.order.proofs.WorkHostAnswers.{served, not_returned}
+
+-- a call of a function, as the order's
+pub work_tells : (o : WorkOrder) (v : Loaded) (is : v ≡ o.loaded) (s t : Store) (old new : WorkHost) (serves : Serves old o) (function : ℕ) (args : List Value) (ended : Ended)
+    (stop : Option (List Site)) → Tells v.contents o.depth Answered s old function args ended t new stop
+    → Tells o.loaded.contents o.depth (WorkCall o) s old.reply.items function args ended t new.reply.items stop
+work_tells o v is s t old new serves function args ended stop h = record {
+  trace = h.trace;
+  lawful = (served o h.trace old new serves h.lawful).answers;
+  stops = subst (λ (l : Loaded). StopsAt l.contents o.depth s function args h.trace ended.ending ended.used t stop) is h.stops;
+}
+
+-- the start function does not return
+pub stops_to : (o : WorkOrder) (s t : Store) (ended : Ended) (reply : List ℕ) (stop : Option (List Site)) (e : WorkEnd) → IsFresh o.loaded.contents s
+    → StartRun o o.loaded.contents.start s (end_of_run ended.ending) ended.used t reply → ((values : List Value) → ended.ending ≡ Return values → ⊥)
+    → ((f : ℕ) → o.loaded.contents.start ≡ Some f → WorkStop o o.fuel s [] f [] ended t reply stop)
+    → EndsAs (end_of_run ended.ending) reply e → ComputesTo o e ended.used stop
+stops_to o s t ended reply stop e fresh run not stopped end = by_start o.loaded.contents.start refl run where
+  by_start : (start : Option ℕ) → o.loaded.contents.start ≡ start → StartRun o start s (end_of_run ended.ending) ended.used t reply → ComputesTo o e ended.used stop
+  by_start None is r = absurd (not_returned ended.ending not [] r.0)
+  by_start (Some f) is r = stops s t ended reply f fresh is (stopped f is) (not_returned ended.ending not) refl end
+
+-- it returns, and `uv_work` runs with the fuel that is left
+pub works_to : (o : WorkOrder) (s t u : Store) (started ended : Ended) (values : List Value) (reply reply' : List ℕ) (stop : Option (List Site)) (e : WorkEnd) → IsFresh o.loaded.contents s
+    → started.ending ≡ Return values → StartRun o o.loaded.contents.start s (end_of_run started.ending) started.used t reply
+    → (f : ℕ) × ExportsFunction o.loaded.contents (codes "uv_work") f × WorkStop o (o.fuel - started.used) t reply f (I32 o.op ∷ []) ended u reply' stop
+    → EndsAs (end_of_run ended.ending) reply' e → ComputesTo o e (started.used + ended.used) stop
+works_to o s t u started ended values reply reply' stop e fresh returned run work end =
+    let first : StartRun o o.loaded.contents.start s (Returned (reverse values)) started.used t reply =
+    subst (λ (x : Ending). StartRun o o.loaded.contents.start s (end_of_run x) started.used t reply) returned run in
+    works s t u (reverse values) ended started.used reply reply' work.0 fresh first work.1 work.2 refl end
+
+-- the trail is what is kept of that
+pub leaves : (o : WorkOrder) (e : WorkEnd) (used : ℕ) (stop : Option (List Site)) (trail : Option Innermost) → e ≢ NoMemory → ComputesTo o e used stop → trail ≡ option_map innermost stop
+    → Leaves o e used trail
+leaves o (Done value bytes) used stop trail told h is = (stop, h, is)
+leaves o (Trap code) used stop trail told h is = (stop, h, is)
+leaves o Depth used stop trail told h is = (stop, h, is)
+leaves o Spent used stop trail told h is = (stop, h, is)
+leaves o NoMemory used stop trail told h is = absurd (told refl)

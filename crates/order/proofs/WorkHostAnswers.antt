@@ -1,0 +1,124 @@
+-- What the host of a work function answers, over a whole run.
+use Rattle.std.proofs.Common.{◌≡◌, ◌≢◌, ℕ, List, [], ◌∷◌, refl, sym, ap, subst, ◌∙◌}
+use Rattle.syntax.specs.declared.types.Value.{Value}
+use Rattle.syntax.specs.Loaded.{Loaded}
+use Rattle.interp.specs.Run.{HostCall}
+use Rattle.interp.specs.Hosting.{Lawful}
+use Rattle.imports.specs.declared.call.Call.{Call}
+use Rattle.imports.specs.declared.call.Call.TheVariants.{Now, InLen, InCopy, OutSet}
+use Rattle.imports.specs.Linking.{Imports}
+use Rattle.order.specs.declared.host.WorkHost.{WorkHost}
+use Rattle.order.specs.Numbers.{not_here}
+use Rattle.order.specs.Work.{WorkOrder, WorkEnd, Done, Trap, Depth, Spent, NoMemory, WorkAnswers, WorkCall, Works, IsTheEnd, IsEndOf, Gives}
+use Rattle.order.specs.Inner.WorkHosting.{Answered}
+use Rattle.order.specs.Inner.Serving.{Serves}
+use Rattle.std.proofs.Common.{Result, Ok, Err, IfOk, reverse, ◌+◌, ◌-◌, codes}
+use Rattle.syntax.specs.declared.types.Value.TheVariants.{I32}
+use Rattle.validate.specs.Valid.{ValidModule}
+use Rattle.instance.specs.Store.{Store}
+use Rattle.instance.specs.Fresh.{IsFresh}
+use Rattle.interp.specs.Hosting.{Names}
+use Rattle.interp.specs.Invoking.{Invokes, Invoked}
+use Rattle.interp.specs.Running.{end_of_run}
+use Rattle.interp.specs.Run.{Returned}
+use Rattle.interp.specs.declared.ended.Ended.{Ended}
+use Rattle.interp.specs.declared.ended.Ending.{Ending}
+use Rattle.interp.specs.declared.ended.Ending.TheVariants.{Return}
+use Rattle.interp.specs.declared.ended.Ending.TheVariants as ending
+use Rattle.imports.specs.Linking.{IsLinked, ExportsFunction}
+use Rattle.imports.specs.Uv.{AreNamedApart}
+use Rattle.order.specs.Inner.Hosting.{import_types}
+use Rattle.order.specs.Work.{WorkRun, StartRun, EndsAs, Computes, Uses, stops, works}
+use Rattle.order.proofs.ImportTypes.{names}
+use Rattle.order.proofs.OneEnd.{one_end}
+
+-- the calls that are not for a work function
+pub others : (bytes reply : List ℕ) (call : HostCall) (reply' : List ℕ) (f : Call) (args : List Value)
+    → f ≢ Now → f ≢ InLen → f ≢ InCopy → f ≢ OutSet → Gives call reply' not_here call.before reply → WorkAnswers bytes reply call reply' f args
+others bytes reply call reply' Now args now len copy set h = absurd (now refl)
+others bytes reply call reply' InLen args now len copy set h = absurd (len refl)
+others bytes reply call reply' InCopy args now len copy set h = absurd (copy refl)
+others bytes reply call reply' OutSet args now len copy set h = absurd (set refl)
+others bytes reply call reply' _ args now len copy set h = h
+
+-- the calls of a whole run are those of the order's host
+pub record Served (o : WorkOrder) (trace : List HostCall) (old new : WorkHost) : Type 0 where
+  pub answers : Lawful (WorkCall o) trace old.reply.items new.reply.items
+  pub serves : Serves new o
+
+pub served : (o : WorkOrder) (trace : List HostCall) (old new : WorkHost) → Serves old o → Lawful Answered trace old new → Served o trace old new
+served o [] old new serves same = record {
+  answers = ap (λ (h : WorkHost). h.reply.items) same;
+  serves = subst (λ (h : WorkHost). Serves h o) (sym same) serves;
+}
+served o (call ∷ trace) old new serves h =
+    let mid : WorkHost = h.0 in
+    let answered : Answered old call mid = h.1 in
+    let mid_serves : Serves mid o = record {
+      linked = answered.same_module ∙ serves.linked;
+      bytes = ap (λ v. v.items) answered.same_bytes ∙ serves.bytes;
+    } in
+    let rest = served o trace mid new mid_serves h.2 in
+    let imported : Imports o.loaded.contents call.function answered.asked = subst (λ (l : Loaded). Imports l.contents call.function answered.asked) serves.linked answered.imported in
+    let answers : WorkAnswers o.bytes old.reply.items call mid.reply.items answered.asked call.args =
+    subst (λ (bs : List ℕ). WorkAnswers bs old.reply.items call mid.reply.items answered.asked call.args) serves.bytes answered.answers in
+    record { answers = (mid.reply.items, (answered.asked, imported, answers), rest.answers); serves = rest.serves }
+
+the_end : AreNamedApart → (o : WorkOrder) (e : WorkEnd) → ValidModule o.loaded.contents → Works o e → IsTheEnd o e
+the_end apart o e valid h = record { computed = h; only = λ other k. one_end apart o other e valid k h }
+
+pub is_end : AreNamedApart → (o : WorkOrder) (e : WorkEnd) → ValidModule o.loaded.contents → Works o e → IsEndOf o e
+is_end apart o (Done value bytes) valid h = the_end apart o (Done value bytes) valid h
+is_end apart o (Trap code) valid h = the_end apart o (Trap code) valid h
+is_end apart o Depth valid h = the_end apart o Depth valid h
+is_end apart o Spent valid h = the_end apart o Spent valid h
+is_end apart o NoMemory valid h = tt
+
+pub if_ok : {T E : Type 0} (P Q : T → Type 0) (r : Result T E) → ((x : T) → P x → Q x) → IfOk r P → IfOk r Q
+if_ok P Q (Ok x) k h = k x h
+if_ok P Q (Err e) k h = tt
+
+pub names_of : (v l h : Loaded) → v ≡ l → IsLinked l.contents → h ≡ l → Names v.contents (import_types h.contents)
+names_of v l h same linked other = rw (same, other) (names l.contents linked)
+
+-- a call of a function, as the order's
+module _ (o : WorkOrder) (fuel : ℕ) (v : Loaded) (is : v ≡ o.loaded) (s t : Store) (old new : WorkHost) (serves : Serves old o) (function : ℕ) (args : List Value) (ended : Ended) where
+  pub work_run : Invoked v.contents o.depth fuel Answered s old function args ended t new → WorkRun o fuel s old.reply.items function args (end_of_run ended.ending) ended.used t new.reply.items
+  work_run h = record {
+    trace = h.trace;
+    run = subst (λ (l : Loaded). Invokes l.contents o.depth fuel s function args h.trace (end_of_run ended.ending) ended.used t) is h.invokes;
+    answers = (served o h.trace old new serves h.lawful).answers;
+  }
+
+  pub work_serves : Invoked v.contents o.depth fuel Answered s old function args ended t new → Serves new o
+  work_serves h = (served o h.trace old new serves h.lawful).serves
+
+pub not_returned : (how : Ending) → ((values : List Value) → how ≡ Return values → ⊥) → (results : List Value) → end_of_run how ≢ Returned results
+not_returned (Return values) h results e = h values refl
+not_returned (ending.Trap trap) h results e = absurd (cc)
+not_returned ending.Depth h results e = absurd (cc)
+not_returned ending.Spent h results e = absurd (cc)
+
+-- the start function does not return
+pub stops_end : (o : WorkOrder) (s t : Store) (how : Ending) (used : ℕ) (reply : List ℕ) (e : WorkEnd) → IsFresh o.loaded.contents s
+    → StartRun o o.loaded.contents.start s (end_of_run how) used t reply → ((values : List Value) → how ≡ Return values → ⊥)
+    → EndsAs (end_of_run how) reply e → Computes o e used
+stops_end o s t how used reply e fresh run not end = stops s t (end_of_run how) reply fresh run (not_returned how not) end
+
+-- it returns, and `uv_work` runs with the fuel that is left
+pub works_end : (o : WorkOrder) (s t u : Store) (started ended : Ended) (values : List Value) (reply reply' : List ℕ) (e : WorkEnd) → IsFresh o.loaded.contents s
+    → started.ending ≡ Return values → StartRun o o.loaded.contents.start s (end_of_run started.ending) started.used t reply
+    → (f : ℕ) × ExportsFunction o.loaded.contents (codes "uv_work") f × WorkRun o (o.fuel - started.used) t reply f (I32 o.op ∷ []) (end_of_run ended.ending) ended.used u reply'
+    → EndsAs (end_of_run ended.ending) reply' e → Computes o e (started.used + ended.used)
+works_end o s t u started ended values reply reply' e fresh returned run work end =
+    let first : StartRun o o.loaded.contents.start s (Returned (reverse values)) started.used t reply =
+    subst (λ (x : Ending). StartRun o o.loaded.contents.start s (end_of_run x) started.used t reply) returned run in
+    works s t u (reverse values) (end_of_run ended.ending) started.used ended.used reply reply' work.0 fresh first work.1 work.2 refl end
+
+-- what is computed is what is used for it
+pub uses : (o : WorkOrder) (e : WorkEnd) (used : ℕ) → e ≢ NoMemory → Computes o e used → Uses o e used
+uses o (Done value bytes) used told h = h
+uses o (Trap code) used told h = h
+uses o Depth used told h = h
+uses o Spent used told h = h
+uses o NoMemory used told h = absurd (told refl)

@@ -1,0 +1,332 @@
+-- No call of a guest takes away what a loop has listed.
+use Rattle.std.proofs.Common.{◌≡◌, ℕ, zero, suc, ◌+◌, ◌==◌, Bool, true, false, cond, not, ◌&&◌, ◌⊎◌, inl, inr, List, [], ◌∷◌, ◌++◌, length, map, find, Option, Some, None, refl, sym, ap, subst, ◌∙◌, MatchOption, IsSomeAnd, nat_lt, nat_le, codes, slice_get}
+use Rattle.std.specs.Option.{option_map_or, option_or}
+use Rattle.std.specs.FinMap as finite
+use Rattle.std.proofs.lemmas.List.Folds.{find-append}
+use Rattle.limits.specs.declared.TheConstants.{MAX_BYTES, MAX_HANDLES, MAX_ASYNCS, MAX_REQUESTS, MAX_EMITS}
+use Rattle.syntax.specs.declared.types.Value.{Value}
+use Rattle.syntax.specs.declared.types.Value.TheVariants.{I32, I64}
+use Rattle.handles.specs.declared.handle.Record.{Record}
+use Rattle.handles.specs.declared.handle.Kind.{Kind}
+use Rattle.handles.specs.declared.handle.Kind.TheVariants as kind
+use Rattle.handles.specs.Table.{Table, record_of, IsClosing, new_record, with_record, with_started, saturated, stopped, closed, same_kind, was_started, after_start, after_stop, after_again, after_close}
+use Rattle.interp.specs.Run.{HostCall}
+use Rattle.interp.specs.Hosting.{Lawful}
+use Rattle.imports.specs.declared.call.Call.{Call}
+use Rattle.imports.specs.declared.call.Call.TheVariants.{Now, TimerInit, IdleInit, CheckInit, TimerStart, TimerStop, IdleStop, CheckStop, TimerAgain, IdleStart, CheckStart, AsyncInit, AsyncSend, IsActive, Close, QueueWork, Cancel, InLen, InCopy, OutSet, Emit}
+use Rattle.order.specs.Numbers.{invalid, none_left}
+use Rattle.order.specs.Bytes.{taken_out}
+use Rattle.order.specs.Work.{WorkOrder}
+use Rattle.tallies.proofs.Requests.{either}
+use Rattle.phases.specs.declared.progress.CancelState.{CancelState}
+use Rattle.phases.specs.declared.progress.CancelState.TheVariants.{Unknown, Pending}
+use Rattle.phases.specs.declared.progress.CancelState.TheVariants as cancel_state
+use Rattle.phases.specs.PhaseList.{exports}
+use Rattle.phases.specs.Requests.{Requests, Request, Stage, Open, Cancelled, has_number, in_stage, with_stage, with_work, is_settled}
+use Rattle.phases.specs.Roster.{Roster, in_table, async_handle, is_open, is_open_of, is_callback, with_handles, with_made, with_async, Makes, MakesAsync, stopped_in, started_in, again_in, closed_in}
+use Rattle.phases.specs.State.{Setting, State}
+use Rattle.phases.specs.Calls.{Calls}
+use Rattle.phases.specs.Host.{with_roster, with_requests, emitted_in, next_work, CancelsAt, Cancels, Opens, QueuesWork, Relates, RelatesWork, Does, DoesTo, CallStep, HostStep}
+use Rattle.phases.specs.Inner.Ready.{IsSettledIn, Grows}
+use Rattle.phases.proofs.RosterKeeps.{choose, changed, still_closing, closing_there}
+
+-- steps of it
+pub grows_same : (s t : State) → t.list ≡ s.list → t.phase ≡ s.phase → t.roster ≡ s.roster → t.requests ≡ s.requests → Grows s t
+grows_same s t list phase roster requests = record {
+  list = list;
+  phase = phase;
+  callbacks = ap (λ r. r.callbacks) roster;
+  settled = λ number h. subst (λ (rs : Requests). IsSettledIn rs number) (sym requests) h;
+  asyncs = λ async_no handle h. ap (λ r. async_handle r async_no) roster ∙ h;
+  closing = λ handle h. subst (λ (r : Roster). IsClosing r.handles handle) (sym roster) h;
+}
+
+pub grows_refl : (s : State) → Grows s s
+grows_refl s = grows_same s s refl refl refl refl
+
+pub grows_on : (s t u : State) → Grows s t → Grows t u → Grows s u
+grows_on s t u first second = record {
+  list = second.list ∙ first.list;
+  phase = second.phase ∙ first.phase;
+  callbacks = second.callbacks ∙ first.callbacks;
+  settled = λ number h. second.settled number (first.settled number h);
+  asyncs = λ async_no handle h. second.asyncs async_no handle (first.asyncs async_no handle h);
+  closing = λ handle h. second.closing handle (first.closing handle h);
+}
+
+-- the requests
+abbrev pub Settles : Requests → Requests → Type 0
+Settles rs us = (number : ℕ) → IsSettledIn rs number → IsSettledIn us number
+
+pub grows_requests : (s : State) (us : Requests) → Settles s.requests us → Grows s (with_requests s us)
+grows_requests s us settles = record {
+  list = refl;
+  phase = refl;
+  callbacks = refl;
+  settled = settles;
+  asyncs = λ async_no handle h. h;
+  closing = λ handle h. h;
+}
+
+abbrev pub IsSettledOne : Option Request → Type 0
+IsSettledOne o = MatchOption o ⊥ (λ r. is_settled r.stage ≡ true)
+
+pub picked : (b : Bool) (x y : Request) (o u : Option Request) → (b ≡ true → is_settled x.stage ≡ true → is_settled y.stage ≡ true) → (IsSettledOne o → IsSettledOne u)
+    → IsSettledOne (cond b (Some x) o) → IsSettledOne (cond b (Some y) u)
+picked true x y o u f g h = f refl h
+picked false x y o u f g h = g h
+
+settled_or : (o u : Option Request) → IsSettledOne o → IsSettledOne (option_or o u)
+settled_or None u h = absurd h
+settled_or (Some r) u h = h
+
+module _ (number : ℕ) (stage : Stage) (settles : is_settled stage ≡ true) (n : ℕ) where
+  found_staged : (xs : List Request) → IsSettledOne (find (has_number n) xs) → IsSettledOne (find (has_number n) (map (in_stage number stage) xs))
+  found_staged [] h = h
+  found_staged (x ∷ xs) h =
+      let staged : Request = record x { stage = stage } in
+      elim (has_number number x) as (λ b. IsSettledOne (find (has_number n) (cond b staged x ∷ map (in_stage number stage) xs))) [
+        | true ↦ picked (has_number n x) x staged (find (has_number n) xs) (find (has_number n) (map (in_stage number stage) xs)) (λ _ _. settles) (found_staged xs) h
+        | false ↦ picked (has_number n x) x x (find (has_number n) xs) (find (has_number n) (map (in_stage number stage) xs)) (λ _ e. e) (found_staged xs) h
+      ]
+
+-- a request in a settled stage
+pub settles_stage : (rs : Requests) (number : ℕ) (stage : Stage) → is_settled stage ≡ true → Settles rs (with_stage rs number stage)
+settles_stage rs number stage settles n h = found_staged number stage settles n rs.outstanding h
+
+-- a request more
+pub settles_work : (rs : Requests) (o : WorkOrder) → Settles rs (with_work rs o)
+settles_work rs o n h =
+    let new : List Request = record { order = o; stage = Open } ∷ [] in
+    subst IsSettledOne (sym (find-append (has_number n) rs.outstanding new)) (settled_or (find (has_number n) rs.outstanding) (find (has_number n) new) h)
+
+pub settles_same : (rs us : Requests) → us ≡ rs → Settles rs us
+settles_same rs us e n h = subst (λ (vs : Requests). IsSettledIn vs n) (sym e) h
+
+-- the handles
+abbrev pub StayClosing : Table → Table → Type 0
+StayClosing t u = (handle : ℕ) → IsClosing t handle → IsClosing u handle
+
+mapped : (P : Table → Type 0) (f : Record → Table) (o : Option Record) (t : Table) → P t → ((r : Record) → o ≡ Some r → P (f r)) → P (option_map_or f o t)
+mapped P f None t p q = p
+mapped P f (Some r) t p q = q r refl
+
+module _ (t : Table) (handle : ℕ) where
+  in_place : (r new : Record) (n : ℕ) → record_of t handle ≡ Some r → (r.closing ≡ true → new.closing ≡ true) → StayClosing t (changed t handle new n)
+  in_place r new n is keeps =
+      still_closing t handle new n
+      (λ other was here. keeps (let it : IsSomeAnd (Some r) (λ s. s.closing ≡ true) = subst (λ (o : Option Record). IsSomeAnd o (λ s. s.closing ≡ true)) (ap (record_of t) here ∙ is) was in it))
+
+  pub stop_closing : StayClosing t (after_stop t handle)
+  stop_closing =
+      mapped (StayClosing t) (λ r. with_record t handle (stopped r)) (record_of t handle) t (λ other h. h)
+      (λ r is. in_place r (stopped r) t.last_start is (λ e. e))
+
+  pub start_closing : (callback due repeat : ℕ) → StayClosing t (after_start t handle callback due repeat)
+  start_closing callback due repeat =
+      let n = saturated (t.last_start + 1) in
+      mapped (StayClosing t) _ (record_of t handle) t (λ other h. h)
+      (λ r is. (
+      let started : Record = record r { callback = callback; due = due; repeat = repeat } in
+      let active : Record = record started { active = true; start = n } in
+      choose (StayClosing t) (r.active && not (same_kind r.kind kind.Timer)) t (with_started t handle started) (λ _ other h. h) (λ _. in_place r active n is (λ e. e))))
+
+  pub again_closing : (now : ℕ) → StayClosing t (after_again t handle now)
+  again_closing now =
+      let n = saturated (t.last_start + 1) in
+      mapped (StayClosing t) _ (record_of t handle) t (λ other h. h)
+      (λ r is. (
+      let started : Record = record r { due = saturated (now + r.repeat) } in
+      let active : Record = record started { active = true; start = n } in
+      choose (StayClosing t) (r.start == 0) t (cond (r.repeat == 0) (with_record t handle (stopped r)) (with_started t handle started)) (λ _ other h. h)
+      (λ _. choose (StayClosing t) (r.repeat == 0) (with_record t handle (stopped r)) (with_started t handle started)
+      (λ _. in_place r (stopped r) t.last_start is (λ e. e))
+      (λ _. in_place r active n is (λ e. e)))))
+
+  pub close_closing : (callback : ℕ) → StayClosing t (after_close t handle callback)
+  close_closing callback =
+      mapped (StayClosing t) (λ r. with_record t handle (closed r callback)) (record_of t handle) t (λ other h. h)
+      (λ r is. in_place r (closed r callback) t.last_start is (λ _. refl))
+
+  pub made_closing : (k : Kind) → record_of t handle ≡ None → StayClosing t (with_record t handle (new_record k))
+  made_closing k none = still_closing t handle (new_record k) t.last_start (λ other was here. absurd (closing_there t handle other none was here))
+
+-- the roster
+pub record Holds (r u : Roster) : Type 0 where
+  pub callbacks : u.callbacks ≡ r.callbacks
+  pub asyncs : (async_no handle : ℕ) → async_handle r async_no ≡ Some handle → async_handle u async_no ≡ Some handle
+  pub closing : StayClosing r.handles u.handles
+
+pub grows_roster : (s : State) (u : Roster) → Holds s.roster u → Grows s (with_roster s u)
+grows_roster s u holds = record {
+  list = refl;
+  phase = refl;
+  callbacks = holds.callbacks;
+  settled = λ number h. h;
+  asyncs = holds.asyncs;
+  closing = holds.closing;
+}
+
+pub holds_same : (r u : Roster) → u ≡ r → Holds r u
+holds_same r u e = record {
+  callbacks = ap (λ v. v.callbacks) e;
+  asyncs = λ async_no handle h. ap (λ v. async_handle v async_no) e ∙ h;
+  closing = λ handle h. subst (λ (v : Roster). IsClosing v.handles handle) (sym e) h;
+}
+
+pub holds_handles : (r : Roster) (t : Table) → StayClosing r.handles t → Holds r (with_handles r t)
+holds_handles r t closing = record {
+  callbacks = refl;
+  asyncs = λ async_no handle h. h;
+  closing = closing;
+}
+
+one_more : (xs : List (Option ℕ)) (x : Option ℕ) (n handle : ℕ) → in_table (slice_get xs n) ≡ Some handle → in_table (slice_get (xs ++ x ∷ []) n) ≡ Some handle
+one_more [] x n handle h = absurd (cc)
+one_more (y ∷ ys) x zero handle h = h
+one_more (y ∷ ys) x (suc n) handle h = one_more ys x n handle h
+
+holds_async : (r : Roster) (handle callback : ℕ) → record_of r.handles handle ≡ None → Holds r (with_async callback r handle)
+holds_async r handle callback none = record {
+  callbacks = refl;
+  asyncs = λ async_no other h. one_more r.asyncs (Some handle) async_no other h;
+  closing = λ other h. start_closing (with_record r.handles handle (new_record kind.Async)) handle callback 0 0 other (made_closing r.handles handle kind.Async none other h);
+}
+
+-- the answers of handles' calls
+holds_makes : (made : Roster → ℕ → Roster) (r : Roster) (answer : ℕ) (u : Roster) → (record_of r.handles answer ≡ None → Holds r (made r answer)) → Makes made r answer u → Holds r u
+holds_makes made r answer u holds =
+    either (finite.len r.handles.records == MAX_HANDLES) _ _ _
+    (λ h. holds_same r u h.1)
+    (λ h. subst (Holds r) (sym h.2) (holds h.1))
+
+holds_made : (k : Kind) (r : Roster) (answer : ℕ) (u : Roster) → Makes (with_made k) r answer u → Holds r u
+holds_made k r answer u = holds_makes (with_made k) r answer u (λ none. holds_handles r (with_record r.handles answer (new_record k)) (made_closing r.handles answer k none))
+
+holds_made_async : (callback : ℕ) (r : Roster) (answer : ℕ) (u : Roster) → MakesAsync callback r answer u → Holds r u
+holds_made_async callback r answer u =
+    either (not (is_callback r callback)) _ _ _ (λ h. holds_same r u h.1)
+    (either (length r.asyncs == MAX_ASYNCS) _ _ _ (λ h. holds_same r u h.1)
+    (holds_makes (with_async callback) r answer u (holds_async r answer callback)))
+
+module _ (r : Roster) where
+  abbrev HoldsAfter : ℕ × Roster → Type 0
+  HoldsAfter p = Holds r p.1
+
+  refused_or : (b : Bool) (done : ℕ × Roster) → HoldsAfter done → HoldsAfter (cond b (invalid, r) done)
+  refused_or b done h = choose HoldsAfter b (invalid, r) done (λ _. holds_same r r refl) (λ _. h)
+
+  holds_stopped : (k : Kind) (handle : ℕ) → HoldsAfter (stopped_in k handle r)
+  holds_stopped k handle =
+      refused_or (not (is_open_of k r handle)) _ (holds_handles r (after_stop r.handles handle) (stop_closing r.handles handle))
+
+  holds_started : (k : Kind) (handle callback due repeat : ℕ) → HoldsAfter (started_in k handle callback due repeat r)
+  holds_started k handle callback due repeat =
+      refused_or (not (is_open_of k r handle)) _
+      (refused_or (not (is_callback r callback)) _
+      (holds_handles r (after_start r.handles handle callback due repeat) (start_closing r.handles handle callback due repeat)))
+
+  holds_again : (handle now : ℕ) → HoldsAfter (again_in handle now r)
+  holds_again handle now =
+      refused_or (not (is_open_of kind.Timer r handle)) _
+      (refused_or (not (was_started r.handles handle)) _
+      (holds_handles r (after_again r.handles handle now) (again_closing r.handles handle now)))
+
+  holds_closed : (handle callback : ℕ) → HoldsAfter (closed_in handle callback r)
+  holds_closed handle callback =
+      refused_or (not (is_open r handle)) _
+      (refused_or (not (is_callback r callback)) (0, record r { handles = after_close r.handles handle callback; closing = r.closing ++ handle ∷ [] })
+      (record {
+        callbacks = refl;
+        asyncs = λ async_no other h. h;
+        closing = close_closing r.handles handle callback;
+      }))
+
+-- the answers of requests' calls
+module _ {S : Type 0} (calls : Calls S) where
+  won_or_not : (rs us : Requests) (number : ℕ) (won : Bool) → us ≡ (cond won (with_stage rs number Cancelled) rs) → Settles rs us
+  won_or_not rs us number true e = subst (Settles rs) (sym e) (settles_stage rs number Cancelled refl)
+  won_or_not rs us number false e = settles_same rs us e
+
+  cancels_at : (at : CancelState) (old : Requests × S) (number answer : ℕ) (new : Requests × S) → CancelsAt calls at old number answer new → Settles old.0 new.0
+  cancels_at Unknown old number answer new h = settles_same old.0 new.0 (ap (λ p. p.0) h.1)
+  cancels_at cancel_state.Answered old number answer new h = settles_same old.0 new.0 (ap (λ p. p.0) h.1)
+  cancels_at (Pending slot) old number answer new h = won_or_not old.0 new.0 number h.0 h.3
+
+  pub settles_cancel : (old : Requests × S) (number answer : ℕ) (new : Requests × S) → Cancels calls old number answer new → Settles old.0 new.0
+  settles_cancel old number answer new h = cancels_at _ old number answer new h
+
+  settles_queue : (g : Setting) (memory : List ℕ) (old : Requests × S) (op place count answer : ℕ) (new : Requests × S) → QueuesWork calls g memory old op place count answer new → Settles old.0 new.0
+  settles_queue g memory old op place count answer new =
+      either (not (exports g.loaded.contents (codes "uv_work") && exports g.loaded.contents (codes "uv_after_work"))) _ _ _ same
+      (either (nat_lt MAX_BYTES count) _ _ _ same
+      (either (nat_lt (length memory) (place + count)) _ _ _ same
+      (either (length old.0.outstanding == MAX_REQUESTS) _ _ _ same
+      (either (old.0.last == 2147483647) _ _ _ same
+      opened)))) where
+        same : {P : Type 0} → P × (new ≡ old) → Settles old.0 new.0
+        same h = settles_same old.0 new.0 (ap (λ p. p.0) h.1)
+
+        opened : {P : Type 0} → (P × (new ≡ old)) ⊎ Opens calls g old op (taken_out place count memory) answer new → Settles old.0 new.0
+        opened (inl h) = same h
+        opened (inr h) = subst (Settles old.0) (sym h.kept) (settles_work old.0 (next_work g old.0 h.slot op (taken_out place count memory)))
+
+-- each call of a guest
+module _ {S : Type 0} (calls : Calls S) (g : Setting) (old : State × S) (call : HostCall) (new : State × S) where
+  to_state : (t : State) → new.0 ≡ t → Grows old.0 t → Grows old.0 new.0
+  to_state t e h = subst (Grows old.0) (sym e) h
+
+  stays : new.0 ≡ old.0 → Grows old.0 new.0
+  stays e = to_state old.0 e (grows_refl old.0)
+
+  does : (done : ℕ × State) → Grows old.0 done.1 → Does calls g old call new done → Grows old.0 new.0
+  does done grows h = to_state done.1 (ap (λ p. p.0) h.1) grows
+
+  does_to : (done : ℕ × Roster) → Holds old.0.roster done.1 → DoesTo calls g old call new done → Grows old.0 new.0
+  does_to done holds = does (done.0, with_roster old.0 done.1) (grows_roster old.0 done.1 holds)
+
+  relates : (R : ℕ → Roster → Type 0) → ((answer : ℕ) (u : Roster) → R answer u → Holds old.0.roster u) → Relates calls g old call new R → Grows old.0 new.0
+  relates R holds h = to_state (with_roster old.0 h.1) (ap (λ p. p.0) h.4) (grows_roster old.0 h.1 (holds h.0 h.1 h.2))
+
+  relates_work : (R : ℕ → Requests × S → Type 0) → ((answer : ℕ) (us : Requests) → R answer (us, new.1) → Settles old.0.requests us) → RelatesWork calls g old call new R → Grows old.0 new.0
+  relates_work R settles h = to_state (with_requests old.0 h.1) h.4 (grows_requests old.0 h.1 (settles h.0 h.1 h.2))
+
+  emits : (value : ℕ) → Grows old.0 (emitted_in value old.0).1
+  emits value =
+      choose (λ (p : ℕ × State). Grows old.0 p.1) (nat_le MAX_EMITS (length old.0.emits)) (none_left, old.0) (0, record old.0 { emits = old.0.emits ++ value ∷ [] })
+      (λ _. grows_refl old.0)
+      (λ _. grows_same old.0 (record old.0 { emits = old.0.emits ++ value ∷ [] }) refl refl refl refl)
+
+  call_grows : (f : Call) (args : List Value) → CallStep calls g old call new f args → Grows old.0 new.0
+  call_grows Now [] h = stays (ap (λ p. p.0) h.2)
+  call_grows TimerInit [] h = relates _ (holds_made kind.Timer old.0.roster) h
+  call_grows IdleInit [] h = relates _ (holds_made kind.Idle old.0.roster) h
+  call_grows CheckInit [] h = relates _ (holds_made kind.Check old.0.roster) h
+  call_grows TimerStart (I32 handle ∷ I32 callback ∷ I64 timeout ∷ I64 repeat ∷ []) h =
+      does_to _ (holds_started old.0.roster kind.Timer handle callback (saturated (old.0.now + timeout)) repeat) h
+  call_grows TimerStop (I32 handle ∷ []) h = does_to _ (holds_stopped old.0.roster kind.Timer handle) h
+  call_grows IdleStop (I32 handle ∷ []) h = does_to _ (holds_stopped old.0.roster kind.Idle handle) h
+  call_grows CheckStop (I32 handle ∷ []) h = does_to _ (holds_stopped old.0.roster kind.Check handle) h
+  call_grows TimerAgain (I32 handle ∷ []) h = does_to _ (holds_again old.0.roster handle old.0.now) h
+  call_grows IdleStart (I32 handle ∷ I32 callback ∷ []) h = does_to _ (holds_started old.0.roster kind.Idle handle callback 0 0) h
+  call_grows CheckStart (I32 handle ∷ I32 callback ∷ []) h = does_to _ (holds_started old.0.roster kind.Check handle callback 0 0) h
+  call_grows AsyncInit (I32 callback ∷ []) h = relates _ (holds_made_async callback old.0.roster) h
+  call_grows AsyncSend (I32 handle ∷ []) h = stays h.3
+  call_grows IsActive (I32 handle ∷ []) h = does _ (grows_refl old.0) h
+  call_grows Close (I32 handle ∷ I32 callback ∷ []) h = does_to _ (holds_closed old.0.roster handle callback) h
+  call_grows QueueWork (I32 op ∷ I32 place ∷ I32 count ∷ []) h =
+      relates_work (QueuesWork calls g call.before (old.0.requests, old.1) op place count) (λ answer us. settles_queue calls g call.before (old.0.requests, old.1) op place count answer (us, new.1)) h
+  call_grows Cancel (I32 number ∷ []) h = relates_work (Cancels calls (old.0.requests, old.1) number) (λ answer us. settles_cancel calls (old.0.requests, old.1) number answer (us, new.1)) h
+  call_grows InLen [] h = does _ (grows_refl old.0) h
+  call_grows InCopy (I32 to ∷ I32 from ∷ I32 count ∷ []) h = stays (ap (λ p. p.0) h.1)
+  call_grows OutSet (I32 place ∷ I32 count ∷ []) h = does _ (grows_refl old.0) h
+  call_grows Emit (I64 value ∷ []) h = does _ (emits value) h
+  call_grows _ _ h = absurd h
+
+  pub host_grows : HostStep calls g old call new → Grows old.0 new.0
+  host_grows h = call_grows h.0 call.args h.2
+
+pub trace_grows : {S : Type 0} (calls : Calls S) (g : Setting) (trace : List HostCall) (old new : State × S) → Lawful (HostStep calls g) trace old new → Grows old.0 new.0
+trace_grows calls g [] old new h = grows_same old.0 new.0 (ap (λ p. p.0.list) h) (ap (λ p. p.0.phase) h) (ap (λ p. p.0.roster) h) (ap (λ p. p.0.requests) h)
+trace_grows calls g (call ∷ trace) old new h =
+    grows_on old.0 h.0.0 new.0 (host_grows calls g old call h.0 h.1) (trace_grows calls g trace h.0 new h.2)

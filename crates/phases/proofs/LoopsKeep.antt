@@ -1,0 +1,281 @@
+-- What a loop keeps as a callback runs, and as entries are taken off its list.
+use Rattle.std.proofs.Common.{◌≡◌, ℕ, ◌≤◌, Bool, true, false, cond, not, ◌&&◌, List, [], ◌∷◌, drop, Option, Some, None, refl, sym, ap, subst, ◌∙◌, map, slice_get, codes, MatchOption, MatchBool, Result, Ok, Err, OnOk, IfErr, ◌==◌, ◌⊎◌, inl, inr, arith, IfSome}
+use Rattle.std.proofs.lemmas.Bool.{eqb-true}
+use Rattle.std.specs.Option.{option_map, option_map_or, option_and_then, is_some}
+use Rattle.std.proofs.lemmas.Option.{slice_get-map}
+use Rattle.limits.specs.declared.TheConstants.{MAX_DEPTH}
+use Rattle.syntax.specs.Loaded.{Loaded}
+use Rattle.syntax.specs.declared.contents.Contents.{Contents}
+use Rattle.syntax.specs.declared.contents.FuncType.{FuncType}
+use Rattle.syntax.specs.declared.types.ValType.{ValType}
+use Rattle.syntax.specs.declared.types.ValType.TheVariants as valtype
+use Rattle.syntax.specs.declared.types.Value.{Value}
+use Rattle.syntax.specs.declared.types.Value.TheVariants.{I32}
+use Rattle.validate.specs.Typing.{type_of_function}
+use Rattle.validate.specs.Typing.{function_types, type_of, HasFunctionType}
+use Rattle.handles.specs.Table.{record_of, empty_table}
+use Rattle.handles.specs.declared.handle.Record.{Record}
+use Rattle.instance.specs.Fresh.{fresh_store}
+use Rattle.instance.specs.Store.{Store}
+use Rattle.interp.specs.Hosting.{Lawful, Names}
+use Rattle.interp.specs.Invoking.{Invokes, Invoked, TakesArguments}
+use Rattle.interp.specs.Running.{end_of_run}
+use Rattle.instance.specs.Storing.{IsStoreOf}
+use Rattle.interp.specs.declared.ended.Ended.{Ended}
+use Rattle.imports.specs.Linking.{IsLinked, ExportsFunction, ExportsNothing}
+use Rattle.order.specs.Inner.Hosting.{import_types}
+use Rattle.order.specs.Orders.{order_of}
+use Rattle.order.specs.declared.order.Order.{Order}
+use Rattle.phases.specs.declared.did.StepDid.TheVariants.{Ran}
+use Rattle.phases.specs.declared.entry.EntryKind.{EntryKind}
+use Rattle.phases.specs.declared.entry.Status.{Status}
+use Rattle.phases.specs.declared.entry.Status.TheVariants.{Running, Over, Failed}
+use Rattle.phases.specs.Calls.{Calls, IsLawful}
+use Rattle.phases.specs.Outside.{CancelIn, next_in, next_of, next_order_of}
+use Rattle.phases.specs.Requests.{Requests, Request, Completion, completion_of}
+use Rattle.phases.specs.View.{AreOpenedUpTo}
+use Rattle.phases.specs.Host.{HostStep, Cancels, cancel_state_of, with_requests}
+use Rattle.phases.specs.Inner.Hosting.{Answered}
+use Rattle.phases.specs.Keeping.{Keeps, IsOrderOf, AreOrdersOf}
+use Rattle.phases.specs.PhaseList.{may_end, is_alive, exports, first_list, begin_list}
+use Rattle.phases.specs.Inner.Ready.{AreReady, Grows}
+use Rattle.phases.specs.Roster.{Roster, callback_in, callbacks_of, callback_function, in_table, takes_one_number, opening_roster}
+use Rattle.phases.specs.State.{Setting, State, Loop, opening}
+use Rattle.phases.specs.Step.{RunsFrom, begun, finished, turn, handle_function}
+use Rattle.phases.proofs.GuestCallsKeepListed.{grows_on, trace_grows}
+use Rattle.phases.proofs.PhaseListsAreReady.{ready_opening}
+use Rattle.phases.proofs.HostExports.{found_exports}
+use Rattle.phases.proofs.GuestCallsKeep.{served, cancels_at_upto}
+use Rattle.phases.proofs.OwnerCallsKeepListed.{grows_begun, grows_finished}
+use Rattle.phases.proofs.ListedStaysReady.{ready_on}
+use Rattle.phases.proofs.Runnable.{orders_run, cancelled_orders, handed_order}
+
+-- as the state grows
+pub kept_on : (l : Loaded) (g : Setting) (s u : State) (t : Store) → Keeps l g s t → Grows s u → AreOrdersOf g u.requests → Keeps l g u t
+kept_on l g s u t keeps grows orders = record {
+  same = keeps.same;
+  depth = keeps.depth;
+  store = keeps.store;
+  callbacks = grows.callbacks ∙ keeps.callbacks;
+  ready = ready_on g.loaded.contents s u grows keeps.ready;
+  orders = orders;
+}
+
+-- with another list
+pub kept_with : (l : Loaded) (g : Setting) (s u : State) (t : Store) → Keeps l g s t → u.roster.callbacks ≡ s.roster.callbacks → AreReady g.loaded.contents u → AreOrdersOf g u.requests → Keeps l g u t
+kept_with l g s u t keeps callbacks ready orders = record {
+  same = keeps.same;
+  depth = keeps.depth;
+  store = keeps.store;
+  callbacks = callbacks ∙ keeps.callbacks;
+  ready = ready;
+  orders = orders;
+}
+
+-- a turn leaves handles and requests
+pub turn_leaves : (s : State) → ((turn s).1.roster ≡ s.roster) × ((turn s).1.requests ≡ s.requests)
+turn_leaves s = by_end (may_end s.phase && not (is_alive s)) refl where
+  by_end : (b : Bool) → (may_end s.phase && not (is_alive s)) ≡ b → ((turn s).1.roster ≡ s.roster) × ((turn s).1.requests ≡ s.requests)
+  by_end true e = rw e (refl, refl)
+  by_end false e = rw e (refl, refl)
+
+-- the front of a list
+pub front_of : {X : Type 0} (xs : List X) (x : X) → slice_get xs 0 ≡ Some x → xs ≡ x ∷ drop 1 xs
+front_of [] x h = absurd (cc)
+front_of (y ∷ ys) x h = let same : y ≡ x = cc in ap (λ z. z ∷ ys) same
+
+pub no_front : {X : Type 0} (xs : List X) → slice_get xs 0 ≡ None → xs ≡ []
+no_front [] h = refl
+no_front (y ∷ ys) h = absurd (cc)
+
+-- the types of a module's imports
+pub names_of : (v d l h : Loaded) → v ≡ d → d ≡ l → l ≡ h → Names d.contents (import_types d.contents) → Names v.contents (import_types h.contents)
+names_of v d l h a b e n =
+    subst (λ (x : Loaded). Names x.contents (import_types h.contents)) (sym a) (subst (λ (x : Loaded). Names d.contents (import_types x.contents)) (b ∙ e) n)
+
+-- a function of this type takes these arguments
+has_type : (m : Contents) (f : ℕ) (type : FuncType) → type_of_function m f ≡ Some type → HasFunctionType m f type
+has_type m f type h = found (slice_get (function_types m) f) refl h where
+  found : (o : Option ℕ) → slice_get (function_types m) f ≡ o → option_and_then (slice_get m.types) o ≡ Some type → HasFunctionType m f type
+  found None e k = absurd (cc)
+  found (Some t) e k = (t, e, k)
+
+pub takes : (m : Contents) (f : ℕ) (type : FuncType) (args : List Value) → type_of_function m f ≡ Some type → map type_of args ≡ type.params → TakesArguments m f args
+takes m f type args h fit = record { type = type; known = has_type m f type h; fit = fit }
+
+-- a callback takes the number of its handle
+module _ (m : Contents) (f n : ℕ) where
+  by_types : (params results : List ValType) → takes_one_number params results ≡ true → params ≡ valtype.I32 ∷ []
+  by_types [] results h = absurd (cc)
+  by_types (valtype.I32 ∷ []) results h = refl
+  by_types (valtype.I32 ∷ p ∷ params) results h = absurd (cc)
+  by_types (valtype.I64 ∷ params) results h = absurd (cc)
+
+  typed : (o : Option FuncType) (k : ℕ) → type_of_function m k ≡ o → (cond (option_map_or (λ t. takes_one_number t.params t.results) o false) (Some k) None) ≡ Some f → TakesArguments m f (I32 n ∷ [])
+  typed None k e h = absurd (cc)
+  typed (Some t) k e h = chosen (takes_one_number t.params t.results) refl h where
+    chosen : (b : Bool) → takes_one_number t.params t.results ≡ b → (cond b (Some k) None) ≡ Some f → TakesArguments m f (I32 n ∷ [])
+    chosen false is found = absurd (cc)
+    chosen true is found =
+        let same : k ≡ f = cc in
+        takes m f t (I32 n ∷ []) (subst (λ i. type_of_function m i ≡ Some t) same e) (sym (by_types t.params t.results is))
+
+  of_element : (o : Option ℕ) → callback_in m o ≡ Some f → TakesArguments m f (I32 n ∷ [])
+  of_element None h = absurd (cc)
+  of_element (Some k) h = typed (type_of_function m k) k refl h
+
+  of_found : (o : Option (Option ℕ)) → in_table (option_map (callback_in m) o) ≡ Some f → TakesArguments m f (I32 n ∷ [])
+  of_found None h = absurd (cc)
+  of_found (Some element) h = of_element element h
+
+  of_callback : (at : ℕ) → callback_function (callbacks_of m) at ≡ Some f → TakesArguments m f (I32 n ∷ [])
+  of_callback at h = of_found (slice_get (fresh_store m).table at) (subst (λ o. in_table o ≡ Some f) (slice_get-map (callback_in m) (fresh_store m).table at) h)
+
+  pub handle_takes : (r : Roster) (handle : ℕ) → r.callbacks ≡ callbacks_of m → handle_function r handle ≡ Some f → TakesArguments m f (I32 n ∷ [])
+  handle_takes r handle same h = of_record (record_of r.handles handle) h where
+    of_record : (o : Option Record) → option_and_then (λ it. callback_function r.callbacks it.callback) o ≡ Some f → TakesArguments m f (I32 n ∷ [])
+    of_record None k = absurd (cc)
+    of_record (Some it) k = of_callback it.callback (subst (λ cs. callback_function cs it.callback ≡ Some f) same k)
+
+-- a callback that ran on the host of a loop
+module _ {G S : Type 0} (calls : Calls S) (setting : G → Setting) (standing : G → State × S) (l v : Loaded) (is : v ≡ l) (g : Setting) (old : Loop S) (keeps : Keeps l g old.state old.store) (before after : G) (made : setting before ≡ g) (reply : Option (List ℕ)) (begins : standing before ≡ (begun old.state reply, old.shared)) (t : Store) (function : ℕ) (args : List Value) (ended : Ended) (h : Invoked v.contents g.depth g.fuel (Answered calls setting standing) old.store before function args ended t after) where
+  trace_of : Lawful (HostStep calls g) h.trace (begun old.state reply, old.shared) (standing after)
+  trace_of =
+      let it = served calls setting standing h.trace before after h.lawful in
+      subst (λ (p : State × S). Lawful (HostStep calls g) h.trace p (standing after)) begins
+      (subst (λ (x : Setting). Lawful (HostStep calls x) h.trace (standing before) (standing after)) made it.answers)
+
+  pub same_setting : setting after ≡ g
+  same_setting = (served calls setting standing h.trace before after h.lawful).same ∙ made
+
+  pub runs_from : (kind : EntryKind) (number : ℕ) (last : State) → last ≡ finished (standing after).0 ended
+      → RunsFrom calls g old kind number function args reply (Ran kind number ended) (record { state = last; store = t; shared = (standing after).1 })
+  runs_from kind number last e = record {
+    trace = h.trace;
+    ended = ended;
+    state = (standing after).0;
+    run = subst (λ (x : Loaded). Invokes x.contents g.depth g.fuel old.store function args h.trace (end_of_run ended.ending) ended.used t) (is ∙ keeps.same) h.invokes;
+    answers = trace_of;
+    told = refl;
+    finished = e;
+  }
+
+  pub kept_after : IsLinked v.contents → IsStoreOf v.contents t → (last : State) → last ≡ finished (standing after).0 ended → Keeps l g last t
+  kept_after linked fits last e =
+      let u : State = (standing after).0 in
+      let grows : Grows old.state (finished u ended) = grows_on old.state (begun old.state reply) (finished u ended) (grows_begun old.state reply)
+      (grows_on (begun old.state reply) u (finished u ended) (trace_grows calls g h.trace (begun old.state reply, old.shared) (standing after) trace_of) (grows_finished u ended)) in
+      let orders : AreOrdersOf g u.requests =
+      orders_run g (subst (λ (x : Loaded). IsLinked x.contents) (is ∙ keeps.same) linked) keeps.depth calls h.trace (begun old.state reply, old.shared) (standing after) trace_of keeps.orders in
+      let there : Keeps l g (finished u ended) old.store = kept_on l g old.state (finished u ended) old.store keeps grows orders in
+      subst (λ (s : State). Keeps l g s t) (sym e) (record {
+        same = there.same;
+        depth = there.depth;
+        store = subst (λ (x : Loaded). IsStoreOf x.contents t) (is ∙ keeps.same) fits;
+        callbacks = there.callbacks;
+        ready = there.ready;
+        orders = there.orders;
+      })
+
+-- a reply that is taken, or is not
+pub by_reply : {T E : Type 0} (P : State → Type 0) (X Y : E → Type 0) (r : Result T E) (a s u : State) → P a → P s → OnOk r (u ≡ a) → IfErr r (λ e. X e × (u ≡ s) × Y e) → P u
+by_reply P X Y (Ok x) a s u pa ps ok err = subst P (sym ok) pa
+by_reply P X Y (Err e) a s u pa ps ok err = subst P (sym err.1) ps
+
+-- the owner's cancel
+module _ {S : Type 0} (calls : Calls S) (lawful : IsLawful calls) where
+  pub cancel_upto : (status : Status) (old new : State × S) (number answer : ℕ) → CancelIn calls status old number answer new
+      → AreOpenedUpTo old.0.requests.last (calls.view old.1) → AreOpenedUpTo new.0.requests.last (calls.view new.1)
+  cancel_upto Failed old new number answer h upto = subst (λ (p : State × S). AreOpenedUpTo p.0.requests.last (calls.view p.1)) (sym h.1) upto
+  cancel_upto Running old new number answer h upto =
+      subst (λ (s : State). AreOpenedUpTo s.requests.last (calls.view new.1)) (sym h.2)
+      (cancels_at_upto calls lawful (cancel_state_of old.0.requests number) (old.0.requests, old.1) (h.0, new.1) number answer h.1 upto)
+  cancel_upto Over old new number answer h upto =
+      subst (λ (s : State). AreOpenedUpTo s.requests.last (calls.view new.1)) (sym h.2)
+      (cancels_at_upto calls lawful (cancel_state_of old.0.requests number) (old.0.requests, old.1) (h.0, new.1) number answer h.1 upto)
+
+pub cancel_orders : {S : Type 0} (calls : Calls S) (g : Setting) (status : Status) (old new : State × S) (number answer : ℕ) → CancelIn calls status old number answer new
+    → AreOrdersOf g old.0.requests → AreOrdersOf g new.0.requests
+cancel_orders {S} calls g Failed old new number answer h k = subst (λ (p : State × S). AreOrdersOf g p.0.requests) (sym h.1) k
+cancel_orders calls g Running old new number answer h k =
+    subst (λ (s : State). AreOrdersOf g s.requests) (sym h.2)
+    (cancelled_orders g calls (cancel_state_of old.0.requests number) (old.0.requests, old.1) (h.0, new.1) number answer h.1 k)
+cancel_orders calls g Over old new number answer h k =
+    subst (λ (s : State). AreOrdersOf g s.requests) (sym h.2)
+    (cancelled_orders g calls (cancel_state_of old.0.requests number) (old.0.requests, old.1) (h.0, new.1) number answer h.1 k)
+
+-- what is exported is found
+pub not_missing : (d l : Loaded) (g : Setting) → d ≡ l → l ≡ g.loaded → (name : List ℕ) (o : Option ℕ) → MatchOption o (ExportsNothing d.contents name) (ExportsFunction d.contents name)
+    → o ≡ None → exports g.loaded.contents name ≡ true → ⊥
+not_missing d l g a b name o found none there =
+    let known : is_some o ≡ exports d.contents name = found_exports d.contents name o found in
+    let same : exports d.contents name ≡ exports g.loaded.contents name = ap (λ (x : Loaded). exports x.contents name) (a ∙ b) in
+    let nothing : false ≡ is_some o = ap is_some (sym none) in
+    absurd (let it : false ≡ true = nothing ∙ (known ∙ (same ∙ there)) in cc)
+
+-- an after-work callback is told what became of its request
+pub told_of : (o : Option Request) (t : Completion) (A : Option Completion → Type 0) → MatchOption o ⊥ (λ r. completion_of r.stage ≡ Some t) → A (Some t) → MatchOption o ⊥ (λ r. A (completion_of r.stage))
+told_of None t A h a = absurd h
+told_of (Some r) t A h a = subst A (sym h) a
+
+-- an async that is active
+pub active_step : (o : Option ℕ) (handle : ℕ) (active : ℕ → Bool) (T U : ℕ → Type 0) → o ≡ Some handle → active handle ≡ true → T handle → MatchOption o ⊥ (λ h. MatchBool (active h) (T h) (U h))
+active_step None handle active T U is on t = absurd (cc)
+active_step (Some h) handle active T U is on t =
+    let same : handle ≡ h = cc in
+    subst (λ n. MatchBool (active n) (T n) (U n)) same (subst (λ b. MatchBool b (T handle) (U handle)) (sym on) t)
+
+pub none_taken : (count : ℕ) (P Q : Type 0) → count ≡ 0 → P → MatchBool (count == 0) P Q
+none_taken count P Q is p = subst (λ n. MatchBool (n == 0) P Q) (sym is) p
+
+-- a loop that has not failed
+pub next_unfailed : (s : State) → (s.status ≡ Running) ⊎ (s.status ≡ Over) → next_order_of s ≡ ((next_of s.requests).0, with_requests s (next_of s.requests).1)
+next_unfailed s (inl e) = ap (λ status. next_in status s) e
+next_unfailed s (inr e) = ap (λ status. next_in status s) e
+
+pub cancel_unfailed : {S : Type 0} (calls : Calls S) (status : Status) (old new : State × S) (number answer : ℕ) → (status ≡ Running) ⊎ (status ≡ Over)
+    → (requests : Requests) × Cancels calls (old.0.requests, old.1) number answer (requests, new.1) × (new.0 ≡ with_requests old.0 requests)
+    → CancelIn calls status old number answer new
+cancel_unfailed calls status old new number answer (inl e) h = subst (λ (x : Status). CancelIn calls x old number answer new) (sym e) h
+cancel_unfailed calls status old new number answer (inr e) h = subst (λ (x : Status). CancelIn calls x old number answer new) (sym e) h
+
+-- a new loop
+pub new_state : (m : Contents) (s : State) (callbacks : List (Option ℕ)) (start main : Bool)
+    → s ≡ opening (record { handles = empty_table; asyncs = []; closing = []; callbacks = callbacks }) (first_list start main)
+    → callbacks ≡ callbacks_of m → start ≡ is_some m.start → main ≡ exports m (codes "uv_main") → s ≡ opening (opening_roster m) (begin_list m)
+new_state m s callbacks start main e a b d =
+    e ∙ (λ i. opening (record { handles = empty_table; asyncs = []; closing = []; callbacks = a i }) (first_list (b i) (d i)))
+
+pub kept_new : (l : Loaded) (g : Setting) (s : State) (t : Store) → l ≡ g.loaded → (1 ≤ g.depth) × (g.depth ≤ MAX_DEPTH) → IsStoreOf l.contents t
+    → s ≡ opening (opening_roster l.contents) (begin_list l.contents) → Keeps l g s t
+kept_new l g s t same depth fits is =
+    let opened : s ≡ opening (opening_roster g.loaded.contents) (begin_list g.loaded.contents) = is ∙ ap (λ (x : Loaded). opening (opening_roster x.contents) (begin_list x.contents)) same in
+    subst (λ (u : State). Keeps l g u t) (sym opened) (record {
+      same = same;
+      depth = depth;
+      store = subst (λ (x : Loaded). IsStoreOf x.contents t) same fits;
+      callbacks = refl;
+      ready = ready_opening g.loaded.contents (opening_roster g.loaded.contents);
+      orders = λ i d h. absurd (omega arith);
+    })
+
+pub some_taken : (count : ℕ) (P Q : Type 0) → (count ≡ 0 → ⊥) → Q → MatchBool (count == 0) P Q
+some_taken count P Q more q = chosen (count == 0) refl where
+  chosen : (b : Bool) → (count == 0) ≡ b → MatchBool b P Q
+  chosen true is = absurd (more (eqb-true count 0 is))
+  chosen false is = q
+
+pub called : (o : Option ℕ) (f : ℕ) (P : ℕ → Type 0) → o ≡ Some f → P f → MatchOption o ⊥ P
+called o f P is h = subst (λ x. MatchOption x ⊥ P) (sym is) h
+
+pub same_some : (o : Option ℕ) (a b : ℕ) → o ≡ Some a → o ≡ Some b → a ≡ b
+same_some o a b h k = cc
+
+-- what is handed out is an order of the loop
+pub own_order : (g : Setting) (s : State) (o : Option Order) → option_map order_of o ≡ (next_order_of s).0 → AreOrdersOf g s.requests → IfSome o (λ x. IsOrderOf g (order_of x))
+own_order g s None h k = tt
+own_order g s (Some o) h k = handed_order g s (order_of o) (sym h) k
+
+pub own_of : (P : Order → Type 0) (g : Setting) (o : Option Order) → ((x : Order) → IsOrderOf g (order_of x) → P x) → IfSome o (λ x. IsOrderOf g (order_of x)) → IfSome o P
+own_of P g None f h = tt
+own_of P g (Some o) f h = f o h

@@ -1,0 +1,140 @@
+-- A send of another thread moves behind the accesses of the loop that take nothing.
+use Rattle.std.proofs.Common.{◌≡◌, ℕ, zero, suc, ◌<◌, Bool, true, false, List, sum, [], ◌∷◌, ◌++◌, refl, sym, ap, subst, ◌∙◌, append_assoc, append-nil}
+use Rattle.limits.specs.declared.TheConstants.{MAX_ASYNCS, MAX_SENDS}
+use Rattle.instance.specs.Store.{Store}
+use Rattle.phases.specs.declared.did.StepDid.{StepDid}
+use Rattle.phases.specs.State.{Setting, State, Loop}
+use Rattle.tallies.specs.Counts.{raised}
+use Rattle.tallies.specs.Requests.{times}
+use Rattle.desk.specs.Desk.{Desk, is_open, opened, cancelled, found_started, started, sent_own, sent_by_another, DeskCancels, DeskSends, DeskGets}
+use Rattle.schedules.specs.Accesses.{Access, Opens, Cancels, Sends, Takes, Moves, listed_calls, over, StepsBy}
+use Rattle.schedules.proofs.StepsOverAnother.{IsMirrored, Anyhow, step_mirrors}
+use Rattle.schedules.proofs.StepsByAccess.{written_calls}
+
+-- others sent to these asyncs, one after another
+abbrev pub Gets : Desk → List ℕ → Desk → Type 0
+Gets d [] e = e ≡ d
+Gets d (a ∷ late) e = (mid : Desk) × (a < MAX_ASYNCS) × DeskGets d a true mid × Gets mid late e
+
+pub gets_more : (d mid e : Desk) (late : List ℕ) (a : ℕ) → Gets d late mid → a < MAX_ASYNCS → DeskGets mid a true e → Gets d (late ++ a ∷ []) e
+gets_more d mid e [] a h below moves = (e, below, subst (λ x. DeskGets x a true e) h moves, refl)
+gets_more d mid e (b ∷ late) a h below moves = (h.0, h.1, h.2, gets_more h.0 mid e late a h.3 below moves)
+
+-- what is open stays so, and a start is the same before and behind
+pub gets_open : (c : ℕ × ℕ) (d e : Desk) (late : List ℕ) → Gets d late e → is_open e c ≡ is_open d c
+gets_open c d e [] h = ap (λ x. is_open x c) h
+gets_open c d e (a ∷ late) h = gets_open c h.0 e late h.3 ∙ ap (λ x. is_open x c) h.2.1
+
+pub gets_started : (c : ℕ × ℕ) (d e : Desk) (late : List ℕ) → Gets d late e → Gets (started d c) late (started e c)
+gets_started c d e [] h = ap (λ x. started x c) h
+gets_started c d e (a ∷ late) h = (started h.0 c, h.1, (h.2.0, ap (λ x. started x c) h.2.1), gets_started c h.0 e late h.3)
+
+-- the access takes nothing
+abbrev pub IsNoTake : Access → Type 0
+IsNoTake (Takes async_no count) = ⊥
+IsNoTake _ = Unit {0}
+
+raise_both : (xs : List ℕ) (a b : ℕ) → raised (raised xs a 1) b 1 ≡ raised (raised xs b 1) a 1
+raise_both [] a b = refl
+raise_both (x ∷ xs) zero zero = refl
+raise_both (x ∷ xs) zero (suc b) = refl
+raise_both (x ∷ xs) (suc a) zero = refl
+raise_both (x ∷ xs) (suc a) (suc b) = ap (λ ys. x ∷ ys) (raise_both xs a b)
+
+-- the access goes first
+abbrev pub First : Desk → ℕ → Access → Desk → Type 0
+First d b a e = (mid : Desk) × Moves d a mid × DeskGets mid b true e
+
+module _ (d m e : Desk) (b : ℕ) (got : DeskGets d b true m) where
+  cancels_first : (slot request : ℕ) (won : Bool) → DeskCancels m (slot, request) won e → First d b (Cancels slot request won) e
+  cancels_first slot request true h = (
+    cancelled d (slot, request),
+    (h.0 ∙ ap (λ x. is_open x (slot, request)) got.1, (subst (λ (x : Desk). times (slot, request) x.view.found_started ≡ 0) got.1 h.1.0, refl)),
+    (got.0, h.1.1 ∙ ap (λ x. cancelled x (slot, request)) got.1),
+  )
+  cancels_first slot request false h = (
+    found_started d (slot, request),
+    (h.0 ∙ ap (λ x. is_open x (slot, request)) got.1, refl),
+    (got.0, h.1 ∙ ap (λ x. found_started x (slot, request)) got.1),
+  )
+
+  sends_first : (a : ℕ) (ok : Bool) → DeskSends m a ok e → First d b (Sends a ok) e
+  sends_first a true h = (
+    sent_own d a,
+    (subst (λ (x : Desk). sum x.view.own < MAX_SENDS) got.1 h.0, refl),
+    (
+      got.0,
+      h.1 ∙ ap (λ x. sent_own x a) got.1
+          ∙ ap (λ xs. record (sent_own (sent_by_another d b) a) { waiting = xs }) (raise_both d.waiting b a),
+    ),
+  )
+  sends_first a false h = (d, (subst (λ (x : Desk). sum x.view.own ≡ MAX_SENDS) got.1 h.0, refl), (got.0, h.1 ∙ got.1))
+
+  one_first : (a : Access) → IsNoTake a → Moves m a e → First d b a e
+  one_first (Opens slot request) quiet h = (opened d (slot, request), refl, (got.0, h ∙ ap (λ x. opened x (slot, request)) got.1))
+  one_first (Cancels slot request won) quiet h = cancels_first slot request won h
+  one_first (Sends a ok) quiet h = sends_first a ok h
+  one_first (Takes a count) quiet h = absurd quiet
+
+pub moves_first : (d m e : Desk) (late : List ℕ) (a : Access) → IsNoTake a → Gets d late m → Moves m a e → (mid : Desk) × Moves d a mid × Gets mid late e
+moves_first d m e [] a quiet h moves = (e, subst (λ x. Moves x a e) h moves, refl)
+moves_first d m e (b ∷ late) a quiet h moves =
+    let rest = moves_first h.0 m e late a quiet h.3 moves in
+    let one = one_first d h.0 rest.0 b h.2 a quiet rest.1 in
+    (one.0, one.1, (rest.0, h.1, one.2, rest.2))
+
+-- a step takes what waits at an async first, or not at all
+abbrev pub NoTakes : List Access → Type 0
+NoTakes [] = Unit {0}
+NoTakes (a ∷ rest) = IsNoTake a × NoTakes rest
+
+abbrev pub TakesFirst : List Access → Type 0
+TakesFirst [] = Unit {0}
+TakesFirst (a ∷ rest) = NoTakes rest
+
+no_takes_push : (done : List Access) (a : Access) → IsNoTake a → NoTakes done → NoTakes (done ++ a ∷ [])
+no_takes_push [] a quiet h = (quiet, tt)
+no_takes_push (x ∷ done) a quiet h = (h.0, no_takes_push done a quiet h.1)
+
+takes_push : (done : List Access) (a : Access) → IsNoTake a → TakesFirst done → TakesFirst (done ++ a ∷ [])
+takes_push [] a quiet h = tt
+takes_push (x ∷ done) a quiet h = no_takes_push done a quiet h
+
+module _ (all : List Access) where
+  abbrev Untouched : (ahead done : List Access) → Type 0
+  Untouched ahead done = (done ≡ []) × (ahead ≡ all)
+
+  abbrev Written : (ahead done : List Access) → Type 0
+  Written ahead done = (done ++ ahead ≡ all) × TakesFirst done
+
+  write : (ahead ahead' done : List Access) (a : Access) → IsNoTake a → Written ahead done → ahead ≡ a ∷ ahead' → (done' : List Access) × (done' ≡ done ++ a ∷ []) × Written ahead' done'
+  write ahead ahead' done a quiet h is = (
+    done ++ a ∷ [],
+    refl,
+    (append_assoc done (a ∷ []) ahead' ∙ ap (λ xs. done ++ xs) (sym is) ∙ h.0, takes_push done a quiet h.1),
+  )
+
+  written : IsMirrored listed_calls written_calls Anyhow Untouched Written
+  written = record {
+    begins = λ ahead done h. (ap (λ xs. xs ++ ahead) h.0 ∙ h.1, subst TakesFirst (sym h.0) tt);
+    opens = λ ahead ahead' done slot request c h is. write ahead ahead' done (Opens slot request) tt h is;
+    cancels = λ ahead ahead' done slot request won c h is. write ahead ahead' done (Cancels slot request won) tt h is;
+    sends = λ ahead ahead' done async_no ok c h is. write ahead ahead' done (Sends async_no ok) tt h is;
+    takes = λ ahead ahead' done async_no count c h is. (
+      Takes async_no count ∷ [],
+      ap (λ xs. xs ++ Takes async_no count ∷ []) (sym h.0),
+      (sym is ∙ h.1, tt),
+    );
+  }
+
+pub takes_first : (g : Setting) (old : Loop Desk) (accesses : List Access) (did : StepDid) (state : State) (store : Store) → StepsBy g old accesses did state store → TakesFirst accesses
+takes_first g old accesses did state store h =
+    let it =
+    step_mirrors listed_calls written_calls g Anyhow (Untouched accesses) (Written accesses) (written accesses) (λ trace before after k c. tt) (over accesses old) did
+    (record { state = state; store = store; shared = [] }) [] tt (refl, refl) h in
+    subst TakesFirst (sym (append-nil it.0) ∙ it.2.0) it.2.1
+
+-- so one that stands behind others takes nothing
+pub no_take_behind : (a b : Access) (done ahead : List Access) → TakesFirst (b ∷ done ++ a ∷ ahead) → IsNoTake a
+no_take_behind a b [] ahead h = h.0
+no_take_behind a b (x ∷ done) ahead h = no_take_behind a x done ahead h.1

@@ -84,7 +84,7 @@ fn run_loops<
 >(
     rt: &H,
     alloc: Global,
-    module: Arc<Linked>,
+    linked: Arc<Linked>,
     serving: Serving,
     is_traced: bool,
     err: &mut E,
@@ -92,13 +92,13 @@ fn run_loops<
 ) -> Result<Vec<Served>, AllocError>
     requires { M.IsAlwaysCallable make.now }
     ensures count { IfOk result (λ served. length served.items ≡ serving.loops) }
-    ensures each { IfOk result (λ served. EachServed (arc_value «module») serving served.items) }
+    ensures each { IfOk result (λ served. EachServed (arc_value linked) serving served.items) }
 {
     if is_traced {
         let trace = Trace::new(alloc, err);
-        return serve_watched(rt, alloc, module, serving, make, &trace);
+        return serve_watched(rt, alloc, linked, serving, make, &trace);
     }
-    serve(rt, alloc, module, serving, make)
+    serve(rt, alloc, linked, serving, make)
 }
 
 /// Runs loops of the module and workers, and writes what each loop did.
@@ -111,18 +111,18 @@ fn serve_module<
 >(
     rt: &H,
     alloc: Global,
-    module: Arc<Linked>,
+    linked: Arc<Linked>,
     service: &Service,
     lines: &mut O,
     err: &mut E,
     make: &M,
 ) -> Result<Status, Failure<'static>>
     requires { M.IsAlwaysCallable make.now }
-    ensures { IfOk result (λ status. status ≡ Status.Done → AreServed service.now (arc_value «module»)) }
+    ensures { IfOk result (λ status. status ≡ Status.Done → AreServed service.now (arc_value linked)) }
 {
-    let same = Arc::try_clone(&module)?;
+    let same = Arc::try_clone(&linked)?;
     let serving = serving_of(service);
-    let served = run_loops(rt, alloc, module, serving, service.is_traced, err, make)?;
+    let served = run_loops(rt, alloc, linked, serving, service.is_traced, err, make)?;
     tell_served(served.as_slice(), lines)?;
     let status = status_of(served.as_slice());
     let teller = Teller {
@@ -157,7 +157,7 @@ pub fn serve_file<
     requires make { M.IsAlwaysCallable make.now }
     ensures { IfOk result (λ status. status ≡ Status.Done → HasServedAll (R.gives reader.now) service.now) }
 {
-    let module = shared(alloc, reader, service.file.as_str(), err)?;
+    let linked = shared(alloc, reader, service.file.as_str(), err)?;
     let mut lines = BufWriter::new(alloc, out)?;
-    serve_module(rt, alloc, module, service, &mut lines, err, make)
+    serve_module(rt, alloc, linked, service, &mut lines, err, make)
 }

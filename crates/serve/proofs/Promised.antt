@@ -9,7 +9,7 @@ use Rattle.serve.specs.Histories.{setting_at}
 use Rattle.serve.specs.Inner.Promises.{IsThreadOf}
 
 pub served_of : (plan : Plan) (k : ℕ) (promise : OfLoop) (s : Served) → IsThreadOf plan k promise
-    → IsServed (setting_at (arc_value promise.plan.now.module) promise.plan.now.serving promise.loop_no) s → IsServed (setting_at (arc_value plan.module) plan.serving k) s
+    → IsServed (setting_at (arc_value promise.plan.now.linked) promise.plan.now.serving promise.loop_no) s → IsServed (setting_at (arc_value plan.linked) plan.serving k) s
 served_of plan k promise s h served =
-    subst (λ n. IsServed (setting_at (arc_value plan.module) plan.serving n) s) h.number
-    (subst (λ p. IsServed (setting_at (arc_value p.module) p.serving promise.loop_no) s) h.plan_is served)
+    subst (λ n. IsServed (setting_at (arc_value plan.linked) plan.serving n) s) h.number
+    (subst (λ p. IsServed (setting_at (arc_value p.linked) p.serving promise.loop_no) s) h.plan_is served)

@@ -23,7 +23,7 @@ use std::thread::Promise;
 #[derive(Drop)]
 pub struct Plan {
     pub alloc: Global,
-    pub module: Arc<Linked>,
+    pub linked: Arc<Linked>,
     pub serving: Serving,
     ran_out: AtomicBool,
 }
@@ -39,18 +39,18 @@ pub struct OfLoop<'a> {
 }
 
 impl<'a> Promise<LoopResult> for OfLoop<'a> {
-    ghost kept_by = { λ p r. IfOk r (λ s. IsServed (setting_at (arc_value p.plan.now.module) p.plan.now.serving p.loop_no) s) };
+    ghost kept_by = { λ p r. IfOk r (λ s. IsServed (setting_at (arc_value p.plan.now.linked) p.plan.now.serving p.loop_no) s) };
 }
 
 impl Plan {
     /// No loop has found no memory.
-    pub fn new(alloc: Global, module: Arc<Linked>, serving: Serving) -> Plan
-        ensures module { result.module ≡ «module» }
+    pub fn new(alloc: Global, linked: Arc<Linked>, serving: Serving) -> Plan
+        ensures linked { result.linked ≡ linked }
         ensures serving { result.serving ≡ serving }
     {
         Plan {
             alloc,
-            module,
+            linked,
             serving,
             ran_out: AtomicBool::new(false),
         }
@@ -70,7 +70,7 @@ impl Plan {
         watch: &W,
     ) -> LoopResult
         requires make { M.IsAlwaysCallable make.now }
-        ensures { IfOk result (λ s. IsServed (setting_at (arc_value self.now.module) self.now.serving place.entry.seat.loop_no) s) }
+        ensures { IfOk result (λ s. IsServed (setting_at (arc_value self.now.linked) self.now.serving place.entry.seat.loop_no) s) }
     {
         let outcome = self.turns(rt, place, make, watch);
         if outcome.is_err() {
@@ -87,7 +87,7 @@ impl Plan {
         watch: &W,
     ) -> LoopResult
         requires make { M.IsAlwaysCallable make.now }
-        ensures { IfOk result (λ s. IsServed (setting_at (arc_value self.now.module) self.now.serving place.entry.seat.loop_no) s) }
+        ensures { IfOk result (λ s. IsServed (setting_at (arc_value self.now.linked) self.now.serving place.entry.seat.loop_no) s) }
     {
         let (marks, taker) = own_marks(self.alloc)?;
         let turns = self.begin(&marks, taker, place)?;
@@ -102,11 +102,11 @@ impl Plan {
         place: LoopPlace<'a, J>,
     ) -> Result<Turns<'a, J>, AllocError>
         requires { taker ≡ new_taker marks.now 0 }
-        ensures setting { IfOk result (λ t. t.told.core.setting ≡ setting_at (arc_value self.now.module) self.now.serving place.entry.seat.loop_no) }
+        ensures setting { IfOk result (λ t. t.told.core.setting ≡ setting_at (arc_value self.now.linked) self.now.serving place.entry.seat.loop_no) }
         ensures room { IfOk result (λ t. t.told.ran < MAX_CALLBACKS) }
     {
-        let module = Arc::try_clone(&self.module)?;
-        Turns::new(self.alloc, module, marks, taker, place, self.serving)
+        let linked = Arc::try_clone(&self.linked)?;
+        Turns::new(self.alloc, linked, marks, taker, place, self.serving)
     }
 }
 

@@ -32,15 +32,15 @@ use std::thread::{PromisedHandle, Scope, Threads};
 pub fn serve<R: Threads + Wait + Sync, M: Fn(Task) -> Result<J, AllocError> + Sync, J: Job + Send>(
     rt: &R,
     alloc: Global,
-    module: Arc<Linked>,
+    linked: Arc<Linked>,
     serving: Serving,
     make: &M,
 ) -> Result<Vec<Served>, AllocError>
     requires make { M.IsAlwaysCallable make.now }
     ensures count { IfOk result (λ served. length served.items ≡ serving.loops) }
-    ensures each { IfOk result (λ served. EachServed (arc_value «module») serving served.items) }
+    ensures each { IfOk result (λ served. EachServed (arc_value linked) serving served.items) }
 {
-    serve_watched(rt, alloc, module, serving, make, &Nobody)
+    serve_watched(rt, alloc, linked, serving, make, &Nobody)
 }
 
 /// Serves as `serve` does, and tells `watch` what the loops do, as they do it.
@@ -52,16 +52,16 @@ pub fn serve_watched<
 >(
     rt: &R,
     alloc: Global,
-    module: Arc<Linked>,
+    linked: Arc<Linked>,
     serving: Serving,
     make: &M,
     watch: &W,
 ) -> Result<Vec<Served>, AllocError>
     requires make { M.IsAlwaysCallable make.now }
     ensures count { IfOk result (λ served. length served.items ≡ serving.loops) }
-    ensures each { IfOk result (λ served. EachServed (arc_value «module») serving served.items) }
+    ensures each { IfOk result (λ served. EachServed (arc_value linked) serving served.items) }
 {
-    let plan = Plan::new(alloc, module, serving);
+    let plan = Plan::new(alloc, linked, serving);
     with_claims(rt, &plan, make, watch)
 }
 
@@ -74,7 +74,7 @@ fn with_claims<
 >(rt: &R, plan: &Plan, make: &M, watch: &W) -> Result<Vec<Served>, AllocError>
     requires make { M.IsAlwaysCallable make.now }
     ensures count { IfOk result (λ served. length served.items ≡ plan.now.serving.loops) }
-    ensures each { IfOk result (λ served. EachServed (arc_value plan.now.module) plan.now.serving served.items) }
+    ensures each { IfOk result (λ served. EachServed (arc_value plan.now.linked) plan.now.serving served.items) }
 {
     let NewClaims {
         claims,
@@ -104,7 +104,7 @@ fn with_board<
     requires loop_seats { AreNewLoops claims.now.id plan.now.serving.loops loop_seats.items }
     requires worker_seats { AreNewWorkers claims.now.id plan.now.serving.workers worker_seats.items }
     ensures count { IfOk result (λ served. length served.items ≡ plan.now.serving.loops) }
-    ensures each { IfOk result (λ served. EachServed (arc_value plan.now.module) plan.now.serving served.items) }
+    ensures each { IfOk result (λ served. EachServed (arc_value plan.now.linked) plan.now.serving served.items) }
 {
     let passes = (plan.serving.loops + plan.serving.workers) as usize;
     let (board, passes) = Board::new(plan.alloc, plan.serving.loops, passes)?;
@@ -134,7 +134,7 @@ fn run_all<
     requires make { M.IsAlwaysCallable make.now }
     requires numbered { EachFrom (λ k p. p.seat.loop_no ≡ k) 0 loops.items }
     ensures count { IfOk result (λ served. length served.items ≡ length loops.entry.items) }
-    ensures each { IfOk result (λ served. EachServed (arc_value plan.now.module) plan.now.serving served.items) }
+    ensures each { IfOk result (λ served. EachServed (arc_value plan.now.linked) plan.now.serving served.items) }
 {
     thread::scope(
         thread::scope_env(),
@@ -144,7 +144,7 @@ fn run_all<
             requires sync { IsSync R.row × IsSync M.row × IsSync W.row }
             requires numbered { EachFrom (λ k p. p.seat.loop_no ≡ k) 0 loops.items }
             ensures count { IfOk result (λ served. length served.items ≡ length loops.entry.items) }
-            ensures each { IfOk result (λ served. EachServed (arc_value plan.entry.now.module) plan.entry.now.serving served.items) }
+            ensures each { IfOk result (λ served. EachServed (arc_value plan.entry.now.linked) plan.entry.now.serving served.items) }
         {
             let served = match start_workers(scope, rt, workers) {
                 Ok(()) => run_loops(scope, rt, plan, loops, make, watch),
@@ -194,7 +194,7 @@ fn run_loops<
     requires sync { IsSync R.row × IsSync M.row × IsSync W.row }
     requires numbered { EachFrom (λ k p. p.seat.loop_no ≡ k) 0 places.items }
     ensures count { IfOk result (λ served. length served.items ≡ length places.entry.items) }
-    ensures each { IfOk result (λ served. EachServed (arc_value plan.now.module) plan.now.serving served.items) }
+    ensures each { IfOk result (λ served. EachServed (arc_value plan.now.linked) plan.now.serving served.items) }
 {
     let mut started = Vec::with_capacity(plan.alloc, places.len())?;
     let mut served = Vec::with_capacity(plan.alloc, places.len())?;
@@ -267,7 +267,7 @@ fn start_loop<
         move || -> LoopResult
             requires make { M.IsAlwaysCallable make.now }
             requires sync { IsSync R.row × IsSync M.row × IsSync W.row }
-            ensures { IfOk result (λ s. IsServed (setting_at (arc_value plan.entry.now.module) plan.entry.now.serving place.entry.seat.loop_no) s) }
+            ensures { IfOk result (λ s. IsServed (setting_at (arc_value plan.entry.now.linked) plan.entry.now.serving place.entry.seat.loop_no) s) }
         { plan.run(rt, place, make, watch) },
     )?;
     Ok(thread)
@@ -284,7 +284,7 @@ fn join_all<'s, R: Threads>(
     requires none { served.old.items ≡ [] }
     requires promised { EachFrom (λ k h. IsThreadOf plan.now k h.promise) 0 started.items }
     ensures count { OnOk result (length served.new.items ≡ length started.entry.items) }
-    ensures each { OnOk result (EachFrom (λ k s. IsServed (setting_at (arc_value plan.now.module) plan.now.serving k) s) 0 served.new.items) }
+    ensures each { OnOk result (EachFrom (λ k s. IsServed (setting_at (arc_value plan.now.linked) plan.now.serving k) s) 0 served.new.items) }
 {
     let mut ending = Ok(());
     for thread in started {

@@ -42,14 +42,14 @@ impl<'a, J: Drop> Turns<'a, J> {
     #[tactic(auto, using(crate::proofs::Recording::opens_new))]
     pub fn new(
         alloc: Global,
-        module: Arc<Linked>,
+        linked: Arc<Linked>,
         marks: &'a Marks,
         taker: TakeSeat,
         place: LoopPlace<'a, J>,
         serving: Serving,
     ) -> Result<Turns<'a, J>, AllocError>
         requires { taker ≡ new_taker marks.now 0 }
-        ensures setting { IfOk result (λ t. t.told.core.setting ≡ setting_at (arc_value «module») serving place.entry.seat.loop_no) }
+        ensures setting { IfOk result (λ t. t.told.core.setting ≡ setting_at (arc_value linked) serving place.entry.seat.loop_no) }
         ensures room { IfOk result (λ t. t.told.ran < MAX_CALLBACKS) }
     {
         let LoopPlace {
@@ -62,7 +62,7 @@ impl<'a, J: Drop> Turns<'a, J> {
         let seats = Seats::new(claims, seat, marks, taker);
         let core = LoopCore::new(
             alloc,
-            module,
+            linked,
             seats,
             loop_no,
             serving.fuel,

@@ -28,15 +28,15 @@ const MODULES: &str = "
     0303020001 070b010775765f776f726b0000 080101 0a110208000340 0c000b000b 06000141051a0b = spent used 200 in 0:1
 ";
 
-fn run(alloc: Global, module: Arc<Linked>) -> Result<Told, Fail> {
-    let Some(_work) = module.entry(EntryPoint::Work) else {
+fn run(alloc: Global, linked: Arc<Linked>) -> Result<Told, Fail> {
+    let Some(_work) = linked.entry(EntryPoint::Work) else {
         return Err(Fail::from("no `uv_work`"));
     };
     let order = Order {
         loop_no: 0,
         request: 1,
         slot: 0,
-        module,
+        module: linked,
         op: 5,
         bytes: Arc::new(alloc, Vec::new(alloc))?,
         fuel: 200,

@@ -20,7 +20,7 @@ use std::test::Fail;
 // What jobs are made of, and how often they were called.
 pub struct Jobs {
     pub alloc: Global,
-    module: Arc<Linked>,
+    linked: Arc<Linked>,
     bytes: Arc<Vec<u8>>,
     pub calls: Arc<AtomicU64>,
 }
@@ -29,7 +29,7 @@ impl Drop for Jobs {
     fn drop(self) {
         let Jobs {
             alloc: _,
-            module: _,
+            linked: _,
             bytes: _,
             calls: _,
         } = self;
@@ -46,7 +46,7 @@ impl Model for Jobs {
 
     ghost view = { λ _. tt };
 
-    ghost invariant = { λ j. ((f : ℕ) × ExportsFunction (arc_value j.«module»).contents (codes "uv_work") f) × ((arc_value j.bytes).items ≡ []) };
+    ghost invariant = { λ j. ((f : ℕ) × ExportsFunction (arc_value j.linked).contents (codes "uv_work") f) × ((arc_value j.bytes).items ≡ []) };
 }
 
 // A module whose `uv_work` gives its operation.
@@ -55,13 +55,13 @@ const WORKS: &str =
 
 impl Jobs {
     pub fn new(alloc: Global) -> Result<Jobs, Fail> {
-        let module = linked_of(alloc, WORKS)?;
-        let Some(_) = module.entry(EntryPoint::Work) else {
+        let linked = linked_of(alloc, WORKS)?;
+        let Some(_) = linked.entry(EntryPoint::Work) else {
             return Err(Fail::from("no `uv_work`"));
         };
         Ok(Jobs {
             alloc,
-            module,
+            linked,
             bytes: Arc::new(alloc, Vec::new(alloc))?,
             calls: Arc::new(alloc, AtomicU64::new(0))?,
         })
@@ -71,7 +71,7 @@ impl Jobs {
     fn shared(&self) -> Result<Jobs, AllocError> {
         Ok(Jobs {
             alloc: self.alloc,
-            module: Arc::try_clone(&self.module)?,
+            linked: Arc::try_clone(&self.linked)?,
             bytes: Arc::try_clone(&self.bytes)?,
             calls: Arc::try_clone(&self.calls)?,
         })
@@ -82,7 +82,7 @@ impl Jobs {
     {
         let Jobs {
             alloc,
-            module,
+            linked,
             bytes,
             calls: _,
         } = self;
@@ -90,7 +90,7 @@ impl Jobs {
             loop_no: ticket.loop_no,
             request: ticket.request,
             slot: ticket.slot,
-            module,
+            module: linked,
             op: 0,
             bytes,
             fuel: 0,

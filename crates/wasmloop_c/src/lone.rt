@@ -32,18 +32,18 @@ pub struct Task {
 
 fn order_for(
     alloc: Global,
-    module: &Arc<Linked, Global>,
+    linked: &Arc<Linked, Global>,
     task: Task,
     bytes: &[u8],
 ) -> Result<Order, AllocError>
-    ensures { IfOk result (λ o. order_of o ≡ lone_order (arc_value module.now) task bytes.now) }
+    ensures { IfOk result (λ o. order_of o ≡ lone_order (arc_value linked.now) task bytes.now) }
 {
     let copy = Vec::from_slice(alloc, bytes)?;
     Ok(Order {
         loop_no: 0,
         request: 0,
         slot: 0,
-        module: Arc::try_clone(module)?,
+        module: Arc::try_clone(linked)?,
         op: task.op,
         bytes: Arc::new(alloc, copy)?,
         fuel: task.fuel,
@@ -53,16 +53,16 @@ fn order_for(
 
 fn boxed(
     alloc: Global,
-    module: &Arc<Linked, Global>,
+    linked: &Arc<Linked, Global>,
     task: Task,
     bytes: &[u8],
 ) -> Result<Box<Thing, Global>, AllocError>
-    requires work { (f : ℕ) × ExportsFunction (arc_value module.now).contents (codes "uv_work") f }
+    requires work { (f : ℕ) × ExportsFunction (arc_value linked.now).contents (codes "uv_work") f }
     requires bytes { length bytes.now ≤ MAX_BYTES }
     requires depth { (1 ≤ task.depth) × (task.depth ≤ MAX_DEPTH) }
-    ensures { IfOk result (λ b. IsLoneJob (arc_value module.now) task bytes.now b.value) }
+    ensures { IfOk result (λ b. IsLoneJob (arc_value linked.now) task bytes.now b.value) }
 {
-    let order = order_for(alloc, module, task, bytes)?;
+    let order = order_for(alloc, linked, task, bytes)?;
     Ok(Box::new(alloc, Thing::Asked(Job::new(order)))?)
 }
 

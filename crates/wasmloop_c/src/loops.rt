@@ -48,15 +48,15 @@ pub struct Standing {
 /// A loop that has done nothing.
 fn opened(
     alloc: Global,
-    module: &Arc<Linked, Global>,
+    linked: &Arc<Linked, Global>,
     limits: Limits,
 ) -> Result<Box<Thing, Global>, AllocError>
     requires { (1 ≤ limits.depth) × (limits.depth ≤ MAX_DEPTH) }
-    ensures { IfOk result (λ b. IsSomeAnd (loop_of b.value) (IsNewLoop (arc_value module.now) limits)) }
+    ensures { IfOk result (λ b. IsSomeAnd (loop_of b.value) (IsNewLoop (arc_value linked.now) limits)) }
 {
     let core = LoopCore::new(
         alloc,
-        Arc::try_clone(module)?,
+        Arc::try_clone(linked)?,
         Desk::new(alloc, limits.loop_no)?,
         limits.loop_no,
         limits.fuel,

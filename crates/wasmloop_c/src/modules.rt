@@ -57,10 +57,10 @@ pub extern "C" fn wasmloop_rt_load(
     }
 }
 
-fn doubled(alloc: Global, module: &Arc<Linked, Global>) -> Result<Box<Thing, Global>, AllocError>
-    ensures { IfOk result (λ b. module_of b.value ≡ Some (arc_value module.now)) }
+fn doubled(alloc: Global, linked: &Arc<Linked, Global>) -> Result<Box<Thing, Global>, AllocError>
+    ensures { IfOk result (λ b. module_of b.value ≡ Some (arc_value linked.now)) }
 {
-    let shared = Arc::try_clone(module)?;
+    let shared = Arc::try_clone(linked)?;
     Ok(Box::new(alloc, Thing::Module(shared))?)
 }
 

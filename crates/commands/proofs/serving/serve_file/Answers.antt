@@ -6,7 +6,7 @@ use Rattle.commands.proofs.serving.serve_file.Goals as goal
 
 pub returns : goal.returns
 returns g c =
-    let linked = arc_value c.in_ok-module.module in
+    let linked = arc_value c.in_ok-linked.linked in
     let held : IsLoaded (g.R.Reader.gives c.args.reader.now) (string_bytes c.args.service.now.file) linked =
-    rw (← c.as_str.ensures.value) c.in_ok-module.ensures in
+    rw (← c.as_str.ensures.value) c.in_ok-linked.ensures in
     IfOk-weaker c.serve_module.result _ _ (λ status loops done. record { loaded = linked; held = held; loops = loops done }) c.serve_module.ensures

@@ -19,7 +19,7 @@ loop-thread-init g c =
       omega (arith, empty, whole),
       subst (λ n. EachFrom (λ k h. IsThreadOf c.args.plan.now k h.promise) n c.into_iter-thread-iterator.result.rest.items) (sym empty)
           (subst (EachFrom (λ k h. IsThreadOf c.args.plan.now k h.promise) 0) (sym all) c.requires.promised),
-      subst (EachFrom (λ k s. IsServed (setting_at (arc_value c.args.plan.now.module) c.args.plan.now.serving k) s) 0) (sym none) tt,
+      subst (EachFrom (λ k s. IsServed (setting_at (arc_value c.args.plan.now.linked) c.args.plan.now.serving k) s) 0) (sym none) tt,
     )
 
 pub loop-thread-preserved-in-Ok : goal.loop-thread-preserved-in-Ok
@@ -41,7 +41,7 @@ loop-thread-preserved-in-Ok g c =
       on_ok _ _ c.loop-thread.ending (λ h. from_rest (λ k t. IsThreadOf c.args.plan.now k t.promise) (length served) (length now) rest thread more split longer h) kept.2,
       on_both _ _ _ c.loop-thread.ending
           (λ h done.
-          push_at (λ k s. IsServed (setting_at (arc_value c.args.plan.now.module) c.args.plan.now.serving k) s) served c.in-Ok.one now pushed done
+          push_at (λ k s. IsServed (setting_at (arc_value c.args.plan.now.linked) c.args.plan.now.serving k) s) served c.in-Ok.one now pushed done
           (served_of c.args.plan.now (length served) thread.promise c.in-Ok.one
           (from_first (λ k t. IsThreadOf c.args.plan.now k t.promise) (length served) rest thread more split h) c.in-Ok.ensures))
           kept.2 kept.3,

@@ -12,4 +12,4 @@ invariant-loop-thread g l =
     (length l.served.items + length rest ≤ vec_capacity l.served)
     × OnOk l.ending (length l.served.items + length rest ≡ length l.fn.started.items)
     × OnOk l.ending (EachFrom (λ k h. IsThreadOf l.plan k h.promise) (length l.served.items) rest)
-    × OnOk l.ending (EachFrom (λ k s. IsServed (setting_at (arc_value l.plan.module) l.plan.serving k) s) 0 l.served.items)
+    × OnOk l.ending (EachFrom (λ k s. IsServed (setting_at (arc_value l.plan.linked) l.plan.serving k) s) 0 l.served.items)

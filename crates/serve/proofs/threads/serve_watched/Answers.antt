@@ -5,5 +5,5 @@ use Rattle.serve.proofs.threads.serve_watched.Goals as goal
 
 pub returns-clause-each : goal.returns-clause-each
 returns-clause-each g c =
-    subst (λ m. IfOk c.with_claims.result (λ served. EachServed (arc_value m) c.args.serving served.items)) c.new-plan.ensures.module
-    (subst (λ v. IfOk c.with_claims.result (λ served. EachServed (arc_value c.new-plan.result.module) v served.items)) c.new-plan.ensures.serving c.with_claims.ensures.each)
+    subst (λ m. IfOk c.with_claims.result (λ served. EachServed (arc_value m) c.args.serving served.items)) c.new-plan.ensures.linked
+    (subst (λ v. IfOk c.with_claims.result (λ served. EachServed (arc_value c.new-plan.result.linked) v served.items)) c.new-plan.ensures.serving c.with_claims.ensures.each)

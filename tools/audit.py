@@ -226,14 +226,14 @@ def misplaced(tree, reached):
             yield f"{name}: no public clause reaches it, and it stands outside Inner"
 
 
-ROW = re.compile(r"^\| ([a-z_]+/(?:specs|src): [^|]*) \| (\d+ of \d+) \|", re.M)
+ROW = re.compile(r"^\| ([a-z_]+/(?:specs|src)(?:/\w+)*: [^|]*) \| (\d+ of \d+) \|", re.M)
 
 
 def files_of(cell):
     """The files that the first cell of a row names."""
-    for folder, names in re.findall(r"([a-z_]+/\w+): ([\w ]+)", cell):
+    for folder, names in re.findall(r"([a-z_]+(?:/\w+)+): ([\w ]+)", cell):
         for name in names.split():
-            yield f"{folder}/{name}.{'antt' if folder.endswith('specs') else 'rt'}"
+            yield f"{folder}/{name}.{'antt' if '/specs' in folder else 'rt'}"
 
 
 def lines_of(cell, counts):

@@ -5,7 +5,7 @@ use Rattle.syntax.specs.declared.types.Value.{Value}
 use Rattle.syntax.specs.declared.contents.Contents.{Contents}
 use Rattle.syntax.specs.declared.contents.ExternKind.TheVariants.{Func}
 use Rattle.syntax.specs.Exporting.{IsFirst}
-use Rattle.interp.specs.declared.ended.Ended.{Ended}
+use Rattle.events.specs.declared.ended.Ended.{Ended}
 use Rattle.words.specs.declared.command.Command.{Command}
 use Rattle.words.specs.declared.command.Command.TheVariants.{Check, Invoke, Work, Script, Serve}
 use Rattle.words.specs.declared.command.Invocation.{Invocation}

@@ -12,10 +12,10 @@ ghost use Rattle.commands.specs.Calling.{Runs, Starts, HasReturned, IsCalled};
 
 use crate::failure::Failure;
 use crate::no_host::NoHost;
+use events::ended::{Ended, Ending};
+use events::values::Values;
 use instance::state::Instance;
-use interp::ended::{Ended, Ending};
 use interp::invoke::invoke;
-use interp::values::Values;
 use std::alloc::Global;
 use syntax::contents::{ExternKind, FuncType};
 use syntax::types::Value;

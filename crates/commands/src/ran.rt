@@ -1,6 +1,6 @@
 // What ran in a loop, or for it.
 
-use phases::EntryKind;
+use events::phase::EntryKind;
 use std::fmt;
 
 /// A callback of a loop, or the work of one of its requests, as in `timer 1` and `request 3`.

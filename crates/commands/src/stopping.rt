@@ -1,9 +1,9 @@
 // Where a run stopped that did not return, told in a sentence.
 
 use crate::names::is_printable;
+use events::ended::{Ended, Ending};
+use events::trap::TrapCode;
 use instance::stack::Site;
-use interp::ended::{Ended, Ending};
-use interp::trap::TrapCode;
 use order::{MAX_TRAIL, Outcome, Told, Trail};
 use places::{Place, function_name, place_of_operation};
 use std::fmt;

@@ -2,10 +2,10 @@
 
 use crate::ran::{Ran, What};
 use crate::stopping::{Stopped, tell_stopped};
+use events::phase::EntryKind;
 use imports::EntryPoint;
 use limits::{MAX_BYTES, MAX_DEPTH};
 use order::{Order, Told};
-use phases::EntryKind;
 use serve::{Account, Callback, LoopEnding, Served};
 use std::alloc::Global;
 use std::io::{self, Write};

@@ -1,6 +1,6 @@
 // What is told where it is asked for: what was used, and what loops do, as they do it.
 
-use phases::StepDid;
+use events::did::StepDid;
 use script::print_entry;
 use serve::Watch;
 use std::alloc::Global;

@@ -3,7 +3,7 @@
 ghost use Rattle.std.specs.Prelude.{◌≡◌, ◌↔◌, [], ◌∷◌, OnOk, IfOk};
 ghost use Rattle.std.specs.Arc.{arc_value};
 ghost use Rattle.std.specs.Io.KnownBytes.{Appends};
-ghost use Rattle.interp.specs.Traps.{trap_number};
+ghost use Rattle.events.specs.Traps.{trap_number};
 ghost use Rattle.order.specs.Orders.{end_of};
 ghost use Rattle.order.specs.Work.{Done, Trap, Uses};
 ghost use Rattle.commands.specs.Working.{asked_order, done_words, line, end_line, IsResult, HasWorked};
@@ -14,8 +14,8 @@ use crate::loading::load;
 use crate::status::Status;
 use crate::stopping::{Stopped, tell_stopped};
 use crate::tracing::tell_used;
+use events::trap::TrapCode;
 use imports::{EntryPoint, Linked};
-use interp::trap::TrapCode;
 use order::laws::one_end;
 use order::{Order, Outcome, Told, Trail};
 use std::alloc::{AllocError, Global};

@@ -11,17 +11,20 @@
 pub use board::JobBox;
 pub use decode::DecodeFault;
 pub use desk::Desk;
+pub use events::did::{Hint, StepDid};
+pub use events::ended::{Ended, Ending};
+pub use events::phase::{EntryKind, Phase};
+pub use events::settings::LoopSettings;
+pub use events::trap::TrapCode;
+pub use events::values::Values;
 pub use imports::{EntryPoint, LinkFault, Linked};
 pub use instance::stack::{Site, Stop};
-pub use interp::ended::{Ended, Ending};
-pub use interp::trap::TrapCode;
-pub use interp::values::Values;
 pub use limits::{
     MAX_BYTES, MAX_DEPTH, MAX_LOOPS, MAX_MODULE_BYTES, MAX_PAGES, MAX_REQUESTS, MAX_WORKERS,
 };
 pub use loader::{Refusal, load};
 pub use order::{Order, Outcome, Reply, Told, Trail};
-pub use phases::{Accepted, Beside, EntryKind, Hint, LoopCore, Phase, Shared, StepDid};
+pub use phases::{Accepted, Beside, LoopCore, Shared};
 pub use places::{Part, Place, function_name, place_of_operation};
 pub use serve::{
     Account, Callback, Job, LoopEnding, Served, Serving, Task, Watch, serve, serve_watched,
@@ -30,6 +33,5 @@ pub use syntax::types::Value;
 pub use validate::ValidFault;
 pub use world::{Config, LoopConfig, Undone, World, WorldFault};
 pub use world_log::{
-    CollectOutcome, FinishOutcome, JobEnd, Log, LogEntry, LoopSettings, PostOutcome, StartOutcome,
-    Step,
+    CollectOutcome, FinishOutcome, JobEnd, Log, LogEntry, PostOutcome, StartOutcome, Step,
 };

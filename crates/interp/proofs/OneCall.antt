@@ -7,12 +7,12 @@ use Rattle.interp.specs.Run.{HostCall, RunEnd, Returned, Trapped, TooDeep, OutOf
 use Rattle.interp.specs.Hosting.{Lawful, IsDetermined}
 use Rattle.interp.specs.Invoking.{Invokes, defined, imported, Invoked}
 use Rattle.interp.specs.Running.{end_of_run}
-use Rattle.interp.specs.Traps.{trap_number}
-use Rattle.interp.specs.declared.trap.TrapCode.{TrapCode}
-use Rattle.interp.specs.declared.trap.TrapCode.TheVariants as trap
-use Rattle.interp.specs.declared.ended.Ended.{Ended}
-use Rattle.interp.specs.declared.ended.Ending.{Ending}
-use Rattle.interp.specs.declared.ended.Ending.TheVariants.{Return, Trap, Depth, Spent}
+use Rattle.events.specs.Traps.{trap_number}
+use Rattle.events.specs.declared.trap.TrapCode.{TrapCode}
+use Rattle.events.specs.declared.trap.TrapCode.TheVariants as trap
+use Rattle.events.specs.declared.ended.Ended.{Ended}
+use Rattle.events.specs.declared.ended.Ending.{Ending}
+use Rattle.events.specs.declared.ended.Ending.TheVariants.{Return, Trap, Depth, Spent}
 use Rattle.interp.proofs.OneRun.{one_function, not_both, one_run, says, says_one, says_all}
 
 module _ (m : Contents) (depth : ℕ) {H V : Type 0} (see : H → V) (moves : H → HostCall → H → Type 0) (determined : IsDetermined see moves) where

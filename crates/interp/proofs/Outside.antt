@@ -3,7 +3,7 @@ use Rattle.interp.proofs.Words.{◌≡◌, ℕ, List, [], ◌∷◌, length, rev
 use Rattle.interp.proofs.Words.{HasFunctionType, type_of_function, pushed, Store, IsStoreOf, as_operands, types_of}
 use Rattle.std.specs.Prelude.{Option}
 use Rattle.instance.specs.Store.{with_memory_instance, MemoryInstance}
-use Rattle.interp.specs.declared.ended.Ending.TheVariants.{Return}
+use Rattle.events.specs.declared.ended.Ending.TheVariants.{Return}
 use Rattle.interp.specs.Run.{HostCall, IsImported}
 use Rattle.interp.specs.Hosting.{Names, Takes, Answers}
 use Rattle.interp.specs.Invoking.{imported, TakesArguments, Invoked}

@@ -21,7 +21,7 @@ use Rattle.interp.specs.Run.{HostCall, RunEnd, IsDefined, Run, RunsWithin}
 use Rattle.interp.specs.Stopping.{Mark, Moment, RunsTo}
 use Rattle.interp.specs.Hosting.{Lawful, IsDetermined}
 use Rattle.interp.specs.Invoking.{Invokes, Invoked}
-use Rattle.interp.specs.declared.ended.Ended.{Ended}
+use Rattle.events.specs.declared.ended.Ended.{Ended}
 use Rattle.interp.specs.Inner.Scaffold.Typed.{operands_of}
 use Rattle.interp.specs.Inner.Scaffold.HeightsTyped.{Bounded, AwaitsWithin, SoundWithin}
 use Rattle.interp.specs.Inner.Scaffold.HeightsOfRuns.{IsReached, all_operands, all_locals}

@@ -1,5 +1,4 @@
 pub mod Operators
-pub mod Traps
 pub mod Configuration
 pub mod Step
 pub mod Run

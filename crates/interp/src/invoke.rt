@@ -10,12 +10,12 @@ ghost use Rattle.interp.specs.Invoking.{TakesArguments, Invoked, ReturnsTyped};
 ghost use Rattle.interp.specs.Stopping.{Tells};
 ghost use Rattle.instance.specs.Inner.Stops.{stop_of};
 
-use crate::ended::{Ended, Ending};
 use crate::host::{Args, Host};
 use crate::opening::open;
 use crate::over_host::run_over_host;
-use crate::values::Values;
 use engine::Program;
+use events::ended::{Ended, Ending};
+use events::values::Values;
 use instance::stack::{Caller, Last, Slots, Stack};
 use instance::state::{Instance, State};
 use limits::MAX_DEPTH;

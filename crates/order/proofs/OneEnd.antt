@@ -17,7 +17,7 @@ use Rattle.imports.specs.declared.call.Call.{Call}
 use Rattle.imports.specs.declared.call.Call.TheVariants.{Now, InLen, InCopy, OutSet}
 use Rattle.imports.specs.Linking.{Imports, ExportsFunction}
 use Rattle.imports.specs.Uv.{AreNamedApart}
-use Rattle.order.specs.Bytes.{copied_in, set_out}
+use Rattle.order.specs.Uv.Bytes.{copied_in, set_out}
 use Rattle.order.specs.Work.{WorkOrder, WorkEnd, EndsAs, Gives, WorkAnswers, WorkCall, WorkRun, StartRun, Computes, Works, stops, works}
 
 -- an import is one function of the host

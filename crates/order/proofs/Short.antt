@@ -13,8 +13,8 @@ use Rattle.interp.specs.Run.{HostCall, RunEnd, Returned, Trapped, TooDeep, OutOf
 use Rattle.interp.specs.Hosting.{Lawful}
 use Rattle.imports.specs.declared.call.Call.{Call}
 use Rattle.imports.specs.declared.call.Call.TheVariants.{Now, InLen, InCopy, OutSet}
-use Rattle.order.specs.Numbers.{invalid, outside_memory}
-use Rattle.order.specs.Bytes.{set_out, taken_out}
+use Rattle.order.specs.Uv.Numbers.{invalid, outside_memory}
+use Rattle.order.specs.Uv.Bytes.{set_out, taken_out}
 use Rattle.order.specs.Work.{WorkOrder, WorkEnd, Done, Trap, Depth, Spent, NoMemory, EndsAs, WorkAnswers, WorkCall, StartRun, Computes, stops, works, IsEndOf, IsShortEnd}
 
 abbrev IsShort : List ℕ → Type 0

@@ -10,9 +10,9 @@ use Rattle.instance.specs.declared.stack.Site.{Site}
 use Rattle.interp.specs.Run.{Returned}
 use Rattle.interp.specs.Running.{end_of_run}
 use Rattle.interp.specs.Stopping.{Tells, StopsAt}
-use Rattle.interp.specs.declared.ended.Ended.{Ended}
-use Rattle.interp.specs.declared.ended.Ending.{Ending}
-use Rattle.interp.specs.declared.ended.Ending.TheVariants.{Return}
+use Rattle.events.specs.declared.ended.Ended.{Ended}
+use Rattle.events.specs.declared.ended.Ending.{Ending}
+use Rattle.events.specs.declared.ended.Ending.TheVariants.{Return}
 use Rattle.imports.specs.Linking.{ExportsFunction}
 use Rattle.order.specs.declared.host.WorkHost.{WorkHost}
 use Rattle.order.specs.Inner.Serving.{Serves}

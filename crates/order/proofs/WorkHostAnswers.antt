@@ -8,7 +8,7 @@ use Rattle.imports.specs.declared.call.Call.{Call}
 use Rattle.imports.specs.declared.call.Call.TheVariants.{Now, InLen, InCopy, OutSet}
 use Rattle.imports.specs.Linking.{Imports}
 use Rattle.order.specs.declared.host.WorkHost.{WorkHost}
-use Rattle.order.specs.Numbers.{not_here}
+use Rattle.order.specs.Uv.Numbers.{not_here}
 use Rattle.order.specs.Work.{WorkOrder, WorkEnd, Done, Trap, Depth, Spent, NoMemory, WorkAnswers, WorkCall, Works, IsTheEnd, IsEndOf, Gives}
 use Rattle.order.specs.Inner.WorkHosting.{Answered}
 use Rattle.order.specs.Inner.Serving.{Serves}
@@ -21,10 +21,10 @@ use Rattle.interp.specs.Hosting.{Names}
 use Rattle.interp.specs.Invoking.{Invokes, Invoked}
 use Rattle.interp.specs.Running.{end_of_run}
 use Rattle.interp.specs.Run.{Returned}
-use Rattle.interp.specs.declared.ended.Ended.{Ended}
-use Rattle.interp.specs.declared.ended.Ending.{Ending}
-use Rattle.interp.specs.declared.ended.Ending.TheVariants.{Return}
-use Rattle.interp.specs.declared.ended.Ending.TheVariants as ending
+use Rattle.events.specs.declared.ended.Ended.{Ended}
+use Rattle.events.specs.declared.ended.Ending.{Ending}
+use Rattle.events.specs.declared.ended.Ending.TheVariants.{Return}
+use Rattle.events.specs.declared.ended.Ending.TheVariants as ending
 use Rattle.imports.specs.Linking.{IsLinked, ExportsFunction}
 use Rattle.imports.specs.Uv.{AreNamedApart}
 use Rattle.order.specs.Inner.Hosting.{import_types}

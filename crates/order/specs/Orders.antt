@@ -1,6 +1,6 @@
 -- Orders and outcomes, as definitions speak of them.
 use Rattle.std.specs.Arc.{arc_value}
-use Rattle.interp.specs.Traps.{trap_number}
+use Rattle.events.specs.Traps.{trap_number}
 use Rattle.order.specs.declared.order.Order.{Order}
 use Rattle.order.specs.declared.order.Outcome.{Outcome}
 use Rattle.order.specs.declared.order.Outcome.TheVariants as outcome

@@ -9,7 +9,7 @@ use Rattle.instance.specs.declared.stack.Site.{Site}
 use Rattle.interp.specs.Run.{Returned}
 use Rattle.interp.specs.Running.{end_of_run}
 use Rattle.interp.specs.Stopping.{Tells}
-use Rattle.interp.specs.declared.ended.Ended.{Ended}
+use Rattle.events.specs.declared.ended.Ended.{Ended}
 use Rattle.imports.specs.Linking.{ExportsFunction}
 use Rattle.order.specs.Trails.{Innermost, innermost}
 use Rattle.order.specs.Work.{WorkOrder, WorkEnd, NoMemory, WorkRun, WorkCall, StartRun, EndsAs}

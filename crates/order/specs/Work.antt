@@ -12,8 +12,8 @@ use Rattle.interp.specs.Invoking.{Invokes}
 use Rattle.imports.specs.declared.call.Call.{Call}
 use Rattle.imports.specs.declared.call.Call.TheVariants.{Now, InLen, InCopy, OutSet}
 use Rattle.imports.specs.Linking.{Imports, ExportsFunction}
-use Rattle.order.specs.Numbers.{not_here}
-use Rattle.order.specs.Bytes.{input_length, copied_in, set_out}
+use Rattle.order.specs.Uv.Numbers.{not_here}
+use Rattle.order.specs.Uv.Bytes.{input_length, copied_in, set_out}
 
 -- A request as it is handed out: whose it is, the module, the operation, the bytes, and what it may use.
 pub record WorkOrder : Type 0 where

@@ -3,10 +3,10 @@
 ghost use Rattle.std.specs.Prelude.{◌≡◌, ◌≤◌, [], IfOk, length, vec_capacity};
 ghost use Rattle.std.specs.Arc.{arc_value};
 ghost use Rattle.limits.specs.declared.TheConstants.{MAX_BYTES};
-ghost use Rattle.order.specs.Bytes.{set_out};
+ghost use Rattle.order.specs.Uv.Bytes.{set_out};
 
-use crate::answers::{INVALID, NOT_HERE, OUTSIDE_MEMORY};
-use crate::calls::{called, copy_in, three, two};
+use crate::uv::answers::{INVALID, NOT_HERE, OUTSIDE_MEMORY};
+use crate::uv::calls::{called, copy_in, three, two};
 use imports::{Call, Linked};
 use instance::memory::Memory;
 use interp::host::{Args, Host};

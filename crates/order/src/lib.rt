@@ -9,14 +9,13 @@
 //! Begin with `order` and `run`; what one thread computes is `specs/Work.antt`, and where it stops `specs/Stopping.antt`.
 #![tactic(auto)]
 
-pub mod answers;
-pub mod calls;
 mod host;
 pub mod laws;
 mod order;
 mod reply;
 mod run;
 mod trail;
+pub mod uv;
 
 pub use order::{Order, Outcome};
 pub use reply::Reply;

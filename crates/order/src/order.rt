@@ -3,8 +3,8 @@
 ghost use Rattle.std.specs.Prelude.{◌≡◌, ◌↔◌, IsTrue};
 ghost use Rattle.order.specs.Orders.{order_of};
 
+use events::trap::TrapCode;
 use imports::Linked;
-use interp::trap::TrapCode;
 use std::alloc::Global;
 use std::sync::Arc;
 use syntax::laws::one_module;

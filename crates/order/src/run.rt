@@ -20,14 +20,14 @@ use crate::host::WorkHost;
 use crate::order::{Order, Outcome};
 use crate::reply::Reply;
 use crate::trail::Trail;
+use events::ended::{Ended, Ending};
+use events::values::Values;
 use imports::EntryPoint;
 use imports::laws::names_are_apart;
 use instance::fault::InstFault;
 use instance::stack::Stack;
 use instance::state::{Instance, State};
-use interp::ended::{Ended, Ending};
 use interp::invoke::invoke_on;
-use interp::values::Values;
 use std::alloc::{AllocError, Global};
 use syntax::types::Value;
 

@@ -5,7 +5,7 @@ use Rattle.std.specs.Option.{option_map, option_map_or, option_and_then}
 use Rattle.std.specs.Prelude.{nat_le, IfSome}
 use Rattle.std.proofs.lemmas.Bool.{and_parts, ne_eqb, leb-true, leb-false}
 use Rattle.std.proofs.lemmas.List.Elements.{All-contains}
-use Rattle.phases.specs.declared.did.Hint.TheVariants.{Now, For}
+use Rattle.events.specs.declared.did.Hint.TheVariants.{Now, For}
 use Rattle.phases.specs.Requests.{settled}
 use Rattle.handles.specs.declared.handle.Kind.{Kind}
 use Rattle.handles.specs.declared.handle.Kind.TheVariants.{Timer, Idle, Check, Async}

@@ -18,8 +18,8 @@ use Rattle.phases.specs.View.{View, AreOpenedUpTo, Opened, Cancelled, Sent}
 use Rattle.phases.specs.Calls.{Calls, IsLawful}
 use Rattle.phases.specs.Requests.{Requests, Cancelled as cancelled, with_stage}
 use Rattle.handles.specs.declared.handle.Kind.TheVariants as kind
-use Rattle.order.specs.Numbers.{no_room, no_memory, outside_memory, invalid, none_left, no_such_export}
-use Rattle.order.specs.Bytes.{taken_out}
+use Rattle.order.specs.Uv.Numbers.{no_room, no_memory, outside_memory, invalid, none_left, no_such_export}
+use Rattle.order.specs.Uv.Bytes.{taken_out}
 use Rattle.phases.specs.PhaseList.{exports}
 use Rattle.phases.specs.Roster.{Roster, is_open_of, async_number}
 use Rattle.phases.specs.State.{Setting, State}

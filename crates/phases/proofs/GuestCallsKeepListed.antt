@@ -14,8 +14,8 @@ use Rattle.interp.specs.Run.{HostCall}
 use Rattle.interp.specs.Hosting.{Lawful}
 use Rattle.imports.specs.declared.call.Call.{Call}
 use Rattle.imports.specs.declared.call.Call.TheVariants.{Now, TimerInit, IdleInit, CheckInit, TimerStart, TimerStop, IdleStop, CheckStop, TimerAgain, IdleStart, CheckStart, AsyncInit, AsyncSend, IsActive, Close, QueueWork, Cancel, InLen, InCopy, OutSet, Emit}
-use Rattle.order.specs.Numbers.{invalid, none_left}
-use Rattle.order.specs.Bytes.{taken_out}
+use Rattle.order.specs.Uv.Numbers.{invalid, none_left}
+use Rattle.order.specs.Uv.Bytes.{taken_out}
 use Rattle.order.specs.Work.{WorkOrder}
 use Rattle.tallies.proofs.Requests.{either}
 use Rattle.phases.specs.declared.progress.CancelState.{CancelState}

@@ -21,13 +21,13 @@ use Rattle.interp.specs.Hosting.{Lawful, Names}
 use Rattle.interp.specs.Invoking.{Invokes, Invoked, TakesArguments}
 use Rattle.interp.specs.Running.{end_of_run}
 use Rattle.instance.specs.Storing.{IsStoreOf}
-use Rattle.interp.specs.declared.ended.Ended.{Ended}
+use Rattle.events.specs.declared.ended.Ended.{Ended}
 use Rattle.imports.specs.Linking.{IsLinked, ExportsFunction, ExportsNothing}
 use Rattle.order.specs.Inner.Hosting.{import_types}
 use Rattle.order.specs.Orders.{order_of}
 use Rattle.order.specs.declared.order.Order.{Order}
-use Rattle.phases.specs.declared.did.StepDid.TheVariants.{Ran}
-use Rattle.phases.specs.declared.entry.EntryKind.{EntryKind}
+use Rattle.events.specs.declared.did.StepDid.TheVariants.{Ran}
+use Rattle.events.specs.declared.phase.EntryKind.{EntryKind}
 use Rattle.phases.specs.declared.entry.Status.{Status}
 use Rattle.phases.specs.declared.entry.Status.TheVariants.{Running, Over, Failed}
 use Rattle.phases.specs.Calls.{Calls, IsLawful}
@@ -36,8 +36,9 @@ use Rattle.phases.specs.Requests.{Requests, Request, Completion, completion_of}
 use Rattle.phases.specs.View.{AreOpenedUpTo}
 use Rattle.phases.specs.Host.{HostStep, Cancels, cancel_state_of, with_requests}
 use Rattle.phases.specs.Inner.Hosting.{Answered}
-use Rattle.phases.specs.Keeping.{Keeps, IsOrderOf, AreOrdersOf}
-use Rattle.phases.specs.PhaseList.{may_end, is_alive, exports, first_list, begin_list}
+use Rattle.phases.specs.Inner.Keeping.{Keeps, IsOrderOf, AreOrdersOf}
+use Rattle.events.specs.Phases.{may_end}
+use Rattle.phases.specs.PhaseList.{is_alive, exports, first_list, begin_list}
 use Rattle.phases.specs.Inner.Ready.{AreReady, Grows}
 use Rattle.phases.specs.Roster.{Roster, callback_in, callbacks_of, callback_function, in_table, takes_one_number, opening_roster}
 use Rattle.phases.specs.State.{Setting, State, Loop, opening}

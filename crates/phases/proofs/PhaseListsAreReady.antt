@@ -7,8 +7,8 @@ use Rattle.std.proofs.lemmas.List.Kept.{AllPairs-cons}
 use Rattle.syntax.specs.declared.contents.Contents.{Contents}
 use Rattle.handles.specs.declared.handle.Kind.TheVariants as kind
 use Rattle.handles.specs.Table.{Table, IsClosing, due_list, kind_list}
-use Rattle.phases.specs.declared.entry.Phase.{Phase}
-use Rattle.phases.specs.declared.entry.Phase.TheVariants.{Begin, Timers, Idle, Poll, Check, Closing}
+use Rattle.events.specs.declared.phase.Phase.{Phase}
+use Rattle.events.specs.declared.phase.Phase.TheVariants.{Begin, Timers, Idle, Poll, Check, Closing}
 use Rattle.phases.specs.declared.entry.Entry.{Entry}
 use Rattle.phases.specs.declared.entry.Entry.TheVariants as entry
 use Rattle.phases.specs.Fitting.{IsKept, AreClosing, AreKept, AreRising}

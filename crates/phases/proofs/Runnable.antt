@@ -18,8 +18,8 @@ use Rattle.imports.specs.declared.call.Call.{Call}
 use Rattle.imports.specs.declared.call.Call.TheVariants.{Now, TimerInit, IdleInit, CheckInit, TimerStart, TimerStop, IdleStop, CheckStop, TimerAgain, IdleStart, CheckStart, AsyncInit, AsyncSend, IsActive, Close, QueueWork, Cancel, InLen, InCopy, OutSet, Emit}
 use Rattle.imports.specs.declared.entry_point.EntryPoint.TheVariants.{Work}
 use Rattle.imports.specs.Linking.{IsLinked, IsCallable, ExportsFunction}
-use Rattle.order.specs.Numbers.{none_left}
-use Rattle.order.specs.Bytes.{taken_out}
+use Rattle.order.specs.Uv.Numbers.{none_left}
+use Rattle.order.specs.Uv.Bytes.{taken_out}
 use Rattle.order.specs.Work.{WorkOrder}
 use Rattle.phases.specs.declared.progress.CancelState.{CancelState}
 use Rattle.phases.specs.declared.progress.CancelState.TheVariants.{Unknown, Pending}
@@ -33,7 +33,8 @@ use Rattle.phases.specs.declared.entry.Status.TheVariants.{Running, Over, Failed
 use Rattle.phases.specs.Outside.{handing, next_in, next_order_of}
 use Rattle.phases.specs.Host.{emitted_in, next_work, CancelsAt, Cancels, Opens, QueuesWork, RelatesWork, CallStep, HostStep}
 use Rattle.phases.specs.Inner.Ready.{IsSettledIn}
-use Rattle.phases.specs.Keeping.{CanRun, IsOrderOf, AreOrdersOf}
+use Rattle.order.specs.Runnable.{CanRun}
+use Rattle.phases.specs.Inner.Keeping.{IsOrderOf, AreOrdersOf}
 
 decide : {P Q R : Type 0} (b : Bool) → (b ≡ true → P → R) → (b ≡ false → Q → R) → MatchBool b P Q → R
 decide true f g h = f refl h

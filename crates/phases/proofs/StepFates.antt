@@ -8,14 +8,14 @@ use Rattle.handles.specs.declared.handle.Kind.TheVariants as handle_kind
 use Rattle.handles.specs.Table.{after_again}
 use Rattle.interp.specs.Run.{HostCall}
 use Rattle.interp.specs.Hosting.{Lawful}
-use Rattle.interp.specs.declared.ended.Ended.{Ended}
+use Rattle.events.specs.declared.ended.Ended.{Ended}
 use Rattle.order.specs.Work.{WorkOrder}
-use Rattle.order.specs.Bytes.{taken_out}
-use Rattle.phases.specs.declared.did.StepDid.{StepDid}
-use Rattle.phases.specs.declared.did.StepDid.TheVariants.{Entered, Ran}
-use Rattle.phases.specs.declared.did.StepDid.TheVariants as step
-use Rattle.phases.specs.declared.entry.EntryKind.{EntryKind}
-use Rattle.phases.specs.declared.entry.EntryKind.TheVariants as kind
+use Rattle.order.specs.Uv.Bytes.{taken_out}
+use Rattle.events.specs.declared.did.StepDid.{StepDid}
+use Rattle.events.specs.declared.did.StepDid.TheVariants.{Entered, Ran}
+use Rattle.events.specs.declared.did.StepDid.TheVariants as step
+use Rattle.events.specs.declared.phase.EntryKind.{EntryKind}
+use Rattle.events.specs.declared.phase.EntryKind.TheVariants as kind
 use Rattle.phases.specs.declared.entry.Entry.{Entry}
 use Rattle.phases.specs.declared.entry.Entry.TheVariants as entry
 use Rattle.phases.specs.declared.entry.Status.{Status}
@@ -23,7 +23,8 @@ use Rattle.phases.specs.declared.entry.Status.TheVariants.{Running, Over, Failed
 use Rattle.phases.specs.Roster.{async_handle, with_handles, without_handle}
 use Rattle.phases.specs.Requests.{Cancelled, Request, Requests, Completion, request_of, without_request, completion_of}
 use Rattle.phases.specs.State.{Setting, State, Loop}
-use Rattle.phases.specs.PhaseList.{is_alive, may_end, next_phase, is_active_handle}
+use Rattle.events.specs.Phases.{may_end, next_phase}
+use Rattle.phases.specs.PhaseList.{is_alive, is_active_handle}
 use Rattle.phases.specs.Calls.{Calls}
 use Rattle.phases.specs.Host.{HostStep, next_work, with_roster, with_requests}
 use Rattle.phases.specs.Step.{LoopStep, StepIn, ListStep, EntryStep, NextPhase, RunsFrom, CallsBack, CallsHandle, Skips, TakesFirst, AfterWork, in_state, sharing, begun, entered, now_in, is_as_listed, handle_function}

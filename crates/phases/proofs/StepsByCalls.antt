@@ -11,14 +11,14 @@ use Rattle.interp.specs.Run.{HostCall}
 use Rattle.interp.specs.Hosting.{Lawful}
 use Rattle.imports.specs.declared.call.Call.{Call}
 use Rattle.imports.specs.declared.call.Call.TheVariants.{Now, TimerInit, IdleInit, CheckInit, TimerStart, TimerStop, IdleStop, CheckStop, TimerAgain, IdleStart, CheckStart, AsyncInit, AsyncSend, IsActive, Close, QueueWork, Cancel, InLen, InCopy, OutSet, Emit}
-use Rattle.order.specs.Numbers.{no_such_export, invalid, no_room, none_left, no_memory, outside_memory}
+use Rattle.order.specs.Uv.Numbers.{no_such_export, invalid, no_room, none_left, no_memory, outside_memory}
 use Rattle.order.specs.Work.{WorkOrder, WorkEnd}
-use Rattle.order.specs.Bytes.{taken_out}
-use Rattle.phases.specs.declared.did.StepDid.{StepDid}
-use Rattle.phases.specs.declared.did.StepDid.TheVariants.{Entered}
-use Rattle.phases.specs.declared.did.StepDid.TheVariants as step
-use Rattle.phases.specs.declared.entry.EntryKind.{EntryKind}
-use Rattle.phases.specs.declared.entry.EntryKind.TheVariants as kind
+use Rattle.order.specs.Uv.Bytes.{taken_out}
+use Rattle.events.specs.declared.did.StepDid.{StepDid}
+use Rattle.events.specs.declared.did.StepDid.TheVariants.{Entered}
+use Rattle.events.specs.declared.did.StepDid.TheVariants as step
+use Rattle.events.specs.declared.phase.EntryKind.{EntryKind}
+use Rattle.events.specs.declared.phase.EntryKind.TheVariants as kind
 use Rattle.phases.specs.declared.entry.Entry.{Entry}
 use Rattle.phases.specs.declared.entry.Entry.TheVariants as entry
 use Rattle.phases.specs.declared.entry.Status.{Status}
@@ -26,7 +26,8 @@ use Rattle.phases.specs.declared.entry.Status.TheVariants.{Running, Over, Failed
 use Rattle.phases.specs.Roster.{is_open_of, async_number, async_handle, with_handles, without_handle}
 use Rattle.phases.specs.Requests.{Stage, HandedOut, Answered, Cancelled, Request, Requests, Completion, request_of, with_stage, without_request, with_work, is_open_stage, lowest_open, completion_of}
 use Rattle.phases.specs.State.{Setting, State, Loop}
-use Rattle.phases.specs.PhaseList.{exports, is_alive, may_end, next_phase, is_active_handle}
+use Rattle.events.specs.Phases.{may_end, next_phase}
+use Rattle.phases.specs.PhaseList.{exports, is_alive, is_active_handle}
 use Rattle.phases.specs.Calls.{Calls}
 use Rattle.phases.specs.Host.{HostStep, CallStep, QueuesWork, Opens, next_work, emitted_in, with_roster, with_requests}
 use Rattle.phases.specs.Step.{LoopStep, StepIn, ListStep, EntryStep, NextPhase, RunsFrom, CallsBack, CallsHandle, Skips, TakesFirst, AfterWork, in_state, sharing, begun, entered, now_in, is_as_listed, handle_function}

@@ -7,9 +7,9 @@ use Rattle.handles.specs.Table.{after_again}
 use Rattle.interp.specs.Run.{HostCall}
 use Rattle.interp.specs.Hosting.{Lawful}
 use Rattle.imports.specs.declared.call.Call.{Call}
-use Rattle.phases.specs.declared.did.StepDid.{StepDid}
-use Rattle.phases.specs.declared.entry.EntryKind.{EntryKind}
-use Rattle.phases.specs.declared.entry.EntryKind.TheVariants as kind
+use Rattle.events.specs.declared.did.StepDid.{StepDid}
+use Rattle.events.specs.declared.phase.EntryKind.{EntryKind}
+use Rattle.events.specs.declared.phase.EntryKind.TheVariants as kind
 use Rattle.phases.specs.declared.entry.Entry.{Entry}
 use Rattle.phases.specs.declared.entry.Entry.TheVariants as entry
 use Rattle.phases.specs.declared.entry.Status.{Status}

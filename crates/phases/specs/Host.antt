@@ -12,8 +12,8 @@ use Rattle.imports.specs.declared.call.Call.TheVariants.{Now, TimerInit, IdleIni
 use Rattle.imports.specs.declared.call.Call.TheVariants.{CheckStop, TimerAgain, IdleStart, CheckStart, AsyncInit, AsyncSend}
 use Rattle.imports.specs.declared.call.Call.TheVariants.{IsActive, Close, QueueWork, Cancel, InLen, InCopy, OutSet, Emit}
 use Rattle.imports.specs.Linking.{Imports}
-use Rattle.order.specs.Numbers.{not_here, no_room, no_memory, outside_memory, busy, invalid, none_left, no_such_export}
-use Rattle.order.specs.Bytes.{input_length, copied_in, taken_out}
+use Rattle.order.specs.Uv.Numbers.{not_here, no_room, no_memory, outside_memory, busy, invalid, none_left, no_such_export}
+use Rattle.order.specs.Uv.Bytes.{input_length, copied_in, taken_out}
 use Rattle.order.specs.Work.{WorkOrder}
 use Rattle.phases.specs.declared.progress.CancelState.{CancelState}
 use Rattle.phases.specs.declared.progress.CancelState.TheVariants.{Unknown, Pending}

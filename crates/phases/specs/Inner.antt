@@ -4,3 +4,4 @@ pub mod Hosting
 pub mod Progress
 pub mod Ready
 pub mod Setting
+pub mod Keeping

@@ -5,14 +5,14 @@ use Rattle.syntax.specs.declared.types.Value.{Value}
 use Rattle.syntax.specs.declared.types.Value.TheVariants.{I32}
 use Rattle.imports.specs.declared.call.Call.{Call}
 use Rattle.imports.specs.declared.call.Call.TheVariants.{QueueWork, Cancel}
-use Rattle.order.specs.Numbers.{cancelled_code}
-use Rattle.order.specs.Bytes.{taken_out}
+use Rattle.order.specs.Uv.Numbers.{cancelled_code}
+use Rattle.order.specs.Uv.Bytes.{taken_out}
 use Rattle.order.specs.Work.{WorkOrder, WorkEnd, IsEndOf}
-use Rattle.phases.specs.declared.did.StepDid.{StepDid}
-use Rattle.phases.specs.declared.did.StepDid.TheVariants.{Ran}
+use Rattle.events.specs.declared.did.StepDid.{StepDid}
+use Rattle.events.specs.declared.did.StepDid.TheVariants.{Ran}
 use Rattle.phases.specs.declared.entry.Entry.{Entry}
 use Rattle.phases.specs.declared.entry.Entry.TheVariants as entry
-use Rattle.phases.specs.declared.entry.EntryKind.TheVariants as kind
+use Rattle.events.specs.declared.phase.EntryKind.TheVariants as kind
 use Rattle.phases.specs.Calls.{Calls}
 use Rattle.phases.specs.Guests.{GuestCall}
 use Rattle.phases.specs.History.{Event, Stepped, OrderAsked, CancelAnswered, EventStep, History, IsOpening, guest_calls}

@@ -5,7 +5,6 @@ pub mod Fitting
 pub mod Guests
 pub mod History
 pub mod Host
-pub mod Keeping
 pub mod Laws
 pub mod Outside
 pub mod PhaseList

@@ -1,6 +1,6 @@
 -- The calls of a loop's owner, other than its step.
 use Rattle.std.specs.Prelude.{◌≡◌, ℕ, Bool, true, false, max, Option, Some, None}
-use Rattle.order.specs.Numbers.{not_here}
+use Rattle.order.specs.Uv.Numbers.{not_here}
 use Rattle.order.specs.Work.{WorkOrder, WorkEnd}
 use Rattle.phases.specs.Calls.{Calls, OtherCalls}
 use Rattle.phases.specs.declared.entry.Status.{Status}

@@ -8,12 +8,12 @@ use Rattle.handles.specs.declared.handle.Kind.{Kind}
 use Rattle.handles.specs.declared.handle.Kind.TheVariants as kind
 use Rattle.handles.specs.declared.handle.Record.{Record}
 use Rattle.handles.specs.Table.{Table, record_of, due_list, kind_list, nearest_due}
-use Rattle.phases.specs.declared.entry.Phase.{Phase}
-use Rattle.phases.specs.declared.entry.Phase.TheVariants.{Begin, Timers, Idle, Poll, Check, Closing}
+use Rattle.events.specs.declared.phase.Phase.{Phase}
+use Rattle.events.specs.declared.phase.Phase.TheVariants.{Begin, Timers, Idle, Poll, Check, Closing}
 use Rattle.phases.specs.declared.entry.Entry.{Entry}
 use Rattle.phases.specs.declared.entry.Entry.TheVariants as entry
-use Rattle.phases.specs.declared.did.Hint.{Hint}
-use Rattle.phases.specs.declared.did.Hint.TheVariants.{Now, For, Forever}
+use Rattle.events.specs.declared.did.Hint.{Hint}
+use Rattle.events.specs.declared.did.Hint.TheVariants.{Now, For, Forever}
 use Rattle.phases.specs.Roster.{Roster}
 use Rattle.phases.specs.Requests.{settled}
 use Rattle.phases.specs.State.{State}
@@ -77,20 +77,6 @@ phase_list s Idle = idle_list s
 phase_list s Poll = poll_list s
 phase_list s Check = check_list s
 phase_list s Closing = closing_list s
-
-abbrev pub next_phase : Phase → Phase
-next_phase Begin = Timers
-next_phase Timers = Idle
-next_phase Idle = Poll
-next_phase Poll = Check
-next_phase Check = Closing
-next_phase Closing = Timers
-
--- where this phase's list is used up, a loop that is not alive is over
-abbrev pub may_end : Phase → Bool
-may_end Begin = true
-may_end Closing = true
-may_end _ = false
 
 abbrev pub is_empty : {X : Type 0} → List X → Bool
 is_empty xs = length xs == 0

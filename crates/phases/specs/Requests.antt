@@ -2,7 +2,7 @@
 use Rattle.std.specs.Prelude.{◌≡◌, ℕ, ◌≤◌, ◌==◌, Bool, true, false, not, List, [], ◌∷◌, ◌++◌, map, filter, find, All, Option}
 use Rattle.std.specs.Prelude.{Some, None, if◌then◌else◌}
 use Rattle.std.specs.List.{list_any}
-use Rattle.order.specs.Numbers.{no_memory, cancelled_code}
+use Rattle.order.specs.Uv.Numbers.{no_memory, cancelled_code}
 use Rattle.order.specs.Work.{WorkOrder, WorkEnd, Done, Trap, Depth, Spent, NoMemory}
 
 -- how far a request has come: not handed out, handed out, answered by a reply, or cancelled

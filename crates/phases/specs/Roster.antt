@@ -14,7 +14,7 @@ use Rattle.handles.specs.declared.handle.Kind.{Kind}
 use Rattle.handles.specs.declared.handle.Kind.TheVariants as kind
 use Rattle.handles.specs.Table.{Table, empty_table, record_of, new_record, with_record, same_kind, was_started, after_start}
 use Rattle.handles.specs.Table.{after_stop, after_again, after_close, after_remove}
-use Rattle.order.specs.Numbers.{no_room, invalid, none_left}
+use Rattle.order.specs.Uv.Numbers.{no_room, invalid, none_left}
 
 -- The handles by their numbers; for each async made, in order, its handle, until that is removed; the closing
 -- handles in the order of their closing; and the functions that callbacks name.

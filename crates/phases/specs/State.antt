@@ -2,8 +2,8 @@
 use Rattle.std.specs.Prelude.{ℕ, List, [], Option, None}
 use Rattle.syntax.specs.Loaded.{Loaded}
 use Rattle.instance.specs.Store.{Store}
-use Rattle.phases.specs.declared.entry.Phase.{Phase}
-use Rattle.phases.specs.declared.entry.Phase.TheVariants as phase
+use Rattle.events.specs.declared.phase.Phase.{Phase}
+use Rattle.events.specs.declared.phase.Phase.TheVariants as phase
 use Rattle.phases.specs.declared.entry.Entry.{Entry}
 use Rattle.phases.specs.declared.entry.Status.{Status}
 use Rattle.phases.specs.declared.entry.Status.TheVariants.{Running}

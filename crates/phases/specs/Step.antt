@@ -11,17 +11,17 @@ use Rattle.interp.specs.Run.{HostCall}
 use Rattle.interp.specs.Running.{end_of_run}
 use Rattle.interp.specs.Hosting.{Lawful}
 use Rattle.interp.specs.Invoking.{Invokes}
-use Rattle.interp.specs.declared.ended.Ending.{Ending}
-use Rattle.interp.specs.declared.ended.Ending.TheVariants as ending
-use Rattle.interp.specs.declared.ended.Ended.{Ended}
+use Rattle.events.specs.declared.ended.Ending.{Ending}
+use Rattle.events.specs.declared.ended.Ending.TheVariants as ending
+use Rattle.events.specs.declared.ended.Ended.{Ended}
 use Rattle.imports.specs.Linking.{ExportsFunction}
-use Rattle.phases.specs.declared.did.StepDid.{StepDid}
-use Rattle.phases.specs.declared.did.StepDid.TheVariants.{Entered, Ran, Skipped}
-use Rattle.phases.specs.declared.did.StepDid.TheVariants as step
-use Rattle.phases.specs.declared.entry.EntryKind.{EntryKind}
-use Rattle.phases.specs.declared.entry.EntryKind.TheVariants as kind
-use Rattle.phases.specs.declared.entry.Phase.{Phase}
-use Rattle.phases.specs.declared.entry.Phase.TheVariants.{Timers}
+use Rattle.events.specs.declared.did.StepDid.{StepDid}
+use Rattle.events.specs.declared.did.StepDid.TheVariants.{Entered, Ran, Skipped}
+use Rattle.events.specs.declared.did.StepDid.TheVariants as step
+use Rattle.events.specs.declared.phase.EntryKind.{EntryKind}
+use Rattle.events.specs.declared.phase.EntryKind.TheVariants as kind
+use Rattle.events.specs.declared.phase.Phase.{Phase}
+use Rattle.events.specs.declared.phase.Phase.TheVariants.{Timers}
 use Rattle.phases.specs.declared.entry.Entry.{Entry}
 use Rattle.phases.specs.declared.entry.Entry.TheVariants as entry
 use Rattle.phases.specs.declared.entry.Status.{Status}
@@ -29,7 +29,8 @@ use Rattle.phases.specs.declared.entry.Status.TheVariants.{Running, Over, Failed
 use Rattle.phases.specs.Roster.{Roster, callback_function, async_handle, with_handles, without_handle}
 use Rattle.phases.specs.Requests.{Completion, request_of, without_request, completion_of}
 use Rattle.phases.specs.State.{Setting, Loop, State}
-use Rattle.phases.specs.PhaseList.{phase_list, next_phase, may_end, is_alive, is_active_handle}
+use Rattle.events.specs.Phases.{next_phase, may_end}
+use Rattle.phases.specs.PhaseList.{phase_list, is_alive, is_active_handle}
 use Rattle.phases.specs.Calls.{Calls}
 use Rattle.phases.specs.Host.{HostStep, with_roster, with_requests}
 

@@ -13,7 +13,6 @@ ghost use Rattle.phases.specs.Outside.{CancelIn, StartsBeside, SendsBeside};
 ghost use Rattle.phases.specs.Step.{LoopStep};
 
 mod callbacks;
-mod did;
 mod entries;
 mod entry;
 pub mod laws;
@@ -30,7 +29,8 @@ mod shared;
 mod stepping;
 mod work;
 
-pub use did::{Hint, StepDid};
-pub use entry::{Entry, EntryKind, Phase, Status};
+pub use entry::{Entry, Status};
+pub use events::did::{Hint, StepDid};
+pub use events::phase::{EntryKind, Phase};
 pub use loop_core::{Accepted, LoopCore};
 pub use shared::{Beside, Shared};

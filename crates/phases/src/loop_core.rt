@@ -11,7 +11,7 @@ ghost use Rattle.order.specs.Orders.{order_of};
 ghost use Rattle.phases.specs.Fitting.{AllRight, IsShort};
 ghost use Rattle.phases.specs.Accepting.{Accepts};
 ghost use Rattle.phases.specs.Outside.{after_clock, is_failed, next_order_of, CancelsLoop, StartsBeside, SendsBeside};
-ghost use Rattle.phases.specs.Keeping.{CanRun};
+ghost use Rattle.order.specs.Runnable.{CanRun};
 ghost use Rattle.phases.specs.PhaseList.{begin_list, hint_of, is_alive, IsAlive, IsHint};
 ghost use Rattle.phases.specs.Inner.Ready.{IsReady, Spares};
 ghost use Rattle.phases.specs.Requests.{IsLowestOpen};
@@ -20,12 +20,13 @@ ghost use Rattle.phases.specs.State.{opening};
 ghost use Rattle.phases.specs.Step.{LoopStep, ListStep, EntryStep, CallsBack, CallsHandle, RunsFrom, Skips, TakesFirst, AfterWork, is_as_listed};
 ghost use Rattle.phases.specs.View.{new_view};
 
-use crate::did::{Hint, StepDid};
-use crate::entry::{Entry, EntryKind, Status};
+use crate::entry::{Entry, Status};
 use crate::loop_host::LoopHost;
 use crate::opening::opened;
 use crate::setting::Setting;
 use crate::shared::{Beside, Shared};
+use events::did::{Hint, StepDid};
+use events::phase::EntryKind;
 use handles::Kind;
 use imports::{EntryPoint, Linked};
 use instance::stack::Stop;
@@ -73,7 +74,7 @@ impl<B: Shared + Drop> Model for LoopCore<B> {
     ghost use Rattle.syntax.specs.Loaded.{loaded_coded};
     ghost use Rattle.phases.specs.State.{Core};
     ghost use Rattle.phases.specs.Inner.Setting.{setting_of};
-    ghost use Rattle.phases.specs.Keeping.{Keeps};
+    ghost use Rattle.phases.specs.Inner.Keeping.{Keeps};
     ghost use Rattle.std.specs.Arc.{arc_value};
 
     ghost Value = { Core B };

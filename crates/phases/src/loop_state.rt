@@ -3,7 +3,7 @@
 ghost use Rattle.std.specs.Prelude.{◌≡◌, ◌≢◌, ◌↔◌, ◌≤◌, ◌<◌, ◌+◌, ◌^◌, ◌||◌, if◌then◌else◌, [], Some, None, true, false, length, max, IsTrue, IfOk, IfErr, IfSome, OnOk, option_map};
 ghost use Rattle.handles.specs.Table.{saturated, empty_table};
 ghost use Rattle.instance.specs.Reads.{with_bytes};
-ghost use Rattle.order.specs.Bytes.{input_length, copied_in};
+ghost use Rattle.order.specs.Uv.Bytes.{input_length, copied_in};
 ghost use Rattle.order.specs.Orders.{order_of, end_of};
 ghost use Rattle.phases.specs.Fitting.{AllRight};
 ghost use Rattle.phases.specs.Host.{with_roster, with_requests, emitted_in};
@@ -14,19 +14,20 @@ ghost use Rattle.phases.specs.PhaseList.{is_alive, hint_of, until_due, first_lis
 ghost use Rattle.phases.specs.State.{opening};
 ghost use Rattle.phases.specs.Roster.{Roster as Handles_of, with_made, stopped_in, started_in, again_in, closed_in, active_answer, Makes, MakesAsync};
 
-use crate::did::Hint;
 use crate::entries::Entries;
-use crate::entry::{Phase, Status};
+use crate::entry::Status;
 use crate::requests::Requests;
 use crate::roster::Roster;
 use crate::shared::Shared;
 use crate::work::cancel;
 use arrayvec::ArrayVec;
+use events::did::Hint;
+use events::phase::Phase;
 use handles::Kind;
 use instance::memory::Memory;
 use limits::MAX_EMITS;
-use order::answers::{NONE_LEFT, NOT_HERE};
-use order::calls::copy_in;
+use order::uv::answers::{NONE_LEFT, NOT_HERE};
+use order::uv::calls::copy_in;
 use order::{Order, Reply};
 use std::alloc::{AllocError, Global};
 use std::marker::Model;

@@ -7,7 +7,7 @@ ghost use Rattle.phases.specs.Host.{stage_cancel_state};
 ghost use Rattle.phases.specs.Requests.{Stage, HandedOut, Answered, Cancelled, is_open_stage, is_settled, completion_of, end_completion};
 
 use crate::progress::{CancelState, Completion, Progress};
-use order::answers::{CANCELLED_CODE, NO_MEMORY};
+use order::uv::answers::{CANCELLED_CODE, NO_MEMORY};
 use order::{Order, Outcome};
 use std::alloc::Global;
 use std::marker::Model;

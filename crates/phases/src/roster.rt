@@ -11,7 +11,7 @@ ghost use Rattle.phases.specs.Step.{is_as_listed, handle_function};
 use arrayvec::ArrayVec;
 use handles::{Handles, Kind, Place, Record};
 use limits::{MAX_ASYNCS, MAX_HANDLES};
-use order::answers::{INVALID, NO_ROOM, NONE_LEFT};
+use order::uv::answers::{INVALID, NO_ROOM, NONE_LEFT};
 use std::alloc::{AllocError, Global};
 use std::marker::Model;
 

@@ -13,12 +13,13 @@ ghost use Rattle.phases.specs.Requests.{request_of, without_request, is_settled,
 ghost use Rattle.phases.specs.Roster.{async_handle, with_handles, without_handle};
 ghost use Rattle.phases.specs.Step.{turn, in_phase, now_in, moment_in, begun, finished, returns, is_as_listed, handle_function};
 
-use crate::did::StepDid;
-use crate::entry::{Entry, Phase, Status};
+use crate::entry::{Entry, Status};
 use crate::loop_state::LoopState;
 use crate::progress::Completion;
+use events::did::StepDid;
+use events::ended::{Ended, Ending};
+use events::phase::Phase;
 use handles::Kind;
-use interp::ended::{Ended, Ending};
 use std::alloc::Global;
 
 impl LoopState {

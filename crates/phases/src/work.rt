@@ -2,7 +2,7 @@
 
 ghost use Rattle.std.specs.Prelude.{◌≡◌, ◌<◌, ◌+◌, ◌^◌, ◌⊎◌, length};
 ghost use Rattle.imports.specs.Uv.{name_of_entry};
-ghost use Rattle.order.specs.Numbers.{no_memory};
+ghost use Rattle.order.specs.Uv.Numbers.{no_memory};
 ghost use Rattle.phases.specs.Host.{Cancels, Sends, QueuesWork, Opens};
 ghost use Rattle.phases.specs.PhaseList.{exports};
 ghost use Rattle.phases.specs.Inner.Setting.{setting_of};
@@ -16,7 +16,7 @@ use crate::shared::Shared;
 use imports::{EntryPoint, Linked};
 use instance::memory::Memory;
 use limits::{MAX_BYTES, MAX_REQUEST_NUMBER, MAX_REQUESTS};
-use order::answers::{
+use order::uv::answers::{
     BUSY, INVALID, NO_MEMORY, NO_ROOM, NO_SUCH_EXPORT, NONE_LEFT, OUTSIDE_MEMORY,
 };
 use std::alloc::Global;

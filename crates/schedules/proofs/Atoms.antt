@@ -16,8 +16,8 @@ use Rattle.world_log.specs.declared.entry.LogEntry.TheVariants as line
 use Rattle.world_log.specs.declared.outcome.PostOutcome.TheVariants as post
 use Rattle.world_log.specs.declared.outcome.StartOutcome.TheVariants as start
 use Rattle.world_log.specs.declared.outcome.FinishOutcome.TheVariants as finish
-use Rattle.phases.specs.declared.did.StepDid.{StepDid}
-use Rattle.phases.specs.declared.did.StepDid.TheVariants as did
+use Rattle.events.specs.declared.did.StepDid.{StepDid}
+use Rattle.events.specs.declared.did.StepDid.TheVariants as did
 use Rattle.world.specs.Laws.{RunsJoin}
 use Rattle.world.specs.World.{World, Worker, Idle, Taken, Started, Only, PostsOrder, StartsJob, FinishesJob, SendsTo, WorldStep, with_loop, with_worker, job_of, told_of, core}
 use Rattle.schedules.specs.Accesses.{over}

@@ -2,7 +2,7 @@
 use Rattle.std.proofs.Common.{◌≡◌, ℕ, ◌+◌, ◌≤◌, Bool, true, false, cond, not, List, [], ◌∷◌, ◌++◌, map, Some, refl, sym, ap, subst, ◌∙◌, arith, append_assoc, append-nil}
 use Rattle.std.specs.List.{filter, find}
 use Rattle.instance.specs.Store.{Store}
-use Rattle.phases.specs.declared.did.StepDid.{StepDid}
+use Rattle.events.specs.declared.did.StepDid.{StepDid}
 use Rattle.phases.specs.Guests.{GuestCall}
 use Rattle.phases.specs.Requests.{Stage, Request, Requests, has_number, in_stage, with_stage, without_request, is_open_stage}
 use Rattle.phases.specs.State.{Setting, State, Loop}

@@ -2,7 +2,7 @@
 use Rattle.std.proofs.Common.{◌≡◌, ℕ, zero, suc, ◌<◌, Bool, true, false, List, sum, [], ◌∷◌, ◌++◌, refl, sym, ap, subst, ◌∙◌, append_assoc, append-nil}
 use Rattle.limits.specs.declared.TheConstants.{MAX_ASYNCS, MAX_SENDS}
 use Rattle.instance.specs.Store.{Store}
-use Rattle.phases.specs.declared.did.StepDid.{StepDid}
+use Rattle.events.specs.declared.did.StepDid.{StepDid}
 use Rattle.phases.specs.State.{Setting, State, Loop}
 use Rattle.tallies.specs.Counts.{raised}
 use Rattle.tallies.specs.Requests.{times}

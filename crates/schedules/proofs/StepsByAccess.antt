@@ -3,7 +3,7 @@ use Rattle.std.proofs.Common.{◌≡◌, List, [], ◌∷◌, ◌++◌, refl, sy
 use Rattle.instance.specs.Store.{Store}
 use Rattle.interp.specs.Run.{HostCall}
 use Rattle.interp.specs.Hosting.{Lawful}
-use Rattle.phases.specs.declared.did.StepDid.{StepDid}
+use Rattle.events.specs.declared.did.StepDid.{StepDid}
 use Rattle.phases.specs.Calls.{Calls}
 use Rattle.phases.specs.Host.{HostStep}
 use Rattle.phases.specs.State.{Setting, State, Loop}

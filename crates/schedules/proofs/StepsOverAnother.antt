@@ -10,11 +10,11 @@ use Rattle.interp.specs.Run.{HostCall}
 use Rattle.interp.specs.Hosting.{Lawful}
 use Rattle.imports.specs.declared.call.Call.{Call}
 use Rattle.imports.specs.declared.call.Call.TheVariants.{Now, TimerInit, IdleInit, CheckInit, TimerStart, TimerStop, IdleStop, CheckStop, TimerAgain, IdleStart, CheckStart, AsyncInit, AsyncSend, IsActive, Close, QueueWork, Cancel, InLen, InCopy, OutSet, Emit}
-use Rattle.order.specs.Numbers.{no_such_export, invalid, no_room, none_left, no_memory, outside_memory}
-use Rattle.order.specs.Bytes.{taken_out}
-use Rattle.phases.specs.declared.did.StepDid.{StepDid}
-use Rattle.phases.specs.declared.entry.EntryKind.{EntryKind}
-use Rattle.phases.specs.declared.entry.EntryKind.TheVariants as kind
+use Rattle.order.specs.Uv.Numbers.{no_such_export, invalid, no_room, none_left, no_memory, outside_memory}
+use Rattle.order.specs.Uv.Bytes.{taken_out}
+use Rattle.events.specs.declared.did.StepDid.{StepDid}
+use Rattle.events.specs.declared.phase.EntryKind.{EntryKind}
+use Rattle.events.specs.declared.phase.EntryKind.TheVariants as kind
 use Rattle.phases.specs.declared.entry.Entry.{Entry}
 use Rattle.phases.specs.declared.entry.Entry.TheVariants as entry
 use Rattle.phases.specs.declared.entry.Status.{Status}

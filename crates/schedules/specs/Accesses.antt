@@ -1,7 +1,7 @@
 -- What a step of a loop does at the desk, one atomic step after another.
 use Rattle.std.specs.Prelude.{◌≡◌, ℕ, Bool, List, [], ◌∷◌}
 use Rattle.instance.specs.Store.{Store}
-use Rattle.phases.specs.declared.did.StepDid.{StepDid}
+use Rattle.events.specs.declared.did.StepDid.{StepDid}
 use Rattle.phases.specs.Calls.{Calls}
 use Rattle.phases.specs.State.{Setting, Loop, State}
 use Rattle.phases.specs.Step.{LoopStep}

@@ -1,7 +1,7 @@
 -- What the threads do is, for each loop, what a world does.
 use Rattle.std.specs.Prelude.{◌≡◌, ℕ, ◌≤◌, ◌==◌, ◌↔◌, Bool, true, false, List, filter, count_by, Some}
 use Rattle.std.specs.Prelude.{slice_get}
-use Rattle.phases.specs.declared.did.StepDid.{StepDid}
+use Rattle.events.specs.declared.did.StepDid.{StepDid}
 use Rattle.phases.specs.State.{Setting, Loop}
 use Rattle.phases.specs.Step.{LoopStep}
 use Rattle.desk.specs.Desk.{Desk, desk_calls}

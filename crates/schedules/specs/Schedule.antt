@@ -2,7 +2,7 @@
 use Rattle.std.specs.Prelude.{◌≡◌, ℕ, ◌⊎◌, List, [], ◌∷◌, ◌++◌, map, Option, Some, None, slice_get, slice_set}
 use Rattle.instance.specs.Store.{Store}
 use Rattle.order.specs.Work.{WorkOrder}
-use Rattle.phases.specs.declared.did.StepDid.{StepDid}
+use Rattle.events.specs.declared.did.StepDid.{StepDid}
 use Rattle.phases.specs.Outside.{next_order_of}
 use Rattle.phases.specs.State.{Setting, Loop, State}
 use Rattle.phases.specs.Step.{sharing}

@@ -1,8 +1,8 @@
 -- A line in parts, as it is written.
 use Rattle.std.proofs.Common.{◌≡◌, ℕ, List, [], ◌∷◌, ◌++◌, codes, decimal, refl, sym, ap, ◌∙◌, append-nil, append_assoc, Result, Ok, Err, OnOk, is_ok, if◌then◌else◌}
 use Rattle.std.specs.List.{join_with_byte}
-use Rattle.interp.specs.declared.ended.Ended.{Ended}
-use Rattle.phases.specs.declared.entry.EntryKind.{EntryKind}
+use Rattle.events.specs.declared.ended.Ended.{Ended}
+use Rattle.events.specs.declared.phase.EntryKind.{EntryKind}
 use Rattle.world_log.specs.declared.entry.LogEntry.TheVariants.{Ran}
 use Rattle.script.specs.Text.{spaced, callback_words, ending_words, emit_words, line_of}
 

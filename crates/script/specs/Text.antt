@@ -3,13 +3,13 @@ use Rattle.std.specs.Prelude.{ℕ, List, [], ◌∷◌, ◌++◌, Some, None, ma
 use Rattle.std.specs.Fmt.{signed_decimal}
 use Rattle.std.specs.Int.{w32, w64, cast_signed}
 use Rattle.std.specs.List.{join_with_byte, flat_map}
-use Rattle.interp.specs.Traps.{trap_number}
-use Rattle.interp.specs.declared.ended.Ending.{Ending}
-use Rattle.interp.specs.declared.ended.Ending.TheVariants.{Return, Trap, Depth, Spent}
-use Rattle.phases.specs.declared.entry.Phase.{Phase}
-use Rattle.phases.specs.declared.entry.Phase.TheVariants as phase
-use Rattle.phases.specs.declared.entry.EntryKind.{EntryKind}
-use Rattle.phases.specs.declared.entry.EntryKind.TheVariants as kind
+use Rattle.events.specs.Traps.{trap_number}
+use Rattle.events.specs.declared.ended.Ending.{Ending}
+use Rattle.events.specs.declared.ended.Ending.TheVariants.{Return, Trap, Depth, Spent}
+use Rattle.events.specs.declared.phase.Phase.{Phase}
+use Rattle.events.specs.declared.phase.Phase.TheVariants as phase
+use Rattle.events.specs.declared.phase.EntryKind.{EntryKind}
+use Rattle.events.specs.declared.phase.EntryKind.TheVariants as kind
 use Rattle.world_log.specs.declared.outcome.JobEnd.{JobEnd}
 use Rattle.world_log.specs.declared.outcome.JobEnd.TheVariants.{Done, Trap as WorkTrap, Depth as WorkDepth}
 use Rattle.world_log.specs.declared.outcome.JobEnd.TheVariants.{Spent as WorkSpent, NoMemory}

@@ -2,8 +2,9 @@
 
 ghost use Rattle.std.specs.Prelude.{◌≡◌, IsTrue, ◌↔◌};
 
+use events::settings::LoopSettings;
 use limits::{MAX_DEPTH, MAX_LOOPS, MAX_SCRIPT_MODULES, MAX_SCRIPT_STEPS, MAX_WORKERS};
-use world_log::{LoopSettings, Step};
+use world_log::Step;
 
 /// A loop of a script.
 #[derive(Clone, Copy, Debug)]

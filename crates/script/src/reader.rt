@@ -7,10 +7,11 @@ ghost use Rattle.script.specs.Limits.{IsWithinLimits};
 use crate::document::{Document, LoopDocument, Object, Ranged};
 use crate::fault::ScriptFault;
 use crate::plan::{LoopPlan, Plan};
+use events::settings::LoopSettings;
 use hex::FromHexError;
 use json::Scratch;
 use std::alloc::{AllocError, Global};
-use world_log::{LoopSettings, Step};
+use world_log::Step;
 
 /// Reads a script: one JSON object with the keys `modules`, `loops`, `workers` and `steps`.
 ///

@@ -3,8 +3,8 @@
 ghost use Rattle.std.specs.Prelude.{◌≡◌, ◌++◌, ◌∷◌, codes, decimal, string_bytes, OnOk, IfOk};
 ghost use Rattle.script.specs.Text.{phase_word, kind_word, callback_words, spaced, ending_words, work_words, emit_words, line_of, log_text};
 
-use interp::ended::{Ended, Ending};
-use phases::{EntryKind, Phase};
+use events::ended::{Ended, Ending};
+use events::phase::{EntryKind, Phase};
 use std::alloc::{AllocError, Global};
 use world_log::{
     CollectOutcome, FinishOutcome, JobEnd, JobId, Log, LogEntry, PostOutcome, StartOutcome,

@@ -1,15 +1,16 @@
 -- A step that tells that the loop is over leaves it so.
 use Rattle.std.proofs.Common.{◌≡◌, ℕ, ◌==◌, Bool, true, false, cond, not, ◌&&◌, List, [], ◌∷◌, Option, Some, None, refl, sym, ap, ◌∙◌, MatchBool, MatchOption}
-use Rattle.phases.specs.declared.did.StepDid.{StepDid}
-use Rattle.phases.specs.declared.did.StepDid.TheVariants as did
+use Rattle.events.specs.declared.did.StepDid.{StepDid}
+use Rattle.events.specs.declared.did.StepDid.TheVariants as did
 use Rattle.phases.specs.declared.entry.Entry.{Entry}
 use Rattle.phases.specs.declared.entry.Entry.TheVariants as entry
-use Rattle.phases.specs.declared.entry.EntryKind.{EntryKind}
-use Rattle.phases.specs.declared.entry.EntryKind.TheVariants as kind
+use Rattle.events.specs.declared.phase.EntryKind.{EntryKind}
+use Rattle.events.specs.declared.phase.EntryKind.TheVariants as kind
 use Rattle.phases.specs.declared.entry.Status.{Status}
 use Rattle.phases.specs.declared.entry.Status.TheVariants as status
 use Rattle.phases.specs.Calls.{Calls}
-use Rattle.phases.specs.PhaseList.{is_alive, is_active_handle, may_end, next_phase}
+use Rattle.events.specs.Phases.{may_end, next_phase}
+use Rattle.phases.specs.PhaseList.{is_alive, is_active_handle}
 use Rattle.phases.specs.Requests.{Request, Completion, request_of, completion_of}
 use Rattle.phases.specs.Roster.{Roster, async_handle, with_handles, without_handle}
 use Rattle.phases.specs.Host.{with_roster}

@@ -8,13 +8,13 @@ use Rattle.handles.specs.Table.{saturated}
 use Rattle.instance.specs.Fresh.{IsFresh}
 use Rattle.order.specs.declared.reply.Reply.{Reply}
 use Rattle.order.specs.Orders.{order_of, end_of}
-use Rattle.phases.specs.declared.did.StepDid.{StepDid}
-use Rattle.phases.specs.declared.did.StepDid.TheVariants as did
-use Rattle.phases.specs.declared.did.Hint.TheVariants.{For}
-use Rattle.phases.specs.declared.entry.EntryKind.{EntryKind}
+use Rattle.events.specs.declared.did.StepDid.{StepDid}
+use Rattle.events.specs.declared.did.StepDid.TheVariants as did
+use Rattle.events.specs.declared.did.Hint.TheVariants.{For}
+use Rattle.events.specs.declared.phase.EntryKind.{EntryKind}
 use Rattle.phases.specs.declared.entry.Status.{Status}
 use Rattle.phases.specs.declared.entry.Status.TheVariants as status
-use Rattle.interp.specs.declared.ended.Ended.{Ended}
+use Rattle.events.specs.declared.ended.Ended.{Ended}
 use Rattle.phases.specs.declared.loop_core.Accepted.{Accepted}
 use Rattle.phases.specs.declared.loop_core.Accepted.TheVariants as accepted
 use Rattle.phases.specs.Accepting.{Accepts}

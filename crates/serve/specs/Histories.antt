@@ -2,9 +2,9 @@
 use Rattle.std.specs.Prelude.{◌≡◌, ℕ, ◌+◌, ◌<◌, ◌≤◌, Bool, true, false, List, [], ◌∷◌, count_by, Option, Some, None}
 use Rattle.limits.specs.declared.TheConstants.{MAX_CALLBACKS}
 use Rattle.syntax.specs.Loaded.{Loaded}
-use Rattle.phases.specs.declared.did.StepDid.TheVariants.{Ran}
+use Rattle.events.specs.declared.did.StepDid.TheVariants.{Ran}
 use Rattle.handles.specs.Table.{saturated}
-use Rattle.phases.specs.declared.did.Hint.TheVariants.{For, Forever}
+use Rattle.events.specs.declared.did.Hint.TheVariants.{For, Forever}
 use Rattle.phases.specs.declared.entry.Status.TheVariants as status
 use Rattle.phases.specs.Calls.{Calls}
 use Rattle.phases.specs.History.{Event, Stepped, OrderAsked, EndOffered, CancelAnswered, ClockRaised, MovedBeside, History, IsOpening, emitted}

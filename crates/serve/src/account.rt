@@ -1,9 +1,10 @@
 // What a loop did last, for those who want to know why it ended.
 
-use interp::ended::{Ended, Ending};
+use events::did::StepDid;
+use events::ended::{Ended, Ending};
+use events::phase::{EntryKind, Phase};
 use limits::MAX_ASYNCS;
 use order::{Order, Outcome, Reply};
-use phases::{EntryKind, Phase, StepDid};
 use std::alloc::{AllocError, Global};
 use std::sync::Arc;
 

@@ -3,7 +3,7 @@ ghost use Rattle.std.specs.Prelude.{◌≡◌, ◌<◌};
 ghost use Rattle.limits.specs.declared.TheConstants.{MAX_LOOPS, MAX_REQUESTS};
 ghost use Rattle.board.specs.Jobs.{ticket_of};
 ghost use Rattle.order.specs.Orders.{order_of};
-ghost use Rattle.phases.specs.Keeping.{CanRun};
+ghost use Rattle.order.specs.Runnable.{CanRun};
 
 use claims::Ticket;
 use order::{Order, Reply};
@@ -28,7 +28,7 @@ impl Model for Task {
     ghost use Rattle.order.specs.Orders.{order_of};
     ghost use Rattle.order.specs.declared.order.Order.{Order};
     ghost use Rattle.order.specs.contracts.order.Order as request;
-    ghost use Rattle.phases.specs.Keeping.{CanRun};
+    ghost use Rattle.order.specs.Runnable.{CanRun};
 
     ghost Value = { Order };
 

@@ -1,6 +1,6 @@
 // Who is told what loops do, as they do it.
 
-use phases::StepDid;
+use events::did::StepDid;
 use std::sync::Wait;
 
 /// Is told what loops do, each time by the thread of the loop that did it, which goes on once the call returns.

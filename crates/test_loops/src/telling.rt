@@ -1,7 +1,8 @@
 // What a loop does, as text: its events, one behind the other.
 
-use interp::ended::Ending;
-use phases::{LoopCore, Shared, StepDid};
+use events::did::StepDid;
+use events::ended::Ending;
+use phases::{LoopCore, Shared};
 use std::alloc::AllocError;
 use std::process::Abort;
 

@@ -3,10 +3,11 @@
 use crate::guests::{loop_at_desk, with_custom_section};
 use crate::telling::{check_told, next, steps};
 use desk::Desk;
+use events::did::Hint;
 use imports::EntryPoint;
 use limits::{MAX_ASYNCS, MAX_BYTES, MAX_DEPTH};
 use order::{Order, Reply};
-use phases::{Accepted, Hint, LoopCore};
+use phases::{Accepted, LoopCore};
 use std::alloc::{AllocError, Global};
 use std::process::Abort;
 use std::sync::Arc;

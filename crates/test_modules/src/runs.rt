@@ -5,10 +5,10 @@ ghost use Rattle.limits.specs.declared.TheConstants.{MAX_DEPTH};
 
 use crate::modules::with_body;
 use crate::rows::{check_rows, check_told_of};
+use events::ended::{Ended, Ending};
 use instance::memory::Memory;
 use instance::state::Instance;
 use interp::conditions::takes_arguments;
-use interp::ended::{Ended, Ending};
 use interp::host::{Args, Host};
 use interp::invoke::invoke;
 use std::alloc::{AllocError, Global};

@@ -1,10 +1,10 @@
 // Lines of a log that no run of a script reaches, and the words in them.
 
 use crate::telling::check_told;
-use interp::ended::{Ended, Ending};
-use interp::trap::TrapCode;
-use interp::values::Values;
-use phases::EntryKind;
+use events::ended::{Ended, Ending};
+use events::phase::EntryKind;
+use events::trap::TrapCode;
+use events::values::Values;
 use script::print;
 use std::alloc::{AllocError, Global};
 use std::process::Abort;

@@ -20,7 +20,7 @@ use Rattle.phases.specs.Roster.{opening_roster}
 use Rattle.phases.specs.Step.{LoopStep, in_state}
 use Rattle.phases.specs.Outside.{after_clock, is_failed, next_order_of, CancelsLoop, StartsBeside, SendsBeside}
 use Rattle.phases.specs.PhaseList.{begin_list, is_alive}
-use Rattle.phases.specs.declared.did.StepDid.{StepDid}
+use Rattle.events.specs.declared.did.StepDid.{StepDid}
 use Rattle.loader.specs.Loading.{IsAccepted, IsRefused}
 use Rattle.loader.specs.declared.refusal.Refusal.{Refusal}
 use Rattle.loader.specs.declared.refusal.Refusal.TheVariants.{Memory}

@@ -11,17 +11,17 @@ use Rattle.order.specs.declared.order.Outcome.{Outcome}
 use Rattle.order.specs.declared.order.Outcome.TheVariants as outcome
 use Rattle.order.specs.declared.run.Told.{Told}
 use Rattle.wasmloop_c.specs.declared.work.About.{About}
-use Rattle.interp.specs.Traps.{trap_number}
-use Rattle.interp.specs.declared.ended.Ending.{Ending}
-use Rattle.interp.specs.declared.ended.Ending.TheVariants.{Return, Trap, Depth, Spent}
-use Rattle.phases.specs.declared.did.Hint.{Hint}
-use Rattle.phases.specs.declared.did.Hint.TheVariants.{Now, For, Forever}
-use Rattle.phases.specs.declared.did.StepDid.{StepDid}
-use Rattle.phases.specs.declared.did.StepDid.TheVariants as step
-use Rattle.phases.specs.declared.entry.EntryKind.{EntryKind}
-use Rattle.phases.specs.declared.entry.EntryKind.TheVariants as kind
-use Rattle.phases.specs.declared.entry.Phase.{Phase}
-use Rattle.phases.specs.declared.entry.Phase.TheVariants as phase
+use Rattle.events.specs.Traps.{trap_number}
+use Rattle.events.specs.declared.ended.Ending.{Ending}
+use Rattle.events.specs.declared.ended.Ending.TheVariants.{Return, Trap, Depth, Spent}
+use Rattle.events.specs.declared.did.Hint.{Hint}
+use Rattle.events.specs.declared.did.Hint.TheVariants.{Now, For, Forever}
+use Rattle.events.specs.declared.did.StepDid.{StepDid}
+use Rattle.events.specs.declared.did.StepDid.TheVariants as step
+use Rattle.events.specs.declared.phase.EntryKind.{EntryKind}
+use Rattle.events.specs.declared.phase.EntryKind.TheVariants as kind
+use Rattle.events.specs.declared.phase.Phase.{Phase}
+use Rattle.events.specs.declared.phase.Phase.TheVariants as phase
 use Rattle.wasmloop_c.specs.declared.did.Did.{Did}
 
 abbrev pub phase_number : Phase → ℕ

@@ -4,7 +4,7 @@ ghost use Rattle.std.specs.Prelude.{◌≡◌, ◌<◌};
 ghost use Rattle.limits.specs.declared.TheConstants.{MAX_REQUESTS};
 ghost use Rattle.order.specs.Orders.{order_of, end_of};
 ghost use Rattle.order.specs.Work.{Uses};
-ghost use Rattle.phases.specs.Keeping.{CanRun};
+ghost use Rattle.order.specs.Runnable.{CanRun};
 
 use order::{Order, Told};
 use std::alloc::Global;
@@ -28,7 +28,7 @@ impl Model for Job {
     ghost use Rattle.order.specs.Orders.{order_of};
     ghost use Rattle.order.specs.declared.order.Order.{Order};
     ghost use Rattle.order.specs.contracts.order.Order as request;
-    ghost use Rattle.phases.specs.Keeping.{CanRun};
+    ghost use Rattle.order.specs.Runnable.{CanRun};
 
     ghost Value = { Order };
 

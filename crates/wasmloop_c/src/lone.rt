@@ -5,7 +5,7 @@ ghost use Rattle.std.specs.Arc.{arc_value};
 ghost use Rattle.limits.specs.declared.TheConstants.{MAX_BYTES, MAX_DEPTH, MAX_REQUESTS};
 ghost use Rattle.imports.specs.Linking.{ExportsFunction};
 ghost use Rattle.order.specs.Orders.{order_of};
-ghost use Rattle.phases.specs.Keeping.{CanRun};
+ghost use Rattle.order.specs.Runnable.{CanRun};
 ghost use Rattle.wasmloop_c.specs.Calls.{IsLoneJob, lone_order, module_of};
 
 use crate::handle::Handle;

@@ -13,9 +13,10 @@ use crate::handle::Handle;
 use crate::status::{EMPTY, KIND, MEMORY, OK, RANGE, USED_UP};
 use crate::thing::Thing;
 use desk::Desk;
+use events::did::Hint;
 use imports::Linked;
 use limits::{MAX_ASYNCS, MAX_DEPTH};
-use phases::{Hint, LoopCore};
+use phases::LoopCore;
 use std::alloc::{AllocError, Global};
 use std::sync::Arc;
 

@@ -9,9 +9,9 @@ use Rattle.limits.specs.declared.TheConstants.{MAX_JOBS}
 use Rattle.order.specs.Work.{WorkOrder}
 use Rattle.tallies.proofs.Places.{set_here}
 use Rattle.tallies.proofs.Requests.{either}
-use Rattle.phases.specs.declared.did.StepDid.{StepDid}
-use Rattle.phases.specs.declared.did.StepDid.TheVariants as did
-use Rattle.phases.specs.declared.entry.EntryKind.TheVariants as kind
+use Rattle.events.specs.declared.did.StepDid.{StepDid}
+use Rattle.events.specs.declared.did.StepDid.TheVariants as did
+use Rattle.events.specs.declared.phase.EntryKind.TheVariants as kind
 use Rattle.phases.specs.Guests.{GuestCall, loop_calls}
 use Rattle.phases.specs.History.{Event, History, IsOpening}
 use Rattle.phases.specs.Laws.{WasAsked, AreDue}

@@ -9,11 +9,11 @@ use Rattle.std.proofs.lemmas.List.Sums.{sum_by_push}
 use Rattle.limits.specs.declared.TheConstants.{MAX_JOBS}
 use Rattle.tallies.specs.Requests.{times, is_request, is_pending}
 use Rattle.tallies.proofs.Requests.{same_request, times_grow, times_hit, times_miss, either}
-use Rattle.order.specs.Bytes.{taken_out}
+use Rattle.order.specs.Uv.Bytes.{taken_out}
 use Rattle.order.specs.Work.{WorkOrder}
 use Rattle.tallies.proofs.Places.{set_here, set_apart}
-use Rattle.phases.specs.declared.did.StepDid.{StepDid}
-use Rattle.phases.specs.declared.did.StepDid.TheVariants as did
+use Rattle.events.specs.declared.did.StepDid.{StepDid}
+use Rattle.events.specs.declared.did.StepDid.TheVariants as did
 use Rattle.phases.specs.Guests.{GuestCall, loop_calls}
 use Rattle.phases.specs.Host.{next_work}
 use Rattle.phases.specs.Laws.{IsCancel}

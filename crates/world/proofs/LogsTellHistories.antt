@@ -6,9 +6,9 @@ use Rattle.std.specs.List.{Contains, count_by}
 use Rattle.std.proofs.lemmas.Bool.{eq-eqb}
 use Rattle.std.proofs.lemmas.List.Elements.{Contains-append_left, Contains-push, Contains-push_cases}
 use Rattle.std.proofs.lemmas.List.Sums.{sum_by_push}
-use Rattle.phases.specs.declared.did.StepDid.{StepDid}
-use Rattle.phases.specs.declared.did.StepDid.TheVariants as did
-use Rattle.phases.specs.declared.entry.EntryKind.TheVariants as kind
+use Rattle.events.specs.declared.did.StepDid.{StepDid}
+use Rattle.events.specs.declared.did.StepDid.TheVariants as did
+use Rattle.events.specs.declared.phase.EntryKind.TheVariants as kind
 use Rattle.phases.specs.History.{Event, Stepped, OrderAsked, EndOffered, CancelAnswered, ClockRaised, MovedBeside, EventStep, History}
 use Rattle.phases.specs.Laws.{is_after_event}
 use Rattle.phases.specs.Requests.{Requests}

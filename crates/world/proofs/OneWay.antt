@@ -9,8 +9,8 @@ use Rattle.order.specs.Work.{WorkOrder}
 use Rattle.tallies.proofs.Lists.{count_cons}
 use Rattle.tallies.proofs.Places.{set_here, set_apart}
 use Rattle.tallies.proofs.Requests.{either}
-use Rattle.phases.specs.declared.did.StepDid.{StepDid}
-use Rattle.phases.specs.declared.did.StepDid.TheVariants as did
+use Rattle.events.specs.declared.did.StepDid.{StepDid}
+use Rattle.events.specs.declared.did.StepDid.TheVariants as did
 use Rattle.phases.specs.Guests.{GuestCall}
 use Rattle.phases.specs.History.{Event, Stepped, OrderAsked, EndOffered, CancelAnswered, ClockRaised, MovedBeside, IsOpening}
 use Rattle.phases.specs.Laws.{hands_out}

@@ -9,8 +9,8 @@ use Rattle.limits.specs.declared.TheConstants.{MAX_JOBS}
 use Rattle.order.specs.Work.{WorkOrder, IsEndOf}
 use Rattle.tallies.proofs.Places.{set_here, set_apart}
 use Rattle.tallies.proofs.Requests.{either}
-use Rattle.phases.specs.declared.did.StepDid.{StepDid}
-use Rattle.phases.specs.declared.did.StepDid.TheVariants as did
+use Rattle.events.specs.declared.did.StepDid.{StepDid}
+use Rattle.events.specs.declared.did.StepDid.TheVariants as did
 use Rattle.phases.specs.declared.entry.Status.{Status}
 use Rattle.phases.specs.declared.entry.Status.TheVariants.{Running, Over, Failed}
 use Rattle.phases.specs.Guests.{GuestCall, loop_calls}

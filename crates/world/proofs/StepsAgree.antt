@@ -6,7 +6,7 @@ use Rattle.std.proofs.lemmas.Option.{slice_get-get_or}
 use Rattle.limits.specs.declared.TheConstants.{MAX_ASYNCS, MAX_JOBS}
 use Rattle.order.specs.Work.{WorkOrder}
 use Rattle.tallies.proofs.Places.{set_same}
-use Rattle.phases.specs.declared.did.StepDid.{StepDid}
+use Rattle.events.specs.declared.did.StepDid.{StepDid}
 use Rattle.phases.specs.State.{State, Core}
 use Rattle.phases.specs.Step.{LoopStep, in_state}
 use Rattle.std.proofs.lemmas.Bool.{eq-eqb, ne_eqb}

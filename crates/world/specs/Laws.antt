@@ -2,8 +2,8 @@
 use Rattle.std.specs.Prelude.{◌≡◌, ℕ, ◌+◌, ◌≤◌, ◌==◌, Bool, true, false, ◌&&◌, ◌⊎◌, List, ◌∷◌, ◌++◌, Contains, count_by, pos}
 use Rattle.std.specs.Prelude.{Some, slice_get}
 use Rattle.order.specs.Work.{WorkEnd}
-use Rattle.phases.specs.declared.did.StepDid.{StepDid}
-use Rattle.phases.specs.declared.entry.EntryKind.TheVariants as kind
+use Rattle.events.specs.declared.did.StepDid.{StepDid}
+use Rattle.events.specs.declared.phase.EntryKind.TheVariants as kind
 use Rattle.phases.specs.Guests.{GuestCall}
 use Rattle.phases.specs.Laws.{WasAsked, IsCancel, AreDue}
 use Rattle.phases.specs.Laws.{RunsAfter as LoopRunsAfter}

@@ -5,7 +5,7 @@ use Rattle.limits.specs.declared.TheConstants.{MAX_DEPTH, MAX_ASYNCS, MAX_REQUES
 use Rattle.order.specs.declared.order.Order.{Order}
 use Rattle.order.specs.declared.reply.Reply.{Reply}
 use Rattle.order.specs.Orders.{order_of, end_of}
-use Rattle.phases.specs.Keeping.{CanRun}
+use Rattle.order.specs.Runnable.{CanRun}
 use Rattle.phases.specs.State.{Setting, Core}
 use Rattle.desk.specs.Desk.{Desk}
 use Rattle.world_log.specs.declared.step.Step.{Step}

@@ -4,10 +4,10 @@ use Rattle.std.specs.Prelude.{Some, None, slice_get, slice_set}
 use Rattle.std.specs.Int.{w32, cast_signed}
 use Rattle.limits.specs.declared.TheConstants.{MAX_ASYNCS, MAX_JOBS}
 use Rattle.instance.specs.Fresh.{fresh_store}
-use Rattle.interp.specs.Traps.{trap_number}
+use Rattle.events.specs.Traps.{trap_number}
 use Rattle.order.specs.Work.{WorkOrder, WorkEnd, Done, Trap, Depth, Spent, NoMemory, IsEndOf}
-use Rattle.phases.specs.declared.did.StepDid.{StepDid}
-use Rattle.phases.specs.declared.did.StepDid.TheVariants as did
+use Rattle.events.specs.declared.did.StepDid.{StepDid}
+use Rattle.events.specs.declared.did.StepDid.TheVariants as did
 use Rattle.phases.specs.Roster.{opening_roster}
 use Rattle.phases.specs.State.{Setting, Loop, State, opening, Core}
 use Rattle.phases.specs.PhaseList.{begin_list}

@@ -1,9 +1,9 @@
 // What a world is made of.
 
+use events::settings::LoopSettings;
 use imports::Linked;
 use std::alloc::Global;
 use std::sync::Arc;
-use world_log::LoopSettings;
 
 /// One loop of a world: its module, and what its runs may spend.
 pub struct LoopConfig {

@@ -1,8 +1,8 @@
 // What one step of a world did.
 
 use crate::outcome::{CollectOutcome, FinishOutcome, JobId, PostOutcome, StartOutcome};
-use interp::ended::Ended;
-use phases::{EntryKind, Phase};
+use events::ended::Ended;
+use events::phase::{EntryKind, Phase};
 use syntax::items::Items;
 
 /// What one step of a world did. Loops, workers and the asyncs of a loop are numbered from 0.

@@ -10,11 +10,10 @@
 mod entry;
 mod log;
 mod outcome;
-mod settings;
 mod step;
 
 pub use entry::LogEntry;
+pub use events::settings::LoopSettings;
 pub use log::Log;
 pub use outcome::{CollectOutcome, FinishOutcome, JobEnd, JobId, PostOutcome, StartOutcome};
-pub use settings::LoopSettings;
 pub use step::Step;

@@ -1,6 +1,6 @@
 // What a step did with the jobs and replies that pass between loops and workers.
 
-use interp::trap::TrapCode;
+use events::trap::TrapCode;
 
 /// A job, by the loop that asked for it and that loop's request.
 #[derive(Clone, Copy, Debug)]

@@ -1,7 +1,7 @@
 use Rattle.std.specs.Arc.{arc_value}
 use Rattle.order.specs.Orders.{order_of, end_of}
 use Rattle.phases.specs.Host.{with_requests}
-use Rattle.phases.specs.Keeping.{Keeps}
+use Rattle.phases.specs.Inner.Keeping.{Keeps}
 use Rattle.phases.specs.Outside.{answered}
 use Rattle.phases.specs.Requests.{Answered}
 use Rattle.phases.specs.Inner.Setting.{setting_of}

@@ -3,7 +3,7 @@ use Rattle.std.specs.Arc.{arc_value}
 use Rattle.std.specs.Option.{option_map}
 use Rattle.syntax.specs.Loaded.{Loaded}
 use Rattle.imports.specs.Linking.{IsLinked}
-use Rattle.phases.specs.Keeping.{Keeps}
+use Rattle.phases.specs.Inner.Keeping.{Keeps}
 use Rattle.phases.specs.Inner.Setting.{setting_of}
 use Rattle.phases.specs.State.{Setting, State, Loop}
 use Rattle.phases.specs.View.{AreOpenedUpTo}

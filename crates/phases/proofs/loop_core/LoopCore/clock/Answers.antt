@@ -1,6 +1,6 @@
 use Rattle.std.proofs.Common.{sym, subst}
 use Rattle.std.specs.Arc.{arc_value}
-use Rattle.phases.specs.Keeping.{Keeps}
+use Rattle.phases.specs.Inner.Keeping.{Keeps}
 use Rattle.phases.specs.Outside.{after_clock}
 use Rattle.phases.specs.Inner.Setting.{setting_of}
 use Rattle.phases.specs.State.{State}

@@ -9,10 +9,10 @@ use Rattle.phases.specs.Inner.Setting.{setting_of}
 use Rattle.std.proofs.Common.{◌≡◌, [], ◌∷◌}
 use Rattle.syntax.specs.declared.types.Value.TheVariants.{I32}
 use Rattle.phases.specs.Host.{with_requests}
-use Rattle.phases.specs.Keeping.{Keeps}
+use Rattle.phases.specs.Inner.Keeping.{Keeps}
 use Rattle.phases.specs.Inner.Progress.{completion_in}
 use Rattle.phases.specs.Requests.{request_of, without_request}
-use Rattle.phases.specs.declared.entry.EntryKind.TheVariants.{After}
+use Rattle.events.specs.declared.phase.EntryKind.TheVariants.{After}
 use Rattle.phases.specs.State.{State, Loop}
 use Rattle.phases.specs.Step.{AfterWork, RunsFrom, in_state}
 use Rattle.phases.specs.View.{AreOpenedUpTo}

@@ -1,6 +1,6 @@
 use Rattle.std.proofs.Common.{refl, sym, subst, ◌≡◌, true, [], ◌∷◌, Some, None}
 use Rattle.syntax.specs.declared.types.Value.TheVariants.{I32}
-use Rattle.phases.specs.declared.entry.EntryKind.TheVariants.{Async}
+use Rattle.events.specs.declared.phase.EntryKind.TheVariants.{Async}
 use Rattle.phases.specs.PhaseList.{is_active_handle}
 use Rattle.phases.specs.Roster.{async_handle}
 use Rattle.phases.specs.Inner.Setting.{setting_of}

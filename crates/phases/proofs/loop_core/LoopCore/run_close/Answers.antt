@@ -1,7 +1,7 @@
 use Rattle.std.proofs.Common.{refl, sym, subst}
 use Rattle.std.specs.Arc.{arc_value}
 use Rattle.phases.specs.Host.{with_roster}
-use Rattle.phases.specs.Keeping.{Keeps}
+use Rattle.phases.specs.Inner.Keeping.{Keeps}
 use Rattle.phases.specs.Roster.{without_handle}
 use Rattle.phases.specs.Inner.Setting.{setting_of}
 use Rattle.phases.specs.State.{State}

@@ -1,7 +1,7 @@
 use Rattle.syntax.specs.declared.types.ValType.TheVariants.{I32}
 use Rattle.syntax.specs.declared.types.Value.TheVariants as value
 use Rattle.order.proofs.ImportTypes.{two_of}
-use Rattle.order.proofs.calls.two.Goals as goal
+use Rattle.order.proofs.uv.calls.two.Goals as goal
 
 pub returns : goal.returns
 returns c = two_of I32 I32 c.args.args.now (value.I32 c.number_at.result) (value.I32 c.number_at-2.result) c.requires c.number_at.ensures c.number_at-2.ensures

@@ -1,7 +1,7 @@
 use Rattle.syntax.specs.declared.types.ValType.TheVariants.{I32}
 use Rattle.syntax.specs.declared.types.Value.TheVariants as value
 use Rattle.order.proofs.ImportTypes.{one_of}
-use Rattle.order.proofs.calls.one.Goals as goal
+use Rattle.order.proofs.uv.calls.one.Goals as goal
 
 pub returns : goal.returns
 returns c = one_of I32 c.args.args.now (value.I32 c.number_at.result) c.requires c.number_at.ensures

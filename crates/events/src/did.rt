@@ -1,7 +1,7 @@
 // What a step tells.
 
-use crate::entry::{EntryKind, Phase};
-use interp::ended::Ended;
+use crate::ended::Ended;
+use crate::phase::{EntryKind, Phase};
 
 /// What one step of a loop did.
 #[derive(Debug, Drop)]

@@ -1,7 +1,7 @@
 use Rattle.syntax.specs.declared.types.ValType.TheVariants.{I32, I64}
 use Rattle.syntax.specs.declared.types.Value.TheVariants as value
 use Rattle.order.proofs.ImportTypes.{two_and_two_of}
-use Rattle.order.proofs.calls.two_and_two_wide.Goals as goal
+use Rattle.order.proofs.uv.calls.two_and_two_wide.Goals as goal
 
 pub returns : goal.returns
 returns c =

@@ -2,7 +2,7 @@
 use Rattle.std.specs.Prelude.{ℕ, ◌+◌, nat_lt, List, length, take, drop, Option, Some, None, if◌then◌else◌}
 use Rattle.limits.specs.declared.TheConstants.{MAX_BYTES}
 use Rattle.instance.specs.Fresh.{overwritten}
-use Rattle.order.specs.Numbers.{not_here, invalid, outside_memory}
+use Rattle.order.specs.Uv.Numbers.{not_here, invalid, outside_memory}
 
 -- what `in_len` answers, of the input where there is one
 abbrev pub input_length : Option (List ℕ) → ℕ

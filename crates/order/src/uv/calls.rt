@@ -8,10 +8,10 @@ ghost use Rattle.interp.specs.Hosting.{Takes};
 ghost use Rattle.imports.specs.Linking.{Imports};
 ghost use Rattle.imports.specs.Uv.{type_of_call};
 ghost use Rattle.instance.specs.Reads.{with_bytes};
-ghost use Rattle.order.specs.Bytes.{copied_in};
+ghost use Rattle.order.specs.Uv.Bytes.{copied_in};
 ghost use Rattle.order.specs.Inner.Hosting.{import_types};
 
-use crate::answers::{INVALID, OUTSIDE_MEMORY};
+use crate::uv::answers::{INVALID, OUTSIDE_MEMORY};
 use imports::{Call, Linked};
 use instance::memory::Memory;
 use interp::host::Args;

@@ -1,22 +1,16 @@
 -- What a loop keeps from step to step.
-use Rattle.std.specs.Prelude.{◌≡◌, ℕ, ◌<◌, ◌≤◌, true, All, length, codes}
-use Rattle.limits.specs.declared.TheConstants.{MAX_DEPTH, MAX_BYTES, MAX_REQUESTS}
+use Rattle.std.specs.Prelude.{◌≡◌, ◌<◌, ◌≤◌, true, All, codes}
+use Rattle.limits.specs.declared.TheConstants.{MAX_DEPTH, MAX_REQUESTS}
 use Rattle.syntax.specs.Loaded.{Loaded}
 use Rattle.instance.specs.Store.{Store}
 use Rattle.instance.specs.Storing.{IsStoreOf}
-use Rattle.imports.specs.Linking.{ExportsFunction}
 use Rattle.order.specs.Work.{WorkOrder}
+use Rattle.order.specs.Runnable.{CanRun}
 use Rattle.phases.specs.PhaseList.{exports}
 use Rattle.phases.specs.Requests.{Requests}
 use Rattle.phases.specs.Roster.{callbacks_of}
 use Rattle.phases.specs.Inner.Ready.{AreReady}
 use Rattle.phases.specs.State.{Setting, State}
-
--- an order that can be run: its module exports `uv_work`, and its bytes and its depth are within their bounds
-pub record CanRun (o : WorkOrder) : Type 0 where
-  pub work : (f : ℕ) × ExportsFunction o.loaded.contents (codes "uv_work") f
-  pub bytes : length o.bytes ≤ MAX_BYTES
-  pub depth : (1 ≤ o.depth) × (o.depth ≤ MAX_DEPTH)
 
 -- an order of the loop: it has the loop's number and a slot below MAX_REQUESTS, it can be run, and what comes of it can
 -- be told

@@ -1,6 +1,6 @@
 use Rattle.std.proofs.Common.{arith}
 use Rattle.order.proofs.ImportTypes.{named, imported, arguments_of}
-use Rattle.order.proofs.calls.called.Goals as goal
+use Rattle.order.proofs.uv.calls.called.Goals as goal
 
 pub unreachable-requires : goal.unreachable-requires
 unreachable-requires c = let within = imported c.args.linked.now.contents c.args.import c.args.args.now c.requires in let past = c.in_default.ensures in omega arith

@@ -1,0 +1,4 @@
+// What a guest's call of "uv" takes, and the numbers that it is answered.
+
+pub mod answers;
+pub mod calls;

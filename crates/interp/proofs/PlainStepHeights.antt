@@ -22,9 +22,9 @@ pub as_many : (locals ls : List Value) → LocalsLeft locals ls → length ls �
 as_many locals ls same_locals = refl
 as_many locals ls (local_set x v) = length-set locals x v
 
-pub turn_counts : (s : Memory_and_globals) (locals : List Value) (m : Contents) (labels : List ℕ) (i : Instr) (values : List Value)
+pub plain_step_counts : (s : Memory_and_globals) (locals : List Value) (m : Contents) (labels : List ℕ) (i : Instr) (values : List Value)
     → Counts (counts m labels i) (length locals) (length values) (plain_step m s locals i values)
-turn_counts s locals m labels i values = by (plain_step m s locals i values) (plain_step_view m s locals i values) where
+plain_step_counts s locals m labels i values = by (plain_step m s locals i values) (plain_step_view m s locals i values) where
   by : (o : PlainStep) → PlainStepView m s locals i values o → Counts (counts m labels i) (length locals) (length values) o
   by (Leaves t ls vs) h =
       let before = ap (λ (xs : List Value). length xs) h.before ∙ length-append h.popped h.rest in

@@ -29,7 +29,7 @@ pub data LocalsLeft (locals : List Value) : List Value → Type 0 where
   local_set : (x : ℕ) (v : Value) → LocalsLeft locals (slice_set locals x v)
 
 -- The instruction takes operands and leaves others in their place, as many as are counted, whatever lies beneath them.
-pub record TurnLeaves (m : Contents) (s : Memory_and_globals) (locals : List Value) (i : Instr) (values : List Value) (t : Memory_and_globals)
+pub record PlainStepLeaves (m : Contents) (s : Memory_and_globals) (locals : List Value) (i : Instr) (values : List Value) (t : Memory_and_globals)
     (ls vs : List Value) : Type 0 where
   pub popped : List Value
   pub pushed : List Value
@@ -42,15 +42,15 @@ pub record TurnLeaves (m : Contents) (s : Memory_and_globals) (locals : List Val
   pub over : (others : List Value) → plain_step m s locals i (popped ++ others) ≡ Leaves t ls (pushed ++ others)
 
 -- it traps, whatever lies beneath the operands that it takes
-pub record TurnFails (m : Contents) (s : Memory_and_globals) (locals : List Value) (i : Instr) (values : List Value) (trap : ℕ) : Type 0 where
+pub record PlainStepFails (m : Contents) (s : Memory_and_globals) (locals : List Value) (i : Instr) (values : List Value) (trap : ℕ) : Type 0 where
   pub popped : List Value
   pub rest : List Value
   pub before : values ≡ popped ++ rest
   pub over : (others : List Value) → plain_step m s locals i (popped ++ others) ≡ Fails trap
 
 abbrev pub PlainStepView : Contents → Memory_and_globals → (locals : List Value) → Instr → (values : List Value) → PlainStep → Type 0
-PlainStepView m s locals i values (Leaves t ls vs) = TurnLeaves m s locals i values t ls vs
-PlainStepView m s locals i values (Fails trap) = TurnFails m s locals i values trap
+PlainStepView m s locals i values (Leaves t ls vs) = PlainStepLeaves m s locals i values t ls vs
+PlainStepView m s locals i values (Fails trap) = PlainStepFails m s locals i values trap
 PlainStepView m s locals i values Lacks = Unit {0}
 
 module _ (m : Contents) (s : Memory_and_globals) (locals : List Value) (i : Instr) (popped : List Value) where

@@ -18,8 +18,8 @@ lower_still : (values front rest lower : List Value) → values ≡ front ++ res
 lower_still values front rest lower e = ap (λ (vs : List Value). vs ++ lower) e ∙ append_assoc front rest lower
 
 module _ (m : Contents) (s : Memory_and_globals) (ls lower : List Value) where
-  pub turn_over : (i : Instr) (vs : List Value) → IsOver lower (plain_step m s ls i vs) (plain_step m s ls i (vs ++ lower))
-  turn_over i vs = by (plain_step m s ls i vs) (plain_step_view m s ls i vs) where
+  pub plain_step_over : (i : Instr) (vs : List Value) → IsOver lower (plain_step m s ls i vs) (plain_step m s ls i (vs ++ lower))
+  plain_step_over i vs = by (plain_step m s ls i vs) (plain_step_view m s ls i vs) where
     by : (o : PlainStep) → PlainStepView m s ls i vs o → IsOver lower o (plain_step m s ls i (vs ++ lower))
     by (Leaves t ls' vs') h =
         ap (λ (xs : List Value). plain_step m s ls i xs) (lower_still vs h.popped h.rest lower h.before) ∙ h.over (h.rest ++ lower)

@@ -15,7 +15,7 @@ use Rattle.interp.specs.Configuration.{branched, returned}
 use Rattle.interp.specs.Step.{Ends, plain_step, turned, plain, at_code}
 use Rattle.interp.specs.Step.{on_contexts, label_for, takes_topmost, call_typed, call_element, entering, block, loop, chosen}
 use Rattle.interp.proofs.Lists.{at_least}
-use Rattle.interp.proofs.PlainStepView.{StoreLeft, same_store, TurnLeaves, TurnFails, PlainStepView, plain_step_view}
+use Rattle.interp.proofs.PlainStepView.{StoreLeft, same_store, PlainStepLeaves, PlainStepFails, PlainStepView, plain_step_view}
 
 -- ---- the parts of the rules
 
@@ -62,10 +62,10 @@ pub data Opening (m : Contents) : Code → (values : List Value) → (type : Fun
 pub data StepRule (m : Contents) (s : Store) : List Context → (values : List Value) → Code → Move → Type 0 where
   -- an instruction that neither branches nor calls
   leaves : {i : Instr} {values ls vs : List Value} {rest : Code} {contexts : List Context} {t : Store} → StaysInBlock i
-      → TurnLeaves m s (locals_of contexts) i values t ls vs
+      → PlainStepLeaves m s (locals_of contexts) i values t ls vs
       → StepRule m s contexts values (Plain i rest) (Goes 1 t (going_on vs rest (with_locals ls contexts)))
   fails : {i : Instr} {values : List Value} {rest : Code} {contexts : List Context} {trap : ℕ} → StaysInBlock i
-      → TurnFails m s (locals_of contexts) i values trap → StepRule m s contexts values (Plain i rest) (Traps trap)
+      → PlainStepFails m s (locals_of contexts) i values trap → StepRule m s contexts values (Plain i rest) (Traps trap)
   -- a branch that isn't taken
   passes : {label : ℕ} {values : List Value} {rest : Code} {contexts : List Context}
       → StepRule m s contexts (I32 zero ∷ values) (Plain (BrIf label) rest) (Goes 1 s (going_on values rest contexts))
@@ -177,11 +177,11 @@ module _ (m : Contents) (s : Store) where
           let results = same_valtypes-is type.results other.results both.1 in
           call_rule (CallIndirect t) (I32 n ∷ values) values f rest contexts (Some type) (λ called is. through (e ∙ is) w (cc) (cc))
 
-  turn_rule : (i : Instr) (values : List Value) (rest : Code) (contexts : List Context) → StaysInBlock i → (o : PlainStep)
+  plain_step_rule : (i : Instr) (values : List Value) (rest : Code) (contexts : List Context) → StaysInBlock i → (o : PlainStep)
       → PlainStepView m s (locals_of contexts) i values o → StepRule m s contexts values (Plain i rest) (turned o rest contexts)
-  turn_rule i values rest contexts still (Leaves t ls vs) h = leaves still h
-  turn_rule i values rest contexts still (Fails trap) h = fails still h
-  turn_rule i values rest contexts still Lacks h = stuck
+  plain_step_rule i values rest contexts still (Leaves t ls vs) h = leaves still h
+  plain_step_rule i values rest contexts still (Fails trap) h = fails still h
+  plain_step_rule i values rest contexts still Lacks h = stuck
 
   plain_rule : (i : Instr) (values : List Value) (rest : Code) (contexts : List Context) → StepRule m s contexts values (Plain i rest) (plain m s i values rest contexts)
   plain_rule (Br label) values rest contexts = branch_rule (Br label) values values label rest contexts br
@@ -196,7 +196,7 @@ module _ (m : Contents) (s : Store) where
   plain_rule (CallIndirect t) (I32 n ∷ values) rest contexts =
       if_holds contexts (I32 n ∷ values) (Plain (CallIndirect t) rest) (is_some m.table) _ (λ e. element_rule t n values rest contexts (slice_get s.table n))
   plain_rule (CallIndirect t) values rest contexts = stuck
-  plain_rule i values rest contexts = turn_rule i values rest contexts tt (plain_step m s (locals_of contexts) i values) (plain_step_view m s (locals_of contexts) i values)
+  plain_rule i values rest contexts = plain_step_rule i values rest contexts tt (plain_step m s (locals_of contexts) i values) (plain_step_view m s (locals_of contexts) i values)
 
   enter_rule : (code next inside rest : Code) (values left : List Value) (t : FuncType) (arity : ℕ) (contexts : List Context)
       → Opening m code values t arity next inside rest left

@@ -1,6 +1,6 @@
 -- The slot machine and how it stands for contexts: no part of what a run means.
 pub mod Holding
-pub mod Turning
+pub mod PlainSteps
 pub mod Lying
 pub mod Simulating
 pub mod Resuming

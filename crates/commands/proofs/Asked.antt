@@ -9,7 +9,7 @@ use Rattle.words.specs.declared.command.Service.{Service}
 use Rattle.commands.specs.Serving.{asked_loop}
 
 -- what each answer says of its loop, in the numbers of the words
-pub as_asked : (service : Service) (loaded : Loaded) (serving : Serving) (served : List Served) → serving.fuel ≡ service.budget.fuel
-    → serving.work_fuel ≡ service.work_fuel → serving.depth ≡ service.budget.depth → EachServed loaded serving served
+pub as_asked : (service : Service) (loaded : Loaded) (serving : Serving) (served : List Served)
+    → serving.settings ≡ service.settings → EachServed loaded serving served
     → (k : ℕ) (one : Served) → slice_get served k ≡ Some one → IsServed (asked_loop service loaded k) one
-as_asked service loaded serving served fuel work_fuel depth each k one at = rw (← fuel, ← work_fuel, ← depth) (each k one at)
+as_asked service loaded serving served same each k one at = rw (← same) (each k one at)

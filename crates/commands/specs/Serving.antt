@@ -13,9 +13,9 @@ abbrev pub asked_loop : Service → Loaded → (loop_no : ℕ) → Setting
 asked_loop service loaded loop_no = record {
   loaded = loaded;
   loop_no = loop_no;
-  fuel = service.budget.fuel;
-  work_fuel = service.work_fuel;
-  depth = service.budget.depth;
+  fuel = service.settings.fuel;
+  work_fuel = service.settings.work_fuel;
+  depth = service.settings.depth;
 }
 
 abbrev pub HasNotFailed : Served → Type 0

@@ -24,16 +24,12 @@ use words::Service;
 /// How many threads there are, and what each loop may spend.
 fn serving_of(service: &Service) -> Serving
     ensures loops { result.loops ≡ service.now.loops }
-    ensures fuel { result.fuel ≡ service.now.budget.fuel }
-    ensures work_fuel { result.work_fuel ≡ service.now.work_fuel }
-    ensures depth { result.depth ≡ service.now.budget.depth }
+    ensures settings { result.settings ≡ service.now.settings }
 {
     Serving {
         loops: service.loops,
         workers: service.workers,
-        fuel: service.budget.fuel,
-        work_fuel: service.work_fuel,
-        depth: service.budget.depth,
+        settings: service.settings,
     }
 }
 

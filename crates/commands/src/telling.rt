@@ -110,7 +110,7 @@ impl Teller<'_> {
             return Ok(());
         }
         let (loop_no, most) = (served.loop_no, served.account.most_used());
-        let fuel = self.service.budget.fuel;
+        let fuel = self.service.settings.fuel;
         writeln!(
             err,
             "loop {loop_no}: a callback used {most} of {fuel} units at most"

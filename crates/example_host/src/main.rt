@@ -4,7 +4,9 @@
 ghost use Rattle.std.specs.Prelude.{◌≡◌};
 ghost use Rattle.board.specs.Jobs.{ticket_of};
 
-use embed::{Desk, Hint, JobBox, Linked, LoopCore, Reply, Serving, StepDid, Task, load, serve};
+use embed::{
+    Desk, Hint, JobBox, Linked, LoopCore, LoopSettings, Reply, Serving, StepDid, Task, load, serve,
+};
 use std::sync::Arc;
 use std::{alloc, fs};
 
@@ -49,9 +51,11 @@ fn main(rt: HostRuntime) -> anyhow::Result<()> {
     let serving = Serving {
         loops: 2,
         workers: 3,
-        fuel: 1_000,
-        work_fuel: 1_000,
-        depth: 64,
+        settings: LoopSettings {
+            fuel: 1_000,
+            work_fuel: 1_000,
+            depth: 64,
+        },
     };
     for served in serve(&rt, memory, asks, serving, &make)? {
         println!(rt; "{served}")?;

@@ -27,6 +27,7 @@ use crate::setting::Setting;
 use crate::shared::{Beside, Shared};
 use events::did::{Hint, StepDid};
 use events::phase::EntryKind;
+use events::settings::LoopSettings;
 use handles::Kind;
 use imports::{EntryPoint, Linked};
 use instance::stack::Stop;
@@ -109,9 +110,11 @@ impl<B: Shared + Drop> LoopCore<B> {
         let setting = Setting {
             linked: Arc::try_clone(&linked)?,
             loop_no,
-            fuel,
-            work_fuel,
-            depth,
+            settings: LoopSettings {
+                fuel,
+                work_fuel,
+                depth,
+            },
         };
         let (instance, state) = opened(alloc, &linked)?;
         let host = LoopHost {
@@ -308,7 +311,7 @@ impl<B: Shared + Drop> LoopCore<B> {
         ensures setting { self.new.setting ≡ self.old.setting }
     {
         self.host.state.begin_callback(reply);
-        let (fuel, depth) = (self.host.setting.fuel, self.host.setting.depth);
+        let LoopSettings { fuel, depth, .. } = self.host.setting.settings;
         imports_are_named(&self.linked);
         let valid = self.linked.valid();
         let ended = invoke(

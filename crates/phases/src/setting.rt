@@ -5,19 +5,17 @@ ghost use Rattle.std.specs.Arc.{arc_value};
 ghost use Rattle.order.specs.Orders.{order_of};
 ghost use Rattle.phases.specs.Inner.Setting.{setting_of};
 
+use events::settings::LoopSettings;
 use imports::Linked;
 use order::Order;
 use std::alloc::{AllocError, Global};
 use std::sync::Arc;
 
-/// What a loop is made of: its module, its number, the fuel of a callback and of a work function, and how many calls
-/// may stand open.
+/// What a loop is made of: its module, its number, and what its runs may spend.
 pub struct Setting {
     pub linked: Arc<Linked, Global>,
     pub loop_no: u32,
-    pub fuel: u64,
-    pub work_fuel: u64,
-    pub depth: u32,
+    pub settings: LoopSettings,
 }
 
 impl Drop for Setting {
@@ -25,9 +23,7 @@ impl Drop for Setting {
         let Setting {
             linked: _,
             loop_no: _,
-            fuel: _,
-            work_fuel: _,
-            depth: _,
+            settings: _,
         } = self;
     }
 }
@@ -42,7 +38,7 @@ impl Setting {
         op: u32,
         bytes: &[u8],
     ) -> Result<(Order, Order), AllocError>
-        ensures kept { IfOk result (λ made. order_of made.0 ≡ record { loop_no = self.now.loop_no; request = request; slot = slot; loaded = (setting_of self.now).loaded; op = op; bytes = bytes.now; fuel = self.now.work_fuel; depth = self.now.depth }) }
+        ensures kept { IfOk result (λ made. order_of made.0 ≡ record { loop_no = self.now.loop_no; request = request; slot = slot; loaded = (setting_of self.now).loaded; op = op; bytes = bytes.now; fuel = self.now.settings.work_fuel; depth = self.now.settings.depth }) }
         ensures same { IfOk result (λ made. order_of made.1 ≡ order_of made.0) }
     {
         let bytes = Arc::new(alloc, bytes.to_vec(alloc)?)?;
@@ -58,7 +54,7 @@ impl Setting {
         op: u32,
         bytes: Arc<Vec<u8>, Global>,
     ) -> Result<Order, AllocError>
-        ensures { IfOk result (λ made. order_of made ≡ record { loop_no = self.now.loop_no; request = request; slot = slot; loaded = (setting_of self.now).loaded; op = op; bytes = (arc_value bytes).items; fuel = self.now.work_fuel; depth = self.now.depth }) }
+        ensures { IfOk result (λ made. order_of made ≡ record { loop_no = self.now.loop_no; request = request; slot = slot; loaded = (setting_of self.now).loaded; op = op; bytes = (arc_value bytes).items; fuel = self.now.settings.work_fuel; depth = self.now.settings.depth }) }
     {
         Ok(Order {
             loop_no: self.loop_no,
@@ -67,8 +63,8 @@ impl Setting {
             module: Arc::try_clone(&self.linked)?,
             op,
             bytes,
-            fuel: self.work_fuel,
-            depth: self.depth,
+            fuel: self.settings.work_fuel,
+            depth: self.settings.depth,
         })
     }
 }

@@ -25,9 +25,9 @@ abbrev pub setting_at : Loaded → Serving → (loop_no : ℕ) → Setting
 setting_at loaded serving loop_no = record {
   loaded = loaded;
   loop_no = loop_no;
-  fuel = serving.fuel;
-  work_fuel = serving.work_fuel;
-  depth = serving.depth;
+  fuel = serving.settings.fuel;
+  work_fuel = serving.settings.work_fuel;
+  depth = serving.settings.depth;
 }
 
 -- how many callbacks ran in some events

@@ -39,7 +39,7 @@ pub struct Turns<'a, J> {
 
 impl<'a, J: Drop> Turns<'a, J> {
     /// A loop that has done nothing, over a new instance of the module.
-    #[tactic(auto, using(crate::proofs::Recording::opens_new))]
+    #[tactic(auto, using(crate::proofs::OneEventMore::opens_new))]
     pub fn new(
         alloc: Global,
         linked: Arc<Linked>,
@@ -65,9 +65,9 @@ impl<'a, J: Drop> Turns<'a, J> {
             linked,
             seats,
             loop_no,
-            serving.fuel,
-            serving.work_fuel,
-            serving.depth,
+            serving.settings.fuel,
+            serving.settings.work_fuel,
+            serving.settings.depth,
         )?;
         let account = Account::empty(alloc)?;
         Ok(Turns {

@@ -120,7 +120,7 @@ fn one_of_each(alloc: Global) -> Result<(Claims, LoopSeat, WorkerSeat), AllocErr
 }
 
 // Opens the request in slot 0.
-#[tactic(auto, using(crate::proofs::Rising::below_next))]
+#[tactic(auto, using(crate::proofs::RequestsRise::below_next))]
 fn opened(claims: &Claims, seat: &mut LoopSeat, request: u32) -> Ticket
     requires own { seat.old.claims ≡ claims.now.id }
     requires request { (0 < request) × (request < 2 ^ 31) }

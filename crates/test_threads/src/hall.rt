@@ -276,7 +276,7 @@ const LAST: u32 = 1000;
 
 impl<'a> LoopSide<'a> {
     // Opens the next request. Its number.
-    #[tactic(auto, using(crate::proofs::Rising::below_next))]
+    #[tactic(auto, using(crate::proofs::RequestsRise::below_next))]
     pub fn open(&mut self) -> Result<u32, Fail> {
         let request = self.next;
         if request > LAST {

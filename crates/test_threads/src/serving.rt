@@ -6,6 +6,7 @@ use crate::meeting::Meeting;
 use crate::modules::linked_of;
 use crate::showing::{check_told, shows};
 use board::JobBox;
+use events::settings::LoopSettings;
 use limits::{MAX_LOOPS, MAX_WORKERS};
 use order::Reply;
 use serve::{Served, Serving, Task, serve};
@@ -69,9 +70,11 @@ pub fn ample(loops: u32, workers: u32) -> Serving
     Serving {
         loops,
         workers,
-        fuel: 1_000_000,
-        work_fuel: 1_000_000,
-        depth: 64,
+        settings: LoopSettings {
+            fuel: 1_000_000,
+            work_fuel: 1_000_000,
+            depth: 64,
+        },
     }
 }
 
@@ -144,9 +147,11 @@ fn a_job_that_a_full_board_refused_is_posted_again(rt: HostRuntime) -> Result<()
     let serving = Serving {
         loops: 1,
         workers: 1,
-        fuel: 1_000_000,
-        work_fuel: 100_000,
-        depth: 64,
+        settings: LoopSettings {
+            fuel: 1_000_000,
+            work_fuel: 100_000,
+            depth: 64,
+        },
     };
     check(&rt, FILLS, serving, "loop 0 over emits 361\n")
 }
@@ -176,9 +181,11 @@ fn work_without_fuel_is_told(rt: HostRuntime) -> Result<(), Fail> {
     let serving = Serving {
         loops: 1,
         workers: 1,
-        fuel: 1_000_000,
-        work_fuel: 2,
-        depth: 64,
+        settings: LoopSettings {
+            fuel: 1_000_000,
+            work_fuel: 2,
+            depth: 64,
+        },
     };
     check(&rt, ASKS_ONCE, serving, "loop 0 over emits 0\n")
 }
@@ -188,9 +195,11 @@ fn a_loop_fails(rt: HostRuntime) -> Result<(), Fail> {
     let serving = Serving {
         loops: 2,
         workers: 1,
-        fuel: 1_000_000,
-        work_fuel: 1_000_000,
-        depth: 3,
+        settings: LoopSettings {
+            fuel: 1_000_000,
+            work_fuel: 1_000_000,
+            depth: 3,
+        },
     };
     check(
         &rt,

@@ -3,6 +3,8 @@
 ghost use Rattle.std.specs.Prelude.{◌≤◌, vec_len};
 ghost use Rattle.limits.specs.declared.TheConstants.{MAX_BYTES, MAX_DEPTH, MAX_LOOPS, MAX_WORKERS};
 
+use events::settings::LoopSettings;
+
 /// How far a call may go.
 #[derive(Clone, Copy, Debug, PartialEq, Eq)]
 pub struct Budget {
@@ -53,14 +55,13 @@ pub struct Service {
     pub loops: u32,
     /// How many workers there are, 1 to `MAX_WORKERS`.
     pub workers: u32,
-    /// What a callback may use.
-    pub budget: Budget,
-    /// How many instructions a work function may pay for.
-    pub work_fuel: u64,
+    /// What each loop may spend.
+    pub settings: LoopSettings,
     /// Whether it is told what the loops do, as they do it.
     pub is_traced: bool,
     pub ghost few_loops: { (1 ≤ loops) × (loops ≤ MAX_LOOPS) },
     pub ghost few_workers: { (1 ≤ workers) × (workers ≤ MAX_WORKERS) },
+    pub ghost depth_in_range: { (1 ≤ settings.depth) × (settings.depth ≤ MAX_DEPTH) },
 }
 
 /// A command with its words.

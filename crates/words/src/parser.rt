@@ -8,6 +8,7 @@ use crate::number::{decimal, small_decimal};
 use crate::refused::Refused;
 use clap::ArgMatches;
 use clap::error::ErrorKind;
+use events::settings::LoopSettings;
 use hex::FromHexError;
 use limits::{MAX_BYTES, MAX_DEPTH, MAX_LOOPS, MAX_WORKERS};
 use std::alloc::Global;
@@ -126,13 +127,16 @@ fn serve(alloc: Global, matches: &ArgMatches<'_>) -> Result<Command, Refused> {
     let loops = option(alloc, matches, "loops", 1, MAX_LOOPS.into())? as u32;
     let workers = option(alloc, matches, "workers", 1, MAX_WORKERS.into())? as u32;
     let budget = budget(alloc, matches)?;
-    let work_fuel = option(alloc, matches, "work-fuel", 0, u64::MAX)?;
+    let settings = LoopSettings {
+        fuel: budget.fuel,
+        work_fuel: option(alloc, matches, "work-fuel", 0, u64::MAX)?,
+        depth: budget.depth,
+    };
     Ok(Command::Serve(Service {
         file: text(alloc, matches, "file")?,
         loops,
         workers,
-        budget,
-        work_fuel,
+        settings,
         is_traced: is_traced(matches),
     }))
 }

@@ -12,7 +12,7 @@ returns g c = λ done.
     record {
       served = served;
       count = c.in_ok-served.ensures.count ∙ serving.ensures.loops;
-      each = as_asked c.args.service.now (arc_value c.args.linked) serving.result served serving.ensures.fuel serving.ensures.work_fuel serving.ensures.depth
+      each = as_asked c.args.service.now (arc_value c.args.linked) serving.result served serving.ensures.settings
           c.in_ok-served.ensures.each;
       none_failed = subst (λ (all : List Served). All HasNotFailed all) c.as_slice-2.ensures.value (c.status_of-status.ensures.0 done);
     }

@@ -7,18 +7,21 @@ use Rattle.syntax.specs.declared.types.ValType.{ValType}
 use Rattle.syntax.specs.declared.contents.Contents.{Contents}
 use Rattle.syntax.specs.declared.contents.FuncType.{FuncType}
 use Rattle.syntax.specs.declared.contents.Func.{Func}
+use Rattle.syntax.specs.declared.instruction.Token.{Token}
 use Rattle.syntax.specs.declared.instruction.Token.TheVariants as op
 use Rattle.syntax.specs.declared.instruction.Instr.TheVariants as instr
-use Rattle.syntax.specs.Code.{Code}
+use Rattle.syntax.specs.Code.{Code, operations}
 use Rattle.validate.specs.declared.side_table.Target.{Target}
 use Rattle.validate.specs.Stack.{pushed}
+use Rattle.validate.specs.Typing.{type_of_function}
 use Rattle.validate.specs.Valid.{ValidModule}
 use Rattle.instance.specs.Store.{Store}
 use Rattle.instance.specs.Storing.{HaveGlobalTypes}
+use Rattle.instance.specs.declared.stack.Site.{Site}
 use Rattle.interp.specs.Configuration.{Context, Label, entered, frames, receiving, types_of}
 use Rattle.interp.specs.Step.{Goes, next}
 use Rattle.interp.specs.Run.{HostCall, RunEnd, IsDefined, Run, RunsWithin}
-use Rattle.interp.specs.Stopping.{Mark, Moment, RunsTo}
+use Rattle.interp.specs.Stopping.{Mark, Moment, RunsTo, Stopped}
 use Rattle.interp.specs.Hosting.{Lawful, IsDetermined}
 use Rattle.interp.specs.Invoking.{Invokes, Invoked}
 use Rattle.events.specs.declared.ended.Ended.{Ended}
@@ -119,6 +122,33 @@ StoppedRunsAreRuns =
     (m : Contents) (depth : ℕ) (s : Store) (contexts : List Context) (marks : List Mark) (trace : List HostCall) (outcome : RunEnd) (used : ℕ)
     (t : Store) (last : Moment)
     → RunsTo m depth last s contexts marks trace outcome used t → Run m depth s contexts trace outcome used t
+
+-- ---- callers
+
+-- the operation is a call of this function: by its index, or through an element of the table, by its type
+abbrev pub CallsFunction : Contents → (function : ℕ) → Token → Type 0
+CallsFunction m function (op.Plain (instr.Call f)) = f ≡ function
+CallsFunction m function (op.Plain (instr.CallIndirect type)) = type_of_function m function ≡ slice_get m.types type
+CallsFunction m function _ = ⊥
+
+-- the caller's operation, in the body of its function, is a call of the callee's function
+pub record IsCallerOf (m : Contents) (callee caller : Site) : Type 0 where
+  pub f : Func
+  pub operation : Token
+  pub defined : slice_get m.functions caller.function ≡ Some f
+  pub there : slice_get (operations f.body) caller.operation ≡ Some operation
+  pub calls : CallsFunction m (length m.imports + callee.function) operation
+
+-- each open call but the outermost was made by the next one
+abbrev pub AreInCalls : Contents → List Site → Type 0
+AreInCalls m (callee ∷ caller ∷ others) = IsCallerOf m callee caller × AreInCalls m (caller ∷ others)
+AreInCalls m _ = Unit {0}
+
+-- so it is where a call from outside stops
+abbrev pub StopsAreInCalls : Type 0
+StopsAreInCalls =
+    (m : Contents) (depth : ℕ) (s : Store) (function : ℕ) (args : List Value) (trace : List HostCall) (outcome : RunEnd) (used : ℕ) (t : Store)
+    (stop : List Site) → Stopped m depth s function args trace outcome used t (Some stop) → AreInCalls m stop
 
 -- ---- the table
 

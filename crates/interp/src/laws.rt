@@ -2,7 +2,7 @@
 
 ghost use Rattle.interp.specs.Laws.{CallsAreBounded, OperandsAreBounded, ContextsAreBounded, LocalsAreBounded};
 ghost use Rattle.interp.specs.Laws.{StepsAreSound, BeginningsAreSound, CallsAreSound, AnswersAreSound};
-ghost use Rattle.interp.specs.Laws.{RunsEndOnce, CallsEndOnce, RunsStopOnce, StoppedRunsAreRuns, RunsKeepTable, CallsKeepTable};
+ghost use Rattle.interp.specs.Laws.{RunsEndOnce, CallsEndOnce, RunsStopOnce, StoppedRunsAreRuns, StopsAreInCalls, RunsKeepTable, CallsKeepTable};
 ghost use Rattle.interp.specs.Laws.{RunsAreDetermined, CallsAreDetermined, AnswersAreDetermined};
 ghost use Rattle.interp.specs.Laws.{ReachedStandAtPlaces, StepsLeadOn, BrIsTold, BrIfIsTold, BrTableIsTold, BranchesCut, BlocksStayInCall};
 
@@ -44,6 +44,13 @@ pub fn one_ending()
 pub fn one_stop()
     ensures stops { RunsStopOnce }
     ensures runs { StoppedRunsAreRuns }
+{}
+
+/// A law, with nothing to run: where a run stops within calls, each of them is at its call. Of two sites of a stop, one after
+/// the other, the outer's operation is, in the body of its function, a `call` of the inner's function or a `call_indirect`
+/// with that function's type.
+pub fn callers_are_at_calls()
+    ensures { StopsAreInCalls }
 {}
 
 /// A law, with nothing to run: a run leaves the table as it was, since no instruction writes it. So does a call from

@@ -1,2 +1,4 @@
 pub mod Desk
 pub mod Inner
+pub mod Laws
+pub mod Others

@@ -9,6 +9,7 @@
 ghost use Rattle.std.specs.Prelude.{◌≡◌, ◌+◌, ◌<◌, IfOk};
 ghost use Rattle.desk.specs.Desk.{new_desk};
 
+pub mod laws;
 mod rule;
 
 use crate::rule::{Agreement, Cancelling, Getting, History, Opening, Sending, Starting, Taking};

@@ -23,6 +23,7 @@ use Rattle.order.specs.Uv.Bytes.{taken_out}
 use Rattle.phases.specs.PhaseList.{exports}
 use Rattle.phases.specs.Roster.{Roster, is_open_of, async_number}
 use Rattle.phases.specs.State.{Setting, State}
+use Rattle.phases.specs.Guests.{GuestCall, GuestSteps, trace_of}
 use Rattle.phases.specs.Host.{HostStep, CallStep, cancel_state_of, CancelsAt, Opens, QueuesWork, Sends, emitted_in}
 use Rattle.phases.specs.Inner.Hosting.{Answered, Replies}
 
@@ -41,6 +42,14 @@ served {G} calls setting standing (call ∷ trace) old new h =
       answers = (standing mid, h.1.step, subst (λ (g : Setting). Lawful (HostStep calls g) trace (standing mid) (standing new)) h.1.same rest.answers);
       same = rest.same ∙ h.1.same;
     }
+
+-- the calls of a trace, each with the function that its step names
+pub named : {S : Type 0} (calls : Calls S) (g : Setting) (trace : List HostCall) (old new : State × S) → Lawful (HostStep calls g) trace old new
+    → (made : List GuestCall) × (trace_of made ≡ trace) × GuestSteps calls g made old new
+named calls g [] old new h = ([], refl, h)
+named calls g (call ∷ trace) old new h =
+    let rest = named calls g trace h.0 new h.2 in
+    (record { function = h.1.0; call = call } ∷ rest.0, ap (λ xs. call ∷ xs) rest.1, (h.0, (h.1.1, h.1.2), rest.2))
 
 -- a call with no arguments has none
 pub no_arguments : (args : List Value) → map type_of args ≡ [] → args ≡ []

@@ -1,7 +1,9 @@
 -- No call of a guest takes away what a loop has listed.
-use Rattle.std.proofs.Common.{◌≡◌, ℕ, zero, suc, ◌+◌, ◌==◌, Bool, true, false, cond, not, ◌&&◌, ◌⊎◌, inl, inr, List, [], ◌∷◌, ◌++◌, length, map, find, Option, Some, None, refl, sym, ap, subst, ◌∙◌, MatchOption, IsSomeAnd, nat_lt, nat_le, codes, slice_get}
+use Rattle.std.proofs.Common.{◌≡◌, ℕ, zero, suc, ◌+◌, ◌≤◌, ◌==◌, Bool, true, false, cond, not, ◌&&◌, ◌⊎◌, inl, inr, List, [], ◌∷◌, ◌++◌, length, map, find, Option, Some, None, refl, sym, ap, subst, ◌∙◌, arith, MatchBool, MatchOption, IsSomeAnd, nat_lt, nat_le, codes, slice_get}
 use Rattle.std.specs.Option.{option_map_or, option_or}
 use Rattle.std.specs.FinMap as finite
+use Rattle.std.proofs.lemmas.Bool.{eqb-false}
+use Rattle.std.proofs.lemmas.List.{length_push}
 use Rattle.std.proofs.lemmas.List.Folds.{find-append}
 use Rattle.limits.specs.declared.TheConstants.{MAX_BYTES, MAX_HANDLES, MAX_ASYNCS, MAX_REQUESTS, MAX_EMITS}
 use Rattle.syntax.specs.declared.types.Value.{Value}
@@ -26,6 +28,7 @@ use Rattle.phases.specs.Requests.{Requests, Request, Stage, Open, Cancelled, has
 use Rattle.phases.specs.Roster.{Roster, in_table, async_handle, is_open, is_open_of, is_callback, with_handles, with_made, with_async, Makes, MakesAsync, stopped_in, started_in, again_in, closed_in}
 use Rattle.phases.specs.State.{Setting, State}
 use Rattle.phases.specs.Calls.{Calls}
+use Rattle.phases.specs.Guests.{GuestCall, GuestSteps}
 use Rattle.phases.specs.Host.{with_roster, with_requests, emitted_in, next_work, CancelsAt, Cancels, Opens, QueuesWork, Relates, RelatesWork, Does, DoesTo, CallStep, HostStep}
 use Rattle.phases.specs.Inner.Ready.{IsSettledIn, Grows}
 use Rattle.phases.proofs.RosterKeeps.{choose, changed, still_closing, closing_there}
@@ -38,6 +41,7 @@ grows_same s t list phase roster requests = record {
   callbacks = ap (λ r. r.callbacks) roster;
   settled = λ number h. subst (λ (rs : Requests). IsSettledIn rs number) (sym requests) h;
   asyncs = λ async_no handle h. ap (λ r. async_handle r async_no) roster ∙ h;
+  few = λ h. subst (λ (r : Roster). length r.asyncs ≤ MAX_ASYNCS) (sym roster) h;
   closing = λ handle h. subst (λ (r : Roster). IsClosing r.handles handle) (sym roster) h;
 }
 
@@ -51,6 +55,7 @@ grows_on s t u first second = record {
   callbacks = second.callbacks ∙ first.callbacks;
   settled = λ number h. second.settled number (first.settled number h);
   asyncs = λ async_no handle h. second.asyncs async_no handle (first.asyncs async_no handle h);
+  few = λ h. second.few (first.few h);
   closing = λ handle h. second.closing handle (first.closing handle h);
 }
 
@@ -65,6 +70,7 @@ grows_requests s us settles = record {
   callbacks = refl;
   settled = settles;
   asyncs = λ async_no handle h. h;
+  few = λ h. h;
   closing = λ handle h. h;
 }
 
@@ -155,6 +161,7 @@ module _ (t : Table) (handle : ℕ) where
 pub record Holds (r u : Roster) : Type 0 where
   pub callbacks : u.callbacks ≡ r.callbacks
   pub asyncs : (async_no handle : ℕ) → async_handle r async_no ≡ Some handle → async_handle u async_no ≡ Some handle
+  pub few : length r.asyncs ≤ MAX_ASYNCS → length u.asyncs ≤ MAX_ASYNCS
   pub closing : StayClosing r.handles u.handles
 
 pub grows_roster : (s : State) (u : Roster) → Holds s.roster u → Grows s (with_roster s u)
@@ -164,6 +171,7 @@ grows_roster s u holds = record {
   callbacks = holds.callbacks;
   settled = λ number h. h;
   asyncs = holds.asyncs;
+  few = holds.few;
   closing = holds.closing;
 }
 
@@ -171,6 +179,7 @@ pub holds_same : (r u : Roster) → u ≡ r → Holds r u
 holds_same r u e = record {
   callbacks = ap (λ v. v.callbacks) e;
   asyncs = λ async_no handle h. ap (λ v. async_handle v async_no) e ∙ h;
+  few = λ h. subst (λ (v : Roster). length v.asyncs ≤ MAX_ASYNCS) (sym e) h;
   closing = λ handle h. subst (λ (v : Roster). IsClosing v.handles handle) (sym e) h;
 }
 
@@ -178,6 +187,7 @@ pub holds_handles : (r : Roster) (t : Table) → StayClosing r.handles t → Hol
 holds_handles r t closing = record {
   callbacks = refl;
   asyncs = λ async_no handle h. h;
+  few = λ h. h;
   closing = closing;
 }
 
@@ -186,10 +196,11 @@ one_more [] x n handle h = absurd (cc)
 one_more (y ∷ ys) x zero handle h = h
 one_more (y ∷ ys) x (suc n) handle h = one_more ys x n handle h
 
-holds_async : (r : Roster) (handle callback : ℕ) → record_of r.handles handle ≡ None → Holds r (with_async callback r handle)
-holds_async r handle callback none = record {
+holds_async : (r : Roster) (handle callback : ℕ) → (length r.asyncs == MAX_ASYNCS) ≡ false → record_of r.handles handle ≡ None → Holds r (with_async callback r handle)
+holds_async r handle callback room none = record {
   callbacks = refl;
   asyncs = λ async_no other h. one_more r.asyncs (Some handle) async_no other h;
+  few = λ h. (let more = length_push r.asyncs (Some handle) in let other = eqb-false (length r.asyncs) MAX_ASYNCS room in omega (arith, more, other, h));
   closing = λ other h. start_closing (with_record r.handles handle (new_record kind.Async)) handle callback 0 0 other (made_closing r.handles handle kind.Async none other h);
 }
 
@@ -205,9 +216,10 @@ holds_made k r answer u = holds_makes (with_made k) r answer u (λ none. holds_h
 
 holds_made_async : (callback : ℕ) (r : Roster) (answer : ℕ) (u : Roster) → MakesAsync callback r answer u → Holds r u
 holds_made_async callback r answer u =
-    either (not (is_callback r callback)) _ _ _ (λ h. holds_same r u h.1)
-    (either (length r.asyncs == MAX_ASYNCS) _ _ _ (λ h. holds_same r u h.1)
-    (holds_makes (with_async callback) r answer u (holds_async r answer callback)))
+    either (not (is_callback r callback)) _ _ _ (λ h. holds_same r u h.1) (by (length r.asyncs == MAX_ASYNCS) refl) where
+      by : (b : Bool) → (length r.asyncs == MAX_ASYNCS) ≡ b → MatchBool b ((answer ≡ none_left) × (u ≡ r)) (Makes (with_async callback) r answer u) → Holds r u
+      by true full h = holds_same r u h.1
+      by false room h = holds_makes (with_async callback) r answer u (holds_async r answer callback room) h
 
 module _ (r : Roster) where
   abbrev HoldsAfter : ℕ × Roster → Type 0
@@ -239,6 +251,7 @@ module _ (r : Roster) where
       (record {
         callbacks = refl;
         asyncs = λ async_no other h. h;
+        few = λ h. h;
         closing = close_closing r.handles handle callback;
       }))
 
@@ -330,3 +343,7 @@ pub trace_grows : {S : Type 0} (calls : Calls S) (g : Setting) (trace : List Hos
 trace_grows calls g [] old new h = grows_same old.0 new.0 (ap (λ p. p.0.list) h) (ap (λ p. p.0.phase) h) (ap (λ p. p.0.roster) h) (ap (λ p. p.0.requests) h)
 trace_grows calls g (call ∷ trace) old new h =
     grows_on old.0 h.0.0 new.0 (host_grows calls g old call h.0 h.1) (trace_grows calls g trace h.0 new h.2)
+
+pub guest_grows : {S : Type 0} (calls : Calls S) (g : Setting) (made : List GuestCall) (old new : State × S) → GuestSteps calls g made old new → Grows old.0 new.0
+guest_grows calls g [] old new h = trace_grows calls g [] old new h
+guest_grows calls g (c ∷ made) old new h = grows_on old.0 h.0.0 new.0 (call_grows calls g old c.call h.0 c.function c.call.args h.1.1) (guest_grows calls g made h.0 new h.2)

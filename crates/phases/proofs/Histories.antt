@@ -13,7 +13,7 @@ use Rattle.events.specs.declared.phase.EntryKind.TheVariants as kind
 use Rattle.phases.specs.declared.entry.Status.{Status}
 use Rattle.phases.specs.declared.entry.Status.TheVariants.{Running, Over, Failed}
 use Rattle.phases.specs.Calls.{Calls}
-use Rattle.phases.specs.Guests.{GuestCall, loop_calls}
+use Rattle.phases.specs.Guests.{GuestCall}
 use Rattle.phases.specs.History.{Event, Stepped, OrderAsked, EndOffered, CancelAnswered, ClockRaised, MovedBeside, EventStep, Offers, History, IsOpening, calls_in, guest_calls}
 use Rattle.phases.specs.Laws.{WasAsked, WasCancelled, is_after_event, cancellation, AreDue, IsOwn}
 use Rattle.phases.specs.Outside.{next_order_of, next_in, handing}
@@ -80,14 +80,13 @@ module _ {S : Type 0} (calls : Calls S) (g : Setting) (r : ℕ) where
         told e rs' other (subst (λ cs. Held g r (ByOwner events) ran early (guest_calls events ++ cs) rs') (sym none) (nothing_more g r (ByOwner events) ran early (guest_calls events) rs rs' same f))
 
     step_held : (did : StepDid) (emits : List ℕ) (made : List GuestCall) (old new : Loop S) (h : EventStep calls g (Stepped did emits made) old new) → Good ran early events old.state.requests
-        → Steps calls g r (ByOwner events) ran early (guest_calls events) (loop_calls calls g old did new h.0) old did new
-    step_held did emits made old new h f = step_holds calls g r (ByOwner events) ran early (guest_calls events) old did new h.0 f
+        → Steps calls g r (ByOwner events) ran early (guest_calls events) made old did new
+    step_held did emits made old new h f = step_holds calls g r (ByOwner events) ran early (guest_calls events) made old did new h.0 f
 
     stepped_held : (did : StepDid) (emits : List ℕ) (made : List GuestCall) (old new : Loop S) → EventStep calls g (Stepped did emits made) old new → Good ran early events old.state.requests
         → Good ran early (events ++ Stepped did emits made ∷ []) new.state.requests
     stepped_held did emits made old new h f =
-        told (Stepped did emits made) new.state.requests (no_cancel (Stepped did emits made) refl)
-        (subst (λ cs. Held g r (ByOwner events) ran early (guest_calls events ++ cs) new.state.requests) (sym h.1) (step_held did emits made old new h f).held)
+        told (Stepped did emits made) new.state.requests (no_cancel (Stepped did emits made) refl) (step_held did emits made old new h f).held
 
     handing_good : (rs : Requests) (o : Option Request) → lowest_open rs ≡ o → Good ran early events rs → Good ran early events (handing rs o).1
     handing_good rs None e f = f
@@ -178,15 +177,14 @@ module _ {S : Type 0} (calls : Calls S) (g : Setting) (r : ℕ) where
 
   -- an after-work callback of the request
   module _ (events : List Event) (did : StepDid) (emits : List ℕ) (made : List GuestCall) (old new : Loop S) (h : EventStep calls g (Stepped did emits made) old new) (was : Holds events old) (is : is_after_event r (Stepped did emits made) ≡ true) where
-    stepped : Steps calls g r (ByOwner events) (HasRun events) (Unit {0}) (guest_calls events) (loop_calls calls g old did new h.0) old did new
+    stepped : Steps calls g r (ByOwner events) (HasRun events) (Unit {0}) (guest_calls events) made old did new
     stepped = step_held (HasRun events) (Unit {0}) events did emits made old new h was.good
 
     ran_next : Holds (events ++ Stepped did emits made ∷ []) new
     ran_next = record {
       good = less_ran r (WasAsked g (guest_calls (events ++ Stepped did emits made ∷ []))) (WasWon g r (ByOwner (events ++ Stepped did emits made ∷ [])) (guest_calls (events ++ Stepped did emits made ∷ []))) (Unit {0}) (HasRun (events ++ Stepped did emits made ∷ [])) (Unit {0}) new.state.requests
           (λ _. tt)
-          (told (Unit {0}) (Unit {0}) events (Stepped did emits made) new.state.requests (no_cancel (Stepped did emits made) refl)
-          (subst (λ cs. Held g r (ByOwner events) (Unit {0}) (Unit {0}) (guest_calls events ++ cs) new.state.requests) (sym h.1) (stepped.after (after_told did emits made is)).3.gone));
+          (told (Unit {0}) (Unit {0}) events (Stepped did emits made) new.state.requests (no_cancel (Stepped did emits made) refl) (stepped.after (after_told did emits made is)).3.gone);
       once = subst (λ n. n ≤ 1) (sym (counted events (Stepped did emits made) ∙ rw is refl)) (below (cases_lt 0 (count_by (is_after_event r) events)));
     } where
       below : (0 < count_by (is_after_event r) events) ⊎ (count_by (is_after_event r) events ≤ 0) → count_by (is_after_event r) events + 1 ≤ 1
@@ -197,7 +195,7 @@ module _ {S : Type 0} (calls : Calls S) (g : Setting) (r : ℕ) where
     ran_late : Good (Unit {0}) ⊥ (Stepped did emits made ∷ []) new.state.requests
     ran_late =
         owned_by g r ⊥ (ByOwner (Stepped did emits made ∷ [])) (Unit {0}) ⊥ (made ++ []) new.state.requests (λ k. absurd k, never)
-        (subst (λ cs. Held g r ⊥ (Unit {0}) ⊥ cs new.state.requests) (sym h.1 ∙ sym (append-nil made)) (stepped.after (after_told did emits made is)).3.late) where
+        (subst (λ cs. Held g r ⊥ (Unit {0}) ⊥ cs new.state.requests) (sym (append-nil made)) (stepped.after (after_told did emits made is)).3.late) where
           never : ByOwner (Stepped did emits made ∷ []) → ⊥
           never k = elim (Contains-push_cases [] (Stepped did emits made) (CancelAnswered r 0) k) [ inl none ↦ omega (arith, none.1) | inr e ↦ no_cancel (Stepped did emits made) refl e ]
 
@@ -211,12 +209,12 @@ module _ {S : Type 0} (calls : Calls S) (g : Setting) (r : ℕ) where
         → WasAsked g (guest_calls events) q.order × Stands q.order (WasWon g r (ByOwner events) (guest_calls events)) q.stage
     owned_one rs q single k = subst (Owned (WasAsked g (guest_calls events)) (WasWon g r (ByOwner events) (guest_calls events))) single k
 
-    ran_own : IsOwn calls g events old r did new
+    ran_own : IsOwn calls g events old r did made new
     ran_own =
         let it = stepped.after (after_told did emits made is) in
         own it.0 it.1 it.2.request it.2.only (completion_of it.2.request.stage) refl it.2.work where
           own : (rest : List Entry) → old.state.list ≡ entry.After r ∷ rest → (q : Request) → numbered r old.state.requests ≡ q ∷ [] → (t : Option Completion) → completion_of q.stage ≡ t
-              → AfterWork calls g (in_state old (record old.state { list = rest })) r t did new → IsOwn calls g events old r did new
+              → AfterWork calls g (in_state old (record old.state { list = rest })) r t did made new → IsOwn calls g events old r did made new
           own rest listed q only None told work = absurd work
           own rest listed q only (Some t) told work =
               let found = found_only r old.state.requests q only in
@@ -231,7 +229,7 @@ module _ {S : Type 0} (calls : Calls S) (g : Setting) (r : ℕ) where
                   listed = listed ∙ ap (λ k. entry.After k ∷ rest) (sym found.1);
                   stood = ap (request_of old.state.requests) found.1 ∙ found.0;
                   given = told;
-                  runs = subst (λ k. AfterWork calls g (in_state old (record old.state { list = rest })) k (Some t) did new) (sym found.1) work;
+                  runs = subst (λ k. AfterWork calls g (in_state old (record old.state { list = rest })) k (Some t) did made new) (sym found.1) work;
                 };
                 due = stage_due q.order (WasWon g r (ByOwner events) (guest_calls events)) q.stage mine.1 t told;
               }
@@ -268,7 +266,7 @@ module _ {S : Type 0} (calls : Calls S) (g : Setting) (r : ℕ) where
   holds_after l l' events o h = run_holds [] events l l' h (opening_holds l o)
 
   pub own_after : (l old new : Loop S) (events : List Event) (did : StepDid) (emits : List ℕ) (made : List GuestCall) → IsOpening calls g l → History calls g l events old
-      → EventStep calls g (Stepped did emits made) old new → is_after_event r (Stepped did emits made) ≡ true → IsOwn calls g events old r did new
+      → EventStep calls g (Stepped did emits made) old new → is_after_event r (Stepped did emits made) ≡ true → IsOwn calls g events old r did made new
   own_after l old new events did emits made o h step is = ran_own events did emits made old new step (holds_after l old events o h) is
 
   -- what follows the callback

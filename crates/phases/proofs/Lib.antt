@@ -1,4 +1,5 @@
 pub mod EachNumberOnce
+pub mod Asyncs
 pub mod RequestsRise
 pub mod CancelFates
 pub mod PhaseListsAreReady
@@ -14,6 +15,7 @@ pub mod ActiveAsyncs
 pub mod Lists
 pub mod AliveMeans
 pub mod Lowest
+pub mod Mirroring
 pub mod StepsByCalls
 pub mod RequestByNumber
 pub mod OwnerCallsKeepListed

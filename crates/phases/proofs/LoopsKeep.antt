@@ -34,6 +34,7 @@ use Rattle.phases.specs.Calls.{Calls, IsLawful}
 use Rattle.phases.specs.Outside.{CancelIn, next_in, next_of, next_order_of}
 use Rattle.phases.specs.Requests.{Requests, Request, Completion, completion_of}
 use Rattle.phases.specs.View.{AreOpenedUpTo}
+use Rattle.phases.specs.Guests.{GuestCall}
 use Rattle.phases.specs.Host.{HostStep, Cancels, cancel_state_of, with_requests}
 use Rattle.phases.specs.Inner.Hosting.{Answered}
 use Rattle.phases.specs.Inner.Keeping.{Keeps, IsOrderOf, AreOrdersOf}
@@ -46,7 +47,7 @@ use Rattle.phases.specs.Step.{RunsFrom, begun, finished, turn, handle_function}
 use Rattle.phases.proofs.GuestCallsKeepListed.{grows_on, trace_grows}
 use Rattle.phases.proofs.PhaseListsAreReady.{ready_opening}
 use Rattle.phases.proofs.HostExports.{found_exports}
-use Rattle.phases.proofs.GuestCallsKeep.{served, cancels_at_upto}
+use Rattle.phases.proofs.GuestCallsKeep.{served, named, cancels_at_upto}
 use Rattle.phases.proofs.OwnerCallsKeepListed.{grows_begun, grows_finished}
 use Rattle.phases.proofs.ListedStaysReady.{ready_on}
 use Rattle.phases.proofs.Runnable.{orders_run, cancelled_orders, handed_order}
@@ -140,8 +141,8 @@ module _ (m : Contents) (f n : ℕ) where
 
 -- a callback that ran on the host of a loop
 module _ {G S : Type 0} (calls : Calls S) (setting : G → Setting) (standing : G → State × S) (l v : Loaded) (is : v ≡ l) (g : Setting) (old : Loop S) (keeps : Keeps l g old.state old.store) (before after : G) (made : setting before ≡ g) (reply : Option (List ℕ)) (begins : standing before ≡ (begun old.state reply, old.shared)) (t : Store) (function : ℕ) (args : List Value) (ended : Ended) (h : Invoked v.contents g.depth g.fuel (Answered calls setting standing) old.store before function args ended t after) where
-  trace_of : Lawful (HostStep calls g) h.trace (begun old.state reply, old.shared) (standing after)
-  trace_of =
+  answered : Lawful (HostStep calls g) h.trace (begun old.state reply, old.shared) (standing after)
+  answered =
       let it = served calls setting standing h.trace before after h.lawful in
       subst (λ (p : State × S). Lawful (HostStep calls g) h.trace p (standing after)) begins
       (subst (λ (x : Setting). Lawful (HostStep calls x) h.trace (standing before) (standing after)) made it.answers)
@@ -150,24 +151,28 @@ module _ {G S : Type 0} (calls : Calls S) (setting : G → Setting) (standing : 
   same_setting = (served calls setting standing h.trace before after h.lawful).same ∙ made
 
   pub runs_from : (kind : EntryKind) (number : ℕ) (last : State) → last ≡ finished (standing after).0 ended
-      → RunsFrom calls g old kind number function args reply (Ran kind number ended) (record { state = last; store = t; shared = (standing after).1 })
-  runs_from kind number last e = record {
-    trace = h.trace;
-    ended = ended;
-    state = (standing after).0;
-    run = subst (λ (x : Loaded). Invokes x.contents g.depth g.fuel old.store function args h.trace (end_of_run ended.ending) ended.used t) (is ∙ keeps.same) h.invokes;
-    answers = trace_of;
-    told = refl;
-    finished = e;
-  }
+      → (made : List GuestCall) × RunsFrom calls g old kind number function args reply (Ran kind number ended) made (record { state = last; store = t; shared = (standing after).1 })
+  runs_from kind number last e =
+      let it = named calls g h.trace (begun old.state reply, old.shared) (standing after) answered in (
+        it.0,
+        record {
+          ended = ended;
+          state = (standing after).0;
+          run = subst (λ xs. Invokes g.loaded.contents g.depth g.fuel old.store function args xs (end_of_run ended.ending) ended.used t) (sym it.1)
+              (subst (λ (x : Loaded). Invokes x.contents g.depth g.fuel old.store function args h.trace (end_of_run ended.ending) ended.used t) (is ∙ keeps.same) h.invokes);
+          answers = it.2;
+          told = refl;
+          finished = e;
+        },
+      )
 
   pub kept_after : IsLinked v.contents → IsStoreOf v.contents t → (last : State) → last ≡ finished (standing after).0 ended → Keeps l g last t
   kept_after linked fits last e =
       let u : State = (standing after).0 in
       let grows : Grows old.state (finished u ended) = grows_on old.state (begun old.state reply) (finished u ended) (grows_begun old.state reply)
-      (grows_on (begun old.state reply) u (finished u ended) (trace_grows calls g h.trace (begun old.state reply, old.shared) (standing after) trace_of) (grows_finished u ended)) in
+      (grows_on (begun old.state reply) u (finished u ended) (trace_grows calls g h.trace (begun old.state reply, old.shared) (standing after) answered) (grows_finished u ended)) in
       let orders : AreOrdersOf g u.requests =
-      orders_run g (subst (λ (x : Loaded). IsLinked x.contents) (is ∙ keeps.same) linked) keeps.depth calls h.trace (begun old.state reply, old.shared) (standing after) trace_of keeps.orders in
+      orders_run g (subst (λ (x : Loaded). IsLinked x.contents) (is ∙ keeps.same) linked) keeps.depth calls h.trace (begun old.state reply, old.shared) (standing after) answered keeps.orders in
       let there : Keeps l g (finished u ended) old.store = kept_on l g old.state (finished u ended) old.store keeps grows orders in
       subst (λ (s : State). Keeps l g s t) (sym e) (record {
         same = there.same;

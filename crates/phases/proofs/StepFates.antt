@@ -6,8 +6,6 @@ use Rattle.syntax.specs.declared.types.Value.{Value}
 use Rattle.syntax.specs.declared.types.Value.TheVariants.{I32}
 use Rattle.handles.specs.declared.handle.Kind.TheVariants as handle_kind
 use Rattle.handles.specs.Table.{after_again}
-use Rattle.interp.specs.Run.{HostCall}
-use Rattle.interp.specs.Hosting.{Lawful}
 use Rattle.events.specs.declared.ended.Ended.{Ended}
 use Rattle.order.specs.Work.{WorkOrder}
 use Rattle.order.specs.Uv.Bytes.{taken_out}
@@ -26,9 +24,9 @@ use Rattle.phases.specs.State.{Setting, State, Loop}
 use Rattle.events.specs.Phases.{may_end, next_phase}
 use Rattle.phases.specs.PhaseList.{is_alive, is_active_handle}
 use Rattle.phases.specs.Calls.{Calls}
-use Rattle.phases.specs.Host.{HostStep, next_work, with_roster, with_requests}
-use Rattle.phases.specs.Step.{LoopStep, StepIn, ListStep, EntryStep, NextPhase, RunsFrom, CallsBack, CallsHandle, Skips, TakesFirst, AfterWork, in_state, sharing, begun, entered, now_in, is_as_listed, handle_function}
-use Rattle.phases.specs.Guests.{GuestCall, named_calls, run_calls, back_calls, calls_if, calls_unless, handle_calls, taking_calls, async_calls, work_calls, after_calls, entry_calls, list_calls, status_calls, loop_calls}
+use Rattle.phases.specs.Host.{next_work, with_roster, with_requests}
+use Rattle.phases.specs.Step.{StepsWith, StepIn, ListStep, EntryStep, NextPhase, RunsFrom, CallsBack, CallsHandle, Skips, TakesFirst, AfterWork, in_state, sharing, begun, entered, now_in, is_as_listed, handle_function}
+use Rattle.phases.specs.Guests.{GuestCall, GuestSteps}
 use Rattle.phases.specs.Laws.{WasAsked, IsCancel}
 use Rattle.phases.proofs.StepsByCalls.{CallFate, changes_nothing, opens_one, cancels_one, call_fate}
 use Rattle.phases.proofs.RequestByNumber.{Fits, Covers, Same, Stages, numbered, fits_more, fits_staged, fits_opened, fits_removed, fits_ran, was_given, only_found}
@@ -97,12 +95,11 @@ module _ (g : Setting) (r : ℕ) (L : Type 0) where
 
   -- and all calls of a callback
   module _ {S : Type 0} (calls : Calls S) where
-    trace_holds : (ran early : Type 0) (made : List GuestCall) (trace : List HostCall) (old new : State × S) (h : Lawful (HostStep calls g) trace old new) → Held ran early made old.0.requests → Held ran early (made ++ named_calls calls g trace old new h) new.0.requests
+    trace_holds : (ran early : Type 0) (made more : List GuestCall) (old new : State × S) → GuestSteps calls g more old new → Held ran early made old.0.requests → Held ran early (made ++ more) new.0.requests
     trace_holds ran early made [] old new h f = nothing_more ran early made old.0.requests new.0.requests (ap (λ p. p.0.requests) h) f
-    trace_holds ran early made (call ∷ trace) old new h f =
-        let c : GuestCall = record { function = h.1.0; call = call } in
-        subst (λ cs. Held ran early cs new.0.requests) (append_assoc made (c ∷ []) (named_calls calls g trace h.0 new h.2))
-        (trace_holds ran early (made ++ c ∷ []) trace h.0 new h.2 (fate_holds ran early made c old.0.requests h.0.0.requests (call_fate calls g old call h.0 h.1.0 call.args refl h.1.2) f))
+    trace_holds ran early made (c ∷ more) old new h f =
+        subst (λ cs. Held ran early cs new.0.requests) (append_assoc made (c ∷ []) more)
+        (trace_holds ran early (made ++ c ∷ []) more h.0 new h.2 (fate_holds ran early made c old.0.requests h.0.0.requests (call_fate calls g old c.call h.0 c.function c.call.args refl h.1.1) f))
 
 -- what a step tells of an after-work callback
 abbrev pub after_of : StepDid → Option ℕ
@@ -110,19 +107,18 @@ after_of (Ran kind.After number ended) = Some number
 after_of _ = None
 
 module _ {S : Type 0} (calls : Calls S) (g : Setting) (r : ℕ) where
-  callback_holds : (L ran early : Type 0) (made : List GuestCall) (old : Loop S) (kind : EntryKind) (number function : ℕ) (args : List Value) (reply : Option (List ℕ)) (did : StepDid) (new : Loop S)
-      (h : RunsFrom calls g old kind number function args reply did new) → Held g r L ran early made old.state.requests
-      → Held g r L ran early (made ++ run_calls calls g old kind number function args reply did new h) new.state.requests
-  callback_holds L ran early made old kind number function args reply did new h f =
-      subst (Held g r L ran early (made ++ run_calls calls g old kind number function args reply did new h)) (sym (ap (λ s. s.requests) h.finished))
-      (trace_holds g r L calls ran early made h.trace (begun old.state reply, old.shared) (h.state, new.shared) h.answers f)
+  callback_holds : (L ran early : Type 0) (made more : List GuestCall) (old : Loop S) (kind : EntryKind) (number function : ℕ) (args : List Value) (reply : Option (List ℕ)) (did : StepDid) (new : Loop S)
+      → RunsFrom calls g old kind number function args reply did more new → Held g r L ran early made old.state.requests → Held g r L ran early (made ++ more) new.state.requests
+  callback_holds L ran early made more old kind number function args reply did new h f =
+      subst (Held g r L ran early (made ++ more)) (sym (ap (λ s. s.requests) h.finished))
+      (trace_holds g r L calls ran early made more (begun old.state reply, old.shared) (h.state, new.shared) h.answers f)
 
 module _ {S : Type 0} (calls : Calls S) (g : Setting) (r : ℕ) (L : Type 0) where
   -- the after-work callback of the request ran, which was there
-  pub record WorkedAfter (base : Loop S) (did : StepDid) (new : Loop S) : Type 0 where
+  pub record WorkedAfter (base : Loop S) (did : StepDid) (more : List GuestCall) (new : Loop S) : Type 0 where
     pub request : Request
     pub only : numbered r base.state.requests ≡ request ∷ []
-    pub work : AfterWork calls g base r (completion_of request.stage) did new
+    pub work : AfterWork calls g base r (completion_of request.stage) did more new
 
   -- what a callback of the request leaves: it is gone for good, and is not cancelled any more
   pub record Leaves (made more : List GuestCall) (new : Loop S) : Type 0 where
@@ -132,81 +128,64 @@ module _ {S : Type 0} (calls : Calls S) (g : Setting) (r : ℕ) (L : Type 0) whe
   -- what an entry leaves of the request
   pub record Passes (e : Entry) (ran early : Type 0) (made more : List GuestCall) (base : Loop S) (did : StepDid) (new : Loop S) : Type 0 where
     pub held : Held g r L ran early (made ++ more) new.state.requests
-    pub after : after_of did ≡ Some r → (e ≡ entry.After r) × WorkedAfter base did new × Leaves made more new
+    pub after : after_of did ≡ Some r → (e ≡ entry.After r) × WorkedAfter base did more new × Leaves made more new
 
-  module _ (e : Entry) (ran early : Type 0) (made : List GuestCall) where
-    quiet : (more : List GuestCall) (base : Loop S) (did : StepDid) (new : Loop S) → Held g r L ran early (made ++ more) new.state.requests → after_of did ≡ None → Passes e ran early made more base did new
-    quiet more base did new held none = record { held = held; after = λ h. absurd (cc) }
+  module _ (e : Entry) (ran early : Type 0) (made more : List GuestCall) where
+    quiet : (base : Loop S) (did : StepDid) (new : Loop S) → Held g r L ran early (made ++ more) new.state.requests → after_of did ≡ None → Passes e ran early made more base did new
+    quiet base did new held none = record { held = held; after = λ h. absurd (cc) }
 
     -- a callback that is none of after-work
     abbrev IsOther : EntryKind → Type 0
     IsOther kind = (number : ℕ) (ended : Ended) → after_of (Ran kind number ended) ≡ None
 
     back_passes : (base old : Loop S) (kind : EntryKind) (number : ℕ) (function : Option ℕ) (args : List Value) (did : StepDid) (new : Loop S) → IsOther kind
-        → (h : CallsBack calls g old kind number function args did new) → Held g r L ran early made old.state.requests
-        → Passes e ran early made (back_calls calls g old kind number function args did new h) base did new
+        → CallsBack calls g old kind number function args did more new → Held g r L ran early made old.state.requests → Passes e ran early made more base did new
     back_passes base old kind number None args did new other h f = absurd h
     back_passes base old kind number (Some k) args did new other h f =
-        quiet (run_calls calls g old kind number k args None did new h) base did new (callback_holds calls g r L ran early made old kind number k args None did new h f) (ap after_of h.told ∙ other number h.ended)
+        quiet base did new (callback_holds calls g r L ran early made more old kind number k args None did new h f) (ap after_of h.told ∙ other number h.ended)
 
-    skips_pass : (base old : Loop S) (kind : EntryKind) (number : ℕ) (did : StepDid) (new : Loop S) → Skips calls g old kind number did new → Held g r L ran early made old.state.requests
-        → Passes e ran early made [] base did new
+    skips_pass : (base old : Loop S) (kind : EntryKind) (number : ℕ) (did : StepDid) (new : Loop S) → Skips calls g old kind number did more new → Held g r L ran early made old.state.requests
+        → Passes e ran early made more base did new
     skips_pass base old kind number did new h f =
-        quiet [] base did new (nothing_more g r L ran early made old.state.requests new.state.requests (ap (λ l. l.state.requests) h.1) f) (ap after_of h.0)
-
-    passes_if : (b : Bool) (P Q : Type 0) (more : P → List GuestCall) (base : Loop S) (did : StepDid) (new : Loop S)
-        → ((p : P) → Passes e ran early made (more p) base did new) → (Q → Passes e ran early made [] base did new)
-        → (h : MatchBool b P Q) → Passes e ran early made (calls_if b P Q more h) base did new
-    passes_if true P Q more base did new f k h = f h
-    passes_if false P Q more base did new f k h = k h
-
-    passes_unless : (b : Bool) (P Q : Type 0) (more : Q → List GuestCall) (base : Loop S) (did : StepDid) (new : Loop S)
-        → (P → Passes e ran early made [] base did new) → ((q : Q) → Passes e ran early made (more q) base did new)
-        → (h : MatchBool b P Q) → Passes e ran early made (calls_unless b P Q more h) base did new
-    passes_unless true P Q more base did new f k h = f h
-    passes_unless false P Q more base did new f k h = k h
+        quiet base did new
+        (subst (λ cs. Held g r L ran early (made ++ cs) new.state.requests) (sym h.2) (nothing_more g r L ran early made old.state.requests new.state.requests (ap (λ l. l.state.requests) h.1) f))
+        (ap after_of h.0)
 
     -- an entry of a handle
     listed_passes : (base old fired : Loop S) (b : Bool) (kind : EntryKind) (handle : ℕ) (did : StepDid) (new : Loop S) → IsOther kind
         → Held g r L ran early made old.state.requests → Held g r L ran early made fired.state.requests
-        → (h : MatchBool b (CallsHandle calls g fired old.state.roster kind handle did new) (Skips calls g old kind handle did new))
-        → Passes e ran early made (calls_if b (CallsHandle calls g fired old.state.roster kind handle did new) (Skips calls g old kind handle did new) (handle_calls calls g fired old.state.roster kind handle did new) h) base did new
-    listed_passes base old fired b kind handle did new other f k h =
-        passes_if b (CallsHandle calls g fired old.state.roster kind handle did new) (Skips calls g old kind handle did new) (handle_calls calls g fired old.state.roster kind handle did new) base did new
-        (λ p. back_passes base fired kind handle (handle_function old.state.roster handle) (I32 handle ∷ []) did new other p k)
-        (λ q. skips_pass base old kind handle did new q f) h
+        → MatchBool b (CallsHandle calls g fired old.state.roster kind handle did more new) (Skips calls g old kind handle did more new) → Passes e ran early made more base did new
+    listed_passes base old fired true kind handle did new other f k h = back_passes base fired kind handle (handle_function old.state.roster handle) (I32 handle ∷ []) did new other h k
+    listed_passes base old fired false kind handle did new other f k h = skips_pass base old kind handle did new h f
 
-    taking_passes : (old : Loop S) (async_no handle : ℕ) (did : StepDid) (new : Loop S) (h : TakesFirst calls g old async_no handle did new) → Held g r L ran early made old.state.requests
-        → Passes e ran early made (taking_calls calls g old async_no handle did new h) old did new
-    taking_passes old async_no handle did new h f =
-        passes_unless (h.0 == 0) (Skips calls g (sharing old h.1) kind.Async handle did new) (CallsHandle calls g (sharing old h.1) old.state.roster kind.Async handle did new)
-        (handle_calls calls g (sharing old h.1) old.state.roster kind.Async handle did new) old did new
-        (λ p. skips_pass old (sharing old h.1) kind.Async handle did new p f)
-        (λ q. back_passes old (sharing old h.1) kind.Async handle (handle_function old.state.roster handle) (I32 handle ∷ []) did new (λ number ended. refl) q f)
-        h.3
+    counted_passes : (base old : Loop S) (b : Bool) (handle : ℕ) (did : StepDid) (new : Loop S) → Held g r L ran early made old.state.requests
+        → MatchBool b (Skips calls g old kind.Async handle did more new) (CallsHandle calls g old old.state.roster kind.Async handle did more new) → Passes e ran early made more base did new
+    counted_passes base old true handle did new f h = skips_pass base old kind.Async handle did new h f
+    counted_passes base old false handle did new f h = back_passes base old kind.Async handle (handle_function old.state.roster handle) (I32 handle ∷ []) did new (λ number ended. refl) h f
 
-    async_passes : (old : Loop S) (async_no : ℕ) (handle : Option ℕ) (did : StepDid) (new : Loop S)
-        (h : MatchOption handle ⊥ (λ handle. MatchBool (is_active_handle old.state.roster.handles (Some handle)) (TakesFirst calls g old async_no handle did new) (Skips calls g old kind.Async handle did new)))
-        → Held g r L ran early made old.state.requests → Passes e ran early made (async_calls calls g old async_no handle did new h) old did new
-    async_passes old async_no None did new h f = absurd h
-    async_passes old async_no (Some handle) did new h f =
-        passes_if (is_active_handle old.state.roster.handles (Some handle)) (TakesFirst calls g old async_no handle did new) (Skips calls g old kind.Async handle did new)
-        (taking_calls calls g old async_no handle did new) old did new
-        (λ p. taking_passes old async_no handle did new p f)
-        (λ q. skips_pass old old kind.Async handle did new q f) h
+    taking_passes : (old : Loop S) (b : Bool) (async_no handle : ℕ) (did : StepDid) (new : Loop S) → Held g r L ran early made old.state.requests
+        → MatchBool b (TakesFirst calls g old async_no handle did more new) (Skips calls g old kind.Async handle did more new) → Passes e ran early made more old did new
+    taking_passes old true async_no handle did new f h = counted_passes old (sharing old h.1) (h.0 == 0) handle did new f h.3
+    taking_passes old false async_no handle did new f h = skips_pass old old kind.Async handle did new h f
 
-  work_passes : (ran early : Type 0) (made : List GuestCall) (old : Loop S) (number : ℕ) (q : Request) (completion : Option Completion) (did : StepDid) (new : Loop S)
+    async_passes : (old : Loop S) (async_no : ℕ) (handle : Option ℕ) (did : StepDid) (new : Loop S) → Held g r L ran early made old.state.requests
+        → MatchOption handle ⊥ (λ handle. MatchBool (is_active_handle old.state.roster.handles (Some handle)) (TakesFirst calls g old async_no handle did more new) (Skips calls g old kind.Async handle did more new))
+        → Passes e ran early made more old did new
+    async_passes old async_no None did new f h = absurd h
+    async_passes old async_no (Some handle) did new f h = taking_passes old (is_active_handle old.state.roster.handles (Some handle)) async_no handle did new f h
+
+  work_passes : (ran early : Type 0) (made more : List GuestCall) (old : Loop S) (number : ℕ) (q : Request) (completion : Option Completion) (did : StepDid) (new : Loop S)
       → request_of old.state.requests number ≡ Some q → completion_of q.stage ≡ completion
-      → (h : AfterWork calls g old number completion did new) → Held g r L ran early made old.state.requests → Passes (entry.After number) ran early made (work_calls calls g old number completion did new h) old did new
-  work_passes ran early made old number q None did new found told h f = absurd h
-  work_passes ran early made old number q (Some t) did new found told h f = record {
+      → AfterWork calls g old number completion did more new → Held g r L ran early made old.state.requests → Passes (entry.After number) ran early made more old did new
+  work_passes ran early made more old number q None did new found told h f = absurd h
+  work_passes ran early made more old number q (Some t) did new found told h f = record {
     held = runs L ran early made (fits_removed r number (WasAsked g made) (WasWon g r L made) ran early old.state.requests f);
     after = λ after.
         let is : number ≡ r = (let it = sym (ap after_of h.2.told) ∙ after in cc) in
         let only = only_found (WasAsked g made) (WasWon g r L made) r old.state.requests q f.owned (ap (request_of old.state.requests) (sym is) ∙ found) in
         let given = was_given r (WasAsked g made) (WasWon g r L made) ran early old.state.requests q only f in (
           ap entry.After is,
-          record { request = q; only = only; work = rw told (subst (λ k. AfterWork calls g old k (Some t) did new) is h) },
+          record { request = q; only = only; work = rw told (subst (λ k. AfterWork calls g old k (Some t) did more new) is h) },
           record {
             gone = runs L (Unit {0}) (Unit {0}) made (removed L (Unit {0}) made is given (λ _. tt));
             late = runs ⊥ (Unit {0}) ⊥ [] (removed ⊥ ⊥ [] is given never);
@@ -216,9 +195,8 @@ module _ {S : Type 0} (calls : Calls S) (g : Setting) (r : ℕ) (L : Type 0) whe
     base : Loop S
     base = in_state old (with_requests old.state (without_request old.state.requests number))
 
-    runs : (L ran early : Type 0) (made : List GuestCall) → Held g r L ran early made base.state.requests
-        → Held g r L ran early (made ++ run_calls calls g base kind.After number h.0 (I32 number ∷ I32 t.kind ∷ I32 t.code ∷ []) (Some t.bytes) did new h.2) new.state.requests
-    runs L ran early made = callback_holds calls g r L ran early made base kind.After number h.0 (I32 number ∷ I32 t.kind ∷ I32 t.code ∷ []) (Some t.bytes) did new h.2
+    runs : (L ran early : Type 0) (made : List GuestCall) → Held g r L ran early made base.state.requests → Held g r L ran early (made ++ more) new.state.requests
+    runs L ran early made = callback_holds calls g r L ran early made more base kind.After number h.0 (I32 number ∷ I32 t.kind ∷ I32 t.code ∷ []) (Some t.bytes) did new h.2
 
     removed : (L early : Type 0) (made : List GuestCall) → number ≡ r → r ≤ old.state.requests.last → (WasWon g r L made → early) → Held g r L (Unit {0}) early made base.state.requests
     removed L early made is given then_early =
@@ -228,59 +206,63 @@ module _ {S : Type 0} (calls : Calls S) (g : Setting) (r : ℕ) (L : Type 0) whe
     never (inl h) = h
     never (inr a) = omega (arith, a.1.1)
 
-  after_passes : (ran early : Type 0) (made : List GuestCall) (old : Loop S) (number : ℕ) (request : Option Request) (did : StepDid) (new : Loop S) → request_of old.state.requests number ≡ request
-      → (h : MatchOption request ⊥ (λ q. AfterWork calls g old number (completion_of q.stage) did new)) → Held g r L ran early made old.state.requests → Passes (entry.After number) ran early made (after_calls calls g old number request did new h) old did new
-  after_passes ran early made old number None did new found h f = absurd h
-  after_passes ran early made old number (Some q) did new found h f = work_passes ran early made old number q (completion_of q.stage) did new found refl h f
+  after_passes : (ran early : Type 0) (made more : List GuestCall) (old : Loop S) (number : ℕ) (request : Option Request) (did : StepDid) (new : Loop S) → request_of old.state.requests number ≡ request
+      → MatchOption request ⊥ (λ q. AfterWork calls g old number (completion_of q.stage) did more new) → Held g r L ran early made old.state.requests → Passes (entry.After number) ran early made more old did new
+  after_passes ran early made more old number None did new found h f = absurd h
+  after_passes ran early made more old number (Some q) did new found h f = work_passes ran early made more old number q (completion_of q.stage) did new found refl h f
 
-  entry_passes : (ran early : Type 0) (made : List GuestCall) (old : Loop S) (e : Entry) (did : StepDid) (new : Loop S) (h : EntryStep calls g old e did new) → Held g r L ran early made old.state.requests
-      → Passes e ran early made (entry_calls calls g old e did new h) old did new
-  entry_passes ran early made old entry.Start did new h f = back_passes entry.Start ran early made old old kind.Start 0 g.loaded.contents.start [] did new (λ number ended. refl) h f
-  entry_passes ran early made old entry.Main did new h f = back_passes entry.Main ran early made old old kind.Main 0 (Some h.0) [] did new (λ number ended. refl) h.2 f
-  entry_passes ran early made old (entry.Timer handle start) did new h f =
+  entry_passes : (ran early : Type 0) (made more : List GuestCall) (old : Loop S) (e : Entry) (did : StepDid) (new : Loop S) → EntryStep calls g old e did more new → Held g r L ran early made old.state.requests
+      → Passes e ran early made more old did new
+  entry_passes ran early made more old entry.Start did new h f = back_passes entry.Start ran early made more old old kind.Start 0 g.loaded.contents.start [] did new (λ number ended. refl) h f
+  entry_passes ran early made more old entry.Main did new h f = back_passes entry.Main ran early made more old old kind.Main 0 (Some h.0) [] did new (λ number ended. refl) h.2 f
+  entry_passes ran early made more old (entry.Timer handle start) did new h f =
       let fired = in_state old (with_roster old.state (with_handles old.state.roster (after_again old.state.roster.handles handle old.state.now))) in
-      listed_passes (entry.Timer handle start) ran early made old old fired (is_as_listed handle_kind.Timer old.state.roster handle start) kind.Timer handle did new (λ number ended. refl) f f h
-  entry_passes ran early made old (entry.Idle handle start) did new h f =
-      listed_passes (entry.Idle handle start) ran early made old old old (is_as_listed handle_kind.Idle old.state.roster handle start) kind.Idle handle did new (λ number ended. refl) f f h
-  entry_passes ran early made old (entry.Check handle start) did new h f =
-      listed_passes (entry.Check handle start) ran early made old old old (is_as_listed handle_kind.Check old.state.roster handle start) kind.Check handle did new (λ number ended. refl) f f h
-  entry_passes ran early made old (entry.After number) did new h f = after_passes ran early made old number (request_of old.state.requests number) did new refl h f
-  entry_passes ran early made old (entry.Async async_no) did new h f = async_passes (entry.Async async_no) ran early made old async_no (async_handle old.state.roster async_no) did new h f
-  entry_passes ran early made old (entry.Close handle) did new h f =
-      back_passes (entry.Close handle) ran early made old (in_state old (with_roster old.state (without_handle old.state.roster handle))) kind.Close handle (handle_function old.state.roster handle) (I32 handle ∷ []) did new (λ number ended. refl) h f
+      listed_passes (entry.Timer handle start) ran early made more old old fired (is_as_listed handle_kind.Timer old.state.roster handle start) kind.Timer handle did new (λ number ended. refl) f f h
+  entry_passes ran early made more old (entry.Idle handle start) did new h f =
+      listed_passes (entry.Idle handle start) ran early made more old old old (is_as_listed handle_kind.Idle old.state.roster handle start) kind.Idle handle did new (λ number ended. refl) f f h
+  entry_passes ran early made more old (entry.Check handle start) did new h f =
+      listed_passes (entry.Check handle start) ran early made more old old old (is_as_listed handle_kind.Check old.state.roster handle start) kind.Check handle did new (λ number ended. refl) f f h
+  entry_passes ran early made more old (entry.After number) did new h f = after_passes ran early made more old number (request_of old.state.requests number) did new refl h f
+  entry_passes ran early made more old (entry.Async async_no) did new h f = async_passes (entry.Async async_no) ran early made more old async_no (async_handle old.state.roster async_no) did new f h
+  entry_passes ran early made more old (entry.Close handle) did new h f =
+      back_passes (entry.Close handle) ran early made more old (in_state old (with_roster old.state (without_handle old.state.roster handle))) kind.Close handle (handle_function old.state.roster handle) (I32 handle ∷ []) did new (λ number ended. refl) h f
 
   -- the same of a whole step, whose entry is taken off the list
   pub record Steps (ran early : Type 0) (made more : List GuestCall) (old : Loop S) (did : StepDid) (new : Loop S) : Type 0 where
     pub held : Held g r L ran early (made ++ more) new.state.requests
-    pub after : after_of did ≡ Some r → (rest : List Entry) × (old.state.list ≡ entry.After r ∷ rest) × WorkedAfter (in_state old (record old.state { list = rest })) did new × Leaves made more new
+    pub after : after_of did ≡ Some r → (rest : List Entry) × (old.state.list ≡ entry.After r ∷ rest) × WorkedAfter (in_state old (record old.state { list = rest })) did more new × Leaves made more new
 
-  nothing_ran : (ran early : Type 0) (made : List GuestCall) (old : Loop S) (did : StepDid) (new : Loop S) → new.state.requests ≡ old.state.requests → after_of did ≡ None → Held g r L ran early made old.state.requests → Steps ran early made [] old did new
-  nothing_ran ran early made old did new e none f = record { held = nothing_more g r L ran early made old.state.requests new.state.requests e f; after = λ h. absurd (cc) }
+  nothing_ran : (ran early : Type 0) (made more : List GuestCall) (old : Loop S) (did : StepDid) (new : Loop S) → new.state.requests ≡ old.state.requests → more ≡ [] → after_of did ≡ None → Held g r L ran early made old.state.requests
+      → Steps ran early made more old did new
+  nothing_ran ran early made more old did new e silent none f = record {
+    held = subst (λ cs. Held g r L ran early (made ++ cs) new.state.requests) (sym silent) (nothing_more g r L ran early made old.state.requests new.state.requests e f);
+    after = λ h. absurd (cc);
+  }
 
   abbrev Keeps : Requests → StepDid × State → Type 0
   Keeps rs p = (after_of p.0 ≡ None) × (p.1.requests ≡ rs)
 
-  turn_steps : (ran early : Type 0) (made : List GuestCall) (old : Loop S) (did : StepDid) (new : Loop S) → NextPhase calls g old did new → Held g r L ran early made old.state.requests → Steps ran early made [] old did new
-  turn_steps ran early made old did new h f =
+  turn_steps : (ran early : Type 0) (made more : List GuestCall) (old : Loop S) (did : StepDid) (new : Loop S) → NextPhase calls g old did more new → Held g r L ran early made old.state.requests → Steps ran early made more old did new
+  turn_steps ran early made more old did new h f =
       let it = turned (may_end old.state.phase && not (is_alive old.state)) in
-      nothing_ran ran early made old did new (ap (λ l. l.state.requests) h.1 ∙ it.1) (ap after_of h.0 ∙ it.0) f where
+      nothing_ran ran early made more old did new (ap (λ l. l.state.requests) h.1 ∙ it.1) h.2 (ap after_of h.0 ∙ it.0) f where
         turned : (b : Bool) → Keeps old.state.requests (cond b (step.Over, record old.state { status = Over }) (Entered (next_phase old.state.phase) (now_in old.state (next_phase old.state.phase)), entered old.state (next_phase old.state.phase)))
         turned true = (refl, refl)
         turned false = (refl, refl)
 
-  list_steps : (ran early : Type 0) (made : List GuestCall) (old : Loop S) (list : List Entry) (did : StepDid) (new : Loop S) → old.state.list ≡ list → (h : ListStep calls g old list did new) → Held g r L ran early made old.state.requests
-      → Steps ran early made (list_calls calls g old list did new h) old did new
-  list_steps ran early made old [] did new is h f = turn_steps ran early made old did new h f
-  list_steps ran early made old (e ∷ rest) did new is h f =
-      let it = entry_passes ran early made (in_state old (record old.state { list = rest })) e did new h f in
+  list_steps : (ran early : Type 0) (made more : List GuestCall) (old : Loop S) (list : List Entry) (did : StepDid) (new : Loop S) → old.state.list ≡ list → ListStep calls g old list did more new → Held g r L ran early made old.state.requests
+      → Steps ran early made more old did new
+  list_steps ran early made more old [] did new is h f = turn_steps ran early made more old did new h f
+  list_steps ran early made more old (e ∷ rest) did new is h f =
+      let it = entry_passes ran early made more (in_state old (record old.state { list = rest })) e did new h f in
       record { held = it.held; after = λ told. let both = it.after told in (rest, is ∙ ap (λ x. x ∷ rest) both.0, both.1, both.2) }
 
-  status_steps : (ran early : Type 0) (made : List GuestCall) (status : Status) (old : Loop S) (did : StepDid) (new : Loop S) (h : StepIn calls g status old did new) → Held g r L ran early made old.state.requests
-      → Steps ran early made (status_calls calls g status old did new h) old did new
-  status_steps ran early made Running old did new h f = list_steps ran early made old old.state.list did new refl h f
-  status_steps ran early made Over old did new h f = nothing_ran ran early made old did new (ap (λ l. l.state.requests) h.1) (ap after_of h.0) f
-  status_steps ran early made Failed old did new h f = nothing_ran ran early made old did new (ap (λ l. l.state.requests) h.1) (ap after_of h.0) f
+  status_steps : (ran early : Type 0) (made more : List GuestCall) (status : Status) (old : Loop S) (did : StepDid) (new : Loop S) → StepIn calls g status old did more new → Held g r L ran early made old.state.requests
+      → Steps ran early made more old did new
+  status_steps ran early made more Running old did new h f = list_steps ran early made more old old.state.list did new refl h f
+  status_steps ran early made more Over old did new h f = nothing_ran ran early made more old did new (ap (λ l. l.state.requests) h.1) h.2 (ap after_of h.0) f
+  status_steps ran early made more Failed old did new h f = nothing_ran ran early made more old did new (ap (λ l. l.state.requests) h.1) h.2 (ap after_of h.0) f
 
-  pub step_holds : (ran early : Type 0) (made : List GuestCall) (old : Loop S) (did : StepDid) (new : Loop S) (h : LoopStep calls g old did new) → Held g r L ran early made old.state.requests
-      → Steps ran early made (loop_calls calls g old did new h) old did new
-  step_holds ran early made old did new h f = status_steps ran early made old.state.status old did new h f
+  pub step_holds : (ran early : Type 0) (made more : List GuestCall) (old : Loop S) (did : StepDid) (new : Loop S) → StepsWith calls g old did more new → Held g r L ran early made old.state.requests
+      → Steps ran early made more old did new
+  step_holds ran early made more old did new h f = status_steps ran early made more old.state.status old did new h f

@@ -8,7 +8,6 @@ use Rattle.syntax.specs.declared.types.Value.TheVariants.{I32, I64}
 use Rattle.handles.specs.declared.handle.Kind.TheVariants as handle_kind
 use Rattle.handles.specs.Table.{after_again}
 use Rattle.interp.specs.Run.{HostCall}
-use Rattle.interp.specs.Hosting.{Lawful}
 use Rattle.imports.specs.declared.call.Call.{Call}
 use Rattle.imports.specs.declared.call.Call.TheVariants.{Now, TimerInit, IdleInit, CheckInit, TimerStart, TimerStop, IdleStop, CheckStop, TimerAgain, IdleStart, CheckStart, AsyncInit, AsyncSend, IsActive, Close, QueueWork, Cancel, InLen, InCopy, OutSet, Emit}
 use Rattle.order.specs.Uv.Numbers.{no_such_export, invalid, no_room, none_left, no_memory, outside_memory}
@@ -29,9 +28,9 @@ use Rattle.phases.specs.State.{Setting, State, Loop}
 use Rattle.events.specs.Phases.{may_end, next_phase}
 use Rattle.phases.specs.PhaseList.{exports, is_alive, is_active_handle}
 use Rattle.phases.specs.Calls.{Calls}
-use Rattle.phases.specs.Host.{HostStep, CallStep, QueuesWork, Opens, next_work, emitted_in, with_roster, with_requests}
-use Rattle.phases.specs.Step.{LoopStep, StepIn, ListStep, EntryStep, NextPhase, RunsFrom, CallsBack, CallsHandle, Skips, TakesFirst, AfterWork, in_state, sharing, begun, entered, now_in, is_as_listed, handle_function}
-use Rattle.phases.specs.Guests.{GuestCall, named_calls, run_calls, back_calls, calls_if, calls_unless, handle_calls, taking_calls, async_calls, work_calls, after_calls, entry_calls, list_calls, status_calls, loop_calls}
+use Rattle.phases.specs.Host.{CallStep, QueuesWork, Opens, next_work, emitted_in, with_roster, with_requests}
+use Rattle.phases.specs.Step.{StepsWith, StepIn, ListStep, EntryStep, NextPhase, RunsFrom, CallsBack, CallsHandle, Skips, TakesFirst, AfterWork, in_state, sharing, begun, entered, now_in, is_as_listed, handle_function}
+use Rattle.phases.specs.Guests.{GuestCall, GuestSteps}
 use Rattle.phases.specs.History.{Event, Stepped, OrderAsked, EndOffered, CancelAnswered, ClockRaised, MovedBeside, EventStep, Offers, History, calls_in, guest_calls}
 use Rattle.phases.specs.Laws.{asks_for, IsCancel}
 use Rattle.phases.specs.Outside.{next_order_of, next_in, handing}
@@ -168,80 +167,68 @@ module _ {S : Type 0} (calls : Calls S) (g : Setting) (P : List GuestCall → Re
   stays : (made : List GuestCall) (old new : Loop S) → new ≡ old → P made old.state.requests old.shared → P (made ++ []) new.state.requests new.shared
   stays made old new e p = nothing made old.state.requests new.state.requests old.shared new.shared (ap (λ l. l.state.requests) e) (ap (λ l. l.shared) e) p
 
-  trace_keeps : (made : List GuestCall) (trace : List HostCall) (old new : State × S) (h : Lawful (HostStep calls g) trace old new) → P made old.0.requests old.1 → P (made ++ named_calls calls g trace old new h) new.0.requests new.1
+  trace_keeps : (made more : List GuestCall) (old new : State × S) → GuestSteps calls g more old new → P made old.0.requests old.1 → P (made ++ more) new.0.requests new.1
   trace_keeps made [] old new h p = nothing made old.0.requests new.0.requests old.1 new.1 (ap (λ x. x.0.requests) h) (ap (λ x. x.1) h) p
-  trace_keeps made (call ∷ trace) old new h p =
-      let c : GuestCall = record { function = h.1.0; call = call } in
-      subst (λ cs. P cs new.0.requests new.1) (append_assoc made (c ∷ []) (named_calls calls g trace h.0 new h.2))
-      (trace_keeps (made ++ c ∷ []) trace h.0 new h.2 (keeps.called made c (old.0.requests, old.1) (h.0.0.requests, h.0.1) (call_moves calls g old call h.0 h.1.0 call.args refl h.1.2) p))
+  trace_keeps made (c ∷ more) old new h p =
+      subst (λ cs. P cs new.0.requests new.1) (append_assoc made (c ∷ []) more)
+      (trace_keeps (made ++ c ∷ []) more h.0 new h.2 (keeps.called made c (old.0.requests, old.1) (h.0.0.requests, h.0.1) (call_moves calls g old c.call h.0 c.function c.call.args refl h.1.1) p))
 
-  module _ (made : List GuestCall) where
+  module _ (made more : List GuestCall) where
+    abbrev Before : Loop S → Type 0
+    Before old = P made old.state.requests old.shared
+
+    abbrev Behind : Loop S → Type 0
+    Behind new = P (made ++ more) new.state.requests new.shared
+
     run_keeps : (old : Loop S) (kind : EntryKind) (number function : ℕ) (args : List Value) (reply : Option (List ℕ)) (did : StepDid) (new : Loop S)
-        (h : RunsFrom calls g old kind number function args reply did new) → P made old.state.requests old.shared → P (made ++ run_calls calls g old kind number function args reply did new h) new.state.requests new.shared
+        → RunsFrom calls g old kind number function args reply did more new → Before old → Behind new
     run_keeps old kind number function args reply did new h p =
-        subst (λ rs. P (made ++ run_calls calls g old kind number function args reply did new h) rs new.shared) (sym (ap (λ s. s.requests) h.finished))
-        (trace_keeps made h.trace (begun old.state reply, old.shared) (h.state, new.shared) h.answers p)
+        subst (λ rs. P (made ++ more) rs new.shared) (sym (ap (λ s. s.requests) h.finished))
+        (trace_keeps made more (begun old.state reply, old.shared) (h.state, new.shared) h.answers p)
 
     back_keeps : (old : Loop S) (kind : EntryKind) (number : ℕ) (function : Option ℕ) (args : List Value) (did : StepDid) (new : Loop S)
-        (h : CallsBack calls g old kind number function args did new) → P made old.state.requests old.shared → P (made ++ back_calls calls g old kind number function args did new h) new.state.requests new.shared
+        → CallsBack calls g old kind number function args did more new → Before old → Behind new
     back_keeps old kind number None args did new h p = absurd h
     back_keeps old kind number (Some k) args did new h p = run_keeps old kind number k args None did new h p
 
-    skip_keeps : (old : Loop S) (kind : EntryKind) (number : ℕ) (did : StepDid) (new : Loop S) → Skips calls g old kind number did new → P made old.state.requests old.shared → P (made ++ []) new.state.requests new.shared
-    skip_keeps old kind number did new h p = stays made old new h.1 p
+    -- a loop that stays, whose guest calls nothing
+    stays_silent : (old new : Loop S) → new ≡ old → more ≡ [] → Before old → Behind new
+    stays_silent old new e none p = subst (λ cs. P (made ++ cs) new.state.requests new.shared) (sym none) (stays made old new e p)
 
-    keeps_if : (b : Bool) (X Y : Type 0) (more : X → List GuestCall) (new : Loop S) → ((x : X) → P (made ++ more x) new.state.requests new.shared) → (Y → P (made ++ []) new.state.requests new.shared) → (h : MatchBool b X Y)
-        → P (made ++ calls_if b X Y more h) new.state.requests new.shared
-    keeps_if true X Y more new f k h = f h
-    keeps_if false X Y more new f k h = k h
+    listed_keeps : (old fired : Loop S) (b : Bool) (kind : EntryKind) (handle : ℕ) (did : StepDid) (new : Loop S) → Before old → Before fired
+        → MatchBool b (CallsHandle calls g fired old.state.roster kind handle did more new) (Skips calls g old kind handle did more new) → Behind new
+    listed_keeps old fired true kind handle did new p q h = back_keeps fired kind handle (handle_function old.state.roster handle) (I32 handle ∷ []) did new h q
+    listed_keeps old fired false kind handle did new p q h = stays_silent old new h.1 h.2 p
 
-    keeps_unless : (b : Bool) (X Y : Type 0) (more : Y → List GuestCall) (new : Loop S) → (X → P (made ++ []) new.state.requests new.shared) → ((y : Y) → P (made ++ more y) new.state.requests new.shared) → (h : MatchBool b X Y)
-        → P (made ++ calls_unless b X Y more h) new.state.requests new.shared
-    keeps_unless true X Y more new f k h = f h
-    keeps_unless false X Y more new f k h = k h
+    counted_keeps : (old : Loop S) (b : Bool) (handle : ℕ) (did : StepDid) (new : Loop S) → Before old
+        → MatchBool b (Skips calls g old kind.Async handle did more new) (CallsHandle calls g old old.state.roster kind.Async handle did more new) → Behind new
+    counted_keeps old true handle did new p h = stays_silent old new h.1 h.2 p
+    counted_keeps old false handle did new p h = back_keeps old kind.Async handle (handle_function old.state.roster handle) (I32 handle ∷ []) did new h p
 
-    listed_keeps : (old fired : Loop S) (b : Bool) (kind : EntryKind) (handle : ℕ) (did : StepDid) (new : Loop S) → P made old.state.requests old.shared → P made fired.state.requests fired.shared
-        → (h : MatchBool b (CallsHandle calls g fired old.state.roster kind handle did new) (Skips calls g old kind handle did new))
-        → P (made ++ calls_if b (CallsHandle calls g fired old.state.roster kind handle did new) (Skips calls g old kind handle did new) (handle_calls calls g fired old.state.roster kind handle did new) h) new.state.requests new.shared
-    listed_keeps old fired b kind handle did new p q h =
-        keeps_if b (CallsHandle calls g fired old.state.roster kind handle did new) (Skips calls g old kind handle did new) (handle_calls calls g fired old.state.roster kind handle did new) new
-        (λ x. back_keeps fired kind handle (handle_function old.state.roster handle) (I32 handle ∷ []) did new x q)
-        (λ y. skip_keeps old kind handle did new y p) h
+    taking_keeps : (old : Loop S) (b : Bool) (async_no handle : ℕ) (did : StepDid) (new : Loop S) → Before old
+        → MatchBool b (TakesFirst calls g old async_no handle did more new) (Skips calls g old kind.Async handle did more new) → Behind new
+    taking_keeps old true async_no handle did new p h =
+        counted_keeps (sharing old h.1) (h.0 == 0) handle did new (keeps.beside made old.state.requests old.shared h.1 (took async_no h.0 h.2) p) h.3
+    taking_keeps old false async_no handle did new p h = stays_silent old new h.1 h.2 p
 
-    taking_keeps : (old : Loop S) (async_no handle : ℕ) (did : StepDid) (new : Loop S) (h : TakesFirst calls g old async_no handle did new) → P made old.state.requests old.shared
-        → P (made ++ taking_calls calls g old async_no handle did new h) new.state.requests new.shared
-    taking_keeps old async_no handle did new h p =
-        keeps_unless (h.0 == 0) (Skips calls g (sharing old h.1) kind.Async handle did new) (CallsHandle calls g (sharing old h.1) old.state.roster kind.Async handle did new)
-        (handle_calls calls g (sharing old h.1) old.state.roster kind.Async handle did new) new
-        (λ x. skip_keeps (sharing old h.1) kind.Async handle did new x after)
-        (λ y. back_keeps (sharing old h.1) kind.Async handle (handle_function old.state.roster handle) (I32 handle ∷ []) did new y after)
-        h.3 where
-          after : P made old.state.requests h.1
-          after = keeps.beside made old.state.requests old.shared h.1 (took async_no h.0 h.2) p
+    async_keeps : (old : Loop S) (async_no : ℕ) (handle : Option ℕ) (did : StepDid) (new : Loop S) → Before old
+        → MatchOption handle ⊥ (λ handle. MatchBool (is_active_handle old.state.roster.handles (Some handle)) (TakesFirst calls g old async_no handle did more new) (Skips calls g old kind.Async handle did more new))
+        → Behind new
+    async_keeps old async_no None did new p h = absurd h
+    async_keeps old async_no (Some handle) did new p h = taking_keeps old (is_active_handle old.state.roster.handles (Some handle)) async_no handle did new p h
 
-    async_keeps : (old : Loop S) (async_no : ℕ) (handle : Option ℕ) (did : StepDid) (new : Loop S)
-        (h : MatchOption handle ⊥ (λ handle. MatchBool (is_active_handle old.state.roster.handles (Some handle)) (TakesFirst calls g old async_no handle did new) (Skips calls g old kind.Async handle did new)))
-        → P made old.state.requests old.shared → P (made ++ async_calls calls g old async_no handle did new h) new.state.requests new.shared
-    async_keeps old async_no None did new h p = absurd h
-    async_keeps old async_no (Some handle) did new h p =
-        keeps_if (is_active_handle old.state.roster.handles (Some handle)) (TakesFirst calls g old async_no handle did new) (Skips calls g old kind.Async handle did new)
-        (taking_calls calls g old async_no handle did new) new
-        (λ x. taking_keeps old async_no handle did new x p)
-        (λ y. skip_keeps old kind.Async handle did new y p) h
-
-    work_keeps : (old : Loop S) (number : ℕ) (completion : Option Completion) (did : StepDid) (new : Loop S) (h : AfterWork calls g old number completion did new) → P made old.state.requests old.shared
-        → P (made ++ work_calls calls g old number completion did new h) new.state.requests new.shared
+    work_keeps : (old : Loop S) (number : ℕ) (completion : Option Completion) (did : StepDid) (new : Loop S) → AfterWork calls g old number completion did more new → Before old → Behind new
     work_keeps old number None did new h p = absurd h
     work_keeps old number (Some t) did new h p =
         run_keeps (in_state old (with_requests old.state (without_request old.state.requests number))) kind.After number h.0
         (I32 number ∷ I32 t.kind ∷ I32 t.code ∷ []) (Some t.bytes) did new h.2 (keeps.removed made old.state.requests number old.shared p)
 
-    after_keeps : (old : Loop S) (number : ℕ) (request : Option Request) (did : StepDid) (new : Loop S) (h : MatchOption request ⊥ (λ q. AfterWork calls g old number (completion_of q.stage) did new))
-        → P made old.state.requests old.shared → P (made ++ after_calls calls g old number request did new h) new.state.requests new.shared
+    after_keeps : (old : Loop S) (number : ℕ) (request : Option Request) (did : StepDid) (new : Loop S) → MatchOption request ⊥ (λ q. AfterWork calls g old number (completion_of q.stage) did more new)
+        → Before old → Behind new
     after_keeps old number None did new h p = absurd h
     after_keeps old number (Some q) did new h p = work_keeps old number (completion_of q.stage) did new h p
 
-    entry_keeps : (old : Loop S) (e : Entry) (did : StepDid) (new : Loop S) (h : EntryStep calls g old e did new) → P made old.state.requests old.shared → P (made ++ entry_calls calls g old e did new h) new.state.requests new.shared
+    entry_keeps : (old : Loop S) (e : Entry) (did : StepDid) (new : Loop S) → EntryStep calls g old e did more new → Before old → Behind new
     entry_keeps old entry.Start did new h p = back_keeps old kind.Start 0 g.loaded.contents.start [] did new h p
     entry_keeps old entry.Main did new h p = run_keeps old kind.Main 0 h.0 [] None did new h.2 p
     entry_keeps old (entry.Timer handle start) did new h p =
@@ -250,27 +237,28 @@ module _ {S : Type 0} (calls : Calls S) (g : Setting) (P : List GuestCall → Re
     entry_keeps old (entry.Idle handle start) did new h p = listed_keeps old old (is_as_listed handle_kind.Idle old.state.roster handle start) kind.Idle handle did new p p h
     entry_keeps old (entry.Check handle start) did new h p = listed_keeps old old (is_as_listed handle_kind.Check old.state.roster handle start) kind.Check handle did new p p h
     entry_keeps old (entry.After number) did new h p = after_keeps old number (request_of old.state.requests number) did new h p
-    entry_keeps old (entry.Async async_no) did new h p = async_keeps old async_no (async_handle old.state.roster async_no) did new h p
+    entry_keeps old (entry.Async async_no) did new h p = async_keeps old async_no (async_handle old.state.roster async_no) did new p h
     entry_keeps old (entry.Close handle) did new h p =
         back_keeps (in_state old (with_roster old.state (without_handle old.state.roster handle))) kind.Close handle (handle_function old.state.roster handle) (I32 handle ∷ []) did new h p
 
-    turn_keeps : (old : Loop S) (did : StepDid) (new : Loop S) → NextPhase calls g old did new → P made old.state.requests old.shared → P (made ++ []) new.state.requests new.shared
+    turn_keeps : (old : Loop S) (did : StepDid) (new : Loop S) → NextPhase calls g old did more new → Before old → Behind new
     turn_keeps old did new h p =
-        nothing made old.state.requests new.state.requests old.shared new.shared (ap (λ l. l.state.requests) h.1 ∙ turned (may_end old.state.phase && not (is_alive old.state))) (ap (λ l. l.shared) h.1) p where
+        subst (λ cs. P (made ++ cs) new.state.requests new.shared) (sym h.2)
+        (nothing made old.state.requests new.state.requests old.shared new.shared (ap (λ l. l.state.requests) h.1 ∙ turned (may_end old.state.phase && not (is_alive old.state))) (ap (λ l. l.shared) h.1) p) where
           turned : (b : Bool) → (cond {A = StepDid × State} b (step.Over, record old.state { status = Over }) (Entered (next_phase old.state.phase) (now_in old.state (next_phase old.state.phase)), entered old.state (next_phase old.state.phase))).1.requests ≡ old.state.requests
           turned true = refl
           turned false = refl
 
-    list_keeps : (old : Loop S) (list : List Entry) (did : StepDid) (new : Loop S) (h : ListStep calls g old list did new) → P made old.state.requests old.shared → P (made ++ list_calls calls g old list did new h) new.state.requests new.shared
+    list_keeps : (old : Loop S) (list : List Entry) (did : StepDid) (new : Loop S) → ListStep calls g old list did more new → Before old → Behind new
     list_keeps old [] did new h p = turn_keeps old did new h p
     list_keeps old (e ∷ rest) did new h p = entry_keeps (in_state old (record old.state { list = rest })) e did new h p
 
-    status_keeps : (status : Status) (old : Loop S) (did : StepDid) (new : Loop S) (h : StepIn calls g status old did new) → P made old.state.requests old.shared → P (made ++ status_calls calls g status old did new h) new.state.requests new.shared
+    status_keeps : (status : Status) (old : Loop S) (did : StepDid) (new : Loop S) → StepIn calls g status old did more new → Before old → Behind new
     status_keeps Running old did new h p = list_keeps old old.state.list did new h p
-    status_keeps Over old did new h p = stays made old new h.1 p
-    status_keeps Failed old did new h p = stays made old new h.1 p
+    status_keeps Over old did new h p = stays_silent old new h.1 h.2 p
+    status_keeps Failed old did new h p = stays_silent old new h.1 h.2 p
 
-    pub step_keeps : (old : Loop S) (did : StepDid) (new : Loop S) (h : LoopStep calls g old did new) → P made old.state.requests old.shared → P (made ++ loop_calls calls g old did new h) new.state.requests new.shared
+    pub step_keeps : (old : Loop S) (did : StepDid) (new : Loop S) → StepsWith calls g old did more new → Before old → Behind new
     step_keeps old did new h p = status_keeps old.state.status old did new h p
 
 -- what of the requests alone a call, a removal and a request that is no more open leave as it is
@@ -310,7 +298,7 @@ module _ {S : Type 0} (calls : Calls S) (g : Setting) (P : List GuestCall → Re
     silent rs rs' e p = subst (P (made ++ [])) (sym e) (subst (λ cs. P cs rs) (sym (append-nil made)) p)
 
     pub event_keeps : (e : Event) (old new : Loop S) → EventStep calls g e old new → P made old.state.requests → P (made ++ calls_in e) new.state.requests
-    event_keeps (Stepped did emits more) old new h p = subst (λ cs. P (made ++ cs) new.state.requests) (sym h.1) (step_keeps calls g (λ made rs s. P made rs) in_steps made old did new h.0 p)
+    event_keeps (Stepped did emits more) old new h p = step_keeps calls g (λ made rs s. P made rs) in_steps made more old did new h.0 p
     event_keeps (OrderAsked order) old new h p = silent (next_order_of old.state).1.requests new.state.requests (ap (λ l. l.state.requests) h.1) (next_keeps old.state.status old.state p)
     event_keeps (EndOffered o end taken) old new h p = silent new.state.requests new.state.requests refl (offered_keeps o end taken old new h p)
     event_keeps (CancelAnswered n answer) old new h p =

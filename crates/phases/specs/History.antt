@@ -5,13 +5,13 @@ use Rattle.order.specs.Work.{WorkOrder, WorkEnd, IsEndOf}
 use Rattle.events.specs.declared.did.StepDid.{StepDid}
 use Rattle.events.specs.declared.did.StepDid.TheVariants.{Ran}
 use Rattle.phases.specs.Calls.{Calls}
-use Rattle.phases.specs.Guests.{GuestCall, loop_calls}
+use Rattle.phases.specs.Guests.{GuestCall}
 use Rattle.phases.specs.Host.{with_requests}
 use Rattle.phases.specs.Outside.{Takes, CancelsLoop, next_order_of, answered, after_clock}
 use Rattle.phases.specs.PhaseList.{begin_list}
 use Rattle.phases.specs.Roster.{opening_roster}
 use Rattle.phases.specs.State.{Setting, Loop, opening}
-use Rattle.phases.specs.Step.{LoopStep, in_state}
+use Rattle.phases.specs.Step.{StepsWith, in_state}
 use Rattle.phases.specs.View.{new_view}
 
 -- A step, with what it did, what the last callback put out, and what the guest called in it; an order that was asked for, if
@@ -66,8 +66,7 @@ module _ {S : Type 0} (calls : Calls S) (g : Setting) where
     pub store : new.store ≡ old.store
 
   abbrev pub EventStep : Event → (old new : Loop S) → Type 0
-  EventStep (Stepped did emits made) old new =
-      (step : LoopStep calls g old did new) × (made ≡ loop_calls calls g old did new step) × (emits ≡ new.state.emits)
+  EventStep (Stepped did emits made) old new = StepsWith calls g old did made new × (emits ≡ new.state.emits)
   EventStep (OrderAsked order) old new = (order ≡ (next_order_of old.state).0) × (new ≡ in_state old (next_order_of old.state).1)
   EventStep (EndOffered o end taken) old new = Offers o end taken old new
   EventStep (CancelAnswered request answer) old new = CancelsLoop calls old request answer new

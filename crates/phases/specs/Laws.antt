@@ -89,22 +89,24 @@ AreDue o completion cancelled =
 
 module _ {S : Type 0} (calls : Calls S) (g : Setting) where
   -- The step takes this request off the list of the phase, where it stands first, removes it, and runs its
-  -- after-work callback with the completion of the stage that it has come to.
-  pub record RunsAfter (old : Loop S) (q : Request) (completion : Completion) (did : StepDid) (new : Loop S) : Type 0 where
+  -- after-work callback with the completion of the stage that it has come to, in which the guest calls this.
+  pub record RunsAfter (old : Loop S) (q : Request) (completion : Completion) (did : StepDid) (made : List GuestCall)
+      (new : Loop S) : Type 0 where
     pub rest : List Entry
     pub listed : old.state.list ≡ entry.After q.order.request ∷ rest
     pub stood : request_of old.state.requests q.order.request ≡ Some q
     pub given : completion_of q.stage ≡ Some completion
-    pub runs : AfterWork calls g (in_state old (record old.state { list = rest })) q.order.request (Some completion) did new
+    pub runs : AfterWork calls g (in_state old (record old.state { list = rest })) q.order.request (Some completion) did made new
 
   -- The callback of this request is given what is due to the order that the guest had asked for, which is the very
   -- order of the request that the step removes.
-  pub record IsOwn (events : List Event) (old : Loop S) (number : ℕ) (did : StepDid) (new : Loop S) : Type 0 where
+  pub record IsOwn (events : List Event) (old : Loop S) (number : ℕ) (did : StepDid) (made : List GuestCall)
+      (new : Loop S) : Type 0 where
     pub request : Request
     pub completion : Completion
     pub numbered : request.order.request ≡ number
     pub asked : WasAsked g (guest_calls events) request.order
-    pub runs : RunsAfter old request completion did new
+    pub runs : RunsAfter old request completion did made new
     pub due : AreDue request.order completion (WasCancelled number events)
 
 module _ {S : Type 0} (calls : Calls S) where
@@ -121,7 +123,7 @@ module _ {S : Type 0} (calls : Calls S) where
       → IsOpening calls g l → History calls g l events old
       → EventStep calls g (Stepped did emits made) old new
       → (request : ℕ) → is_after_event request (Stepped did emits made) ≡ true
-      → IsOwn calls g events old request did new
+      → IsOwn calls g events old request did made new
 
   -- from the callback on no cancel of its request is answered 0, in the callback or behind it
   abbrev pub IsAfterLast : Type 0

@@ -7,9 +7,7 @@ use Rattle.syntax.specs.declared.types.Value.TheVariants.{I32}
 use Rattle.handles.specs.declared.handle.Kind.{Kind}
 use Rattle.handles.specs.declared.handle.Kind.TheVariants as handle_kind
 use Rattle.handles.specs.Table.{record_of, same_kind, after_again}
-use Rattle.interp.specs.Run.{HostCall}
 use Rattle.interp.specs.Running.{end_of_run}
-use Rattle.interp.specs.Hosting.{Lawful}
 use Rattle.interp.specs.Invoking.{Invokes}
 use Rattle.events.specs.declared.ended.Ending.{Ending}
 use Rattle.events.specs.declared.ended.Ending.TheVariants as ending
@@ -32,7 +30,8 @@ use Rattle.phases.specs.State.{Setting, Loop, State}
 use Rattle.events.specs.Phases.{next_phase, may_end}
 use Rattle.phases.specs.PhaseList.{phase_list, is_alive, is_active_handle}
 use Rattle.phases.specs.Calls.{Calls}
-use Rattle.phases.specs.Host.{HostStep, with_roster, with_requests}
+use Rattle.phases.specs.Guests.{GuestCall, GuestSteps, trace_of}
+use Rattle.phases.specs.Host.{with_roster, with_requests}
 
 abbrev pub returns : Ending → Bool
 returns (ending.Return results) = true
@@ -84,88 +83,97 @@ module _ {S : Type 0} where
   abbrev pub sharing : Loop S → S → Loop S
   sharing l shared = record { state = l.state; store = l.store; shared = shared }
 
+-- the loop over another object
+abbrev pub over : {S T : Type 0} → T → Loop S → Loop T
+over shared l = record { state = l.state; store = l.store; shared = shared }
+
 module _ {S : Type 0} (calls : Calls S) (g : Setting) where
-  -- From this loop a callback runs, which may read these bytes. Where it does not return, the loop has failed.
+  -- From this loop a callback runs, which may read these bytes, and the guest calls this, in order. Where it does not
+  -- return, the loop has failed.
   pub record RunsFrom (old : Loop S) (kind : EntryKind) (number function : ℕ) (args : List Value) (reply : Option (List ℕ))
-      (did : StepDid) (new : Loop S) : Type 0 where
-    pub trace : List HostCall
+      (did : StepDid) (made : List GuestCall) (new : Loop S) : Type 0 where
     pub ended : Ended
     pub state : State
-    pub run : Invokes g.loaded.contents g.depth g.fuel old.store function args trace (end_of_run ended.ending) ended.used new.store
-    pub answers : Lawful (HostStep calls g) trace (begun old.state reply, old.shared) (state, new.shared)
+    pub run : Invokes g.loaded.contents g.depth g.fuel old.store function args (trace_of made) (end_of_run ended.ending) ended.used new.store
+    pub answers : GuestSteps calls g made (begun old.state reply, old.shared) (state, new.shared)
     pub told : did ≡ Ran kind number ended
     pub finished : new.state ≡ finished state ended
 
   -- the same of a function that may be known
-  abbrev pub CallsBack : Loop S → EntryKind → ℕ → Option ℕ → List Value → StepDid → Loop S → Type 0
-  CallsBack old kind number function args did new =
-      MatchOption function ⊥ (λ f. RunsFrom old kind number f args None did new)
+  abbrev pub CallsBack : Loop S → EntryKind → ℕ → Option ℕ → List Value → StepDid → List GuestCall → Loop S → Type 0
+  CallsBack old kind number function args did made new =
+      MatchOption function ⊥ (λ f. RunsFrom old kind number f args None did made new)
 
   -- the callback that a handle has in a state: it is given the handle's number
-  abbrev pub CallsHandle : Loop S → Roster → EntryKind → (handle : ℕ) → StepDid → Loop S → Type 0
-  CallsHandle old r kind handle did new = CallsBack old kind handle (handle_function r handle) (I32 handle ∷ []) did new
+  abbrev pub CallsHandle : Loop S → Roster → EntryKind → (handle : ℕ) → StepDid → List GuestCall → Loop S → Type 0
+  CallsHandle old r kind handle did made new = CallsBack old kind handle (handle_function r handle) (I32 handle ∷ []) did made new
 
-  abbrev pub Skips : Loop S → EntryKind → ℕ → StepDid → Loop S → Type 0
-  Skips old kind number did new = (did ≡ Skipped kind number) × (new ≡ old)
+  -- no callback runs, and the loop stays
+  abbrev pub Skips : Loop S → EntryKind → ℕ → StepDid → List GuestCall → Loop S → Type 0
+  Skips old kind number did made new = (did ≡ Skipped kind number) × (new ≡ old) × (made ≡ [])
 
   -- an active async: the count is taken first, and where it is 0 nothing runs
-  abbrev pub TakesFirst : Loop S → (async_no handle : ℕ) → StepDid → Loop S → Type 0
-  TakesFirst old async_no handle did new =
+  abbrev pub TakesFirst : Loop S → (async_no handle : ℕ) → StepDid → List GuestCall → Loop S → Type 0
+  TakesFirst old async_no handle did made new =
       (count : ℕ) × (shared : S) × calls.takes old.shared async_no count shared
       × MatchBool (count == 0)
-      (Skips (sharing old shared) kind.Async handle did new)
-      (CallsHandle (sharing old shared) old.state.roster kind.Async handle did new)
+      (Skips (sharing old shared) kind.Async handle did made new)
+      (CallsHandle (sharing old shared) old.state.roster kind.Async handle did made new)
 
-  abbrev pub AfterWork : Loop S → ℕ → Option Completion → StepDid → Loop S → Type 0
-  AfterWork old number None did new = ⊥
-  AfterWork old number (Some completion) did new =
+  abbrev pub AfterWork : Loop S → ℕ → Option Completion → StepDid → List GuestCall → Loop S → Type 0
+  AfterWork old number None did made new = ⊥
+  AfterWork old number (Some completion) did made new =
       (f : ℕ) × ExportsFunction g.loaded.contents (codes "uv_after_work") f
       × RunsFrom (in_state old (with_requests old.state (without_request old.state.requests number))) kind.After number f
-      (I32 number ∷ I32 completion.kind ∷ I32 completion.code ∷ []) (Some completion.bytes) did new
+      (I32 number ∷ I32 completion.kind ∷ I32 completion.code ∷ []) (Some completion.bytes) did made new
 
   -- What an entry of a list does, which is taken off the list before.
-  abbrev pub EntryStep : Loop S → Entry → StepDid → Loop S → Type 0
-  EntryStep old entry.Start did new = CallsBack old kind.Start 0 g.loaded.contents.start [] did new
-  EntryStep old entry.Main did new =
-      (f : ℕ) × ExportsFunction g.loaded.contents (codes "uv_main") f × RunsFrom old kind.Main 0 f [] None did new
+  abbrev pub EntryStep : Loop S → Entry → StepDid → List GuestCall → Loop S → Type 0
+  EntryStep old entry.Start did made new = CallsBack old kind.Start 0 g.loaded.contents.start [] did made new
+  EntryStep old entry.Main did made new =
+      (f : ℕ) × ExportsFunction g.loaded.contents (codes "uv_main") f × RunsFrom old kind.Main 0 f [] None did made new
   -- a timer is first made inactive, or started again where it repeats
-  EntryStep old (entry.Timer handle start) did new =
+  EntryStep old (entry.Timer handle start) did made new =
       MatchBool (is_as_listed handle_kind.Timer old.state.roster handle start)
       (CallsHandle (in_state old (with_roster old.state (with_handles old.state.roster
-      (after_again old.state.roster.handles handle old.state.now)))) old.state.roster kind.Timer handle did new)
-      (Skips old kind.Timer handle did new)
-  EntryStep old (entry.Idle handle start) did new =
+      (after_again old.state.roster.handles handle old.state.now)))) old.state.roster kind.Timer handle did made new)
+      (Skips old kind.Timer handle did made new)
+  EntryStep old (entry.Idle handle start) did made new =
       MatchBool (is_as_listed handle_kind.Idle old.state.roster handle start)
-      (CallsHandle old old.state.roster kind.Idle handle did new)
-      (Skips old kind.Idle handle did new)
-  EntryStep old (entry.Check handle start) did new =
+      (CallsHandle old old.state.roster kind.Idle handle did made new)
+      (Skips old kind.Idle handle did made new)
+  EntryStep old (entry.Check handle start) did made new =
       MatchBool (is_as_listed handle_kind.Check old.state.roster handle start)
-      (CallsHandle old old.state.roster kind.Check handle did new)
-      (Skips old kind.Check handle did new)
+      (CallsHandle old old.state.roster kind.Check handle did made new)
+      (Skips old kind.Check handle did made new)
   -- the request is removed, and its slot is free, before the callback
-  EntryStep old (entry.After number) did new =
-      MatchOption (request_of old.state.requests number) ⊥ (λ r. AfterWork old number (completion_of r.stage) did new)
-  EntryStep old (entry.Async async_no) did new =
+  EntryStep old (entry.After number) did made new =
+      MatchOption (request_of old.state.requests number) ⊥ (λ r. AfterWork old number (completion_of r.stage) did made new)
+  EntryStep old (entry.Async async_no) did made new =
       MatchOption (async_handle old.state.roster async_no)
       ⊥
-      (λ handle. MatchBool (is_active_handle old.state.roster.handles (Some handle)) (TakesFirst old async_no handle did new)
-      (Skips old kind.Async handle did new))
+      (λ handle. MatchBool (is_active_handle old.state.roster.handles (Some handle)) (TakesFirst old async_no handle did made new)
+      (Skips old kind.Async handle did made new))
   -- the handle is removed before the callback of its close
-  EntryStep old (entry.Close handle) did new =
-      CallsHandle (in_state old (with_roster old.state (without_handle old.state.roster handle))) old.state.roster kind.Close handle did new
+  EntryStep old (entry.Close handle) did made new =
+      CallsHandle (in_state old (with_roster old.state (without_handle old.state.roster handle))) old.state.roster kind.Close handle did made new
 
-  abbrev pub NextPhase : Loop S → StepDid → Loop S → Type 0
-  NextPhase old did new = let turned = turn old.state in (did ≡ turned.0) × (new ≡ in_state old turned.1)
+  abbrev pub NextPhase : Loop S → StepDid → List GuestCall → Loop S → Type 0
+  NextPhase old did made new = let turned = turn old.state in (did ≡ turned.0) × (new ≡ in_state old turned.1) × (made ≡ [])
 
-  abbrev pub ListStep : Loop S → List Entry → StepDid → Loop S → Type 0
-  ListStep old [] did new = NextPhase old did new
-  ListStep old (e ∷ rest) did new = EntryStep (in_state old (record old.state { list = rest })) e did new
+  abbrev pub ListStep : Loop S → List Entry → StepDid → List GuestCall → Loop S → Type 0
+  ListStep old [] did made new = NextPhase old did made new
+  ListStep old (e ∷ rest) did made new = EntryStep (in_state old (record old.state { list = rest })) e did made new
 
-  abbrev pub StepIn : Status → Loop S → StepDid → Loop S → Type 0
-  StepIn Running old did new = ListStep old old.state.list did new
-  StepIn Over old did new = (did ≡ step.Over) × (new ≡ old)
-  StepIn Failed old did new = (did ≡ step.Failed) × (new ≡ old)
+  abbrev pub StepIn : Status → Loop S → StepDid → List GuestCall → Loop S → Type 0
+  StepIn Running old did made new = ListStep old old.state.list did made new
+  StepIn Over old did made new = (did ≡ step.Over) × (new ≡ old) × (made ≡ [])
+  StepIn Failed old did made new = (did ≡ step.Failed) × (new ≡ old) × (made ≡ [])
 
-  -- one step, and what it tells
+  -- one step, what it tells, and what the guest called in it, in order
+  abbrev pub StepsWith : Loop S → StepDid → (made : List GuestCall) → Loop S → Type 0
+  StepsWith old did made new = StepIn old.state.status old did made new
+
+  -- the same, whatever the guest called
   abbrev pub LoopStep : Loop S → StepDid → Loop S → Type 0
-  LoopStep old did new = StepIn old.state.status old did new
+  LoopStep old did new = (made : List GuestCall) × StepsWith old did made new

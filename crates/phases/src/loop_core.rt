@@ -1,6 +1,6 @@
 //! One event loop.
 
-ghost use Rattle.std.specs.Prelude.{◌≡◌, ◌↔◌, ◌≤◌, ℕ, [], ◌∷◌, Some, None, true, false, All, codes, length, ◌<◌, MatchBool, IsTrue, IfOk, IfSome, option_map};
+ghost use Rattle.std.specs.Prelude.{◌≡◌, ◌↔◌, ◌≤◌, ℕ, List, [], ◌∷◌, Some, None, true, false, All, codes, length, ◌<◌, MatchBool, IsTrue, IfOk, IfSome, option_map};
 ghost use Rattle.std.specs.Arc.{arc_value};
 ghost use Rattle.std.specs.Int.{w32, cast_unsigned};
 ghost use Rattle.limits.specs.declared.TheConstants.{MAX_ASYNCS, MAX_DEPTH, MAX_EMITS, MAX_REQUESTS};
@@ -11,6 +11,7 @@ ghost use Rattle.order.specs.Orders.{order_of};
 ghost use Rattle.phases.specs.Fitting.{AllRight, IsShort};
 ghost use Rattle.phases.specs.Accepting.{Accepts};
 ghost use Rattle.phases.specs.Outside.{after_clock, is_failed, next_order_of, CancelsLoop, StartsBeside, SendsBeside};
+ghost use Rattle.phases.specs.Guests.{GuestCall};
 ghost use Rattle.order.specs.Runnable.{CanRun};
 ghost use Rattle.phases.specs.PhaseList.{begin_list, hint_of, is_alive, IsAlive, IsHint};
 ghost use Rattle.phases.specs.Inner.Ready.{IsReady, Spares};
@@ -144,7 +145,7 @@ impl<B: Shared + Drop> LoopCore<B> {
     }
 
     fn go_on(&mut self) -> StepDid
-        ensures step { ListStep B.calls self.old.setting self.old.loop self.old.loop.state.list result self.new.loop }
+        ensures step { (made : List GuestCall) × ListStep B.calls self.old.setting self.old.loop self.old.loop.state.list result made self.new.loop }
         ensures setting { self.new.setting ≡ self.old.setting }
     {
         let Some(entry) = self.host.state.front() else {
@@ -158,7 +159,7 @@ impl<B: Shared + Drop> LoopCore<B> {
     fn run(&mut self, entry: Entry) -> StepDid
         requires ready { IsReady self.old.setting.loaded.contents self.old.loop.state entry }
         requires apart { All (Spares entry) self.old.loop.state.list }
-        ensures step { EntryStep B.calls self.old.setting self.old.loop entry result self.new.loop }
+        ensures step { (made : List GuestCall) × EntryStep B.calls self.old.setting self.old.loop entry result made self.new.loop }
         ensures setting { self.new.setting ≡ self.old.setting }
     {
         match entry {
@@ -179,7 +180,7 @@ impl<B: Shared + Drop> LoopCore<B> {
 
     fn run_start(&mut self) -> StepDid
         requires ready { IsReady self.old.setting.loaded.contents self.old.loop.state Entry.Start }
-        ensures step { EntryStep B.calls self.old.setting self.old.loop Entry.Start result self.new.loop }
+        ensures step { (made : List GuestCall) × EntryStep B.calls self.old.setting self.old.loop Entry.Start result made self.new.loop }
         ensures setting { self.new.setting ≡ self.old.setting }
     {
         let Some(function) = self.linked.valid().contents().start else {
@@ -190,7 +191,7 @@ impl<B: Shared + Drop> LoopCore<B> {
 
     fn run_main(&mut self) -> StepDid
         requires ready { IsReady self.old.setting.loaded.contents self.old.loop.state Entry.Main }
-        ensures step { EntryStep B.calls self.old.setting self.old.loop Entry.Main result self.new.loop }
+        ensures step { (made : List GuestCall) × EntryStep B.calls self.old.setting self.old.loop Entry.Main result made self.new.loop }
         ensures setting { self.new.setting ≡ self.old.setting }
     {
         let Some(function) = self.linked.entry(EntryPoint::Main) else {
@@ -200,7 +201,7 @@ impl<B: Shared + Drop> LoopCore<B> {
     }
 
     fn run_timer(&mut self, handle: u32, start: u64) -> StepDid
-        ensures step { EntryStep B.calls self.old.setting self.old.loop (Entry.Timer handle start) result self.new.loop }
+        ensures step { (made : List GuestCall) × EntryStep B.calls self.old.setting self.old.loop (Entry.Timer handle start) result made self.new.loop }
         ensures setting { self.new.setting ≡ self.old.setting }
     {
         match self.host.state.fire(handle, start) {
@@ -214,9 +215,9 @@ impl<B: Shared + Drop> LoopCore<B> {
 
     // An idle or a check handle.
     fn run_listed(&mut self, listed: Kind, kind: EntryKind, handle: u32, start: u64) -> StepDid
-        ensures step { MatchBool (is_as_listed listed self.old.loop.state.roster handle start)
-            (CallsHandle B.calls self.old.setting self.old.loop self.old.loop.state.roster kind handle result self.new.loop)
-            (Skips B.calls self.old.setting self.old.loop kind handle result self.new.loop) }
+        ensures step { (made : List GuestCall) × MatchBool (is_as_listed listed self.old.loop.state.roster handle start)
+            (CallsHandle B.calls self.old.setting self.old.loop self.old.loop.state.roster kind handle result made self.new.loop)
+            (Skips B.calls self.old.setting self.old.loop kind handle result made self.new.loop) }
         ensures setting { self.new.setting ≡ self.old.setting }
     {
         match self.host.state.listed_function(listed, handle, start) {
@@ -231,7 +232,7 @@ impl<B: Shared + Drop> LoopCore<B> {
     fn run_after_work(&mut self, request: u32) -> StepDid
         requires ready { IsReady self.old.setting.loaded.contents self.old.loop.state (Entry.After request) }
         requires apart { All (Spares (Entry.After request)) self.old.loop.state.list }
-        ensures step { EntryStep B.calls self.old.setting self.old.loop (Entry.After request) result self.new.loop }
+        ensures step { (made : List GuestCall) × EntryStep B.calls self.old.setting self.old.loop (Entry.After request) result made self.new.loop }
         ensures setting { self.new.setting ≡ self.old.setting }
     {
         let Some(function) = self.linked.entry(EntryPoint::AfterWork) else {
@@ -255,7 +256,7 @@ impl<B: Shared + Drop> LoopCore<B> {
     // What waits at the async is taken first; where that is nothing, no callback runs.
     fn run_async(&mut self, async_no: u32) -> StepDid
         requires ready { IsReady self.old.setting.loaded.contents self.old.loop.state (Entry.Async async_no) }
-        ensures step { EntryStep B.calls self.old.setting self.old.loop (Entry.Async async_no) result self.new.loop }
+        ensures step { (made : List GuestCall) × EntryStep B.calls self.old.setting self.old.loop (Entry.Async async_no) result made self.new.loop }
         ensures setting { self.new.setting ≡ self.old.setting }
     {
         let Some(handle) = self.host.state.async_at(async_no) else {
@@ -281,7 +282,7 @@ impl<B: Shared + Drop> LoopCore<B> {
     fn run_close(&mut self, handle: u32) -> StepDid
         requires ready { IsReady self.old.setting.loaded.contents self.old.loop.state (Entry.Close handle) }
         requires apart { All (Spares (Entry.Close handle)) self.old.loop.state.list }
-        ensures step { EntryStep B.calls self.old.setting self.old.loop (Entry.Close handle) result self.new.loop }
+        ensures step { (made : List GuestCall) × EntryStep B.calls self.old.setting self.old.loop (Entry.Close handle) result made self.new.loop }
         ensures setting { self.new.setting ≡ self.old.setting }
     {
         let function = self.host.state.finish_closing(handle);
@@ -291,7 +292,7 @@ impl<B: Shared + Drop> LoopCore<B> {
     // A handle's callback is given its number.
     fn call_handle(&mut self, kind: EntryKind, handle: u32, function: u32) -> StepDid
         requires callback { TakesArguments self.old.setting.loaded.contents function (Value.I32 handle ∷ []) }
-        ensures run { RunsFrom B.calls self.old.setting self.old.loop kind handle function (Value.I32 handle ∷ []) None result self.new.loop }
+        ensures run { (made : List GuestCall) × RunsFrom B.calls self.old.setting self.old.loop kind handle function (Value.I32 handle ∷ []) None result made self.new.loop }
         ensures setting { self.new.setting ≡ self.old.setting }
     {
         self.call(kind, handle, function, &[Value::I32(handle)], None)
@@ -307,7 +308,7 @@ impl<B: Shared + Drop> LoopCore<B> {
     ) -> StepDid
         requires takes { TakesArguments self.old.setting.loaded.contents function args.now }
         requires short { IsShort (option_map (λ v. v.items) reply) }
-        ensures run { RunsFrom B.calls self.old.setting self.old.loop kind number function args.now (option_map (λ v. v.items) reply) result self.new.loop }
+        ensures run { (made : List GuestCall) × RunsFrom B.calls self.old.setting self.old.loop kind number function args.now (option_map (λ v. v.items) reply) result made self.new.loop }
         ensures setting { self.new.setting ≡ self.old.setting }
     {
         self.host.state.begin_callback(reply);

@@ -25,7 +25,7 @@ pub record IsBehind (p : Core Desk) (u : Underway) (q : Core Desk) : Type 0 wher
   pub desk : Desk
   pub reaches : Reach q.loop.shared done desk
   pub gets : Gets desk late p.loop.shared
-  pub steps : StepsBy p.setting p.loop (done ++ u.ahead) u.did u.state u.store
+  pub steps : StepsBy p.setting p.loop (done ++ u.ahead) u.did u.made u.state u.store
 
 abbrev pub Alike : Core Desk → Option Underway → Core Desk → Type 0
 Alike p None q = q ≡ p

@@ -7,7 +7,7 @@ use Rattle.order.specs.Work.{WorkOrder}
 use Rattle.tallies.proofs.Places.{set_same, set_here}
 use Rattle.phases.specs.State.{Setting, State, Loop, Core}
 use Rattle.phases.specs.Outside.{is_failed, next_order_of}
-use Rattle.phases.specs.Step.{in_state, sharing}
+use Rattle.phases.specs.Step.{in_state, sharing, over}
 use Rattle.desk.specs.Desk.{Desk, is_open, started, DeskStarts, DeskGets}
 use Rattle.world_log.specs.declared.step.Step.{Step}
 use Rattle.world_log.specs.declared.step.Step.TheVariants as step
@@ -20,7 +20,6 @@ use Rattle.events.specs.declared.did.StepDid.{StepDid}
 use Rattle.events.specs.declared.did.StepDid.TheVariants as did
 use Rattle.world.specs.Laws.{RunsJoin}
 use Rattle.world.specs.World.{World, Worker, Idle, Taken, Started, Only, PostsOrder, StartsJob, FinishesJob, SendsTo, WorldStep, with_loop, with_worker, job_of, told_of, core}
-use Rattle.schedules.specs.Accesses.{over}
 use Rattle.schedules.specs.Laws.{log_of, jobs_in, is_posted, is_taken_by}
 use Rattle.schedules.specs.Schedule.{Underway, Threads, Atom, Begin, Next, End, Whole, MayBe, IsBetween, Begins, GoesOn, Ends, HandsOut, TakesOne, AtOnce, AtomStep}
 use Rattle.schedules.proofs.Alike.{IsBehind, Alike, AllAlike, AreAlikeAt, alike_at, alike_known, alike_set}
@@ -139,7 +138,7 @@ module _ (joins : RunsJoin) (all : ℕ) (t : Threads) (ls : List (Core Desk)) (w
         let here : slice_get ls n ≡ Some (core g (over q.loop.shared l)) = behind.1 ∙ ap Some (behind_is g l u q b) in
         let one : Runs w used (entry ∷ []) (beside t.world mid ws) used =
         run_one w (beside t.world mid ws) (step.Loop n) entry (entry ∷ []) used used
-        (record { setting = g; old = over q.loop.shared l; new = after_step; did = u.did; at = here; steps = behind_ended g l u q b none; told = refl; after = refl })
+        (record { setting = g; old = over q.loop.shared l; new = after_step; did = u.did; made = u.made; at = here; steps = behind_ended g l u q b none; told = refl; after = refl })
         (λ i. refl) (once_quiet used entry (λ k. untaken_step k n u.did u.state.emits)) in
         let two = run_sends t.world ws n used joins mid (core g after_step) l.shared b.late (set_here ls n (core g after_step) q behind.1) b.gets in
         let both = run_join joins w (beside t.world mid ws) (beside t.world (slice_set mid n (core g ended)) ws) used used used (entry ∷ []) [] one two in

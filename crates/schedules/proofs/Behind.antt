@@ -2,10 +2,10 @@
 use Rattle.std.proofs.Common.{◌≡◌, ℕ, ◌<◌, ◌≤◌, true, inl, inr, ◌⊎◌, List, [], ◌∷◌, ◌++◌, refl, sym, ap, subst, ◌∙◌, append_assoc, append-nil}
 use Rattle.limits.specs.declared.TheConstants.{MAX_ASYNCS}
 use Rattle.phases.specs.State.{Setting, Loop, Core}
-use Rattle.phases.specs.Step.{LoopStep, sharing}
+use Rattle.phases.specs.Step.{StepsWith, sharing, over}
 use Rattle.desk.specs.Desk.{Desk, desk_calls, is_open, started, DeskGets}
 use Rattle.world.specs.World.{core}
-use Rattle.schedules.specs.Accesses.{Access, Moves, Reach, over, StepsBy}
+use Rattle.schedules.specs.Accesses.{Access, Moves, Reach, StepsBy}
 use Rattle.schedules.specs.Schedule.{Underway}
 use Rattle.schedules.proofs.Alike.{IsBehind, AreLate}
 use Rattle.schedules.proofs.Numbers.{step_opens, others_front}
@@ -14,7 +14,7 @@ use Rattle.schedules.proofs.StepsByAccess.{step_whole}
 use Rattle.schedules.proofs.StartsMoveBefore.{OpenOthers, StartsAhead, starts_ahead, reach_more}
 
 -- as the step begins
-pub behind_begun : (g : Setting) (l : Loop Desk) (u : Underway) (q : Core Desk) → q ≡ core g l → StepsBy g l u.ahead u.did u.state u.store → IsBehind (core g l) u q
+pub behind_begun : (g : Setting) (l : Loop Desk) (u : Underway) (q : Core Desk) → q ≡ core g l → StepsBy g l u.ahead u.did u.made u.state u.store → IsBehind (core g l) u q
 behind_begun g l u q is steps = subst (IsBehind (core g l) u) (sym is) (record {
   setting = refl;
   state = refl;
@@ -44,8 +44,8 @@ module _ (g : Setting) (l : Loop Desk) (u : Underway) (q : Core Desk) (b : IsBeh
 
     pub behind_next : u.ahead ≡ a ∷ ahead → IsBehind (core g (sharing l e)) (record u { ahead = ahead }) q
     behind_next is =
-        let steps : StepsBy g l (b.done ++ a ∷ ahead) u.did u.state u.store = subst (λ xs. StepsBy g l (b.done ++ xs) u.did u.state u.store) is b.steps in
-        let it = passes b.done b.late b.desk b.came b.reaches b.gets (takes_first g l (b.done ++ a ∷ ahead) u.did u.state u.store steps) in
+        let steps : StepsBy g l (b.done ++ a ∷ ahead) u.did u.made u.state u.store = subst (λ xs. StepsBy g l (b.done ++ xs) u.did u.made u.state u.store) is b.steps in
+        let it = passes b.done b.late b.desk b.came b.reaches b.gets (takes_first g l (b.done ++ a ∷ ahead) u.did u.made u.state u.store steps) in
         record {
           setting = b.setting;
           state = b.state;
@@ -56,7 +56,7 @@ module _ (g : Setting) (l : Loop Desk) (u : Underway) (q : Core Desk) (b : IsBeh
           desk = it.1;
           reaches = it.3;
           gets = it.4;
-          steps = subst (λ xs. StepsBy g l xs u.did u.state u.store) (sym (append_assoc b.done (a ∷ []) ahead)) steps;
+          steps = subst (λ xs. StepsBy g l xs u.did u.made u.state u.store) (sym (append_assoc b.done (a ∷ []) ahead)) steps;
         }
 
   -- a job of the loop is begun
@@ -78,7 +78,7 @@ module _ (g : Setting) (l : Loop Desk) (u : Underway) (q : Core Desk) (b : IsBeh
     },
   ) where
     others : OpenOthers c.1 b.done
-    others = others_front c.1 b.done u.ahead (step_opens g l (b.done ++ u.ahead) u.did u.state u.store b.steps c.1 given)
+    others = others_front c.1 b.done u.ahead (step_opens g l (b.done ++ u.ahead) u.did u.made u.state u.store b.steps c.1 given)
 
     it : StartsAhead c q.loop.shared b.done b.desk
     it = starts_ahead c q.loop.shared b.desk b.done others (sym (gets_open c b.desk l.shared b.late b.gets) ∙ opens) b.reaches
@@ -91,7 +91,7 @@ module _ (g : Setting) (l : Loop Desk) (u : Underway) (q : Core Desk) (b : IsBeh
 
   pub behind_sent : (a : ℕ) (e : Desk) → a < MAX_ASYNCS → DeskGets l.shared a true e → Received a e
   behind_sent a e below moves = by b.done b.late b.desk b.came b.reaches b.gets b.steps where
-    by : (done : List Access) (late : List ℕ) (desk : Desk) → AreLate done late → Reach q.loop.shared done desk → Gets desk late l.shared → StepsBy g l (done ++ u.ahead) u.did u.state u.store → Received a e
+    by : (done : List Access) (late : List ℕ) (desk : Desk) → AreLate done late → Reach q.loop.shared done desk → Gets desk late l.shared → StepsBy g l (done ++ u.ahead) u.did u.made u.state u.store → Received a e
     by [] late desk came reaches gets steps =
         let same : l.shared ≡ desk = subst (λ xs. Gets desk xs l.shared) came gets in
         inl (
@@ -129,7 +129,7 @@ module _ (g : Setting) (l : Loop Desk) (u : Underway) (q : Core Desk) (b : IsBeh
       ∙ ap (λ x. core g (record { state = x; store = q.loop.store; shared = q.loop.shared })) b.state
       ∙ ap (λ x. core g (record { state = l.state; store = x; shared = q.loop.shared })) b.store
 
-  pub behind_ended : u.ahead ≡ [] → LoopStep desk_calls g (over q.loop.shared l) u.did (record { state = u.state; store = u.store; shared = b.desk })
+  pub behind_ended : u.ahead ≡ [] → StepsWith desk_calls g (over q.loop.shared l) u.did u.made (record { state = u.state; store = u.store; shared = b.desk })
   behind_ended none =
-      let steps : StepsBy g l b.done u.did u.state u.store = subst (λ xs. StepsBy g l xs u.did u.state u.store) (ap (λ xs. b.done ++ xs) none ∙ append-nil b.done) b.steps in
-      step_whole g l b.done u.did u.state u.store b.desk q.loop.shared steps b.reaches
+      let steps : StepsBy g l b.done u.did u.made u.state u.store = subst (λ xs. StepsBy g l xs u.did u.made u.state u.store) (ap (λ xs. b.done ++ xs) none ∙ append-nil b.done) b.steps in
+      step_whole g l b.done u.did u.made u.state u.store b.desk q.loop.shared steps b.reaches

@@ -5,7 +5,6 @@ use Rattle.limits.specs.declared.TheConstants.{MAX_JOBS}
 use Rattle.order.specs.Work.{WorkOrder}
 use Rattle.tallies.proofs.Requests.{either}
 use Rattle.phases.specs.History.{Stepped, OrderAsked, CancelAnswered}
-use Rattle.phases.specs.Guests.{loop_calls}
 use Rattle.phases.specs.Outside.{next_order_of, after_clock, answered}
 use Rattle.phases.specs.Requests.{Answered, is_open_stage}
 use Rattle.phases.specs.Host.{with_requests}
@@ -230,7 +229,7 @@ module _ (w w' : World) (s : Stands w) where
       let last = h.old.state.requests.last in
       moved n h.setting h.old h.new h.at loops
       (event_keeps desk_calls h.setting (Kept h.setting last) (keeps_numbered h.setting last) []
-      (Stepped h.did h.new.state.emits (loop_calls desk_calls h.setting h.old h.did h.new h.steps)) h.old h.new (h.steps, refl, refl) (start n h.setting h.old h.new h.at loops))
+      (Stepped h.did h.new.state.emits h.made) h.old h.new (h.steps, refl) (start n h.setting h.old h.new h.at loops))
       (ap (λ (x : World). x.jobs) h.after) (ap (λ (x : World). x.workers) h.after)
   step_stands (step.Post n) entry h =
       unless n h.1 entry _ (λ k. either (length w.jobs == MAX_JOBS) _ _ (Stands w') (only entry (line.Post n post.Full)) (posts n h.0 h.1 entry (next_order_of h.1.state) h.2 refl) k) h.3

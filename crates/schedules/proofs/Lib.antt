@@ -2,7 +2,6 @@ pub mod Alike
 pub mod Atoms
 pub mod Behind
 pub mod Hands
-pub mod StepsOverAnother
 pub mod Numbers
 pub mod Once
 pub mod Owners

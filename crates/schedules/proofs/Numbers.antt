@@ -6,10 +6,11 @@ use Rattle.events.specs.declared.did.StepDid.{StepDid}
 use Rattle.phases.specs.Guests.{GuestCall}
 use Rattle.phases.specs.Requests.{Stage, Request, Requests, has_number, in_stage, with_stage, without_request, is_open_stage}
 use Rattle.phases.specs.State.{Setting, State, Loop}
+use Rattle.phases.specs.Step.{over}
 use Rattle.phases.proofs.CancelFates.{IsBeside, unmoved, tried, sent, took}
 use Rattle.phases.proofs.StepsByCalls.{CallFate, changes_nothing, opens_one, cancels_one, CallMoves, leaves_all, opens, cancels_won, IsKeptInSteps, IsKeptBy, step_keeps}
 use Rattle.desk.specs.Desk.{Desk}
-use Rattle.schedules.specs.Accesses.{Access, Opens, Cancels, Sends, Takes, listed_calls, over, StepsBy}
+use Rattle.schedules.specs.Accesses.{Access, Opens, Cancels, Sends, Takes, listed_calls, StepsBy}
 use Rattle.schedules.proofs.StartsMoveBefore.{OpensOther, OpenOthers}
 
 -- the orders are of the loop of this number, and have numbers up to the last one
@@ -123,9 +124,9 @@ module _ (first : ℕ) (all : List Access) where
   }
 
 -- a step opens no request whose number was given before
-pub step_opens : (g : Setting) (old : Loop Desk) (accesses : List Access) (did : StepDid) (state : State) (store : Store) → (h : StepsBy g old accesses did state store)
+pub step_opens : (g : Setting) (old : Loop Desk) (accesses : List Access) (did : StepDid) (more : List GuestCall) (state : State) (store : Store) → (h : StepsBy g old accesses did more state store)
     → (number : ℕ) → number ≤ old.state.requests.last → OpenOthers number accesses
-step_opens g old accesses did state store h number le = subst (OpenOthers number) (sym (append-nil it.done) ∙ it.whole) (it.above number le) where
+step_opens g old accesses did more state store h number le = subst (OpenOthers number) (sym (append-nil it.done) ∙ it.whole) (it.above number le) where
   last : ℕ
   last = old.state.requests.last
 
@@ -134,7 +135,7 @@ step_opens g old accesses did state store h number le = subst (OpenOthers number
 
   it : Foretold last accesses state.requests []
   it =
-      step_keeps listed_calls g (λ made rs ahead. Foretold last accesses rs ahead) (keeps_foretold last accesses g) [] (over accesses old) did
+      step_keeps listed_calls g (λ made rs ahead. Foretold last accesses rs ahead) (keeps_foretold last accesses g) [] more (over accesses old) did
       (record { state = state; store = store; shared = [] }) h start
 
 -- and so none of the first of them

@@ -46,7 +46,7 @@ step_alone a told t t' moves = (t', told, [], moves, (refl, refl), sym (append-n
 -- one step of a loop
 module _ (us : List (Option Underway)) (w w' : World) (n : ℕ) (entry : LogEntry) (h : StepsLoop w n entry w') (rests : slice_get us n ≡ Some None) where
   abbrev underway : List Access → Underway
-  underway accesses = record { ahead = accesses; did = h.did; state = h.new.state; store = h.new.store }
+  underway accesses = record { ahead = accesses; did = h.did; made = h.made; state = h.new.state; store = h.new.store }
 
   -- the loop at a desk, with some accesses ahead
   abbrev at : Desk → List Access → Threads
@@ -100,7 +100,7 @@ module _ (us : List (Option Underway)) (w w' : World) (n : ℕ) (entry : LogEntr
 
   loop_threads : (atoms : List Atom) × ThreadsRun (resting w) atoms (entry ∷ []) (resting w')
   loop_threads =
-      let it = step_split h.setting h.old h.did h.new h.steps in
+      let it = step_split h.setting h.old h.did h.made h.new h.steps in
       let begins : AtomStep (resting w) (Begin n) [] (at h.old.shared it.0) = record {
         setting = h.setting;
         old = h.old;

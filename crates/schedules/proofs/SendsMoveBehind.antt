@@ -3,12 +3,14 @@ use Rattle.std.proofs.Common.{◌≡◌, ℕ, zero, suc, ◌<◌, Bool, true, fa
 use Rattle.limits.specs.declared.TheConstants.{MAX_ASYNCS, MAX_SENDS}
 use Rattle.instance.specs.Store.{Store}
 use Rattle.events.specs.declared.did.StepDid.{StepDid}
+use Rattle.phases.specs.Guests.{GuestCall}
 use Rattle.phases.specs.State.{Setting, State, Loop}
+use Rattle.phases.specs.Step.{over}
 use Rattle.tallies.specs.Counts.{raised}
 use Rattle.tallies.specs.Requests.{times}
 use Rattle.desk.specs.Desk.{Desk, is_open, opened, cancelled, found_started, started, sent_own, sent_by_another, DeskCancels, DeskSends, DeskGets}
-use Rattle.schedules.specs.Accesses.{Access, Opens, Cancels, Sends, Takes, Moves, listed_calls, over, StepsBy}
-use Rattle.schedules.proofs.StepsOverAnother.{IsMirrored, Anyhow, step_mirrors}
+use Rattle.schedules.specs.Accesses.{Access, Opens, Cancels, Sends, Takes, Moves, listed_calls, StepsBy}
+use Rattle.phases.proofs.Mirroring.{IsMirrored, Anyhow, step_mirrors}
 use Rattle.schedules.proofs.StepsByAccess.{written_calls}
 
 -- others sent to these asyncs, one after another
@@ -114,24 +116,24 @@ module _ (all : List Access) where
     (append_assoc done (a ∷ []) ahead' ∙ ap (λ xs. done ++ xs) (sym is) ∙ h.0, takes_push done a quiet h.1),
   )
 
-  written : IsMirrored listed_calls written_calls Anyhow Untouched Written
+  written : IsMirrored listed_calls written_calls Anyhow Anyhow Untouched Written
   written = record {
     begins = λ ahead done h. (ap (λ xs. xs ++ ahead) h.0 ∙ h.1, subst TakesFirst (sym h.0) tt);
     opens = λ ahead ahead' done slot request c h is. write ahead ahead' done (Opens slot request) tt h is;
     cancels = λ ahead ahead' done slot request won c h is. write ahead ahead' done (Cancels slot request won) tt h is;
     sends = λ ahead ahead' done async_no ok c h is. write ahead ahead' done (Sends async_no ok) tt h is;
-    takes = λ ahead ahead' done async_no count c h is. (
+    takes = λ ahead ahead' done async_no count c there h is. (
       Takes async_no count ∷ [],
       ap (λ xs. xs ++ Takes async_no count ∷ []) (sym h.0),
       (sym is ∙ h.1, tt),
     );
   }
 
-pub takes_first : (g : Setting) (old : Loop Desk) (accesses : List Access) (did : StepDid) (state : State) (store : Store) → StepsBy g old accesses did state store → TakesFirst accesses
-takes_first g old accesses did state store h =
+pub takes_first : (g : Setting) (old : Loop Desk) (accesses : List Access) (did : StepDid) (made : List GuestCall) (state : State) (store : Store) → StepsBy g old accesses did made state store → TakesFirst accesses
+takes_first g old accesses did made state store h =
     let it =
-    step_mirrors listed_calls written_calls g Anyhow (Untouched accesses) (Written accesses) (written accesses) (λ trace before after k c. tt) (over accesses old) did
-    (record { state = state; store = store; shared = [] }) [] tt (refl, refl) h in
+    step_mirrors listed_calls written_calls g Anyhow Anyhow (Untouched accesses) (Written accesses) (written accesses) (λ made before after k c. tt) (over accesses old) did made
+    (record { state = state; store = store; shared = [] }) [] tt (λ async_no handle is. tt) (refl, refl) h in
     subst TakesFirst (sym (append-nil it.0) ∙ it.2.0) it.2.1
 
 -- so one that stands behind others takes nothing

@@ -3,8 +3,9 @@ use Rattle.std.specs.Prelude.{◌≡◌, ℕ, Bool, List, [], ◌∷◌}
 use Rattle.instance.specs.Store.{Store}
 use Rattle.events.specs.declared.did.StepDid.{StepDid}
 use Rattle.phases.specs.Calls.{Calls}
+use Rattle.phases.specs.Guests.{GuestCall}
 use Rattle.phases.specs.State.{Setting, Loop, State}
-use Rattle.phases.specs.Step.{LoopStep}
+use Rattle.phases.specs.Step.{StepsWith, over}
 use Rattle.phases.specs.View.{new_view}
 use Rattle.desk.specs.Desk.{Desk, desk_calls}
 
@@ -39,12 +40,8 @@ listed_calls = record {
   takes = λ old async_no count new. old ≡ Takes async_no count ∷ new;
 }
 
--- the loop over another object
-abbrev pub over : {S T : Type 0} → T → Loop S → Loop T
-over shared l = record { state = l.state; store = l.store; shared = shared }
-
 -- A step of the loop makes just these accesses, in this order and with these answers, whoever gives them; it does this
--- then, and leaves this state and this store.
-abbrev pub StepsBy : Setting → Loop Desk → List Access → StepDid → State → Store → Type 0
-StepsBy g l accesses did state store =
-    LoopStep listed_calls g (over accesses l) did (record { state = state; store = store; shared = [] })
+-- then, its guest calls this, and it leaves this state and this store.
+abbrev pub StepsBy : Setting → Loop Desk → List Access → StepDid → (made : List GuestCall) → State → Store → Type 0
+StepsBy g l accesses did made state store =
+    StepsWith listed_calls g (over accesses l) did made (record { state = state; store = store; shared = [] })

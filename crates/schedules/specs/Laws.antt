@@ -2,8 +2,9 @@
 use Rattle.std.specs.Prelude.{◌≡◌, ℕ, ◌≤◌, ◌==◌, ◌↔◌, Bool, true, false, List, filter, count_by, Some}
 use Rattle.std.specs.Prelude.{slice_get}
 use Rattle.events.specs.declared.did.StepDid.{StepDid}
+use Rattle.phases.specs.Guests.{GuestCall}
 use Rattle.phases.specs.State.{Setting, Loop}
-use Rattle.phases.specs.Step.{LoopStep}
+use Rattle.phases.specs.Step.{StepsWith}
 use Rattle.desk.specs.Desk.{Desk, desk_calls}
 use Rattle.world_log.specs.declared.entry.LogEntry.{LogEntry}
 use Rattle.world_log.specs.declared.entry.LogEntry.TheVariants as line
@@ -68,16 +69,17 @@ IsAfterOnce =
     → ThreadsRun (opening_threads settings workers) atoms log t → (l request : ℕ) → count_by (is_after l request) log ≤ 1
 
 -- the step is one by some accesses, which lead from the desk to the next
-pub record HasAccesses (g : Setting) (old : Loop Desk) (did : StepDid) (new : Loop Desk) : Type 0 where
+pub record HasAccesses (g : Setting) (old : Loop Desk) (did : StepDid) (made : List GuestCall) (new : Loop Desk) : Type 0 where
   pub accesses : List Access
-  pub steps : StepsBy g old accesses did new.state new.store
+  pub steps : StepsBy g old accesses did made new.state new.store
   pub leads : Reach old.shared accesses new.shared
 
--- A step of a loop over its desk is one by its accesses, and each such is one over the desk.
+-- A step of a loop over its desk is one by its accesses, and each such is one over the desk, in which the guest makes the
+-- same calls.
 abbrev pub IsSplit : Type 0
 IsSplit =
-    (g : Setting) (old : Loop Desk) (did : StepDid) (new : Loop Desk)
-    → LoopStep desk_calls g old did new ↔ HasAccesses g old did new
+    (g : Setting) (old : Loop Desk) (did : StepDid) (made : List GuestCall) (new : Loop Desk)
+    → StepsWith desk_calls g old did made new ↔ HasAccesses g old did made new
 
 -- the line tells that the list of jobs was full, which it never is among the threads
 abbrev pub is_full : LogEntry → Bool

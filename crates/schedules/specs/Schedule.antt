@@ -3,6 +3,7 @@ use Rattle.std.specs.Prelude.{◌≡◌, ℕ, ◌⊎◌, List, [], ◌∷◌, �
 use Rattle.instance.specs.Store.{Store}
 use Rattle.order.specs.Work.{WorkOrder}
 use Rattle.events.specs.declared.did.StepDid.{StepDid}
+use Rattle.phases.specs.Guests.{GuestCall}
 use Rattle.phases.specs.Outside.{next_order_of}
 use Rattle.phases.specs.State.{Setting, Loop, State}
 use Rattle.phases.specs.Step.{sharing}
@@ -15,11 +16,12 @@ use Rattle.world.specs.World.{World, Idle, Taken, Only, UnlessFailed, PostsOrder
 use Rattle.world.specs.World.{job_of, told_of}
 use Rattle.schedules.specs.Accesses.{Access, Moves, StepsBy}
 
--- A loop's step that is under way: what it does at the desk yet, and what it will have done then: what is told of it, and
--- the state and the store that it leaves.
+-- A loop's step that is under way: what it does at the desk yet, and what it will have done then: what is told of it, what
+-- its guest called, and the state and the store that it leaves.
 pub record Underway : Type 0 where
   pub ahead : List Access
   pub did : StepDid
+  pub made : List GuestCall
   pub state : State
   pub store : Store
 
@@ -64,7 +66,7 @@ pub record Begins (t : Threads) (n : ℕ) (told : List LogEntry) (t' : Threads) 
   pub step : Underway
   pub at : HasLoop t.world n setting old
   pub between : IsBetween t n
-  pub steps : StepsBy setting old step.ahead step.did step.state step.store
+  pub steps : StepsBy setting old step.ahead step.did step.made step.state step.store
   pub silent : told ≡ []
   pub after : t' ≡ record t { steps = slice_set t.steps n (Some step) }
 

@@ -1,3 +1,4 @@
+pub mod AtDesk
 pub mod NumberedLists
 pub mod Ends
 pub mod Promised

@@ -18,7 +18,7 @@ use Rattle.events.specs.declared.ended.Ended.{Ended}
 use Rattle.phases.specs.declared.loop_core.Accepted.{Accepted}
 use Rattle.phases.specs.declared.loop_core.Accepted.TheVariants as accepted
 use Rattle.phases.specs.Accepting.{Accepts}
-use Rattle.phases.specs.Guests.{GuestCall, loop_calls}
+use Rattle.phases.specs.Guests.{GuestCall}
 use Rattle.phases.specs.History.{Event, Stepped, OrderAsked, EndOffered, ClockRaised, EventStep, History, IsOpening, emits_in, emitted}
 use Rattle.phases.specs.Outside.{next_order_of, clock_in, after_clock}
 use Rattle.phases.specs.PhaseList.{begin_list, hint_of}
@@ -35,7 +35,7 @@ push g [] e start old new h step = (new, subst (λ l. EventStep thread_calls g e
 push g (x ∷ events) e start old new h step = (h.0, h.1, push g events e h.0 old new h.2 step)
 
 push_own : (g : Setting) (events : List Event) (e : Event) (start old new : Loop Seats) (h : History thread_calls g start events old) (step : EventStep thread_calls g e old new)
-    → AreByThread g start events old h → IsByThread e old.state → AreByThread g start (events ++ e ∷ []) new (push g events e start old new h step)
+    → AreByThread thread_calls g start events old h → IsByThread e old.state → AreByThread thread_calls g start (events ++ e ∷ []) new (push g events e start old new h step)
 unfolding push
 push_own g [] e start old new h step all own = (subst (λ l. IsByThread e l.state) h own, tt)
 push_own g (x ∷ events) e start old new h step all own = (all.0, push_own g events e h.0 old new h.2 step all.1 own)
@@ -48,7 +48,7 @@ callbacks_push : (events : List Event) (e : Event) → callbacks_in (events ++ e
 callbacks_push events e = sum_by_push (λ x. cond (is_callback x) 1 0) events e
 
 abbrev pub Does : Setting → Loop Seats → ℕ → List ℕ → Type 0
-Does g l ran emits = ∥ HasDone g l ran emits ∥₁
+Does g l ran emits = ∥ HasDone thread_calls g l ran emits ∥₁
 
 pub does_nothing : (g : Setting) (l : Loop Seats) (emits : List ℕ) → emits ≡ [] → IsOpening thread_calls g l → Does g l 0 emits
 does_nothing g l emits none opens = ∣ record { start = l; opens = opens; events = []; history = refl; own = tt; counted = refl; told = none } ∣₁
@@ -56,7 +56,7 @@ does_nothing g l emits none opens = ∣ record { start = l; opens = opens; event
 does_more : (g g' : Setting) (l m : Loop Seats) (ran ran' : ℕ) (emits emits' : List ℕ) (e : Event) → g' ≡ g → EventStep thread_calls g e l m → IsByThread e l.state
     → ran' ≡ ran + cond (is_callback e) 1 0 → emits' ≡ emits ++ emits_in e → Does g l ran emits → Does g' m ran' emits'
 does_more g g' l m ran ran' emits emits' e same step own count more was = subst (λ x. Does x m ran' emits') (sym same) (∥∥₁_map was one) where
-  one : HasDone g l ran emits → HasDone g m ran' emits'
+  one : HasDone thread_calls g l ran emits → HasDone thread_calls g m ran' emits'
   one h = record {
     start = h.start;
     opens = h.opens;
@@ -78,14 +78,14 @@ pub does_run : (g g' : Setting) (l m : Loop Seats) (ran ran' : ℕ) (emits emits
     → LoopStep thread_calls g l told m → ran' ≡ ran + 1 → emits' ≡ emits ++ m.state.emits → Does g l ran emits → Does g' m ran' emits'
 does_run g g' l m ran ran' emits emits' kind number ended told is same step count more was =
     let ran_it : LoopStep thread_calls g l (did.Ran kind number ended) m = subst (λ d. LoopStep thread_calls g l d m) is step in
-    does_more g g' l m ran ran' emits emits' (Stepped (did.Ran kind number ended) m.state.emits (loop_calls thread_calls g l (did.Ran kind number ended) m ran_it)) same (ran_it, refl, refl) tt count more was
+    does_more g g' l m ran ran' emits emits' (Stepped (did.Ran kind number ended) m.state.emits ran_it.0) same (ran_it.1, refl) tt count more was
 
 -- a step that runs none
 pub does_other : (g g' : Setting) (l m : Loop Seats) (ran : ℕ) (emits emits' : List ℕ) (told : StepDid) → g' ≡ g → LoopStep thread_calls g l told m
     → emits' ≡ emits → ((kind : EntryKind) (number : ℕ) (ended : Ended) → told ≢ did.Ran kind number ended) → Does g l ran emits → Does g' m ran emits'
 does_other g g' l m ran emits emits' told same step kept other was =
-    let it = quiet told (loop_calls thread_calls g l told m step) other in
-    does_quiet g g' l m ran emits emits' (Stepped told m.state.emits (loop_calls thread_calls g l told m step)) it.0 it.1 same (step, refl, refl) tt kept was where
+    let it = quiet told step.0 other in
+    does_quiet g g' l m ran emits emits' (Stepped told m.state.emits step.0) it.0 it.1 same (step.1, refl) tt kept was where
       quiet : (d : StepDid) (made : List GuestCall) → ((kind : EntryKind) (number : ℕ) (ended : Ended) → d ≢ did.Ran kind number ended)
           → (is_callback (Stepped d m.state.emits made) ≡ false) × (emits_in (Stepped d m.state.emits made) ≡ [])
       quiet (did.Ran kind number ended) made not = absurd (not kind number ended refl)
@@ -127,9 +127,9 @@ opens_new g l loaded loop_no fuel work_fuel depth seats is state store shared vi
     subst (λ x. IsOpening thread_calls x l) (sym is) (record { state = state; store = store.store; shared = ap thread_calls.view shared ∙ view })
 
 -- what is done is ended
-pub ended_by : (g : Setting) (l : Loop Seats) (ran : ℕ) (ending : LoopEnding) (emits : List ℕ) → ran ≤ MAX_CALLBACKS → EndsBy ending l ran → Does g l ran emits → ∥ HasEnded g ending emits ∥₁
+pub ended_by : (g : Setting) (l : Loop Seats) (ran : ℕ) (ending : LoopEnding) (emits : List ℕ) → ran ≤ MAX_CALLBACKS → EndsBy ending l ran → Does g l ran emits → ∥ HasEnded thread_calls g ending emits ∥₁
 ended_by g l ran ending emits few ends was = ∥∥₁_map was (λ done. record { now = l; ran = ran; few = few; done = done; ends = ends })
 
 -- and is that of a loop of this number
-pub served_by : (g : Setting) (loop_no : ℕ) (ending : LoopEnding) (emits : List ℕ) → loop_no ≡ g.loop_no → ∥ HasEnded g ending emits ∥₁ → ∥ HasServed loop_no ending emits ∥₁
+pub served_by : (g : Setting) (loop_no : ℕ) (ending : LoopEnding) (emits : List ℕ) → loop_no ≡ g.loop_no → ∥ HasEnded thread_calls g ending emits ∥₁ → ∥ HasServed loop_no ending emits ∥₁
 served_by g loop_no ending emits same was = ∥∥₁_map was (λ ended. record { setting = g; numbered = sym same; ended = ended })

@@ -52,45 +52,46 @@ IsByThread (CancelAnswered request answer) s = ⊥
 IsByThread (ClockRaised ms) s = WaitsUntil ms s
 IsByThread MovedBeside s = ⊥
 
--- each event of a history is one that a thread does
-abbrev pub AreByThread : (g : Setting) (old : Loop Seats) (events : List Event) (new : Loop Seats) → History thread_calls g old events new → Type 0
-AreByThread g old [] new history = Unit {0}
-AreByThread g old (e ∷ events) new history = IsByThread e old.state × AreByThread g history.0 events new history.2
+module _ {S : Type 0} (calls : Calls S) (g : Setting) where
+  -- each event of a history is one that a thread does
+  abbrev pub AreByThread : (old : Loop S) (events : List Event) (new : Loop S) → History calls g old events new → Type 0
+  AreByThread old [] new history = Unit {0}
+  AreByThread old (e ∷ events) new history = IsByThread e old.state × AreByThread history.0 events new history.2
 
--- a history of a loop of this setting from its opening, in which so many callbacks ran and put out these values, in order
-pub record HasDone (g : Setting) (now : Loop Seats) (ran : ℕ) (emits : List ℕ) : Type 0 where
-  pub start : Loop Seats
-  pub opens : IsOpening thread_calls g start
-  pub events : List Event
-  pub history : History thread_calls g start events now
-  pub own : AreByThread g start events now history
-  pub counted : ran ≡ callbacks_in events
-  pub told : emits ≡ emitted events
+  -- a history of a loop of this setting from its opening, in which so many callbacks ran and put out these values, in order
+  pub record HasDone (now : Loop S) (ran : ℕ) (emits : List ℕ) : Type 0 where
+    pub start : Loop S
+    pub opens : IsOpening calls g start
+    pub events : List Event
+    pub history : History calls g start events now
+    pub own : AreByThread start events now history
+    pub counted : ran ≡ callbacks_in events
+    pub told : emits ≡ emitted events
 
 -- Why a loop has ended: it is over; it has failed; it has no request outstanding and nothing to do for ever; or it ran
 -- as many callbacks as it may.
-abbrev pub EndsBy : LoopEnding → (now : Loop Seats) → (ran : ℕ) → Type 0
+abbrev pub EndsBy : {S : Type 0} → LoopEnding → (now : Loop S) → (ran : ℕ) → Type 0
 EndsBy ending.Over now ran = now.state.status ≡ status.Over
 EndsBy ending.Failed now ran = now.state.status ≡ status.Failed
 EndsBy ending.Waiting now ran = (now.state.requests.outstanding ≡ []) × (hint_of now.state ≡ Forever)
 EndsBy ending.Limit now ran = ran ≡ MAX_CALLBACKS
 
 -- the loop has ended so, or may run callbacks yet
-abbrev pub ComesTo : Option LoopEnding → (now : Loop Seats) → (ran : ℕ) → Type 0
+abbrev pub ComesTo : {S : Type 0} → Option LoopEnding → (now : Loop S) → (ran : ℕ) → Type 0
 ComesTo None now ran = ran < MAX_CALLBACKS
 ComesTo (Some ending) now ran = EndsBy ending now ran
 
 -- A history of a loop of this setting from its opening, in which its callbacks put out these values, in order, and at
 -- whose end the loop has ended so.
-pub record HasEnded (g : Setting) (ending : LoopEnding) (emits : List ℕ) : Type 0 where
-  pub now : Loop Seats
+pub record HasEnded {S : Type 0} (calls : Calls S) (g : Setting) (ending : LoopEnding) (emits : List ℕ) : Type 0 where
+  pub now : Loop S
   pub ran : ℕ
   pub few : ran ≤ MAX_CALLBACKS
-  pub done : HasDone g now ran emits
+  pub done : HasDone calls g now ran emits
   pub ends : EndsBy ending now ran
 
--- the same of some loop of this number
+-- the same of some loop of this number, over its seats
 pub record HasServed (loop_no : ℕ) (ending : LoopEnding) (emits : List ℕ) : Type 0 where
   pub setting : Setting
   pub numbered : setting.loop_no ≡ loop_no
-  pub ended : HasEnded setting ending emits
+  pub ended : HasEnded thread_calls setting ending emits

@@ -1,3 +1,4 @@
 pub mod Answers
+pub mod AtDesk
 pub mod Histories
 pub mod Inner

@@ -1,6 +1,8 @@
-//! Laws of loops in threads. Their function does nothing: its contract is the law.
+//! Laws of loops in threads. Their functions do nothing: each contract is the law.
 
 ghost use Rattle.phases.specs.Laws.{IsAfterOnce, IsAfterOwn, IsAfterLast};
+ghost use Rattle.desk.specs.Laws.{IsAsAtDesk};
+ghost use Rattle.serve.specs.AtDesk.{IsServedAtDesk};
 ghost use Rattle.serve.specs.Histories.{thread_calls};
 
 use pool::Seats;
@@ -15,4 +17,14 @@ pub fn after_once()
     ensures last { IsAfterLast thread_calls }
 {
     phases::laws::after_once::<Seats<'_>>();
+}
+
+/// Loops in threads are as at a desk. In every history of a loop over its seats each event is one over a desk too, the same
+/// callback with the same arguments, as workers start requests there and others send between the loop's calls. So what
+/// `serve` answers of a loop is what that loop has done at a desk, where all stands in one thread.
+pub fn as_at_desk()
+    ensures each { IsAsAtDesk thread_calls }
+    ensures served { IsServedAtDesk }
+{
+    desk::laws::as_at_desk::<Seats<'_>>();
 }

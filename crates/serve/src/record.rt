@@ -31,7 +31,7 @@ pub struct Record<'a> {
     emits: Vec<u64>,
     account: Account,
     ghost few: { ran ≤ MAX_CALLBACKS },
-    ghost told: { ∥ HasDone core.setting core.loop ran emits.items ∥₁ },
+    ghost told: { ∥ HasDone thread_calls core.setting core.loop ran emits.items ∥₁ },
 }
 
 fn enters_timers(did: &StepDid) -> bool {

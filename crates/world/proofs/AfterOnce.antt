@@ -12,7 +12,7 @@ use Rattle.tallies.proofs.Requests.{either}
 use Rattle.events.specs.declared.did.StepDid.{StepDid}
 use Rattle.events.specs.declared.did.StepDid.TheVariants as did
 use Rattle.events.specs.declared.phase.EntryKind.TheVariants as kind
-use Rattle.phases.specs.Guests.{GuestCall, loop_calls}
+use Rattle.phases.specs.Guests.{GuestCall}
 use Rattle.phases.specs.History.{Event, History, IsOpening}
 use Rattle.phases.specs.Laws.{WasAsked, AreDue}
 use Rattle.phases.specs.Laws.{IsAfterOnce as LoopOnce, IsAfterOwn as LoopOwn, IsAfterLast as LoopLast, WasCancelled as LoopCancelled}
@@ -169,8 +169,8 @@ module _ (settings : List Setting) (j : ℕ) where
 
       pub own_after : LoopOwn desk_calls → IsOwn settings log Made w j r entry w'
       own_after law =
-          let it = law here.setting before.start here.old here.new before.events here.did here.new.state.emits (loop_calls desk_calls here.setting here.old here.did here.new here.steps) opening before.history (here.steps, refl, refl) r
-          (sym (step_callback j r here.did here.new.state.emits (loop_calls desk_calls here.setting here.old here.did here.new here.steps)) ∙ ap (is_after j r) (sym here.told) ∙ is) in
+          let it = law here.setting before.start here.old here.new before.events here.did here.new.state.emits here.made opening before.history (here.steps, refl) r
+          (sym (step_callback j r here.did here.new.state.emits here.made) ∙ ap (is_after j r) (sym here.told) ∙ is) in
           let due = due_same it.request.order it.completion _ _ (cancelled_same Opens (IsThere workers) r log Made here.setting here.old before) it.due in
           let answered = (finished_after settings workers steps log w run).loops j (core here.setting here.old) here.at in
           record {
@@ -180,7 +180,7 @@ module _ (settings : List Setting) (j : ℕ) where
             of_loop = before.begins.0;
             numbered = it.numbered;
             asked = subst (λ cs. WasAsked here.setting cs it.request.order) before.calls it.asked;
-            runs = record { old = here.old; new = here.new; did = here.did; at = here.at; runs = it.runs; told = here.told; after = here.after };
+            runs = record { old = here.old; new = here.new; did = here.did; made = here.made; at = here.at; runs = it.runs; told = here.told; after = here.after };
             due = due;
             finished = given_end log j r here.old.state.requests it.request it.completion (WasCancelled j r log Made) answered it.runs.stood it.numbered it.runs.given due;
           }

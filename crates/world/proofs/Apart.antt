@@ -14,7 +14,7 @@ use Rattle.order.specs.Work.{WorkOrder}
 use Rattle.tallies.proofs.Places.{set_here, set_apart}
 use Rattle.events.specs.declared.did.StepDid.{StepDid}
 use Rattle.events.specs.declared.did.StepDid.TheVariants as did
-use Rattle.phases.specs.Guests.{GuestCall, loop_calls}
+use Rattle.phases.specs.Guests.{GuestCall}
 use Rattle.phases.specs.Host.{next_work}
 use Rattle.phases.specs.Laws.{IsCancel}
 use Rattle.phases.specs.Laws.{IsHandedOnce as LoopHandedOnce, IsHandedOwn as LoopHandedOwn}
@@ -35,7 +35,7 @@ use Rattle.world_log.specs.declared.outcome.PostOutcome.TheVariants as post
 use Rattle.world_log.specs.declared.outcome.StartOutcome.TheVariants as start
 use Rattle.world_log.specs.declared.outcome.FinishOutcome.TheVariants as finish
 use Rattle.world_log.specs.declared.outcome.CollectOutcome.TheVariants as collect
-use Rattle.world.specs.Guests.{calls_of_loop, step_calls, guest_calls}
+use Rattle.world.specs.Guests.{step_calls, guest_calls}
 use Rattle.world.specs.Laws.{is_of_job, is_begun, is_finished, WasCancelled, AreInPlace}
 use Rattle.world.specs.World.{World, Worker, Idle, Taken, Started, Answer, Only, UnlessFailed, PostsOrder, TakesJob, StartsJob, FinishesJob, CollectsFrom, StepsLoop, WorldStep, WorldRun, HasLoop, opening_world, opening_loop, with_loop, with_worker, job_of, told_of, core}
 use Rattle.world.proofs.EndsAreLogged.{set_at}
@@ -498,30 +498,30 @@ module _ (l r : ℕ) where
     step_quiet n did.Over emits = (refl, refl)
     step_quiet n did.Failed emits = (refl, refl)
 
-    loop_next : (n : ℕ) (h : StepsLoop w n entry w') → Next (calls_of_loop l n w entry w' h)
+    loop_next : (n : ℕ) (h : StepsLoop w n entry w') → Next (cond (n == l) h.made [])
     loop_next n h = record {
       out = s.out;
       jobs = same_jobs (ap (λ (x : World). x.jobs) h.after);
       workers = same_workers (ap (λ (x : World). x.workers) h.after);
-      loops = set_loops n h.setting h.old h.new s.out (calls_of_loop l n w entry w' h) h.at (ap (λ (x : World). x.loops) h.after) here apart;
+      loops = set_loops n h.setting h.old h.new s.out (cond (n == l) h.made []) h.at (ap (λ (x : World). x.loops) h.after) here apart;
       there = λ b. set_some n (core h.setting h.new) (ap (λ (x : World). x.loops) h.after) ∙ s.there (begun_back q.0 b);
     } where
       q : IsQuiet entry
       q = let it = step_quiet n h.did h.new.state.emits in quiet _ h.told it.0 it.1
 
       more : List GuestCall
-      more = loop_calls desk_calls h.setting h.old h.did h.new h.steps
+      more = h.made
 
-      here : n ≡ l → IsApart r s.out (Won log made) (Begun log) h.old.state.requests h.old.shared → Here s.out (calls_of_loop l n w entry w' h) h.new
+      here : n ≡ l → IsApart r s.out (Won log made) (Begun log) h.old.state.requests h.old.shared → Here s.out (cond (n == l) h.made []) h.new
       here same was =
-          let calls : calls_of_loop l n w entry w' h ≡ more = rw (eq-eqb n l same) refl in
+          let calls : cond (n == l) h.made [] ≡ more = rw (eq-eqb n l same) refl in
           subst (λ cs. Here s.out cs h.new) (sym calls)
           (apart_less r s.out (Won log (made ++ more)) (Won Log (made ++ more)) (Begun log) (Begun Log) h.new.state.requests h.new.shared (won_back (made ++ more) q.1) (begun_back q.0)
-          (step_keeps desk_calls h.setting (Kept log s.out h.setting) (keeps log s.out h.setting) made h.old h.did h.new h.steps was))
+          (step_keeps desk_calls h.setting (Kept log s.out h.setting) (keeps log s.out h.setting) made h.made h.old h.did h.new h.steps was))
 
-      apart : n ≢ l → (p : Core Desk) → IsApart r s.out (Won log made) (Begun log) p.loop.state.requests p.loop.shared → Here s.out (calls_of_loop l n w entry w' h) p.loop
+      apart : n ≢ l → (p : Core Desk) → IsApart r s.out (Won log made) (Begun log) p.loop.state.requests p.loop.shared → Here s.out (cond (n == l) h.made []) p.loop
       apart other p was =
-          let calls : calls_of_loop l n w entry w' h ≡ [] = rw (ne_eqb n l other) refl in
+          let calls : cond (n == l) h.made [] ≡ [] = rw (ne_eqb n l other) refl in
           subst (λ cs. Here s.out cs p.loop) (sym calls) (less s.out p.loop.state.requests p.loop.shared q was)
 
     -- an order is handed out

@@ -164,7 +164,7 @@ module _ (w w' : World) (log : List LogEntry) (entry : LogEntry) (all : AreFinis
   loop_next : (n : ℕ) → StepsLoop w n entry w' → Next
   loop_next n h = record {
     loops = set_loops n h.setting h.new (ap (λ (x : World). x.loops) h.after)
-        (step_keeps desk_calls h.setting (Kept Log n) (keeps Log n h.setting) [] h.old h.did h.new h.steps (old_requests n h.setting h.old h.at));
+        (step_keeps desk_calls h.setting (Kept Log n) (keeps Log n h.setting) [] h.made h.old h.did h.new h.steps (old_requests n h.setting h.old h.at));
     replies = same_replies (ap (λ (x : World). x.replies) h.after);
   }
 

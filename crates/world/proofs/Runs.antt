@@ -1,5 +1,5 @@
 -- What the runs of a world are to one of its loops.
-use Rattle.std.proofs.Common.{◌≡◌, ◌≢◌, ◌↔◌, ℕ, zero, suc, ◌==◌, Bool, true, false, inl, inr, ◌⊎◌, List, [], ◌∷◌, ◌++◌, length, Option, Some, None, refl, sym, ap, subst, ◌∙◌, append_assoc, append-nil}
+use Rattle.std.proofs.Common.{◌≡◌, ◌≢◌, ◌↔◌, ℕ, zero, suc, ◌==◌, Bool, true, false, cond, inl, inr, ◌⊎◌, List, [], ◌∷◌, ◌++◌, length, Option, Some, None, refl, sym, ap, subst, ◌∙◌, append_assoc, append-nil}
 use Rattle.std.specs.Prelude.{pos, slice_get, slice_set}
 use Rattle.std.specs.Int.{w32, cast_signed}
 use Rattle.std.specs.List.{Contains, count_by}
@@ -13,7 +13,7 @@ use Rattle.events.specs.declared.did.StepDid.{StepDid}
 use Rattle.events.specs.declared.did.StepDid.TheVariants as did
 use Rattle.phases.specs.declared.entry.Status.{Status}
 use Rattle.phases.specs.declared.entry.Status.TheVariants.{Running, Over, Failed}
-use Rattle.phases.specs.Guests.{GuestCall, loop_calls}
+use Rattle.phases.specs.Guests.{GuestCall}
 use Rattle.phases.specs.History.{Event, Stepped, OrderAsked, EndOffered, CancelAnswered, ClockRaised, MovedBeside, EventStep, History, calls_in}
 use Rattle.phases.specs.History.{guest_calls as calls_within}
 use Rattle.phases.specs.Laws.{is_after_event}
@@ -31,7 +31,7 @@ use Rattle.world_log.specs.declared.entry.LogEntry.TheVariants as line
 use Rattle.world_log.specs.declared.outcome.PostOutcome.TheVariants as post
 use Rattle.world_log.specs.declared.outcome.CollectOutcome.TheVariants as collect
 use Rattle.world.specs.World.{World, Worker, Idle, Taken, Started, Answer, Only, UnlessFailed, StepsLoop, Posts, PostsOrder, TakesJob, StartsJob, FinishesJob, CollectsFrom, WorldStep, WorldRun, told_of, core}
-use Rattle.world.specs.Guests.{calls_of_loop, step_calls, guest_calls}
+use Rattle.world.specs.Guests.{step_calls, guest_calls}
 use Rattle.world.specs.Histories.{is_of_owner, Tells, AreTold}
 use Rattle.world.specs.Laws.{is_after}
 use Rattle.world.proofs.LogsTellHistories.{history_push, told_push, tells_callback, tells_cancel, contains_push, count_push}
@@ -270,12 +270,12 @@ module _ (Begins : Setting → Loop Desk → Type 0) (there : Bool) (j : ℕ) wh
     told_elsewhere n did.Over emits other = ne_eqb n j other
     told_elsewhere n did.Failed emits other = refl
 
-    loop_next : (w' : World) (n : ℕ) (entry : LogEntry) (h : StepsLoop w n entry w') → Next w' entry (calls_of_loop j n w entry w' h)
+    loop_next : (w' : World) (n : ℕ) (entry : LogEntry) (h : StepsLoop w n entry w') → Next w' entry (cond (n == j) h.made [])
     loop_next w' n entry h =
-        moved_with w' entry (calls_of_loop j n w entry w' h) n h.setting h.old h.new h.at (ap (λ x. x.loops) h.after) (same_replies w' (ap (λ x. x.replies) h.after))
+        moved_with w' entry (cond (n == j) h.made []) n h.setting h.old h.new h.at (ap (λ x. x.loops) h.after) (same_replies w' (ap (λ x. x.replies) h.after))
         (λ same. record {
-          event = Stepped h.did h.new.state.emits (loop_calls desk_calls h.setting h.old h.did h.new h.steps);
-          step = (h.steps, refl, refl);
+          event = Stepped h.did h.new.state.emits h.made;
+          step = (h.steps, refl);
           tells = h.told ∙ ap (λ k. told_of k h.did h.new.state.emits) same;
           calls = rw (eq-eqb n j same) refl;
         })

@@ -62,7 +62,7 @@ module _ (w : World) (ls : List (Core Desk)) (js : List WorkOrder) (hs : List Wo
   sends a ok q few e h = (p.setting, p.loop, q.loop, ok, few, here, h, refl, moved q e)
 
   pub steps : (did : StepDid) (q : Core Desk) (entry : LogEntry) → q.setting ≡ p.setting → LoopStep desk_calls p.setting p.loop did q.loop → entry ≡ told_of n did q.loop.state.emits → StepsLoop w n entry (world_of (slice_set ls n q) js hs rs)
-  steps did q entry e h told = record { setting = p.setting; old = p.loop; new = q.loop; did = did; at = here; steps = h; told = told; after = moved q e }
+  steps did q entry e h told = record { setting = p.setting; old = p.loop; new = q.loop; did = did; made = h.0; at = here; steps = h.1; told = told; after = moved q e }
 
 -- where no order is open, nothing is handed out
 handed_none : (rs : Requests) (o : Option Request) → (handing rs o).0 ≡ None → (handing rs o).1 ≡ rs

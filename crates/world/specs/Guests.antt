@@ -1,18 +1,14 @@
 -- What the guests called, as the steps of a run tell it.
 use Rattle.std.specs.Prelude.{ℕ, ◌==◌, List, [], ◌∷◌, ◌++◌, if◌then◌else◌}
-use Rattle.phases.specs.Guests.{GuestCall, loop_calls}
-use Rattle.desk.specs.Desk.{desk_calls}
+use Rattle.phases.specs.Guests.{GuestCall}
 use Rattle.world_log.specs.declared.step.Step.{Step}
 use Rattle.world_log.specs.declared.step.Step.TheVariants as step
 use Rattle.world_log.specs.declared.entry.LogEntry.{LogEntry}
-use Rattle.world.specs.World.{World, StepsLoop, WorldStep, WorldRun}
+use Rattle.world.specs.World.{World, WorldStep, WorldRun}
 
--- the calls of one loop's guest in a step
-abbrev pub calls_of_loop : (l n : ℕ) (w : World) (entry : LogEntry) (w' : World) → StepsLoop w n entry w' → List GuestCall
-calls_of_loop l n w entry w' h = if n == l then loop_calls desk_calls h.setting h.old h.did h.new h.steps else []
-
+-- the calls of one loop's guest in a step, which is the loop's own
 abbrev pub step_calls : (l : ℕ) (w : World) (s : Step) (entry : LogEntry) (w' : World) → WorldStep w s entry w' → List GuestCall
-step_calls l w (step.Loop n) entry w' h = calls_of_loop l n w entry w' h
+step_calls l w (step.Loop n) entry w' h = if n == l then h.made else []
 step_calls l w _ entry w' h = []
 
 -- the calls of one loop's guest in a run, in order

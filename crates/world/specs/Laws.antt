@@ -51,8 +51,9 @@ pub record RunsAfter (w : World) (l : ℕ) (q : Request) (g : Setting) (completi
   pub old : Loop Desk
   pub new : Loop Desk
   pub did : StepDid
+  pub made : List GuestCall
   pub at : HasLoop w l g old
-  pub runs : LoopRunsAfter desk_calls g old q completion did new
+  pub runs : LoopRunsAfter desk_calls g old q completion did made new
   pub told : entry ≡ told_of l did new.state.emits
   pub after : w' ≡ with_loop w l g new
 

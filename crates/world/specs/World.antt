@@ -11,8 +11,9 @@ use Rattle.events.specs.declared.did.StepDid.TheVariants as did
 use Rattle.phases.specs.Roster.{opening_roster}
 use Rattle.phases.specs.State.{Setting, Loop, State, opening, Core}
 use Rattle.phases.specs.PhaseList.{begin_list}
+use Rattle.phases.specs.Guests.{GuestCall}
 use Rattle.phases.specs.Host.{with_requests}
-use Rattle.phases.specs.Step.{LoopStep, in_state}
+use Rattle.phases.specs.Step.{StepsWith, in_state}
 use Rattle.phases.specs.Outside.{is_failed, next_order_of, Takes, answered, after_clock, CancelIn, StartsBeside, SendsBeside}
 use Rattle.desk.specs.Desk.{Desk, new_desk, desk_calls, desk_others}
 use Rattle.world_log.specs.declared.step.Step.{Step}
@@ -99,13 +100,15 @@ told_of n (did.Skipped kind number) emits = line.Skipped n kind number
 told_of n did.Over emits = line.Over n
 told_of n did.Failed emits = line.Failed n
 
+-- a step of a loop, in which its guest calls this
 pub record StepsLoop (w : World) (n : ℕ) (entry : LogEntry) (w' : World) : Type 0 where
   pub setting : Setting
   pub old : Loop Desk
   pub new : Loop Desk
   pub did : StepDid
+  pub made : List GuestCall
   pub at : HasLoop w n setting old
-  pub steps : LoopStep desk_calls setting old did new
+  pub steps : StepsWith desk_calls setting old did made new
   pub told : entry ≡ told_of n did new.state.emits
   pub after : w' ≡ with_loop w n setting new
 

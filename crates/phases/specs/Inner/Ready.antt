@@ -1,6 +1,7 @@
 -- What a loop has listed is there as the list comes to it.
-use Rattle.std.specs.Prelude.{◌≡◌, ◌≢◌, ℕ, true, List, All, AllPairs, Some, MatchOption, codes}
+use Rattle.std.specs.Prelude.{◌≡◌, ◌≢◌, ℕ, ◌≤◌, true, List, length, All, AllPairs, Some, MatchOption, codes}
 use Rattle.std.specs.Option.{is_some}
+use Rattle.limits.specs.declared.TheConstants.{MAX_ASYNCS}
 use Rattle.syntax.specs.declared.contents.Contents.{Contents}
 use Rattle.handles.specs.Table.{IsClosing}
 use Rattle.phases.specs.declared.entry.Entry.{Entry}
@@ -40,11 +41,12 @@ pub record AreReady (m : Contents) (s : State) : Type 0 where
   pub apart : AreApart s.list
 
 -- What no call takes away, a guest's or its owner's. The list, the phase and the functions of callbacks stay; a settled
--- request stays so, an async keeps its handle, and a closing handle stays closing.
+-- request stays so, an async keeps its handle, asyncs are no more than MAX_ASYNCS, and a closing handle stays closing.
 pub record Grows (s t : State) : Type 0 where
   pub list : t.list ≡ s.list
   pub phase : t.phase ≡ s.phase
   pub callbacks : t.roster.callbacks ≡ s.roster.callbacks
   pub settled : (number : ℕ) → IsSettledIn s.requests number → IsSettledIn t.requests number
   pub asyncs : (async_no handle : ℕ) → async_handle s.roster async_no ≡ Some handle → async_handle t.roster async_no ≡ Some handle
+  pub few : length s.roster.asyncs ≤ MAX_ASYNCS → length t.roster.asyncs ≤ MAX_ASYNCS
   pub closing : (handle : ℕ) → IsClosing s.roster.handles handle → IsClosing t.roster.handles handle

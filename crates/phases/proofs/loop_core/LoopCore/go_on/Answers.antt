@@ -1,11 +1,11 @@
-use Rattle.std.proofs.Common.{sym, subst, ap, drop, ◌∙◌, List}
+use Rattle.std.proofs.Common.{refl, sym, subst, ap, drop, ◌∙◌, List, []}
 use Rattle.std.specs.Arc.{arc_value}
 use Rattle.phases.specs.Inner.Keeping.{Keeps, AreOrdersOf}
 use Rattle.phases.specs.Inner.Ready.{IsReady}
 use Rattle.phases.specs.Requests.{Requests}
 use Rattle.phases.specs.Roster.{Roster}
 use Rattle.phases.specs.Inner.Setting.{setting_of}
-use Rattle.phases.specs.State.{State}
+use Rattle.phases.specs.State.{State, Loop}
 use Rattle.phases.specs.Step.{ListStep, EntryStep}
 use Rattle.phases.specs.declared.entry.Entry.{Entry}
 use Rattle.phases.specs.View.{AreOpenedUpTo}
@@ -67,6 +67,20 @@ returns-clause-step g c =
     let s = c.self.inside.host.state in
     let is = front_of s.list c.in-Some.entry (sym c.front.ensures ∙ c.in-Some.is) in
     let set = setting_of c.self.inside.host.setting in
-    subst (λ now. ListStep g.B.Shared.calls now.setting now.loop now.loop.state.list c.run.result c.run.new.self.loop) c.self.view_is
-    (subst (λ (list : List Entry). ListStep g.B.Shared.calls set (record { state = s; store = c.self.inside.instance; shared = c.self.inside.host.shared }) list c.run.result c.run.new.self.loop) (sym is)
-    (subst (λ (u : State). EntryStep g.B.Shared.calls set (record { state = u; store = c.self.inside.instance; shared = c.self.inside.host.shared }) c.in-Some.entry c.run.result c.run.new.self.loop) c.pop.ensures c.run.ensures.step))
+    let made = c.run.ensures.step.0 in (
+      made,
+      subst (λ now. ListStep g.B.Shared.calls now.setting now.loop now.loop.state.list c.run.result made c.run.new.self.loop) c.self.view_is
+          (subst (λ (list : List Entry). ListStep g.B.Shared.calls set (record { state = s; store = c.self.inside.instance; shared = c.self.inside.host.shared }) list c.run.result made c.run.new.self.loop) (sym is)
+          (subst (λ (u : State). EntryStep g.B.Shared.calls set (record { state = u; store = c.self.inside.instance; shared = c.self.inside.host.shared }) c.in-Some.entry c.run.result made c.run.new.self.loop) c.pop.ensures c.run.ensures.step.1)),
+    )
+
+pub returns-in_default-clause-step : goal.returns-in_default-clause-step
+returns-in_default-clause-step g c =
+    let s = c.self.inside.host.state in
+    let set = setting_of c.self.inside.host.setting in
+    let empty = no_front s.list (sym c.front.ensures ∙ c.in_default.is) in
+    let over : State → Loop _ = λ u. record { state = u; store = c.self.inside.instance; shared = c.self.inside.host.shared } in (
+      [],
+      subst (λ now. ListStep g.B.Shared.calls now.setting now.loop now.loop.state.list c.turn.result [] (over c.turn.new.self)) c.self.view_is
+          (subst (λ (list : List Entry). ListStep g.B.Shared.calls set (over s) list c.turn.result [] (over c.turn.new.self)) (sym empty) (c.turn.ensures.did, ap over c.turn.ensures.state, refl)),
+    )

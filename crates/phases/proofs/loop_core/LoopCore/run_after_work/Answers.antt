@@ -56,6 +56,6 @@ returns-clause-step g c =
     let t = c.take_request-completion.result in
     let old : Loop _ = record { state = s; store = c.self.inside.instance; shared = c.self.inside.host.shared } in
     let exported = subst (λ (x : Loaded). ExportsFunction x.contents (name_of_entry AfterWorkExport) c.in-Some.function) (c.deref.ensures ∙ c.self.invariant.same) c.in-Some.ensures.found in
-    let run = subst (λ (u : State). RunsFrom g.B.Shared.calls set (in_state old u) After c.args.request c.in-Some.function (I32 c.args.request ∷ I32 t.kind ∷ I32 t.code ∷ []) (Some t.bytes.items) c.call.result c.call.new.self.loop)
-    c.take_request-completion.ensures.removed c.call.ensures.run in
-    rw (← c.self.view_is) (told_of (request_of s.requests c.args.request) (completion_in t) (λ x. AfterWork g.B.Shared.calls set old c.args.request x c.call.result c.call.new.self.loop) c.take_request-completion.ensures.completion (c.in-Some.function, exported, run))
+    let run = subst (λ (u : State). RunsFrom g.B.Shared.calls set (in_state old u) After c.args.request c.in-Some.function (I32 c.args.request ∷ I32 t.kind ∷ I32 t.code ∷ []) (Some t.bytes.items) c.call.result c.call.ensures.run.0 c.call.new.self.loop)
+    c.take_request-completion.ensures.removed c.call.ensures.run.1 in
+    (c.call.ensures.run.0, rw (← c.self.view_is) (told_of (request_of s.requests c.args.request) (completion_in t) (λ x. AfterWork g.B.Shared.calls set old c.args.request x c.call.result c.call.ensures.run.0 c.call.new.self.loop) c.take_request-completion.ensures.completion (c.in-Some.function, exported, run)))

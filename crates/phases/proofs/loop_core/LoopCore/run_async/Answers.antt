@@ -24,9 +24,11 @@ returns-then-take-eq0-clause-step g c =
     let new : Loop _ = record { state = s; store = c.self.inside.instance; shared = c.take.new.self } in
     let is : async_handle s.roster c.args.async_no ≡ Some handle = sym c.in-Some.ensures.value in
     let same = same_some (async_handle s.roster c.args.async_no) c.in-Some-active_async.field-0-0 handle c.in-Some-active_async.ensures.some.1 is in
-    let active = subst (λ n. is_active_handle s.roster.handles (Some n) ≡ true) same c.in-Some-active_async.ensures.some.0 in
-    rw (← c.self.view_is) (active_step (async_handle s.roster c.args.async_no) handle (λ h. is_active_handle s.roster.handles (Some h)) (λ h. TakesFirst g.B.Shared.calls set old c.args.async_no h _ new) (λ h. Skips g.B.Shared.calls set old Async h _ new) is active
-    (c.take.result, c.take.new.self, c.take.ensures, none_taken c.take.result _ _ c.if-take-eq0.true (refl, refl)))
+    let active = subst (λ n. is_active_handle s.roster.handles (Some n) ≡ true) same c.in-Some-active_async.ensures.some.0 in (
+      [],
+      rw (← c.self.view_is) (active_step (async_handle s.roster c.args.async_no) handle (λ h. is_active_handle s.roster.handles (Some h)) (λ h. TakesFirst g.B.Shared.calls set old c.args.async_no h _ [] new) (λ h. Skips g.B.Shared.calls set old Async h _ [] new) is active
+          (c.take.result, c.take.new.self, c.take.ensures, none_taken c.take.result _ _ c.if-take-eq0.true (refl, refl, refl))),
+    )
 
 pub call_handle-requires : goal.call_handle-requires
 call_handle-requires g c = record {
@@ -43,7 +45,10 @@ returns-clause-step g c =
     let same = same_some (async_handle s.roster c.args.async_no) c.in-Some-active_async.field-0-0 handle c.in-Some-active_async.ensures.some.1 is in
     let active = subst (λ n. is_active_handle s.roster.handles (Some n) ≡ true) same c.in-Some-active_async.ensures.some.0 in
     let function = subst (λ n. handle_function s.roster n ≡ Some c.in-Some-active_async.function) same c.in-Some-active_async.ensures.some.2 in
-    let run : CallsHandle g.B.Shared.calls set (sharing old c.take.new.self) s.roster Async handle c.call_handle.result c.call_handle.new.self.loop =
-    called (handle_function s.roster handle) c.in-Some-active_async.function (λ f. RunsFrom g.B.Shared.calls set (sharing old c.take.new.self) Async handle f (I32 handle ∷ []) None c.call_handle.result c.call_handle.new.self.loop) function c.call_handle.ensures.run in
-    rw (← c.self.view_is) (active_step (async_handle s.roster c.args.async_no) handle (λ h. is_active_handle s.roster.handles (Some h)) (λ h. TakesFirst g.B.Shared.calls set old c.args.async_no h c.call_handle.result c.call_handle.new.self.loop) (λ h. Skips g.B.Shared.calls set old Async h c.call_handle.result c.call_handle.new.self.loop) is active
-    (c.take.result, c.take.new.self, c.take.ensures, some_taken c.take.result _ _ c.if-take-eq0.false run))
+    let made = c.call_handle.ensures.run.0 in
+    let run : CallsHandle g.B.Shared.calls set (sharing old c.take.new.self) s.roster Async handle c.call_handle.result made c.call_handle.new.self.loop =
+    called (handle_function s.roster handle) c.in-Some-active_async.function (λ f. RunsFrom g.B.Shared.calls set (sharing old c.take.new.self) Async handle f (I32 handle ∷ []) None c.call_handle.result made c.call_handle.new.self.loop) function c.call_handle.ensures.run.1 in (
+      made,
+      rw (← c.self.view_is) (active_step (async_handle s.roster c.args.async_no) handle (λ h. is_active_handle s.roster.handles (Some h)) (λ h. TakesFirst g.B.Shared.calls set old c.args.async_no h c.call_handle.result made c.call_handle.new.self.loop) (λ h. Skips g.B.Shared.calls set old Async h c.call_handle.result made c.call_handle.new.self.loop) is active
+          (c.take.result, c.take.new.self, c.take.ensures, some_taken c.take.result _ _ c.if-take-eq0.false run)),
+    )

@@ -50,7 +50,10 @@ square() {
     run "LOOP/wasmloop script square.json | sed 's/ used [0-9]*//'"
     cp told square.expected
     prints "$(block 'square.expected'); echo the log is as it was" "the log is as it was"
-    run "$(block 'low=0')"
+    run "$(block 'served.steps')"
+    cp told played
+    prints "grep -v '^loop 0: ' served.log | cmp - played; echo the served run is taken again" "the served run is taken again"
+    run "$(inline 'LOOP/wasmloop work square.wasm 12 --trace') 2>&1 >/dev/null | sed 's/used //; s/ of .*//'"
     prints "LOOP/wasmloop work square.wasm 12 --fuel $(cat told)" "$(inline 'done 144')"
 }
 rust() {

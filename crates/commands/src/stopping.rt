@@ -30,6 +30,17 @@ pub struct Stopped<'a> {
     pub trail: &'a Trail,
 }
 
+/// How a work function ended, as a log tells it.
+pub fn ending_of(outcome: &Outcome) -> JobEnd {
+    match outcome {
+        Outcome::Done(value, _) => JobEnd::Done(*value),
+        Outcome::Trap(trap) => JobEnd::Trap(*trap),
+        Outcome::Depth => JobEnd::Depth,
+        Outcome::Spent => JobEnd::Spent,
+        Outcome::NoMemory => JobEnd::NoMemory,
+    }
+}
+
 impl Reason {
     /// Why a call did not return, if it didn't.
     pub fn of_ending(ending: &Ending) -> Option<Reason> {
@@ -42,16 +53,6 @@ impl Reason {
     }
 
     /// Why a work function did not return, if it didn't.
-    pub fn of_outcome(outcome: &Outcome) -> Option<Reason> {
-        match outcome {
-            Outcome::Done(_, _) | Outcome::NoMemory => None,
-            Outcome::Trap(trap) => Some(Reason::Trap(*trap)),
-            Outcome::Depth => Some(Reason::Depth),
-            Outcome::Spent => Some(Reason::Spent),
-        }
-    }
-
-    /// The same, of what a log tells.
     pub fn of_work(ending: JobEnd) -> Option<Reason> {
         match ending {
             JobEnd::Done(_) | JobEnd::NoMemory => None,
@@ -75,7 +76,7 @@ impl<'a> Stopped<'a> {
     /// How the run of an order ended, if it did not return.
     pub fn of_told(told: &'a Told) -> Option<Stopped<'a>> {
         Some(Stopped {
-            reason: Reason::of_outcome(&told.reply.outcome)?,
+            reason: Reason::of_work(ending_of(&told.reply.outcome))?,
             used: told.used,
             trail: told.trail.as_ref()?,
         })

@@ -104,7 +104,7 @@ impl Teller<'_> {
         }
     }
 
-    /// The greatest fuel that a callback used, if that is asked for.
+    /// The greatest fuel that a callback used and that a work function did, if that is asked for.
     fn tell_most<E: Write>(&self, served: &Served, err: &mut E) -> io::Result<()> {
         if !self.service.is_traced {
             return Ok(());
@@ -114,6 +114,14 @@ impl Teller<'_> {
         writeln!(
             err,
             "loop {loop_no}: a callback used {most} of {fuel} units at most"
+        )?;
+        let Some(most) = served.account.most_work() else {
+            return Ok(());
+        };
+        let fuel = self.service.settings.work_fuel;
+        writeln!(
+            err,
+            "loop {loop_no}: a work function used {most} of {fuel} units at most"
         )
     }
 

@@ -1,6 +1,8 @@
-// What is told where it is asked for: what was used, and what loops do, as they do it.
+// What is told where it is asked for: what was used, and what loops and workers do, as they do it.
 
+use crate::stopping::ending_of;
 use events::did::StepDid;
+use order::Reply;
 use script::print_entry;
 use serve::Watch;
 use std::alloc::Global;
@@ -8,14 +10,14 @@ use std::io::{self, Write};
 use std::sync::{Mutex, Wait};
 use syntax::items::Items;
 use world::told;
-use world_log::{CollectOutcome, LogEntry, PostOutcome};
+use world_log::{CollectOutcome, FinishOutcome, JobId, LogEntry, PostOutcome, StartOutcome};
 
 /// Tells how many units of fuel were used, of how many.
 pub fn tell_used<E: Write>(used: u64, fuel: u64, err: &mut E) -> io::Result<()> {
     writeln!(err, "used {used} of {fuel} units")
 }
 
-/// Writes the lines of the log of what loops do.
+/// Writes the lines of the log of what loops and workers do.
 #[derive(Drop)]
 pub struct Trace<'a, E> {
     alloc: Global,
@@ -40,6 +42,10 @@ impl<'a, E: Write> Trace<'a, E> {
 }
 
 impl<E: Write> Watch for Trace<'_, E> {
+    fn measures_work(&self) -> bool {
+        true
+    }
+
     fn step<R: Wait>(&self, rt: &R, loop_no: u32, did: StepDid, emits: &[u64]) {
         if let Ok(emits) = Vec::from_slice(self.alloc, emits) {
             self.write(rt, &told(loop_no, did, Items::from_vec(emits)));
@@ -62,5 +68,38 @@ impl<E: Write> Watch for Trace<'_, E> {
 
     fn clock<R: Wait>(&self, rt: &R, loop_no: u32, clock: u64) {
         self.write(rt, &LogEntry::Clock { loop_no, clock });
+    }
+
+    fn take<R: Wait>(&self, rt: &R, worker_no: u32, loop_no: u32, request: u32) {
+        let entry = LogEntry::Take {
+            worker: worker_no,
+            job: Some(JobId { loop_no, request }),
+        };
+        self.write(rt, &entry);
+    }
+
+    fn start<R: Wait>(&self, rt: &R, worker_no: u32, loop_no: u32, request: u32, is_begun: bool) {
+        let job = JobId { loop_no, request };
+        let entry = LogEntry::Start {
+            worker: worker_no,
+            outcome: if is_begun {
+                StartOutcome::Begun(job)
+            } else {
+                StartOutcome::Dropped(job)
+            },
+        };
+        self.write(rt, &entry);
+    }
+
+    fn finish<R: Wait>(&self, rt: &R, worker_no: u32, reply: &Reply) {
+        let job = JobId {
+            loop_no: reply.order.loop_no,
+            request: reply.order.request,
+        };
+        let entry = LogEntry::Finish {
+            worker: worker_no,
+            outcome: FinishOutcome::Ended(job, ending_of(&reply.outcome)),
+        };
+        self.write(rt, &entry);
     }
 }

@@ -42,10 +42,12 @@ pub fn work_one<G: Gate, R: Wait>(
     let ticket = job.ticket;
     gate.at(Point::Taken, ticket);
     if !claims.start(seat, ticket) {
+        gate.at(Point::Dropped, ticket);
         return Did::Dropped(ticket);
     }
     gate.at(Point::Started, ticket);
     let reply = job.call(seat);
+    gate.replies(&reply);
     gate.at(Point::Finished, ticket);
     match board.put_reply(rt, pass, reply) {
         Ok(()) => {

@@ -1,5 +1,6 @@
 // What a loop did last, for those who want to know why it ended.
 
+use crate::meter::Meter;
 use events::did::StepDid;
 use events::ended::{Ended, Ending};
 use events::phase::{EntryKind, Phase};
@@ -20,12 +21,13 @@ pub struct Callback {
     pub number: u32,
 }
 
-/// What a loop did last, and what its callbacks used.
+/// What a loop did last, and what its callbacks and its work functions used.
 pub struct Account {
     last: Option<Callback>,
     in_row: u32,
     stopped: Option<Ended>,
     most_used: u64,
+    work: Meter,
     now: u64,
     asyncs: Vec<u32>,
     undone: Vec<Order>,
@@ -38,6 +40,7 @@ impl Drop for Account {
             in_row: _,
             stopped: _,
             most_used: _,
+            work: _,
             now: _,
             asyncs: _,
             undone: _,
@@ -74,13 +77,14 @@ fn copy_of(order: &Order) -> Result<Order, AllocError> {
 }
 
 impl Account {
-    /// Of a loop that has done nothing.
-    pub(crate) fn empty(alloc: Global) -> Result<Account, AllocError> {
+    /// Of a loop that has done nothing. What its work functions use is kept if that is asked for.
+    pub(crate) fn empty(alloc: Global, measures_work: bool) -> Result<Account, AllocError> {
         Ok(Account {
             last: None,
             in_row: 0,
             stopped: None,
             most_used: 0,
+            work: Meter::begun(alloc, measures_work)?,
             now: 0,
             asyncs: Vec::with_capacity(alloc, MAX_ASYNCS)?,
             undone: Vec::with_capacity(alloc, MAX_UNDONE)?,
@@ -169,6 +173,17 @@ impl Account {
         self.most_used
     }
 
+    /// The greatest number of units of fuel that a work function used, with the start function before it. None where none ran,
+    /// and where nobody asked for it.
+    pub fn most_work(&self) -> Option<u64> {
+        self.work.most()
+    }
+
+    /// That to which tasks tell what they use.
+    pub(crate) fn meter(&self) -> Result<Meter, AllocError> {
+        self.work.shared()
+    }
+
     /// The loop's cached now, in milliseconds.
     pub fn now(&self) -> u64 {
         self.now
@@ -186,6 +201,7 @@ impl Account {
             in_row: _,
             stopped: _,
             most_used: _,
+            work: _,
             now: _,
             asyncs: _,
             undone,

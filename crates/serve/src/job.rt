@@ -2,8 +2,10 @@
 ghost use Rattle.std.specs.Prelude.{◌≡◌, length};
 ghost use Rattle.board.specs.Boards.{IsPassOf};
 
+use crate::watch::Watch;
 use board::{Board, JobBox, Pass};
 use claims::{Claims, Ticket, WorkerSeat};
+use order::Reply;
 use pool::{Gate, Point, work_until_closed};
 use std::sync::Wait;
 
@@ -12,33 +14,58 @@ use std::sync::Wait;
 /// What makes jobs is a type parameter of what serves, and a bound on it can't name a job that is a box of a closure.
 /// So what jobs it makes is a type parameter too.
 pub trait Job: Drop {
-    /// Works on the jobs of the board until it is closed.
-    fn work<R: Wait>(
+    /// Works on the jobs of the board until it is closed, and tells what is done with each.
+    fn work<R: Wait, W: Watch>(
         rt: &R,
         board: &Board<Self>,
         pass: &mut Pass<Self>,
         claims: &Claims,
         seat: &mut WorkerSeat,
+        watch: &W,
     )
         requires own { IsPassOf board.now pass.old × (seat.old.claims ≡ claims.now.id) }
         requires loops { length board.now.replies ≡ claims.now.loops };
 }
 
-// Watches nobody.
-struct Open;
+// Tells what a worker does. It holds nobody.
+#[derive(Drop)]
+struct Watched<'a, R, W> {
+    rt: &'a R,
+    watch: &'a W,
+    worker_no: u32,
+}
 
-impl Gate for Open {
-    fn at(&self, _point: Point, _ticket: Ticket) {}
+impl<R: Wait, W: Watch> Gate for Watched<'_, R, W> {
+    fn at(&self, point: Point, ticket: Ticket) {
+        let (loop_no, request) = (ticket.loop_no, ticket.request);
+        let (rt, worker_no) = (self.rt, self.worker_no);
+        match point {
+            Point::Taken => self.watch.take(rt, worker_no, loop_no, request),
+            Point::Dropped => self.watch.start(rt, worker_no, loop_no, request, false),
+            Point::Started => self.watch.start(rt, worker_no, loop_no, request, true),
+            Point::Finished | Point::Replied => {}
+        }
+    }
+
+    fn replies(&self, reply: &Reply) {
+        self.watch.finish(self.rt, self.worker_no, reply);
+    }
 }
 
 impl Job for JobBox {
-    fn work<R: Wait>(
+    fn work<R: Wait, W: Watch>(
         rt: &R,
         board: &Board<JobBox>,
         pass: &mut Pass<JobBox>,
         claims: &Claims,
         seat: &mut WorkerSeat,
+        watch: &W,
     ) {
-        work_until_closed(rt, board, pass, claims, seat, &Open);
+        let gate = Watched {
+            rt,
+            watch,
+            worker_no: seat.worker_no(),
+        };
+        work_until_closed(rt, board, pass, claims, seat, &gate);
     }
 }

@@ -11,6 +11,7 @@
 mod account;
 mod job;
 pub mod laws;
+mod meter;
 mod place;
 mod plan;
 mod record;

@@ -5,6 +5,7 @@ ghost use Rattle.claims.specs.Views.{new_loop_view};
 ghost use Rattle.serve.specs.Inner.Places.{IsNewSeat, EachFrom};
 
 use crate::job::Job;
+use crate::watch::Watch;
 use board::{Board, Pass};
 use claims::{Claims, LoopSeat, WorkerSeat};
 use std::alloc::{AllocError, Global};
@@ -39,15 +40,15 @@ pub struct LoopPlace<'a, J> {
 }
 
 impl<J: Job> WorkerPlace<'_, J> {
-    /// Works until the board is closed.
-    pub fn work<R: Wait>(self, rt: &R) {
+    /// Works until the board is closed, and tells what is done.
+    pub fn work<R: Wait, W: Watch>(self, rt: &R, watch: &W) {
         let WorkerPlace {
             board,
             mut pass,
             claims,
             mut seat,
         } = self;
-        J::work(rt, board, &mut pass, claims, &mut seat);
+        J::work(rt, board, &mut pass, claims, &mut seat, watch);
     }
 }
 

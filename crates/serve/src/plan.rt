@@ -90,7 +90,7 @@ impl Plan {
         ensures { IfOk result (λ s. IsServed (setting_at (arc_value self.now.linked) self.now.serving place.entry.seat.loop_no) s) }
     {
         let (marks, taker) = own_marks(self.alloc)?;
-        let turns = self.begin(&marks, taker, place)?;
+        let turns = self.begin(&marks, taker, place, watch.measures_work())?;
         turns.run(rt, make, watch)
     }
 
@@ -100,13 +100,22 @@ impl Plan {
         marks: &'a Marks,
         taker: TakeSeat,
         place: LoopPlace<'a, J>,
+        measures_work: bool,
     ) -> Result<Turns<'a, J>, AllocError>
         requires { taker ≡ new_taker marks.now 0 }
         ensures setting { IfOk result (λ t. t.told.core.setting ≡ setting_at (arc_value self.now.linked) self.now.serving place.entry.seat.loop_no) }
         ensures room { IfOk result (λ t. t.told.ran < MAX_CALLBACKS) }
     {
         let linked = Arc::try_clone(&self.linked)?;
-        Turns::new(self.alloc, linked, marks, taker, place, self.serving)
+        Turns::new(
+            self.alloc,
+            linked,
+            marks,
+            taker,
+            place,
+            self.serving,
+            measures_work,
+        )
     }
 }
 

@@ -11,6 +11,7 @@ ghost use Rattle.serve.specs.Answers.{IsServed};
 ghost use Rattle.serve.specs.Histories.{HasDone, EndsBy, ComesTo, thread_calls};
 
 use crate::account::Account;
+use crate::meter::Meter;
 use crate::served::{LoopEnding, Served};
 use crate::watch::Watch;
 use events::did::{Hint, StepDid};
@@ -87,6 +88,11 @@ impl<'a> Record<'a> {
         ensures ran { self.new.ran ≡ self.old.ran }
     {
         self.core.next_order()
+    }
+
+    /// That to which the loop's tasks tell what they use.
+    pub fn meter(&self) -> Result<Meter, AllocError> {
+        self.account.meter()
     }
 
     /// Steps until the timers phase is entered or the loop has ended, and tells each step. How it ended, if it did.

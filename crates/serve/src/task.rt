@@ -5,19 +5,21 @@ ghost use Rattle.board.specs.Jobs.{ticket_of};
 ghost use Rattle.order.specs.Orders.{order_of};
 ghost use Rattle.order.specs.Runnable.{CanRun};
 
+use crate::meter::Meter;
 use claims::Ticket;
-use order::{Order, Reply};
+use order::{Order, Reply, Told};
 use std::alloc::Global;
 use std::marker::Model;
 
 /// An order that can be run, of a loop and a slot that can be. To a contract it is the order.
 pub struct Task {
     order: Order,
+    meter: Meter,
 }
 
 impl Drop for Task {
     fn drop(self) {
-        let Task { order: _ } = self;
+        let Task { order: _, meter: _ } = self;
     }
 }
 
@@ -40,13 +42,13 @@ impl Model for Task {
 }
 
 impl Task {
-    /// The order as a task.
-    pub fn new(order: Order) -> Task
+    /// The order as a task, which tells the meter what it uses.
+    pub(crate) fn new(order: Order, meter: Meter) -> Task
         requires runs { CanRun (order_of order) }
         requires there { (order.loop_no < MAX_LOOPS) × (order.slot < MAX_REQUESTS) }
         ensures { result ≡ order }
     {
-        Task { order }
+        Task { order, meter }
     }
 
     /// The ticket of its request, whose loop is below `MAX_LOOPS` and whose slot is below `MAX_REQUESTS`.
@@ -65,7 +67,9 @@ impl Task {
     pub fn run(self, alloc: Global) -> Reply
         ensures { result.order ≡ self }
     {
-        let Task { order } = self;
-        order.run(alloc)
+        let Task { order, meter } = self;
+        let Told { reply, used, .. } = order.run_told(alloc);
+        meter.saw(used);
+        reply
     }
 }

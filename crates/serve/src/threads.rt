@@ -43,7 +43,7 @@ pub fn serve<R: Threads + Wait + Sync, M: Fn(Task) -> Result<J, AllocError> + Sy
     serve_watched(rt, alloc, linked, serving, make, &Nobody)
 }
 
-/// Serves as `serve` does, and tells `watch` what the loops do, as they do it.
+/// Serves as `serve` does, and tells `watch` what the loops and the workers do, as they do it.
 pub fn serve_watched<
     R: Threads + Wait + Sync,
     M: Fn(Task) -> Result<J, AllocError> + Sync,
@@ -146,7 +146,7 @@ fn run_all<
             ensures count { IfOk result (λ served. length served.items ≡ length loops.entry.items) }
             ensures each { IfOk result (λ served. EachServed (arc_value plan.entry.now.linked) plan.entry.now.serving served.items) }
         {
-            let served = match start_workers(scope, rt, workers) {
+            let served = match start_workers(scope, rt, workers, watch) {
                 Ok(()) => run_loops(scope, rt, plan, loops, make, watch),
                 Err(AllocError) => Err(AllocError),
             };
@@ -157,18 +157,19 @@ fn run_all<
 }
 
 // A thread for each worker.
-fn start_workers<'s, R: Wait + Sync, J: Job + Send, E>(
+fn start_workers<'s, R: Wait + Sync, J: Job + Send, W: Watch + Sync, E>(
     scope: &Scope<'s, E>,
     rt: &'s R,
     places: Vec<WorkerPlace<'s, J>>,
+    watch: &'s W,
 ) -> Result<(), AllocError>
-    requires sync { IsSync R.row }
+    requires sync { IsSync R.row × IsSync W.row }
 {
     for place in places {
         scope.spawn(
             move ||
-                requires sync { IsSync R.row }
-            { place.work(rt) },
+                requires sync { IsSync R.row × IsSync W.row }
+            { place.work(rt, watch) },
         )?;
     }
     Ok(())

@@ -47,6 +47,7 @@ impl<'a, J: Drop> Turns<'a, J> {
         taker: TakeSeat,
         place: LoopPlace<'a, J>,
         serving: Serving,
+        measures_work: bool,
     ) -> Result<Turns<'a, J>, AllocError>
         requires { taker ≡ new_taker marks.now 0 }
         ensures setting { IfOk result (λ t. t.told.core.setting ≡ setting_at (arc_value linked) serving place.entry.seat.loop_no) }
@@ -69,7 +70,7 @@ impl<'a, J: Drop> Turns<'a, J> {
             serving.settings.work_fuel,
             serving.settings.depth,
         )?;
-        let account = Account::empty(alloc)?;
+        let account = Account::empty(alloc, measures_work)?;
         Ok(Turns {
             board,
             pass,
@@ -241,6 +242,7 @@ impl<'a, J: Drop> Turns<'a, J> {
             return Ok(None);
         };
         watch.post(rt, self.loop_no, order.request);
-        Ok(Some(make(Task::new(order))?))
+        let meter = self.told.meter()?;
+        Ok(Some(make(Task::new(order, meter))?))
     }
 }

@@ -24,6 +24,17 @@ pub fn read_line(line: &str) -> Line<'_> {
     }
 }
 
+/// The words that are looked for in the lines of standard error, if all others are left out, and the command.
+pub fn only_and_command(line: &str) -> (Option<&str>, &str) {
+    match line
+        .strip_prefix("only ")
+        .and_then(|rest| rest.split_once(' '))
+    {
+        Some((words, command)) => (Some(words), command),
+        None => (None, line),
+    }
+}
+
 fn bytes_line(rest: &str) -> Line<'_> {
     let (name, digits) = rest.split_once(' ').unwrap_or((rest, ""));
     Line::Bytes { name, digits }

@@ -3,7 +3,8 @@
 //! Standard input has a line for each command: its words, as the program takes them behind its own name. The files that
 //! they name stand in the list too: `let NAME HEX` makes a file of bytes, and `text NAME TEXT` one of text, in which each
 //! `@OTHER@` is the file OTHER in hexadecimal. In a command `NAME:N` is the front of a file, N bytes long, and `hex:HEX` a file
-//! of these bytes. Empty lines and those that begin with `#` are printed as they are.
+//! of these bytes. `only WORDS COMMAND` shows of standard error only the lines in which one of the words stands, which commas
+//! part. Empty lines and those that begin with `#` are printed as they are.
 #![tactic(auto)]
 
 ghost use Rattle.std.specs.Prelude.{◌≡◌};
@@ -12,7 +13,7 @@ ghost use Rattle.board.specs.Jobs.{ticket_of};
 mod list;
 mod shelf;
 
-use crate::list::{Line, read_line};
+use crate::list::{Line, only_and_command, read_line};
 use crate::shelf::Shelf;
 use board::JobBox;
 use commands::perform;
@@ -60,10 +61,18 @@ fn perform_line<R: Threads + Wait + Sync + AllocGlobal, O: Write>(
     Ok((status, err))
 }
 
-/// Tells what was written to standard error, each line behind a mark.
-fn tell_errors<O: Write>(err: &[u8], out: &mut O) -> io::Result<()> {
+/// Whether one of the words that are wanted stands in the line.
+fn is_shown(line: &str, wanted: &str) -> bool {
+    line.split_whitespace()
+        .any(|word| wanted.split(',').any(|one| one == word))
+}
+
+/// Tells what was written to standard error, each line behind a mark: all, or those in which one of these words stands.
+fn tell_errors<O: Write>(err: &[u8], only: Option<&str>, out: &mut O) -> io::Result<()> {
     for line in str::from_utf8(err).unwrap_or("no text").lines() {
-        writeln!(out, "! {line}")?;
+        if only.is_none_or(|wanted| is_shown(line, wanted)) {
+            writeln!(out, "! {line}")?;
+        }
     }
     Ok(())
 }
@@ -76,8 +85,9 @@ fn show_command<R: Threads + Wait + Sync + AllocGlobal, O: Write>(
     out: &mut O,
 ) -> io::Result<()> {
     writeln!(out, "$ {line}")?;
-    let (status, err) = perform_line(rt, line, shelf, out)?;
-    tell_errors(err.as_slice(), out)?;
+    let (only, command) = only_and_command(line);
+    let (status, err) = perform_line(rt, command, shelf, out)?;
+    tell_errors(err.as_slice(), only, out)?;
     writeln!(out, "= {status}")
 }
 

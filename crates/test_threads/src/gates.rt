@@ -2,6 +2,7 @@
 
 use board::Board;
 use claims::Ticket;
+use order::Reply;
 use pool::{Gate, Point};
 use std::sync::atomic::{AtomicU64, Ordering};
 use std::thread;
@@ -11,6 +12,8 @@ pub struct Open;
 
 impl Gate for Open {
     fn at(&self, _point: Point, _ticket: Ticket) {}
+
+    fn replies(&self, _reply: &Reply) {}
 }
 
 // A gate that holds one request once it is started, until the board is closed, for at most 1,000,000 turns.
@@ -32,6 +35,8 @@ impl Gate for UntilClosed<'_> {
             thread::yield_now();
         }
     }
+
+    fn replies(&self, _reply: &Reply) {}
 }
 
 // Waits for the word to be this number at least, for at most 1,000,000 turns. Whether it came to be.

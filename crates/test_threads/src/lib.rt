@@ -39,4 +39,6 @@ mod serving;
 #[cfg(test)]
 mod showing;
 #[cfg(test)]
+mod telling;
+#[cfg(test)]
 mod turns;

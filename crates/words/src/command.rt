@@ -57,7 +57,7 @@ pub struct Service {
     pub workers: u32,
     /// What each loop may spend.
     pub settings: LoopSettings,
-    /// Whether it is told what the loops do, as they do it.
+    /// Whether it is told what loops and workers do, as they do it.
     pub is_traced: bool,
     pub ghost few_loops: { (1 ≤ loops) × (loops ≤ MAX_LOOPS) },
     pub ghost few_workers: { (1 ≤ workers) × (workers ≤ MAX_WORKERS) },

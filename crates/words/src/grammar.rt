@@ -243,7 +243,7 @@ fn serve_words<'a>(alloc: Global) -> Result<Command<'a>, AllocError> {
             depth_option(alloc),
             trace_option(
                 alloc,
-                "Tells on standard error what the loops do, as they do it"
+                "Tells on standard error what loops and workers do, as they do it"
             ),
         ]?,
     )

@@ -1,11 +1,10 @@
 // What is told of a refusal.
 
 use crate::invalid::invalid;
-use crate::reason::Reason;
 use crate::refusal::Refusal;
 use crate::undecoded::undecoded;
 use crate::unlinked::place_of_unlinked;
-use places::Place;
+use places::{Place, Reason};
 use std::alloc::Global;
 use std::fmt;
 
@@ -35,15 +34,13 @@ impl Refusal {
             Refusal::Validate(_) => invalid(alloc, bytes),
             Refusal::Link(_) => place_of_unlinked(alloc, bytes).map(|place| (place, None)),
         };
-        match told {
-            Some((place, found)) => Account {
-                place: Some(place),
-                reason: found.unwrap_or(Reason::plain(self.meaning())),
-            },
-            None => Account {
-                place: None,
-                reason: Reason::plain(self.meaning()),
-            },
+        let (place, found) = match told {
+            Some((place, found)) => (Some(place), found),
+            None => (None, None),
+        };
+        Account {
+            place,
+            reason: found.unwrap_or(Reason::words(self.meaning())),
         }
     }
 

@@ -1,24 +1,16 @@
 // In which section, function and operation a module is not valid, and for what.
 
+use crate::help::{NO_TABLES, OPTIMIZED};
 use crate::loading::decoded;
-use crate::reason::{NO_TABLES, OPTIMIZED, Reason};
-use places::{CODE, Place, body_at, find, function_of, place_of_operation};
+use places::{Place, Reason, place_of_function, place_of_operation, place_of_section};
 use std::alloc::Global;
+use syntax::types::ValType;
 use validate::{Lack, Site, ValidFault, refused_at};
 
 fn place_of(bytes: &[u8], site: Site) -> Option<Place> {
     match site {
-        Site::Section(id) => {
-            let section = find(bytes, id)?;
-            Some(Place::Section { id, at: section.at })
-        }
-        Site::Function(function) => {
-            let body = body_at(bytes, find(bytes, CODE)?, function)?;
-            Some(Place::Function {
-                number: function_of(bytes, function),
-                at: body.at,
-            })
-        }
+        Site::Section(id) => place_of_section(bytes, id),
+        Site::Function(function) => place_of_function(bytes, function),
         Site::Operation {
             function,
             number,
@@ -27,37 +19,44 @@ fn place_of(bytes: &[u8], site: Site) -> Option<Place> {
     }
 }
 
+/// The name of a type, as the text format has it.
+pub fn name_of_type(value_type: ValType) -> &'static str {
+    match value_type {
+        ValType::I32 => "i32",
+        ValType::I64 => "i64",
+    }
+}
+
 /// Why the operands of an operation don't fit it.
 fn of_type(name: &str, lack: Option<Lack>) -> Option<Reason> {
-    if let Some(lack) = lack {
-        return Some(Reason::lack(lack));
+    if let Some(Lack { wanted, found }) = lack {
+        return Some(Reason::operand(name_of_type(wanted), found.map(name_of_type)));
     }
-    match name {
-        "end" | "else" => Some(Reason::plain(
-            "the block leaves more operands than its type has results",
-        )),
-        "br_table" => Some(Reason::plain("the labels take operands of different types")),
-        "drop" | "select" => Some(Reason::plain("an operand is wanted, and none is there")),
-        _ => None,
-    }
+    let words = match name {
+        "end" | "else" => "the block leaves more operands than its type has results",
+        "br_table" => "the labels take operands of different types",
+        "drop" | "select" => "an operand is wanted, and none is there",
+        _ => return None,
+    };
+    Some(Reason::words(words))
 }
 
 /// What is known of the fault beyond its meaning.
 fn reason_of(fault: ValidFault, site: Site, place: &Place) -> Option<Reason> {
-    match (fault, site, place) {
-        (ValidFault::BadType, Site::Operation { lack, .. }, Place::Operation { name, .. }) =>
-            of_type(*name, lack),
-        (ValidFault::Height, Site::Function(_), _) => Some(Reason::plain(
-            "more than 256 parameters and locals",
-        ).with(OPTIMIZED)),
-        (ValidFault::Height, Site::Operation { .. }, _) => Some(Reason::plain(
-            "more than 256 operands at a time",
-        ).with("split the expression")),
-        (ValidFault::Nesting, _, _) => Some(Reason::plain(
-            "blocks lie more than 256 deep in one another",
-        ).with(NO_TABLES)),
-        _ => None,
-    }
+    let (words, help) = match (fault, site, place) {
+        (ValidFault::BadType, Site::Operation { lack, .. }, Place::Operation { name, .. }) => {
+            return of_type(*name, lack);
+        }
+        (ValidFault::Height, Site::Function(_), _) => {
+            ("more than 256 parameters and locals", OPTIMIZED)
+        }
+        (ValidFault::Height, Site::Operation { .. }, _) => {
+            ("more than 256 operands at a time", "split the expression")
+        }
+        (ValidFault::Nesting, _, _) => ("blocks lie more than 256 deep in one another", NO_TABLES),
+        _ => return None,
+    };
+    Some(Reason::words(words).with(help))
 }
 
 /// The part of the module that is not valid, and what is found there.

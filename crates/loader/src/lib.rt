@@ -6,15 +6,15 @@
 #![tactic(auto)]
 
 mod account;
+mod help;
 mod invalid;
 mod loading;
 mod meaning;
-mod reason;
 mod refusal;
 mod undecoded;
 mod unlinked;
 
 pub use account::Account;
+pub use invalid::name_of_type;
 pub use loading::load;
-pub use reason::Reason;
 pub use refusal::Refusal;

@@ -1,29 +1,18 @@
 // At which byte a module is refused by its form, and for what.
 
-use crate::reason::{NO_TABLES, OPTIMIZED, PLAIN, Reason};
+use crate::help::{NO_TABLES, OPTIMIZED, PLAIN, SOFT};
 use decode::{DecodeFault, RefusedAt, refused_at};
-use places::{CODE, Part, Place, body_at, find, first_operation, imported, name_of, part_with};
+use places::{Part, Place, Reason, extension_at, is_in_locals, name_of, part_with};
 use std::alloc::Global;
 
-/// Floats can be computed by functions on integers.
-const SOFT: &str = "floating point is lowered by examples/kit/lower.py";
-
-/// What begins with an opcode that the host doesn't take. What stands behind it is known of 0xfc alone.
-fn of_opcode(opcode: u8, behind: Option<&u8>) -> Reason {
-    let what = match (opcode, behind) {
-        (0x05, _) => return Reason::byte(opcode, "else outside the first branch of an if"),
-        (0x06..=0x0a | 0x18 | 0x19 | 0x1f, _) => "exceptions",
-        (0x12..=0x15, _) => "tail calls and function references",
-        (0x1c | 0x25 | 0x26 | 0xd0..=0xd2, _) => "reference types",
-        (0xfb, _) => "garbage collection",
-        (0xfc, Some(0x00..=0x07)) => "conversions that saturate",
-        (0xfc, Some(0x08..=0x0b)) => "bulk memory",
-        (0xfc, _) => "bulk memory or reference types",
-        (0xfd, _) => "vectors",
-        (0xfe, _) => "threads",
-        _ => return Reason::byte(opcode, "no instruction"),
-    };
-    Reason::byte(opcode, what).with(PLAIN)
+/// What begins with an opcode that the host doesn't take.
+fn of_opcode(bytes: &[u8], at: usize) -> Option<Reason> {
+    let opcode = *bytes.get(at)?;
+    Some(match (extension_at(bytes, at), opcode) {
+        (Some(extension), _) => Reason::byte(opcode, extension).with(PLAIN),
+        (None, 0x05) => Reason::byte(opcode, "else outside the first branch of an if"),
+        (None, _) => Reason::byte(opcode, "no instruction"),
+    })
 }
 
 /// What is of another profile: a type, an import or an instruction.
@@ -39,39 +28,55 @@ fn of_profile(byte: u8) -> Option<Reason> {
     Some(reason)
 }
 
-/// Whether the byte is one of the locals of a function.
-fn is_in_locals(bytes: &[u8], function: u64, at: usize) -> Option<bool> {
-    let number = function.checked_sub(u64::from(imported(bytes)))?;
-    let body = body_at(bytes, find(bytes, CODE)?, number as usize)?;
-    Some(at < first_operation(bytes, body)?)
+/// Which limit is meant in a section.
+fn of_section_limit(section: u8) -> Option<Reason> {
+    let words = match section {
+        1 => "more than 1,024 types, or more than 256 parameters of a type",
+        2 => "more than 64 imports",
+        3 | 10 => "more than 4,096 functions",
+        4 => "more than one table, or more than 4,096 elements at first, or more than its most",
+        5 => "more than one memory, or more than 64 pages at first, or more than its most",
+        6 => "more than 256 globals",
+        7 => "more than 1,024 exports",
+        _ => return None,
+    };
+    let reason = Reason::words(words);
+    Some(match section {
+        5 => reason.with("less static data, or a smaller stack by -z stack-size=65536"),
+        _ => reason,
+    })
 }
 
-/// Which limit is meant in a part.
+/// Which limit is meant at a byte of this part.
 fn of_limit(bytes: &[u8], at: usize, part: Option<Part>) -> Option<Reason> {
-    let reason = match part? {
-        Part::Section(1) => Reason::plain(
-            "more than 1,024 types, or more than 256 parameters of a type",
+    let (words, help) = match part {
+        None => (
+            "the module has more than 1,048,576 bytes",
+            "strip its debug names",
         ),
-        Part::Section(2) => Reason::plain("more than 64 imports"),
-        Part::Section(3 | CODE) => Reason::plain("more than 4,096 functions"),
-        Part::Section(4) => Reason::plain(
-            "more than one table, or more than 4,096 elements at first, or more than its most",
-        ),
-        Part::Section(5) => Reason::plain(
-            "more than one memory, or more than 64 pages at first, or more than its most",
-        ).with("less static data, or a smaller stack by -z stack-size=65536"),
-        Part::Section(6) => Reason::plain("more than 256 globals"),
-        Part::Section(7) => Reason::plain("more than 1,024 exports"),
-        Part::Section(_) => return None,
-        Part::Function(function) => {
-            if is_in_locals(bytes, function, at)? {
-                Reason::plain("more than 256 locals").with(OPTIMIZED)
+        Some(Part::Section(section)) => return of_section_limit(section),
+        Some(Part::Function(_)) => {
+            if is_in_locals(bytes, at)? {
+                ("more than 256 locals", OPTIMIZED)
             } else {
-                Reason::plain("more than 4,096 labels of a br_table").with(NO_TABLES)
+                ("more than 4,096 labels of a br_table", NO_TABLES)
             }
         }
     };
-    Some(reason)
+    Some(Reason::words(words).with(help))
+}
+
+/// What a byte should be that is of no kind.
+fn of_kind(byte: u8, part: Option<Part>) -> Reason {
+    let words = match (part, byte) {
+        (None, _) => "no kind of section",
+        (Some(Part::Function(_)), _) => {
+            "no type of a local or a block, or no 0 where one must stand"
+        }
+        (Some(Part::Section(_)), 0x63..=0x7b) => "no type that is taken there",
+        _ => return Reason::byte(byte, "no kind of type, import, export or limits"),
+    };
+    Reason::byte(byte, words).with(PLAIN)
 }
 
 /// What is known of the fault beyond its meaning.
@@ -79,34 +84,11 @@ fn reason_of(bytes: &[u8], refused: RefusedAt, part: Option<Part>) -> Option<Rea
     let RefusedAt { fault, at } = refused;
     let byte = bytes.get(at);
     match fault {
-        DecodeFault::Opcode => Some(of_opcode(*byte?, bytes.get(at.checked_add(1)?))),
+        DecodeFault::Opcode => of_opcode(bytes, at),
         DecodeFault::Profile => of_profile(*byte?),
-        DecodeFault::Limit if part.is_none() => Some(Reason::plain(
-            "the module has more than 1,048,576 bytes",
-        ).with("strip its debug names")),
         DecodeFault::Limit => of_limit(bytes, at, part),
         DecodeFault::Kind => Some(of_kind(*byte?, part)),
         _ => None,
-    }
-}
-
-/// What a byte should be that is of no kind.
-fn of_kind(byte: u8, part: Option<Part>) -> Reason {
-    match (part, byte) {
-        (None, _) => Reason::byte(byte, "no kind of section").with(PLAIN),
-        (Some(Part::Function(_)), _) => Reason::byte(
-            byte,
-            "no type of a local or a block, or no 0 where one must stand",
-        )
-        .with(PLAIN),
-        (Some(Part::Section(_)), 0x63..=0x7b) => Reason::byte(
-            byte,
-            "no type that is taken there",
-        ).with(PLAIN),
-        (Some(Part::Section(_)), _) => Reason::byte(
-            byte,
-            "no kind of type, import, export or limits",
-        ),
     }
 }
 

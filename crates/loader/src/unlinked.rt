@@ -2,34 +2,23 @@
 
 use crate::loading::validated;
 use imports::{Site, refused_at};
-use places::{DATA, ELEMENTS, Place, find};
+use places::{DATA, ELEMENTS, Place, place_of_section};
 use std::alloc::Global;
-use std::str;
-use syntax::contents::{Contents, Import, ModuleExport};
-use syntax::items::Items;
-
-fn text_of(alloc: Global, name: &Items<u8>) -> Option<String> {
-    String::from_str(alloc, str::from_utf8(name.as_slice()).ok()?).ok()
-}
+use syntax::contents::Contents;
 
 fn place_of_import(alloc: Global, contents: &Contents, number: usize) -> Option<Place> {
-    let import: &Import = contents.imports.get(number)?;
-    Some(Place::Import {
+    let import = contents.imports.get(number)?;
+    Place::import(
+        alloc,
         number,
-        module: text_of(alloc, &import.module)?,
-        name: text_of(alloc, &import.name)?,
-    })
+        import.module.as_slice(),
+        import.name.as_slice(),
+    )
 }
 
 fn place_of_export(alloc: Global, contents: &Contents, number: usize) -> Option<Place> {
-    let export: &ModuleExport = contents.exports.get(number)?;
-    let name = text_of(alloc, &export.name)?;
-    Some(Place::Export { name })
-}
-
-fn place_of_section(bytes: &[u8], id: u8) -> Option<Place> {
-    let section = find(bytes, id)?;
-    Some(Place::Section { id, at: section.at })
+    let export = contents.exports.get(number)?;
+    Place::export(alloc, export.name.as_slice())
 }
 
 /// What of the module doesn't fit the host.

@@ -2,7 +2,7 @@
 // 5.4, 5.5.13 and appendix, index of instructions; the sign extensions are those of WebAssembly Core 2.0).
 
 use crate::place::Place;
-use crate::spans::{CODE, Span, body_at, find, function_of};
+use crate::spans::{CODE, Span, body_at, body_with, find, function_of};
 use leb::read_u32;
 use limits::MAX_NESTING;
 
@@ -38,6 +38,24 @@ const NAMES: &str = "unreachable nop block loop if else - - \
     i64.trunc_f64_s i64.trunc_f64_u f32.convert_i32_s f32.convert_i32_u f32.convert_i64_s f32.convert_i64_u f32.demote_f64 f64.convert_i32_s \
     f64.convert_i32_u f64.convert_i64_s f64.convert_i64_u f64.promote_f32 i32.reinterpret_f32 i64.reinterpret_f64 f32.reinterpret_i32 f64.reinterpret_i64 \
     i32.extend8_s i32.extend16_s i64.extend8_s i64.extend16_s i64.extend32_s";
+
+/// The extension of WebAssembly 1.0 to which the operations belong that begin with this byte, if it is known. The byte behind it
+/// decides where an opcode stands for operations of several.
+pub fn extension_at(bytes: &[u8], at: usize) -> Option<&'static str> {
+    let behind = bytes.get(at.checked_add(1)?);
+    Some(match (*bytes.get(at)?, behind) {
+        (0x06..=0x0a | 0x18 | 0x19 | 0x1f, _) => "exceptions",
+        (0x12..=0x15, _) => "tail calls and function references",
+        (0x1c | 0x25 | 0x26 | 0xd0..=0xd2, _) => "reference types",
+        (0xfb, _) => "garbage collection",
+        (0xfc, Some(0x00..=0x07)) => "conversions that saturate",
+        (0xfc, Some(0x08..=0x0b)) => "bulk memory",
+        (0xfc, _) => "bulk memory or reference types",
+        (0xfd, _) => "vectors",
+        (0xfe, _) => "threads",
+        _ => return None,
+    })
+}
 
 /// The byte behind an integer.
 fn behind_integer(bytes: &[u8], at: usize) -> Option<usize> {
@@ -79,9 +97,15 @@ fn behind_operation(bytes: &[u8], at: usize) -> Option<usize> {
 }
 
 /// Where a body's first operation begins, behind its locals.
-pub fn first_operation(bytes: &[u8], body: Span) -> Option<usize> {
+fn first_operation(bytes: &[u8], body: Span) -> Option<usize> {
     let (groups, first) = read_u32(bytes, body.from).ok()?;
     behind_integers(bytes, first, groups.checked_mul(2)?)
+}
+
+/// Whether this byte of a body is one of its locals.
+pub fn is_in_locals(bytes: &[u8], byte: usize) -> Option<bool> {
+    let (_, body) = body_with(bytes, find(bytes, CODE)?, byte)?;
+    Some(byte < first_operation(bytes, body)?)
 }
 
 /// The blocks that are open, and of each whether it is an `if` whose `else` may still come.

@@ -1,7 +1,8 @@
 // Where in its bytes a module is refused.
 
 use crate::spans::CODE;
-use std::fmt;
+use std::alloc::Global;
+use std::{fmt, str};
 
 /// A part of a module.
 #[derive(Clone, Copy, Debug, PartialEq, Eq)]
@@ -48,6 +49,27 @@ pub enum Place {
     Export {
         name: String,
     },
+}
+
+fn text_of(alloc: Global, name: &[u8]) -> Option<String> {
+    String::from_str(alloc, str::from_utf8(name).ok()?).ok()
+}
+
+impl Place {
+    /// The place of the import with this number and these two names.
+    pub fn import(alloc: Global, number: usize, module: &[u8], name: &[u8]) -> Option<Place> {
+        Some(Place::Import {
+            number,
+            module: text_of(alloc, module)?,
+            name: text_of(alloc, name)?,
+        })
+    }
+
+    /// The place of the export with this name.
+    pub fn export(alloc: Global, name: &[u8]) -> Option<Place> {
+        let name = text_of(alloc, name)?;
+        Some(Place::Export { name })
+    }
 }
 
 impl fmt::Display for Part {

@@ -1,6 +1,6 @@
 // The sections and bodies of a module, by their sizes alone (WebAssembly Core 1.0, 5.5.2 and 5.5.13).
 
-use crate::place::Part;
+use crate::place::{Part, Place};
 use leb::read_u32;
 
 /// The id of the section of imports.
@@ -69,7 +69,7 @@ pub fn body_at(bytes: &[u8], code: Span, number: usize) -> Option<Span> {
 }
 
 /// How many functions a module imports. In the host's profile every import is a function.
-pub fn imported(bytes: &[u8]) -> u32 {
+fn imported(bytes: &[u8]) -> u32 {
     match find(bytes, IMPORTS) {
         Some(section) => read_u32(bytes, section.from).map_or(0, |(count, _)| count),
         None => 0,
@@ -81,17 +81,32 @@ pub fn function_of(bytes: &[u8], body: usize) -> u64 {
     u64::from(imported(bytes)).saturating_add(body as u64)
 }
 
-/// The function whose body of a code section has this byte.
-fn function_at(bytes: &[u8], code: Span, byte: usize) -> Option<u64> {
+/// The body of a code section that has this byte, and its number.
+pub fn body_with(bytes: &[u8], code: Span, byte: usize) -> Option<(usize, Span)> {
     let (count, mut at) = read_u32(bytes, code.from).ok()?;
     for number in 0..count {
         let span = sized(bytes, at, at)?;
         if byte >= span.at && byte < span.to {
-            return Some(function_of(bytes, number as usize));
+            return Some((number as usize, span));
         }
         at = span.to;
     }
     None
+}
+
+/// The place of the section with this id.
+pub fn place_of_section(bytes: &[u8], id: u8) -> Option<Place> {
+    let section = find(bytes, id)?;
+    Some(Place::Section { id, at: section.at })
+}
+
+/// The place of a function, by its number among those with bodies.
+pub fn place_of_function(bytes: &[u8], function: usize) -> Option<Place> {
+    let body = body_at(bytes, find(bytes, CODE)?, function)?;
+    Some(Place::Function {
+        number: function_of(bytes, function),
+        at: body.at,
+    })
 }
 
 /// The section that has this byte behind its id.
@@ -112,9 +127,9 @@ pub fn part_with(bytes: &[u8], byte: usize) -> Option<Part> {
     let section = section_with(bytes, byte)?;
     let id = *bytes.get(section.at)?;
     if id == CODE
-        && let Some(function) = function_at(bytes, section, byte)
+        && let Some((body, _)) = body_with(bytes, section, byte)
     {
-        return Some(Part::Function(function));
+        return Some(Part::Function(function_of(bytes, body)));
     }
     Some(Part::Section(id))
 }

@@ -3,7 +3,7 @@
 use clap::{Arg, ArgAction, Command};
 use std::alloc::{AllocError, Global};
 
-const FUEL_HELP: &str = "How many instructions may be run";
+const FUEL_HELP: &str = "How many instructions may run, 0 to 2^64 - 1";
 
 const USED_HELP: &str = "Tells on standard error what was used";
 
@@ -11,15 +11,16 @@ const USED_HELP: &str = "Tells on standard error what was used";
 pub(crate) const TRACE: &str = "trace";
 
 const PROGRAM_TEXT: &str = "\
-Status: 0 done; 1 a file, a script, the memory or the output failed; 2 wrong words; 3 a module is refused;
-4 a call ended otherwise than by return, or a loop failed. What is said of 1 and 2 goes to standard error.
+Status: 0 done, also where `serve` prints `limit` or `waiting`; 1 a file, a script, the memory or the output failed;
+2 wrong words; 3 a module is refused; 4 a call ended otherwise than by return, or a loop failed.
+What is said of 1 and 2 goes to standard error, and so do the sentences that explain a result.
 
 Example:
   wasmloop work examples/adds_one.wasm 41 00ff";
 
 const CHECK_TEXT: &str = "\
 Prints `accepted`, or what refuses the module, with its number and word, as `decode 10 Counts`,
-`validate 1 Type` or `link 2 Name`.
+`validate 1 Type` or `link 2 Name`. Standard error says where and why.
 
 Status: 0 accepted; 1 the file, the memory or the output failed; 2 wrong words; 3 refused.
 
@@ -27,11 +28,12 @@ Example:
   wasmloop check examples/seven.wasm";
 
 const INVOKE_TEXT: &str = "\
-An argument is an unsigned number. A negative one is written as the number of its bits: -1 is
-4294967295 as an i32, and 18446744073709551615 as an i64.
+An argument is a whole number without a sign: for an i32 from 0 to 4294967295, which stands for -1, and for an i64
+from 0 to 18446744073709551615, which stands for -1.
 
 Prints how the call ended and the fuel that it used: `return 7 used 1` with the results as signed numbers,
-`trap 4 used 2`, `depth used 64` or `spent used 1000000`; behind `start` where the start function ended so.
+`trap 4 used 2`, `depth used 64` or `spent used 1000000`; where the start function ended so, `start trap 4 used 2`.
+Standard error says where it did not return, and why.
 Traps: 1 unreachable, 2 division by zero, 3 overflow, 4 outside the memory, 5 outside the table,
 6 an empty element, 7 an element of another type.
 
@@ -42,10 +44,11 @@ Example:
   wasmloop invoke examples/table.wasm f 0";
 
 const WORK_TEXT: &str = "\
-The operation is an unsigned number: -1 is written as 4294967295.
+The operation -1 is written as 4294967295.
 
 Prints `done 42 bytes 0`: the result as a signed number, how many bytes the reply has, and where there are
 any, these in hexadecimal; or `trap 4`, `depth`, `spent` or `nomemory`. The numbers of traps: see `invoke --help`.
+Standard error says where it did not return, and why.
 
 Status: 0 done; 1 the file, the memory or the output failed; 2 wrong words, or no function uv_work;
 3 the module is refused; 4 it ended otherwise than by return.
@@ -67,10 +70,10 @@ Example:
 const SERVE_TEXT: &str = "\
 Prints a line for each loop once all have ended, as `loop 0 over emits 6`: whether nothing was left to do (`over`),
 a callback did not return (`failed`), what is left waits for ever (`waiting`) or 100000 callbacks have run
-(`limit`), and the values that its callbacks emitted, as signed numbers.
+(`limit`), and the values that its callbacks emitted, as signed numbers. Standard error says why a loop is not `over`.
 
-Status: 0 all ended; 1 the file, the memory or the output failed; 2 wrong words; 3 the module is refused;
-4 a loop failed.
+Status: 0 all ended, also as `limit` or `waiting`; 1 the file, the memory or the output failed; 2 wrong words;
+3 the module is refused; 4 a loop failed.
 
 Example:
   wasmloop serve examples/asks.wasm --loops 2 --workers 3";
@@ -84,7 +87,12 @@ fn wanted<'a>(alloc: Global, id: &'a str, name: &'a str, help: &'a str) -> Arg<'
 }
 
 fn file_word<'a>(alloc: Global) -> Arg<'a> {
-    wanted(alloc, "file", "FILE", "The module, in the binary format")
+    wanted(
+        alloc,
+        "file",
+        "FILE",
+        "The module, in the binary format; /dev/stdin is standard input",
+    )
 }
 
 /// An option of fuel.
@@ -101,7 +109,7 @@ fn depth_option<'a>(alloc: Global) -> Arg<'a> {
         .long("depth")
         .value_name("N")
         .default_value("64")
-        .help("How many calls may stand open, 1 to 128")
+        .help("How many calls may be open, 1 to 128")
 }
 
 fn trace_option<'a>(alloc: Global, help: &'a str) -> Arg<'a> {
@@ -146,7 +154,7 @@ fn arguments_word<'a>(alloc: Global) -> Arg<'a> {
         .num_args(..)
         .action(ArgAction::Append)
         .allow_negative_numbers(true)
-        .help("Its arguments, as unsigned decimal numbers")
+        .help("Its arguments, as decimal numbers without a sign")
 }
 
 fn invoke_words<'a>(alloc: Global) -> Result<Command<'a>, AllocError> {
@@ -176,7 +184,7 @@ fn operation_word<'a>(alloc: Global) -> Arg<'a> {
         alloc,
         "operation",
         "OP",
-        "The operation, as an unsigned decimal number",
+        "The operation, a whole number from 0 to 4294967295",
     )
     .allow_negative_numbers(true)
 }
@@ -210,7 +218,7 @@ fn script_word<'a>(alloc: Global) -> Arg<'a> {
         alloc,
         "file",
         "FILE",
-        "The script, in JSON: modules, loops, workers and steps",
+        "The script, in JSON: modules, loops, workers and steps; /dev/stdin is standard input",
     )
 }
 
@@ -234,11 +242,15 @@ fn serve_words<'a>(alloc: Global) -> Result<Command<'a>, AllocError> {
             file_word(alloc),
             count_option(alloc, "loops", "How many loops, 1 to 8"),
             count_option(alloc, "workers", "How many workers, 1 to 16"),
-            fuel_option(alloc, "fuel", FUEL_HELP),
+            fuel_option(
+                alloc,
+                "fuel",
+                "How many instructions a callback may run, 0 to 2^64 - 1"
+            ),
             fuel_option(
                 alloc,
                 "work-fuel",
-                "How many instructions a work function may run"
+                "How many instructions a work function may run, 0 to 2^64 - 1"
             ),
             depth_option(alloc),
             trace_option(
@@ -281,6 +293,7 @@ fn verb_words<'a>(alloc: Global, verb: Verb) -> Result<Command<'a>, AllocError> 
 pub(crate) fn program<'a>(alloc: Global) -> Result<Command<'a>, AllocError> {
     let mut program = Command::new(alloc, "wasmloop")
         .version("0.1.0")
+        .bin_name("wasmloop")?
         .override_usage("wasmloop <COMMAND>")
         .about("Runs untrusted WebAssembly modules on event loops")
         .after_help(PROGRAM_TEXT);

@@ -45,8 +45,7 @@ fn option(
     match decimal(value) {
         Some(number) if least <= number && number <= most => Ok(number),
         _ => Err(Refused::Usage(format!(in alloc;
-            "error: invalid value '{value}' for '--{name} <N>': no whole number from {least} to {most}\n\n  \
-             tip: '--{name}' takes a whole number from {least} to {most}\n\n\
+            "error: invalid value '{value}' for '--{name} <N>': it must be a whole number from {least} to {most}\n\n\
              For more information, try '--help'."
         )?)),
     }

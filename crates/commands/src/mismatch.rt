@@ -1,6 +1,7 @@
 // Why words are not the arguments of a function.
 
 use crate::listing::Listing;
+use loader::name_of_type;
 use std::alloc::{AllocError, Global};
 use std::fmt;
 use syntax::types::ValType;
@@ -23,13 +24,6 @@ pub enum Mismatch<'a> {
     },
 }
 
-fn name_of(value_type: ValType) -> &'static str {
-    match value_type {
-        ValType::I32 => "i32",
-        ValType::I64 => "i64",
-    }
-}
-
 fn greatest(value_type: ValType) -> u64 {
     match value_type {
         ValType::I32 => u32::MAX.into(),
@@ -40,7 +34,7 @@ fn greatest(value_type: ValType) -> u64 {
 fn names_of(alloc: Global, types: &[ValType]) -> Result<String, AllocError> {
     let mut listing = Listing::new(alloc);
     for value_type in types {
-        listing.add(name_of(*value_type))?;
+        listing.add(name_of_type(*value_type))?;
     }
     listing.finish()
 }
@@ -83,7 +77,7 @@ impl fmt::Display for Mismatch<'_> {
                 value_type,
                 word,
             } => {
-                let name = name_of(*value_type);
+                let name = name_of_type(*value_type);
                 let most = greatest(*value_type);
                 write!(f, "argument {number} ({name}), '{word}': ")?;
                 write!(

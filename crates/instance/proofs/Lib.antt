@@ -1,3 +1,4 @@
+pub mod Fronts
 pub mod SegmentsAreWritten
 pub mod Initial
 pub mod FreshStores

@@ -4,3 +4,4 @@ pub mod Reads
 pub mod Faults
 pub mod Storing
 pub mod Fresh
+pub mod LendingMemory

@@ -67,11 +67,12 @@ impl WorkHost {
         reply
     }
 
-    fn set_out(&mut self, place: u32, count: u32, memory: &Memory) -> u32
-        ensures answer { result ≡ (set_out place count memory.now.bytes self.old.reply.items).0 }
-        ensures reply { self.new.reply.items ≡ (set_out place count memory.now.bytes self.old.reply.items).1 }
+    fn set_out(&mut self, place: u32, count: u32, memory: &mut Memory) -> u32
+        ensures answer { result ≡ (set_out place count memory.old.bytes self.old.reply.items).0 }
+        ensures reply { self.new.reply.items ≡ (set_out place count memory.old.bytes self.old.reply.items).1 }
         ensures linked { arc_value self.new.linked ≡ arc_value self.old.linked }
         ensures bytes { arc_value self.new.bytes ≡ arc_value self.old.bytes }
+        ensures memory { memory.new ≡ memory.old }
     {
         if count as usize > MAX_BYTES {
             return INVALID;

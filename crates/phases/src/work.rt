@@ -74,10 +74,11 @@ pub fn queue_work<B: Shared>(
     requests: &mut Requests,
     shared: &mut B,
     asked: Asked,
-    memory: &Memory,
+    memory: &mut Memory,
 ) -> u32
     requires { AreOpenedUpTo requests.old.last (B.calls.view shared.old) }
-    ensures { QueuesWork B.calls (setting_of setting.now) memory.now.bytes (requests.old, shared.old) asked.op asked.place asked.count result (requests.new, shared.new) }
+    ensures queued { QueuesWork B.calls (setting_of setting.now) memory.old.bytes (requests.old, shared.old) asked.op asked.place asked.count result (requests.new, shared.new) }
+    ensures memory { memory.new ≡ memory.old }
 {
     let linked: &Linked = &setting.linked;
     if !(exports(linked, EntryPoint::Work) && exports(linked, EntryPoint::AfterWork)) {

@@ -53,7 +53,7 @@ fn take(text: &mut String, state: &mut State, turn: Turn) -> Result<(), AllocErr
             )
         }
         Length => write!(text, "{}; ", state.memory().len()),
-        Read(at, length) => write!(text, "{:?}; ", state.memory().read(at, length)),
+        Read(at, length) => write!(text, "{:?}; ", state.memory_mut().read(at, length)),
         Write(at, bytes) => write!(text, "{}; ", state.memory_mut().write(at, bytes)),
         Element(index) => write!(text, "{:?}; ", state.element(index)),
         Get(index) => write!(text, "{:?}; ", state.global(index)),
@@ -215,6 +215,32 @@ fn lends_its_memory(rt: HostRuntime) -> Result<(), Fail> {
     ];
     let wanted = "true; false; Some([1, 2]); Some(513); ";
     check(&rt, rt.alloc(), ONE_PAGE, &turns, wanted)
+}
+
+/// Loads, stores and reads that begin before a multiple of 4,096 and end behind it, and what lies far behind.
+const ACROSS: [Turn; 14] = [
+    Load(4_092, 0, Eight),
+    Store(4_095, 0, One, 7),
+    Load(4_092, 0, Eight),
+    Load(4_095, 0, Two),
+    Load(4_096, 0, Four),
+    Read(4_094, 4),
+    Write(8_190, &[1, 2, 3]),
+    Load(8_190, 0, Four),
+    Grow(1),
+    Load(65_532, 0, Eight),
+    Store(65_535, 0, Four, NUMBER),
+    Read(65_533, 8),
+    Load(131_064, 0, Eight),
+    Read(131_071, 1),
+];
+
+#[test]
+fn is_zero_where_nothing_was_written(rt: HostRuntime) -> Result<(), Fail> {
+    let wanted = "Some(0); true; Some(117440512); Some(7); Some(0); Some([0, 7, 0, 0]); \
+        true; Some(197121); 1 of 2; Some(0); true; Some([0, 0, 17, 34, 51, 68, 0, 0]); \
+        Some(0); Some([0]); ";
+    check(&rt, rt.alloc(), BOUNDED, &ACROSS, wanted)
 }
 
 #[test]

@@ -1,15 +1,30 @@
--- The room of a memory.
-use Rattle.std.specs.Prelude.{◌≡◌, ℕ, ◌*◌, ◌≤◌, List, length, replicate, Option}
+-- The room of a memory, and what of it is kept.
+use Rattle.std.specs.Prelude.{ℕ, ◌-◌, ◌*◌, ◌≤◌, List, ◌++◌, length, replicate, Option}
+use Rattle.std.specs.Int.{next_multiple_of}
 use Rattle.limits.specs.declared.TheConstants.{PAGE_SIZE}
 use Rattle.syntax.specs.declared.types.Limits.{Limits}
 use Rattle.validate.specs.Segments.{minimum}
+use Rattle.instance.specs.declared.front.TheConstants.{STEP}
 use Rattle.instance.specs.Store.{MemoryInstance, page_limit}
 
 -- a memory of its least size, all zero
 abbrev pub fresh_memory : Option Limits → MemoryInstance
 fresh_memory limits = record { bytes = replicate (minimum limits * PAGE_SIZE) 0; limit = page_limit limits }
 
--- there are so many whole pages, and room for as many as the memory may grow to
-pub record HasRoom (bytes : List ℕ) (capacity count limit : ℕ) : Type 0 where
-  pub whole : length bytes ≡ count * PAGE_SIZE
+-- so many bytes, of which a front is kept: behind it all are zero
+abbrev pub all_bytes : (total : ℕ) → (front : List ℕ) → List ℕ
+all_bytes total front = front ++ replicate (total - length front) 0
+
+-- a front ends within the pages, and there is room for all of them, and for as many as the memory may grow to
+pub record HasRoom (front capacity count limit : ℕ) : Type 0 where
+  pub within : front ≤ count * PAGE_SIZE
+  pub here : count * PAGE_SIZE ≤ capacity
   pub room : limit * PAGE_SIZE ≤ capacity
+
+-- how long a front is made that is to reach over an end
+abbrev pub rounded : (end : ℕ) → ℕ
+rounded end = next_multiple_of end STEP
+
+-- the front then: what is new is zero
+abbrev pub lengthened : (end : ℕ) → (front : List ℕ) → List ℕ
+lengthened end front = front ++ replicate (rounded end - length front) 0

@@ -1,4 +1,5 @@
 use Rattle.std.proofs.Common.{refl, sym, ap, subst}
+use Rattle.instance.specs.Store.{MemoryInstance}
 use Rattle.phases.specs.View.{AreOpenedUpTo}
 use Rattle.phases.specs.State.{State}
 use Rattle.phases.specs.declared.work.Asked.{Asked}
@@ -36,5 +37,6 @@ returns-in-AsyncInit-clause-replies g c =
 
 pub returns-in-QueueWork-clause-replies : goal.returns-in-QueueWork-clause-replies
 returns-in-QueueWork-clause-replies g c =
-    let queued = subst (λ (a : Asked). QueuesWork g.B.Shared.calls (setting_of c.args.setting.now) c.args.memory.now.bytes (c.state-in-QueueWork.inside.requests, c.args.shared.now) a.op a.place a.count c.queue_work-answer.result (c.queue_work-answer.new.requests, c.queue_work-answer.new.shared)) c.asked-asked.ensures c.queue_work-answer.ensures in
-    rw (c.in-QueueWork.is, c.three.ensures, ← c.state-in-QueueWork.view_is) (λ import. (c.queue_work-answer.result, c.queue_work-answer.new.requests, queued, (refl, refl), refl))
+    let queued = subst (λ (a : Asked). QueuesWork g.B.Shared.calls (setting_of c.args.setting.now) c.args.memory.now.bytes (c.state-in-QueueWork.inside.requests, c.args.shared.now) a.op a.place a.count c.queue_work-answer.result (c.queue_work-answer.new.requests, c.queue_work-answer.new.shared)) c.asked-asked.ensures c.queue_work-answer.ensures.queued in
+    let same = ap (λ (m : MemoryInstance). m.bytes) c.queue_work-answer.ensures.memory in
+    rw (c.in-QueueWork.is, c.three.ensures, ← c.state-in-QueueWork.view_is) (λ import. (c.queue_work-answer.result, c.queue_work-answer.new.requests, queued, (refl, same), refl))

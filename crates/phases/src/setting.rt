@@ -41,7 +41,7 @@ impl Setting {
         ensures kept { IfOk result (λ made. order_of made.0 ≡ record { loop_no = self.now.loop_no; request = request; slot = slot; loaded = (setting_of self.now).loaded; op = op; bytes = bytes.now; fuel = self.now.settings.work_fuel; depth = self.now.settings.depth }) }
         ensures same { IfOk result (λ made. order_of made.1 ≡ order_of made.0) }
     {
-        let bytes = Arc::new(alloc, bytes.to_vec(alloc)?)?;
+        let bytes = Arc::new(alloc, Vec::from_slice(alloc, bytes)?)?;
         let order = self.order(request, slot, op, Arc::try_clone(&bytes)?)?;
         let copy = self.order(request, slot, op, bytes)?;
         Ok((order, copy))

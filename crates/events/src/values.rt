@@ -1,6 +1,6 @@
 // The results of a call.
 
-ghost use Rattle.std.specs.Prelude.{◌≡◌, ◌≤◌, length, slice_get};
+ghost use Rattle.std.specs.Prelude.{◌≡◌, ◌≤◌, [], length, slice_get};
 
 use limits::MAX_RESULTS;
 use std::marker::Model;
@@ -35,6 +35,23 @@ impl Values {
         let count = values.len();
         items[..count].copy_from_slice(values);
         Values { items, count }
+    }
+
+    /// No values.
+    pub fn empty() -> Values
+        ensures { result ≡ [] }
+    {
+        Values {
+            items: [Value::I32(0); MAX_RESULTS],
+            count: 0,
+        }
+    }
+
+    /// Takes all values away.
+    pub fn clear(&mut self)
+        ensures { self.new ≡ [] }
+    {
+        self.count = 0;
     }
 
     /// The values, the first first.

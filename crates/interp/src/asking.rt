@@ -18,7 +18,7 @@ use syntax::types::Value;
 use validate::type_of_function;
 
 /// How many arguments most imports have at most: an array of so few is filled fast.
-const FEW_ARGUMENTS: usize = 8;
+const FEW_ARGUMENTS: usize = 4;
 
 /// Lays an answer down, where there is one, and tells how many slots it takes.
 fn lay_answer(slots: &mut [u64], place: usize, answer: Option<Value>) -> usize
@@ -71,6 +71,27 @@ fn ask_over<H: Host>(
     }
 }
 
+/// The same, for an import of any number of arguments. In its own place, so that few arguments are read with fewer registers.
+#[inline(never)]
+fn ask_with_many<H: Host>(
+    contents: &Contents,
+    state: &mut State,
+    host: &mut H,
+    slots: &mut [u64],
+    at: At,
+    import: usize,
+    height: usize,
+) -> At
+    requires can { CanAsk contents.now import height (length slots.old) }
+    requires names { Names contents.now (H.types host.old) }
+    requires steps { at.pc + 1 < 2 ^ 64 }
+    ensures asked { Asks contents.now H.moves import height at slots.old state.old host.old result slots.new state.new host.new }
+    ensures types { H.types host.new ≡ H.types host.old }
+{
+    let mut many = [Value::I32(0); MAX_HEIGHT];
+    ask_over(contents, state, host, slots, at, import, height, &mut many)
+}
+
 /// Asks the host for an import, whose arguments are the topmost slots up to a height. Its answer takes their place, and
 /// the run goes on behind the call.
 pub fn ask_host<H: Host>(
@@ -95,6 +116,5 @@ pub fn ask_host<H: Host>(
         let mut few = [Value::I32(0); FEW_ARGUMENTS];
         return ask_over(contents, state, host, slots, at, import, height, &mut few);
     }
-    let mut many = [Value::I32(0); MAX_HEIGHT];
-    ask_over(contents, state, host, slots, at, import, height, &mut many)
+    ask_with_many(contents, state, host, slots, at, import, height)
 }

@@ -1,12 +1,13 @@
 // Calls of functions from outside (WebAssembly Core 1.0, 4.5.5).
 
 ghost use Rattle.std.specs.Prelude.{◌≡◌, ◌+◌, ◌≤◌, ◌<◌, length, None, IfSome};
+ghost use Rattle.events.specs.Bare.{whole};
 ghost use Rattle.validate.specs.Valid.{ValidModule};
 ghost use Rattle.validate.specs.Targets.{AreTables};
 ghost use Rattle.instance.specs.Storing.{IsStoreOf};
 ghost use Rattle.interp.specs.Run.{as_operands};
 ghost use Rattle.interp.specs.Hosting.{Names};
-ghost use Rattle.interp.specs.Invoking.{TakesArguments, Invoked, ReturnsTyped};
+ghost use Rattle.interp.specs.Invoking.{TakesArguments, HasNoResults, Invoked, ReturnsTyped};
 ghost use Rattle.interp.specs.Stopping.{Tells};
 ghost use Rattle.instance.specs.Inner.Stops.{stop_of};
 
@@ -14,7 +15,7 @@ use crate::host::{Args, Host};
 use crate::opening::open;
 use crate::over_host::run_over_host;
 use engine::Program;
-use events::ended::{Ended, Ending};
+use events::ended::{BareEnded, BareEnding, Ended, Ending};
 use events::values::Values;
 use instance::stack::{Caller, Last, Slots, Stack};
 use instance::state::{Instance, State};
@@ -29,36 +30,38 @@ fn answered(answer: Option<Value>) -> Values
 {
     match answer {
         Some(value) => Values::from_slice(&[value]),
-        None => Values::from_slice(&[]),
+        None => Values::empty(),
     }
 }
 
-/// Asks the host for an import.
+/// Asks the host for an import. In its own place, since the room for an answer is filled with zeros.
+#[inline(never)]
 fn invoke_import<H: Host>(
     contents: &Contents,
     state: &mut State,
     host: &mut H,
+    ended: &mut Ended,
     import: u32,
     args: &[Value],
     fuel: u64,
     depth: u32,
-) -> Ended
+)
     requires store { IsStoreOf contents.now state.old }
     requires names { Names contents.now (H.types host.old) }
     requires typed { TakesArguments contents.now import args.now }
     requires imported { import < length contents.now.imports }
-    ensures runs { Invoked contents.now depth fuel H.moves state.old host.old import args.now result state.new host.new }
-    ensures within { result.used ≤ fuel }
-    ensures results { ReturnsTyped contents.now import result.ending }
+    ensures runs { Invoked contents.now depth fuel H.moves state.old host.old import args.now ended.new state.new host.new }
+    ensures within { ended.new.used ≤ fuel }
+    ensures results { ReturnsTyped contents.now import ended.new.ending }
     ensures kept { IsStoreOf contents.now state.new }
     ensures types { H.types host.new ≡ H.types host.old }
-    ensures stops { Tells contents.now depth H.moves state.old host.old import args.now result state.new host.new None }
+    ensures stops { Tells contents.now depth H.moves state.old host.old import args.now ended.new state.new host.new None }
 {
     let answer = host.call(import, &Args::new(args), state.memory_mut());
-    Ended {
+    *ended = Ended {
         ending: Ending::Return(answered(answer)),
         used: 0,
-    }
+    };
 }
 
 /// Calls a defined function.
@@ -238,6 +241,77 @@ pub fn invoke_on<H: Host>(
     ensures types { H.types host.new ≡ H.types host.old }
     ensures stops { Tells valid.now.contents depth H.moves state.old host.old function args.now result state.new host.new stack.new }
 {
+    let mut ended = unwritten();
+    invoke_into(
+        valid, state, stack, host, &mut ended, function, args, fuel, depth,
+    );
+    ended
+}
+
+/// Calls a function that has no results, as `invoke_on` does. Its ending needs no room for any.
+pub fn invoke_bare<H: Host>(
+    valid: &Valid,
+    state: &mut State,
+    stack: &mut Stack,
+    host: &mut H,
+    function: u32,
+    args: &[Value],
+    fuel: u64,
+    depth: u32,
+) -> BareEnded
+    requires store { IsStoreOf valid.now.contents state.old }
+    requires names { Names valid.now.contents (H.types host.old) }
+    requires typed { TakesArguments valid.now.contents function args.now }
+    requires bare { HasNoResults valid.now.contents function }
+    requires depth { (1 ≤ depth) × (depth ≤ MAX_DEPTH) }
+    ensures runs { Invoked valid.now.contents depth fuel H.moves state.old host.old function args.now (whole result) state.new host.new }
+    ensures within { result.used ≤ fuel }
+    ensures kept { IsStoreOf valid.now.contents state.new }
+    ensures types { H.types host.new ≡ H.types host.old }
+    ensures stops { Tells valid.now.contents depth H.moves state.old host.old function args.now (whole result) state.new host.new stack.new }
+{
+    let mut ended = unwritten();
+    invoke_into(
+        valid, state, stack, host, &mut ended, function, args, fuel, depth,
+    );
+    BareEnded {
+        ending: BareEnding::of(&ended.ending),
+        used: ended.used,
+    }
+}
+
+/// What is there before an ending is written.
+fn unwritten() -> Ended {
+    Ended {
+        ending: Ending::Return(Values::empty()),
+        used: 0,
+    }
+}
+
+/// The same as `invoke_on`, with a place that the ending is written to.
+#[inline(always)]
+fn invoke_into<H: Host>(
+    valid: &Valid,
+    state: &mut State,
+    stack: &mut Stack,
+    host: &mut H,
+    ended: &mut Ended,
+    function: u32,
+    args: &[Value],
+    fuel: u64,
+    depth: u32,
+)
+    requires store { IsStoreOf valid.now.contents state.old }
+    requires names { Names valid.now.contents (H.types host.old) }
+    requires typed { TakesArguments valid.now.contents function args.now }
+    requires depth { (1 ≤ depth) × (depth ≤ MAX_DEPTH) }
+    ensures runs { Invoked valid.now.contents depth fuel H.moves state.old host.old function args.now ended.new state.new host.new }
+    ensures within { ended.new.used ≤ fuel }
+    ensures results { ReturnsTyped valid.now.contents function ended.new.ending }
+    ensures kept { IsStoreOf valid.now.contents state.new }
+    ensures types { H.types host.new ≡ H.types host.old }
+    ensures stops { Tells valid.now.contents depth H.moves state.old host.old function args.now ended.new state.new host.new stack.new }
+{
     let contents = valid.contents();
     let Stack {
         slots,
@@ -246,15 +320,11 @@ pub fn invoke_on<H: Host>(
     } = stack;
     if (function as usize) < contents.imports.len() {
         *last = None;
-        return invoke_import(contents, state, host, function, args, fuel, depth);
+        invoke_import(contents, state, host, ended, function, args, fuel, depth);
+        return;
     }
     let tables = valid.tables();
-    let mut ended = Ended {
-        ending: Ending::Spent,
-        used: 0,
-    };
     invoke_within(
-        contents, tables, state, host, slots, frames, last, &mut ended, function, args, fuel, depth,
+        contents, tables, state, host, slots, frames, last, ended, function, args, fuel, depth,
     );
-    ended
 }

@@ -13,12 +13,13 @@ use Rattle.syntax.specs.declared.types.Value.{Value}
 use Rattle.syntax.specs.declared.types.Value.TheVariants.{I32}
 use Rattle.validate.specs.Typing.{type_of_function}
 use Rattle.validate.specs.Typing.{function_types, type_of, HasFunctionType}
+use Rattle.validate.specs.Valid.{ValidModule}
 use Rattle.handles.specs.Table.{record_of, empty_table}
 use Rattle.handles.specs.declared.handle.Record.{Record}
 use Rattle.instance.specs.Fresh.{fresh_store}
 use Rattle.instance.specs.Store.{Store}
 use Rattle.interp.specs.Hosting.{Lawful, Names}
-use Rattle.interp.specs.Invoking.{Invokes, Invoked, TakesArguments}
+use Rattle.interp.specs.Invoking.{Invokes, Invoked, TakesArguments, HasNoResults}
 use Rattle.interp.specs.Running.{end_of_run}
 use Rattle.instance.specs.Storing.{IsStoreOf}
 use Rattle.events.specs.declared.ended.Ended.{Ended}
@@ -105,39 +106,74 @@ has_type m f type h = found (slice_get (function_types m) f) refl h where
 pub takes : (m : Contents) (f : ℕ) (type : FuncType) (args : List Value) → type_of_function m f ≡ Some type → map type_of args ≡ type.params → TakesArguments m f args
 takes m f type args h fit = record { type = type; known = has_type m f type h; fit = fit }
 
--- a callback takes the number of its handle
+-- a function has one type, so where that has no results it has none
+bare_of : (m : Contents) (f : ℕ) (type : FuncType) → HasFunctionType m f type → type.results ≡ [] → HasNoResults m f
+bare_of m f type has none = record { none = one } where
+  one : (other : FuncType) → HasFunctionType m f other → other.results ≡ []
+  one other also =
+      let this : type_of_function m f ≡ Some type = rw (has.1, has.2) refl in
+      let that : type_of_function m f ≡ Some other = rw (also.1, also.2) refl in
+      let both : Some other ≡ Some type = sym that ∙ this in
+      let same : other ≡ type = cc in
+      ap (λ (t : FuncType). t.results) same ∙ none
+
+pub gives_nothing : (m : Contents) (f : ℕ) (type : FuncType) → type_of_function m f ≡ Some type → type.results ≡ [] → HasNoResults m f
+gives_nothing m f type h none = bare_of m f type (has_type m f type h) none
+
+-- nor has the start function
+pub start_bare : (m : Contents) (f : ℕ) → m.start ≡ Some f → ValidModule m → HasNoResults m f
+start_bare m f is valid = of_start m.start is valid.start where
+  of_start : (o : Option ℕ) → o ≡ Some f → IfSome o (λ g. HasFunctionType m g (record { params = []; results = [] })) → HasNoResults m f
+  of_start None e h = absurd (cc)
+  of_start (Some g) e h =
+      let same : g ≡ f = cc in
+      bare_of m f (record { params = []; results = [] }) (subst (λ k. HasFunctionType m k (record { params = []; results = [] })) same h) refl
+
+-- a callback takes the number of its handle, and has no results
 module _ (m : Contents) (f n : ℕ) where
-  by_types : (params results : List ValType) → takes_one_number params results ≡ true → params ≡ valtype.I32 ∷ []
+  abbrev Fits : Type 0
+  Fits = TakesArguments m f (I32 n ∷ []) × HasNoResults m f
+
+  by_types : (params results : List ValType) → takes_one_number params results ≡ true → (params ≡ valtype.I32 ∷ []) × (results ≡ [])
   by_types [] results h = absurd (cc)
-  by_types (valtype.I32 ∷ []) results h = refl
+  by_types (valtype.I32 ∷ []) [] h = (refl, refl)
+  by_types (valtype.I32 ∷ []) (r ∷ results) h = absurd (cc)
   by_types (valtype.I32 ∷ p ∷ params) results h = absurd (cc)
   by_types (valtype.I64 ∷ params) results h = absurd (cc)
 
-  typed : (o : Option FuncType) (k : ℕ) → type_of_function m k ≡ o → (cond (option_map_or (λ t. takes_one_number t.params t.results) o false) (Some k) None) ≡ Some f → TakesArguments m f (I32 n ∷ [])
+  typed : (o : Option FuncType) (k : ℕ) → type_of_function m k ≡ o → (cond (option_map_or (λ t. takes_one_number t.params t.results) o false) (Some k) None) ≡ Some f → Fits
   typed None k e h = absurd (cc)
   typed (Some t) k e h = chosen (takes_one_number t.params t.results) refl h where
-    chosen : (b : Bool) → takes_one_number t.params t.results ≡ b → (cond b (Some k) None) ≡ Some f → TakesArguments m f (I32 n ∷ [])
+    chosen : (b : Bool) → takes_one_number t.params t.results ≡ b → (cond b (Some k) None) ≡ Some f → Fits
     chosen false is found = absurd (cc)
     chosen true is found =
         let same : k ≡ f = cc in
-        takes m f t (I32 n ∷ []) (subst (λ i. type_of_function m i ≡ Some t) same e) (sym (by_types t.params t.results is))
+        let known = subst (λ i. type_of_function m i ≡ Some t) same e in
+        let types = by_types t.params t.results is in
+        (takes m f t (I32 n ∷ []) known (sym types.0), gives_nothing m f t known types.1)
 
-  of_element : (o : Option ℕ) → callback_in m o ≡ Some f → TakesArguments m f (I32 n ∷ [])
+  of_element : (o : Option ℕ) → callback_in m o ≡ Some f → Fits
   of_element None h = absurd (cc)
   of_element (Some k) h = typed (type_of_function m k) k refl h
 
-  of_found : (o : Option (Option ℕ)) → in_table (option_map (callback_in m) o) ≡ Some f → TakesArguments m f (I32 n ∷ [])
+  of_found : (o : Option (Option ℕ)) → in_table (option_map (callback_in m) o) ≡ Some f → Fits
   of_found None h = absurd (cc)
   of_found (Some element) h = of_element element h
 
-  of_callback : (at : ℕ) → callback_function (callbacks_of m) at ≡ Some f → TakesArguments m f (I32 n ∷ [])
+  of_callback : (at : ℕ) → callback_function (callbacks_of m) at ≡ Some f → Fits
   of_callback at h = of_found (slice_get (fresh_store m).table at) (subst (λ o. in_table o ≡ Some f) (slice_get-map (callback_in m) (fresh_store m).table at) h)
 
-  pub handle_takes : (r : Roster) (handle : ℕ) → r.callbacks ≡ callbacks_of m → handle_function r handle ≡ Some f → TakesArguments m f (I32 n ∷ [])
-  handle_takes r handle same h = of_record (record_of r.handles handle) h where
-    of_record : (o : Option Record) → option_and_then (λ it. callback_function r.callbacks it.callback) o ≡ Some f → TakesArguments m f (I32 n ∷ [])
+  handle_fits : (r : Roster) (handle : ℕ) → r.callbacks ≡ callbacks_of m → handle_function r handle ≡ Some f → Fits
+  handle_fits r handle same h = of_record (record_of r.handles handle) h where
+    of_record : (o : Option Record) → option_and_then (λ it. callback_function r.callbacks it.callback) o ≡ Some f → Fits
     of_record None k = absurd (cc)
     of_record (Some it) k = of_callback it.callback (subst (λ cs. callback_function cs it.callback ≡ Some f) same k)
+
+  pub handle_takes : (r : Roster) (handle : ℕ) → r.callbacks ≡ callbacks_of m → handle_function r handle ≡ Some f → TakesArguments m f (I32 n ∷ [])
+  handle_takes r handle same h = (handle_fits r handle same h).0
+
+  pub handle_bare : (r : Roster) (handle : ℕ) → r.callbacks ≡ callbacks_of m → handle_function r handle ≡ Some f → HasNoResults m f
+  handle_bare r handle same h = (handle_fits r handle same h).1
 
 -- a callback that ran on the host of a loop
 module _ {G S : Type 0} (calls : Calls S) (setting : G → Setting) (standing : G → State × S) (l v : Loaded) (is : v ≡ l) (g : Setting) (old : Loop S) (keeps : Keeps l g old.state old.store) (before after : G) (made : setting before ≡ g) (reply : Option (List ℕ)) (begins : standing before ≡ (begun old.state reply, old.shared)) (t : Store) (function : ℕ) (args : List Value) (ended : Ended) (h : Invoked v.contents g.depth g.fuel (Answered calls setting standing) old.store before function args ended t after) where

@@ -1,4 +1,5 @@
 -- No public clause reaches these: how the code keeps a loop.
+pub mod Bare
 pub mod Codes
 pub mod Hosting
 pub mod Progress

@@ -4,7 +4,7 @@ ghost use Rattle.std.specs.Prelude.{◌≡◌, ◌↔◌, ◌≤◌, ℕ, List, 
 ghost use Rattle.std.specs.Arc.{arc_value};
 ghost use Rattle.std.specs.Int.{w32, cast_unsigned};
 ghost use Rattle.limits.specs.declared.TheConstants.{MAX_ASYNCS, MAX_DEPTH, MAX_EMITS, MAX_REQUESTS};
-ghost use Rattle.interp.specs.Invoking.{TakesArguments};
+ghost use Rattle.interp.specs.Invoking.{TakesArguments, HasNoResults};
 ghost use Rattle.imports.specs.Linking.{ExportsFunction};
 ghost use Rattle.instance.specs.Fresh.{IsFresh};
 ghost use Rattle.order.specs.Orders.{order_of};
@@ -14,6 +14,7 @@ ghost use Rattle.phases.specs.Outside.{after_clock, is_failed, next_order_of, Ca
 ghost use Rattle.phases.specs.Guests.{GuestCall};
 ghost use Rattle.order.specs.Runnable.{CanRun};
 ghost use Rattle.phases.specs.PhaseList.{begin_list, hint_of, is_alive, IsAlive, IsHint};
+ghost use Rattle.phases.specs.Inner.Bare.{whole};
 ghost use Rattle.phases.specs.Inner.Ready.{IsReady, Spares};
 ghost use Rattle.phases.specs.Requests.{IsLowestOpen};
 ghost use Rattle.phases.specs.Roster.{opening_roster};
@@ -21,6 +22,7 @@ ghost use Rattle.phases.specs.State.{opening};
 ghost use Rattle.phases.specs.Step.{LoopStep, ListStep, EntryStep, CallsBack, CallsHandle, RunsFrom, Skips, TakesFirst, AfterWork, is_as_listed};
 ghost use Rattle.phases.specs.View.{new_view};
 
+use crate::did::BareDid;
 use crate::entry::{Entry, Status};
 use crate::loop_host::LoopHost;
 use crate::opening::opened;
@@ -33,7 +35,7 @@ use handles::Kind;
 use imports::{EntryPoint, Linked};
 use instance::stack::Stop;
 use instance::state::Instance;
-use interp::invoke::invoke;
+use interp::invoke::invoke_bare;
 use order::laws::imports_are_named;
 use order::{Order, Reply};
 use std::alloc::{AllocError, Global};
@@ -137,15 +139,22 @@ impl<B: Shared + Drop> LoopCore<B> {
         ensures step { LoopStep B.calls self.old.setting self.old.loop result self.new.loop }
         ensures setting { self.new.setting ≡ self.old.setting }
     {
+        self.step_bare().whole()
+    }
+
+    fn step_bare(&mut self) -> BareDid
+        ensures step { LoopStep B.calls self.old.setting self.old.loop (whole result) self.new.loop }
+        ensures setting { self.new.setting ≡ self.old.setting }
+    {
         match self.host.state.status() {
             Status::Running => self.go_on(),
-            Status::Over => StepDid::Over,
-            Status::Failed => StepDid::Failed,
+            Status::Over => BareDid::Over,
+            Status::Failed => BareDid::Failed,
         }
     }
 
-    fn go_on(&mut self) -> StepDid
-        ensures step { (made : List GuestCall) × ListStep B.calls self.old.setting self.old.loop self.old.loop.state.list result made self.new.loop }
+    fn go_on(&mut self) -> BareDid
+        ensures step { (made : List GuestCall) × ListStep B.calls self.old.setting self.old.loop self.old.loop.state.list (whole result) made self.new.loop }
         ensures setting { self.new.setting ≡ self.old.setting }
     {
         let Some(entry) = self.host.state.front() else {
@@ -156,10 +165,10 @@ impl<B: Shared + Drop> LoopCore<B> {
     }
 
     // Runs an entry that was taken off the list.
-    fn run(&mut self, entry: Entry) -> StepDid
+    fn run(&mut self, entry: Entry) -> BareDid
         requires ready { IsReady self.old.setting.loaded.contents self.old.loop.state entry }
         requires apart { All (Spares entry) self.old.loop.state.list }
-        ensures step { (made : List GuestCall) × EntryStep B.calls self.old.setting self.old.loop entry result made self.new.loop }
+        ensures step { (made : List GuestCall) × EntryStep B.calls self.old.setting self.old.loop entry (whole result) made self.new.loop }
         ensures setting { self.new.setting ≡ self.old.setting }
     {
         match entry {
@@ -178,9 +187,10 @@ impl<B: Shared + Drop> LoopCore<B> {
         }
     }
 
-    fn run_start(&mut self) -> StepDid
+    #[tactic(auto, using(crate::proofs::LoopsKeep::start_bare))]
+    fn run_start(&mut self) -> BareDid
         requires ready { IsReady self.old.setting.loaded.contents self.old.loop.state Entry.Start }
-        ensures step { (made : List GuestCall) × EntryStep B.calls self.old.setting self.old.loop Entry.Start result made self.new.loop }
+        ensures step { (made : List GuestCall) × EntryStep B.calls self.old.setting self.old.loop Entry.Start (whole result) made self.new.loop }
         ensures setting { self.new.setting ≡ self.old.setting }
     {
         let Some(function) = self.linked.valid().contents().start else {
@@ -189,9 +199,9 @@ impl<B: Shared + Drop> LoopCore<B> {
         self.call(EntryKind::Start, 0, function, &[], None)
     }
 
-    fn run_main(&mut self) -> StepDid
+    fn run_main(&mut self) -> BareDid
         requires ready { IsReady self.old.setting.loaded.contents self.old.loop.state Entry.Main }
-        ensures step { (made : List GuestCall) × EntryStep B.calls self.old.setting self.old.loop Entry.Main result made self.new.loop }
+        ensures step { (made : List GuestCall) × EntryStep B.calls self.old.setting self.old.loop Entry.Main (whole result) made self.new.loop }
         ensures setting { self.new.setting ≡ self.old.setting }
     {
         let Some(function) = self.linked.entry(EntryPoint::Main) else {
@@ -200,13 +210,13 @@ impl<B: Shared + Drop> LoopCore<B> {
         self.call(EntryKind::Main, 0, function, &[], None)
     }
 
-    fn run_timer(&mut self, handle: u32, start: u64) -> StepDid
-        ensures step { (made : List GuestCall) × EntryStep B.calls self.old.setting self.old.loop (Entry.Timer handle start) result made self.new.loop }
+    fn run_timer(&mut self, handle: u32, start: u64) -> BareDid
+        ensures step { (made : List GuestCall) × EntryStep B.calls self.old.setting self.old.loop (Entry.Timer handle start) (whole result) made self.new.loop }
         ensures setting { self.new.setting ≡ self.old.setting }
     {
         match self.host.state.fire(handle, start) {
             Some(function) => self.call_handle(EntryKind::Timer, handle, function),
-            None => StepDid::Skipped {
+            None => BareDid::Skipped {
                 kind: EntryKind::Timer,
                 number: handle,
             },
@@ -214,25 +224,25 @@ impl<B: Shared + Drop> LoopCore<B> {
     }
 
     // An idle or a check handle.
-    fn run_listed(&mut self, listed: Kind, kind: EntryKind, handle: u32, start: u64) -> StepDid
+    fn run_listed(&mut self, listed: Kind, kind: EntryKind, handle: u32, start: u64) -> BareDid
         ensures step { (made : List GuestCall) × MatchBool (is_as_listed listed self.old.loop.state.roster handle start)
-            (CallsHandle B.calls self.old.setting self.old.loop self.old.loop.state.roster kind handle result made self.new.loop)
-            (Skips B.calls self.old.setting self.old.loop kind handle result made self.new.loop) }
+            (CallsHandle B.calls self.old.setting self.old.loop self.old.loop.state.roster kind handle (whole result) made self.new.loop)
+            (Skips B.calls self.old.setting self.old.loop kind handle (whole result) made self.new.loop) }
         ensures setting { self.new.setting ≡ self.old.setting }
     {
         match self.host.state.listed_function(listed, handle, start) {
             Some(function) => self.call_handle(kind, handle, function),
-            None => StepDid::Skipped {
+            None => BareDid::Skipped {
                 kind,
                 number: handle,
             },
         }
     }
 
-    fn run_after_work(&mut self, request: u32) -> StepDid
+    fn run_after_work(&mut self, request: u32) -> BareDid
         requires ready { IsReady self.old.setting.loaded.contents self.old.loop.state (Entry.After request) }
         requires apart { All (Spares (Entry.After request)) self.old.loop.state.list }
-        ensures step { (made : List GuestCall) × EntryStep B.calls self.old.setting self.old.loop (Entry.After request) result made self.new.loop }
+        ensures step { (made : List GuestCall) × EntryStep B.calls self.old.setting self.old.loop (Entry.After request) (whole result) made self.new.loop }
         ensures setting { self.new.setting ≡ self.old.setting }
     {
         let Some(function) = self.linked.entry(EntryPoint::AfterWork) else {
@@ -254,9 +264,9 @@ impl<B: Shared + Drop> LoopCore<B> {
     }
 
     // What waits at the async is taken first; where that is nothing, no callback runs.
-    fn run_async(&mut self, async_no: u32) -> StepDid
+    fn run_async(&mut self, async_no: u32) -> BareDid
         requires ready { IsReady self.old.setting.loaded.contents self.old.loop.state (Entry.Async async_no) }
-        ensures step { (made : List GuestCall) × EntryStep B.calls self.old.setting self.old.loop (Entry.Async async_no) result made self.new.loop }
+        ensures step { (made : List GuestCall) × EntryStep B.calls self.old.setting self.old.loop (Entry.Async async_no) (whole result) made self.new.loop }
         ensures setting { self.new.setting ≡ self.old.setting }
     {
         let Some(handle) = self.host.state.async_at(async_no) else {
@@ -264,13 +274,13 @@ impl<B: Shared + Drop> LoopCore<B> {
         };
         let kind = EntryKind::Async;
         let Some((_, function)) = self.host.state.active_async(async_no) else {
-            return StepDid::Skipped {
+            return BareDid::Skipped {
                 kind,
                 number: handle,
             };
         };
         if self.host.shared.take(async_no) == 0 {
-            return StepDid::Skipped {
+            return BareDid::Skipped {
                 kind,
                 number: handle,
             };
@@ -279,10 +289,10 @@ impl<B: Shared + Drop> LoopCore<B> {
     }
 
     // The handle is removed first.
-    fn run_close(&mut self, handle: u32) -> StepDid
+    fn run_close(&mut self, handle: u32) -> BareDid
         requires ready { IsReady self.old.setting.loaded.contents self.old.loop.state (Entry.Close handle) }
         requires apart { All (Spares (Entry.Close handle)) self.old.loop.state.list }
-        ensures step { (made : List GuestCall) × EntryStep B.calls self.old.setting self.old.loop (Entry.Close handle) result made self.new.loop }
+        ensures step { (made : List GuestCall) × EntryStep B.calls self.old.setting self.old.loop (Entry.Close handle) (whole result) made self.new.loop }
         ensures setting { self.new.setting ≡ self.old.setting }
     {
         let function = self.host.state.finish_closing(handle);
@@ -290,9 +300,10 @@ impl<B: Shared + Drop> LoopCore<B> {
     }
 
     // A handle's callback is given its number.
-    fn call_handle(&mut self, kind: EntryKind, handle: u32, function: u32) -> StepDid
+    fn call_handle(&mut self, kind: EntryKind, handle: u32, function: u32) -> BareDid
         requires callback { TakesArguments self.old.setting.loaded.contents function (Value.I32 handle ∷ []) }
-        ensures run { (made : List GuestCall) × RunsFrom B.calls self.old.setting self.old.loop kind handle function (Value.I32 handle ∷ []) None result made self.new.loop }
+        requires bare { HasNoResults self.old.setting.loaded.contents function }
+        ensures run { (made : List GuestCall) × RunsFrom B.calls self.old.setting self.old.loop kind handle function (Value.I32 handle ∷ []) None (whole result) made self.new.loop }
         ensures setting { self.new.setting ≡ self.old.setting }
     {
         self.call(kind, handle, function, &[Value::I32(handle)], None)
@@ -305,27 +316,30 @@ impl<B: Shared + Drop> LoopCore<B> {
         function: u32,
         args: &[Value],
         reply: Option<Vec<u8>>,
-    ) -> StepDid
+    ) -> BareDid
         requires takes { TakesArguments self.old.setting.loaded.contents function args.now }
+        requires bare { HasNoResults self.old.setting.loaded.contents function }
         requires short { IsShort (option_map (λ v. v.items) reply) }
-        ensures run { (made : List GuestCall) × RunsFrom B.calls self.old.setting self.old.loop kind number function args.now (option_map (λ v. v.items) reply) result made self.new.loop }
+        ensures run { (made : List GuestCall) × RunsFrom B.calls self.old.setting self.old.loop kind number function args.now (option_map (λ v. v.items) reply) (whole result) made self.new.loop }
         ensures setting { self.new.setting ≡ self.old.setting }
     {
         self.host.state.begin_callback(reply);
         let LoopSettings { fuel, depth, .. } = self.host.setting.settings;
         imports_are_named(&self.linked);
         let valid = self.linked.valid();
-        let ended = invoke(
+        let Instance { state, stack } = &mut self.instance;
+        let ended = invoke_bare(
             valid,
-            &mut self.instance,
+            state,
+            stack,
             &mut self.host,
             function,
             args,
             fuel,
             depth,
         );
-        self.host.state.end_callback(&ended);
-        StepDid::Ran {
+        self.host.state.end_callback(ended);
+        BareDid::Ran {
             kind,
             number,
             ended,

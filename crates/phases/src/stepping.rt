@@ -2,10 +2,13 @@
 
 ghost use Rattle.std.specs.Prelude.{◌≡◌, ◌≤◌, ◌<◌, [], length, Some, None, true, false, drop, slice_get, IfSome, IfNone, MatchOption, option_map};
 ghost use Rattle.handles.specs.Table.{IsClosing, IsOpen, record_of, after_again};
+ghost use Rattle.events.specs.Bare.{whole as whole_ended, whole_ending};
+ghost use Rattle.events.specs.declared.did.StepDid.TheVariants as step_did;
 ghost use Rattle.limits.specs.declared.TheConstants.{MAX_ASYNCS, MAX_BYTES};
 ghost use Rattle.phases.specs.Fitting.{IsShort};
 ghost use Rattle.phases.specs.Host.{with_roster, with_requests};
 ghost use Rattle.phases.specs.PhaseList.{is_active_handle, is_alive, phase_list};
+ghost use Rattle.phases.specs.Inner.Bare.{whole};
 ghost use Rattle.phases.specs.Inner.Progress.{completion_in};
 ghost use Rattle.syntax.specs.declared.contents.Contents.{Contents};
 ghost use Rattle.phases.specs.Inner.Ready.{AreReady};
@@ -13,11 +16,11 @@ ghost use Rattle.phases.specs.Requests.{request_of, without_request, is_settled,
 ghost use Rattle.phases.specs.Roster.{async_handle, with_handles, without_handle};
 ghost use Rattle.phases.specs.Step.{turn, in_phase, now_in, moment_in, begun, finished, returns, is_as_listed, handle_function};
 
+use crate::did::BareDid;
 use crate::entry::{Entry, Status};
 use crate::loop_state::LoopState;
 use crate::progress::Completion;
-use events::did::StepDid;
-use events::ended::{Ended, Ending};
+use events::ended::{BareEnded, BareEnding};
 use events::phase::Phase;
 use handles::Kind;
 use std::alloc::Global;
@@ -45,8 +48,8 @@ impl LoopState {
     }
 
     /// Where the list is used up: the loop is over, or enters the next phase.
-    pub fn turn(&mut self) -> StepDid
-        ensures did { result ≡ (turn self.old).0 }
+    pub fn turn(&mut self) -> BareDid
+        ensures did { whole result ≡ (turn self.old).0 }
         ensures state { self.new ≡ (turn self.old).1 }
         ensures ready { (m : Contents) → self.old.list ≡ [] → AreReady m self.new }
     {
@@ -54,13 +57,13 @@ impl LoopState {
         self.requests.keeps();
         if self.phase.may_end() && !self.is_alive() {
             self.status = Status::Over;
-            return StepDid::Over;
+            return BareDid::Over;
         }
         self.enter(self.phase.next())
     }
 
-    fn enter(&mut self, phase: Phase) -> StepDid
-        ensures did { result ≡ StepDid.Entered phase (now_in self.old phase) }
+    fn enter(&mut self, phase: Phase) -> BareDid
+        ensures did { whole result ≡ step_did.Entered phase (now_in self.old phase) }
         ensures state { self.new ≡ record (in_phase self.old phase) { list = phase_list (in_phase self.old phase) phase } }
     {
         self.phase = phase;
@@ -68,7 +71,7 @@ impl LoopState {
             self.time = self.clock;
         }
         self.list();
-        StepDid::Entered {
+        BareDid::Entered {
             phase,
             now: self.time,
         }
@@ -155,18 +158,18 @@ impl LoopState {
     }
 
     /// A callback has ended. Where it did not return, the loop has failed.
-    pub fn end_callback(&mut self, ended: &Ended)
-        ensures { self.new ≡ finished self.old ended.now }
+    pub fn end_callback(&mut self, ended: BareEnded)
+        ensures { self.new ≡ finished self.old (whole_ended ended) }
     {
         self.reply = None;
-        if !returned(&ended.ending) {
+        if !returned(ended.ending) {
             self.status = Status::Failed;
         }
     }
 }
 
-fn returned(ending: &Ending) -> bool
-    ensures { result ≡ returns ending.now }
+fn returned(ending: BareEnding) -> bool
+    ensures { result ≡ returns (whole_ending ending) }
 {
-    matches!(ending, Ending::Return(_))
+    matches!(ending, BareEnding::Return)
 }

@@ -2,6 +2,7 @@ use Rattle.std.proofs.Common.{refl, sym, ap, subst, ◌∙◌}
 use Rattle.std.specs.Arc.{arc_value}
 use Rattle.std.specs.Option.{option_map}
 use Rattle.syntax.specs.Loaded.{Loaded}
+use Rattle.events.specs.Bare.{whole}
 use Rattle.imports.specs.Linking.{IsLinked}
 use Rattle.phases.specs.Inner.Keeping.{Keeps}
 use Rattle.phases.specs.Inner.Setting.{setting_of}
@@ -15,14 +16,14 @@ invariant_of-self-inside g c = record {
   opened = subst (λ (s : State). AreOpenedUpTo s.requests.last (g.B.Shared.calls.view c.self.inside.host.shared)) (sym c.begin_callback.ensures) c.self.inside.host.opened;
 }
 
-pub invoke-ended-requires-clause-names : goal.invoke-ended-requires-clause-names
-invoke-ended-requires-clause-names g c =
+pub invoke_bare-ended-requires-clause-names : goal.invoke_bare-ended-requires-clause-names
+invoke_bare-ended-requires-clause-names g c =
     names_of c.valid-valid.result.now c.deref.result.now (arc_value c.self.inside.linked) (arc_value c.self.inside.host.setting.linked) (c.valid-valid.ensures.same ∙ c.deref-2.ensures ∙ sym c.deref.ensures) c.deref.ensures c.self.invariant.same
     c.imports_are_named.ensures
 
 pub invariant_of-self-inside-2 : goal.invariant_of-self-inside-2
 invariant_of-self-inside-2 g c = record {
-  opened = subst (λ (s : State). AreOpenedUpTo s.requests.last (g.B.Shared.calls.view c.invoke-ended.new.host.shared)) (sym c.end_callback.ensures) c.invoke-ended.new.host.opened;
+  opened = subst (λ (s : State). AreOpenedUpTo s.requests.last (g.B.Shared.calls.view c.invoke_bare-ended.new.host.shared)) (sym c.end_callback.ensures) c.invoke_bare-ended.new.host.opened;
 }
 
 pub invariant_of-self : goal.invariant_of-self
@@ -32,10 +33,11 @@ invariant_of-self g c =
     let begins = ap (λ (s : State). (s, c.self.inside.host.shared)) c.begin_callback.ensures in
     let is = c.valid-valid.ensures.same ∙ c.deref-2.ensures in
     let old : Loop _ = record { state = c.self.inside.host.state; store = c.self.inside.instance; shared = c.self.inside.host.shared } in
-    let kept = kept_after g.B.Shared.calls (λ h. setting_of h.setting) (λ h. (h.state, h.shared)) (arc_value c.self.inside.linked) c.valid-valid.result.now is set old c.self.invariant _ c.invoke-ended.new.host refl reply begins c.invoke-ended.new.instance c.args.function c.args.args.now c.invoke-ended.result c.invoke-ended.ensures.runs
-    (subst (λ (x : Loaded). IsLinked x.contents) (sym c.valid-valid.ensures.same) c.valid-valid.ensures.linked) c.invoke-ended.ensures.kept c.end_callback.new.self c.end_callback.ensures in
-    let same = same_setting g.B.Shared.calls (λ h. setting_of h.setting) (λ h. (h.state, h.shared)) (arc_value c.self.inside.linked) c.valid-valid.result.now is set old c.self.invariant _ c.invoke-ended.new.host refl reply begins c.invoke-ended.new.instance c.args.function c.args.args.now c.invoke-ended.result c.invoke-ended.ensures.runs in
-    subst (λ (x : Setting). Keeps (arc_value c.self.inside.linked) x c.end_callback.new.self c.invoke-ended.new.instance) (sym same) kept
+    let runs = rw c.self-2.view_is at c.invoke_bare-ended.ensures.runs in
+    let kept = kept_after g.B.Shared.calls (λ h. setting_of h.setting) (λ h. (h.state, h.shared)) (arc_value c.self.inside.linked) c.valid-valid.result.now is set old c.self.invariant _ c.invoke_bare-ended.new.host refl reply begins c.invoke_bare-ended.new.state c.args.function c.args.args.now (whole c.invoke_bare-ended.result) runs
+    (subst (λ (x : Loaded). IsLinked x.contents) (sym c.valid-valid.ensures.same) c.valid-valid.ensures.linked) c.invoke_bare-ended.ensures.kept c.end_callback.new.self c.end_callback.ensures in
+    let same = same_setting g.B.Shared.calls (λ h. setting_of h.setting) (λ h. (h.state, h.shared)) (arc_value c.self.inside.linked) c.valid-valid.result.now is set old c.self.invariant _ c.invoke_bare-ended.new.host refl reply begins c.invoke_bare-ended.new.state c.args.function c.args.args.now (whole c.invoke_bare-ended.result) runs in
+    subst (λ (x : Setting). Keeps (arc_value c.self.inside.linked) x c.end_callback.new.self c.invoke_bare-ended.new.state) (sym same) kept
 
 pub returns-clause-run : goal.returns-clause-run
 returns-clause-run g c =
@@ -44,7 +46,8 @@ returns-clause-run g c =
     let begins = ap (λ (s : State). (s, c.self.inside.host.shared)) c.begin_callback.ensures in
     let is = c.valid-valid.ensures.same ∙ c.deref-2.ensures in
     let old : Loop _ = record { state = c.self.inside.host.state; store = c.self.inside.instance; shared = c.self.inside.host.shared } in
-    rw (← c.self.view_is) (runs_from g.B.Shared.calls (λ h. setting_of h.setting) (λ h. (h.state, h.shared)) (arc_value c.self.inside.linked) c.valid-valid.result.now is set old c.self.invariant _ c.invoke-ended.new.host refl reply begins c.invoke-ended.new.instance c.args.function c.args.args.now c.invoke-ended.result c.invoke-ended.ensures.runs c.args.kind c.args.number c.end_callback.new.self c.end_callback.ensures)
+    let runs = rw c.self-2.view_is at c.invoke_bare-ended.ensures.runs in
+    rw (← c.self.view_is) (runs_from g.B.Shared.calls (λ h. setting_of h.setting) (λ h. (h.state, h.shared)) (arc_value c.self.inside.linked) c.valid-valid.result.now is set old c.self.invariant _ c.invoke_bare-ended.new.host refl reply begins c.invoke_bare-ended.new.state c.args.function c.args.args.now (whole c.invoke_bare-ended.result) runs c.args.kind c.args.number c.end_callback.new.self c.end_callback.ensures)
 
 pub returns-clause-setting : goal.returns-clause-setting
 returns-clause-setting g c =
@@ -53,4 +56,5 @@ returns-clause-setting g c =
     let begins = ap (λ (s : State). (s, c.self.inside.host.shared)) c.begin_callback.ensures in
     let is = c.valid-valid.ensures.same ∙ c.deref-2.ensures in
     let old : Loop _ = record { state = c.self.inside.host.state; store = c.self.inside.instance; shared = c.self.inside.host.shared } in
-    rw (← c.self.view_is) (same_setting g.B.Shared.calls (λ h. setting_of h.setting) (λ h. (h.state, h.shared)) (arc_value c.self.inside.linked) c.valid-valid.result.now is set old c.self.invariant _ c.invoke-ended.new.host refl reply begins c.invoke-ended.new.instance c.args.function c.args.args.now c.invoke-ended.result c.invoke-ended.ensures.runs)
+    let runs = rw c.self-2.view_is at c.invoke_bare-ended.ensures.runs in
+    rw (← c.self.view_is) (same_setting g.B.Shared.calls (λ h. setting_of h.setting) (λ h. (h.state, h.shared)) (arc_value c.self.inside.linked) c.valid-valid.result.now is set old c.self.invariant _ c.invoke_bare-ended.new.host refl reply begins c.invoke_bare-ended.new.state c.args.function c.args.args.now (whole c.invoke_bare-ended.result) runs)

@@ -1,5 +1,6 @@
 use Rattle.std.proofs.Common.{refl, sym, subst, ap, drop, ◌∙◌, List, []}
 use Rattle.std.specs.Arc.{arc_value}
+use Rattle.phases.specs.Inner.Bare.{whole}
 use Rattle.phases.specs.Inner.Keeping.{Keeps, AreOrdersOf}
 use Rattle.phases.specs.Inner.Ready.{IsReady}
 use Rattle.phases.specs.Requests.{Requests}
@@ -69,9 +70,9 @@ returns-clause-step g c =
     let set = setting_of c.self.inside.host.setting in
     let made = c.run.ensures.step.0 in (
       made,
-      subst (λ now. ListStep g.B.Shared.calls now.setting now.loop now.loop.state.list c.run.result made c.run.new.self.loop) c.self.view_is
-          (subst (λ (list : List Entry). ListStep g.B.Shared.calls set (record { state = s; store = c.self.inside.instance; shared = c.self.inside.host.shared }) list c.run.result made c.run.new.self.loop) (sym is)
-          (subst (λ (u : State). EntryStep g.B.Shared.calls set (record { state = u; store = c.self.inside.instance; shared = c.self.inside.host.shared }) c.in-Some.entry c.run.result made c.run.new.self.loop) c.pop.ensures c.run.ensures.step.1)),
+      subst (λ now. ListStep g.B.Shared.calls now.setting now.loop now.loop.state.list (whole c.run.result) made c.run.new.self.loop) c.self.view_is
+          (subst (λ (list : List Entry). ListStep g.B.Shared.calls set (record { state = s; store = c.self.inside.instance; shared = c.self.inside.host.shared }) list (whole c.run.result) made c.run.new.self.loop) (sym is)
+          (subst (λ (u : State). EntryStep g.B.Shared.calls set (record { state = u; store = c.self.inside.instance; shared = c.self.inside.host.shared }) c.in-Some.entry (whole c.run.result) made c.run.new.self.loop) c.pop.ensures c.run.ensures.step.1)),
     )
 
 pub returns-in_default-clause-step : goal.returns-in_default-clause-step
@@ -81,6 +82,6 @@ returns-in_default-clause-step g c =
     let empty = no_front s.list (sym c.front.ensures ∙ c.in_default.is) in
     let over : State → Loop _ = λ u. record { state = u; store = c.self.inside.instance; shared = c.self.inside.host.shared } in (
       [],
-      subst (λ now. ListStep g.B.Shared.calls now.setting now.loop now.loop.state.list c.turn.result [] (over c.turn.new.self)) c.self.view_is
-          (subst (λ (list : List Entry). ListStep g.B.Shared.calls set (over s) list c.turn.result [] (over c.turn.new.self)) (sym empty) (c.turn.ensures.did, ap over c.turn.ensures.state, refl)),
+      subst (λ now. ListStep g.B.Shared.calls now.setting now.loop now.loop.state.list (whole c.turn.result) [] (over c.turn.new.self)) c.self.view_is
+          (subst (λ (list : List Entry). ListStep g.B.Shared.calls set (over s) list (whole c.turn.result) [] (over c.turn.new.self)) (sym empty) (c.turn.ensures.did, ap over c.turn.ensures.state, refl)),
     )

@@ -9,6 +9,7 @@ use Rattle.phases.specs.Inner.Setting.{setting_of}
 use Rattle.std.proofs.Common.{◌≡◌, [], ◌∷◌}
 use Rattle.syntax.specs.declared.types.Value.TheVariants.{I32}
 use Rattle.phases.specs.Host.{with_requests}
+use Rattle.phases.specs.Inner.Bare.{whole}
 use Rattle.phases.specs.Inner.Keeping.{Keeps}
 use Rattle.phases.specs.Inner.Progress.{completion_in}
 use Rattle.phases.specs.Requests.{request_of, without_request}
@@ -16,7 +17,7 @@ use Rattle.events.specs.declared.phase.EntryKind.TheVariants.{After}
 use Rattle.phases.specs.State.{State, Loop}
 use Rattle.phases.specs.Step.{AfterWork, RunsFrom, in_state}
 use Rattle.phases.specs.View.{AreOpenedUpTo}
-use Rattle.phases.proofs.LoopsKeep.{takes, not_missing, kept_with, told_of}
+use Rattle.phases.proofs.LoopsKeep.{takes, gives_nothing, not_missing, kept_with, told_of}
 use Rattle.phases.proofs.ListedStaysReady.{ready_without_request}
 use Rattle.phases.proofs.Runnable.{request_heard, other_orders}
 use Rattle.phases.proofs.loop_core.LoopCore.run_after_work.Goals as goal
@@ -49,6 +50,11 @@ call-requires-clause-takes g c =
     let typed = subst (λ (x : Loaded). type_of_function x.contents c.in-Some.function ≡ Some (type_of_entry AfterWorkExport)) (c.deref.ensures ∙ c.self.invariant.same) c.in-Some.ensures.typed in
     takes (setting_of c.self.inside.host.setting).loaded.contents c.in-Some.function (type_of_entry AfterWorkExport) _ typed refl
 
+pub call-requires-clause-bare : goal.call-requires-clause-bare
+call-requires-clause-bare g c =
+    let typed = subst (λ (x : Loaded). type_of_function x.contents c.in-Some.function ≡ Some (type_of_entry AfterWorkExport)) (c.deref.ensures ∙ c.self.invariant.same) c.in-Some.ensures.typed in
+    gives_nothing (setting_of c.self.inside.host.setting).loaded.contents c.in-Some.function (type_of_entry AfterWorkExport) typed refl
+
 pub returns-clause-step : goal.returns-clause-step
 returns-clause-step g c =
     let set = setting_of c.self.inside.host.setting in
@@ -56,6 +62,6 @@ returns-clause-step g c =
     let t = c.take_request-completion.result in
     let old : Loop _ = record { state = s; store = c.self.inside.instance; shared = c.self.inside.host.shared } in
     let exported = subst (λ (x : Loaded). ExportsFunction x.contents (name_of_entry AfterWorkExport) c.in-Some.function) (c.deref.ensures ∙ c.self.invariant.same) c.in-Some.ensures.found in
-    let run = subst (λ (u : State). RunsFrom g.B.Shared.calls set (in_state old u) After c.args.request c.in-Some.function (I32 c.args.request ∷ I32 t.kind ∷ I32 t.code ∷ []) (Some t.bytes.items) c.call.result c.call.ensures.run.0 c.call.new.self.loop)
+    let run = subst (λ (u : State). RunsFrom g.B.Shared.calls set (in_state old u) After c.args.request c.in-Some.function (I32 c.args.request ∷ I32 t.kind ∷ I32 t.code ∷ []) (Some t.bytes.items) (whole c.call.result) c.call.ensures.run.0 c.call.new.self.loop)
     c.take_request-completion.ensures.removed c.call.ensures.run.1 in
-    (c.call.ensures.run.0, rw (← c.self.view_is) (told_of (request_of s.requests c.args.request) (completion_in t) (λ x. AfterWork g.B.Shared.calls set old c.args.request x c.call.result c.call.ensures.run.0 c.call.new.self.loop) c.take_request-completion.ensures.completion (c.in-Some.function, exported, run)))
+    (c.call.ensures.run.0, rw (← c.self.view_is) (told_of (request_of s.requests c.args.request) (completion_in t) (λ x. AfterWork g.B.Shared.calls set old c.args.request x (whole c.call.result) c.call.ensures.run.0 c.call.new.self.loop) c.take_request-completion.ensures.completion (c.in-Some.function, exported, run)))

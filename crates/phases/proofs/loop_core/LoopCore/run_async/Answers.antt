@@ -3,11 +3,12 @@ use Rattle.syntax.specs.declared.types.Value.TheVariants.{I32}
 use Rattle.events.specs.declared.phase.EntryKind.TheVariants.{Async}
 use Rattle.phases.specs.PhaseList.{is_active_handle}
 use Rattle.phases.specs.Roster.{async_handle}
+use Rattle.phases.specs.Inner.Bare.{whole}
 use Rattle.phases.specs.Inner.Setting.{setting_of}
 use Rattle.phases.specs.State.{Loop}
 use Rattle.phases.specs.Step.{TakesFirst, Skips, CallsHandle, RunsFrom, handle_function, sharing}
 use Rattle.phases.proofs.GuestCallsKeep.{taken_upto}
-use Rattle.phases.proofs.LoopsKeep.{handle_takes, active_step, none_taken, some_taken, called, same_some}
+use Rattle.phases.proofs.LoopsKeep.{handle_takes, handle_bare, active_step, none_taken, some_taken, called, same_some}
 use Rattle.phases.proofs.loop_core.LoopCore.run_async.Goals as goal
 
 pub invariant_of-self-inside : goal.invariant_of-self-inside
@@ -30,10 +31,11 @@ returns-then-take-eq0-clause-step g c =
           (c.take.result, c.take.new.self, c.take.ensures, none_taken c.take.result _ _ c.if-take-eq0.true (refl, refl, refl))),
     )
 
-pub call_handle-requires : goal.call_handle-requires
-call_handle-requires g c = record {
-  callback = handle_takes _ c.in-Some-active_async.function c.in-Some.handle c.self.inside.host.state.roster c.in-Some-active_async.field-0-0 c.self.invariant.callbacks c.in-Some-active_async.ensures.some.2;
-}
+pub call_handle-requires-clause-callback : goal.call_handle-requires-clause-callback
+call_handle-requires-clause-callback g c = handle_takes _ c.in-Some-active_async.function c.in-Some.handle c.self.inside.host.state.roster c.in-Some-active_async.field-0-0 c.self.invariant.callbacks c.in-Some-active_async.ensures.some.2
+
+pub call_handle-requires-clause-bare : goal.call_handle-requires-clause-bare
+call_handle-requires-clause-bare g c = handle_bare _ c.in-Some-active_async.function c.in-Some.handle c.self.inside.host.state.roster c.in-Some-active_async.field-0-0 c.self.invariant.callbacks c.in-Some-active_async.ensures.some.2
 
 pub returns-clause-step : goal.returns-clause-step
 returns-clause-step g c =
@@ -46,9 +48,9 @@ returns-clause-step g c =
     let active = subst (λ n. is_active_handle s.roster.handles (Some n) ≡ true) same c.in-Some-active_async.ensures.some.0 in
     let function = subst (λ n. handle_function s.roster n ≡ Some c.in-Some-active_async.function) same c.in-Some-active_async.ensures.some.2 in
     let made = c.call_handle.ensures.run.0 in
-    let run : CallsHandle g.B.Shared.calls set (sharing old c.take.new.self) s.roster Async handle c.call_handle.result made c.call_handle.new.self.loop =
-    called (handle_function s.roster handle) c.in-Some-active_async.function (λ f. RunsFrom g.B.Shared.calls set (sharing old c.take.new.self) Async handle f (I32 handle ∷ []) None c.call_handle.result made c.call_handle.new.self.loop) function c.call_handle.ensures.run.1 in (
+    let run : CallsHandle g.B.Shared.calls set (sharing old c.take.new.self) s.roster Async handle (whole c.call_handle.result) made c.call_handle.new.self.loop =
+    called (handle_function s.roster handle) c.in-Some-active_async.function (λ f. RunsFrom g.B.Shared.calls set (sharing old c.take.new.self) Async handle f (I32 handle ∷ []) None (whole c.call_handle.result) made c.call_handle.new.self.loop) function c.call_handle.ensures.run.1 in (
       made,
-      rw (← c.self.view_is) (active_step (async_handle s.roster c.args.async_no) handle (λ h. is_active_handle s.roster.handles (Some h)) (λ h. TakesFirst g.B.Shared.calls set old c.args.async_no h c.call_handle.result made c.call_handle.new.self.loop) (λ h. Skips g.B.Shared.calls set old Async h c.call_handle.result made c.call_handle.new.self.loop) is active
+      rw (← c.self.view_is) (active_step (async_handle s.roster c.args.async_no) handle (λ h. is_active_handle s.roster.handles (Some h)) (λ h. TakesFirst g.B.Shared.calls set old c.args.async_no h (whole c.call_handle.result) made c.call_handle.new.self.loop) (λ h. Skips g.B.Shared.calls set old Async h (whole c.call_handle.result) made c.call_handle.new.self.loop) is active
           (c.take.result, c.take.new.self, c.take.ensures, some_taken c.take.result _ _ c.if-take-eq0.false run)),
     )

@@ -6,7 +6,7 @@ use Rattle.phases.specs.Roster.{without_handle}
 use Rattle.phases.specs.Inner.Setting.{setting_of}
 use Rattle.phases.specs.State.{State}
 use Rattle.phases.specs.View.{AreOpenedUpTo}
-use Rattle.phases.proofs.LoopsKeep.{handle_takes, kept_with}
+use Rattle.phases.proofs.LoopsKeep.{handle_takes, handle_bare, kept_with}
 use Rattle.phases.proofs.ListedStaysReady.{ready_without_handle}
 use Rattle.phases.proofs.loop_core.LoopCore.run_close.Goals as goal
 
@@ -25,7 +25,8 @@ invariant_of-self g c =
     subst (λ (u : State). Keeps l set u c.self.inside.instance) (sym c.finish_closing-function.ensures.removed)
     (kept_with l set s closed c.self.inside.instance c.self.invariant refl (ready_without_handle set.loaded.contents s c.args.handle c.self.invariant.ready apart) c.self.invariant.orders)
 
-pub call_handle-requires : goal.call_handle-requires
-call_handle-requires g c = record {
-  callback = handle_takes _ c.finish_closing-function.result c.args.handle c.self.inside.host.state.roster c.args.handle c.self.invariant.callbacks c.finish_closing-function.ensures.function;
-}
+pub call_handle-requires-clause-callback : goal.call_handle-requires-clause-callback
+call_handle-requires-clause-callback g c = handle_takes _ c.finish_closing-function.result c.args.handle c.self.inside.host.state.roster c.args.handle c.self.invariant.callbacks c.finish_closing-function.ensures.function
+
+pub call_handle-requires-clause-bare : goal.call_handle-requires-clause-bare
+call_handle-requires-clause-bare g c = handle_bare _ c.finish_closing-function.result c.args.handle c.self.inside.host.state.roster c.args.handle c.self.invariant.callbacks c.finish_closing-function.ensures.function

@@ -1,7 +1,8 @@
-use Rattle.phases.proofs.LoopsKeep.{handle_takes}
+use Rattle.phases.proofs.LoopsKeep.{handle_takes, handle_bare}
 use Rattle.phases.proofs.loop_core.LoopCore.run_listed.Goals as goal
 
-pub call_handle-requires : goal.call_handle-requires
-call_handle-requires g c = record {
-  callback = rw (← c.self.view_is) (handle_takes _ c.in-Some.function c.args.handle c.self.inside.host.state.roster c.args.handle c.self.invariant.callbacks c.in-Some.ensures.some.1);
-}
+pub call_handle-requires-clause-callback : goal.call_handle-requires-clause-callback
+call_handle-requires-clause-callback g c = rw (← c.self.view_is) (handle_takes _ c.in-Some.function c.args.handle c.self.inside.host.state.roster c.args.handle c.self.invariant.callbacks c.in-Some.ensures.some.1)
+
+pub call_handle-requires-clause-bare : goal.call_handle-requires-clause-bare
+call_handle-requires-clause-bare g c = rw (← c.self.view_is) (handle_bare _ c.in-Some.function c.args.handle c.self.inside.host.state.roster c.args.handle c.self.invariant.callbacks c.in-Some.ensures.some.1)

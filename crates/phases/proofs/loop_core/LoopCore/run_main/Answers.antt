@@ -6,7 +6,7 @@ use Rattle.imports.specs.declared.entry_point.EntryPoint.TheVariants.{Main}
 use Rattle.imports.specs.Uv.{name_of_entry, type_of_entry}
 use Rattle.phases.specs.Inner.Setting.{setting_of}
 use Rattle.std.proofs.Common.{[], ◌≡◌}
-use Rattle.phases.proofs.LoopsKeep.{takes, not_missing}
+use Rattle.phases.proofs.LoopsKeep.{takes, gives_nothing, not_missing}
 use Rattle.phases.proofs.loop_core.LoopCore.run_main.Goals as goal
 
 pub unreachable-requires : goal.unreachable-requires
@@ -18,3 +18,8 @@ pub call-requires-clause-takes : goal.call-requires-clause-takes
 call-requires-clause-takes g c =
     let typed = subst (λ (x : Loaded). type_of_function x.contents c.in-Some.function ≡ Some (type_of_entry Main)) (c.deref.ensures ∙ c.self.invariant.same) c.in-Some.ensures.typed in
     rw (← c.self.view_is) (takes (setting_of c.self.inside.host.setting).loaded.contents c.in-Some.function (type_of_entry Main) [] typed refl)
+
+pub call-requires-clause-bare : goal.call-requires-clause-bare
+call-requires-clause-bare g c =
+    let typed = subst (λ (x : Loaded). type_of_function x.contents c.in-Some.function ≡ Some (type_of_entry Main)) (c.deref.ensures ∙ c.self.invariant.same) c.in-Some.ensures.typed in
+    rw (← c.self.view_is) (gives_nothing (setting_of c.self.inside.host.setting).loaded.contents c.in-Some.function (type_of_entry Main) typed refl)

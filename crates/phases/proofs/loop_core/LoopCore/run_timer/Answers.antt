@@ -8,7 +8,7 @@ use Rattle.phases.specs.Roster.{with_handles}
 use Rattle.phases.specs.Inner.Setting.{setting_of}
 use Rattle.phases.specs.State.{State}
 use Rattle.phases.specs.View.{AreOpenedUpTo}
-use Rattle.phases.proofs.LoopsKeep.{handle_takes, kept_on}
+use Rattle.phases.proofs.LoopsKeep.{handle_takes, handle_bare, kept_on}
 use Rattle.phases.proofs.ListedStaysReady.{grows_again}
 use Rattle.phases.proofs.loop_core.LoopCore.run_timer.Goals as goal
 
@@ -26,7 +26,8 @@ invariant_of-self g c =
     subst (λ (u : State). Keeps l set u c.self.inside.instance) (sym c.in-Some.ensures.fired)
     (kept_on l set s fired c.self.inside.instance c.self.invariant (grows_again s c.args.handle s.now) c.self.invariant.orders)
 
-pub call_handle-requires : goal.call_handle-requires
-call_handle-requires g c = record {
-  callback = handle_takes _ c.in-Some.function c.args.handle c.self.inside.host.state.roster c.args.handle c.self.invariant.callbacks c.in-Some.ensures.some.1;
-}
+pub call_handle-requires-clause-callback : goal.call_handle-requires-clause-callback
+call_handle-requires-clause-callback g c = handle_takes _ c.in-Some.function c.args.handle c.self.inside.host.state.roster c.args.handle c.self.invariant.callbacks c.in-Some.ensures.some.1
+
+pub call_handle-requires-clause-bare : goal.call_handle-requires-clause-bare
+call_handle-requires-clause-bare g c = handle_bare _ c.in-Some.function c.args.handle c.self.inside.host.state.roster c.args.handle c.self.invariant.callbacks c.in-Some.ensures.some.1

@@ -1,0 +1,14 @@
+-- What a step did, while it is handed on without results.
+use Rattle.events.specs.Bare.{whole as whole_ended}
+use Rattle.events.specs.declared.did.StepDid.{StepDid}
+use Rattle.events.specs.declared.did.StepDid.TheVariants.{Entered, Ran, Skipped, Over, Failed}
+use Rattle.phases.specs.declared.did.BareDid.{BareDid}
+use Rattle.phases.specs.declared.did.BareDid.TheVariants as bare
+
+-- as it is told
+abbrev pub whole : BareDid → StepDid
+whole (bare.Entered phase now) = Entered phase now
+whole (bare.Ran kind number ended) = Ran kind number (whole_ended ended)
+whole (bare.Skipped kind number) = Skipped kind number
+whole bare.Over = Over
+whole bare.Failed = Failed

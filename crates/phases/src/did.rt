@@ -1,0 +1,55 @@
+// What a step did, as the functions of a loop hand it on.
+
+ghost use Rattle.std.specs.Prelude.{◌≡◌};
+ghost use Rattle.phases.specs.Inner.Bare.{whole};
+
+use events::did::StepDid;
+use events::ended::BareEnded;
+use events::phase::{EntryKind, Phase};
+
+/// What one step did, each case as in `StepDid`. A callback has no results, and a `StepDid` has room for many: it would be
+/// filled with zeros and copied by each function on the way out.
+#[derive(Clone, Copy)]
+pub enum BareDid {
+    Entered {
+        phase: Phase,
+        now: u64,
+    },
+    Ran {
+        kind: EntryKind,
+        number: u32,
+        ended: BareEnded,
+    },
+    Skipped {
+        kind: EntryKind,
+        number: u32,
+    },
+    Over,
+    Failed,
+}
+
+impl BareDid {
+    /// The same, as it is told.
+    // Each arm returns by itself: what a `match` gives is filled with zeros and copied once more.
+    pub fn whole(self) -> StepDid
+        ensures { result ≡ whole self }
+    {
+        match self {
+            BareDid::Entered { phase, now } => return StepDid::Entered { phase, now },
+            BareDid::Ran {
+                kind,
+                number,
+                ended,
+            } => {
+                return StepDid::Ran {
+                    kind,
+                    number,
+                    ended: ended.whole(),
+                };
+            }
+            BareDid::Skipped { kind, number } => return StepDid::Skipped { kind, number },
+            BareDid::Over => return StepDid::Over,
+            BareDid::Failed => return StepDid::Failed,
+        }
+    }
+}

@@ -36,7 +36,7 @@ BESIDE, NEARLY = ["nice", "-n", "10"], 0.9
 QUIET = 30
 # What the crates took on 4 processors, in seconds, three side by side; another one is guessed to take as long as most.
 TAKES = {
-    "limits": 4, "tallies": 9, "leb": 18, "events": 20, "desk": 32, "world_log": 37, "syntax": 48, "pool": 53, "order": 55, "claims": 60, "instance": 63,
+    "limits": 4, "tallies": 9, "leb": 18, "events": 20, "desk": 32, "world_log": 37, "reduction": 39, "syntax": 48, "pool": 53, "order": 55, "claims": 60, "instance": 63,
     "marks": 69, "handles": 71, "interp": 75, "commands": 96, "numeric": 99, "wasmloop": 104, "validate": 112, "imports": 120, "words": 136,
     "serve": 156, "phases": 167, "engine": 175, "board": 185, "script": 262, "world": 264, "loader": 280, "decode": 324,
 }

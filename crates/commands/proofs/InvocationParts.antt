@@ -4,7 +4,7 @@ use Rattle.syntax.specs.declared.types.Value.{Value}
 use Rattle.syntax.specs.declared.contents.Contents.{Contents}
 use Rattle.syntax.specs.declared.contents.FuncType.{FuncType}
 use Rattle.validate.specs.Typing.{HasFunctionType, type_of}
-use Rattle.interp.specs.Invoking.{TakesArguments}
+use Rattle.reduction.specs.Invoking.{TakesArguments}
 use Rattle.words.specs.declared.command.Invocation.{Invocation}
 use Rattle.commands.specs.declared.calling.Called.TheVariants.{Start, Function}
 use Rattle.commands.specs.Accepted.{Holds}

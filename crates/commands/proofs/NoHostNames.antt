@@ -9,7 +9,7 @@ use Rattle.syntax.specs.declared.contents.Func.{Func}
 use Rattle.syntax.specs.declared.contents.Import.{Import}
 use Rattle.validate.specs.Valid.{ValidModule, ValidImport}
 use Rattle.validate.specs.Typing.{function_types, type_of_function}
-use Rattle.interp.specs.Hosting.{Names}
+use Rattle.reduction.specs.Hosting.{Names}
 use Rattle.commands.specs.NoHost.{nothing, type_of_import, types_of_imports}
 
 -- an element of the front

@@ -4,7 +4,7 @@ ghost use Rattle.std.specs.Prelude.{◌≡◌, ◌≤◌, ◌↔◌, Some, IfOk,
 ghost use Rattle.limits.specs.declared.TheConstants.{MAX_DEPTH};
 ghost use Rattle.instance.specs.Fresh.{IsFresh};
 ghost use Rattle.instance.specs.Storing.{IsStoreOf};
-ghost use Rattle.interp.specs.Invoking.{TakesArguments};
+ghost use Rattle.reduction.specs.Invoking.{TakesArguments};
 ghost use Rattle.syntax.specs.declared.contents.ExternKind.TheVariants.{Func};
 ghost use Rattle.syntax.specs.Exporting.{IsFirst};
 ghost use Rattle.validate.specs.Typing.{HasFunctionType};

@@ -3,8 +3,8 @@
 ghost use Rattle.std.specs.Prelude.{◌≡◌, ◌≤◌, [], length, map};
 ghost use Rattle.validate.specs.Stack.{pushed};
 ghost use Rattle.validate.specs.Typing.{type_of};
-ghost use Rattle.interp.specs.Run.{as_operands};
-ghost use Rattle.interp.specs.Hosting.{Names};
+ghost use Rattle.reduction.specs.Run.{as_operands};
+ghost use Rattle.reduction.specs.Hosting.{Names};
 ghost use Rattle.commands.specs.NoHost.{IsMinusOne, types_of_imports};
 
 use instance::memory::Memory;

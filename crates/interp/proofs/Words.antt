@@ -1,34 +1,12 @@
 -- The words that most proofs of this crate use, from where they are defined.
-pub use Rattle.std.proofs.Common.{◌≡◌, List, ℕ, length, ◌∙◌, ap, arith, refl, ◌+◌, subst, [], ◌∷◌, Some, sym, ◌≤◌, ◌++◌, ◌-◌, Option, ◌<◌, suc, None}
-pub use Rattle.std.proofs.Common.{take, true, length-append, false, drop, Bool, zero, reverse, map, nat_le, ◌==◌, ◌^◌, replicate}
-pub use Rattle.syntax.specs.declared.types.ValType.{ValType}
-pub use Rattle.syntax.specs.declared.types.Value.{Value}
-pub use Rattle.syntax.specs.declared.contents.Contents.{Contents}
-pub use Rattle.syntax.specs.Code.{Code, Done, Loop, Plain, Block, If}
-pub use Rattle.instance.specs.Store.{Store, value_of}
-pub use Rattle.interp.specs.Configuration.{Context, Frame, Label, receiving, types_of, locals_of, entered, with_locals, going_on, continuing}
-pub use Rattle.interp.specs.Step.{next, Move, Calls, Goes, Stuck, Traps, Leaves, Lacks, PlainStep, Fails}
-pub use Rattle.interp.specs.Inner.Scaffold.Typed.{operands_of, code_of}
-pub use Rattle.interp.specs.Run.{IsDefined, as_operands}
-pub use Rattle.interp.specs.Inner.Scaffold.HeightsTyped.{Bounded}
-pub use Rattle.std.specs.Prelude.{slice_get, if◌then◌else◌, slice_set}
-pub use Rattle.std.proofs.lemmas.Option.{slice_get_within, slice_get_past}
-pub use Rattle.syntax.specs.declared.contents.FuncType.{FuncType}
-pub use Rattle.syntax.specs.declared.contents.Func.{Func}
-pub use Rattle.validate.specs.Stack.{pushed}
-pub use Rattle.validate.specs.Typing.{type_of, type_of_function, HasFunctionType}
-pub use Rattle.validate.specs.Valid.{ValidModule}
-pub use Rattle.interp.specs.Inner.Scaffold.Places.{Body, Place, AreBodies, IsPlaced, Over}
-pub use Rattle.std.proofs.lemmas.List.{length-map, append_assoc}
-pub use Rattle.syntax.specs.declared.instruction.Instr.{Instr}
-pub use Rattle.syntax.specs.declared.instruction.Instr.TheVariants.{Br, BrIf, BrTable}
-pub use Rattle.interp.specs.Inner.Scaffold.Heights.{height_of}
-pub use Rattle.instance.specs.Storing.{IsStoreOf}
-pub use Rattle.syntax.specs.declared.types.Value.TheVariants.{I32, I64}
-pub use Rattle.interp.specs.Inner.Scaffold.Plainly.{StaysInBlock}
-pub use Rattle.validate.specs.declared.side_table.Target.{Target}
-pub use Rattle.syntax.specs.declared.instruction.Token.{Token}
-pub use Rattle.validate.specs.Segments.{number_in}
+pub use Rattle.reduction.proofs.Words.{◌≡◌, List, ℕ, length, ◌∙◌, ap, arith, refl, ◌+◌, subst, [], ◌∷◌, Some, sym, ◌≤◌, ◌++◌, ◌-◌, Option, ◌<◌, suc, None, take, true}
+pub use Rattle.reduction.proofs.Words.{length-append, false, drop, Bool, zero, reverse, map, nat_le, ◌==◌, replicate, ValType, Value, Contents, Code, Done, Loop, Plain}
+pub use Rattle.reduction.proofs.Words.{Block, If, Store, value_of, Context, Frame, Label, receiving, types_of, locals_of, entered, with_locals, going_on, continuing, next}
+pub use Rattle.reduction.proofs.Words.{Move, Calls, Goes, Stuck, Traps, Leaves, Lacks, PlainStep, Fails, operands_of, code_of, IsDefined, as_operands, Bounded, slice_get}
+pub use Rattle.reduction.proofs.Words.{if◌then◌else◌, slice_set, slice_get_within, slice_get_past, FuncType, Func, type_of, type_of_function, HasFunctionType, ValidModule}
+pub use Rattle.reduction.proofs.Words.{Body, Place, AreBodies, IsPlaced, Over, length-map, append_assoc, Instr, Br, BrIf, BrTable, height_of, IsStoreOf, I32, I64}
+pub use Rattle.reduction.proofs.Words.{StaysInBlock, Target, Token, number_in}
+pub use Rattle.std.proofs.Common.{◌^◌}
 pub use Rattle.engine.specs.declared.at.At.{At}
 pub use Rattle.interp.specs.Inner.Slots.Holding.{Holds, onto, AreSmall, erased}
 pub use Rattle.engine.specs.Programs.{Program, Function}

@@ -1,3 +1,2 @@
--- No public clause reaches these: what holds at every moment of a run, and the slot machine that stands for it.
-pub mod Scaffold
+-- No public clause reaches these: the slot machine, and how it stands for contexts of a run.
 pub mod Slots

@@ -1,10 +1,1 @@
-pub mod Operators
-pub mod Configuration
-pub mod Step
-pub mod Run
-pub mod Running
-pub mod Hosting
-pub mod Invoking
-pub mod Stopping
 pub mod Inner
-pub mod Laws

@@ -2,8 +2,8 @@
 
 ghost use Rattle.std.specs.Prelude.{◌≡◌, ◌≤◌, ◌<◌, ◌+◌, ◌^◌, length, IfSome};
 ghost use Rattle.validate.specs.Typing.{type_of_function as type_in};
-ghost use Rattle.interp.specs.Run.{as_operands};
-ghost use Rattle.interp.specs.Hosting.{Names};
+ghost use Rattle.reduction.specs.Run.{as_operands};
+ghost use Rattle.reduction.specs.Hosting.{Names};
 ghost use Rattle.interp.specs.Inner.Slots.Holding.{AreSmall};
 ghost use Rattle.interp.specs.Inner.Slots.Resuming.{laid};
 ghost use Rattle.interp.specs.Inner.Slots.HostAsked.{CanAsk, Asks};

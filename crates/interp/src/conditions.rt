@@ -2,8 +2,8 @@
 
 ghost use Rattle.std.specs.Prelude.{◌≡◌, IsTrue, ◌↔◌};
 ghost use Rattle.validate.specs.Typing.{type_of};
-ghost use Rattle.interp.specs.Configuration.{types_of};
-ghost use Rattle.interp.specs.Invoking.{TakesArguments};
+ghost use Rattle.reduction.specs.Configuration.{types_of};
+ghost use Rattle.reduction.specs.Invoking.{TakesArguments};
 
 use syntax::types::{ValType, Value};
 use validate::{Valid, type_of_function};

@@ -5,10 +5,10 @@ ghost use Rattle.events.specs.Bare.{whole};
 ghost use Rattle.validate.specs.Valid.{ValidModule};
 ghost use Rattle.validate.specs.Targets.{AreTables};
 ghost use Rattle.instance.specs.Storing.{IsStoreOf};
-ghost use Rattle.interp.specs.Run.{as_operands};
-ghost use Rattle.interp.specs.Hosting.{Names};
-ghost use Rattle.interp.specs.Invoking.{TakesArguments, HasNoResults, Invoked, ReturnsTyped};
-ghost use Rattle.interp.specs.Stopping.{Tells};
+ghost use Rattle.reduction.specs.Run.{as_operands};
+ghost use Rattle.reduction.specs.Hosting.{Names};
+ghost use Rattle.reduction.specs.Invoking.{TakesArguments, HasNoResults, Invoked, ReturnsTyped};
+ghost use Rattle.reduction.specs.Stopping.{Tells};
 ghost use Rattle.instance.specs.Inner.Stops.{stop_of};
 
 use crate::host::{Args, Host};

@@ -9,7 +9,7 @@ use Rattle.syntax.specs.declared.contents.Import.{Import}
 use Rattle.syntax.specs.declared.types.Value.{Value}
 use Rattle.syntax.specs.declared.types.ValType.{ValType}
 use Rattle.validate.specs.Typing.{function_types, type_of}
-use Rattle.interp.specs.Hosting.{Takes, Names}
+use Rattle.reduction.specs.Hosting.{Takes, Names}
 use Rattle.imports.specs.declared.call.Call.{Call}
 use Rattle.imports.specs.Uv.{type_of_call}
 use Rattle.imports.specs.Linking.{IsLinked, IsKnown, Imports}

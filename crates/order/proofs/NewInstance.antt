@@ -9,7 +9,7 @@ use Rattle.syntax.specs.declared.contents.ModuleExport.{ModuleExport}
 use Rattle.syntax.specs.declared.types.Value.{Value}
 use Rattle.validate.specs.Typing.{function_types, type_of, HasFunctionType}
 use Rattle.validate.specs.Typing.{type_of_function}
-use Rattle.interp.specs.Invoking.{TakesArguments}
+use Rattle.reduction.specs.Invoking.{TakesArguments}
 use Rattle.imports.specs.Linking.{ExportsFunction, ExportsNothing}
 
 -- a function's type, found in either way

@@ -10,9 +10,9 @@ use Rattle.syntax.specs.declared.contents.ModuleExport.{ModuleExport}
 use Rattle.validate.specs.Valid.{ValidModule, DistinctNames}
 use Rattle.instance.specs.Store.{Store}
 use Rattle.instance.specs.Fresh.{IsFresh}
-use Rattle.interp.specs.Run.{HostCall, RunEnd, Returned, Trapped, TooDeep, OutOfFuel}
-use Rattle.interp.specs.Hosting.{IsDetermined}
-use Rattle.interp.proofs.OneCall.{one_call}
+use Rattle.reduction.specs.Run.{HostCall, RunEnd, Returned, Trapped, TooDeep, OutOfFuel}
+use Rattle.reduction.specs.Hosting.{IsDetermined}
+use Rattle.reduction.proofs.OneCall.{one_call}
 use Rattle.imports.specs.declared.call.Call.{Call}
 use Rattle.imports.specs.declared.call.Call.TheVariants.{Now, InLen, InCopy, OutSet}
 use Rattle.imports.specs.Linking.{Imports, ExportsFunction}

@@ -9,8 +9,8 @@ use Rattle.limits.specs.declared.TheConstants.{MAX_BYTES}
 use Rattle.syntax.specs.declared.types.Value.{Value}
 use Rattle.syntax.specs.declared.types.Value.TheVariants.{I32, I64}
 use Rattle.instance.specs.Store.{Store}
-use Rattle.interp.specs.Run.{HostCall, RunEnd, Returned, Trapped, TooDeep, OutOfFuel}
-use Rattle.interp.specs.Hosting.{Lawful}
+use Rattle.reduction.specs.Run.{HostCall, RunEnd, Returned, Trapped, TooDeep, OutOfFuel}
+use Rattle.reduction.specs.Hosting.{Lawful}
 use Rattle.imports.specs.declared.call.Call.{Call}
 use Rattle.imports.specs.declared.call.Call.TheVariants.{Now, InLen, InCopy, OutSet}
 use Rattle.order.specs.Uv.Numbers.{invalid, outside_memory}

@@ -7,9 +7,9 @@ use Rattle.syntax.specs.Loaded.{Loaded}
 use Rattle.instance.specs.Store.{Store}
 use Rattle.instance.specs.Fresh.{IsFresh}
 use Rattle.instance.specs.declared.stack.Site.{Site}
-use Rattle.interp.specs.Run.{Returned}
-use Rattle.interp.specs.Running.{end_of_run}
-use Rattle.interp.specs.Stopping.{Tells, StopsAt}
+use Rattle.reduction.specs.Run.{Returned}
+use Rattle.reduction.specs.Running.{end_of_run}
+use Rattle.reduction.specs.Stopping.{Tells, StopsAt}
 use Rattle.events.specs.declared.ended.Ended.{Ended}
 use Rattle.events.specs.declared.ended.Ending.{Ending}
 use Rattle.events.specs.declared.ended.Ending.TheVariants.{Return}

@@ -2,8 +2,8 @@
 use Rattle.std.proofs.Common.{◌≡◌, ◌≢◌, ℕ, List, [], ◌∷◌, refl, sym, ap, subst, ◌∙◌}
 use Rattle.syntax.specs.declared.types.Value.{Value}
 use Rattle.syntax.specs.Loaded.{Loaded}
-use Rattle.interp.specs.Run.{HostCall}
-use Rattle.interp.specs.Hosting.{Lawful}
+use Rattle.reduction.specs.Run.{HostCall}
+use Rattle.reduction.specs.Hosting.{Lawful}
 use Rattle.imports.specs.declared.call.Call.{Call}
 use Rattle.imports.specs.declared.call.Call.TheVariants.{Now, InLen, InCopy, OutSet}
 use Rattle.imports.specs.Linking.{Imports}
@@ -17,10 +17,10 @@ use Rattle.syntax.specs.declared.types.Value.TheVariants.{I32}
 use Rattle.validate.specs.Valid.{ValidModule}
 use Rattle.instance.specs.Store.{Store}
 use Rattle.instance.specs.Fresh.{IsFresh}
-use Rattle.interp.specs.Hosting.{Names}
-use Rattle.interp.specs.Invoking.{Invokes, Invoked}
-use Rattle.interp.specs.Running.{end_of_run}
-use Rattle.interp.specs.Run.{Returned}
+use Rattle.reduction.specs.Hosting.{Names}
+use Rattle.reduction.specs.Invoking.{Invokes, Invoked}
+use Rattle.reduction.specs.Running.{end_of_run}
+use Rattle.reduction.specs.Run.{Returned}
 use Rattle.events.specs.declared.ended.Ended.{Ended}
 use Rattle.events.specs.declared.ended.Ending.{Ending}
 use Rattle.events.specs.declared.ended.Ending.TheVariants.{Return}

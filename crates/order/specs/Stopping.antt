@@ -6,9 +6,9 @@ use Rattle.syntax.specs.declared.types.Value.TheVariants.{I32}
 use Rattle.instance.specs.Store.{Store}
 use Rattle.instance.specs.Fresh.{IsFresh}
 use Rattle.instance.specs.declared.stack.Site.{Site}
-use Rattle.interp.specs.Run.{Returned}
-use Rattle.interp.specs.Running.{end_of_run}
-use Rattle.interp.specs.Stopping.{Tells}
+use Rattle.reduction.specs.Run.{Returned}
+use Rattle.reduction.specs.Running.{end_of_run}
+use Rattle.reduction.specs.Stopping.{Tells}
 use Rattle.events.specs.declared.ended.Ended.{Ended}
 use Rattle.imports.specs.Linking.{ExportsFunction}
 use Rattle.order.specs.Trails.{Innermost, innermost}

@@ -6,9 +6,9 @@ use Rattle.syntax.specs.declared.types.Value.TheVariants.{I32, I64}
 use Rattle.syntax.specs.Loaded.{Loaded}
 use Rattle.instance.specs.Store.{Store}
 use Rattle.instance.specs.Fresh.{IsFresh}
-use Rattle.interp.specs.Run.{HostCall, RunEnd, Returned, Trapped, TooDeep, OutOfFuel}
-use Rattle.interp.specs.Hosting.{Lawful}
-use Rattle.interp.specs.Invoking.{Invokes}
+use Rattle.reduction.specs.Run.{HostCall, RunEnd, Returned, Trapped, TooDeep, OutOfFuel}
+use Rattle.reduction.specs.Hosting.{Lawful}
+use Rattle.reduction.specs.Invoking.{Invokes}
 use Rattle.imports.specs.declared.call.Call.{Call}
 use Rattle.imports.specs.declared.call.Call.TheVariants.{Now, InLen, InCopy, OutSet}
 use Rattle.imports.specs.Linking.{Imports, ExportsFunction}

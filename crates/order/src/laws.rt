@@ -1,6 +1,6 @@
 // Laws of orders and of linked modules.
 
-ghost use Rattle.interp.specs.Hosting.{Names};
+ghost use Rattle.reduction.specs.Hosting.{Names};
 ghost use Rattle.order.specs.Inner.Hosting.{import_types};
 ghost use Rattle.std.specs.Prelude.{◌≡◌, ◌≢◌};
 ghost use Rattle.validate.specs.Valid.{ValidModule};

@@ -12,8 +12,8 @@ use Rattle.handles.specs.declared.handle.Record.{Record}
 use Rattle.handles.specs.declared.handle.Kind.{Kind}
 use Rattle.handles.specs.declared.handle.Kind.TheVariants as kind
 use Rattle.handles.specs.Table.{Table, record_of, IsClosing, new_record, with_record, with_started, saturated, stopped, closed, same_kind, was_started, after_start, after_stop, after_again, after_close}
-use Rattle.interp.specs.Run.{HostCall}
-use Rattle.interp.specs.Hosting.{Lawful}
+use Rattle.reduction.specs.Run.{HostCall}
+use Rattle.reduction.specs.Hosting.{Lawful}
 use Rattle.imports.specs.declared.call.Call.{Call}
 use Rattle.imports.specs.declared.call.Call.TheVariants.{Now, TimerInit, IdleInit, CheckInit, TimerStart, TimerStop, IdleStop, CheckStop, TimerAgain, IdleStart, CheckStart, AsyncInit, AsyncSend, IsActive, Close, QueueWork, Cancel, InLen, InCopy, OutSet, Emit}
 use Rattle.order.specs.Uv.Numbers.{invalid, none_left}

@@ -18,9 +18,9 @@ use Rattle.handles.specs.Table.{record_of, empty_table}
 use Rattle.handles.specs.declared.handle.Record.{Record}
 use Rattle.instance.specs.Fresh.{fresh_store}
 use Rattle.instance.specs.Store.{Store}
-use Rattle.interp.specs.Hosting.{Lawful, Names}
-use Rattle.interp.specs.Invoking.{Invokes, Invoked, TakesArguments, HasNoResults}
-use Rattle.interp.specs.Running.{end_of_run}
+use Rattle.reduction.specs.Hosting.{Lawful, Names}
+use Rattle.reduction.specs.Invoking.{Invokes, Invoked, TakesArguments, HasNoResults}
+use Rattle.reduction.specs.Running.{end_of_run}
 use Rattle.instance.specs.Storing.{IsStoreOf}
 use Rattle.events.specs.declared.ended.Ended.{Ended}
 use Rattle.imports.specs.Linking.{IsLinked, ExportsFunction, ExportsNothing}

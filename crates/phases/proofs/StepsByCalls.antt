@@ -7,7 +7,7 @@ use Rattle.syntax.specs.declared.types.Value.{Value}
 use Rattle.syntax.specs.declared.types.Value.TheVariants.{I32, I64}
 use Rattle.handles.specs.declared.handle.Kind.TheVariants as handle_kind
 use Rattle.handles.specs.Table.{after_again}
-use Rattle.interp.specs.Run.{HostCall}
+use Rattle.reduction.specs.Run.{HostCall}
 use Rattle.imports.specs.declared.call.Call.{Call}
 use Rattle.imports.specs.declared.call.Call.TheVariants.{Now, TimerInit, IdleInit, CheckInit, TimerStart, TimerStop, IdleStop, CheckStop, TimerAgain, IdleStart, CheckStart, AsyncInit, AsyncSend, IsActive, Close, QueueWork, Cancel, InLen, InCopy, OutSet, Emit}
 use Rattle.order.specs.Uv.Numbers.{no_such_export, invalid, no_room, none_left, no_memory, outside_memory}

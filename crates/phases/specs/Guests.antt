@@ -1,6 +1,6 @@
 -- The calls of a guest in a callback.
 use Rattle.std.specs.Prelude.{◌≡◌, List, [], ◌∷◌, map}
-use Rattle.interp.specs.Run.{HostCall}
+use Rattle.reduction.specs.Run.{HostCall}
 use Rattle.imports.specs.declared.call.Call.{Call}
 use Rattle.imports.specs.Linking.{Imports}
 use Rattle.phases.specs.State.{Setting, State}

@@ -6,7 +6,7 @@ use Rattle.syntax.specs.declared.types.Value.{Value}
 use Rattle.syntax.specs.declared.types.Value.TheVariants.{I32, I64}
 use Rattle.handles.specs.declared.handle.Kind.TheVariants as kind
 use Rattle.handles.specs.Table.{saturated}
-use Rattle.interp.specs.Run.{HostCall}
+use Rattle.reduction.specs.Run.{HostCall}
 use Rattle.imports.specs.declared.call.Call.{Call}
 use Rattle.imports.specs.declared.call.Call.TheVariants.{Now, TimerInit, IdleInit, CheckInit, TimerStart, TimerStop, IdleStop}
 use Rattle.imports.specs.declared.call.Call.TheVariants.{CheckStop, TimerAgain, IdleStart, CheckStart, AsyncInit, AsyncSend}

@@ -7,8 +7,8 @@ use Rattle.syntax.specs.declared.types.Value.TheVariants.{I32}
 use Rattle.handles.specs.declared.handle.Kind.{Kind}
 use Rattle.handles.specs.declared.handle.Kind.TheVariants as handle_kind
 use Rattle.handles.specs.Table.{record_of, same_kind, after_again}
-use Rattle.interp.specs.Running.{end_of_run}
-use Rattle.interp.specs.Invoking.{Invokes}
+use Rattle.reduction.specs.Running.{end_of_run}
+use Rattle.reduction.specs.Invoking.{Invokes}
 use Rattle.events.specs.declared.ended.Ending.{Ending}
 use Rattle.events.specs.declared.ended.Ending.TheVariants as ending
 use Rattle.events.specs.declared.ended.Ended.{Ended}

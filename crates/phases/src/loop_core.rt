@@ -4,7 +4,7 @@ ghost use Rattle.std.specs.Prelude.{◌≡◌, ◌↔◌, ◌≤◌, ℕ, List, 
 ghost use Rattle.std.specs.Arc.{arc_value};
 ghost use Rattle.std.specs.Int.{w32, cast_unsigned};
 ghost use Rattle.limits.specs.declared.TheConstants.{MAX_ASYNCS, MAX_DEPTH, MAX_EMITS, MAX_REQUESTS};
-ghost use Rattle.interp.specs.Invoking.{TakesArguments, HasNoResults};
+ghost use Rattle.reduction.specs.Invoking.{TakesArguments, HasNoResults};
 ghost use Rattle.imports.specs.Linking.{ExportsFunction};
 ghost use Rattle.instance.specs.Fresh.{IsFresh};
 ghost use Rattle.order.specs.Orders.{order_of};

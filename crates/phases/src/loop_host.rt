@@ -4,7 +4,7 @@ ghost use Rattle.std.specs.Prelude.{◌≡◌, ◌+◌, Some, map, length};
 ghost use Rattle.validate.specs.Typing.{type_of};
 ghost use Rattle.handles.specs.Table.{saturated};
 ghost use Rattle.instance.specs.Reads.{with_bytes};
-ghost use Rattle.interp.specs.Hosting.{Answers};
+ghost use Rattle.reduction.specs.Hosting.{Answers};
 ghost use Rattle.imports.specs.Uv.{type_of_call};
 ghost use Rattle.order.specs.Uv.Bytes.{copied_in};
 ghost use Rattle.phases.specs.Host.{with_roster};

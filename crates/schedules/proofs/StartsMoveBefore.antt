@@ -1,7 +1,7 @@
 -- A start that is won moves before the accesses of the loop that were made since its request was opened.
 use Rattle.std.proofs.Common.{◌≡◌, ◌≢◌, ℕ, ◌+◌, ◌==◌, Bool, true, false, cond, ◌&&◌, List, [], ◌∷◌, ◌++◌, refl, sym, ap, subst, ◌∙◌, arith}
 use Rattle.std.specs.Prelude.{nat_lt}
-use Rattle.std.proofs.lemmas.Bool.{eqb-true, eq-eqb}
+use Rattle.std.proofs.lemmas.Bool.{and_parts, eqb-true, eq-eqb}
 use Rattle.tallies.specs.Requests.{times, is_request, is_pending, last_from, last_in}
 use Rattle.tallies.proofs.Requests.{same_request, times_push}
 use Rattle.desk.specs.Desk.{Desk, is_open, opened, started, DeskCancels, DeskSends, DeskTakes}
@@ -21,10 +21,6 @@ last_push : (slot first : ℕ) (xs : List (ℕ × ℕ)) (x : ℕ × ℕ) → las
 last_push slot first [] x = refl
 last_push slot first (y ∷ ys) x = last_push slot (cond (y.0 == slot) y.1 first) ys x
 
-both : (a b : Bool) → (a && b) ≡ true → (a ≡ true) × (b ≡ true)
-both true b h = (refl, h)
-both false b h = absurd (cc)
-
 -- what an open request is
 record IsOpen (d : Desk) (c : ℕ × ℕ) : Type 0 where
   pub numbered : nat_lt 0 c.1 ≡ true
@@ -34,9 +30,9 @@ record IsOpen (d : Desk) (c : ℕ × ℕ) : Type 0 where
 
 open_is : (d : Desk) (c : ℕ × ℕ) → is_open d c ≡ true → IsOpen d c
 open_is d c h =
-    let one = both (is_pending d.view.opened d.view.cancelled c) (times c d.started == 0) h in
-    let two = both (nat_lt 0 c.1) ((last_in c.0 d.view.opened == c.1) && (times c d.view.cancelled == 0)) one.0 in
-    let three = both (last_in c.0 d.view.opened == c.1) (times c d.view.cancelled == 0) two.1 in
+    let one = and_parts (is_pending d.view.opened d.view.cancelled c) (times c d.started == 0) h in
+    let two = and_parts (nat_lt 0 c.1) ((last_in c.0 d.view.opened == c.1) && (times c d.view.cancelled == 0)) one.0 in
+    let three = and_parts (last_in c.0 d.view.opened == c.1) (times c d.view.cancelled == 0) two.1 in
     record {
       numbered = two.0;
       last = eqb-true (last_in c.0 d.view.opened) c.1 three.0;

@@ -2,7 +2,7 @@
 use Rattle.std.specs.Prelude.{◌≡◌, List}
 use Rattle.std.specs.Arc.{arc_value}
 use Rattle.syntax.specs.declared.contents.FuncType.{FuncType}
-use Rattle.interp.specs.Run.{HostCall}
+use Rattle.reduction.specs.Run.{HostCall}
 use Rattle.imports.specs.declared.call.Call.{Call}
 use Rattle.imports.specs.Linking.{Imports}
 use Rattle.order.specs.declared.host.WorkHost.{WorkHost}

@@ -4,7 +4,7 @@ ghost use Rattle.std.specs.Prelude.{◌≡◌, [], ◌∷◌, Some, map, slice_g
 ghost use Rattle.syntax.specs.declared.types.ValType.TheVariants as valtype;
 ghost use Rattle.syntax.specs.declared.types.Value.TheVariants as value;
 ghost use Rattle.validate.specs.Typing.{type_of};
-ghost use Rattle.interp.specs.Hosting.{Takes};
+ghost use Rattle.reduction.specs.Hosting.{Takes};
 ghost use Rattle.imports.specs.Linking.{Imports};
 ghost use Rattle.imports.specs.Uv.{type_of_call};
 ghost use Rattle.instance.specs.Reads.{with_bytes};

@@ -1,7 +1,7 @@
 -- How the host of a loop's callbacks moves.
 use Rattle.std.specs.Prelude.{◌≡◌, ℕ, List, Some}
 use Rattle.syntax.specs.declared.types.Value.{Value}
-use Rattle.interp.specs.Run.{HostCall}
+use Rattle.reduction.specs.Run.{HostCall}
 use Rattle.imports.specs.declared.call.Call.{Call}
 use Rattle.phases.specs.Calls.{Calls}
 use Rattle.phases.specs.State.{Setting, State}

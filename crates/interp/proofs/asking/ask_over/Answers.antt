@@ -3,7 +3,7 @@ use Rattle.interp.proofs.Words.{Value, FuncType, type_of, as_operands}
 use Rattle.std.proofs.Common.{length-drop}
 use Rattle.std.proofs.lemmas.List.{length-take}
 use Rattle.instance.specs.Store.{MemoryInstance}
-use Rattle.interp.specs.Hosting.{Takes, Answers}
+use Rattle.reduction.specs.Hosting.{Takes, Answers}
 use Rattle.interp.specs.Inner.Slots.Resuming.{laid}
 use Rattle.interp.specs.Inner.Slots.ValuesRead.{typed_values}
 use Rattle.interp.specs.Inner.Slots.HostAsked.{arguments}

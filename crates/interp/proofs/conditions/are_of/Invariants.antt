@@ -1,6 +1,6 @@
 use Rattle.std.proofs.Common.{◌≡◌, ℕ, ◌<◌, get_or}
 use Rattle.syntax.specs.declared.types.ValType.TheVariants.{I32}
-use Rattle.interp.specs.Configuration.{types_of}
+use Rattle.reduction.specs.Configuration.{types_of}
 use Rattle.interp.proofs.conditions.are_of.Given as goal
 
 abbrev pub invariant-loop-index : goal.invariant-loop-index

@@ -2,7 +2,7 @@ use Rattle.interp.proofs.Words.{◌≡◌, List, [], ◌∷◌, refl, ValType}
 use Rattle.events.specs.Bare.{IsBare}
 use Rattle.events.specs.declared.ended.Ending.{Ending}
 use Rattle.events.specs.declared.ended.Ending.TheVariants.{Return, Trap, Depth, Spent}
-use Rattle.interp.specs.Running.{AreResults}
+use Rattle.reduction.specs.Running.{AreResults}
 use Rattle.interp.proofs.invoke.invoke_bare.Goals as goal
 
 -- results of no types are none

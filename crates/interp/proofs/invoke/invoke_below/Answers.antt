@@ -2,7 +2,7 @@ use Rattle.std.proofs.Common.{◌≡◌, ◌+◌, ◌-◌, ℕ, List, length, ta
 use Rattle.std.proofs.lemmas.List.{length-take-le}
 use Rattle.instance.specs.Inner.Stops.{stop_of}
 use Rattle.instance.specs.declared.stack.Site.{Site}
-use Rattle.interp.specs.Stopping.{Tells}
+use Rattle.reduction.specs.Stopping.{Tells}
 use Rattle.interp.proofs.Marked.{stop_first}
 use Rattle.interp.proofs.invoke.invoke_below.Goals as goal
 

@@ -5,7 +5,7 @@ use Rattle.interp.proofs.invoke.invoke_defined.Goals as goal
 use Rattle.std.specs.Prelude.{IfSome}
 use Rattle.instance.specs.declared.stack.Last.{Last}
 use Rattle.instance.specs.Inner.Stops.{stop_of}
-use Rattle.interp.specs.Stopping.{Tells}
+use Rattle.reduction.specs.Stopping.{Tells}
 
 pub open-start-requires : goal.open-start-requires
 open-start-requires g c =

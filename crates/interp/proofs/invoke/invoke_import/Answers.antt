@@ -1,6 +1,6 @@
 use Rattle.std.proofs.Common.{◌∙◌, ap, length, refl}
 use Rattle.instance.specs.Store.{MemoryInstance}
-use Rattle.interp.proofs.Outside.{answer_returns, invoked_import, memory_kept}
+use Rattle.reduction.proofs.Outside.{answer_returns, invoked_import, memory_kept}
 use Rattle.interp.proofs.invoke.invoke_import.Goals as goal
 
 pub returns-clause-runs : goal.returns-clause-runs

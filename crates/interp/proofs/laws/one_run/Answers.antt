@@ -1,5 +1,5 @@
-use Rattle.interp.proofs.OneRun.{one_run}
-use Rattle.interp.proofs.OneCall.{one_call, one_invocation}
+use Rattle.reduction.proofs.OneRun.{one_run}
+use Rattle.reduction.proofs.OneCall.{one_call, one_invocation}
 use Rattle.interp.proofs.laws.one_run.Goals as goal
 
 pub returns : goal.returns

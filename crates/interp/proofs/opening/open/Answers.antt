@@ -2,7 +2,7 @@ use Rattle.interp.proofs.Words.{◌≡◌, ℕ, ◌+◌, ◌-◌, ◌≤◌, ◌
 use Rattle.interp.proofs.Words.{Func, erased}
 use Rattle.std.specs.List.{refill}
 use Rattle.std.proofs.lemmas.List.{length-replicate}
-use Rattle.interp.proofs.OneRun.{one_function}
+use Rattle.reduction.proofs.OneRun.{one_function}
 use Rattle.interp.proofs.Slots.Hosted.{refilled}
 use Rattle.interp.proofs.opening.open.Goals as goal
 use Rattle.interp.proofs.opening.open.Goals.{then-len-lt-FIRST_SLOTS, else-len-lt-FIRST_SLOTS}

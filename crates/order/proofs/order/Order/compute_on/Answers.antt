@@ -1,5 +1,5 @@
 use Rattle.std.proofs.Common.{List, ℕ, subst}
-use Rattle.interp.specs.Running.{end_of_run}
+use Rattle.reduction.specs.Running.{end_of_run}
 use Rattle.order.specs.Orders.{order_of, end_of}
 use Rattle.order.specs.Work.{EndsAs}
 use Rattle.order.proofs.WorkHostAnswers.{is_end, uses}

@@ -1,0 +1,88 @@
+-- Two calls of a function from outside, from one start.
+use Rattle.reduction.proofs.Words.{◌≡◌, ℕ, List, [], ◌∷◌, reverse, refl, sym, ap, ◌∙◌, subst, Value, Contents, Store, Context, entered, as_operands}
+use Rattle.std.proofs.Common.{get_or}
+use Rattle.std.proofs.lemmas.List.{reverse-reverse}
+use Rattle.instance.specs.Store.{with_memory}
+use Rattle.reduction.specs.Run.{HostCall, RunEnd, Returned, Trapped, TooDeep, OutOfFuel, RunsWithin}
+use Rattle.reduction.specs.Hosting.{Lawful, IsDetermined}
+use Rattle.reduction.specs.Invoking.{Invokes, defined, imported, Invoked}
+use Rattle.reduction.specs.Running.{end_of_run}
+use Rattle.events.specs.Traps.{trap_number}
+use Rattle.events.specs.declared.trap.TrapCode.{TrapCode}
+use Rattle.events.specs.declared.trap.TrapCode.TheVariants as trap
+use Rattle.events.specs.declared.ended.Ended.{Ended}
+use Rattle.events.specs.declared.ended.Ending.{Ending}
+use Rattle.events.specs.declared.ended.Ending.TheVariants.{Return, Trap, Depth, Spent}
+use Rattle.reduction.proofs.OneRun.{one_function, not_both, one_run, says, says_one, says_all}
+
+module _ (m : Contents) (depth : ℕ) {H V : Type 0} (see : H → V) (moves : H → HostCall → H → Type 0) (determined : IsDetermined see moves) where
+  one_answer : (s : Store) (function : ℕ) (args : List Value) (call call' : HostCall) (old old' new new' : H) → see old ≡ see old'
+      → call.function ≡ function → call.args ≡ args → call.before ≡ s.memory → call'.function ≡ function → call'.args ≡ args → call'.before ≡ s.memory
+      → Lawful moves (call ∷ []) old new → Lawful moves (call' ∷ []) old' new' → (call ≡ call') × (see new ≡ see new')
+  one_answer s function args call call' old old' new new' seen f a b f' a' b' (mid, moved, led) (mid', moved', led') =
+      let one = determined old old' mid mid' call call' seen (record { function = f ∙ sym f'; args = a ∙ sym a'; before = b ∙ sym b' }) moved moved' in
+      (one.0, ap see led ∙ one.1 ∙ sym (ap see led'))
+
+  pub one_call : (fuel : ℕ) (s : Store) (function : ℕ) (args : List Value) (trace trace' : List HostCall) (o o' : RunEnd) (u u' : ℕ) (t t' : Store) (old old' new new' : H) → see old ≡ see old'
+      → Invokes m depth fuel s function args trace o u t → Lawful moves trace old new
+      → Invokes m depth fuel s function args trace' o' u' t' → Lawful moves trace' old' new'
+      → (trace ≡ trace') × (o ≡ o') × (u ≡ u') × (t ≡ t') × (see new ≡ see new')
+  one_call fuel s function args trace trace' o o' u u' t t' old old' new new' seen (defined type f is r) led (defined type' f' is' r') led' =
+      let one = one_function m function type' type f' f is' is in
+      let there : entered type' f' args [] ≡ entered type f args [] = λ i. entered (one.0 i) (one.1 i) args [] in
+      one_run m depth see moves determined fuel s (entered type f args []) trace trace' o o' u u' t t' old old' new new' seen r led (subst (λ (x : List Context). RunsWithin m depth fuel s x trace' o' u' t') there r') led'
+  one_call fuel s function args _ trace' _ o' _ u' _ t' old old' new new' seen (defined type f is r) led (imported call k e a b) led' = absurd (not_both m function type f is k)
+  one_call fuel s function args trace _ o _ u _ t _ old old' new new' seen (imported call k e a b) led (defined type f is r) led' = absurd (not_both m function type f is k)
+  one_call fuel s function args _ _ _ _ _ _ _ _ old old' new new' seen (imported call k e a b) led (imported call' k' e' a' b') led' =
+      let one = one_answer s function args call call' old old' new new' seen e a b e' a' b' led led' in (
+        ap (λ (c : HostCall). c ∷ []) one.0,
+        ap (λ (c : HostCall). Returned (as_operands c.answer)) one.0,
+        refl,
+        ap (λ (c : HostCall). with_memory c.after s) one.0,
+        one.1,
+      )
+
+pub one_ending_of_call : (m : Contents) (depth fuel : ℕ) (s : Store) (function : ℕ) (args : List Value) (trace : List HostCall) (o o' : RunEnd) (u u' : ℕ) (t t' : Store)
+    → Invokes m depth fuel s function args trace o u t → Invokes m depth fuel s function args trace o' u' t' → (o ≡ o') × (u ≡ u') × (t ≡ t')
+one_ending_of_call m depth fuel s function args trace o o' u u' t t' r r' =
+    let one = one_call m depth (λ (h : List HostCall). h) says says_one fuel s function args trace trace o o' u u' t t' trace trace [] [] refl r (says_all trace) r' (says_all trace) in
+    (one.1, one.2, one.3)
+
+-- the traps, by their numbers
+traps_by_number : List TrapCode
+traps_by_number = trap.Unreachable ∷ trap.Unreachable ∷ trap.DivideByZero ∷ trap.Overflow ∷ trap.Memory ∷ trap.Table ∷ trap.EmptyElement ∷ trap.OtherType ∷ []
+
+trap_back : (t : TrapCode) → get_or traps_by_number (trap_number t) trap.Unreachable ≡ t
+unfolding traps_by_number
+trap_back trap.Unreachable = refl
+trap_back trap.DivideByZero = refl
+trap_back trap.Overflow = refl
+trap_back trap.Memory = refl
+trap_back trap.Table = refl
+trap_back trap.EmptyElement = refl
+trap_back trap.OtherType = refl
+
+abbrev ending_back : RunEnd → Ending
+ending_back (Returned results) = Return (reverse results)
+ending_back (Trapped number) = Trap (get_or traps_by_number number trap.Unreachable)
+ending_back TooDeep = Depth
+ending_back OutOfFuel = Spent
+
+back : (e : Ending) → ending_back (end_of_run e) ≡ e
+back (Return values) = ap (λ (vs : List Value). Return vs) (reverse-reverse values)
+back (Trap t) = ap (λ (x : TrapCode). Trap x) (trap_back t)
+back Depth = refl
+back Spent = refl
+
+pub same_ended : (e e' : Ended) → end_of_run e.ending ≡ end_of_run e'.ending → e.used ≡ e'.used → e ≡ e'
+same_ended e e' ending used =
+    let same : e.ending ≡ e'.ending = sym (back e.ending) ∙ ap (λ (o : RunEnd). ending_back o) ending ∙ back e'.ending in
+    λ i. record { ending = same i; used = used i }
+
+pub one_invocation : {H V : Type 0} (see : H → V) (moves : H → HostCall → H → Type 0) → IsDetermined see moves
+    → (m : Contents) (depth fuel : ℕ) (s : Store) (function : ℕ) (args : List Value) (ended ended' : Ended) (t t' : Store) (old old' new new' : H) → see old ≡ see old'
+    → Invoked m depth fuel moves s old function args ended t new → Invoked m depth fuel moves s old' function args ended' t' new'
+    → (ended ≡ ended') × (t ≡ t') × (see new ≡ see new')
+one_invocation see moves determined m depth fuel s function args ended ended' t t' old old' new new' seen r r' =
+    let one = one_call m depth see moves determined fuel s function args r.trace r'.trace (end_of_run ended.ending) (end_of_run ended'.ending) ended.used ended'.used t t' old old' new new' seen r.invokes r.lawful r'.invokes r'.lawful in
+    (same_ended ended ended' one.1 one.2, one.3, one.4)

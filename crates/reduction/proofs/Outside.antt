@@ -1,0 +1,46 @@
+-- Calls of imported functions from outside.
+use Rattle.reduction.proofs.Words.{◌≡◌, ℕ, List, [], ◌∷◌, length, reverse, Some, None, refl, sym, ap, ◌∙◌, slice_get, Value, Contents, FuncType}
+use Rattle.reduction.proofs.Words.{HasFunctionType, type_of_function, pushed, Store, IsStoreOf, as_operands, types_of}
+use Rattle.std.specs.Prelude.{Option}
+use Rattle.instance.specs.Store.{with_memory_instance, MemoryInstance}
+use Rattle.events.specs.declared.ended.Ending.TheVariants.{Return}
+use Rattle.reduction.specs.Run.{HostCall, IsImported}
+use Rattle.reduction.specs.Hosting.{Names, Takes, Answers}
+use Rattle.reduction.specs.Invoking.{imported, TakesArguments, Invoked}
+use Rattle.reduction.proofs.Lists.{in_order}
+use Rattle.reduction.proofs.Stores.{with_memory_of}
+
+module _ (m : Contents) (function : ℕ) (args : List Value) (takes : TakesArguments m function args) where
+  type_known : type_of_function m function ≡ Some takes.type
+  type_known = rw (takes.known.1, takes.known.2) refl
+
+  pub takes_of : (types : List FuncType) → Names m types → IsImported m function → Takes (slice_get types function) args
+  takes_of types names i = rw (names function i, type_known) takes.fit
+
+  module _ (types : List FuncType) (names : Names m types) (i : IsImported m function) (answer : Option Value) (typed : Answers (slice_get types function) answer) where
+    answer_typed : types_of (as_operands answer) ≡ pushed takes.type.results []
+    answer_typed = rw (names function i, type_known) at typed
+
+    one_or_none : (o : Option Value) → reverse (as_operands o) ≡ as_operands o
+    one_or_none None = refl
+    one_or_none (Some v) = refl
+
+    pub answer_returns : (values : List Value) → values ≡ as_operands answer → (type : FuncType) → HasFunctionType m function type → types_of values ≡ type.results
+    answer_returns values e type has =
+        let k : type_of_function m function ≡ Some type = rw (has.1, has.2) refl in
+        let same : Some takes.type ≡ Some type = sym type_known ∙ k in
+        let q : takes.type ≡ type = cc in
+        let t : types_of (reverse (as_operands answer)) ≡ takes.type.results = in_order (as_operands answer) takes.type.results answer_typed in
+        rw e (rw one_or_none at t ∙ ap (λ (x : FuncType). x.results) q)
+
+    pub invoked_import : {H : Type 0} (depth fuel : ℕ) (moves : H → HostCall → H → Type 0) (s : Store) (before after : H) (memory : MemoryInstance) (values : List Value)
+        → values ≡ as_operands answer → memory.limit ≡ s.limit
+        → moves before (record { function = function; args = args; before = s.memory; answer = answer; after = memory.bytes }) after
+        → Invoked m depth fuel moves s before function args (record { ending = Return values; used = 0 }) (with_memory_instance memory s) after
+    invoked_import depth fuel moves s before after memory values e el k =
+        let call : HostCall = record { function = function; args = args; before = s.memory; answer = answer; after = memory.bytes } in
+        let r : reverse values ≡ as_operands answer = ap (λ (vs : List Value). reverse vs) e ∙ one_or_none answer in
+        record { trace = call ∷ []; invokes = rw (r, el) (imported call i refl refl refl); lawful = (after, k, refl) }
+
+    pub memory_kept : (s : Store) (memory : MemoryInstance) → memory.limit ≡ s.limit → length memory.bytes ≡ length s.memory → IsStoreOf m s → IsStoreOf m (with_memory_instance memory s)
+    memory_kept s memory el en fit = rw el (with_memory_of m s memory.bytes en fit)

@@ -1,0 +1,10 @@
+pub mod Operators
+pub mod Configuration
+pub mod Step
+pub mod Run
+pub mod Running
+pub mod Hosting
+pub mod Invoking
+pub mod Stopping
+pub mod Laws
+pub mod Inner

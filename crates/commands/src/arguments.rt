@@ -5,7 +5,7 @@ ghost use Rattle.validate.specs.Typing.{type_of};
 ghost use Rattle.commands.specs.Arguments.{Spells, AllSpell};
 
 use crate::failure::Failure;
-use crate::mismatch::Mismatch;
+use sentences::Mismatch;
 use std::alloc::Global;
 use syntax::types::{ValType, Value};
 use words::{decimal, small_decimal};

@@ -3,12 +3,11 @@
 ghost use Rattle.std.specs.Prelude.{◌≡◌};
 
 use crate::file::ReadFault;
-use crate::listing::Listing;
-use crate::mismatch::Mismatch;
 use crate::status::Status;
 use instance::fault::InstFault;
 use loader::{Account, Refusal};
 use script::ScriptFault;
+use sentences::{Listing, Mismatch};
 use std::alloc::{AllocError, AllocFailed, Global};
 use std::io::{self, ErrorKind, Write};
 use std::{fmt, str};

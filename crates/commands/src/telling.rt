@@ -1,11 +1,10 @@
 // Why the loops that were served ended as they did, told in sentences.
 
-use crate::ran::{Ran, What};
-use crate::stopping::{Stopped, tell_stopped};
 use events::phase::EntryKind;
 use imports::EntryPoint;
 use limits::{MAX_BYTES, MAX_DEPTH};
 use order::{Order, Told};
+use sentences::{Ran, Stopped, What, tell_stopped};
 use serve::{Account, Callback, LoopEnding, Served};
 use std::alloc::Global;
 use std::io::{self, Write};

@@ -1,9 +1,9 @@
 // What is told where it is asked for: what was used, and what loops and workers do, as they do it.
 
-use crate::stopping::ending_of;
 use events::did::StepDid;
 use order::Reply;
 use script::print_entry;
+use sentences::ending_of;
 use serve::Watch;
 use std::alloc::Global;
 use std::io::{self, Write};

@@ -15,7 +15,8 @@ no_last : (views : List View) (l slot : ℕ) → (of_loop views l).opened ≡ []
 no_last views l slot none = ap (λ cs. last_in slot cs) none
 
 -- a loop whose request can be started is there
-pub hit_there : {loops : ℕ} {words : List ℕ} {views : List View} → IsClaimed loops words views → (l slot r : ℕ) → l < MAX_LOOPS → slot < MAX_REQUESTS → get_or words (place l slot) 0 ≡ 4 * r + 1 → l < loops
+pub hit_there : {loops : ℕ} {words : List ℕ} {views : List View} → IsClaimed loops words views → (l slot r : ℕ) → l < MAX_LOOPS → slot < MAX_REQUESTS
+    → get_or words (place l slot) 0 ≡ 4 * r + 1 → l < loops
 hit_there {loops} {words} {views} claimed l slot r real low found =
     let facts = hit claimed.kept l slot r real low found in
     let last = facts.last in

@@ -11,13 +11,25 @@ use Rattle.desk.specs.Inner.Rule.{AreCounts, IsCounted, IsSized, waiting_place}
 
 -- the lists keep their lengths
 pub own-sized : (d : Desk) (a : ℕ) → IsSized d → IsSized (sent_own d a)
-own-sized d a is = record { own = length-raised d.view.own a 1 ∙ is.own; untaken = length-raised d.view.untaken a 1 ∙ is.untaken; taken = is.taken; waiting = length-raised d.waiting a 1 ∙ is.waiting; sent = is.sent }
+own-sized d a is = record {
+  own = length-raised d.view.own a 1 ∙ is.own;
+  untaken = length-raised d.view.untaken a 1 ∙ is.untaken;
+  taken = is.taken;
+  waiting = length-raised d.waiting a 1 ∙ is.waiting;
+  sent = is.sent;
+}
 
 pub others-sized : (d : Desk) (a : ℕ) → IsSized d → IsSized (sent_by_another d a)
 others-sized d a is = record { own = is.own; untaken = is.untaken; taken = is.taken; waiting = length-raised d.waiting a 1 ∙ is.waiting; sent = length-raised d.sent a 1 ∙ is.sent }
 
 pub taken-sized : (d : Desk) (a : ℕ) → IsSized d → IsSized (taken d a)
-taken-sized d a is = record { own = is.own; untaken = length-set d.view.untaken a 0 ∙ is.untaken; taken = length-raised d.view.taken a (slice_index d.waiting a) ∙ is.taken; waiting = length-set d.waiting a 0 ∙ is.waiting; sent = is.sent }
+taken-sized d a is = record {
+  own = is.own;
+  untaken = length-set d.view.untaken a 0 ∙ is.untaken;
+  taken = length-raised d.view.taken a (slice_index d.waiting a) ∙ is.taken;
+  waiting = length-set d.waiting a 0 ∙ is.waiting;
+  sent = is.sent;
+}
 
 -- and the sums are counted
 pub own-counted : (d : Desk) (n m a : ℕ) → IsSized d → IsCounted d n m → a < MAX_ASYNCS → n < MAX_SENDS → IsCounted (sent_own d a) (n + 1) m

@@ -1,5 +1,6 @@
 -- Each step on the words is allowed.
-use Rattle.std.proofs.Common.{◌≡◌, ◌≢◌, ℕ, ◌+◌, ◌%◌, ◌^◌, ◌<◌, List, [], ◌∷◌, length, length-set, set, replicate, Bool, true, false, ◌==◌, refl, sym, ap, ◌∙◌, subst, eq-eqb, ne_eqb, mod-eq_of_lt, arith}
+use Rattle.std.proofs.Common.{◌≡◌, ◌≢◌, ℕ, ◌+◌, ◌%◌, ◌^◌, ◌<◌, List, [], ◌∷◌, length, length-set, set, replicate, Bool, true, false, ◌==◌, refl, sym, ap, ◌∙◌}
+use Rattle.std.proofs.Common.{subst, eq-eqb, ne_eqb, mod-eq_of_lt, arith}
 use Rattle.std.specs.Prelude.{slice_index}
 use Rattle.std.proofs.lemmas.List.{set-get_or, get_or-set_other}
 use mathlib.Core.Option.{some, some-injective}

@@ -56,7 +56,8 @@ alike_at (suc n) (x ∷ ps) (u ∷ us) (q ∷ qs) p all at =
     record { step = it.step; core = it.core; at_step = it.at_step; at_core = it.at_core; alike = it.alike }
 
 -- where the threads' step is known
-pub alike_known : (n : ℕ) (ps : List (Core Desk)) (us : List (Option Underway)) (qs : List (Core Desk)) (p : Core Desk) (u : Option Underway) → AllAlike ps us qs → slice_get ps n ≡ Some p → slice_get us n ≡ Some u
+pub alike_known : (n : ℕ) (ps : List (Core Desk)) (us : List (Option Underway)) (qs : List (Core Desk)) (p : Core Desk) (u : Option Underway)
+    → AllAlike ps us qs → slice_get ps n ≡ Some p → slice_get us n ≡ Some u
     → (q : Core Desk) × (slice_get qs n ≡ Some q) × Alike p u q
 alike_known n ps us qs p u all at at_step =
     let it = alike_at n ps us qs p all at in
@@ -64,7 +65,8 @@ alike_known n ps us qs p u all at at_step =
     (it.core, it.at_core, subst (λ x. Alike p x it.core) same it.alike)
 
 -- one of each is set
-pub alike_set : (n : ℕ) (ps : List (Core Desk)) (us : List (Option Underway)) (qs : List (Core Desk)) (p : Core Desk) (u : Option Underway) (q : Core Desk) → Alike p u q → AllAlike ps us qs → AllAlike (slice_set ps n p) (slice_set us n u) (slice_set qs n q)
+pub alike_set : (n : ℕ) (ps : List (Core Desk)) (us : List (Option Underway)) (qs : List (Core Desk)) (p : Core Desk) (u : Option Underway) (q : Core Desk)
+    → Alike p u q → AllAlike ps us qs → AllAlike (slice_set ps n p) (slice_set us n u) (slice_set qs n q)
 alike_set n [] [] [] p u q h all = all
 alike_set n [] [] (y ∷ qs) p u q h all = absurd all
 alike_set n [] (v ∷ us) qs p u q h all = absurd all

@@ -258,7 +258,8 @@ module _ (joins : RunsJoin) (all : ℕ) (t : Threads) (ls : List (Core Desk)) (w
       here : slice_get ls n ≡ Some (core g l)
       here = same_at n between (core g l) at
 
-      tells : (told : LogEntry) → ((k : ℕ) → is_taken_by k told ≡ false) → ((w' : World) → Only w entry told w' → WorldStep w (step.Post n) entry w') → Only t.world entry told r' → On (entry ∷ []) next
+      tells : (told : LogEntry) → ((k : ℕ) → is_taken_by k told ≡ false) → ((w' : World) → Only w entry told w' → WorldStep w (step.Post n) entry w')
+          → Only t.world entry told r' → On (entry ∷ []) next
       tells told quiet f k = owned n (step.Post n) between (owner_tells t.world r' n entry ls ws g l at here (λ w'. WorldStep w (step.Post n) entry w') told quiet f k)
 
       posts_order : (out : Option WorkOrder × State) → is_failed l.state.status ≡ false → next_order_of l.state ≡ out → PostsOrder t.world n g l out entry r' → On (entry ∷ []) next
@@ -453,7 +454,8 @@ module _ (joins : RunsJoin) (all : ℕ) (t : Threads) (ls : List (Core Desk)) (w
           let same : core g m ≡ core g l = ap (core g) (sent_is ∙ ap (sharing l) moves.1) in
           later (subst (λ x. Alike x it.step it.core) (sym same) it.alike)
       sends true moves = by it.step it.alike now_sent later where
-        by : (u : Option Underway) → Alike (core g l) u it.core → (DeskGets it.core.loop.shared a true m.shared → Alike (core g m) u (core it.core.setting (sharing it.core.loop m.shared)) → On (entry ∷ []) next)
+        by : (u : Option Underway) → Alike (core g l) u it.core
+            → (DeskGets it.core.loop.shared a true m.shared → Alike (core g m) u (core it.core.setting (sharing it.core.loop m.shared)) → On (entry ∷ []) next)
             → (Alike (core g m) u it.core → On (entry ∷ []) next) → On (entry ∷ []) next
         by None same now later =
             now (subst (λ (x : Core Desk). DeskGets x.loop.shared a true m.shared) (sym same) moves)

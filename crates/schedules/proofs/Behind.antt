@@ -91,7 +91,8 @@ module _ (g : Setting) (l : Loop Desk) (u : Underway) (q : Core Desk) (b : IsBeh
 
   pub behind_sent : (a : ℕ) (e : Desk) → a < MAX_ASYNCS → DeskGets l.shared a true e → Received a e
   behind_sent a e below moves = by b.done b.late b.desk b.came b.reaches b.gets b.steps where
-    by : (done : List Access) (late : List ℕ) (desk : Desk) → AreLate done late → Reach q.loop.shared done desk → Gets desk late l.shared → StepsBy g l (done ++ u.ahead) u.did u.made u.state u.store → Received a e
+    by : (done : List Access) (late : List ℕ) (desk : Desk) → AreLate done late → Reach q.loop.shared done desk → Gets desk late l.shared
+        → StepsBy g l (done ++ u.ahead) u.did u.made u.state u.store → Received a e
     by [] late desk came reaches gets steps =
         let same : l.shared ≡ desk = subst (λ xs. Gets desk xs l.shared) came gets in
         inl (

@@ -1,5 +1,6 @@
 -- Workers that take one job after another, and workers that take one job each.
-use Rattle.std.proofs.Common.{◌≡◌, ◌≢◌, ℕ, zero, suc, ◌+◌, ◌<◌, ◌≤◌, ◌==◌, Bool, true, false, cond, inl, inr, ◌⊎◌, List, [], ◌∷◌, ◌++◌, length, replicate, Option, Some, None, append_assoc, refl, sym, ap, ◌∙◌, arith}
+use Rattle.std.proofs.Common.{◌≡◌, ◌≢◌, ℕ, zero, suc, ◌+◌, ◌<◌, ◌≤◌, ◌==◌, Bool, true, false, cond, inl, inr, ◌⊎◌, List, [], ◌∷◌, ◌++◌, length, replicate, Option}
+use Rattle.std.proofs.Common.{Some, None, append_assoc, refl, sym, ap, ◌∙◌, arith}
 use Rattle.std.specs.Prelude.{slice_get, slice_set}
 use Rattle.std.proofs.lemmas.Bool.{cases_eq, eq-eqb, ne_eqb}
 use Rattle.std.proofs.lemmas.List.{length-set, length_push}
@@ -53,7 +54,8 @@ pub record IsAt (bag : List (Option WorkOrder)) (before : List WorkOrder) (o : W
   pub there : slice_get bag place ≡ Some (Some o)
   pub rest : waiting (slice_set bag place None) ≡ before ++ behind
 
-one_further : (b : Option WorkOrder) (bag : List (Option WorkOrder)) (front before behind : List WorkOrder) (o : WorkOrder) → ((xs : List (Option WorkOrder)) → waiting (b ∷ xs) ≡ front ++ waiting xs) → IsAt bag before o behind → IsAt (b ∷ bag) (front ++ before) o behind
+one_further : (b : Option WorkOrder) (bag : List (Option WorkOrder)) (front before behind : List WorkOrder) (o : WorkOrder)
+    → ((xs : List (Option WorkOrder)) → waiting (b ∷ xs) ≡ front ++ waiting xs) → IsAt bag before o behind → IsAt (b ∷ bag) (front ++ before) o behind
 one_further b bag front before behind o is h = record {
   place = suc h.place;
   there = h.there;

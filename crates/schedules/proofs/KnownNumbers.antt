@@ -1,5 +1,6 @@
 -- What stands in a world: numbers that its loops gave, and no others.
-use Rattle.std.proofs.Common.{◌≡◌, ◌≢◌, ℕ, zero, suc, ◌+◌, ◌≤◌, ◌==◌, Bool, true, false, inl, inr, ◌⊎◌, List, [], ◌∷◌, ◌++◌, length, map, replicate, Option, Some, None, refl, sym, ap, subst, ◌∙◌, arith, MatchBool}
+use Rattle.std.proofs.Common.{◌≡◌, ◌≢◌, ℕ, zero, suc, ◌+◌, ◌≤◌, ◌==◌, Bool, true, false, inl, inr, ◌⊎◌, List, [], ◌∷◌, ◌++◌, length, map, replicate, Option, Some}
+use Rattle.std.proofs.Common.{None, refl, sym, ap, subst, ◌∙◌, arith, MatchBool}
 use Rattle.std.specs.Prelude.{slice_get, slice_set}
 use Rattle.limits.specs.declared.TheConstants.{MAX_JOBS}
 use Rattle.order.specs.Work.{WorkOrder}
@@ -19,7 +20,8 @@ use Rattle.world_log.specs.declared.entry.LogEntry.{LogEntry}
 use Rattle.world_log.specs.declared.entry.LogEntry.TheVariants as line
 use Rattle.world_log.specs.declared.outcome.PostOutcome.TheVariants as post
 use Rattle.world.specs.Laws.{AreInPlace}
-use Rattle.world.specs.World.{World, Worker, Idle, Taken, Started, Answer, Only, UnlessFailed, PostsOrder, TakesJob, StartsJob, FinishesJob, CollectsFrom, WorldStep, opening_world, opening_loop, with_loop, with_worker, core}
+use Rattle.world.specs.World.{World, Worker, Idle, Taken, Started, Answer, Only, UnlessFailed, PostsOrder, TakesJob, StartsJob, FinishesJob, CollectsFrom}
+use Rattle.world.specs.World.{WorldStep, opening_world, opening_loop, with_loop, with_worker, core}
 use Rattle.schedules.proofs.Hands.{set_cases}
 use Rattle.schedules.proofs.Numbers.{AreOwn, Numbered, Kept, own_found, keeps_numbered, staged}
 
@@ -119,7 +121,8 @@ module _ (w w' : World) (s : Stands w) where
       moved jobs states = record { loops = now_loops; jobs = kept_jobs jobs now_given; workers = same_workers states now_given }
 
   -- an order is handed out
-  posts : (n : ℕ) (g : Setting) (l : Loop Desk) (entry : LogEntry) (out : Option WorkOrder × State) → slice_get w.loops n ≡ Some (core g l) → next_order_of l.state ≡ out → PostsOrder w n g l out entry w' → Stands w'
+  posts : (n : ℕ) (g : Setting) (l : Loop Desk) (entry : LogEntry) (out : Option WorkOrder × State) → slice_get w.loops n ≡ Some (core g l)
+      → next_order_of l.state ≡ out → PostsOrder w n g l out entry w' → Stands w'
   posts n g l entry (None, st) at is h = only entry (line.Post n post.Nothing) h
   posts n g l entry (Some o, st) at is h = record {
     loops = now_loops n g l m at loops numbered;
@@ -169,7 +172,8 @@ module _ (w w' : World) (s : Stands w) where
   take n (Taken o) jobs entry at is h = only entry (line.Take n None) h
   take n (Started o) jobs entry at is h = only entry (line.Take n None) h
 
-  idle : (n : ℕ) (was now : Worker) → slice_get w.workers n ≡ Some was → ((o : WorkOrder) → now ≡ Taken o → ⊥) → w'.loops ≡ w.loops → w'.jobs ≡ w.jobs → w'.workers ≡ slice_set w.workers n now → Stands w'
+  idle : (n : ℕ) (was now : Worker) → slice_get w.workers n ≡ Some was → ((o : WorkOrder) → now ≡ Taken o → ⊥) → w'.loops ≡ w.loops → w'.jobs ≡ w.jobs
+      → w'.workers ≡ slice_set w.workers n now → Stands w'
   idle n was now at never loops jobs states = record {
     loops = same_loops loops;
     jobs = kept_jobs jobs (same_given loops);
@@ -185,7 +189,8 @@ module _ (w w' : World) (s : Stands w) where
         own = subst (λ i. AreOwn i l.state.requests.last l.state.requests.outstanding) (sym it.place) it.own;
       })
 
-  starts : (n : ℕ) (o : WorkOrder) (ok : Bool) (g : Setting) (l m : Loop Desk) (entry told dropped : LogEntry) → slice_get w.workers n ≡ Some (Taken o) → slice_get w.loops o.loop_no ≡ Some (core g l) → m.state ≡ l.state
+  starts : (n : ℕ) (o : WorkOrder) (ok : Bool) (g : Setting) (l m : Loop Desk) (entry told dropped : LogEntry) → slice_get w.workers n ≡ Some (Taken o)
+      → slice_get w.loops o.loop_no ≡ Some (core g l) → m.state ≡ l.state
       → MatchBool ok ((entry ≡ told) × (w' ≡ with_worker (with_loop w o.loop_no g m) n (Started o))) ((entry ≡ dropped) × (w' ≡ with_worker w n Idle)) → Stands w'
   starts n o true g l m entry told dropped at at_loop same h =
       let loops : w'.loops ≡ slice_set w.loops o.loop_no (core g m) = ap (λ (x : World). x.loops) h.1 in
@@ -254,7 +259,8 @@ module _ (w w' : World) (s : Stands w) where
       (ap (λ (x : World). x.jobs) k.1) (ap (λ (x : World). x.workers) k.1)) h.3
 
 -- as a world opens
-opening_placed : (k : ℕ) (gs : List Setting) → ((n : ℕ) (g : Setting) → slice_get gs n ≡ Some g → g.loop_no ≡ k + n) → (n : ℕ) (p : Core Desk) → slice_get (map opening_loop gs) n ≡ Some p → IsPlaced (k + n) p
+opening_placed : (k : ℕ) (gs : List Setting) → ((n : ℕ) (g : Setting) → slice_get gs n ≡ Some g → g.loop_no ≡ k + n) → (n : ℕ) (p : Core Desk)
+    → slice_get (map opening_loop gs) n ≡ Some p → IsPlaced (k + n) p
 opening_placed k [] placed n p at = absurd (cc)
 opening_placed k (g ∷ gs) placed zero p at = (
     let same : opening_loop g ≡ p = cc in subst (IsPlaced (k + 0)) same (record { place = placed 0 g refl; own = tt })

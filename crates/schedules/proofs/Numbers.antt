@@ -106,7 +106,8 @@ module _ (first : ℕ) (all : List Access) where
   beside_made rs rs' ahead ahead' (sent a ok is) same h = made_one rs rs' (Sends a ok) ahead ahead' is (omega (arith, same)) (λ number le. tt) h
   beside_made rs rs' ahead ahead' (took a count is) same h = made_one rs rs' (Takes a count) ahead ahead' is (omega (arith, same)) (λ number le. tt) h
 
-  call_made : (g : Setting) (made : List GuestCall) (c : GuestCall) (old new : Requests × List Access) → CallMoves listed_calls g old c new → Foretold first all old.0 old.1 → Foretold first all new.0 new.1
+  call_made : (g : Setting) (made : List GuestCall) (c : GuestCall) (old new : Requests × List Access) → CallMoves listed_calls g old c new
+      → Foretold first all old.0 old.1 → Foretold first all new.0 new.1
   call_made g made c old new (leaves_all asks never e beside) h = beside_made old.0 new.0 old.1 new.1 beside (ap (λ rs. rs.last) e) h
   call_made g made c old new (opens op place count slot is args told e at) h =
       let more : new.0.last ≡ old.0.last + 1 = ap (λ rs. rs.last) e in

@@ -41,7 +41,8 @@ module _ (r r' : World) (n : ℕ) (entry : LogEntry) (ls : List (Core Desk)) (ws
 
   module _ (g : Setting) (l : Loop Desk) (at : slice_get r.loops n ≡ Some (core g l)) (here : slice_get ls n ≡ Some (core g l)) where
     -- the loop is this now
-    becomes : (F : World → Type 0) (now : Core Desk) → F (beside r' (slice_set ls n now) ws) → r'.loops ≡ slice_set r.loops n now → r'.workers ≡ r.workers → r'.jobs ≡ r.jobs → ((k : ℕ) → is_taken_by k entry ≡ false) → Out F
+    becomes : (F : World → Type 0) (now : Core Desk) → F (beside r' (slice_set ls n now) ws) → r'.loops ≡ slice_set r.loops n now → r'.workers ≡ r.workers
+        → r'.jobs ≡ r.jobs → ((k : ℕ) → is_taken_by k entry ≡ false) → Out F
     becomes F now moves loops workers jobs quiet = record {
       now = now;
       moves = moves;

@@ -1,5 +1,6 @@
 -- Each run of a world as one of threads, in which nothing comes between the atomic steps of a loop's step.
-use Rattle.std.proofs.Common.{◌≡◌, ℕ, ◌==◌, Bool, true, false, cond, inl, inr, ◌⊎◌, List, [], ◌∷◌, ◌++◌, map, length, Option, Some, None, refl, sym, ap, subst, ◌∙◌, arith, append_assoc, append-nil, MatchBool}
+use Rattle.std.proofs.Common.{◌≡◌, ℕ, ◌==◌, Bool, true, false, cond, inl, inr, ◌⊎◌, List, [], ◌∷◌, ◌++◌, map, length, Option, Some, None, refl, sym, ap, subst, ◌∙◌}
+use Rattle.std.proofs.Common.{arith, append_assoc, append-nil, MatchBool}
 use Rattle.std.specs.Prelude.{slice_get, slice_set}
 use Rattle.std.specs.List.{count_by}
 use Rattle.std.proofs.lemmas.List.Sums.{sum_by-cons}
@@ -128,7 +129,8 @@ not_full : (full : Bool) (entry : LogEntry) (w w' : World) (n : ℕ) (P : Type 0
 not_full true entry w w' n P room h = absurd (let it = ap is_full h.0 in cc)
 not_full false entry w w' n P room h = h
 
-hands_out : (failed full : Bool) (entry : LogEntry) (w w' : World) (n : ℕ) (P : Type 0) → is_full entry ≡ false → MatchBool failed (Only w entry (line.Failed n) w') (MatchBool full (Only w entry (line.Post n post.Full) w') P)
+hands_out : (failed full : Bool) (entry : LogEntry) (w w' : World) (n : ℕ) (P : Type 0) → is_full entry ≡ false
+    → MatchBool failed (Only w entry (line.Failed n) w') (MatchBool full (Only w entry (line.Post n post.Full) w') P)
     → MatchBool failed (Only w entry (line.Failed n) w') P
 hands_out true full entry w w' n P room h = h
 hands_out false full entry w w' n P room h = not_full full entry w w' n P room h

@@ -88,7 +88,8 @@ pub record Runs (w : World) (from : ℕ) (told : List LogEntry) (w' : World) (to
 pub run_none : (w : World) (n : ℕ) (told : List LogEntry) → ((l : ℕ) → [] ≡ log_of l told) → Runs w n told w n
 run_none w n told silent = record { steps = []; lines = []; run = refl; logs = silent; once = once_none n }
 
-pub run_one : (w w' : World) (s : Step) (entry : LogEntry) (told : List LogEntry) (from to : ℕ) → WorldStep w s entry w' → ((l : ℕ) → log_of l (entry ∷ []) ≡ log_of l told) → Once from to (entry ∷ []) → Runs w from told w' to
+pub run_one : (w w' : World) (s : Step) (entry : LogEntry) (told : List LogEntry) (from to : ℕ) → WorldStep w s entry w'
+    → ((l : ℕ) → log_of l (entry ∷ []) ≡ log_of l told) → Once from to (entry ∷ []) → Runs w from told w' to
 run_one w w' s entry told from to moves logs once = record { steps = s ∷ []; lines = entry ∷ []; run = (w', moves, refl); logs = logs; once = once }
 
 pub run_join : RunsJoin → (w mid w' : World) (a b c : ℕ) (told behind : List LogEntry) → Runs w a told mid b → Runs mid b behind w' c → Runs w a (told ++ behind) w' c

@@ -129,7 +129,8 @@ module _ (all : List Access) where
     );
   }
 
-pub takes_first : (g : Setting) (old : Loop Desk) (accesses : List Access) (did : StepDid) (made : List GuestCall) (state : State) (store : Store) → StepsBy g old accesses did made state store → TakesFirst accesses
+pub takes_first : (g : Setting) (old : Loop Desk) (accesses : List Access) (did : StepDid) (made : List GuestCall) (state : State) (store : Store)
+    → StepsBy g old accesses did made state store → TakesFirst accesses
 takes_first g old accesses did made state store h =
     let it =
     step_mirrors listed_calls written_calls g Anyhow Anyhow (Untouched accesses) (Written accesses) (written accesses) (λ made before after k c. tt) (over accesses old) did made

@@ -30,7 +30,8 @@ module _ (e : Desk) where
   }
 
 -- a step by accesses that lead from the desk to another is a step over the desk
-pub step_whole : (g : Setting) (old : Loop Desk) (accesses : List Access) (did : StepDid) (made : List GuestCall) (state : State) (store : Store) (e d : Desk) → StepsBy g old accesses did made state store → Reach d accesses e
+pub step_whole : (g : Setting) (old : Loop Desk) (accesses : List Access) (did : StepDid) (made : List GuestCall) (state : State) (store : Store) (e d : Desk)
+    → StepsBy g old accesses did made state store → Reach d accesses e
     → StepsWith desk_calls g (over d old) did made (record { state = state; store = store; shared = e })
 step_whole g old accesses did made state store e d steps leads =
     let it =
@@ -106,7 +107,8 @@ module _ (all : List Access) where
   abbrev Left : List Access → List Access → Type 0
   Left accesses rest = accesses ++ rest ≡ all
 
-  read : (accesses accesses' rest : List Access) (a : Access) → Longer accesses' all → Left accesses rest → accesses' ≡ accesses ++ a ∷ [] → (rest' : List Access) × (rest ≡ a ∷ rest') × Left accesses' rest'
+  read : (accesses accesses' rest : List Access) (a : Access) → Longer accesses' all → Left accesses rest → accesses' ≡ accesses ++ a ∷ []
+      → (rest' : List Access) × (rest ≡ a ∷ rest') × Left accesses' rest'
   read accesses accesses' rest a c left is = (
     c.0,
     cancel_front accesses rest (a ∷ c.0) (left ∙ sym c.1 ∙ ap (λ xs. xs ++ c.0) is ∙ append_assoc accesses (a ∷ []) c.0),
@@ -123,7 +125,8 @@ module _ (all : List Access) where
   }
 
 -- a step over the desk is a step by some accesses, which lead from the desk to the next
-pub step_split : (g : Setting) (old : Loop Desk) (did : StepDid) (made : List GuestCall) (new : Loop Desk) → StepsWith desk_calls g old did made new → (accesses : List Access) × StepsBy g old accesses did made new.state new.store × Reach old.shared accesses new.shared
+pub step_split : (g : Setting) (old : Loop Desk) (did : StepDid) (made : List GuestCall) (new : Loop Desk) → StepsWith desk_calls g old did made new
+    → (accesses : List Access) × StepsBy g old accesses did made new.state new.store × Reach old.shared accesses new.shared
 step_split g old did made new h =
     let one = step_mirrors desk_calls written_calls g Anyhow Anyhow (Wrote old.shared) (Wrote old.shared) (writing old.shared) (λ made before after k c. tt) old did made new [] tt (λ async_no handle is. tt) refl h in
     let all : List Access = one.0 in

@@ -30,7 +30,8 @@ record Ran (all : ℕ) (t : Threads) (ls : List (Core Desk)) (ws : List Worker) 
   pub alike : AllAlike t'.world.loops t'.steps loops
 
 module _ (joins : RunsJoin) (all : ℕ) where
-  ran : (atoms : List Atom) (t : Threads) (ls : List (Core Desk)) (ws : List Worker) (bag : List (Option WorkOrder)) (hand : ℕ → ℕ) (log : List LogEntry) (t' : Threads) → AllAlike t.world.loops t.steps ls
+  ran : (atoms : List Atom) (t : Threads) (ls : List (Core Desk)) (ws : List Worker) (bag : List (Option WorkOrder)) (hand : ℕ → ℕ) (log : List LogEntry) (t' : Threads)
+      → AllAlike t.world.loops t.steps ls
       → AreHeld all bag hand t.world.workers ws → t.world.jobs ≡ waiting bag → Stands (beside t.world ls ws) → length bag + jobs_in log ≤ all → ThreadsRun t atoms log t' → Ran all t ls ws (length bag) log t'
   ran [] t ls ws bag hand log t' alike hands jobs stands room h = subst (λ x. Ran all t ls ws (length bag) log x) (sym h.1) (record {
     loops = ls;
@@ -55,7 +56,8 @@ module _ (joins : RunsJoin) (all : ℕ) where
         alike = rest.alike;
       }
 
-pub has_world : RunsJoin → (settings : List Setting) (workers : ℕ) (atoms : List Atom) (log : List LogEntry) (t : Threads) → AreInPlace settings → ThreadsRun (opening_threads settings workers) atoms log t → HasWorld settings log t
+pub has_world : RunsJoin → (settings : List Setting) (workers : ℕ) (atoms : List Atom) (log : List LogEntry) (t : Threads) → AreInPlace settings
+    → ThreadsRun (opening_threads settings workers) atoms log t → HasWorld settings log t
 has_world joins settings workers atoms log t placed h =
     let all = jobs_in log in
     let it =

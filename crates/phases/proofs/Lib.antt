@@ -17,6 +17,7 @@ pub mod AliveMeans
 pub mod Lowest
 pub mod Mirroring
 pub mod StepsByCalls
+pub mod StopsOfCallbacks
 pub mod RequestByNumber
 pub mod OwnerCallsKeepListed
 pub mod ListedStaysReady

@@ -12,4 +12,5 @@ pub mod Requests
 pub mod Roster
 pub mod State
 pub mod Step
+pub mod Stopping
 pub mod View

@@ -1,6 +1,7 @@
 //! One event loop.
 
 ghost use Rattle.std.specs.Prelude.{◌≡◌, ◌↔◌, ◌≤◌, ℕ, List, [], ◌∷◌, Some, None, true, false, All, codes, length, ◌<◌, MatchBool, IsTrue, IfOk, IfSome, option_map};
+ghost use Rattle.std.proofs.Props.{props};
 ghost use Rattle.std.specs.Arc.{arc_value};
 ghost use Rattle.std.specs.Int.{w32, cast_unsigned};
 ghost use Rattle.limits.specs.declared.TheConstants.{MAX_ASYNCS, MAX_DEPTH, MAX_EMITS, MAX_REQUESTS};
@@ -16,10 +17,12 @@ ghost use Rattle.order.specs.Runnable.{CanRun};
 ghost use Rattle.phases.specs.PhaseList.{begin_list, hint_of, is_alive, IsAlive, IsHint};
 ghost use Rattle.phases.specs.Inner.Bare.{whole};
 ghost use Rattle.phases.specs.Inner.Ready.{IsReady, Spares};
+ghost use Rattle.phases.specs.Inner.Setting.{setting_of};
 ghost use Rattle.phases.specs.Requests.{IsLowestOpen};
 ghost use Rattle.phases.specs.Roster.{opening_roster};
 ghost use Rattle.phases.specs.State.{opening};
 ghost use Rattle.phases.specs.Step.{LoopStep, ListStep, EntryStep, CallsBack, CallsHandle, RunsFrom, Skips, TakesFirst, AfterWork, is_as_listed};
+ghost use Rattle.phases.specs.Stopping.{StopsAt};
 ghost use Rattle.phases.specs.View.{new_view};
 
 use crate::did::BareDid;
@@ -33,8 +36,8 @@ use events::phase::EntryKind;
 use events::settings::LoopSettings;
 use handles::Kind;
 use imports::{EntryPoint, Linked};
-use instance::stack::Stop;
-use instance::state::Instance;
+use instance::stack::{Stack, Stop};
+use instance::state::State;
 use interp::invoke::invoke_bare;
 use order::laws::imports_are_named;
 use order::{Order, Reply};
@@ -57,15 +60,18 @@ pub enum Accepted {
 /// Contracts see what it is made of, and the loop as it stands.
 pub struct LoopCore<B: Shared + Drop> {
     linked: Arc<Linked, Global>,
-    instance: Instance,
+    store: State,
+    stack: Stack,
     host: LoopHost<B>,
+    ghost stopped: { IfSome stack (λ sites. ∥ StopsAt B.calls (setting_of host.setting) store sites ∥₁) } by { Prim.hlevel props },
 }
 
 impl<B: Shared + Drop> Drop for LoopCore<B> {
     fn drop(self) {
         let LoopCore {
             linked: _,
-            instance: _,
+            store: _,
+            stack: _,
             host: _,
         } = self;
     }
@@ -85,9 +91,9 @@ impl<B: Shared + Drop> Model for LoopCore<B> {
 
     ghost coded = { Prim.hlevel (codes, loaded_coded, roster_code, requests_code, B.code) };
 
-    ghost view = { λ a. record { setting = setting_of a.host.setting; loop = record { state = a.host.state; store = a.instance; shared = a.host.shared } } };
+    ghost view = { λ a. record { setting = setting_of a.host.setting; loop = record { state = a.host.state; store = a.store; shared = a.host.shared } } };
 
-    ghost invariant = { λ a. Keeps (arc_value a.linked) (setting_of a.host.setting) a.host.state a.instance };
+    ghost invariant = { λ a. Keeps (arc_value a.linked) (setting_of a.host.setting) a.host.state a.store };
 }
 
 impl<B: Shared + Drop> LoopCore<B> {
@@ -120,6 +126,9 @@ impl<B: Shared + Drop> LoopCore<B> {
             },
         };
         let (instance, state) = opened(alloc, &linked)?;
+        let (store, mut stack) = instance.into_parts();
+        // nothing has run on it
+        stack.last = None;
         let host = LoopHost {
             alloc,
             setting,
@@ -128,7 +137,8 @@ impl<B: Shared + Drop> LoopCore<B> {
         };
         Ok(LoopCore {
             linked,
-            instance,
+            store,
+            stack,
             host,
         })
     }
@@ -327,11 +337,10 @@ impl<B: Shared + Drop> LoopCore<B> {
         let LoopSettings { fuel, depth, .. } = self.host.setting.settings;
         imports_are_named(&self.linked);
         let valid = self.linked.valid();
-        let Instance { state, stack } = &mut self.instance;
         let ended = invoke_bare(
             valid,
-            state,
-            stack,
+            &mut self.store,
+            &mut self.stack,
             &mut self.host,
             function,
             args,
@@ -365,8 +374,10 @@ impl<B: Shared + Drop> LoopCore<B> {
     }
 
     /// Where the last callback stopped, if it was over but by return: at which operation, and within which calls.
-    pub fn last_stop(&self) -> Option<Stop<'_>> {
-        self.instance.last_stop()
+    pub fn last_stop(&self) -> Option<Stop<'_>>
+        ensures { IfSome result (λ sites. ∥ StopsAt B.calls self.now.setting self.now.loop.store sites ∥₁) }
+    {
+        self.stack.last_stop()
     }
 
     /// Whether a callback did not return, after which the loop does nothing more.
@@ -391,7 +402,8 @@ impl<B: Shared + Drop> LoopCore<B> {
     {
         let LoopCore {
             linked: _,
-            instance: _,
+            store: _,
+            stack: _,
             host,
         } = self;
         host.into_shared()

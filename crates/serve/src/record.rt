@@ -120,7 +120,9 @@ impl<'a> Record<'a> {
         unreachable!()
     }
 
-    // One step of the loop. Where memory for what a callback may put out is refused, it takes none.
+    // One step of the loop. Where memory for what a callback may put out is refused, it takes none. Inlined, so that what the step
+    // did isn't copied: it has room for results.
+    #[inline(always)]
     fn step(&mut self) -> Result<StepDid, AllocError>
         requires room { self.old.ran < MAX_CALLBACKS }
         ensures setting { self.new.core.setting ≡ self.old.core.setting }

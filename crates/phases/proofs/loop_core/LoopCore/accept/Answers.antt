@@ -18,9 +18,7 @@ invariant_of-self-inside g c =
     let o = order_of c.args.reply.order in
     let end = end_of c.args.reply.outcome in
     let taken : State = with_requests s (answered s.requests o end) in
-    record {
-      opened = by_reply (λ (u : State). AreOpenedUpTo u.requests.last (g.B.Shared.calls.view c.self.inside.host.shared)) _ _ c.accept.result taken s c.accept.new.self c.self.inside.host.opened c.self.inside.host.opened c.accept.ensures.answered c.accept.ensures.refused;
-    }
+    ((by_reply (λ (u : State). AreOpenedUpTo u.requests.last (g.B.Shared.calls.view c.self.inside.host.shared)) _ _ c.accept.result taken s c.accept.new.self c.self.inside.host.opened c.self.inside.host.opened c.accept.ensures.answered c.accept.ensures.refused, tt), (c.self.inside.stopped, tt))
 
 pub invariant_of-self : goal.invariant_of-self
 invariant_of-self g c =
@@ -30,6 +28,6 @@ invariant_of-self g c =
     let o = order_of c.args.reply.order in
     let end = end_of c.args.reply.outcome in
     let taken : State = with_requests s (answered s.requests o end) in
-    by_reply (λ (u : State). Keeps l set u c.self.inside.instance) _ _ c.accept.result taken s c.accept.new.self
-    (kept_on l set s taken c.self.inside.instance c.self.invariant (grows_answered s o end) (staged_orders set s.requests o.request (Answered end) c.self.invariant.orders))
+    by_reply (λ (u : State). Keeps l set u c.self.inside.store) _ _ c.accept.result taken s c.accept.new.self
+    (kept_on l set s taken c.self.inside.store c.self.invariant (grows_answered s o end) (staged_orders set s.requests o.request (Answered end) c.self.invariant.orders))
     c.self.invariant c.accept.ensures.answered c.accept.ensures.refused

@@ -20,6 +20,6 @@ invariant_of-self g c =
     let s = c.self.inside.host.state in
     let old : State × _ = (s, c.self.inside.host.shared) in
     let new : State × _ = (c.cancel.new.self, c.cancel.new.shared) in
-    kept_on l set s c.cancel.new.self c.self.inside.instance c.self.invariant
+    kept_on l set s c.cancel.new.self c.self.inside.store c.self.invariant
     (grows_cancel g.B.Shared.calls s.status old c.args.request c.cancel.result new c.cancel.ensures)
     (cancel_orders g.B.Shared.calls set s.status old new c.args.request c.cancel.result c.cancel.ensures c.self.invariant.orders)

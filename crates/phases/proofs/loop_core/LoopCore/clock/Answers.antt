@@ -10,14 +10,12 @@ use Rattle.phases.proofs.OwnerCallsKeepListed.{grows_clock}
 use Rattle.phases.proofs.loop_core.LoopCore.clock.Goals as goal
 
 pub invariant_of-self-inside : goal.invariant_of-self-inside
-invariant_of-self-inside g c = record {
-  opened = subst (λ (s : State). AreOpenedUpTo s.requests.last (g.B.Shared.calls.view c.self.inside.host.shared)) (sym c.raise.ensures.state) c.self.inside.host.opened;
-}
+invariant_of-self-inside g c = ((subst (λ (s : State). AreOpenedUpTo s.requests.last (g.B.Shared.calls.view c.self.inside.host.shared)) (sym c.raise.ensures.state) c.self.inside.host.opened, tt), (c.self.inside.stopped, tt))
 
 pub invariant_of-self : goal.invariant_of-self
 invariant_of-self g c =
     let l = arc_value c.self.inside.linked in
     let set = setting_of c.self.inside.host.setting in
     let s = c.self.inside.host.state in
-    subst (λ (u : State). Keeps l set u c.self.inside.instance) (sym c.raise.ensures.state)
-    (kept_on l set s (after_clock s c.args.ms) c.self.inside.instance c.self.invariant (grows_clock s c.args.ms) c.self.invariant.orders)
+    subst (λ (u : State). Keeps l set u c.self.inside.store) (sym c.raise.ensures.state)
+    (kept_on l set s (after_clock s c.args.ms) c.self.inside.store c.self.invariant (grows_clock s c.args.ms) c.self.invariant.orders)

@@ -17,9 +17,7 @@ use Rattle.phases.proofs.loop_core.LoopCore.go_on.Goals as goal
 pub invariant_of-self-inside : goal.invariant_of-self-inside
 invariant_of-self-inside g c =
     let requests = ap (λ (s : State). s.requests) c.turn.ensures.state ∙ (turn_leaves c.self.inside.host.state).1 in
-    record {
-      opened = subst (λ (rs : Requests). AreOpenedUpTo rs.last (g.B.Shared.calls.view c.self.inside.host.shared)) (sym requests) c.self.inside.host.opened;
-    }
+    ((subst (λ (rs : Requests). AreOpenedUpTo rs.last (g.B.Shared.calls.view c.self.inside.host.shared)) (sym requests) c.self.inside.host.opened, tt), (c.self.inside.stopped, tt))
 
 pub invariant_of-self : goal.invariant_of-self
 invariant_of-self g c =
@@ -28,14 +26,12 @@ invariant_of-self g c =
     let roster = ap (λ (u : State). u.roster) c.turn.ensures.state ∙ (turn_leaves s).0 in
     let requests = ap (λ (u : State). u.requests) c.turn.ensures.state ∙ (turn_leaves s).1 in
     let empty = no_front s.list (sym c.front.ensures ∙ c.in_default.is) in
-    kept_with (arc_value c.self.inside.linked) set s c.turn.new.self c.self.inside.instance c.self.invariant (ap (λ (r : Roster). r.callbacks) roster)
+    kept_with (arc_value c.self.inside.linked) set s c.turn.new.self c.self.inside.store c.self.invariant (ap (λ (r : Roster). r.callbacks) roster)
     (c.turn.ensures.ready set.loaded.contents empty)
     (subst (AreOrdersOf set) (sym requests) c.self.invariant.orders)
 
 pub invariant_of-self-inside-2 : goal.invariant_of-self-inside-2
-invariant_of-self-inside-2 g c = record {
-  opened = subst (λ (s : State). AreOpenedUpTo s.requests.last (g.B.Shared.calls.view c.self.inside.host.shared)) (sym c.pop.ensures) c.self.inside.host.opened;
-}
+invariant_of-self-inside-2 g c = ((subst (λ (s : State). AreOpenedUpTo s.requests.last (g.B.Shared.calls.view c.self.inside.host.shared)) (sym c.pop.ensures) c.self.inside.host.opened, tt), (c.self.inside.stopped, tt))
 
 pub invariant_of-self-2 : goal.invariant_of-self-2
 invariant_of-self-2 g c =
@@ -45,8 +41,8 @@ invariant_of-self-2 g c =
     let is = front_of s.list c.in-Some.entry (sym c.front.ensures ∙ c.in-Some.is) in
     let rest : State = record s { list = drop 1 s.list } in
     let ready = ready_rest set.loaded.contents s c.in-Some.entry (drop 1 s.list) c.self.invariant.ready is in
-    subst (λ (u : State). Keeps l set u c.self.inside.instance) (sym c.pop.ensures)
-    (kept_with l set s rest c.self.inside.instance c.self.invariant (λ _. s.roster.callbacks) ready c.self.invariant.orders)
+    subst (λ (u : State). Keeps l set u c.self.inside.store) (sym c.pop.ensures)
+    (kept_with l set s rest c.self.inside.store c.self.invariant (λ _. s.roster.callbacks) ready c.self.invariant.orders)
 
 pub run-requires-clause-ready : goal.run-requires-clause-ready
 run-requires-clause-ready g c =
@@ -71,8 +67,8 @@ returns-clause-step g c =
     let made = c.run.ensures.step.0 in (
       made,
       subst (λ now. ListStep g.B.Shared.calls now.setting now.loop now.loop.state.list (whole c.run.result) made c.run.new.self.loop) c.self.view_is
-          (subst (λ (list : List Entry). ListStep g.B.Shared.calls set (record { state = s; store = c.self.inside.instance; shared = c.self.inside.host.shared }) list (whole c.run.result) made c.run.new.self.loop) (sym is)
-          (subst (λ (u : State). EntryStep g.B.Shared.calls set (record { state = u; store = c.self.inside.instance; shared = c.self.inside.host.shared }) c.in-Some.entry (whole c.run.result) made c.run.new.self.loop) c.pop.ensures c.run.ensures.step.1)),
+          (subst (λ (list : List Entry). ListStep g.B.Shared.calls set (record { state = s; store = c.self.inside.store; shared = c.self.inside.host.shared }) list (whole c.run.result) made c.run.new.self.loop) (sym is)
+          (subst (λ (u : State). EntryStep g.B.Shared.calls set (record { state = u; store = c.self.inside.store; shared = c.self.inside.host.shared }) c.in-Some.entry (whole c.run.result) made c.run.new.self.loop) c.pop.ensures c.run.ensures.step.1)),
     )
 
 pub returns-in_default-clause-step : goal.returns-in_default-clause-step
@@ -80,7 +76,7 @@ returns-in_default-clause-step g c =
     let s = c.self.inside.host.state in
     let set = setting_of c.self.inside.host.setting in
     let empty = no_front s.list (sym c.front.ensures ∙ c.in_default.is) in
-    let over : State → Loop _ = λ u. record { state = u; store = c.self.inside.instance; shared = c.self.inside.host.shared } in (
+    let over : State → Loop _ = λ u. record { state = u; store = c.self.inside.store; shared = c.self.inside.host.shared } in (
       [],
       subst (λ now. ListStep g.B.Shared.calls now.setting now.loop now.loop.state.list (whole c.turn.result) [] (over c.turn.new.self)) c.self.view_is
           (subst (λ (list : List Entry). ListStep g.B.Shared.calls set (over s) list (whole c.turn.result) [] (over c.turn.new.self)) (sym empty) (c.turn.ensures.did, ap over c.turn.ensures.state, refl)),

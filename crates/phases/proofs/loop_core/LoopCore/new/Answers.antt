@@ -1,6 +1,7 @@
 use Rattle.std.proofs.Common.{sym, subst, ap, ◌∙◌}
 use Rattle.std.specs.Arc.{arc_value}
 use Rattle.syntax.specs.Loaded.{Loaded}
+use Rattle.instance.specs.Store.{Store}
 use Rattle.instance.specs.Storing.{IsStoreOf}
 use Rattle.phases.specs.PhaseList.{begin_list}
 use Rattle.phases.specs.Roster.{opening_roster}
@@ -8,11 +9,12 @@ use Rattle.phases.specs.State.{opening}
 use Rattle.phases.proofs.LoopsKeep.{kept_new}
 use Rattle.phases.proofs.loop_core.LoopCore.new.Goals as goal
 
-pub invariant_of-result : goal.invariant_of-result
-invariant_of-result g c =
+pub invariant_of-result-2 : goal.invariant_of-result-2
+invariant_of-result-2 g c =
     let made = c.in_ok-instance.ensures in
-    kept_new (arc_value c.args.linked) _ c.in_ok-instance.state c.in_ok-instance.instance (sym c.in_ok-try_clone.ensures) c.requires.depth
-    (subst (λ (x : Loaded). IsStoreOf x.contents c.in_ok-instance.instance) c.deref.ensures made.store)
+    let store = subst (λ (s : Store). IsStoreOf c.deref.result.now.contents s) (sym c.into_parts-store.ensures.state) made.store in
+    kept_new (arc_value c.args.linked) _ c.in_ok-instance.state c.into_parts-store.result.0 (sym c.in_ok-try_clone.ensures) c.requires.depth
+    (subst (λ (x : Loaded). IsStoreOf x.contents c.into_parts-store.result.0) c.deref.ensures store)
     (made.state ∙ ap (λ (x : Loaded). opening (opening_roster x.contents) (begin_list x.contents)) c.deref.ensures)
 
 pub returns-clause-state : goal.returns-clause-state

@@ -12,16 +12,14 @@ use Rattle.phases.proofs.Runnable.{next_orders, next_last}
 use Rattle.phases.proofs.loop_core.LoopCore.next_order.Goals as goal
 
 pub invariant_of-self-inside : goal.invariant_of-self-inside
-invariant_of-self-inside g c = record {
-  opened = subst (λ (s : State). AreOpenedUpTo s.requests.last (g.B.Shared.calls.view c.self.inside.host.shared)) (sym c.next_order.ensures.state) (next_last c.self.inside.host.state (λ n. AreOpenedUpTo n (g.B.Shared.calls.view c.self.inside.host.shared)) c.self.inside.host.opened);
-}
+invariant_of-self-inside g c = ((subst (λ (s : State). AreOpenedUpTo s.requests.last (g.B.Shared.calls.view c.self.inside.host.shared)) (sym c.next_order.ensures.state) (next_last c.self.inside.host.state (λ n. AreOpenedUpTo n (g.B.Shared.calls.view c.self.inside.host.shared)) c.self.inside.host.opened), tt), (c.self.inside.stopped, tt))
 
 pub invariant_of-self : goal.invariant_of-self
 invariant_of-self g c =
     let l = arc_value c.self.inside.linked in
     let set = setting_of c.self.inside.host.setting in
     let s = c.self.inside.host.state in
-    kept_on l set s c.next_order.new.self c.self.inside.instance c.self.invariant c.next_order.ensures.grows
+    kept_on l set s c.next_order.new.self c.self.inside.store c.self.invariant c.next_order.ensures.grows
     (subst (λ (u : State). AreOrdersOf set u.requests) (sym c.next_order.ensures.state) (next_orders set s c.self.invariant.orders))
 
 pub returns-clause-own : goal.returns-clause-own

@@ -31,9 +31,7 @@ unreachable-requires g c =
     (request_heard set s.requests c.args.request ready c.self.invariant.orders)
 
 pub invariant_of-self-inside : goal.invariant_of-self-inside
-invariant_of-self-inside g c = record {
-  opened = subst (λ (s : State). AreOpenedUpTo s.requests.last (g.B.Shared.calls.view c.self.inside.host.shared)) (sym c.take_request-completion.ensures.removed) c.self.inside.host.opened;
-}
+invariant_of-self-inside g c = ((subst (λ (s : State). AreOpenedUpTo s.requests.last (g.B.Shared.calls.view c.self.inside.host.shared)) (sym c.take_request-completion.ensures.removed) c.self.inside.host.opened, tt), (c.self.inside.stopped, tt))
 
 pub invariant_of-self : goal.invariant_of-self
 invariant_of-self g c =
@@ -42,8 +40,8 @@ invariant_of-self g c =
     let s = c.self.inside.host.state in
     let rest : State = with_requests s (without_request s.requests c.args.request) in
     let apart = rw (← c.self.view_is) at c.requires.apart in
-    subst (λ (u : State). Keeps l set u c.self.inside.instance) (sym c.take_request-completion.ensures.removed)
-    (kept_with l set s rest c.self.inside.instance c.self.invariant refl (ready_without_request set.loaded.contents s c.args.request c.self.invariant.ready apart) (other_orders set s.requests c.args.request c.self.invariant.orders))
+    subst (λ (u : State). Keeps l set u c.self.inside.store) (sym c.take_request-completion.ensures.removed)
+    (kept_with l set s rest c.self.inside.store c.self.invariant refl (ready_without_request set.loaded.contents s c.args.request c.self.invariant.ready apart) (other_orders set s.requests c.args.request c.self.invariant.orders))
 
 pub call-requires-clause-takes : goal.call-requires-clause-takes
 call-requires-clause-takes g c =
@@ -60,7 +58,7 @@ returns-clause-step g c =
     let set = setting_of c.self.inside.host.setting in
     let s = c.self.inside.host.state in
     let t = c.take_request-completion.result in
-    let old : Loop _ = record { state = s; store = c.self.inside.instance; shared = c.self.inside.host.shared } in
+    let old : Loop _ = record { state = s; store = c.self.inside.store; shared = c.self.inside.host.shared } in
     let exported = subst (λ (x : Loaded). ExportsFunction x.contents (name_of_entry AfterWorkExport) c.in-Some.function) (c.deref.ensures ∙ c.self.invariant.same) c.in-Some.ensures.found in
     let run = subst (λ (u : State). RunsFrom g.B.Shared.calls set (in_state old u) After c.args.request c.in-Some.function (I32 c.args.request ∷ I32 t.kind ∷ I32 t.code ∷ []) (Some t.bytes.items) (whole c.call.result) c.call.ensures.run.0 c.call.new.self.loop)
     c.take_request-completion.ensures.removed c.call.ensures.run.1 in

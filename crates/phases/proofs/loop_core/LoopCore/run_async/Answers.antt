@@ -12,17 +12,15 @@ use Rattle.phases.proofs.LoopsKeep.{handle_takes, handle_bare, active_step, none
 use Rattle.phases.proofs.loop_core.LoopCore.run_async.Goals as goal
 
 pub invariant_of-self-inside : goal.invariant_of-self-inside
-invariant_of-self-inside g c = record {
-  opened = taken_upto g.B.Shared.calls g.met.B.Shared.lawful c.self.inside.host.state.requests.last c.self.inside.host.shared c.take.new.self c.args.async_no c.take.result c.take.ensures c.self.inside.host.opened;
-}
+invariant_of-self-inside g c = ((taken_upto g.B.Shared.calls g.met.B.Shared.lawful c.self.inside.host.state.requests.last c.self.inside.host.shared c.take.new.self c.args.async_no c.take.result c.take.ensures c.self.inside.host.opened, tt), (c.self.inside.stopped, tt))
 
 pub returns-then-take-eq0-clause-step : goal.returns-then-take-eq0-clause-step
 returns-then-take-eq0-clause-step g c =
     let set = setting_of c.self.inside.host.setting in
     let s = c.self.inside.host.state in
     let handle = c.in-Some.handle in
-    let old : Loop _ = record { state = s; store = c.self.inside.instance; shared = c.self.inside.host.shared } in
-    let new : Loop _ = record { state = s; store = c.self.inside.instance; shared = c.take.new.self } in
+    let old : Loop _ = record { state = s; store = c.self.inside.store; shared = c.self.inside.host.shared } in
+    let new : Loop _ = record { state = s; store = c.self.inside.store; shared = c.take.new.self } in
     let is : async_handle s.roster c.args.async_no ≡ Some handle = sym c.in-Some.ensures.value in
     let same = same_some (async_handle s.roster c.args.async_no) c.in-Some-active_async.field-0-0 handle c.in-Some-active_async.ensures.some.1 is in
     let active = subst (λ n. is_active_handle s.roster.handles (Some n) ≡ true) same c.in-Some-active_async.ensures.some.0 in (
@@ -42,7 +40,7 @@ returns-clause-step g c =
     let set = setting_of c.self.inside.host.setting in
     let s = c.self.inside.host.state in
     let handle = c.in-Some.handle in
-    let old : Loop _ = record { state = s; store = c.self.inside.instance; shared = c.self.inside.host.shared } in
+    let old : Loop _ = record { state = s; store = c.self.inside.store; shared = c.self.inside.host.shared } in
     let is : async_handle s.roster c.args.async_no ≡ Some handle = sym c.in-Some.ensures.value in
     let same = same_some (async_handle s.roster c.args.async_no) c.in-Some-active_async.field-0-0 handle c.in-Some-active_async.ensures.some.1 is in
     let active = subst (λ n. is_active_handle s.roster.handles (Some n) ≡ true) same c.in-Some-active_async.ensures.some.0 in

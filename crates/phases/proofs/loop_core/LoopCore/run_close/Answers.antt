@@ -11,9 +11,7 @@ use Rattle.phases.proofs.ListedStaysReady.{ready_without_handle}
 use Rattle.phases.proofs.loop_core.LoopCore.run_close.Goals as goal
 
 pub invariant_of-self-inside : goal.invariant_of-self-inside
-invariant_of-self-inside g c = record {
-  opened = subst (λ (s : State). AreOpenedUpTo s.requests.last (g.B.Shared.calls.view c.self.inside.host.shared)) (sym c.finish_closing-function.ensures.removed) c.self.inside.host.opened;
-}
+invariant_of-self-inside g c = ((subst (λ (s : State). AreOpenedUpTo s.requests.last (g.B.Shared.calls.view c.self.inside.host.shared)) (sym c.finish_closing-function.ensures.removed) c.self.inside.host.opened, tt), (c.self.inside.stopped, tt))
 
 pub invariant_of-self : goal.invariant_of-self
 invariant_of-self g c =
@@ -22,8 +20,8 @@ invariant_of-self g c =
     let s = c.self.inside.host.state in
     let closed : State = with_roster s (without_handle s.roster c.args.handle) in
     let apart = rw (← c.self.view_is) at c.requires.apart in
-    subst (λ (u : State). Keeps l set u c.self.inside.instance) (sym c.finish_closing-function.ensures.removed)
-    (kept_with l set s closed c.self.inside.instance c.self.invariant refl (ready_without_handle set.loaded.contents s c.args.handle c.self.invariant.ready apart) c.self.invariant.orders)
+    subst (λ (u : State). Keeps l set u c.self.inside.store) (sym c.finish_closing-function.ensures.removed)
+    (kept_with l set s closed c.self.inside.store c.self.invariant refl (ready_without_handle set.loaded.contents s c.args.handle c.self.invariant.ready apart) c.self.invariant.orders)
 
 pub call_handle-requires-clause-callback : goal.call_handle-requires-clause-callback
 call_handle-requires-clause-callback g c = handle_takes _ c.finish_closing-function.result c.args.handle c.self.inside.host.state.roster c.args.handle c.self.invariant.callbacks c.finish_closing-function.ensures.function

@@ -1,0 +1,38 @@
+-- Where a callback stopped, told of its loop.
+use Rattle.std.proofs.Common.{ℕ, List, Option, Some, None, IfSome, ◌≡◌, subst, sym, ◌∙◌}
+use Rattle.syntax.specs.Loaded.{Loaded}
+use Rattle.syntax.specs.declared.types.Value.{Value}
+use Rattle.instance.specs.Store.{Store}
+use Rattle.instance.specs.declared.stack.Site.{Site}
+use Rattle.events.specs.declared.ended.Ended.{Ended}
+use Rattle.reduction.specs.Hosting.{Lawful}
+use Rattle.reduction.specs.Stopping.{Tells}
+use Rattle.phases.specs.Calls.{Calls}
+use Rattle.phases.specs.Host.{HostStep}
+use Rattle.phases.specs.Inner.Hosting.{Answered}
+use Rattle.phases.specs.State.{Setting, State}
+use Rattle.phases.specs.Stopping.{StopsAt}
+use Rattle.phases.proofs.GuestCallsKeep.{served}
+
+-- where a call on the host of a loop stopped, if it did
+pub stops_at : {G S : Type 0} (calls : Calls S) (setting : G → Setting) (standing : G → State × S) (v : Loaded) (g : Setting) → v ≡ g.loaded
+    → (before after : G) → setting before ≡ g → (s t : Store) (function : ℕ) (args : List Value) (ended : Ended) (stop : Option (List Site))
+    → Tells v.contents g.depth (Answered calls setting standing) s before function args ended t after stop
+    → IfSome stop (λ sites. ∥ StopsAt calls (setting after) t sites ∥₁)
+stops_at calls setting standing v g is before after made s t function args ended None w = tt
+stops_at calls setting standing v g is before after made s t function args ended (Some sites) w =
+    let it = served calls setting standing w.trace before after w.lawful in
+    subst (λ (x : Setting). ∥ StopsAt calls x t sites ∥₁) (sym (it.same ∙ made))
+    ∣ record {
+      function = function;
+      args = args;
+      ended = ended;
+      before = s;
+      begun = standing before;
+      over = standing after;
+      tells = subst (λ (x : Loaded). Tells x.contents g.depth (HostStep calls g) s (standing before) function args ended t (standing after) (Some sites)) is (record {
+        trace = w.trace;
+        lawful = subst (λ (x : Setting). Lawful (HostStep calls x) w.trace (standing before) (standing after)) made it.answers;
+        stops = w.stops;
+      });
+    } ∣₁

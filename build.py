@@ -199,13 +199,14 @@ def report(plan, crate):
 
 
 def shares(rtlib):
-    """Returns how many crates are built at a time, and with how many jobs each. A check uses its jobs half of the time."""
+    """Returns how many crates are built at a time, and with how many jobs one that the longest chain stands on. The others get one job
+    each: with four, a check takes a sixth more of the processors' time."""
     processors = len(os.sched_getaffinity(0))
     jobs = min(MOST_JOBS, processors)
-    at_once = processors // 2 + 1
-    while jobs > 1 and not rtlib.fits(JOB * jobs):
+    at_once = processors
+    while jobs > 1 and not rtlib.fits(JOB * (jobs + at_once - 1)):
         jobs -= 1
-    while at_once > 1 and not rtlib.fits(JOB * jobs * at_once):
+    while at_once > 1 and not rtlib.fits(JOB * at_once):
         at_once -= 1
     return at_once, jobs
 
@@ -223,7 +224,7 @@ def build_all(rtlib, plan):
                 longest = max(plan.behind[it] for it in [*waiting, *running.values(), crate])
                 is_first = plan.behind[crate] >= NEARLY * longest
                 plan.begins(crate)
-                running[pool.submit(build, rtlib, crate, jobs, is_first)] = crate
+                running[pool.submit(build, rtlib, crate, jobs if is_first else 1, is_first)] = crate
             ended = wait(running, timeout=QUIET, return_when=FIRST_COMPLETED).done
             for it in ended:
                 crate = running.pop(it)

@@ -1,6 +1,6 @@
 // The host is asked for an import.
 
-ghost use Rattle.std.specs.Prelude.{◌≡◌, ◌≤◌, ◌<◌, ◌+◌, ◌^◌, length, IfSome};
+ghost use Rattle.std.specs.Prelude.{◌≡◌, ◌≤◌, ◌<◌, ◌+◌, ◌^◌, length, Some};
 ghost use Rattle.validate.specs.Typing.{type_of_function as type_in};
 ghost use Rattle.reduction.specs.Run.{as_operands};
 ghost use Rattle.reduction.specs.Hosting.{Names};
@@ -13,7 +13,7 @@ use crate::reading::{number_of, read};
 use engine::At;
 use instance::state::State;
 use limits::MAX_HEIGHT;
-use syntax::contents::Contents;
+use syntax::contents::{Contents, FuncType};
 use syntax::types::Value;
 use validate::type_of_function;
 
@@ -36,85 +36,114 @@ fn lay_answer(slots: &mut [u64], place: usize, answer: Option<Value>) -> usize
     }
 }
 
-/// The same as `ask_host`, with places that the arguments are read into.
+/// The same as `ask_host`, of an import of this type, with places that the arguments are read into.
+#[inline(always)]
 fn ask_over<H: Host>(
     contents: &Contents,
+    import_type: &FuncType,
     state: &mut State,
     host: &mut H,
     slots: &mut [u64],
-    at: At,
+    at: &mut At,
     import: usize,
     height: usize,
     values: &mut [Value],
-) -> At
+)
     requires can { CanAsk contents.now import height (length slots.old) }
     requires names { Names contents.now (H.types host.old) }
-    requires steps { at.pc + 1 < 2 ^ 64 }
-    requires places { IfSome (type_in contents.now import) (λ t. length t.params ≤ length values.old) }
-    ensures asked { Asks contents.now H.moves import height at slots.old state.old host.old result slots.new state.new host.new }
+    requires steps { at.old.pc + 1 < 2 ^ 64 }
+    requires known { type_in contents.now import ≡ Some import_type.now }
+    requires places { length import_type.now.params ≤ length values.old }
+    ensures asked { Asks contents.now H.moves import height at.old slots.old state.old host.old at.new slots.new state.new host.new }
     ensures types { H.types host.new ≡ H.types host.old }
 {
-    let import = import as u32;
-    let Some(import_type) = type_of_function(contents, import) else {
-        unreachable!()
-    };
     let params = import_type.params.as_slice();
     let place = height - params.len();
     read(params, &slots[place..height], values);
     let args = Args::new(&values[..params.len()]);
-    let answer = host.call(import, &args, state.memory_mut());
+    let answer = host.call(import as u32, &args, state.memory_mut());
     let results = lay_answer(slots, place, answer);
-    At {
-        pc: at.pc + 1,
-        sp: place + results,
-        ..at
-    }
+    at.pc += 1;
+    at.sp = place + results;
 }
 
-/// The same, for an import of any number of arguments. In its own place, so that few arguments are read with fewer registers.
+/// The same, of any number of arguments. In its own place, so that few arguments are read with fewer registers.
 #[inline(never)]
 fn ask_with_many<H: Host>(
     contents: &Contents,
+    import_type: &FuncType,
     state: &mut State,
     host: &mut H,
     slots: &mut [u64],
-    at: At,
+    at: &mut At,
     import: usize,
     height: usize,
-) -> At
+)
     requires can { CanAsk contents.now import height (length slots.old) }
     requires names { Names contents.now (H.types host.old) }
-    requires steps { at.pc + 1 < 2 ^ 64 }
-    ensures asked { Asks contents.now H.moves import height at slots.old state.old host.old result slots.new state.new host.new }
+    requires steps { at.old.pc + 1 < 2 ^ 64 }
+    requires known { type_in contents.now import ≡ Some import_type.now }
+    ensures asked { Asks contents.now H.moves import height at.old slots.old state.old host.old at.new slots.new state.new host.new }
     ensures types { H.types host.new ≡ H.types host.old }
 {
     let mut many = [Value::I32(0); MAX_HEIGHT];
-    ask_over(contents, state, host, slots, at, import, height, &mut many)
+    ask_over(
+        contents,
+        import_type,
+        state,
+        host,
+        slots,
+        at,
+        import,
+        height,
+        &mut many,
+    );
 }
 
 /// Asks the host for an import, whose arguments are the topmost slots up to a height. Its answer takes their place, and
 /// the run goes on behind the call.
+#[inline(always)]
 pub fn ask_host<H: Host>(
     contents: &Contents,
     state: &mut State,
     host: &mut H,
     slots: &mut [u64],
-    at: At,
+    at: &mut At,
     import: usize,
     height: usize,
-) -> At
+)
     requires can { CanAsk contents.now import height (length slots.old) }
     requires names { Names contents.now (H.types host.old) }
-    requires steps { at.pc + 1 < 2 ^ 64 }
-    ensures asked { Asks contents.now H.moves import height at slots.old state.old host.old result slots.new state.new host.new }
+    requires steps { at.old.pc + 1 < 2 ^ 64 }
+    ensures asked { Asks contents.now H.moves import height at.old slots.old state.old host.old at.new slots.new state.new host.new }
     ensures types { H.types host.new ≡ H.types host.old }
 {
     let Some(import_type) = type_of_function(contents, import as u32) else {
         unreachable!()
     };
-    if import_type.params.len() <= FEW_ARGUMENTS {
-        let mut few = [Value::I32(0); FEW_ARGUMENTS];
-        return ask_over(contents, state, host, slots, at, import, height, &mut few);
+    if import_type.params.len() > FEW_ARGUMENTS {
+        ask_with_many(
+            contents,
+            import_type,
+            state,
+            host,
+            slots,
+            at,
+            import,
+            height,
+        );
+        return;
     }
-    ask_with_many(contents, state, host, slots, at, import, height)
+    let mut few = [Value::I32(0); FEW_ARGUMENTS];
+    ask_over(
+        contents,
+        import_type,
+        state,
+        host,
+        slots,
+        at,
+        import,
+        height,
+        &mut few,
+    );
 }

@@ -1,6 +1,6 @@
 // Calls of functions from outside (WebAssembly Core 1.0, 4.5.5).
 
-ghost use Rattle.std.specs.Prelude.{◌≡◌, ◌+◌, ◌≤◌, ◌<◌, length, None, IfSome};
+ghost use Rattle.std.specs.Prelude.{◌≡◌, ◌+◌, ◌≤◌, ◌<◌, [], length, None, IfSome};
 ghost use Rattle.events.specs.Bare.{whole};
 ghost use Rattle.validate.specs.Valid.{ValidModule};
 ghost use Rattle.validate.specs.Targets.{AreTables};
@@ -248,12 +248,14 @@ pub fn invoke_on<H: Host>(
     ended
 }
 
-/// Calls a function that has no results, as `invoke_on` does. Its ending needs no room for any.
+/// Calls a function that has no results, as `invoke_on` does. Its ending needs no room for any: that is lent, and nothing is
+/// promised of what is in it afterwards, so that none is filled with zeros at each call.
 pub fn invoke_bare<H: Host>(
     valid: &Valid,
     state: &mut State,
     stack: &mut Stack,
     host: &mut H,
+    place: &mut Ended,
     function: u32,
     args: &[Value],
     fuel: u64,
@@ -270,18 +272,19 @@ pub fn invoke_bare<H: Host>(
     ensures types { H.types host.new ≡ H.types host.old }
     ensures stops { Tells valid.now.contents depth H.moves state.old host.old function args.now (whole result) state.new host.new stack.new }
 {
-    let mut ended = unwritten();
     invoke_into(
-        valid, state, stack, host, &mut ended, function, args, fuel, depth,
+        valid, state, stack, host, place, function, args, fuel, depth,
     );
     BareEnded {
-        ending: BareEnding::of(&ended.ending),
-        used: ended.used,
+        ending: BareEnding::of(&place.ending),
+        used: place.used,
     }
 }
 
 /// What is there before an ending is written.
-fn unwritten() -> Ended {
+pub fn unwritten() -> Ended
+    ensures { result ≡ record { ending = Ending.Return []; used = 0 } }
+{
     Ended {
         ending: Ending::Return(Values::empty()),
         used: 0,

@@ -12,11 +12,11 @@ use Rattle.interp.proofs.asking.ask_over.Goals as goal
 
 pub call-answer-requires : goal.call-answer-requires
 call-answer-requires g c =
-    let found = c.in-Some.ensures in
+    let found = sym c.requires.known in
     let can = c.requires.can in
     let known = can.known in
-    let both : Some c.in-Some.import_type.now ≡ Some can.type = found ∙ known in
-    let type : c.in-Some.import_type.now ≡ can.type = cc in
+    let both : Some c.args.import_type.now ≡ Some can.type = found ∙ known in
+    let type : c.args.import_type.now ≡ can.type = cc in
     let params = c.as_slice-params.result.now in
     let is : params ≡ can.type.params = c.as_slice-params.ensures ∙ ap (λ (t : FuncType). t.params) type in
     let count : length params ≡ length can.type.params = ap (λ (ts : List ValType). length ts) is in
@@ -32,10 +32,10 @@ call-answer-requires g c =
 
 pub returns-clause-asked : goal.returns-clause-asked
 returns-clause-asked g c = λ type known.
-    let found = c.in-Some.ensures in
+    let found = sym c.requires.known in
     let can = c.requires.can in
-    let both : Some c.in-Some.import_type.now ≡ Some type = found ∙ known in
-    let same : c.in-Some.import_type.now ≡ type = cc in
+    let both : Some c.args.import_type.now ≡ Some type = found ∙ known in
+    let same : c.args.import_type.now ≡ type = cc in
     let again : Some can.type ≡ Some type = sym can.known ∙ known in
     let one : can.type ≡ type = cc in
     let height = c.args.height in
@@ -61,7 +61,7 @@ returns-clause-asked g c = λ type known.
       same = c.call-answer.ensures.kept ∙ ap (λ (xs : List ℕ). length xs) before;
       moved = subst (λ (vs : List Value). g.H.Host.moves c.args.host.now (record { function = c.args.import; args = vs; before = c.args.state.now.memory; answer = answer; after = c.call-answer.new.memory.bytes }) c.call-answer.new.self) read
           (subst (λ (xs : List ℕ). g.H.Host.moves c.args.host.now (record { function = c.args.import; args = c.new-args.result; before = xs; answer = answer; after = c.call-answer.new.memory.bytes }) c.call-answer.new.self) before c.call-answer.ensures.moved);
-      at_is = λ i. record { function = c.args.at.function; pc = c.args.at.pc + 1; sp = sp i; base = c.args.at.base; depth = c.args.at.depth };
+      at_is = λ i. record { function = c.args.at.now.function; pc = c.args.at.now.pc + 1; sp = sp i; base = c.args.at.now.base; depth = c.args.at.now.depth };
       slots_are = c.lay_answer-results.ensures.laid ∙ ap (λ (n : ℕ). laid answer (height - n) slots) count;
       store_is = λ i. record { globals = c.args.state.now.globals; table = c.args.state.now.table; memory = c.call-answer.new.memory.bytes; limit = limit i };
     }

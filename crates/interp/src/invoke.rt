@@ -248,12 +248,14 @@ pub fn invoke_on<H: Host>(
     ended
 }
 
-/// Calls a function that has no results, as `invoke_on` does. Its ending needs no room for any.
+/// Calls a function that has no results, as `invoke_on` does. Its ending needs no room for any. The place is written to,
+/// whatever stood there: who calls often keeps one, so that none is made for a call.
 pub fn invoke_bare<H: Host>(
     valid: &Valid,
     state: &mut State,
     stack: &mut Stack,
     host: &mut H,
+    place: &mut Ended,
     function: u32,
     args: &[Value],
     fuel: u64,
@@ -270,13 +272,12 @@ pub fn invoke_bare<H: Host>(
     ensures types { H.types host.new ≡ H.types host.old }
     ensures stops { Tells valid.now.contents depth H.moves state.old host.old function args.now (whole result) state.new host.new stack.new }
 {
-    let mut ended = unwritten();
     invoke_into(
-        valid, state, stack, host, &mut ended, function, args, fuel, depth,
+        valid, state, stack, host, place, function, args, fuel, depth,
     );
     BareEnded {
-        ending: BareEnding::of(&ended.ending),
-        used: ended.used,
+        ending: BareEnding::of(&place.ending),
+        used: place.used,
     }
 }
 

@@ -1,5 +1,4 @@
 -- No public clause reaches these: how the code keeps a loop.
-pub mod Bare
 pub mod Codes
 pub mod Hosting
 pub mod Progress

@@ -1,4 +1,5 @@
 pub mod Accepting
+pub mod Bare
 pub mod Calls
 pub mod Inner
 pub mod Fitting

@@ -55,7 +55,7 @@ impl Entries {
         ensures { self.new ≡ [] }
     {
         self.at = 0;
-        self.items.clear();
+        empty(&mut self.items);
     }
 
     /// Lists the handles of a kind that stand at these places.
@@ -103,11 +103,20 @@ impl Entries {
     }
 }
 
+// Leaves nothing. What is empty already isn't touched: a phase without entries costs no call.
+fn empty(items: &mut ArrayVec<Entry, MAX_ENTRIES>)
+    ensures { items.new.items ≡ [] }
+{
+    if !items.is_empty() {
+        items.clear();
+    }
+}
+
 fn list_handles(items: &mut ArrayVec<Entry, MAX_ENTRIES>, kind: Kind, places: &[Place])
     requires { length places.now ≤ MAX_HANDLES }
     ensures { items.new.items ≡ map (λ place. handle_entry kind (entry place)) places.now }
 {
-    items.clear();
+    empty(items);
     for place in places {
         items.push(Entry::of_handle(kind, place.handle, place.start));
     }
@@ -117,7 +126,7 @@ fn list_closing(items: &mut ArrayVec<Entry, MAX_ENTRIES>, handles: &[u32])
     requires { length handles.now ≤ MAX_HANDLES }
     ensures { items.new.items ≡ map (λ handle. Entry.Close handle) handles.now }
 {
-    items.clear();
+    empty(items);
     for handle in handles {
         items.push(Entry::Close { handle: *handle });
     }
@@ -128,7 +137,7 @@ fn list_settled(items: &mut ArrayVec<Entry, MAX_ENTRIES>, requests: &[Outstandin
     ensures entries { items.new.items ≡ map (λ r. Entry.After r.order.request) (filter (λ r. is_settled r.stage) requests.now) }
     ensures few { length items.new.items ≤ MAX_REQUESTS }
 {
-    items.clear();
+    empty(items);
     for request in requests {
         if request.is_settled() {
             items.push(Entry::After {

@@ -30,6 +30,7 @@ mod shared;
 mod stepping;
 mod work;
 
+pub use did::BareDid;
 pub use entry::{Entry, Status};
 pub use events::did::{Hint, StepDid};
 pub use events::phase::{EntryKind, Phase};

@@ -15,7 +15,7 @@ ghost use Rattle.phases.specs.Outside.{after_clock, is_failed, next_order_of, Ca
 ghost use Rattle.phases.specs.Guests.{GuestCall};
 ghost use Rattle.order.specs.Runnable.{CanRun};
 ghost use Rattle.phases.specs.PhaseList.{begin_list, hint_of, is_alive, IsAlive, IsHint};
-ghost use Rattle.phases.specs.Inner.Bare.{whole};
+ghost use Rattle.phases.specs.Bare.{whole};
 ghost use Rattle.phases.specs.Inner.Ready.{IsReady, Spares};
 ghost use Rattle.phases.specs.Inner.Setting.{setting_of};
 ghost use Rattle.phases.specs.Requests.{IsLowestOpen};
@@ -32,6 +32,7 @@ use crate::opening::opened;
 use crate::setting::Setting;
 use crate::shared::{Beside, Shared};
 use events::did::{Hint, StepDid};
+use events::ended::{Ended, Ending};
 use events::phase::EntryKind;
 use events::settings::LoopSettings;
 use handles::Kind;
@@ -63,6 +64,8 @@ pub struct LoopCore<B: Shared + Drop> {
     store: State,
     stack: Stack,
     host: LoopHost<B>,
+    // Where a callback's ending is written. What stands there is no part of the loop.
+    place: Ended,
     ghost stopped: { IfSome stack (λ sites. ∥ StopsAt B.calls (setting_of host.setting) store sites ∥₁) } by { Prim.hlevel props },
 }
 
@@ -73,6 +76,7 @@ impl<B: Shared + Drop> Drop for LoopCore<B> {
             store: _,
             stack: _,
             host: _,
+            place: _,
         } = self;
     }
 }
@@ -135,11 +139,16 @@ impl<B: Shared + Drop> LoopCore<B> {
             state,
             shared,
         };
+        let place = Ended {
+            ending: Ending::Spent,
+            used: 0,
+        };
         Ok(LoopCore {
             linked,
             store,
             stack,
             host,
+            place,
         })
     }
 
@@ -152,7 +161,8 @@ impl<B: Shared + Drop> LoopCore<B> {
         self.step_bare().whole()
     }
 
-    fn step_bare(&mut self) -> BareDid
+    /// The same, with no room for results in its answer.
+    pub fn step_bare(&mut self) -> BareDid
         ensures step { LoopStep B.calls self.old.setting self.old.loop (whole result) self.new.loop }
         ensures setting { self.new.setting ≡ self.old.setting }
     {
@@ -342,6 +352,7 @@ impl<B: Shared + Drop> LoopCore<B> {
             &mut self.store,
             &mut self.stack,
             &mut self.host,
+            &mut self.place,
             function,
             args,
             fuel,
@@ -405,6 +416,7 @@ impl<B: Shared + Drop> LoopCore<B> {
             store: _,
             stack: _,
             host,
+            place: _,
         } = self;
         host.into_shared()
     }

@@ -8,7 +8,7 @@ ghost use Rattle.limits.specs.declared.TheConstants.{MAX_ASYNCS, MAX_BYTES};
 ghost use Rattle.phases.specs.Fitting.{IsShort};
 ghost use Rattle.phases.specs.Host.{with_roster, with_requests};
 ghost use Rattle.phases.specs.PhaseList.{is_active_handle, is_alive, phase_list};
-ghost use Rattle.phases.specs.Inner.Bare.{whole};
+ghost use Rattle.phases.specs.Bare.{whole};
 ghost use Rattle.phases.specs.Inner.Progress.{completion_in};
 ghost use Rattle.syntax.specs.declared.contents.Contents.{Contents};
 ghost use Rattle.phases.specs.Inner.Ready.{AreReady};
@@ -154,7 +154,9 @@ impl LoopState {
         ensures { self.new ≡ begun self.old (option_map (λ v. v.items) reply) }
     {
         self.reply = reply;
-        self.emits.clear();
+        if !self.emits.is_empty() {
+            self.emits.clear();
+        }
     }
 
     /// A callback has ended. Where it did not return, the loop has failed.

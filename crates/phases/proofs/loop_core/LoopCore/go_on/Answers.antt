@@ -1,6 +1,6 @@
 use Rattle.std.proofs.Common.{refl, sym, subst, ap, drop, ◌∙◌, List, []}
 use Rattle.std.specs.Arc.{arc_value}
-use Rattle.phases.specs.Inner.Bare.{whole}
+use Rattle.phases.specs.Bare.{whole}
 use Rattle.phases.specs.Inner.Keeping.{Keeps, AreOrdersOf}
 use Rattle.phases.specs.Inner.Ready.{IsReady}
 use Rattle.phases.specs.Requests.{Requests}

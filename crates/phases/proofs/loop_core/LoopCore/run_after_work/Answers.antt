@@ -9,7 +9,7 @@ use Rattle.phases.specs.Inner.Setting.{setting_of}
 use Rattle.std.proofs.Common.{◌≡◌, [], ◌∷◌}
 use Rattle.syntax.specs.declared.types.Value.TheVariants.{I32}
 use Rattle.phases.specs.Host.{with_requests}
-use Rattle.phases.specs.Inner.Bare.{whole}
+use Rattle.phases.specs.Bare.{whole}
 use Rattle.phases.specs.Inner.Keeping.{Keeps}
 use Rattle.phases.specs.Inner.Progress.{completion_in}
 use Rattle.phases.specs.Requests.{request_of, without_request}

@@ -46,7 +46,8 @@ module _ {S : Type 0} (calls : Calls S) (lawful : IsLawful calls) (g : Setting) 
       (rest.0, (one.0, one.1, rest.1), rest.2)
   goes (CancelAnswered request answer ∷ events) old new d few r h =
       let one =
-      cancel_mirrors calls busy_calls g Anyhow (λ a. a < MAX_ASYNCS) (Stands calls lawful) (Stands calls lawful) (standing calls lawful) (λ made before after k c. tt) old.state.status (old.state, old.shared) d request answer (h.0.state, h.0.shared) tt r h.1.0 in
+      cancel_mirrors calls busy_calls g Anyhow (λ a. a < MAX_ASYNCS) (Stands calls lawful) (Stands calls lawful) (standing calls lawful)
+      (λ made before after k c. tt) old.state.status (old.state, old.shared) d request answer (h.0.state, h.0.shared) tt r h.1.0 in
       let rest = goes events h.0 new one.0 (event_few calls g (CancelAnswered request answer) old h.0 h.1 few) one.2 h.2 in
       (rest.0, (one.0, (one.1, h.1.1), rest.1), rest.2)
   goes (ClockRaised ms ∷ events) old new d few r h =

@@ -61,7 +61,8 @@ module _ (words : List ℕ) (d : Desk) (a : ℕ) (size : length words ≡ MAX_RE
   -- the words agree, after one of them and what waits there changed alike
   alike : (n k b : ℕ) → n ≡ k → b < MAX_ASYNCS → slice_index (set words i n) (waiting_place b) ≡ slice_index (slice_set d.waiting a k) b
   alike n k b same low = elim (ℕ_discrete b a) [
-    | yes e ↦ subst (λ (j : ℕ). slice_index (set words i n) (waiting_place j) ≡ slice_index (slice_set d.waiting a k) j) (sym e) (let w = sized.waiting in written n ∙ same ∙ sym (get_or-set_same d.waiting a k 0 (omega arith)))
+    | yes e ↦ subst (λ (j : ℕ). slice_index (set words i n) (waiting_place j) ≡ slice_index (slice_set d.waiting a k) j) (sym e)
+        (let w = sized.waiting in written n ∙ same ∙ sym (get_or-set_same d.waiting a k 0 (omega arith)))
     | no ne ↦ get_or-set_other words i (waiting_place b) n 0 (λ k. ne (omega arith)) ∙ is.word b low ∙ sym (get_or-set_other d.waiting a b k 0 ne)
   ]
 
@@ -75,7 +76,12 @@ module _ (words : List ℕ) (d : Desk) (a : ℕ) (size : length words ≡ MAX_RE
       untaken : (b : ℕ) → b < MAX_ASYNCS → slice_index (raised d.view.untaken a 1) b ≤ slice_index (raised d.waiting a 1) b
       untaken b low = elim (ℕ_discrete b a) [
         | yes e ↦ subst (λ (j : ℕ). slice_index (raised d.view.untaken a 1) j ≤ slice_index (raised d.waiting a 1) j) (sym e)
-            (let size = sized.untaken in let waits = sized.waiting in let u = raised-there d.view.untaken a 1 (omega arith) in let w = raised-there d.waiting a 1 (omega arith) in let was = is.untaken a there in omega arith)
+            (let size = sized.untaken in
+            let waits = sized.waiting in
+            let u = raised-there d.view.untaken a 1 (omega arith) in
+            let w = raised-there d.waiting a 1 (omega arith) in
+            let was = is.untaken a there in
+            omega arith)
         | no ne ↦ (let u = raised-elsewhere d.view.untaken a 1 b ne in let w = raised-elsewhere d.waiting a 1 b ne in let was = is.untaken b low in omega arith)
       ]
 
@@ -86,7 +92,13 @@ module _ (words : List ℕ) (d : Desk) (a : ℕ) (size : length words ≡ MAX_RE
       ]
         where
           here : slice_index (raised d.view.own a 1) a + slice_index d.sent a ≡ slice_index d.view.taken a + slice_index (raised d.waiting a 1) a
-          here = let own = sized.own in let waits = sized.waiting in let o = raised-there d.view.own a 1 (omega arith) in let w = raised-there d.waiting a 1 (omega arith) in let was = is.sends a there in omega arith
+          here =
+              let own = sized.own in
+              let waits = sized.waiting in
+              let o = raised-there d.view.own a 1 (omega arith) in
+              let w = raised-there d.waiting a 1 (omega arith) in
+              let was = is.sends a there in
+              omega arith
 
   pub others-counts : AreCounts (set words i (slice_index words i + 1)) (sent_by_another d a)
   others-counts = record { word = λ b low. alike (slice_index words i + 1) (slice_index d.waiting a + 1) b one_more low; sends = sends; untaken = untaken }
@@ -105,7 +117,13 @@ module _ (words : List ℕ) (d : Desk) (a : ℕ) (size : length words ≡ MAX_RE
       ]
         where
           here : slice_index d.view.own a + slice_index (raised d.sent a 1) a ≡ slice_index d.view.taken a + slice_index (raised d.waiting a 1) a
-          here = let sent = sized.sent in let waits = sized.waiting in let o = raised-there d.sent a 1 (omega arith) in let w = raised-there d.waiting a 1 (omega arith) in let was = is.sends a there in omega arith
+          here =
+              let sent = sized.sent in
+              let waits = sized.waiting in
+              let o = raised-there d.sent a 1 (omega arith) in
+              let w = raised-there d.waiting a 1 (omega arith) in
+              let was = is.sends a there in
+              omega arith
 
   -- what waits is within all sends, so that one more fits in a word
   pub within : (n m : ℕ) → IsCounted d n m → slice_index words i ≤ MAX_SENDS + MAX_SENDS
@@ -146,8 +164,16 @@ module _ (words : List ℕ) (d : Desk) (a : ℕ) (size : length words ≡ MAX_RE
       sends : (b : ℕ) → b < MAX_ASYNCS → slice_index d.view.own b + slice_index d.sent b ≡ slice_index (taken d a).view.taken b + slice_index (slice_set d.waiting a 0) b
       sends b low = elim (ℕ_discrete b a) [
         | yes e ↦ subst (λ (j : ℕ). slice_index d.view.own j + slice_index d.sent j ≡ slice_index (taken d a).view.taken j + slice_index (slice_set d.waiting a 0) j) (sym e) here
-        | no ne ↦ (let t = raised-elsewhere d.view.taken a (slice_index d.waiting a) b ne in let w : slice_index (slice_set d.waiting a 0) b ≡ slice_index d.waiting b = get_or-set_other d.waiting a b 0 0 ne in let was = is.sends b low in omega arith)
+        | no ne ↦ (let t = raised-elsewhere d.view.taken a (slice_index d.waiting a) b ne in
+            let w : slice_index (slice_set d.waiting a 0) b ≡ slice_index d.waiting b = get_or-set_other d.waiting a b 0 0 ne in
+            let was = is.sends b low in
+            omega arith)
       ]
         where
           here : slice_index d.view.own a + slice_index d.sent a ≡ slice_index (taken d a).view.taken a + slice_index (slice_set d.waiting a 0) a
-          here = let waits = sized.waiting in let t = taken-here in let w : slice_index (slice_set d.waiting a 0) a ≡ 0 = get_or-set_same d.waiting a 0 0 (omega arith) in let was = is.sends a there in omega arith
+          here =
+              let waits = sized.waiting in
+              let t = taken-here in
+              let w : slice_index (slice_set d.waiting a 0) a ≡ 0 = get_or-set_same d.waiting a 0 0 (omega arith) in
+              let was = is.sends a there in
+              omega arith

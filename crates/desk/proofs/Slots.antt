@@ -50,12 +50,16 @@ module _ (words : List ℕ) (d : Desk) (slot r : ℕ) (size : length words ≡ M
     opened-word : (s q : ℕ) → s < MAX_REQUESTS → 0 < q → (slice_index (set words slot r) s == q) ≡ is_open (opened d (slot, r)) (s, q)
     opened-word s q low some_number = elim (ℕ_discrete s slot) [
       | yes e ↦ subst (λ (k : ℕ). (slice_index (set words slot r) k == q) ≡ is_open (opened d (slot, r)) (k, q)) (sym e) here
-      | no ne ↦ ap (λ n. n == q) (elsewhere r s ne) ∙ is.word s q low some_number ∙ ap (λ n. tests q n (times (s, q) d.view.cancelled) (times (s, q) d.started)) (sym (last_in-push_other s d.view.opened (slot, r) (λ k. ne (sym k))))
+      | no ne ↦ ap (λ n. n == q) (elsewhere r s ne) ∙ is.word s q low some_number
+          ∙ ap (λ n. tests q n (times (s, q) d.view.cancelled) (times (s, q) d.started)) (sym (last_in-push_other s d.view.opened (slot, r) (λ k. ne (sym k))))
     ]
       where
         here : (slice_index (set words slot r) slot == q) ≡ is_open (opened d (slot, r)) (slot, q)
         here = elim (ℕ_discrete r q) [
-          | yes e ↦ ap (λ n. n == q) (written r) ∙ eq-eqb r q e ∙ sym (holds q _ _ _ some_number (last_in-push_same slot r d.view.opened ∙ e) (let none = fresh in subst (λ k. times (slot, k) d.view.cancelled ≡ 0) e (omega arith)) (let none = fresh in subst (λ k. times (slot, k) d.started ≡ 0) e (omega arith)))
+          | yes e ↦ ap (λ n. n == q) (written r) ∙ eq-eqb r q e
+              ∙ sym (holds q _ _ _ some_number (last_in-push_same slot r d.view.opened ∙ e)
+              (let none = fresh in subst (λ k. times (slot, k) d.view.cancelled ≡ 0) e (omega arith))
+              (let none = fresh in subst (λ k. times (slot, k) d.started ≡ 0) e (omega arith)))
           | no ne ↦ ap (λ n. n == q) (written r) ∙ ne_eqb r q ne ∙ sym (fails q _ _ _ (λ last _ _. ne (sym (last_in-push_same slot r d.view.opened) ∙ last)))
         ]
 

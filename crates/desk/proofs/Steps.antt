@@ -149,7 +149,8 @@ module _ {S : Type 0} (slots a i : ℕ) (v : History) (held : List (ℕ × S)) (
       → Allows Kept slots 0 (v, held) i (λ k. (k + 1) % 2 ^ 64) (λ _ after. (b : ℕ) → i ≡ waiting_place b → desk_of after.0 ≡ sent_own d b)
   sends_allowed n m counted = moved slots i v held (λ k. (k + 1) % 2 ^ 64) (λ _ e. (b : ℕ) → i ≡ waiting_place b → e ≡ sent_own d b) (λ words is. (
     sent_own d a,
-    subst (λ j. Agrees (set words j ((slice_index words j + 1) % 2 ^ 64)) (sent_own d a)) (sym place) (subst (λ k. Agrees (set words (waiting_place a) k) (sent_own d a)) (sym (one_more n m counted words is)) (agrees words is)),
+    subst (λ j. Agrees (set words j ((slice_index words j + 1) % 2 ^ 64)) (sent_own d a)) (sym place)
+        (subst (λ k. Agrees (set words (waiting_place a) k) (sent_own d a)) (sym (one_more n m counted words is)) (agrees words is)),
     told_there (sent_own d) (sent_own d a) refl,
   ))
     where
@@ -164,7 +165,8 @@ module _ {S : Type 0} (slots a i : ℕ) (v : History) (held : List (ℕ × S)) (
       → Allows Kept slots 0 (v, held) i (λ k. (k + 1) % 2 ^ 64) (λ _ after. (b : ℕ) → i ≡ waiting_place b → desk_of after.0 ≡ sent_by_another d b)
   gets_allowed n m counted = moved slots i v held (λ k. (k + 1) % 2 ^ 64) (λ _ e. (b : ℕ) → i ≡ waiting_place b → e ≡ sent_by_another d b) (λ words is. (
     sent_by_another d a,
-    subst (λ j. Agrees (set words j ((slice_index words j + 1) % 2 ^ 64)) (sent_by_another d a)) (sym place) (subst (λ k. Agrees (set words (waiting_place a) k) (sent_by_another d a)) (sym (one_more n m counted words is)) (agrees words is)),
+    subst (λ j. Agrees (set words j ((slice_index words j + 1) % 2 ^ 64)) (sent_by_another d a)) (sym place)
+        (subst (λ k. Agrees (set words (waiting_place a) k) (sent_by_another d a)) (sym (one_more n m counted words is)) (agrees words is)),
     told_there (sent_by_another d) (sent_by_another d a) refl,
   ))
     where

@@ -44,7 +44,8 @@ module _ (m : Contents) where
       (All-append (NamesFunction m) xs (drop (at + length xs) table) (named e.functions valid.functions) (All-drop (NamesFunction m) (at + length xs) table a)) in
       table_written elements (with_element table e) (over_length at xs table h ∙ n) a' (All-tail (ElementFits m) e elements f) (All-tail (ValidElement m) e elements v)
 
-  bytes_written : (segments : List Data) (bytes : List ℕ) → length bytes ≡ minimum m.memory * PAGE_SIZE → All (DataFits m) segments → length (all_written with_data bytes segments) ≡ minimum m.memory * PAGE_SIZE
+  bytes_written : (segments : List Data) (bytes : List ℕ) → length bytes ≡ minimum m.memory * PAGE_SIZE → All (DataFits m) segments
+      → length (all_written with_data bytes segments) ≡ minimum m.memory * PAGE_SIZE
   bytes_written [] bytes n f = n
   bytes_written (d ∷ segments) bytes n f =
       let at = offset_in d.offset in
@@ -56,7 +57,9 @@ module _ (m : Contents) where
   is_store_of s v k = subst (λ (x : Store). IsStoreOf m x) (sym k.store) of_fresh where
     of_fresh : IsStoreOf m (fresh_store m)
     of_fresh =
-        let t = table_written m.elements (replicate (minimum m.table) None) (length-replicate {A = Option ℕ} (minimum m.table) None) (All-replicate (NamesFunction m) (minimum m.table) None tt) k.segments.elements v.elements in
+        let t =
+        table_written m.elements (replicate (minimum m.table) None) (length-replicate {A = Option ℕ} (minimum m.table) None)
+        (All-replicate (NamesFunction m) (minimum m.table) None tt) k.segments.elements v.elements in
         let b = bytes_written m.«data» (replicate (minimum m.memory * PAGE_SIZE) 0) (length-replicate {A = ℕ} (minimum m.memory * PAGE_SIZE) 0) k.segments.data_segments in
         record {
           globals = initial_types m.globals v.globals;

@@ -2,5 +2,4 @@ pub mod Fronts
 pub mod SegmentsAreWritten
 pub mod Initial
 pub mod FreshStores
-pub mod BranchOperands
 pub mod CallersByNumber

@@ -84,7 +84,8 @@ three_of t u v (x ∷ y ∷ []) a b c h k l m = absurd (cc)
 three_of t u v (x ∷ y ∷ z ∷ []) a b c h k l m = let first : x ≡ a = cc in let second : y ≡ b = cc in let third : z ≡ c = cc in λ i. first i ∷ second i ∷ third i ∷ []
 three_of t u v (x ∷ y ∷ z ∷ w ∷ rest) a b c h k l m = absurd (cc)
 
-pub two_and_two_of : (t u v w : ValType) (args : List Value) (a b c d : Value) → map type_of args ≡ t ∷ u ∷ v ∷ w ∷ [] → slice_get args 0 ≡ Some a → slice_get args 1 ≡ Some b → slice_get args 2 ≡ Some c → slice_get args 3 ≡ Some d
+pub two_and_two_of : (t u v w : ValType) (args : List Value) (a b c d : Value) → map type_of args ≡ t ∷ u ∷ v ∷ w ∷ [] → slice_get args 0 ≡ Some a
+    → slice_get args 1 ≡ Some b → slice_get args 2 ≡ Some c → slice_get args 3 ≡ Some d
     → args ≡ a ∷ b ∷ c ∷ d ∷ []
 two_and_two_of t u v w [] a b c d h k l m n = absurd (cc)
 two_and_two_of t u v w (x ∷ []) a b c d h k l m n = absurd (cc)

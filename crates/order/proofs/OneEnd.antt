@@ -89,7 +89,9 @@ module _ (apart : AreNamedApart) (o : WorkOrder) where
       → WorkRun o fuel s old function args e u t new → WorkRun o fuel s old function args e' u' t' new'
       → (e ≡ e') × (u ≡ u') × (t ≡ t') × (new ≡ new')
   runs_one fuel s old function args e e' u u' t t' new new' r r' =
-      let one = one_call o.loaded.contents o.depth (λ (reply : List ℕ). reply) (WorkCall o) calls_one fuel s function args r.trace r'.trace e e' u u' t t' old old new new' refl r.run r.answers r'.run r'.answers in
+      let one =
+      one_call o.loaded.contents o.depth (λ (reply : List ℕ). reply) (WorkCall o) calls_one fuel s function args r.trace r'.trace e e' u u' t t' old old new
+      new' refl r.run r.answers r'.run r'.answers in
       (one.1, one.2, one.3, one.4)
 
   starts_one : (start : Option ℕ) (s : Store) (e e' : RunEnd) (u u' : ℕ) (t t' : Store) (reply reply' : List ℕ)
@@ -116,7 +118,8 @@ module _ (apart : AreNamedApart) (o : WorkOrder) where
   one_run e e' u u' valid (works s t v results outcome first second reply last function fresh started exported run used end) (stops s' t' outcome' reply' fresh' run' not' end') =
       let one = begun_one s s' (Returned results) outcome' first u' t t' reply reply' fresh fresh' started run' in
       absurd (not' results (sym one.0))
-  one_run e e' u u' valid (works s t v results outcome first second reply last function fresh started exported run used end) (works s' t' v' results' outcome' first' second' reply' last' function' fresh' started' exported' run' used' end') =
+  one_run e e' u u' valid (works s t v results outcome first second reply last function fresh started exported run used end)
+      (works s' t' v' results' outcome' first' second' reply' last' function' fresh' started' exported' run' used' end') =
       let one = begun_one s s' (Returned results) (Returned results') first first' t t' reply reply' fresh fresh' started started' in
       let named : function' ≡ function = one_export o.loaded.contents (codes "uv_work") function' function valid.distinct exported' exported in
       let again : WorkRun o (o.fuel - first) t reply function (I32 o.op ∷ []) outcome' second' v' last' =

@@ -28,7 +28,8 @@ taken_short place count memory few = let is = length-take count (drop place memo
 
 set_short : (place count : ℕ) (memory reply : List ℕ) → IsShort reply → IsShort (set_out place count memory reply).1
 set_short place count memory reply short =
-    elim (nat_lt MAX_BYTES count) as (λ b. nat_lt MAX_BYTES count ≡ b → IsSet (cond b (invalid, reply) (cond (nat_lt (length memory) (place + count)) (outside_memory, reply) (0, taken_out place count memory)))) [
+    elim (nat_lt MAX_BYTES count) as (λ b. nat_lt MAX_BYTES count ≡ b
+    → IsSet (cond b (invalid, reply) (cond (nat_lt (length memory) (place + count)) (outside_memory, reply) (0, taken_out place count memory)))) [
       | true ↦ λ e. short
       | false ↦ λ e. elim (nat_lt (length memory) (place + count)) as (λ b. IsSet (cond b (outside_memory, reply) (0, taken_out place count memory))) [
         | true ↦ short

@@ -32,15 +32,6 @@ use Rattle.order.specs.Work.{WorkRun, StartRun, EndsAs, Computes, Uses, stops, w
 use Rattle.order.proofs.ImportTypes.{names}
 use Rattle.order.proofs.OneEnd.{one_end}
 
--- the calls that are not for a work function
-pub others : (bytes reply : List ℕ) (call : HostCall) (reply' : List ℕ) (f : Call) (args : List Value)
-    → f ≢ Now → f ≢ InLen → f ≢ InCopy → f ≢ OutSet → Gives call reply' not_here call.before reply → WorkAnswers bytes reply call reply' f args
-others bytes reply call reply' Now args now len copy set h = absurd (now refl)
-others bytes reply call reply' InLen args now len copy set h = absurd (len refl)
-others bytes reply call reply' InCopy args now len copy set h = absurd (copy refl)
-others bytes reply call reply' OutSet args now len copy set h = absurd (set refl)
-others bytes reply call reply' _ args now len copy set h = h
-
 -- the calls of a whole run are those of the order's host
 pub record Served (o : WorkOrder) (trace : List HostCall) (old new : WorkHost) : Type 0 where
   pub answers : Lawful (WorkCall o) trace old.reply.items new.reply.items
@@ -73,10 +64,6 @@ is_end apart o (Trap code) valid h = the_end apart o (Trap code) valid h
 is_end apart o Depth valid h = the_end apart o Depth valid h
 is_end apart o Spent valid h = the_end apart o Spent valid h
 is_end apart o NoMemory valid h = tt
-
-pub if_ok : {T E : Type 0} (P Q : T → Type 0) (r : Result T E) → ((x : T) → P x → Q x) → IfOk r P → IfOk r Q
-if_ok P Q (Ok x) k h = k x h
-if_ok P Q (Err e) k h = tt
 
 pub names_of : (v l h : Loaded) → v ≡ l → IsLinked l.contents → h ≡ l → Names v.contents (import_types h.contents)
 names_of v l h same linked other = rw (same, other) (names l.contents linked)

@@ -18,11 +18,13 @@ use Rattle.validate.specs.SameTypes.{same_valtypes, same_type}
 use Rattle.validate.proofs.SameTypes.{both, same_valtypes-is}
 use Rattle.instance.specs.Store.{Store, value_of}
 use Rattle.instance.specs.declared.stack.Site.{Site}
-use Rattle.reduction.specs.Configuration.{Context, Label, Frame, entered, locals_of, with_locals, going_on, receiving, continuing, branched, returned}
-use Rattle.reduction.specs.Step.{Move, Goes, Traps, Calls, Stuck, PlainStep, Leaves, Fails, Lacks, plain_step, turned, plain, at_code, next, on_contexts, label_for, takes_topmost, call_typed, left_with, call_element, entering, block, loop}
+use Rattle.reduction.specs.Configuration.{Context, Label, Frame, entered, locals_of, with_locals, receiving, continuing, branched, returned}
+use Rattle.reduction.specs.Step.{Move, Goes, Traps, Calls, Stuck, PlainStep, Leaves, Fails, Lacks, plain_step, turned, plain, at_code, next, on_contexts}
+use Rattle.reduction.specs.Step.{label_for, takes_topmost, call_typed, left_with, call_element, entering, block, loop}
 use Rattle.reduction.specs.Run.{HostCall, RunEnd, IsDefined, as_operands}
-use Rattle.reduction.specs.Stopping.{Mark, Moment, Inside, Called, RunsTo, ends, traps, spent, too_deep, goes, calls, asks, Stopped, moved, branched_to, returned_to, behind_instruction, behind_first, marks_after, marks_entered, sites, stopped_at}
-use Rattle.reduction.specs.Laws.{CallsFunction, IsCallerOf, AreInCalls}
+use Rattle.reduction.specs.Stopping.{Mark, Moment, Inside, Called, RunsTo, ends, traps, spent, too_deep, goes, calls, asks, Stopped, moved, branched_to}
+use Rattle.reduction.specs.Stopping.{returned_to, behind_instruction, behind_first, marks_after, marks_entered, sites, stopped_at}
+use Rattle.reduction.specs.Laws.{CallsFunction, AreInCalls}
 use Rattle.reduction.proofs.PlacesGuided.{first_at, behind_code}
 
 -- ---- a sequence in its body
@@ -385,7 +387,9 @@ module _ (m : Contents) where
       let rest = sites_stand h caller (top ∷ below) (Inside behind back ∷ marks) (behind - 1) k in
       record {
         others = record { function = caller; operation = behind - 1 } ∷ rest.others;
-        are = ap (λ (n : ℕ). record { function = n; operation = at } ∷ sites (behind - 1) (Inside behind back ∷ marks)) e ∙ ap (λ (ss : List Site). record { function = function; operation = at } ∷ ss) rest.are;
+        are =
+            ap (λ (n : ℕ). record { function = n; operation = at } ∷ sites (behind - 1) (Inside behind back ∷ marks)) e
+            ∙ ap (λ (ss : List Site). record { function = function; operation = at } ∷ ss) rest.are;
         in_calls = (record { f = h; operation = o; defined = known; there = there; calls = called }, rest.in_calls);
       }
 

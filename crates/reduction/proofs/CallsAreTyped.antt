@@ -1,5 +1,5 @@
 -- A call of a function of a valid module is typed.
-use Rattle.reduction.proofs.Words.{◌≡◌, ℕ, suc, ◌+◌, List, [], ◌∷◌, ◌++◌, length, map, Some, refl, sym, ap, ◌∙◌, subst, arith, slice_get}
+use Rattle.reduction.proofs.Words.{◌≡◌, ℕ, suc, ◌+◌, List, [], ◌∷◌, ◌++◌, length, length-map, map, Some, refl, sym, ap, ◌∙◌, subst, arith, slice_get}
 use Rattle.reduction.proofs.Words.{slice_get_within, ValType, Value, Contents, FuncType, Func, Done, pushed, HasFunctionType, ValidModule, value_of}
 use Rattle.reduction.proofs.Words.{Context, entered, receiving, types_of, IsDefined, code_of, operands_of}
 use Rattle.std.proofs.lemmas.Option.{get_or_from_slice_get, slice_get-map}
@@ -20,17 +20,13 @@ pub behind : {A : Type 0} (front back : List A) (k : ℕ) → slice_get (front +
 behind [] back k = let e : 0 + k ≡ k = omega arith in rw e refl
 behind (x ∷ front) back k = let e : length (x ∷ front) + k ≡ suc (length front + k) = omega arith in rw e (behind front back k)
 
-pub length-map' : {A B : Type 0} (f : A → B) (xs : List A) → length (map f xs) ≡ length xs
-length-map' f [] = refl
-length-map' f (x ∷ xs) = ap suc (length-map' f xs)
-
 module _ (m : Contents) where
   -- a defined function has the type that stands at its index
   pub defined_type : (function : ℕ) (type other : FuncType) (f : Func) → IsDefined m function type f → HasFunctionType m function other → type ≡ other
   defined_type function type other f (index, e, at, known) (t, a, b) =
       let front = map (λ (i : Import). i.type_index) m.imports in
       let back = map (λ (g : Func). g.type_index) m.functions in
-      let n : length front ≡ length m.imports = length-map' (λ (i : Import). i.type_index) m.imports in
+      let n : length front ≡ length m.imports = length-map m.imports (λ (i : Import). i.type_index) in
       let here : slice_get (function_types m) function ≡ slice_get back index =
       subst (λ (k : ℕ). slice_get (front ++ back) k ≡ slice_get back index) (ap (λ (k : ℕ). k + index) n ∙ sym e) (behind front back index) in
       let found : slice_get back index ≡ Some f.type_index = slice_get-map (λ (g : Func). g.type_index) m.functions index ∙ ap (option_map (λ (g : Func). g.type_index)) at in
@@ -42,7 +38,9 @@ module _ (m : Contents) where
 
   locals_of_call : (type : FuncType) (f : Func) (args : List Value) → types_of args ≡ type.params
       → types_of (args ++ map (λ t. value_of t 0) f.locals) ≡ type.params ++ f.locals
-  locals_of_call type f args e = types_of-append args (map (λ t. value_of t 0) f.locals) ∙ ap (λ (ts : List ValType). ts ++ types_of (map (λ t. value_of t 0) f.locals)) e ∙ ap (λ (ts : List ValType). type.params ++ ts) (zeros_typed f.locals)
+  locals_of_call type f args e =
+      types_of-append args (map (λ t. value_of t 0) f.locals) ∙ ap (λ (ts : List ValType). ts ++ types_of (map (λ t. value_of t 0) f.locals)) e
+      ∙ ap (λ (ts : List ValType). type.params ++ ts) (zeros_typed f.locals)
 
   pub body_typed : (type : FuncType) (f : Func) → ValidFunc m f → slice_get m.types f.type_index ≡ Some type → Typed (body_context m type f) f.body [] (pushed type.results [])
   body_typed type f v e = let h : Some v.type ≡ Some type = sym v.known ∙ e in let k : v.type ≡ type = cc in
@@ -60,7 +58,9 @@ module _ (m : Contents) where
         ends = pushed type.results [];
         under = in_label type.results (pushed type.results []) (length type.results) Done [] f.body refl
             (in_call type.results locals (length type.results) [] Done refl w.under t) (rw (← pushed-split type.results []) refl) refl;
-        code = subst (λ (ls : List ValType). Typed (inside type.results (call_typing m ls type.results)) f.body [] (pushed type.results [])) (sym el) (body_typed type f (valid_function v index f at) known);
+        code =
+            subst (λ (ls : List ValType). Typed (inside type.results (call_typing m ls type.results)) f.body [] (pushed type.results [])) (sym el)
+            (body_typed type f (valid_function v index f at) known);
       }
 
   -- the outermost call
@@ -74,7 +74,9 @@ module _ (m : Contents) where
         ends = pushed type.results [];
         under = in_label type.results (pushed type.results []) (length type.results) Done [] f.body refl
             (outermost locals (length type.results) [] Done refl) (rw (← pushed-split type.results []) refl) refl;
-        code = subst (λ (ls : List ValType). Typed (inside type.results (call_typing m ls type.results)) f.body [] (pushed type.results [])) (sym el) (body_typed type f (valid_function v index f at) known);
+        code =
+            subst (λ (ls : List ValType). Typed (inside type.results (call_typing m ls type.results)) f.body [] (pushed type.results [])) (sym el)
+            (body_typed type f (valid_function v index f at) known);
       }
 
   -- the answer of the host

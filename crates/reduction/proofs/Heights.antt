@@ -9,7 +9,9 @@ use Rattle.std.proofs.Math.Nat.{le-max_left, le-max_right}
 use Rattle.syntax.specs.declared.types.ValType.TheVariants as type
 use Rattle.syntax.specs.declared.operator.Conversion.{Conversion}
 use Rattle.syntax.specs.declared.operator.Conversion.TheVariants.{I32WrapI64, I64ExtendI32S, I64ExtendI32U}
-use Rattle.syntax.specs.declared.instruction.Instr.TheVariants.{Unreachable, Nop, Return, Call, CallIndirect, Drop, Select, LocalGet, LocalSet, LocalTee, GlobalGet, GlobalSet, Load, LoadNarrow, Store, StoreNarrow, MemorySize, MemoryGrow, Const, Eqz, Unary, Binary, Compare, Convert}
+use Rattle.syntax.specs.declared.instruction.Instr.TheVariants.{Unreachable, Nop, Return, Call, CallIndirect, Drop, Select, LocalGet, LocalSet, LocalTee}
+use Rattle.syntax.specs.declared.instruction.Instr.TheVariants.{GlobalGet, GlobalSet, Load, LoadNarrow, Store, StoreNarrow, MemorySize, MemoryGrow, Const, Eqz}
+use Rattle.syntax.specs.declared.instruction.Instr.TheVariants.{Unary, Binary, Compare, Convert}
 use Rattle.validate.specs.Typing.{Context, inside, TakesLeaves, ConversionTurns, InstrTyped, Typed}
 use Rattle.validate.specs.Height.{Effect, Changes, Ends, effect_of, after_effect, greatest_height, nesting}
 use Rattle.validate.proofs.Checks.{all_there}
@@ -195,7 +197,8 @@ counted c base (Block type body rest) before after (t, at, below, e, tb, tr) h n
     let nb : nesting body + length d.labels ≤ 257 = omega (arith, n) in
     let nr : nesting rest + length c.labels ≤ 257 = omega (arith, n) in
     let both = both_counted base (length t.params) before below size c d t.params t.results body rest (length after)
-    (λ (q : greatest_height d (base + length below) (base + length below + length (pushed t.params [])) body ≤ 256). counted d (base + length below) body (pushed t.params []) (pushed t.results []) tb q nb)
+    (λ (q : greatest_height d (base + length below) (base + length below + length (pushed t.params [])) body ≤ 256). counted d (base + length below) body
+    (pushed t.params []) (pushed t.results []) tb q nb)
     (λ (q : greatest_height c base (base + length (pushed t.results below)) rest ≤ 256). counted c base rest (pushed t.results below) after tr q nr)
     (right_within (base + length before) parts 256 k) in
     (fits c base before rest low nr, t, at, length below, size, both.0, both.1)
@@ -209,7 +212,8 @@ counted c base (Loop type body rest) before after (t, at, below, e, tb, tr) h n 
     let nb : nesting body + length d.labels ≤ 257 = omega (arith, n) in
     let nr : nesting rest + length c.labels ≤ 257 = omega (arith, n) in
     let both = both_counted base (length t.params) before below size c d t.params t.results body rest (length after)
-    (λ (q : greatest_height d (base + length below) (base + length below + length (pushed t.params [])) body ≤ 256). counted d (base + length below) body (pushed t.params []) (pushed t.results []) tb q nb)
+    (λ (q : greatest_height d (base + length below) (base + length below + length (pushed t.params [])) body ≤ 256). counted d (base + length below) body
+    (pushed t.params []) (pushed t.results []) tb q nb)
     (λ (q : greatest_height c base (base + length (pushed t.results below)) rest ≤ 256). counted c base rest (pushed t.results below) after tr q nr)
     (right_within (base + length before) parts 256 k) in
     (fits c base before rest low nr, t, at, length below, size, both.0, both.1)
@@ -227,10 +231,12 @@ counted c base (If type first second rest) before after (t, at, below, e, tf, ts
     let low : base + length before ≤ 256 = left_within (base + length before) (max one others) 256 k in
     let high : max one others ≤ 256 = right_within (base + length before) (max one others) 256 k in
     let branch = body_counted base taken before below size d t.params t.results first
-    (λ (q : greatest_height d (base + length below) (base + length below + length (pushed t.params [])) first ≤ 256). counted d (base + length below) first (pushed t.params []) (pushed t.results []) tf q na)
+    (λ (q : greatest_height d (base + length below) (base + length below + length (pushed t.params [])) first ≤ 256). counted d (base + length below) first
+    (pushed t.params []) (pushed t.results []) tf q na)
     (left_within one others 256 high) in
     let both = both_counted base taken before below size c d t.params t.results second rest (length after)
-    (λ (q : greatest_height d (base + length below) (base + length below + length (pushed t.params [])) second ≤ 256). counted d (base + length below) second (pushed t.params []) (pushed t.results []) ts q nb)
+    (λ (q : greatest_height d (base + length below) (base + length below + length (pushed t.params [])) second ≤ 256). counted d (base + length below)
+    second (pushed t.params []) (pushed t.results []) ts q nb)
     (λ (q : greatest_height c base (base + length (pushed t.results below)) rest ≤ 256). counted c base rest (pushed t.results below) after tr q nr)
     (right_within one others 256 high) in
     (fits c base before rest low nr, t, at, length below, size, branch, both.0, both.1)

@@ -111,7 +111,8 @@ module _ (m : Contents) where
       → (arity ≤ 256) × ((values : List Value) → Beneath m arity (Frame locals arity values Done ∷ below))
   framed (rule.further at) after (later, h, k, n) = framed at later h
   framed (rule.here {below = []}) after (few, small, same) = (small, λ values. (few, small, refl))
-  framed (rule.here {below = top ∷ below}) after (few, small, same, later, h, k) = (small, λ values. (few, small, refl, later, h, subst (λ (n : ℕ). GoesOn m (top ∷ below) n later (code_of (top ∷ below))) same k))
+  framed (rule.here {below = top ∷ below}) after (few, small, same, later, h, k) =
+      (small, λ values. (few, small, refl, later, h, subst (λ (n : ℕ). GoesOn m (top ∷ below) n later (code_of (top ∷ below))) same k))
 
   -- what a call finds beneath its arguments
   pub called : {i : Instr} {values left : List Value} {f : ℕ} {type : FuncType} → Calling m i values f type left → (labels : List ℕ) (P : ℕ → Type 0)
@@ -184,4 +185,6 @@ module _ (m : Contents) where
 
   -- whatever step comes next, what it leads to is within the limits
   pub kept : (s : Memory_and_globals) (contexts : List Context) → IsWithin m contexts 0 → Kept m (next m s contexts)
-  kept s contexts w = kept_by (next_rule m s contexts) w.after w.beneath (recounted (labels_of contexts) (base_of contexts) _ (0 + length (operands_of contexts)) _ w.after (code_of contexts) w.code refl (omega arith))
+  kept s contexts w =
+      kept_by (next_rule m s contexts) w.after w.beneath
+      (recounted (labels_of contexts) (base_of contexts) _ (0 + length (operands_of contexts)) _ w.after (code_of contexts) w.code refl (omega arith))

@@ -1,7 +1,7 @@
 -- Soundness with the limits: a step of typed contexts within them leads to such contexts.
 use Rattle.reduction.proofs.Contexts.{frames-receiving}
 use Rattle.reduction.proofs.Words.{◌≡◌, ℕ, ◌<◌, ◌≤◌, List, [], ◌∷◌, length, Some, sym, ap, ◌∙◌, subst, arith, length-map, ValType, Value, Contents}
-use Rattle.reduction.proofs.Words.{FuncType, Func, pushed, type_of, HasFunctionType, type_of_function, ValidModule, Store, Context, entered, receiving}
+use Rattle.reduction.proofs.Words.{FuncType, Func, pushed, type_of, ValidModule, Store, Context, entered, receiving}
 use Rattle.reduction.proofs.Words.{types_of, Move, Goes, Traps, Calls, Stuck, next, IsDefined, Bounded}
 use Rattle.instance.specs.Storing.{HaveGlobalTypes}
 use Rattle.reduction.specs.Configuration.{frames}
@@ -10,21 +10,18 @@ use Rattle.reduction.specs.Inner.Typed.{Sound}
 use Rattle.reduction.specs.Inner.Heights.{IsWithin}
 use Rattle.reduction.specs.Inner.HeightsTyped.{AwaitsWithin, SoundWithin}
 use Rattle.reduction.proofs.Lists.{length-pushed}
-use Rattle.reduction.proofs.Soundness.{sound}
+use Rattle.reduction.proofs.Soundness.{sound, type_of_function-is}
 use Rattle.reduction.proofs.CallsAreTyped.{enters_call, starts_call, answers_call}
 use Rattle.reduction.proofs.HeightsKept.{Kept, kept, received}
 use Rattle.reduction.proofs.HeightsFrames.{Opens, opens}
 use Rattle.reduction.proofs.HeightsOfRuns.{Awaited, entered_within}
 
 module _ (m : Contents) (depth : ℕ) (answers : List ValType) where
-  type_found : (f : ℕ) (type : FuncType) → HasFunctionType m f type → type_of_function m f ≡ Some type
-  type_found f type (t, a, b) = rw a b
-
   together : (most : ℕ) (move : Move) → Sound m answers move → Kept m move → Opens most move → most ≤ depth → SoundWithin m depth answers move
   together most (Goes charge s contexts) a k o h = (a.0, record { typed = a.1; within = k; shallow = omega (arith, o, h) })
   together most (Traps trap) a k o h = tt
   together most (Calls f args below) (type, has, typed, awaits) (found, at, size, within) o h =
-      let e : Some found ≡ Some type = sym at ∙ type_found f type has in
+      let e : Some found ≡ Some type = sym at ∙ type_of_function-is m answers f type has in
       let same : found ≡ type = cc in
       (type, has, typed, record { awaits = awaits; within = subst (λ (t : FuncType). IsWithin m below (length t.results)) same within; shallow = omega (arith, o, h) })
   together most (Ends results) a k o h = a

@@ -1,17 +1,13 @@
 -- Lists of values and of their types.
-use Rattle.reduction.proofs.Words.{◌≡◌, ℕ, zero, suc, ◌+◌, ◌<◌, ◌≤◌, List, [], ◌∷◌, ◌++◌, length, take, drop, reverse, Option, Some, None, refl, sym}
+use Rattle.reduction.proofs.Words.{◌≡◌, ℕ, zero, suc, ◌+◌, ◌≤◌, List, [], ◌∷◌, ◌++◌, length, take, drop, reverse, Option, Some, None, refl, sym}
 use Rattle.reduction.proofs.Words.{ap, ◌∙◌, subst, true, nat_le, arith, slice_get, slice_set, slice_get_within, ValType, Value, I32, I64, pushed}
 use Rattle.reduction.proofs.Words.{type_of, value_of, types_of}
-use Rattle.std.proofs.Common.{nat_lt}
 use Rattle.std.specs.Prelude.{All}
 use Rattle.std.proofs.lemmas.Option.{get_or_from_slice_get}
 use Rattle.std.proofs.lemmas.Grind.{common_steps}
 use Rattle.std.proofs.lemmas.List.{reverse-append}
 use Rattle.syntax.specs.declared.types.ValType.TheVariants as type
 use Rattle.reduction.specs.Step.{is_of, label_for}
-
-pub less_test : (a b : ℕ) → a < b → nat_lt a b ≡ true
-less_test a b h = grind (arith, common_steps)
 
 pub at_most_test : (a b : ℕ) → a ≤ b → nat_le a b ≡ true
 at_most_test a b h = grind (arith, common_steps)
@@ -24,9 +20,6 @@ pub typed_at : (values : List Value) (x : ℕ) (t : ValType) → slice_get (type
 typed_at [] x t e = absurd (cc)
 typed_at (v ∷ values) zero t e = (v, refl, cc)
 typed_at (v ∷ values) (suc x) t e = typed_at values x t e
-
-pub within_types : (values : List Value) (x : ℕ) (t : ValType) → slice_get (types_of values) x ≡ Some t → x < length values
-within_types values x t e = let f = typed_at values x t e in slice_get_within values x f.0 f.1
 
 -- a value put where its type stands
 pub set_typed : (values : List Value) (x : ℕ) (v : Value) → slice_get (types_of values) x ≡ Some (type_of v) → types_of (slice_set values x v) ≡ types_of values

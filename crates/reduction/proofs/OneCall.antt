@@ -30,7 +30,8 @@ module _ (m : Contents) (depth : ℕ) {H V : Type 0} (see : H → V) (moves : H 
   one_call fuel s function args trace trace' o o' u u' t t' old old' new new' seen (defined type f is r) led (defined type' f' is' r') led' =
       let one = one_function m function type' type f' f is' is in
       let there : entered type' f' args [] ≡ entered type f args [] = λ i. entered (one.0 i) (one.1 i) args [] in
-      one_run m depth see moves determined fuel s (entered type f args []) trace trace' o o' u u' t t' old old' new new' seen r led (subst (λ (x : List Context). RunsWithin m depth fuel s x trace' o' u' t') there r') led'
+      one_run m depth see moves determined fuel s (entered type f args []) trace trace' o o' u u' t t' old old' new new' seen r led
+      (subst (λ (x : List Context). RunsWithin m depth fuel s x trace' o' u' t') there r') led'
   one_call fuel s function args _ trace' _ o' _ u' _ t' old old' new new' seen (defined type f is r) led (imported call k e a b) led' = absurd (not_both m function type f is k)
   one_call fuel s function args trace _ o _ u _ t _ old old' new new' seen (imported call k e a b) led (defined type f is r) led' = absurd (not_both m function type f is k)
   one_call fuel s function args _ _ _ _ _ _ _ _ old old' new new' seen (imported call k e a b) led (imported call' k' e' a' b') led' =
@@ -84,5 +85,7 @@ pub one_invocation : {H V : Type 0} (see : H → V) (moves : H → HostCall → 
     → Invoked m depth fuel moves s old function args ended t new → Invoked m depth fuel moves s old' function args ended' t' new'
     → (ended ≡ ended') × (t ≡ t') × (see new ≡ see new')
 one_invocation see moves determined m depth fuel s function args ended ended' t t' old old' new new' seen r r' =
-    let one = one_call m depth see moves determined fuel s function args r.trace r'.trace (end_of_run ended.ending) (end_of_run ended'.ending) ended.used ended'.used t t' old old' new new' seen r.invokes r.lawful r'.invokes r'.lawful in
+    let one =
+    one_call m depth see moves determined fuel s function args r.trace r'.trace (end_of_run ended.ending) (end_of_run ended'.ending) ended.used ended'.used
+    t t' old old' new new' seen r.invokes r.lawful r'.invokes r'.lawful in
     (same_ended ended ended' one.1 one.2, one.3, one.4)

@@ -5,7 +5,7 @@ use Rattle.std.specs.Prelude.{Option}
 use Rattle.instance.specs.Store.{with_memory_instance, MemoryInstance}
 use Rattle.events.specs.declared.ended.Ending.TheVariants.{Return}
 use Rattle.reduction.specs.Run.{HostCall, IsImported}
-use Rattle.reduction.specs.Hosting.{Names, Takes, Answers}
+use Rattle.reduction.specs.Hosting.{Names, Answers}
 use Rattle.reduction.specs.Invoking.{imported, TakesArguments, Invoked}
 use Rattle.reduction.proofs.Lists.{in_order}
 use Rattle.reduction.proofs.Stores.{with_memory_of}
@@ -13,9 +13,6 @@ use Rattle.reduction.proofs.Stores.{with_memory_of}
 module _ (m : Contents) (function : ℕ) (args : List Value) (takes : TakesArguments m function args) where
   type_known : type_of_function m function ≡ Some takes.type
   type_known = rw (takes.known.1, takes.known.2) refl
-
-  pub takes_of : (types : List FuncType) → Names m types → IsImported m function → Takes (slice_get types function) args
-  takes_of types names i = rw (names function i, type_known) takes.fit
 
   module _ (types : List FuncType) (names : Names m types) (i : IsImported m function) (answer : Option Value) (typed : Answers (slice_get types function) answer) where
     answer_typed : types_of (as_operands answer) ≡ pushed takes.type.results []

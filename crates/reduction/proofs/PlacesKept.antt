@@ -229,7 +229,9 @@ module _ (m : Contents) (body : ℕ → Body) (function : ℕ) (callers : List P
           after = after;
           behind = behind;
           over = over_going m body function callers labels after behind (with_locals ls contexts) vs rest (over_locals m body function callers labels after behind contexts ls h);
-          code = reguided m (body function) labels (height_of below) _ (length t.pushed + f.0) _ after (at + 1) behind rest f.2 (sym (with_locals-height ls below)) (omega (arith, f.1, before, leaves));
+          code =
+              reguided m (body function) labels (height_of below) _ (length t.pushed + f.0) _ after (at + 1) behind rest f.2 (sym (with_locals-height ls below))
+              (omega (arith, f.1, before, leaves));
         })
     lead_by (rule.passes {label} {values} {rest}) at (o, tells, k) =
         let there : Guided m (body function) labels (height_of below) (length values) after (at + 1) behind rest =
@@ -271,7 +273,8 @@ module _ (m : Contents) (body : ℕ → Body) (function : ℕ) (callers : List P
 
 module _ (m : Contents) (body : ℕ → Body) where
   -- a call that has nothing more to do
-  leaves : (s : Memory_and_globals) (place : Place) (callers : List Place) (labels : List Target) (locals : List Value) (arity : ℕ) (values : List Value) (code : Code) (below : List Context) (after behind : ℕ)
+  leaves : (s : Memory_and_globals) (place : Place) (callers : List Place) (labels : List Target) (locals : List Value) (arity : ℕ) (values : List Value)
+      (code : Code) (below : List Context) (after behind : ℕ)
       → Over m body place.function callers labels after behind (Frame locals arity values code ∷ below) → place.pc ≡ length (body place.function).operations → length values ≡ after
       → Leads m body (stepped (body place.function) place values callers (slice_get (body place.function).operations place.pc))
       (at_code m s values Done (Frame locals arity values code ∷ below))

@@ -15,7 +15,7 @@ use Rattle.reduction.proofs.HeightsOfRuns.{same_type}
 use Rattle.reduction.proofs.PlacesKept.{received, leads}
 use Rattle.reduction.proofs.PlacesGuided.{guided}
 
-some_size : (c : Code) → (n : ℕ) × (size c ≡ n + 1)
+pub some_size : (c : Code) → (n : ℕ) × (size c ≡ n + 1)
 some_size Done = (0, refl)
 some_size (Plain i rest) = (size rest, omega arith)
 some_size (Block t body rest) = (size body + size rest, omega arith)

@@ -1,15 +1,15 @@
 -- Operands of a call and beneath it: a step of a block leaves the calls beneath, and what begins or ends a block moves no operand.
 use Rattle.reduction.proofs.Contexts.{height-parts, call-going, call-locals, call-receiving, call-continuing, call-reached, call-in}
 use Rattle.reduction.proofs.Words.{◌≡◌, ℕ, ◌+◌, ◌-◌, ◌≤◌, List, [], ◌∷◌, ◌++◌, length, take, drop, refl, sym, ap, ◌∙◌, arith, length-append}
-use Rattle.reduction.proofs.Words.{append_assoc, Value, Contents, Code, Context, Label, Frame, with_locals, going_on, receiving, Move}
+use Rattle.reduction.proofs.Words.{append_assoc, Value, Contents, Code, Context, Label, Frame, with_locals, Move}
 use Rattle.reduction.proofs.Words.{next, Target, operands_of, height_of}
-use Rattle.std.proofs.lemmas.List.{take-append-drop, take-append-le}
+use Rattle.std.proofs.lemmas.List.{take-append-le}
 use Rattle.std.proofs.Math.Seq.{drop-append_seam, drop-append-add}
 use Rattle.instance.specs.Store.{Store as Memory_and_globals}
 use Rattle.reduction.specs.Inner.Heights.{base_of}
 use Rattle.reduction.specs.Inner.HeightsOfRuns.{all_operands}
 use Rattle.reduction.specs.Inner.Places.{Cuts, call_of, StaysIn, cut}
-use Rattle.reduction.proofs.Rules.{Reaches, InCall, StepRule, next_rule}
+use Rattle.reduction.proofs.Rules.{StepRule, next_rule}
 use Rattle.reduction.proofs.Rules as rule
 
 -- the operands are those of the innermost call and those beneath it
@@ -42,17 +42,6 @@ stays_by rule.stuck k = tt
 pub stays : (m : Contents) (s : Memory_and_globals) (arity : ℕ) (back : Code) (values : List Value) (code : Code) (below : List Context)
     → StaysIn (call_of below) (next m s (Label arity back values code ∷ below))
 stays m s arity back values code below = stays_by (next_rule m s (Label arity back values code ∷ below)) tt
-
--- a block that is entered moves no operand
-pub operands-entering : (params arity : ℕ) (next body rest : Code) (values : List Value) (back_arity : ℕ) (back : Code) (own : List Value) (code : Code) (below : List Context)
-    → all_operands (Label arity next (take params values) body ∷ going_on (drop params values) rest (Label back_arity back own code ∷ below)) ≡ values ++ all_operands below
-operands-entering params arity next body rest values back_arity back own code below =
-    sym (append_assoc (take params values) (drop params values) (all_operands below)) ∙ ap (λ (vs : List Value). vs ++ all_operands below) (take-append-drop params values)
-
--- nor does the end of a block or a call
-pub operands-receiving : (values : List Value) (top : Context) (below : List Context) → all_operands (receiving values (top ∷ below)) ≡ values ++ all_operands (top ∷ below)
-operands-receiving values (Label arity next own code) below = append_assoc values own (all_operands below)
-operands-receiving values (Frame locals arity own code) below = append_assoc values own (all_operands below)
 
 -- what lies beneath the operands of the innermost context
 abbrev pub lower : List Context → List Value

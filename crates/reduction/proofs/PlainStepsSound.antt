@@ -9,7 +9,9 @@ use Rattle.syntax.specs.declared.operator.Extension.{Extension}
 use Rattle.syntax.specs.declared.operator.Extension.TheVariants.{Unsigned}
 use Rattle.syntax.specs.declared.operator.Conversion.{Conversion}
 use Rattle.syntax.specs.declared.operator.Conversion.TheVariants.{I32WrapI64, I64ExtendI32S, I64ExtendI32U}
-use Rattle.syntax.specs.declared.instruction.Instr.TheVariants.{Unreachable, Nop, Return, Call, CallIndirect, Drop, Select, LocalGet, LocalSet, LocalTee, GlobalGet, GlobalSet, Load, LoadNarrow, Store, StoreNarrow, MemorySize, MemoryGrow, Const, Eqz, Unary, Binary, Compare, Convert}
+use Rattle.syntax.specs.declared.instruction.Instr.TheVariants.{Unreachable, Nop, Return, Call, CallIndirect, Drop, Select, LocalGet, LocalSet, LocalTee}
+use Rattle.syntax.specs.declared.instruction.Instr.TheVariants.{GlobalGet, GlobalSet, Load, LoadNarrow, Store, StoreNarrow, MemorySize, MemoryGrow, Const, Eqz}
+use Rattle.syntax.specs.declared.instruction.Instr.TheVariants.{Unary, Binary, Compare, Convert}
 use Rattle.syntax.specs.declared.contents.Global.{Global}
 use Rattle.validate.specs.Typing.{Context as Typing, InstrTyped, ConversionTurns, bytes_of_type, bytes_of_width}
 use Rattle.instance.specs.Store.{Store as Memory_and_globals, bytes_at}

@@ -21,7 +21,8 @@ use Rattle.reduction.proofs.PlainStepsSound.{PlainStepTyped, plain_step_typed, t
 
 module _ (m : Contents) (answers : List ValType) where
   -- the innermost context may have other operands and other code
-  pub under_going : {c : Typing} {ends : List ValType} {contexts : List Context} (values : List Value) (code : Code) → Under m answers c ends contexts → Under m answers c ends (going_on values code contexts)
+  pub under_going : {c : Typing} {ends : List ValType} {contexts : List Context} (values : List Value) (code : Code) → Under m answers c ends contexts
+      → Under m answers c ends (going_on values code contexts)
   under_going values code (in_label types ends arity next v0 c0 e u t1 t2) = in_label types ends arity next values code e u t1 t2
   under_going values code (in_call results locals arity v0 c0 e u t) = in_call results locals arity values code e u t
   under_going values code (outermost locals arity v0 c0 e) = outermost locals arity values code e
@@ -31,7 +32,8 @@ module _ (m : Contents) (answers : List ValType) where
   going-code values code (in_call results locals arity v0 c0 e u t) = refl
   going-code values code (outermost locals arity v0 c0 e) = refl
 
-  going-operands : {c : Typing} {ends : List ValType} {contexts : List Context} (values : List Value) (code : Code) → Under m answers c ends contexts → operands_of (going_on values code contexts) ≡ values
+  going-operands : {c : Typing} {ends : List ValType} {contexts : List Context} (values : List Value) (code : Code) → Under m answers c ends contexts
+      → operands_of (going_on values code contexts) ≡ values
   going-operands values code (in_label types ends arity next v0 c0 e u t1 t2) = refl
   going-operands values code (in_call results locals arity v0 c0 e u t) = refl
   going-operands values code (outermost locals arity v0 c0 e) = refl
@@ -67,7 +69,8 @@ module _ (m : Contents) (answers : List ValType) where
   locals_typed (outermost locals arity v0 c0 e) = refl
 
   -- other locals of the same types
-  under_locals : {c : Typing} {ends : List ValType} {contexts : List Context} (locals : List Value) → types_of locals ≡ c.locals → Under m answers c ends contexts → Under m answers c ends (with_locals locals contexts)
+  under_locals : {c : Typing} {ends : List ValType} {contexts : List Context} (locals : List Value) → types_of locals ≡ c.locals
+      → Under m answers c ends contexts → Under m answers c ends (with_locals locals contexts)
   under_locals locals el (in_label {around} {after} {below} types ends arity next values code e u t1 t2) =
       in_label types ends arity next values code e (under_locals locals el u)
       (rw (with_locals-code locals below, with_locals-operands locals below) t1)
@@ -150,7 +153,8 @@ module _ (m : Contents) (answers : List ValType) where
       )
 
   -- a block whose label takes these types, and to which a branch goes on there
-  enters : (c : Typing) (ends : List ValType) (contexts : List Context) (s : Memory_and_globals) (params results types : List ValType) (next body : Code) (values : List Value) (rest : Code) (below : List ValType)
+  enters : (c : Typing) (ends : List ValType) (contexts : List Context) (s : Memory_and_globals) (params results types : List ValType) (next body : Code)
+      (values : List Value) (rest : Code) (below : List ValType)
       → HaveGlobalTypes m s.globals → Under m answers c ends contexts → types_of values ≡ pushed params below
       → Typed (inside types c) body (pushed params []) (pushed results [])
       → Typed c next (pushed types below) ends → Typed c rest (pushed results below) ends
@@ -174,7 +178,8 @@ module _ (m : Contents) (answers : List ValType) where
         },
       )
 
-  jump_sound : (s : Memory_and_globals) (o : Option (List Context)) → HaveGlobalTypes m s.globals → ((there : List Context) × (o ≡ Some there) × Configured m answers there) → Sound m answers (on_contexts s o)
+  jump_sound : (s : Memory_and_globals) (o : Option (List Context)) → HaveGlobalTypes m s.globals
+      → ((there : List Context) × (o ≡ Some there) × Configured m answers there) → Sound m answers (on_contexts s o)
   jump_sound s o fit (there, e, k) = rw e (fit, k)
 
   pub type_of_function-is : (f : ℕ) (type : FuncType) → HasFunctionType m f type → type_of_function m f ≡ Some type
@@ -185,7 +190,8 @@ module _ (m : Contents) (answers : List ValType) where
   function_type_found f type (Some t) a b = (t, a, b)
 
   -- a call through the table
-  element_sound : (c : Typing) (ends : List ValType) (contexts : List Context) (s : Memory_and_globals) (t : ℕ) (type : FuncType) (values : List Value) (rest : Code) (below : List ValType) (o : Option (Option ℕ))
+  element_sound : (c : Typing) (ends : List ValType) (contexts : List Context) (s : Memory_and_globals) (t : ℕ) (type : FuncType) (values : List Value)
+      (rest : Code) (below : List ValType) (o : Option (Option ℕ))
       → Under m answers c ends contexts → slice_get m.types t ≡ Some type → types_of values ≡ pushed type.params below → Typed c rest (pushed type.results below) ends
       → Sound m answers (call_element m t o values rest contexts)
   element_sound c ends contexts s t type values rest below None u at e k = tt
@@ -227,7 +233,8 @@ module _ (m : Contents) (answers : List ValType) where
   plain_sound c ends contexts s (BrTable labels default) (I32 n ∷ values) rest mid fit u (types, each, at, below, e) k =
       let f = e ∙ pushed-last types type.I32 below in
       let h : types_of values ≡ pushed types below = cc in
-      jump_sound s _ fit (branches (label_for (slice_get labels n) default) values types below u (label_holds (λ (l : ℕ). slice_get c.labels l ≡ Some types) labels n default each at (slice_get labels n) refl) h)
+      jump_sound s _ fit (branches (label_for (slice_get labels n) default) values types below u
+      (label_holds (λ (l : ℕ). slice_get c.labels l ≡ Some types) labels n default each at (slice_get labels n) refl) h)
   plain_sound c ends contexts s Return values rest mid fit u (below, e) k = jump_sound s _ fit (returns values below u e)
   plain_sound c ends contexts s (Call f) values rest mid fit u (ft, h, (below, e, a)) k =
       let h' : HasFunctionType m f ft = subst (λ (n : Contents). HasFunctionType n f ft) (module_of u) h in
@@ -239,7 +246,8 @@ module _ (m : Contents) (answers : List ValType) where
       let f = e ∙ pushed-last ft.params type.I32 below in
       let h : types_of values ≡ pushed ft.params below = cc in
       let at' = ap (λ (n : Contents). slice_get n.types t) (sym (module_of u)) ∙ at in
-      rw (there c.module_contents.table m.table (ap (λ (k : Contents). k.table) (module_of u)) table) (element_sound c ends contexts s t ft values rest below (slice_get s.table n) u at' h (subst (λ (ts : List ValType). Typed c rest ts ends) a k))
+      rw (there c.module_contents.table m.table (ap (λ (k : Contents). k.table) (module_of u)) table)
+      (element_sound c ends contexts s t ft values rest below (slice_get s.table n) u at' h (subst (λ (ts : List ValType). Typed c rest ts ends) a k))
   plain_sound c ends contexts s i values rest mid fit u t k =
       turned_sound c ends contexts s (plain_step m s (locals_of contexts) i values) rest mid u
       (plain_step_typed m s fit (locals_of contexts) c.locals (locals_typed u) c i (types_of values) mid values (module_of u) refl tt t refl) k
@@ -258,14 +266,17 @@ module _ (m : Contents) (answers : List ValType) where
       let n : length (types_of values) ≡ length (pushed results []) = ap length ev in
       eq-eqb (length values) arity (omega (arith, length-map values type_of, length-pushed results []))
 
-  results_sound : {around : Typing} {after : List ValType} (s : Memory_and_globals) (values : List Value) (results : List ValType) (locals : List Value) (arity : ℕ) (own : List Value) (code : Code) (below : List Context)
-      → HaveGlobalTypes m s.globals → arity ≡ length results → Under m answers around after below → Typed around (code_of below) (pushed results (types_of (operands_of below))) after → types_of values ≡ pushed results []
+  results_sound : {around : Typing} {after : List ValType} (s : Memory_and_globals) (values : List Value) (results : List ValType) (locals : List Value)
+      (arity : ℕ) (own : List Value) (code : Code) (below : List Context)
+      → HaveGlobalTypes m s.globals → arity ≡ length results → Under m answers around after below
+      → Typed around (code_of below) (pushed results (types_of (operands_of below))) after → types_of values ≡ pushed results []
       → Sound m answers (at_code m s values Done (Frame locals arity own code ∷ below))
   results_sound s values results locals arity own code [] fit e u t ev = absurd (nowhere u)
   results_sound s values results locals arity own code (top ∷ below) fit e u t ev =
       rw (all_results values results arity e ev) (fit, receives values (pushed results []) ev u (rw (← pushed-split results (types_of (operands_of (top ∷ below)))) t))
 
-  ends_sound : {c : Typing} {ends : List ValType} {contexts : List Context} (s : Memory_and_globals) (values : List Value) → HaveGlobalTypes m s.globals → Under m answers c ends contexts → types_of values ≡ ends
+  ends_sound : {c : Typing} {ends : List ValType} {contexts : List Context} (s : Memory_and_globals) (values : List Value) → HaveGlobalTypes m s.globals
+      → Under m answers c ends contexts → types_of values ≡ ends
       → Sound m answers (at_code m s values Done contexts)
   ends_sound s values fit (in_label types es arity next own code e u t1 t2) ev = (fit, receives values es ev u t1)
   ends_sound s values fit (in_call {below} results locals arity own code e u t) ev = results_sound s values results locals arity own code below fit e u t ev

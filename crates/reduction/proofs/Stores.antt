@@ -53,7 +53,8 @@ grown_pages limit least delta bytes k = by_test (nat_le (pages bytes + delta) li
 
 written_length : (address : ℕ) (bytes memory after : List ℕ) → written_at address bytes memory ≡ Some after → length after ≡ length memory
 written_length address bytes memory after e = by_test (nat_le (address + length bytes) (length memory)) refl e where
-  by_test : (b : Bool) → nat_le (address + length bytes) (length memory) ≡ b → (if b then Some (take address memory ++ (bytes ++ drop (address + length bytes) memory)) else None) ≡ Some after → length after ≡ length memory
+  by_test : (b : Bool) → nat_le (address + length bytes) (length memory) ≡ b
+      → (if b then Some (take address memory ++ (bytes ++ drop (address + length bytes) memory)) else None) ≡ Some after → length after ≡ length memory
   by_test false t e = absurd (cc)
   by_test true t e =
       let q : take address memory ++ (bytes ++ drop (address + length bytes) memory) ≡ after = cc in

@@ -55,7 +55,8 @@ untaken_step k n (did.Skipped kind number) emits = refl
 untaken_step k n did.Over emits = refl
 untaken_step k n did.Failed emits = refl
 
-module _ (joins : RunsJoin) (all : ℕ) (t : Threads) (ls : List (Core Desk)) (ws : List Worker) (bag : List (Option WorkOrder)) (hand : ℕ → ℕ) (alike : AllAlike t.world.loops t.steps ls) (hands : AreHeld all bag hand t.world.workers ws)
+module _ (joins : RunsJoin) (all : ℕ) (t : Threads) (ls : List (Core Desk)) (ws : List Worker) (bag : List (Option WorkOrder)) (hand : ℕ → ℕ)
+    (alike : AllAlike t.world.loops t.steps ls) (hands : AreHeld all bag hand t.world.workers ws)
     (jobs_are : t.world.jobs ≡ waiting bag) (stands : Stands (beside t.world ls ws)) where
   abbrev used : ℕ
   used = length bag
@@ -207,7 +208,8 @@ module _ (joins : RunsJoin) (all : ℕ) (t : Threads) (ls : List (Core Desk)) (w
     same_at n between p at = let q = alike_known n t.world.loops t.steps ls p None alike at between in q.1 ∙ ap Some q.2
 
     -- an order is handed out: the world posts it, and a new worker takes it at once
-    module _ (n : ℕ) (g : Setting) (l : Loop Desk) (at : slice_get t.world.loops n ≡ Some (core g l)) (between : IsBetween t n) (o : WorkOrder) (st : State) (told : entry ≡ line.Post n (post.Request o.request))
+    module _ (n : ℕ) (g : Setting) (l : Loop Desk) (at : slice_get t.world.loops n ≡ Some (core g l)) (between : IsBetween t n) (o : WorkOrder) (st : State)
+        (told : entry ≡ line.Post n (post.Request o.request))
         (after : r' ≡ record (with_loop t.world n g (in_state l st)) { jobs = t.world.jobs ++ o ∷ [] }) where
       abbrev now : Core Desk
       now = core g (in_state l st)
@@ -252,7 +254,9 @@ module _ (joins : RunsJoin) (all : ℕ) (t : Threads) (ls : List (Core Desk)) (w
         taken = line.Take used (Some (job_of o))
 
         two : Runs posted used [] (beside r' Ls Ws) (used + 1)
-        two = run_one posted (beside r' Ls Ws) (step.Take used) taken [] used (used + 1) (Idle, hands.fresh used (omega arith) below, (refl, ap (λ x. beside x Ls Ws) after)) (λ i. refl) (once_took used (job_of o))
+        two =
+            run_one posted (beside r' Ls Ws) (step.Take used) taken [] used (used + 1)
+            (Idle, hands.fresh used (omega arith) below, (refl, ap (λ x. beside x Ls Ws) after)) (λ i. refl) (once_took used (job_of o))
 
     module _ (n : ℕ) (between : IsBetween t n) (room : used + jobs_in (entry ∷ []) ≤ all) (g : Setting) (l : Loop Desk) (at : slice_get t.world.loops n ≡ Some (core g l)) where
       here : slice_get ls n ≡ Some (core g l)
@@ -282,9 +286,12 @@ module _ (joins : RunsJoin) (all : ℕ) (t : Threads) (ls : List (Core Desk)) (w
       hand = handed hand n it.place;
       runs =
           subst (λ k. Runs w used (entry ∷ []) (beside r' ls ws) k) (sym long)
-          (subst (λ x. Runs w used (entry ∷ []) x used) (sym (ap (λ x. beside x ls ws) h.after)) (run_none w used (entry ∷ []) (silent_as entry (line.Take n (Some (job_of h.job))) h.told (λ l. refl))));
+          (subst (λ x. Runs w used (entry ∷ []) x used) (sym (ap (λ x. beside x ls ws) h.after))
+          (run_none w used (entry ∷ []) (silent_as entry (line.Take n (Some (job_of h.job))) h.told (λ l. refl))));
       alike = subst (λ (x : World). AllAlike x.loops t.steps ls) (sym h.after) alike;
-      hands = subst (λ (x : World). AreHeld all (slice_set bag it.place None) (handed hand n it.place) x.workers ws) (sym h.after) (hand_takes all bag hand t.world.workers ws hands n it.place h.job h.idle it.there);
+      hands =
+          subst (λ (x : World). AreHeld all (slice_set bag it.place None) (handed hand n it.place) x.workers ws) (sym h.after)
+          (hand_takes all bag hand t.world.workers ws hands n it.place h.job h.idle it.there);
       jobs = ap (λ (x : World). x.jobs) h.after ∙ sym it.rest;
       room = (let more = more_room (entry ∷ []) in omega (arith, long, more));
     } where
@@ -333,8 +340,19 @@ module _ (joins : RunsJoin) (all : ℕ) (t : Threads) (ls : List (Core Desk)) (w
         workers = Ws;
         bag = bag;
         hand = hand;
-        runs = run_one w (beside r' Ls Ws) (step.Start (hand n)) line' (entry ∷ []) used used
-            (Taken o, (hands.held n (Taken o) held refl).1, (q.setting, q.loop, sharing q.loop (started q.loop.shared c), true, it.at_core, ((sym begun.0, refl), refl, refl), (refl, ap (λ x. beside x Ls Ws) after)))
+        runs = run_one w (beside r' Ls Ws) (step.Start (hand n)) line' (entry ∷ []) used used (
+          Taken o,
+          (hands.held n (Taken o) held refl).1,
+          (
+            q.setting,
+            q.loop,
+            sharing q.loop (started q.loop.shared c),
+            true,
+            it.at_core,
+            ((sym begun.0, refl), refl, refl),
+            (refl, ap (λ x. beside x Ls Ws) after),
+          ),
+        )
             (λ i. silent_as entry (line.Start n (start.Begun (job_of o))) told (λ j. refl) i) (once_quiet used line' (λ k. refl));
         alike =
             subst (λ (x : World). AllAlike x.loops t.steps Ls) (sym after)
@@ -388,8 +406,20 @@ module _ (joins : RunsJoin) (all : ℕ) (t : Threads) (ls : List (Core Desk)) (w
       workers = Ws;
       bag = bag;
       hand = hand;
-      runs = run_one w (beside r' ls Ws) (step.Finish (hand n)) told (entry ∷ []) used used
-          (Started o, (hands.held n (Started o) held refl).1, record { end = h.end; ending = h.ending; replies = h.replies; right = h.right; tells = h.tells; waiting = h.waiting; told = refl; after = ap (λ x. beside x ls Ws) h.after })
+      runs = run_one w (beside r' ls Ws) (step.Finish (hand n)) told (entry ∷ []) used used (
+        Started o,
+        (hands.held n (Started o) held refl).1,
+        record {
+          end = h.end;
+          ending = h.ending;
+          replies = h.replies;
+          right = h.right;
+          tells = h.tells;
+          waiting = h.waiting;
+          told = refl;
+          after = ap (λ x. beside x ls Ws) h.after;
+        },
+      )
           (λ l. silent_as entry (line.Finish n (finish.Ended (job_of o) h.ending)) h.told (λ i. refl) l) (once_quiet used told (λ k. refl));
       alike = subst (λ (x : World). AllAlike x.loops t.steps ls) (sym h.after) alike;
       hands = subst (λ (x : World). AreHeld all bag hand x.workers Ws) (sym h.after) (hand_goes all bag hand t.world.workers ws hands n (Started o) Idle held refl);
@@ -442,7 +472,9 @@ module _ (joins : RunsJoin) (all : ℕ) (t : Threads) (ls : List (Core Desk)) (w
             workers = ws;
             bag = bag;
             hand = hand;
-            runs = subst (λ x. Runs w used (entry ∷ []) x used) (sym (ap (λ x. beside x (slice_set ls n q) ws) after)) (record { steps = done.steps; lines = done.lines; run = done.run; logs = λ i. done.logs i ∙ silent i; once = done.once });
+            runs =
+                subst (λ x. Runs w used (entry ∷ []) x used) (sym (ap (λ x. beside x (slice_set ls n q) ws) after))
+                (record { steps = done.steps; lines = done.lines; run = done.run; logs = λ i. done.logs i ∙ silent i; once = done.once });
             alike = alike_now q one;
             hands = workers_now;
             jobs = jobs ∙ jobs_are;
@@ -483,4 +515,6 @@ module _ (joins : RunsJoin) (all : ℕ) (t : Threads) (ls : List (Core Desk)) (w
   atom_runs (Begin n) told t' room h = begins n told t' h
   atom_runs (Next n) told t' room h = goes_on n told t' h
   atom_runs (End n) told t' room h = ends n told t' h
-  atom_runs (Whole s) told t' room h = subst (λ x. On told x) (sym h.after) (subst (λ xs. On xs (record t { world = h.world })) (sym h.line) (whole h.entry h.world s (subst (λ xs. used + jobs_in xs ≤ all) h.line room) h.may h.step))
+  atom_runs (Whole s) told t' room h =
+      subst (λ x. On told x) (sym h.after) (subst (λ xs. On xs (record t { world = h.world })) (sym h.line)
+      (whole h.entry h.world s (subst (λ xs. used + jobs_in xs ≤ all) h.line room) h.may h.step))

@@ -152,7 +152,9 @@ module _ (w w' : World) (s : Stands w) where
         (own_found n l.state.requests.last (λ x. is_open_stage x.stage) l.state.requests.outstanding lowest.request lowest.lowest (s.loops n (core g l) at).own)
 
     before : IsGiven w.loops o
-    before p at_p = (let same : core g l ≡ p = (let both = sym at ∙ ap (slice_get w.loops) (sym found.0) ∙ at_p in cc) in subst (λ (x : Core Desk). o.request ≤ x.loop.state.requests.last) same found.1)
+    before p at_p =
+        (let same : core g l ≡ p = (let both = sym at ∙ ap (slice_get w.loops) (sym found.0) ∙ at_p in cc) in
+        subst (λ (x : Core Desk). o.request ≤ x.loop.state.requests.last) same found.1)
 
     given : IsGiven w'.loops o
     given = now_given n g l m at loops numbered o before
@@ -243,7 +245,8 @@ module _ (w w' : World) (s : Stands w) where
   step_stands (step.Finish n) entry h = finish_next n h.0 entry h.1 h.2
   step_stands (step.Collect n) entry h = unless n h.1 entry _ (collects n h.0 h.1 h.2 entry h.3) h.5
   step_stands (step.Send n a) entry h =
-      moved n h.0 h.1 h.2 h.5 (ap (λ (x : World). x.loops) h.8) (same_requests n h.0 h.1 h.2 h.5 (ap (λ (x : State). x.requests) h.6.1)) (ap (λ (x : World). x.jobs) h.8) (ap (λ (x : World). x.workers) h.8)
+      moved n h.0 h.1 h.2 h.5 (ap (λ (x : World). x.loops) h.8) (same_requests n h.0 h.1 h.2 h.5 (ap (λ (x : State). x.requests) h.6.1))
+      (ap (λ (x : World). x.jobs) h.8) (ap (λ (x : World). x.workers) h.8)
   step_stands (step.Cancel n request) entry h =
       unless n h.1 entry _
       (λ k. (

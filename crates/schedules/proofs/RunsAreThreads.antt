@@ -78,7 +78,9 @@ module _ (us : List (Option Underway)) (w w' : World) (n : ℕ) (entry : LogEntr
 
   all_go : (accesses : List Access) (d e : Desk) → Reach d accesses e → ThreadsRun (at d accesses) (nexts accesses) [] (at e [])
   all_go [] d e leads = (refl, ap (λ x. at x []) leads)
-  all_go (a ∷ accesses) d e leads = step_first (Next n) (nexts accesses) [] [] (at d (a ∷ accesses)) (at leads.0 accesses) (at e []) (goes d leads.0 a accesses leads.1) (all_go accesses leads.0 e leads.2)
+  all_go (a ∷ accesses) d e leads =
+      step_first (Next n) (nexts accesses) [] [] (at d (a ∷ accesses)) (at leads.0 accesses) (at e []) (goes d leads.0 a accesses leads.1)
+      (all_go accesses leads.0 e leads.2)
 
   abbrev resting : World → Threads
   resting x = record { world = x; steps = us }
@@ -135,7 +137,8 @@ hands_out : (failed full : Bool) (entry : LogEntry) (w w' : World) (n : ℕ) (P 
 hands_out true full entry w w' n P room h = h
 hands_out false full entry w w' n P room h = not_full full entry w w' n P room h
 
-module _ (us : List (Option Underway)) (w w' : World) (entry : LogEntry) (rests : (n : ℕ) (p : Core Desk) → slice_get w.loops n ≡ Some p → slice_get us n ≡ Some None) (room : is_full entry ≡ false) where
+module _ (us : List (Option Underway)) (w w' : World) (entry : LogEntry)
+    (rests : (n : ℕ) (p : Core Desk) → slice_get w.loops n ≡ Some p → slice_get us n ≡ Some None) (room : is_full entry ≡ false) where
   abbrev still : World → Threads
   still x = record { world = x; steps = us }
 
@@ -181,7 +184,9 @@ module _ (history : IsHistory) (joins : RunsJoin) (settings : List Setting) (wor
       let room = none_full e log none in
       let one =
       step_threads Us w run.0 e (λ n p at. map_get (λ _. None) settings n p.setting (history settings workers done before w was n p.setting p.loop at).0) room.0 s run.1 in
-      let rest = run_threads steps (done ++ s ∷ []) log (before ++ e ∷ []) run.0 w' (joins (opening_world settings workers) w run.0 done (s ∷ []) before (e ∷ []) was (run.0, run.1, refl)) run.2 room.1 in (
+      let rest =
+      run_threads steps (done ++ s ∷ []) log (before ++ e ∷ []) run.0 w'
+      (joins (opening_world settings workers) w run.0 done (s ∷ []) before (e ∷ []) was (run.0, run.1, refl)) run.2 room.1 in (
         one.0 ++ rest.0,
         threads_join one.0 rest.0 (e ∷ []) log (record { world = w; steps = Us }) (record { world = run.0; steps = Us }) (record { world = w'; steps = Us }) one.1 rest.1,
       )

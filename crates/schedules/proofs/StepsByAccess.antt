@@ -128,8 +128,12 @@ module _ (all : List Access) where
 pub step_split : (g : Setting) (old : Loop Desk) (did : StepDid) (made : List GuestCall) (new : Loop Desk) → StepsWith desk_calls g old did made new
     → (accesses : List Access) × StepsBy g old accesses did made new.state new.store × Reach old.shared accesses new.shared
 step_split g old did made new h =
-    let one = step_mirrors desk_calls written_calls g Anyhow Anyhow (Wrote old.shared) (Wrote old.shared) (writing old.shared) (λ made before after k c. tt) old did made new [] tt (λ async_no handle is. tt) refl h in
+    let one =
+    step_mirrors desk_calls written_calls g Anyhow Anyhow (Wrote old.shared) (Wrote old.shared) (writing old.shared) (λ made before after k c. tt) old did
+    made new [] tt (λ async_no handle is. tt) refl h in
     let all : List Access = one.0 in
-    let two = step_mirrors written_calls listed_calls g (λ accesses. Longer accesses all) Anyhow (Left all) (Left all) (reading all) (longer_back g all) (over [] old) did made (over all new) all ([], append-nil all) (λ async_no handle is. tt) refl one.1 in
+    let two =
+    step_mirrors written_calls listed_calls g (λ accesses. Longer accesses all) Anyhow (Left all) (Left all) (reading all) (longer_back g all) (over [] old)
+    did made (over all new) all ([], append-nil all) (λ async_no handle is. tt) refl one.1 in
     let none : two.0 ≡ [] = cancel_front all two.0 [] (two.2 ∙ sym (append-nil all)) in
     (all, subst (λ xs. StepsWith listed_calls g (over all old) did made (over xs new)) none two.1, one.2)

@@ -32,7 +32,8 @@ record Ran (all : ℕ) (t : Threads) (ls : List (Core Desk)) (ws : List Worker) 
 module _ (joins : RunsJoin) (all : ℕ) where
   ran : (atoms : List Atom) (t : Threads) (ls : List (Core Desk)) (ws : List Worker) (bag : List (Option WorkOrder)) (hand : ℕ → ℕ) (log : List LogEntry) (t' : Threads)
       → AllAlike t.world.loops t.steps ls
-      → AreHeld all bag hand t.world.workers ws → t.world.jobs ≡ waiting bag → Stands (beside t.world ls ws) → length bag + jobs_in log ≤ all → ThreadsRun t atoms log t' → Ran all t ls ws (length bag) log t'
+      → AreHeld all bag hand t.world.workers ws → t.world.jobs ≡ waiting bag → Stands (beside t.world ls ws) → length bag + jobs_in log ≤ all
+      → ThreadsRun t atoms log t' → Ran all t ls ws (length bag) log t'
   ran [] t ls ws bag hand log t' alike hands jobs stands room h = subst (λ x. Ran all t ls ws (length bag) log x) (sym h.1) (record {
     loops = ls;
     workers = ws;

@@ -69,7 +69,9 @@ pub last_counts : (slot q : ℕ) (cs : List (ℕ × ℕ)) → (last_from slot q 
 last_counts slot q [] = inl refl
 last_counts slot q (c ∷ cs) =
     by_test (c.0 == slot)
-    (λ e. ⊎_elim (λ same. inr (times_first (slot, last_from slot q (c ∷ cs)) c cs (is_that slot c (last_from slot q (c ∷ cs)) e (same ∙ ap (λ b. if b then c.1 else q) e)))) (λ more. inr (times_more (slot, last_from slot q (c ∷ cs)) c cs more)) (last_counts slot (if c.0 == slot then c.1 else q) cs))
+    (λ e. ⊎_elim (λ same. inr
+    (times_first (slot, last_from slot q (c ∷ cs)) c cs (is_that slot c (last_from slot q (c ∷ cs)) e (same ∙ ap (λ b. if b then c.1 else q) e))))
+    (λ more. inr (times_more (slot, last_from slot q (c ∷ cs)) c cs more)) (last_counts slot (if c.0 == slot then c.1 else q) cs))
     (λ e. ⊎_elim (λ same. inl (same ∙ ap (λ b. if b then c.1 else q) e)) (λ more. inr (times_more (slot, last_from slot q (c ∷ cs)) c cs more)) (last_counts slot (if c.0 == slot then c.1 else q) cs))
   where
     is_that : (slot : ℕ) (c : ℕ × ℕ) (n : ℕ) → (c.0 == slot) ≡ true → n ≡ c.1 → is_request (slot, n) c ≡ true

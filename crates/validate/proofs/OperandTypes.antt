@@ -1,6 +1,6 @@
 -- Operands that are taken and left, and the types that they stand for.
 use Rattle.std.proofs.Common.{◌≡◌, ℕ, ◌+◌, ◌-◌, ◌≤◌, List, [], ◌∷◌, ◌++◌, length, take, drop, reverse, map, Bool, true, false, ◌↔◌, refl, sym, ap, ◌∙◌, arith}
-use Rattle.std.proofs.lemmas.List.{reverse-append, take-append-drop, drop_all, take_all, take_at, drop_at, length-reverse, length-drop, nil_from_length, map_push, length-map}
+use Rattle.std.proofs.lemmas.List.{reverse-append, take-append-drop, drop_all, take_all, take_at, drop_at, length-reverse, length-drop, nil_from_length, length-map}
 use Rattle.syntax.specs.declared.types.ValType.{ValType}
 use Rattle.validate.specs.declared.operands.Operand.{Operand}
 use Rattle.validate.specs.declared.operands.Operand.TheVariants.{Known}
@@ -48,14 +48,6 @@ none_left b xs le =
 pub takes_none : (h : Held) → Takes [] h h
 takes_none h = record { below = refl; reach = refl; height = omega arith; fits = λ ts. (λ f. f, λ f. f) }
 
-pub takes_more : (t : ValType) (ts : List ValType) (h i j : Held) → Takes ts h i → Takes (t ∷ []) i j → Takes (t ∷ ts) h j
-takes_more t ts h i j a b = record {
-  below = b.below ∙ a.below;
-  reach = b.reach ∙ a.reach;
-  height = (let p : length i.own ≡ length h.own - length ts = a.height in let q : length j.own ≡ length i.own - 1 = b.height in omega arith);
-  fits = λ us. (λ f. (b.fits us).0 ((a.fits (t ∷ us)).0 f), λ f. (a.fits (t ∷ us)).1 ((b.fits us).1 f));
-}
-
 pub pushed-push : {A : Type 0} (xs : List A) (x : A) (s : List A) → pushed (xs ++ x ∷ []) s ≡ x ∷ pushed xs s
 pushed-push [] x s = refl
 pushed-push (y ∷ ys) x s = pushed-push ys x (y ∷ s)
@@ -67,10 +59,6 @@ pushed-append (x ∷ xs) ys s = pushed-append xs ys (x ∷ s)
 pub length-pushed : {A : Type 0} (xs s : List A) → length (pushed xs s) ≡ length xs + length s
 length-pushed [] s = omega arith
 length-pushed (x ∷ xs) s = let e : length (pushed xs (x ∷ s)) ≡ length xs + length (x ∷ s) = length-pushed xs (x ∷ s) in omega arith
-
-pub with_left-more : (ts : List ValType) (t : ValType) (h : Held)
-    → held_of (Known t ∷ (with_left ts h).own) h.below h.unreachable ≡ with_left (ts ++ t ∷ []) h
-with_left-more ts t h = rw (map_push Known ts t, pushed-push (map Known ts) (Known t) h.own) refl
 
 top_fits : (u : Bool) (t : ValType) (left : List ValType) (own : List Operand) (ts rest : List ValType)
     → ts ≡ pushed left rest → FitsList u (Known t ∷ own) rest

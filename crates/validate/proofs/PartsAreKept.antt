@@ -173,14 +173,23 @@ low_block scope f g fs type named h mid body code plain e b l =
     let inner : max (length h.below) (height_of h - length type.params) ≡ length mid.own + length mid.below = omega (arith, b.takes.height, ap (λ (os : List Operand). length os) b.takes.below) in
     let known : block_height c type.results type (length h.below) (height_of h) body code ≤ 256 =
     subst (λ (t : FuncType). block_height c t.results t (length h.below) (height_of h) body code ≤ 256) shape l in
-    let both : max (height_of h) (max (greatest_height (inside type.results c) (length mid.own + length mid.below) (length mid.own + length mid.below + length type.params) body) (greatest_height c (length h.below) (length mid.own + length mid.below + length type.results) code)) ≤ 256 =
-    subst (λ (n : ℕ). max (height_of h) (max (greatest_height (inside type.results c) n (n + length type.params) body) (greatest_height c (length h.below) (n + length type.results) code)) ≤ 256) inner known in
+    let both : max (height_of h) (max
+    (greatest_height (inside type.results c) (length mid.own + length mid.below) (length mid.own + length mid.below + length type.params) body)
+    (greatest_height c (length h.below) (length mid.own + length mid.below + length type.results) code)) ≤ 256 =
+    subst (λ (n : ℕ). max (height_of h)
+    (max (greatest_height (inside type.results c) n (n + length type.params) body) (greatest_height c (length h.below) (n + length type.results) code))
+    ≤ 256) inner known in
     record {
       body =
           subst (λ (ls : List ValType). greatest_height (inside ls c) (length mid.own + length mid.below) (length mid.own + length mid.below + length type.params) body ≤ 256) label
-          (second_of_three (height_of h) (greatest_height (inside type.results c) (length mid.own + length mid.below) (length mid.own + length mid.below + length type.params) body) (greatest_height c (length h.below) (length mid.own + length mid.below + length type.results) code) both);
+          (second_of_three (height_of h)
+          (greatest_height (inside type.results c) (length mid.own + length mid.below) (length mid.own + length mid.below + length type.params) body)
+          (greatest_height c (length h.below) (length mid.own + length mid.below + length type.results) code) both);
       first = tt;
-      rest = third_of_three (height_of h) (greatest_height (inside type.results c) (length mid.own + length mid.below) (length mid.own + length mid.below + length type.params) body) (greatest_height c (length h.below) (length mid.own + length mid.below + length type.results) code) both;
+      rest =
+          third_of_three (height_of h)
+          (greatest_height (inside type.results c) (length mid.own + length mid.below) (length mid.own + length mid.below + length type.params) body)
+          (greatest_height c (length h.below) (length mid.own + length mid.below + length type.results) code) both;
     }
 
 pub low_loop : (scope : Scope) (f g : ControlFrame) (fs : List ControlFrame) (type : FuncType) (named : BlockType) (h mid : Held) (body code : Code)
@@ -194,14 +203,23 @@ low_loop scope f g fs type named h mid body code loops e b l =
     let inner : max (length h.below) (height_of h - length type.params) ≡ length mid.own + length mid.below = omega (arith, b.takes.height, ap (λ (os : List Operand). length os) b.takes.below) in
     let known : block_height c type.params type (length h.below) (height_of h) body code ≤ 256 =
     subst (λ (t : FuncType). block_height c t.params t (length h.below) (height_of h) body code ≤ 256) shape l in
-    let both : max (height_of h) (max (greatest_height (inside type.params c) (length mid.own + length mid.below) (length mid.own + length mid.below + length type.params) body) (greatest_height c (length h.below) (length mid.own + length mid.below + length type.results) code)) ≤ 256 =
-    subst (λ (n : ℕ). max (height_of h) (max (greatest_height (inside type.params c) n (n + length type.params) body) (greatest_height c (length h.below) (n + length type.results) code)) ≤ 256) inner known in
+    let both : max (height_of h) (max
+    (greatest_height (inside type.params c) (length mid.own + length mid.below) (length mid.own + length mid.below + length type.params) body)
+    (greatest_height c (length h.below) (length mid.own + length mid.below + length type.results) code)) ≤ 256 =
+    subst (λ (n : ℕ). max (height_of h)
+    (max (greatest_height (inside type.params c) n (n + length type.params) body) (greatest_height c (length h.below) (n + length type.results) code))
+    ≤ 256) inner known in
     record {
       body =
           subst (λ (ls : List ValType). greatest_height (inside ls c) (length mid.own + length mid.below) (length mid.own + length mid.below + length type.params) body ≤ 256) label
-          (second_of_three (height_of h) (greatest_height (inside type.params c) (length mid.own + length mid.below) (length mid.own + length mid.below + length type.params) body) (greatest_height c (length h.below) (length mid.own + length mid.below + length type.results) code) both);
+          (second_of_three (height_of h)
+          (greatest_height (inside type.params c) (length mid.own + length mid.below) (length mid.own + length mid.below + length type.params) body)
+          (greatest_height c (length h.below) (length mid.own + length mid.below + length type.results) code) both);
       first = tt;
-      rest = third_of_three (height_of h) (greatest_height (inside type.params c) (length mid.own + length mid.below) (length mid.own + length mid.below + length type.params) body) (greatest_height c (length h.below) (length mid.own + length mid.below + length type.results) code) both;
+      rest =
+          third_of_three (height_of h)
+          (greatest_height (inside type.params c) (length mid.own + length mid.below) (length mid.own + length mid.below + length type.params) body)
+          (greatest_height c (length h.below) (length mid.own + length mid.below + length type.results) code) both;
     }
 
 -- the parts of the height of an `if` whose branches begin over this many operands
@@ -228,9 +246,15 @@ fourth_of_four a b c d l = omega arith
 parts_of_if : (c : Context) (type : FuncType) (base height inner : ℕ) (first second code : Code)
     → if_over c type base height inner first second code ≤ 256 → LowIf c type base inner first second code
 parts_of_if c type base height inner first second code l = record {
-  first = second_of_four height (greatest_height (inside type.results c) inner (inner + length type.params) first) (greatest_height (inside type.results c) inner (inner + length type.params) second) (greatest_height c base (inner + length type.results) code) l;
-  second = third_of_four height (greatest_height (inside type.results c) inner (inner + length type.params) first) (greatest_height (inside type.results c) inner (inner + length type.params) second) (greatest_height c base (inner + length type.results) code) l;
-  rest = fourth_of_four height (greatest_height (inside type.results c) inner (inner + length type.params) first) (greatest_height (inside type.results c) inner (inner + length type.params) second) (greatest_height c base (inner + length type.results) code) l;
+  first =
+      second_of_four height (greatest_height (inside type.results c) inner (inner + length type.params) first)
+      (greatest_height (inside type.results c) inner (inner + length type.params) second) (greatest_height c base (inner + length type.results) code) l;
+  second =
+      third_of_four height (greatest_height (inside type.results c) inner (inner + length type.params) first)
+      (greatest_height (inside type.results c) inner (inner + length type.params) second) (greatest_height c base (inner + length type.results) code) l;
+  rest =
+      fourth_of_four height (greatest_height (inside type.results c) inner (inner + length type.params) first)
+      (greatest_height (inside type.results c) inner (inner + length type.params) second) (greatest_height c base (inner + length type.results) code) l;
 }
 
 pub low_if : (scope : Scope) (f g : ControlFrame) (fs : List ControlFrame) (type : FuncType) (named : BlockType) (h mid : Held) (first second code : Code)

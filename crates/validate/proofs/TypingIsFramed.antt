@@ -5,7 +5,9 @@ use Rattle.syntax.specs.declared.types.ValType.TheVariants.{I32, I64}
 use Rattle.syntax.specs.declared.operator.Conversion.{Conversion}
 use Rattle.syntax.specs.declared.operator.Conversion.TheVariants.{I32WrapI64, I64ExtendI32S, I64ExtendI32U}
 use Rattle.syntax.specs.declared.instruction.Instr.{Instr}
-use Rattle.syntax.specs.declared.instruction.Instr.TheVariants.{Unreachable, Nop, Br, BrIf, BrTable, Return, Call, CallIndirect, Drop, Select, LocalGet, LocalSet, LocalTee, GlobalGet, GlobalSet, Load, LoadNarrow, Store, StoreNarrow, MemorySize, MemoryGrow, Const, Eqz, Unary, Binary, Compare, Convert}
+use Rattle.syntax.specs.declared.instruction.Instr.TheVariants.{Unreachable, Nop, Br, BrIf, BrTable, Return, Call, CallIndirect, Drop, Select, LocalGet}
+use Rattle.syntax.specs.declared.instruction.Instr.TheVariants.{LocalSet, LocalTee, GlobalGet, GlobalSet, Load, LoadNarrow, Store, StoreNarrow, MemorySize}
+use Rattle.syntax.specs.declared.instruction.Instr.TheVariants.{MemoryGrow, Const, Eqz, Unary, Binary, Compare, Convert}
 use Rattle.syntax.specs.Code.{Code, Done, Plain, Block, Loop, If}
 use Rattle.validate.specs.Stack.{pushed}
 use Rattle.validate.specs.Typing.{Context, TakesLeaves, ConversionTurns, InstrTyped, Typed, type_of}
@@ -56,7 +58,8 @@ instruction c (Compare t op) before after more k = turns (t ∷ t ∷ []) (I32 �
 instruction c (Convert op) before after more k = conversion op before after more k
 
 -- what follows a block, whose results lie over what was beneath its parameters
-behind : (c : Context) (rest : Code) (results below after more : List ValType) → Typed c rest (pushed results below ++ more) (after ++ more) → Typed c rest (pushed results (below ++ more)) (after ++ more)
+behind : (c : Context) (rest : Code) (results below after more : List ValType) → Typed c rest (pushed results below ++ more) (after ++ more)
+    → Typed c rest (pushed results (below ++ more)) (after ++ more)
 behind c rest results below after more k = subst (λ (ts : List ValType). Typed c rest ts (after ++ more)) (sym (pushed-over results below more)) k
 
 pub sequence : (c : Context) (code : Code) (before after more : List ValType) → Typed c code before after → Typed c code (before ++ more) (after ++ more)
@@ -76,7 +79,8 @@ sequence c (If type first second rest) before after more k = (
   behind c rest k.0.results k.2 after more (sequence c rest (pushed k.0.results k.2) after more k.6),
 )
 
-pub joins : (c : Context) (first last : Code) (from topmost to beneath : List ValType) → Typed c first from (topmost ++ beneath) → Typed c last topmost to → Typed c (joined first last) from (to ++ beneath)
+pub joins : (c : Context) (first last : Code) (from topmost to beneath : List ValType) → Typed c first from (topmost ++ beneath) → Typed c last topmost to
+    → Typed c (joined first last) from (to ++ beneath)
 joins c Done last from topmost to beneath e k = subst (λ (ts : List ValType). Typed c last ts (to ++ beneath)) (sym e) (sequence c last topmost to beneath k)
 joins c (Plain i rest) last from topmost to beneath h k = (h.0, h.1, joins c rest last h.0 topmost to beneath h.2 k)
 joins c (Block type body rest) last from topmost to beneath h k = (h.0, h.1, h.2, h.3, h.4, joins c rest last (pushed h.0.results h.2) topmost to beneath h.5 k)

@@ -1,5 +1,6 @@
 -- The law of a loop's histories, as it stands of the runs of a world.
-use Rattle.std.proofs.Common.{◌≡◌, ◌↔◌, ℕ, zero, suc, ◌≤◌, ◌==◌, Bool, true, false, cond, inl, inr, List, [], ◌∷◌, ◌++◌, map, length, Option, Some, None, refl, sym, ap, subst, ◌∙◌, arith, append-nil, append_assoc, ◌&&◌}
+use Rattle.std.proofs.Common.{◌≡◌, ◌↔◌, ℕ, zero, suc, ◌≤◌, ◌==◌, Bool, true, false, cond, inl, inr, List, [], ◌∷◌, ◌++◌, map, length, Option, Some, None, refl}
+use Rattle.std.proofs.Common.{sym, ap, subst, ◌∙◌, arith, append-nil, append_assoc, ◌&&◌}
 use Rattle.std.specs.Prelude.{slice_get}
 use Rattle.std.specs.List.{Contains, count_by}
 use Rattle.std.specs.Option.{is_some}
@@ -23,7 +24,8 @@ use Rattle.desk.specs.Desk.{Desk, desk_calls}
 use Rattle.world_log.specs.declared.step.Step.{Step}
 use Rattle.world_log.specs.declared.step.Step.TheVariants as step
 use Rattle.world_log.specs.declared.entry.LogEntry.{LogEntry}
-use Rattle.world.specs.World.{World, Worker, Idle, Taken, Started, Answer, UnlessFailed, PostsOrder, TakesJob, StartsJob, FinishesJob, CollectsFrom, StepsLoop, WorldStep, WorldRun, HasLoop, opening_world, opening_loop, told_of, core}
+use Rattle.world.specs.World.{World, Worker, Idle, Taken, Started, Answer, UnlessFailed, PostsOrder, TakesJob, StartsJob, FinishesJob, CollectsFrom, StepsLoop}
+use Rattle.world.specs.World.{WorldStep, WorldRun, HasLoop, opening_world, opening_loop, told_of, core}
 use Rattle.world.specs.Guests.{step_calls, guest_calls}
 use Rattle.world.specs.Histories.{AreTold, HasHistory}
 use Rattle.world.specs.Laws.{is_after, WasCancelled, IsOwn}
@@ -34,9 +36,13 @@ use Rattle.world.proofs.LogsTellHistories.{history_join, step_callback, tells_ca
 pub opening_is : (g : Setting) → IsOpening desk_calls g (opening_loop g).loop
 opening_is g = record { state = refl; store = refl; shared = refl }
 
-both_true : (a b : Bool) → (a && b) ≡ true → (a ≡ true) × (b ≡ true)
+pub both_true : (a b : Bool) → (a && b) ≡ true → (a ≡ true) × (b ≡ true)
 both_true true b h = (refl, h)
 both_true false b h = absurd (cc)
+
+pub some_of : {X : Type 0} (o : Option X) → is_some o ≡ true → (x : X) × (o ≡ Some x)
+some_of None h = absurd (cc)
+some_of (Some x) h = (x, refl)
 
 -- only a step of a loop tells a callback
 module _ (j r : ℕ) where
@@ -78,7 +84,10 @@ module _ (j r : ℕ) where
   after_step w w' (step.Loop n) entry h is =
       subst (λ k. StepsLoop w k entry w') (after_told n h.did h.new.state.emits (ap (is_after j r) (sym h.told) ∙ is)) h
   after_step w w' (step.Post n) entry h is =
-      absurd (let none = unless_silent w w' n h.1 entry _ (λ k. either (length w.jobs == MAX_JOBS) _ _ (Silent entry) (λ m. ap (is_after j r) m.0) (order_silent w w' n h.0 h.1 (next_order_of h.1.state) entry) k) h.3 in cc)
+      absurd (let none =
+      unless_silent w w' n h.1 entry _ (λ k. either (length w.jobs == MAX_JOBS) _ _ (Silent entry) (λ m. ap (is_after j r) m.0)
+      (order_silent w w' n h.0 h.1 (next_order_of h.1.state) entry) k) h.3 in
+      cc)
   after_step w w' (step.Take n) entry h is = absurd (let none = take_silent w w' n h.0 w.jobs entry h.2 in cc)
   after_step w w' (step.Start n) entry h is = absurd (let none = start_silent w w' n h.0 entry h.2 in cc)
   after_step w w' (step.Finish n) entry h is = absurd (let none = finish_silent w w' n h.0 entry h.2 in cc)
@@ -141,7 +150,8 @@ module _ (settings : List Setting) (j : ℕ) where
         (it.begins.0, record { events = it.events; history = subst (λ l. History desk_calls g l it.events now) it.begins.1 it.history; told = it.told; calls = it.calls })
 
     -- what was cancelled, in the log and in the history
-    cancelled_same : (Begins : Setting → Loop Desk → Type 0) (there : Bool) (r : ℕ) (lines : List LogEntry) (made : List GuestCall) (g : Setting) (l : Loop Desk) (it : Told Begins there j lines made g l)
+    cancelled_same : (Begins : Setting → Loop Desk → Type 0) (there : Bool) (r : ℕ) (lines : List LogEntry) (made : List GuestCall) (g : Setting)
+        (l : Loop Desk) (it : Told Begins there j lines made g l)
         → LoopCancelled r it.events ↔ WasCancelled j r lines made
     cancelled_same Begins there r lines made g l it = (to, back) where
       to : LoopCancelled r it.events → WasCancelled j r lines made
@@ -196,11 +206,8 @@ module _ (settings : List Setting) (j : ℕ) where
         replies = keeps_after.replies;
       }
 
-      some_of : {X : Type 0} (o : Option X) → is_some o ≡ true → (x : X) × (o ≡ Some x)
-      some_of None h = absurd (cc)
-      some_of (Some x) h = (x, refl)
-
-      late : LoopLast desk_calls → (more : List LogEntry) (events : List Event) (g : Setting) (start now : Loop Desk) → From g start → History desk_calls g start events now → AreTold j (entry ∷ more) events
+      late : LoopLast desk_calls → (more : List LogEntry) (events : List Event) (g : Setting) (start now : Loop Desk) → From g start
+          → History desk_calls g start events now → AreTold j (entry ∷ more) events
           → LoopCancelled r events → ⊥
       late law more [] g start now begins history told cancelled = absurd told
       late law more (e ∷ events) g start now begins history told cancelled =
@@ -227,7 +234,8 @@ module _ (settings : List Setting) (j : ℕ) where
       by : (b : Bool) → is_after j r entry ≡ b → count_by (is_after j r) (log ++ entry ∷ []) ≤ 1
       by true is =
           let here = after_step j r w w' s entry h is in
-          let now : slice_get w'.loops j ≡ Some (core here.setting here.new) = ap (λ x. slice_get x.loops j) here.after ∙ set_here w.loops j (core here.setting here.new) (core here.setting here.old) here.at in
+          let now : slice_get w'.loops j ≡ Some (core here.setting here.new) =
+          ap (λ x. slice_get x.loops j) here.after ∙ set_here w.loops j (core here.setting here.new) (core here.setting here.old) here.at in
           let it = (step_next Opens there j w log made keeps s entry w' h).loops (core here.setting here.new) now in
           subst (λ n. n ≤ 1) (sym (it.callbacks r))
           (law here.setting it.start here.new it.events (subst (IsOpening desk_calls here.setting) (sym it.begins.1) (opening_is here.setting)) it.history r)
@@ -240,7 +248,8 @@ module _ (settings : List Setting) (j : ℕ) where
     once_run there (s ∷ steps) [] w w' log made keeps few run = absurd run
     once_run there (s ∷ steps) (e ∷ told) w w' log made keeps few run =
         subst (λ xs. count_by (is_after j r) xs ≤ 1) (append_assoc log (e ∷ []) told)
-        (once_run there steps told run.0 w' (log ++ e ∷ []) (made ++ step_calls j w s e run.0 run.1) (step_next Opens there j w log made keeps s e run.0 run.1) (once_step there w log made keeps s e run.0 run.1 few) run.2)
+        (once_run there steps told run.0 w' (log ++ e ∷ []) (made ++ step_calls j w s e run.0 run.1)
+        (step_next Opens there j w log made keeps s e run.0 run.1) (once_step there w log made keeps s e run.0 run.1 few) run.2)
 
     pub once_after : (workers : ℕ) (steps : List Step) (log : List LogEntry) (w : World) → WorldRun (opening_world settings workers) steps log w → count_by (is_after j r) log ≤ 1
     once_after workers steps log w run = once_run (IsThere workers) steps log (opening_world settings workers) w [] [] (opening_keeps workers) (omega arith) run

@@ -1,5 +1,6 @@
 -- A job is never begun of whose request a cancel was answered 0, and never cancelled so once it was begun.
-use Rattle.std.proofs.Common.{◌≡◌, ◌≢◌, ℕ, zero, suc, ◌+◌, ◌<◌, ◌≤◌, ◌==◌, Bool, true, false, cond, not, ◌&&◌, inl, inr, ◌⊎◌, List, [], ◌∷◌, ◌++◌, map, length, replicate, find, Option, is_some, Some, None, refl, sym, ap, subst, ◌∙◌, arith, append_assoc, append-nil, MatchBool}
+use Rattle.std.proofs.Common.{◌≡◌, ◌≢◌, ℕ, zero, suc, ◌+◌, ◌<◌, ◌≤◌, ◌==◌, Bool, true, false, cond, not, ◌&&◌, inl, inr, ◌⊎◌, List, [], ◌∷◌, ◌++◌, map, length}
+use Rattle.std.proofs.Common.{replicate, find, Option, is_some, Some, None, refl, sym, ap, subst, ◌∙◌, arith, append_assoc, append-nil, MatchBool}
 use Rattle.std.specs.Prelude.{pos, slice_get, slice_set}
 use Rattle.std.specs.Int.{w32, cast_signed}
 use Rattle.std.specs.List.{count_by, filter}
@@ -37,7 +38,9 @@ use Rattle.world_log.specs.declared.outcome.FinishOutcome.TheVariants as finish
 use Rattle.world_log.specs.declared.outcome.CollectOutcome.TheVariants as collect
 use Rattle.world.specs.Guests.{step_calls, guest_calls}
 use Rattle.world.specs.Laws.{is_of_job, is_begun, is_finished, WasCancelled, AreInPlace}
-use Rattle.world.specs.World.{World, Worker, Idle, Taken, Started, Answer, Only, UnlessFailed, PostsOrder, TakesJob, StartsJob, FinishesJob, CollectsFrom, StepsLoop, WorldStep, WorldRun, HasLoop, opening_world, opening_loop, with_loop, with_worker, job_of, told_of, core}
+use Rattle.world.specs.World.{World, Worker, Idle, Taken, Started, Answer, Only, UnlessFailed, PostsOrder, TakesJob, StartsJob, FinishesJob, CollectsFrom}
+use Rattle.world.specs.World.{StepsLoop, WorldStep, WorldRun, HasLoop, opening_world, opening_loop, with_loop, with_worker, job_of, told_of, core}
+use Rattle.world.proofs.AfterOnce.{both_true, some_of}
 use Rattle.world.proofs.EndsAreLogged.{set_at}
 use Rattle.world.proofs.OneWay.{IsCounted, own_orders, step_counted, opening_counted, one_way_after}
 use Rattle.world.proofs.Runs.{set_there}
@@ -265,7 +268,8 @@ module _ (r : ℕ) where
       known (inr w) s is = times_grow (s, r) x d.view.cancelled (h.at_desk w s is)
 
     -- a request that is open is handed out
-    apart_handed : (rs : Requests) (d : Desk) (q : Request) → lowest_open rs ≡ Some q → q.order.request ≡ r → IsApart out won begun rs d → IsApart (Some q.order.slot) won begun (with_stage rs q.order.request HandedOut) d
+    apart_handed : (rs : Requests) (d : Desk) (q : Request) → lowest_open rs ≡ Some q → q.order.request ≡ r → IsApart out won begun rs d
+        → IsApart (Some q.order.slot) won begun (with_stage rs q.order.request HandedOut) d
     apart_handed rs d q lowest same h = record {
       up_to = up_to_staged rs.last q.order.request HandedOut rs.outstanding h.up_to;
       either_one = h.either_one;
@@ -316,10 +320,6 @@ module _ (r : ℕ) where
             (new_times (slot, r) (slot, n) d.started (subst (λ k. is_request (slot, r) (slot, k) ≡ true) (sym same) (same_is slot r slot refl))),
       )
       by (inr b) = let it = h.was_begun b in (it.0, it.1, subst (λ xs. 0 < times (it.0, r) xs) (sym is_started) (times_grow (it.0, r) (slot, n) d.started it.2))
-
-both_true : (a b : Bool) → (a && b) ≡ true → (a ≡ true) × (b ≡ true)
-both_true true b h = (refl, h)
-both_true false b h = absurd (cc)
 
 abbrev is_cancel_line : LogEntry → Bool
 is_cancel_line (line.Cancel n request answer) = true
@@ -455,7 +455,8 @@ module _ (l r : ℕ) where
     set_loops k g x m out more at e here apart p h = elim (cases_eq k l) [
       | inl same ↦
           let at_l : slice_get w.loops l ≡ Some (core g x) = ap (slice_get w.loops) (sym same) ∙ at in
-          let now : slice_get w'.loops l ≡ Some (core g m) = ap (λ ls. slice_get ls l) e ∙ (ap (λ i. slice_get (slice_set w.loops i (core g m)) l) same ∙ set_here w.loops l (core g m) (core g x) at_l) in
+          let now : slice_get w'.loops l ≡ Some (core g m) =
+          ap (λ ls. slice_get ls l) e ∙ (ap (λ i. slice_get (slice_set w.loops i (core g m)) l) same ∙ set_here w.loops l (core g m) (core g x) at_l) in
           let is : core g m ≡ p = (let it = sym now ∙ h in cc) in
           subst (λ (y : Core Desk). Here out more y.loop) is (here same (s.loops (core g x) at_l))
       | inr other ↦ apart other p (s.loops p (sym (ap (λ ls. slice_get ls l) e ∙ set_apart w.loops k l (core g m) other) ∙ h))
@@ -592,7 +593,8 @@ module _ (l r : ℕ) where
         by true it = this_order it
         by false it = other_order it
 
-    posts_next : (n : ℕ) (g : Setting) (x : Loop Desk) (out : Option WorkOrder × State) → slice_get w.loops n ≡ Some (core g x) → next_order_of x.state ≡ out → ((o : WorkOrder) → out.0 ≡ Some o → o.loop_no ≡ n)
+    posts_next : (n : ℕ) (g : Setting) (x : Loop Desk) (out : Option WorkOrder × State) → slice_get w.loops n ≡ Some (core g x)
+        → next_order_of x.state ≡ out → ((o : WorkOrder) → out.0 ≡ Some o → o.loop_no ≡ n)
         → PostsOrder w n g x out entry w' → Next []
     posts_next n g x (None, st) at is own h = only (line.Post n post.Nothing) refl refl h
     posts_next n g x (Some o, st) at is own h = order_next n g x o st at is (own o refl) h
@@ -732,7 +734,8 @@ module _ (l r : ℕ) where
         (moves_in desk_calls h.1.state.status (h.1.state, h.1.shared) request h.3 (h.2.state, h.2.shared) k.0) (ap (λ (x : World). x.jobs) k.3) (ap (λ (x : World). x.workers) k.3)) h.5
     step_stands (step.Clock n ms) own h =
         unless_next n h.1 _
-        (λ k. moved n h.0 h.1 (in_state h.1 (after_clock h.1.state ms)) h.2 (quiet _ k.0 refl refl) (ap (λ (x : World). x.loops) k.1) (ap (λ (x : World). x.jobs) k.1) (ap (λ (x : World). x.workers) k.1) (λ was. was)) h.3
+        (λ k. moved n h.0 h.1 (in_state h.1 (after_clock h.1.state ms)) h.2 (quiet _ k.0 refl refl) (ap (λ (x : World). x.loops) k.1)
+        (ap (λ (x : World). x.jobs) k.1) (ap (λ (x : World). x.workers) k.1) (λ was. was)) h.3
 
   -- as a world opens
   opening_workers : (k n : ℕ) (x : Worker) → slice_get (replicate k Idle) n ≡ Some x → HoldsOut None x
@@ -774,10 +777,6 @@ module _ (l r : ℕ) where
     there = λ b. absurd (no_begun b);
   }
 
-  some_of : {X : Type 0} (o : Option X) → is_some o ≡ true → (x : X) × (o ≡ Some x)
-  some_of None h = absurd (cc)
-  some_of (Some x) h = (x, refl)
-
   stands_apart : (w : World) (log : List LogEntry) (made : List GuestCall) → Stands w log made → Won log made → Begun log → ⊥
   stands_apart w log made s won begun =
       let at = some_of (slice_get w.loops l) (s.there begun) in
@@ -801,7 +800,8 @@ module _ (settings : List Setting) (placed : AreInPlace settings) (workers : ℕ
   none_of zero f never few = (refl, omega (arith, few))
   none_of (suc b) f never few = absurd (never (omega arith))
 
-  pub apart_after : (steps : List Step) (log : List LogEntry) (w : World) (run : WorldRun (opening_world settings workers) steps log w) → WasCancelled l r log (guest_calls l (opening_world settings workers) steps log w run)
+  pub apart_after : (steps : List Step) (log : List LogEntry) (w : World) (run : WorldRun (opening_world settings workers) steps log w)
+      → WasCancelled l r log (guest_calls l (opening_world settings workers) steps log w run)
       → (count_by (is_begun l r) log ≡ 0) × (count_by (is_finished l r) log ≡ 0)
   apart_after steps log w run won =
       let s = run_stands steps log (opening_world settings workers) w [] [] (opening_counted settings placed workers l r once own) (opening_stands l r settings workers) run in

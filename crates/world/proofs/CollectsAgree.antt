@@ -26,14 +26,16 @@ pub emptied : {X : Type 0} (xs : List X) → length xs ≡ 0 → xs ≡ []
 emptied [] e = refl
 emptied (x ∷ xs) e = absurd (omega (arith, e))
 
-module _ (w : World) (ls : List (Core Desk)) (js : List WorkOrder) (hs : List Worker) (rs : List (List Answer)) (is : world_of ls js hs rs ≡ w) (n : ℕ) (p : Core Desk) (at : slice_get ls n ≡ Some p) where
+module _ (w : World) (ls : List (Core Desk)) (js : List WorkOrder) (hs : List Worker) (rs : List (List Answer)) (is : world_of ls js hs rs ≡ w) (n : ℕ)
+    (p : Core Desk) (at : slice_get ls n ≡ Some p) where
   there : (replies : List Answer) → slice_get rs n ≡ Some replies → slice_get w.replies n ≡ Some replies
   there replies waits = ap (λ x. slice_get x.replies n) (sym is) ∙ waits
 
   pub collect_failed : n < length rs → is_failed p.loop.state.status ≡ true → Collects w n (line.Failed n) (world_of (slice_set ls n p) js hs rs)
   collect_failed within f = (p.setting, p.loop, get_or rs n [], here w ls js hs rs is n p at, there _ (slice_get-get_or rs n [] within), failing w ls js hs rs is n p at _ f)
 
-  pub collect_nothing : (rs' : List (List Answer)) → slice_get rs n ≡ Some [] → is_failed p.loop.state.status ≡ false → rs' ≡ slice_set rs n [] → Collects w n (line.Collect n collect.Nothing) (world_of (slice_set ls n p) js hs rs')
+  pub collect_nothing : (rs' : List (List Answer)) → slice_get rs n ≡ Some [] → is_failed p.loop.state.status ≡ false → rs' ≡ slice_set rs n []
+      → Collects w n (line.Collect n collect.Nothing) (world_of (slice_set ls n p) js hs rs')
   collect_nothing rs' waits f after = (
     p.setting,
     p.loop,
@@ -44,15 +46,22 @@ module _ (w : World) (ls : List (Core Desk)) (js : List WorkOrder) (hs : List Wo
         (refl, ap (λ x. world_of (slice_set ls n p) js hs x) (after ∙ set_same rs n [] waits) ∙ untouched w ls js hs rs is n p at),
   )
 
-  module _ (reply : Reply) (rest : List Answer) (rs' : List (List Answer)) (q : Core Desk) (waits : slice_get rs n ≡ Some (answer_of reply ∷ rest)) (f : is_failed p.loop.state.status ≡ false) (e : q.setting ≡ p.setting) (after : rs' ≡ slice_set rs n rest) where
+  module _ (reply : Reply) (rest : List Answer) (rs' : List (List Answer)) (q : Core Desk) (waits : slice_get rs n ≡ Some (answer_of reply ∷ rest))
+      (f : is_failed p.loop.state.status ≡ false) (e : q.setting ≡ p.setting) (after : rs' ≡ slice_set rs n rest) where
     left : (l : Loop Desk) → q.loop ≡ l → world_of (slice_set ls n q) js hs rs' ≡ with_replies (with_loop w n p.setting l) n rest
     left l core = ap (λ x. world_of (slice_set ls n q) js hs x) after ∙ ap (λ x. with_replies x n rest) (moved w ls js hs rs is n p at q e ∙ ap (with_loop w n p.setting) core)
 
     pub collect_taken : (fate : Accepted) (outcome : CollectOutcome) → Accepts reply p.loop fate q.loop → fate ≡ accept.Accepted → outcome ≡ collect.Request reply.order.request
         → Collects w n (line.Collect n outcome) (world_of (slice_set ls n q) js hs rs')
     collect_taken fate outcome h is_taken told =
-        let taken : Accepts reply p.loop accept.Accepted q.loop = subst (λ a. Accepts reply p.loop a q.loop) is_taken h in
-        (p.setting, p.loop, answer_of reply ∷ rest, here w ls js hs rs is n p at, there (answer_of reply ∷ rest) waits, going_on w ls js hs rs is n p at _ _ _ f (true, (taken.0, ap (line.Collect n) told, left _ taken.1)))
+        let taken : Accepts reply p.loop accept.Accepted q.loop = subst (λ a. Accepts reply p.loop a q.loop) is_taken h in (
+          p.setting,
+          p.loop,
+          answer_of reply ∷ rest,
+          here w ls js hs rs is n p at,
+          there (answer_of reply ∷ rest) waits,
+          going_on w ls js hs rs is n p at _ _ _ f (true, (taken.0, ap (line.Collect n) told, left _ taken.1)),
+        )
 
     pub collect_stranger : (fate : Accepted) (other : Reply) (outcome : CollectOutcome) → Accepts reply p.loop fate q.loop → fate ≡ accept.Stranger other → outcome ≡ collect.Stranger
         → Collects w n (line.Collect n outcome) (world_of (slice_set ls n q) js hs rs')

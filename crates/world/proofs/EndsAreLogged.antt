@@ -1,5 +1,6 @@
 -- Whatever a loop has as the end of a job stands in the log, in the line that tells that the job was finished.
-use Rattle.std.proofs.Common.{◌≡◌, ℕ, zero, suc, ◌==◌, Bool, true, false, cond, not, inl, inr, List, [], ◌∷◌, ◌++◌, map, length, find, Option, Some, None, refl, sym, ap, subst, ◌∙◌, append_assoc, append-nil}
+use Rattle.std.proofs.Common.{◌≡◌, ℕ, zero, suc, ◌==◌, Bool, true, false, cond, not, inl, inr, List, [], ◌∷◌, ◌++◌, map, length, find, Option, Some, None, refl}
+use Rattle.std.proofs.Common.{sym, ap, subst, ◌∙◌, append_assoc, append-nil}
 use Rattle.std.specs.Prelude.{slice_get, slice_set}
 use Rattle.std.specs.List.{Contains, filter}
 use Rattle.std.proofs.lemmas.Bool.{eqb-true}
@@ -27,7 +28,8 @@ use Rattle.world_log.specs.declared.outcome.StartOutcome.TheVariants as start
 use Rattle.world_log.specs.declared.outcome.FinishOutcome.TheVariants as finish
 use Rattle.world_log.specs.declared.outcome.CollectOutcome.TheVariants as collect
 use Rattle.world.specs.Laws.{WasFinished}
-use Rattle.world.specs.World.{World, Worker, Idle, Taken, Started, Answer, Only, UnlessFailed, PostsOrder, TakesJob, StartsJob, FinishesJob, CollectsFrom, StepsLoop, WorldStep, WorldRun, opening_world, opening_loop, core}
+use Rattle.world.specs.World.{World, Worker, Idle, Taken, Started, Answer, Only, UnlessFailed, PostsOrder, TakesJob, StartsJob, FinishesJob, CollectsFrom}
+use Rattle.world.specs.World.{StepsLoop, WorldStep, WorldRun, opening_world, opening_loop, core}
 
 later : (log : List LogEntry) (entry : LogEntry) (l request : ℕ) (end : WorkEnd) → WasFinished l request end log → WasFinished l request end (log ++ entry ∷ [])
 later log entry l request end h = (h.0, h.1, h.2, Contains-append_left log (entry ∷ []) _ h.3)
@@ -277,7 +279,8 @@ no_end Spent e = (let it = ap (λ (t : Completion). t.kind) e in cc)
 no_end NoMemory e = (let it = ap (λ (t : Completion). t.kind) e in cc)
 
 -- what a request is given that was not cancelled
-pub given_end : (log : List LogEntry) (l n : ℕ) (rs : Requests) (q : Request) (t : Completion) (won : Type 0) → AreAnswered log l rs.outstanding → request_of rs q.order.request ≡ Some q → q.order.request ≡ n
+pub given_end : (log : List LogEntry) (l n : ℕ) (rs : Requests) (q : Request) (t : Completion) (won : Type 0) → AreAnswered log l rs.outstanding
+    → request_of rs q.order.request ≡ Some q → q.order.request ≡ n
     → completion_of q.stage ≡ Some t → AreDue q.order t won → (won → ⊥) → (end : WorkEnd) × WasFinished l n end log × (t ≡ end_completion end)
 given_end log l n rs q t won all at numbered given due never = by q.stage refl given where
   by : (s : Stage) → q.stage ≡ s → completion_of s ≡ Some t → (end : WorkEnd) × WasFinished l n end log × (t ≡ end_completion end)

@@ -21,7 +21,8 @@ use Rattle.world.specs.World.{told_of}
 use Rattle.world.specs.Histories.{is_of_owner, Tells, AreTold}
 use Rattle.world.specs.Laws.{is_after}
 
-pub history_push : (g : Setting) (events : List Event) (e : Event) (start old new : Loop Desk) → History desk_calls g start events old → EventStep desk_calls g e old new → History desk_calls g start (events ++ e ∷ []) new
+pub history_push : (g : Setting) (events : List Event) (e : Event) (start old new : Loop Desk) → History desk_calls g start events old
+    → EventStep desk_calls g e old new → History desk_calls g start (events ++ e ∷ []) new
 history_push g [] e start old new h step = (new, subst (λ l. EventStep desk_calls g e l new) h step, refl)
 history_push g (x ∷ events) e start old new h step = (h.0, h.1, history_push g events e h.0 old new h.2 step)
 
@@ -108,7 +109,12 @@ module _ (j : ℕ) where
   tells_cancel g r entry (EndOffered o end true) old new step h = neither r entry _ (EndOffered o end true) h refl refl
   tells_cancel g r entry (EndOffered o end false) old new step h = neither r entry _ (EndOffered o end false) h refl refl
   tells_cancel g r entry (CancelAnswered n answer) old new step h = (
-    λ is. (let it = sym h ∙ is in let zeroed = zero_both old.state.requests new.state.requests n answer (fate_in desk_calls old.state.status (old.state, old.shared) n answer (new.state, new.shared) step.0) (cc) in let same : n ≡ r = cc in ap (λ k. CancelAnswered k answer) same ∙ ap (CancelAnswered r) zeroed),
+    λ is. (let it = sym h ∙ is in
+        let zeroed =
+        zero_both old.state.requests new.state.requests n answer
+        (fate_in desk_calls old.state.status (old.state, old.shared) n answer (new.state, new.shared) step.0) (cc) in
+        let same : n ≡ r = cc in
+        ap (λ k. CancelAnswered k answer) same ∙ ap (CancelAnswered r) zeroed),
     λ is. (let same : n ≡ r = cc in let zeroed : answer ≡ 0 = cc in h ∙ ap (λ k. line.Cancel j k (cast_signed w32 answer)) same ∙ ap (λ k. line.Cancel j r (cast_signed w32 k)) zeroed),
   )
   tells_cancel g r entry (ClockRaised ms) old new step h = neither r entry _ (ClockRaised ms) h.1 refl refl
@@ -126,7 +132,8 @@ module _ (j : ℕ) where
       | inr is ↦ subst (Contains (ys ++ y ∷ [])) (one is) (Contains-push ys y)
     ]
 
-  pub count_push : (r : ℕ) (log : List LogEntry) (events : List Event) (entry : LogEntry) (e : Event) → count_by (is_after j r) log ≡ count_by (is_after_event r) events → is_after j r entry ≡ is_after_event r e
+  pub count_push : (r : ℕ) (log : List LogEntry) (events : List Event) (entry : LogEntry) (e : Event)
+      → count_by (is_after j r) log ≡ count_by (is_after_event r) events → is_after j r entry ≡ is_after_event r e
       → count_by (is_after j r) (log ++ entry ∷ []) ≡ count_by (is_after_event r) (events ++ e ∷ [])
   count_push r log events entry e all one =
       sum_by_push (λ x. cond (is_after j r x) 1 0) log entry

@@ -1,5 +1,6 @@
 -- One job's way through the log of a world.
-use Rattle.std.proofs.Common.{◌≡◌, ℕ, zero, suc, ◌+◌, ◌≤◌, ◌==◌, Bool, true, false, cond, ◌&&◌, inl, inr, ◌⊎◌, List, [], ◌∷◌, ◌++◌, length, map, replicate, Option, is_some, Some, None, refl, sym, ap, subst, ◌∙◌, arith, append_assoc, append-nil}
+use Rattle.std.proofs.Common.{◌≡◌, ℕ, zero, suc, ◌+◌, ◌≤◌, ◌==◌, Bool, true, false, cond, ◌&&◌, inl, inr, ◌⊎◌, List, [], ◌∷◌, ◌++◌, length, map, replicate}
+use Rattle.std.proofs.Common.{Option, is_some, Some, None, refl, sym, ap, subst, ◌∙◌, arith, append_assoc, append-nil}
 use Rattle.std.specs.Prelude.{slice_get, slice_set}
 use Rattle.std.specs.List.{count_by}
 use Rattle.std.proofs.lemmas.Bool.{cases_eq, eq-eqb, ne_eqb}
@@ -30,8 +31,9 @@ use Rattle.world_log.specs.declared.outcome.CollectOutcome.TheVariants as collec
 use Rattle.world.specs.Guests.{step_calls}
 use Rattle.world.specs.Histories.{Tells, AreTold, is_of_owner}
 use Rattle.world.specs.Laws.{is_of_job, is_posted, is_taken, is_begun, is_dropped, is_finished, is_collected, GoesOnce, AreInPlace}
-use Rattle.world.specs.World.{World, Worker, Idle, Taken, Started, Answer, Only, UnlessFailed, PostsOrder, TakesJob, StartsJob, FinishesJob, CollectsFrom, StepsLoop, WorldStep, WorldRun, HasLoop, opening_world, job_of, told_of, core}
-use Rattle.world.proofs.AfterOnce.{Opens, IsThere, opening_keeps, opening_is}
+use Rattle.world.specs.World.{World, Worker, Idle, Taken, Started, Answer, Only, UnlessFailed, PostsOrder, TakesJob, StartsJob, FinishesJob, CollectsFrom}
+use Rattle.world.specs.World.{StepsLoop, WorldStep, WorldRun, HasLoop, opening_world, job_of, told_of, core}
+use Rattle.world.proofs.AfterOnce.{Opens, IsThere, opening_keeps, opening_is, some_of}
 use Rattle.world.proofs.Runs.{Keeps, step_next}
 
 -- one place of a list is set
@@ -318,7 +320,8 @@ module _ (l r : ℕ) where
   step_goes w w' (step.Loop n) entry own h = loop_goes w w' n entry h
   step_goes w w' (step.Post n) entry own h =
       unless_goes w w' n h.1 entry _
-      (λ k. either (length w.jobs == MAX_JOBS) _ _ (Goes w w' entry) (only w w' entry (line.Post n post.Full) (record { posted = refl; taken = refl; begun = refl; dropped = refl; finished = refl; collected = refl }))
+      (λ k. either (length w.jobs == MAX_JOBS) _ _ (Goes w w' entry)
+      (only w w' entry (line.Post n post.Full) (record { posted = refl; taken = refl; begun = refl; dropped = refl; finished = refl; collected = refl }))
       (order_goes w w' n h.0 h.1 (next_order_of h.1.state) entry (ap is_some h.2) (λ o e. own n h.0 h.1 o h.2 e)) k)
       h.3
   step_goes w w' (step.Take n) entry own h = take_goes w w' n h.0 w.jobs entry refl h.1 h.2
@@ -326,14 +329,17 @@ module _ (l r : ℕ) where
   step_goes w w' (step.Finish n) entry own h = finish_goes w w' n h.0 entry h.1 h.2
   step_goes w w' (step.Collect n) entry own h = unless_goes w w' n h.1 entry _ (collect_goes w w' n h.0 h.1 h.2 entry h.4) h.5
   step_goes w w' (step.Send n a) entry own h =
-      as_told w w' entry _ h.7 (stays w w' _ (record { posted = refl; taken = refl; begun = refl; dropped = refl; finished = refl; collected = refl }) (ap (λ (x : World). x.jobs) h.8) (ap (λ (x : World). x.workers) h.8) (ap (λ (x : World). x.replies) h.8))
+      as_told w w' entry _ h.7 (stays w w' _ (record { posted = refl; taken = refl; begun = refl; dropped = refl; finished = refl; collected = refl })
+      (ap (λ (x : World). x.jobs) h.8) (ap (λ (x : World). x.workers) h.8) (ap (λ (x : World). x.replies) h.8))
   step_goes w w' (step.Cancel n request) entry own h =
       unless_goes w w' n h.1 entry _
-      (λ k. as_told w w' entry _ k.2 (stays w w' _ (record { posted = refl; taken = refl; begun = refl; dropped = refl; finished = refl; collected = refl }) (ap (λ (x : World). x.jobs) k.3) (ap (λ (x : World). x.workers) k.3) (ap (λ (x : World). x.replies) k.3)))
+      (λ k. as_told w w' entry _ k.2 (stays w w' _ (record { posted = refl; taken = refl; begun = refl; dropped = refl; finished = refl; collected = refl })
+      (ap (λ (x : World). x.jobs) k.3) (ap (λ (x : World). x.workers) k.3) (ap (λ (x : World). x.replies) k.3)))
       h.5
   step_goes w w' (step.Clock n ms) entry own h =
       unless_goes w w' n h.1 entry _
-      (λ k. as_told w w' entry _ k.0 (stays w w' _ (record { posted = refl; taken = refl; begun = refl; dropped = refl; finished = refl; collected = refl }) (ap (λ (x : World). x.jobs) k.1) (ap (λ (x : World). x.workers) k.1) (ap (λ (x : World). x.replies) k.1)))
+      (λ k. as_told w w' entry _ k.0 (stays w w' _ (record { posted = refl; taken = refl; begun = refl; dropped = refl; finished = refl; collected = refl })
+      (ap (λ (x : World). x.jobs) k.1) (ap (λ (x : World). x.workers) k.1) (ap (λ (x : World). x.replies) k.1)))
       h.3
 
 -- what a log and the history that it tells hand out
@@ -369,10 +375,6 @@ module _ (l r : ℕ) where
       let lines = count_cons (is_posted l r) entry log in
       let told = count_cons (hands_out r) e events in
       omega (arith, one, rest, lines, told)
-
-some_of : {X : Type 0} (o : Option X) → is_some o ≡ true → (x : X) × (o ≡ Some x)
-some_of None h = absurd (cc)
-some_of (Some x) h = (x, refl)
 
 module _ (settings : List Setting) (placed : AreInPlace settings) (workers : ℕ) (l r : ℕ) (once : LoopHandedOnce desk_calls) (own : LoopHandedOwn desk_calls) where
   -- each loop has a history from its opening

@@ -1,5 +1,6 @@
 -- What the runs of a world are to one of its loops.
-use Rattle.std.proofs.Common.{◌≡◌, ◌≢◌, ◌↔◌, ℕ, zero, suc, ◌==◌, Bool, true, false, cond, inl, inr, ◌⊎◌, List, [], ◌∷◌, ◌++◌, length, Option, Some, None, refl, sym, ap, subst, ◌∙◌, append_assoc, append-nil}
+use Rattle.std.proofs.Common.{◌≡◌, ◌≢◌, ◌↔◌, ℕ, zero, suc, ◌==◌, Bool, true, false, cond, inl, inr, ◌⊎◌, List, [], ◌∷◌, ◌++◌, length, Option, Some, None, refl}
+use Rattle.std.proofs.Common.{sym, ap, subst, ◌∙◌, append_assoc, append-nil}
 use Rattle.std.specs.Prelude.{pos, slice_get, slice_set}
 use Rattle.std.specs.Int.{w32, cast_signed}
 use Rattle.std.specs.List.{Contains, count_by}
@@ -30,7 +31,8 @@ use Rattle.world_log.specs.declared.entry.LogEntry.{LogEntry}
 use Rattle.world_log.specs.declared.entry.LogEntry.TheVariants as line
 use Rattle.world_log.specs.declared.outcome.PostOutcome.TheVariants as post
 use Rattle.world_log.specs.declared.outcome.CollectOutcome.TheVariants as collect
-use Rattle.world.specs.World.{World, Worker, Idle, Taken, Started, Answer, Only, UnlessFailed, StepsLoop, Posts, PostsOrder, TakesJob, StartsJob, FinishesJob, CollectsFrom, WorldStep, WorldRun, told_of, core}
+use Rattle.world.specs.World.{World, Worker, Idle, Taken, Started, Answer, Only, UnlessFailed, StepsLoop, Posts, PostsOrder, TakesJob, StartsJob, FinishesJob}
+use Rattle.world.specs.World.{CollectsFrom, WorldStep, WorldRun, told_of, core}
 use Rattle.world.specs.Guests.{step_calls, guest_calls}
 use Rattle.world.specs.Histories.{is_of_owner, Tells, AreTold}
 use Rattle.world.specs.Laws.{is_after}
@@ -65,16 +67,14 @@ ends_more [] a h all = (h, tt)
 ends_more (x ∷ xs) a h all = (all.0, ends_more xs a h all.1)
 
 -- where no order is handed out nothing changes
+by_lowest : (s : State) (o : Option Request) → (handing s.requests o).0 ≡ None → s ≡ record s { requests = (handing s.requests o).1 }
+by_lowest s None h = refl
+by_lowest s (Some q) h = absurd (cc)
+
 none_handed : (status : Status) (s : State) → (next_in status s).0 ≡ None → s ≡ (next_in status s).1
 none_handed Failed s h = refl
-none_handed Running s h = by (lowest_open s.requests) h where
-  by : (o : Option Request) → (handing s.requests o).0 ≡ None → s ≡ record s { requests = (handing s.requests o).1 }
-  by None h = refl
-  by (Some q) h = absurd (cc)
-none_handed Over s h = by (lowest_open s.requests) h where
-  by : (o : Option Request) → (handing s.requests o).0 ≡ None → s ≡ record s { requests = (handing s.requests o).1 }
-  by None h = refl
-  by (Some q) h = absurd (cc)
+none_handed Running s h = by_lowest s (lowest_open s.requests) h
+none_handed Over s h = by_lowest s (lowest_open s.requests) h
 
 -- A history of the loop of a number, which may be there, from where it began.
 module _ (Begins : Setting → Loop Desk → Type 0) (there : Bool) (j : ℕ) where
@@ -103,7 +103,8 @@ module _ (Begins : Setting → Loop Desk → Type 0) (there : Bool) (j : ℕ) wh
   }
 
   -- what others do
-  told_beside : (log : List LogEntry) (made : List GuestCall) (g : Setting) (l : Loop Desk) (entry : LogEntry) → is_of_owner j entry ≡ false → Told log made g l → Told (log ++ entry ∷ []) (made ++ []) g l
+  told_beside : (log : List LogEntry) (made : List GuestCall) (g : Setting) (l : Loop Desk) (entry : LogEntry) → is_of_owner j entry ≡ false
+      → Told log made g l → Told (log ++ entry ∷ []) (made ++ []) g l
   told_beside log made g l entry other was = told_more log made [] g l l entry MovedBeside (record { view = refl; state = refl; store = refl }) other refl was
 
   pub record Keeps (w : World) (log : List LogEntry) (made : List GuestCall) : Type 0 where
@@ -150,7 +151,8 @@ module _ (Begins : Setting → Loop Desk → Type 0) (there : Bool) (j : ℕ) wh
       loops = λ p h. elim (cases_eq n j) [
         | inl same ↦
             let at_j : slice_get w.loops j ≡ Some (core g l) = ap (slice_get w.loops) (sym same) ∙ at in
-            let now : slice_get w'.loops j ≡ Some (core g m) = ap (λ ls. slice_get ls j) e ∙ (ap (λ k. slice_get (slice_set w.loops k (core g m)) j) same ∙ set_here w.loops j (core g m) (core g l) at_j) in
+            let now : slice_get w'.loops j ≡ Some (core g m) =
+            ap (λ ls. slice_get ls j) e ∙ (ap (λ k. slice_get (slice_set w.loops k (core g m)) j) same ∙ set_here w.loops j (core g m) (core g l) at_j) in
             let is : core g m ≡ p = ap (inner {X = Core Desk} p) (sym now ∙ h) in
             let event = here same in
             subst (λ (x : Core Desk). Told (log ++ entry ∷ []) (made ++ more) x.setting x.loop) is
@@ -231,7 +233,8 @@ module _ (Begins : Setting → Loop Desk → Type 0) (there : Bool) (j : ℕ) wh
     take_next w' n (Started o) jobs entry h = only w' entry _ refl h
 
     -- a worker's start, and another's send
-    beside : (g : Setting) (l m : Loop Desk) (entry told : LogEntry) → entry ≡ told → is_of_owner j told ≡ false → desk_calls.view m.shared ≡ desk_calls.view l.shared → m.state ≡ l.state → m.store ≡ l.store → Happens g l m entry []
+    beside : (g : Setting) (l m : Loop Desk) (entry told : LogEntry) → entry ≡ told → is_of_owner j told ≡ false
+        → desk_calls.view m.shared ≡ desk_calls.view l.shared → m.state ≡ l.state → m.store ≡ l.store → Happens g l m entry []
     beside g l m entry told is none view state store = record { event = MovedBeside; step = record { view = view; state = state; store = store }; tells = ap (is_of_owner j) is ∙ none; calls = refl }
 
     start_next : (w' : World) (n : ℕ) (state : Worker) (entry : LogEntry) → StartsJob w n state entry w' → Next w' entry []
@@ -300,7 +303,8 @@ module _ (Begins : Setting → Loop Desk → Type 0) (there : Bool) (j : ℕ) wh
         (λ k. moved w' entry _ n h.0 h.1 _ k.0 (inl refl) h.2 (ap (λ x. x.loops) k.1) (same_replies w' (ap (λ x. x.replies) k.1))
         (λ same. record { event = ClockRaised ms; step = refl; tells = ((after_clock h.1.state ms).clock, k.0 ∙ ap (λ i. line.Clock i (after_clock h.1.state ms).clock) same); calls = refl })) h.3
 
-  pub run_keeps : (steps : List Step) (told : List LogEntry) (w w' : World) (log : List LogEntry) (made : List GuestCall) → Keeps w log made → (run : WorldRun w steps told w') → Keeps w' (log ++ told) (made ++ guest_calls j w steps told w' run)
+  pub run_keeps : (steps : List Step) (told : List LogEntry) (w w' : World) (log : List LogEntry) (made : List GuestCall) → Keeps w log made
+      → (run : WorldRun w steps told w') → Keeps w' (log ++ told) (made ++ guest_calls j w steps told w' run)
   run_keeps [] [] w w' log made keeps run =
       subst (λ x. Keeps x (log ++ []) (made ++ [])) (sym run) (rw (append-nil log, append-nil made) keeps)
   run_keeps [] (e ∷ told) w w' log made keeps run = absurd run

@@ -10,7 +10,8 @@ use Rattle.world.specs.declared.fault.WorldFault.{WorldFault}
 use Rattle.world.specs.Making.{MayFault, Stops}
 
 -- one step more at the end
-pub run_more : (steps : List Step) (told : List LogEntry) (w mid w' : World) (s : Step) (entry : LogEntry) → WorldRun w steps told mid → WorldStep mid s entry w' → WorldRun w (steps ++ s ∷ []) (told ++ entry ∷ []) w'
+pub run_more : (steps : List Step) (told : List LogEntry) (w mid w' : World) (s : Step) (entry : LogEntry) → WorldRun w steps told mid
+    → WorldStep mid s entry w' → WorldRun w (steps ++ s ∷ []) (told ++ entry ∷ []) w'
 run_more [] [] w mid w' s entry run h = (w', subst (λ x. WorldStep x s entry w') run h, refl)
 run_more [] (e ∷ told) w mid w' s entry run h = absurd run
 run_more (x ∷ steps) [] w mid w' s entry run h = absurd run

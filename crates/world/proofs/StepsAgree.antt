@@ -27,7 +27,8 @@ read xs n x within is = slice_get-get_or xs n x within ∙ ap Some (sym (is x))
 abbrev pub world_of : List (Core Desk) → List WorkOrder → List Worker → List (List Answer) → World
 world_of ls js hs rs = record { loops = ls; jobs = js; workers = hs; replies = rs }
 
-module _ (w : World) (ls : List (Core Desk)) (js : List WorkOrder) (hs : List Worker) (rs : List (List Answer)) (is : world_of ls js hs rs ≡ w) (n : ℕ) (p : Core Desk) (at : slice_get ls n ≡ Some p) where
+module _ (w : World) (ls : List (Core Desk)) (js : List WorkOrder) (hs : List Worker) (rs : List (List Answer)) (is : world_of ls js hs rs ≡ w) (n : ℕ)
+    (p : Core Desk) (at : slice_get ls n ≡ Some p) where
   pub here : slice_get w.loops n ≡ Some p
   here = ap (λ x. slice_get x.loops n) (sym is) ∙ at
 
@@ -54,14 +55,17 @@ module _ (w : World) (ls : List (Core Desk)) (js : List WorkOrder) (hs : List Wo
   pub cancel_failed : (request : ℕ) → is_failed p.loop.state.status ≡ true → Cancels w n request (line.Failed n) (world_of (slice_set ls n p) js hs rs)
   cancel_failed request f = (p.setting, p.loop, p.loop, 0, here, failing _ f)
 
-  pub cancels : (request answer : ℕ) (signed : ℤ) (q : Core Desk) → is_failed p.loop.state.status ≡ false → q.setting ≡ p.setting → CancelsLoop desk_calls p.loop request answer q.loop → signed ≡ cast_signed w32 answer
+  pub cancels : (request answer : ℕ) (signed : ℤ) (q : Core Desk) → is_failed p.loop.state.status ≡ false → q.setting ≡ p.setting
+      → CancelsLoop desk_calls p.loop request answer q.loop → signed ≡ cast_signed w32 answer
       → Cancels w n request (line.Cancel n request signed) (world_of (slice_set ls n q) js hs rs)
   cancels request answer signed q f e h told = (p.setting, p.loop, q.loop, answer, here, going_on _ _ _ f (h.0, h.1, ap (line.Cancel n request) told, moved q e))
 
-  pub sends : (a : ℕ) (ok : Bool) (q : Core Desk) → a < MAX_ASYNCS → q.setting ≡ p.setting → SendsBeside desk_others p.loop a ok q.loop → SendsTo w n a (line.Send n a (not ok)) (world_of (slice_set ls n q) js hs rs)
+  pub sends : (a : ℕ) (ok : Bool) (q : Core Desk) → a < MAX_ASYNCS → q.setting ≡ p.setting → SendsBeside desk_others p.loop a ok q.loop
+      → SendsTo w n a (line.Send n a (not ok)) (world_of (slice_set ls n q) js hs rs)
   sends a ok q few e h = (p.setting, p.loop, q.loop, ok, few, here, h, refl, moved q e)
 
-  pub steps : (did : StepDid) (q : Core Desk) (entry : LogEntry) → q.setting ≡ p.setting → LoopStep desk_calls p.setting p.loop did q.loop → entry ≡ told_of n did q.loop.state.emits → StepsLoop w n entry (world_of (slice_set ls n q) js hs rs)
+  pub steps : (did : StepDid) (q : Core Desk) (entry : LogEntry) → q.setting ≡ p.setting → LoopStep desk_calls p.setting p.loop did q.loop
+      → entry ≡ told_of n did q.loop.state.emits → StepsLoop w n entry (world_of (slice_set ls n q) js hs rs)
   steps did q entry e h told = record { setting = p.setting; old = p.loop; new = q.loop; did = did; made = h.0; at = here; steps = h.1; told = told; after = moved q e }
 
 -- where no order is open, nothing is handed out
@@ -74,7 +78,8 @@ nothing_in Failed s h = refl
 nothing_in Running s h = ap (with_requests s) (handed_none s.requests (lowest_open s.requests) h)
 nothing_in Over s h = ap (with_requests s) (handed_none s.requests (lowest_open s.requests) h)
 
-module _ (w : World) (ls : List (Core Desk)) (js : List WorkOrder) (hs : List Worker) (rs : List (List Answer)) (is : world_of ls js hs rs ≡ w) (n : ℕ) (p : Core Desk) (at : slice_get ls n ≡ Some p) where
+module _ (w : World) (ls : List (Core Desk)) (js : List WorkOrder) (hs : List Worker) (rs : List (List Answer)) (is : world_of ls js hs rs ≡ w) (n : ℕ)
+    (p : Core Desk) (at : slice_get ls n ≡ Some p) where
   pub posts_failed : is_failed p.loop.state.status ≡ true → Posts w n (line.Failed n) (world_of (slice_set ls n p) js hs rs)
   posts_failed f = (p.setting, p.loop, here w ls js hs rs is n p at, failing w ls js hs rs is n p at _ f)
 
@@ -101,7 +106,8 @@ module _ (w : World) (ls : List (Core Desk)) (js : List WorkOrder) (hs : List Wo
       let same : x ≡ o = cc in
       (ap (λ y. line.Post n (post.Request y.request)) (sym same), h ∙ ap (λ y. record (with_loop w n p.setting (in_state p.loop s)) { jobs = w.jobs ++ y ∷ [] }) (sym same))
 
-  pub posts_nothing : (q : Core Desk) → is_failed p.loop.state.status ≡ false → length js ≢ MAX_JOBS → q.setting ≡ p.setting → None ≡ (next_order_of p.loop.state).0 → q.loop ≡ in_state p.loop (next_order_of p.loop.state).1
+  pub posts_nothing : (q : Core Desk) → is_failed p.loop.state.status ≡ false → length js ≢ MAX_JOBS → q.setting ≡ p.setting
+      → None ≡ (next_order_of p.loop.state).0 → q.loop ≡ in_state p.loop (next_order_of p.loop.state).1
       → Posts w n (line.Post n post.Nothing) (world_of (slice_set ls n q) js hs rs)
   posts_nothing q f few e none core =
       let same : q.loop ≡ p.loop = core ∙ ap (in_state p.loop) (nothing_in p.loop.state.status p.loop.state (sym none)) in (
@@ -114,7 +120,8 @@ module _ (w : World) (ls : List (Core Desk)) (js : List WorkOrder) (hs : List Wo
             (moved w ls js hs rs is n p at q e ∙ ap (with_loop w n p.setting) same ∙ ap (λ x. record w { loops = x }) (set_same w.loops n p (here w ls js hs rs is n p at))))),
       )
 
-  pub posts_order : (q : Core Desk) (o : WorkOrder) (js' : List WorkOrder) → is_failed p.loop.state.status ≡ false → length js ≢ MAX_JOBS → q.setting ≡ p.setting → Some o ≡ (next_order_of p.loop.state).0 → q.loop ≡ in_state p.loop (next_order_of p.loop.state).1
+  pub posts_order : (q : Core Desk) (o : WorkOrder) (js' : List WorkOrder) → is_failed p.loop.state.status ≡ false → length js ≢ MAX_JOBS
+      → q.setting ≡ p.setting → Some o ≡ (next_order_of p.loop.state).0 → q.loop ≡ in_state p.loop (next_order_of p.loop.state).1
       → js' ≡ js ++ o ∷ [] → Posts w n (line.Post n (post.Request o.request)) (world_of (slice_set ls n q) js' hs rs)
   posts_order q o js' f few e out core pushed = (
     p.setting,

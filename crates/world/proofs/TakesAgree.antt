@@ -17,7 +17,8 @@ use Rattle.world.specs.declared.worker.Worker.TheVariants as code
 use Rattle.world.specs.Making.{worker_of, IsJob, IsHeld, IsKept}
 use Rattle.world.proofs.StepsAgree.{world_of}
 
-taken_none : (w : World) (n : ℕ) (state : Worker) (w' : World) → slice_get w.workers n ≡ Some state → w' ≡ w → (state ≢ Idle) ⊎ (w.jobs ≡ []) → WithWorker w n (λ h. TakesJob w n h w.jobs (line.Take n None) w')
+taken_none : (w : World) (n : ℕ) (state : Worker) (w' : World) → slice_get w.workers n ≡ Some state → w' ≡ w → (state ≢ Idle) ⊎ (w.jobs ≡ [])
+    → WithWorker w n (λ h. TakesJob w n h w.jobs (line.Take n None) w')
 taken_none w n state w' at same why = (state, at, by state w.jobs why) where
   by : (state : Worker) (jobs : List WorkOrder) → (state ≢ Idle) ⊎ (jobs ≡ []) → TakesJob w n state jobs (line.Take n None) w'
   by Idle [] why = (refl, same)
@@ -39,7 +40,8 @@ none_there : (js : List Order) → length js ≡ 0 → js ≡ []
 none_there [] h = refl
 none_there (o ∷ js) h = absurd (cc)
 
-module _ (w : World) (ls : List (Core Desk)) (js : List Order) (hs : List CodeWorker) (rs : List (List Answer)) (is : world_of ls (map order_of js) (map worker_of hs) rs ≡ w) (n : ℕ) (h : CodeWorker) (at : slice_get hs n ≡ Some h) where
+module _ (w : World) (ls : List (Core Desk)) (js : List Order) (hs : List CodeWorker) (rs : List (List Answer))
+    (is : world_of ls (map order_of js) (map worker_of hs) rs ≡ w) (n : ℕ) (h : CodeWorker) (at : slice_get hs n ≡ Some h) where
   there : slice_get w.workers n ≡ Some (worker_of h)
   there = ap (λ x. slice_get x.workers n) (sym is) ∙ map_get worker_of hs n h at
 
@@ -52,7 +54,8 @@ module _ (w : World) (ls : List (Core Desk)) (js : List Order) (hs : List CodeWo
   pub takes_busy : h ≢ code.Idle → WithWorker w n (λ x. TakesJob w n x w.jobs (line.Take n None) (world_of ls (map order_of js) (map worker_of (slice_set hs n h)) rs))
   takes_busy other = taken_none w n (worker_of h) _ there back (inl (not_empty h other))
 
-  pub takes_nothing : (js' : List Order) → length js ≡ 0 → js ≡ js' → WithWorker w n (λ x. TakesJob w n x w.jobs (line.Take n None) (world_of ls (map order_of js') (map worker_of (slice_set hs n h)) rs))
+  pub takes_nothing : (js' : List Order) → length js ≡ 0 → js ≡ js'
+      → WithWorker w n (λ x. TakesJob w n x w.jobs (line.Take n None) (world_of ls (map order_of js') (map worker_of (slice_set hs n h)) rs))
   takes_nothing js' none same =
       taken_none w n (worker_of h) _ there (ap (λ x. world_of ls (map order_of x) (map worker_of (slice_set hs n h)) rs) (sym same) ∙ back) (inr (jobs_are ∙ ap (map order_of) (none_there js none)))
 

@@ -51,7 +51,8 @@ started_same x y h = cc
 pub job_held : (loops n : ℕ) (hs : List CodeWorker) (h h' : CodeWorker) → All (IsHeld loops) hs → slice_get hs n ≡ Some h → h ≡ h' → IsHeld loops h'
 job_held loops n hs h h' all at is = subst (IsHeld loops) is (holds_at (IsHeld loops) hs n h all at)
 
-pub kept_worker : (ls : List (Core Desk)) (js : List Order) (hs : List CodeWorker) (lists room n : ℕ) (h : CodeWorker) → IsHeld (length ls) h → IsKept ls js hs lists room → IsKept ls js (slice_set hs n h) lists room
+pub kept_worker : (ls : List (Core Desk)) (js : List Order) (hs : List CodeWorker) (lists room n : ℕ) (h : CodeWorker) → IsHeld (length ls) h
+    → IsKept ls js hs lists room → IsKept ls js (slice_set hs n h) lists room
 kept_worker ls js hs lists room n h job kept = record {
   numbered = kept.numbered;
   waiting = kept.waiting;
@@ -61,7 +62,8 @@ kept_worker ls js hs lists room n h job kept = record {
   roomy = kept.roomy;
 }
 
-pub kept_reply : {D : Type 0} (ls : List (Core Desk)) (js : List Order) (hs : List CodeWorker) (lists : List D) (room n k : ℕ) (h : CodeWorker) (d : D) → h ≡ worker.Idle → IsKept ls js hs (length lists) room
+pub kept_reply : {D : Type 0} (ls : List (Core Desk)) (js : List Order) (hs : List CodeWorker) (lists : List D) (room n k : ℕ) (h : CodeWorker) (d : D)
+    → h ≡ worker.Idle → IsKept ls js hs (length lists) room
     → IsKept ls js (slice_set hs n h) (length (slice_set lists k d)) room
 kept_reply ls js hs lists room n k h d empty kept =
     subst (λ m. IsKept ls js (slice_set hs n h) m room) (sym (length-set lists k d))
@@ -72,7 +74,8 @@ loop_same l m state store shared =
     ap (λ s. record { state = s; store = l.store; shared = l.shared }) state ∙ ap (λ s. record { state = m.state; store = s; shared = l.shared }) store
     ∙ ap (λ s. record { state = m.state; store = m.store; shared = s }) shared
 
-module _ (w : World) (ls : List (Core Desk)) (js : List WorkOrder) (hs : List CodeWorker) (rs : List (List Answer)) (is : world_of ls js (workers_in hs) rs ≡ w) (n : ℕ) (h : CodeWorker) (at : slice_get hs n ≡ Some h) where
+module _ (w : World) (ls : List (Core Desk)) (js : List WorkOrder) (hs : List CodeWorker) (rs : List (List Answer))
+    (is : world_of ls js (workers_in hs) rs ≡ w) (n : ℕ) (h : CodeWorker) (at : slice_get hs n ≡ Some h) where
   has_worker : slice_get w.workers n ≡ Some (worker_of h)
   has_worker = ap (λ x. slice_get x.workers n) (sym is) ∙ map_get worker_of hs n h at
 
@@ -93,7 +96,8 @@ module _ (w : World) (ls : List (Core Desk)) (js : List WorkOrder) (hs : List Co
     by (worker.Taken o) same isnt = (refl, same)
     by (worker.Started o) same isnt = absurd (isnt o refl)
 
-  module _ (o : Order) (job : JobId) (p q : Core Desk) (ok : Bool) (is_taken : h ≡ worker.Taken o) (told : job ≡ job_of (order_of o)) (at_loop : slice_get ls job.loop_no ≡ Some p) (e : q.setting ≡ p.setting) (beside : StartsBeside desk_others p.loop o.slot o.request ok q.loop) where
+  module _ (o : Order) (job : JobId) (p q : Core Desk) (ok : Bool) (is_taken : h ≡ worker.Taken o) (told : job ≡ job_of (order_of o))
+      (at_loop : slice_get ls job.loop_no ≡ Some p) (e : q.setting ≡ p.setting) (beside : StartsBeside desk_others p.loop o.slot o.request ok q.loop) where
     has_taken : slice_get w.workers n ≡ Some (Taken (order_of o))
     has_taken = has_worker ∙ ap (λ x. Some (worker_of x)) is_taken
 
@@ -103,7 +107,8 @@ module _ (w : World) (ls : List (Core Desk)) (js : List WorkOrder) (hs : List Co
     as_told : (b : Bool) → ok ≡ b → StartsBeside desk_others p.loop o.slot o.request b q.loop
     as_told b it = subst (λ x. StartsBeside desk_others p.loop o.slot o.request x q.loop) it beside
 
-    pub begins : (o' : Order) → ok ≡ true → o' ≡ o → WithWorker w n (λ x. StartsJob w n x (line.Start n (start.Begun job)) (world_of (slice_set ls job.loop_no q) js (workers_in (slice_set hs n (worker.Started o'))) rs))
+    pub begins : (o' : Order) → ok ≡ true → o' ≡ o → WithWorker w n
+        (λ x. StartsJob w n x (line.Start n (start.Begun job)) (world_of (slice_set ls job.loop_no q) js (workers_in (slice_set hs n (worker.Started o'))) rs))
     begins o' begun same = (
       Taken (order_of o),
       has_taken,
@@ -146,16 +151,20 @@ module _ (w : World) (ls : List (Core Desk)) (js : List WorkOrder) (hs : List Co
           ),
         )
 
-module _ {D : Type 0} (f : D → List Answer) (w : World) (ls : List (Core Desk)) (js : List WorkOrder) (hs : List CodeWorker) (rs : List D) (is : world_of ls js (workers_in hs) (map f rs) ≡ w) (n : ℕ) (h : CodeWorker) (at : slice_get hs n ≡ Some h)
+module _ {D : Type 0} (f : D → List Answer) (w : World) (ls : List (Core Desk)) (js : List WorkOrder) (hs : List CodeWorker) (rs : List D)
+    (is : world_of ls js (workers_in hs) (map f rs) ≡ w) (n : ℕ) (h : CodeWorker) (at : slice_get hs n ≡ Some h)
     (o : Order) (job : JobId) (d d' : D) (is_started : h ≡ worker.Started o) (at_list : slice_get rs job.loop_no ≡ Some d) where
   -- a list with more room reads the same
   pub reserves : f d' ≡ f d → world_of ls js (workers_in (slice_set hs n (worker.Started o))) (map f (slice_set rs job.loop_no d')) ≡ w
   reserves same =
       ap (λ x. world_of ls js (workers_in (slice_set hs n x)) (map f (slice_set rs job.loop_no d'))) (sym is_started)
-      ∙ ap (λ x. world_of ls js (workers_in (slice_set hs n h)) x) (map-set f rs job.loop_no d' ∙ ap (slice_set (map f rs) job.loop_no) same ∙ set_same (map f rs) job.loop_no (f d) (map_get f rs job.loop_no d at_list))
+      ∙ ap (λ x. world_of ls js (workers_in (slice_set hs n h)) x)
+      (map-set f rs job.loop_no d' ∙ ap (slice_set (map f rs) job.loop_no) same
+      ∙ set_same (map f rs) job.loop_no (f d) (map_get f rs job.loop_no d at_list))
       ∙ unmoved w ls js hs (map f rs) is n h at
 
-  pub finishes : (r : Reply) (ending : JobEnd) (h' : CodeWorker) → job ≡ job_of (order_of o) → h' ≡ worker.Idle → r.order ≡ o → f d' ≡ f d ++ answer_of r ∷ [] → ∥ IsEndOf (order_of r.order) (end_of r.outcome) ∥₁ → Tells ending (end_of r.outcome)
+  pub finishes : (r : Reply) (ending : JobEnd) (h' : CodeWorker) → job ≡ job_of (order_of o) → h' ≡ worker.Idle → r.order ≡ o
+      → f d' ≡ f d ++ answer_of r ∷ [] → ∥ IsEndOf (order_of r.order) (end_of r.outcome) ∥₁ → Tells ending (end_of r.outcome)
       → WithWorker w n (λ x. FinishesJob w n x (line.Finish n (finish.Ended job ending)) (world_of ls js (workers_in (slice_set hs n h')) (map f (slice_set rs job.loop_no d'))))
   finishes r ending h' told empty own pushed right tells = (
     Started (order_of o),

@@ -23,7 +23,8 @@ use Rattle.world.proofs.StepsAgree.{world_of}
 abbrev made : State → Store → Desk → Loop Desk
 made s t d = record { state = s; store = t; shared = d }
 
-opened : (g : Setting) (c : Core Desk) → c.setting ≡ g → c.loop.state ≡ opening (opening_roster g.loaded.contents) (begin_list g.loaded.contents) → IsFresh g.loaded.contents c.loop.store → c.loop.shared ≡ new_desk g.loop_no → c ≡ opening_loop g
+opened : (g : Setting) (c : Core Desk) → c.setting ≡ g → c.loop.state ≡ opening (opening_roster g.loaded.contents) (begin_list g.loaded.contents)
+    → IsFresh g.loaded.contents c.loop.store → c.loop.shared ≡ new_desk g.loop_no → c ≡ opening_loop g
 opened g c setting state store shared =
     let l = c.loop in
     ap (λ x. core x l) setting
@@ -32,8 +33,10 @@ opened g c setting state store shared =
     ∙ ap (λ x. core g (made (opening_loop g).loop.state (opening_loop g).loop.store x)) shared
 
 -- what a new loop is
-pub opens : {E : Type 0} (g : Setting) (loaded : Loaded) (d : Desk) (r : Result (Core Desk) E) → loaded ≡ g.loaded → d ≡ new_desk g.loop_no → IfOk r (λ core. core.setting ≡ record g { loaded = loaded })
-    → IfOk r (λ core. core.loop.state ≡ opening (opening_roster loaded.contents) (begin_list loaded.contents)) → IfOk r (λ core. IsFresh loaded.contents core.loop.store) → IfOk r (λ core. core.loop.shared ≡ d)
+pub opens : {E : Type 0} (g : Setting) (loaded : Loaded) (d : Desk) (r : Result (Core Desk) E) → loaded ≡ g.loaded → d ≡ new_desk g.loop_no
+    → IfOk r (λ core. core.setting ≡ record g { loaded = loaded })
+    → IfOk r (λ core. core.loop.state ≡ opening (opening_roster loaded.contents) (begin_list loaded.contents))
+    → IfOk r (λ core. IsFresh loaded.contents core.loop.store) → IfOk r (λ core. core.loop.shared ≡ d)
     → IfOk r (λ core. core ≡ opening_loop g)
 opens g loaded d (Ok c) same new setting state store shared =
     opened g c (setting ∙ ap (λ x. record g { loaded = x }) same) (state ∙ ap (λ x. opening (opening_roster x.contents) (begin_list x.contents)) same)
@@ -52,7 +55,8 @@ pub loops_more : (k : ℕ) (cs : List LoopConfig) (c : LoopConfig) (ls : List (C
 loops_more k cs c ls at is =
     let next : suc k ≡ k + 1 = omega arith in
     let zeroed : 0 + k ≡ k = omega arith in
-    let more : settings_from 0 (take (k + 1) cs) ≡ settings_from 0 (take k cs) ++ setting_from k c ∷ [] = ap (λ m. settings_from 0 (take m cs)) (sym next) ∙ settings_more 0 k cs c at ∙ ap (λ m. settings_from 0 (take k cs) ++ setting_from m c ∷ []) zeroed in
+    let more : settings_from 0 (take (k + 1) cs) ≡ settings_from 0 (take k cs) ++ setting_from k c ∷ [] =
+    ap (λ m. settings_from 0 (take m cs)) (sym next) ∙ settings_more 0 k cs c at ∙ ap (λ m. settings_from 0 (take k cs) ++ setting_from m c ∷ []) zeroed in
     ap (λ xs. xs ++ opening_loop (setting_from k c) ∷ []) is
     ∙ sym (ap (map opening_loop) more ∙ map-append opening_loop (settings_from 0 (take k cs)) (setting_from k c ∷ []))
 
@@ -76,7 +80,8 @@ replies_opening n [] = refl
 replies_opening n (c ∷ cs) = ap (λ rs. [] ∷ rs) (replies_opening (n + 1) cs)
 
 -- a world that opens keeps what a world keeps
-pub opening_kept : {X : Type 0} (cs : List LoopConfig) (ls : List (Core Desk)) (js : List Order) (hs : List CodeWorker) (lists : List X) (f : X → List Answer) (workers room : ℕ) → ls ≡ map opening_loop (settings_from 0 cs) → js ≡ [] → hs ≡ replicate workers worker.Idle
+pub opening_kept : {X : Type 0} (cs : List LoopConfig) (ls : List (Core Desk)) (js : List Order) (hs : List CodeWorker) (lists : List X)
+    (f : X → List Answer) (workers room : ℕ) → ls ≡ map opening_loop (settings_from 0 cs) → js ≡ [] → hs ≡ replicate workers worker.Idle
     → map f lists ≡ replicate (length cs) [] → MAX_JOBS ≤ room → IsKept ls js hs (length lists) room
 opening_kept cs ls js hs lists f workers room loops none states replies roomy = record {
   numbered = subst (AreNumbered 0) (sym loops) (opening_numbered 0 cs);
@@ -89,7 +94,8 @@ opening_kept cs ls js hs lists f workers room loops none states replies roomy = 
   roomy = roomy;
 }
 
-pub opening_is : {X : Type 0} (cs : List LoopConfig) (ls : List (Core Desk)) (js : List Order) (hs : List CodeWorker) (lists : List X) (f : X → List Answer) (workers : ℕ) → ls ≡ map opening_loop (settings_from 0 cs) → js ≡ [] → hs ≡ replicate workers worker.Idle
+pub opening_is : {X : Type 0} (cs : List LoopConfig) (ls : List (Core Desk)) (js : List Order) (hs : List CodeWorker) (lists : List X) (f : X → List Answer)
+    (workers : ℕ) → ls ≡ map opening_loop (settings_from 0 cs) → js ≡ [] → hs ≡ replicate workers worker.Idle
     → map f lists ≡ replicate (length cs) [] → world_of ls (map order_of js) (map worker_of hs) (map f lists) ≡ opening_world (settings_from 0 cs) workers
 opening_is cs ls js hs lists f workers loops none states replies =
     ap (λ x. world_of x (map order_of js) (map worker_of hs) (map f lists)) loops

@@ -3,7 +3,8 @@
 ghost use Rattle.std.specs.Prelude.{◌≡◌, ◌++◌, ◌∷◌, [], ◌≤◌, ◌<◌, All, IfOk, IfErr, OnOk, OnErr, length, map, replicate, take};
 ghost use Rattle.limits.specs.declared.TheConstants.{MAX_LOOPS, MAX_WORKERS};
 ghost use Rattle.world.specs.Making.{setting_from, settings_from, answers_of, HasDepth, MayFault, Stops};
-ghost use Rattle.world.specs.World.{opening_world, opening_loop, WorldStep, WorldRun, told_of, job_of, Tells, StepsLoop, Posts, WithWorker, TakesJob, StartsJob, FinishesJob, Collects, SendsTo, Cancels, Clocks};
+ghost use Rattle.world.specs.World.{opening_world, opening_loop, WorldStep, WorldRun, told_of, job_of, Tells, StepsLoop, Posts, WithWorker, TakesJob, StartsJob};
+ghost use Rattle.world.specs.World.{FinishesJob, Collects, SendsTo, Cancels, Clocks};
 ghost use Rattle.order.specs.Orders.{order_of, end_of};
 
 use crate::config::{Config, LoopConfig};

@@ -19,13 +19,19 @@ loop-place-preserved c =
       | then-not-contains_key+in_ok-from_slice+in_ok-insert w ↦
           let key = w.in_ok-from_slice.field-0 in
           let unknown = sym c.contains_key.ensures ∙ w.if-not-contains_key.true in
-          let none = none_found (place_in (λ (k : Vec ℕ Global). k.items) before key.items) (ap (λ n. is_some (place_in (λ (k : Vec ℕ Global). k.items) before n)) w.in_ok-from_slice.ensures.items ∙ unknown) in
+          let none =
+          none_found (place_in (λ (k : Vec ℕ Global). k.items) before key.items)
+          (ap (λ n. is_some (place_in (λ (k : Vec ℕ Global). k.items) before n)) w.in_ok-from_slice.ensures.items ∙ unknown) in
           let last = insert_entry-new (λ (x y : Vec ℕ Global). pointwise nat_eq x.items y.items) c.loop-place.places key place none in
           let entries : c.if-not-contains_key.places.entries ≡ before ++ (key, place) ∷ [] = ap (λ m. m.entries) w.places-is ∙ w.in_ok-insert.ensures.entries ∙ last in
-          let added = tells_inserted (λ (k : Vec ℕ Global). k.items) exports place export here c.as_slice-name.result.now c.as_slice-name.ensures before c.loop-place.invariant key w.in_ok-from_slice.ensures.items unknown in
+          let added =
+          tells_inserted (λ (k : Vec ℕ Global). k.items) exports place export here c.as_slice-name.result.now c.as_slice-name.ensures before
+          c.loop-place.invariant key w.in_ok-from_slice.ensures.items unknown in
           subst Tells (sym entries) added
       | else-not-contains_key w ↦
-          let same = tells_present (λ (k : Vec ℕ Global). k.items) exports place export here c.as_slice-name.result.now c.as_slice-name.ensures before c.loop-place.invariant (sym c.contains_key.ensures ∙ w.if-not-contains_key.false) in
+          let same =
+          tells_present (λ (k : Vec ℕ Global). k.items) exports place export here c.as_slice-name.result.now c.as_slice-name.ensures before
+          c.loop-place.invariant (sym c.contains_key.ensures ∙ w.if-not-contains_key.false) in
           rw (w.places-is) same
     ]
 

@@ -16,10 +16,12 @@ returns-in_default-clause-stops c = λ end reads.
 pub returns-clause-computes : goal.returns-clause-computes
 returns-clause-computes c = λ end reads.
     let work = c.work-ended.ensures.run in
-    works_end (order_of c.args.self.now) c.args.state.now c.start-started.new.state c.work-ended.new.state c.start-started.result c.work-ended.result c.in-Return.field-0 c.start-started.new.host.reply.items c.work-ended.new.host.reply.items end
+    works_end (order_of c.args.self.now) c.args.state.now c.start-started.new.state c.work-ended.new.state c.start-started.result c.work-ended.result
+    c.in-Return.field-0 c.start-started.new.host.reply.items c.work-ended.new.host.reply.items end
     c.requires.fresh c.in-Return.is c.start-started.ensures.run (work.0, work.1, work.2.run) reads
 
 pub returns-clause-stops : goal.returns-clause-stops
 returns-clause-stops c = λ end reads.
-    works_to (order_of c.args.self.now) c.args.state.now c.start-started.new.state c.work-ended.new.state c.start-started.result c.work-ended.result c.in-Return.field-0 c.start-started.new.host.reply.items c.work-ended.new.host.reply.items c.work-ended.new.stack end
+    works_to (order_of c.args.self.now) c.args.state.now c.start-started.new.state c.work-ended.new.state c.start-started.result c.work-ended.result
+    c.in-Return.field-0 c.start-started.new.host.reply.items c.work-ended.new.host.reply.items c.work-ended.new.stack end
     c.requires.fresh c.in-Return.is c.start-started.ensures.run c.work-ended.ensures.run reads

@@ -12,7 +12,8 @@ returns-then-failed-clause-ran c =
 pub returns-clause-ran : goal.returns-clause-ran
 returns-clause-ran c =
     cancels c.args.self.now c.self.inside.loops.items _ _ _ c.self.view_is c.args.loop_no c.in-Some.core.now
-    (read c.self.inside.loops.items c.args.loop_no c.in-Some.core.now c.in-Some.ensures.item.3.0 c.in-Some.ensures.item.3.1) c.args.request (cast_unsigned w32 c.cancel-answer.result) (cast_signed w32 (cast_unsigned w32 c.cancel-answer.result)) c.cancel-answer.new.self
+    (read c.self.inside.loops.items c.args.loop_no c.in-Some.core.now c.in-Some.ensures.item.3.0 c.in-Some.ensures.item.3.1) c.args.request
+    (cast_unsigned w32 c.cancel-answer.result) (cast_signed w32 (cast_unsigned w32 c.cancel-answer.result)) c.cancel-answer.new.self
     (sym c.failed.ensures ∙ c.if-failed.false) c.cancel-answer.ensures.setting c.cancel-answer.ensures.told refl
 
 pub invariant_of-self-2 : goal.invariant_of-self-2

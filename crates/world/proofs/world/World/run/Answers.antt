@@ -10,7 +10,8 @@ pub returns-in_err-step-clause-stopped : goal.returns-in_err-step-clause-stopped
 returns-in_err-step-clause-stopped c =
     let p = err_from_is_err_and c.from_residual.result c.from_residual.ensures.1 in
     rw (p.1, p.2)
-    (has_stopped c.args.self.now c.loop-step.self c.step.new.self c.args.steps.now c.loop-step.step-index _ c.args.log.now.entries c.loop-step.log.entries c.step.new.log.entries c.in_err-step.field-0.0
+    (has_stopped c.args.self.now c.loop-step.self c.step.new.self c.args.steps.now c.loop-step.step-index _ c.args.log.now.entries c.loop-step.log.entries
+    c.step.new.log.entries c.in_err-step.field-0.0
     (search rules) c.loop-step.invariant c.in_err-step.ensures.fault c.in_err-step.ensures.kept c.in_err-step.ensures.log)
 
 pub loop-step-preserved : goal.loop-step-preserved

@@ -33,18 +33,18 @@ pub enum Failure<'a> {
     },
     /// There is not enough memory.
     Memory,
-    /// The result can't be written.
-    Output,
+    /// The result can't be written, for this reason.
+    Output(io::Error),
     /// The bytes of the file, or of a module of the script, are no guest.
     Refused {
         module: Option<usize>,
         refusal: Refusal,
         site: Site,
     },
-    /// The file is no script.
+    /// The file is no script. Where and why is told where that is known, and where there is memory for it.
     Script {
         fault: ScriptFault,
-        place: Option<script::ScriptPlace>,
+        told: Option<String>,
     },
     /// The module exports no function of this name. Those that it exports are told where there is memory for them.
     NoFunction {
@@ -90,7 +90,7 @@ impl<'a> Failure<'a> {
         ensures { result ≡ status_of_failure self.now }
     {
         match self {
-            Failure::File { .. } | Failure::Memory | Failure::Output | Failure::Script { .. } =>
+            Failure::File { .. } | Failure::Memory | Failure::Output(_) | Failure::Script { .. } =>
                 Status::Failed,
             Failure::Refused { .. } => Status::Refused,
             Failure::NoFunction { .. } | Failure::Arguments(_) => Status::Usage,
@@ -104,10 +104,18 @@ impl<'a> Failure<'a> {
                 let what = if module.is_some() { "module" } else { "file" };
                 tell_site(what, site, err)
             }
-            Failure::Script { fault, place } => tell_place(place, fault.meaning(), err),
+            Failure::Script {
+                told: Some(told),
+                ..
+            } => writeln!(err, "{told}"),
+            Failure::Script { fault, told: None } => writeln!(err, "{}", fault.meaning()),
             Failure::NoFunction { there, .. } => tell_functions(there, err),
             Failure::Arguments(mismatch) => writeln!(err, "{mismatch}"),
-            Failure::File { .. } | Failure::Memory | Failure::Output => Ok(()),
+            Failure::Output(reason) => writeln!(err, "standard output: {reason}"),
+            Failure::File { name, .. } if *name == "-" => {
+                writeln!(err, "standard input is /dev/stdin")
+            }
+            Failure::File { .. } | Failure::Memory => Ok(()),
         }
     }
 }
@@ -130,23 +138,12 @@ fn tell_site<E: Write>(what: &str, site: &Site, err: &mut E) -> io::Result<()> {
     }
 }
 
-fn tell_place<P: fmt::Display, E: Write>(
-    place: &Option<P>,
-    meaning: &str,
-    err: &mut E,
-) -> io::Result<()> {
-    match place {
-        Some(place) => writeln!(err, "{place}: {meaning}"),
-        None => writeln!(err, "{meaning}"),
-    }
-}
-
 impl fmt::Display for Failure<'_> {
     fn fmt<W: fmt::Write>(&self, f: &mut fmt::Formatter<W>) -> fmt::Result {
         match self {
             Failure::File { name, reason } => write!(f, "file\n{name}: {reason}"),
             Failure::Memory => f.write_str("memory"),
-            Failure::Output => f.write_str("output"),
+            Failure::Output(_) => f.write_str("output"),
             Failure::Refused {
                 module: Some(number),
                 refusal,
@@ -194,7 +191,7 @@ impl From<io::Error> for Failure<'_> {
     fn from(error: io::Error) -> Self {
         match error.kind() {
             ErrorKind::OutOfMemory => Failure::Memory,
-            _ => Failure::Output,
+            _ => Failure::Output(error),
         }
     }
 }

@@ -19,8 +19,8 @@ use events::ended::Ended;
 use imports::Linked;
 use limits::MAX_SCRIPT_BYTES;
 use order::Trail;
-use script::{LoopPlan, Plan, ScriptFault, ScriptPlace, print, read};
-use sentences::{Counts, Missing, Ran, Reason, Stopped, tell_stopped};
+use script::{LoopPlan, Plan, ScriptFault, print, read};
+use sentences::{Counts, Missing, Ran, Reason, Stopped, script_fault, tell_stopped};
 use std::alloc::{AllocError, Global};
 use std::io::{self, Write};
 use std::str;
@@ -46,21 +46,26 @@ fn plan_in(alloc: Global, bytes: &[u8]) -> Result<Plan, Failure<'static>>
     ensures json { OnOk result (IsJson bytes.now) }
 {
     if bytes.len() > MAX_SCRIPT_BYTES {
-        return Err(no_script(ScriptFault::Range, None));
+        let told = format!(in alloc; "the file has more than {MAX_SCRIPT_BYTES} bytes");
+        return Err(no_script(ScriptFault::Range, told.ok()));
     }
-    let Ok(text) = str::from_utf8(bytes) else {
-        return Err(no_script(ScriptFault::Json, None));
+    let text = match str::from_utf8(bytes) {
+        Ok(text) => text,
+        Err(error) => {
+            let told = format!(in alloc; "byte {}: the text is not UTF-8", error.valid_up_to());
+            return Err(no_script(ScriptFault::Json, told.ok()));
+        }
     };
     match read(alloc, text) {
         Ok(plan) => Ok(plan),
-        Err(fault) => Err(no_script(fault, fault.place(alloc, text))),
+        Err(fault) => Err(no_script(fault, script_fault(alloc, fault, text))),
     }
 }
 
-fn no_script(fault: ScriptFault, place: Option<ScriptPlace>) -> Failure<'static> {
+fn no_script(fault: ScriptFault, told: Option<String>) -> Failure<'static> {
     match fault {
         ScriptFault::Memory => Failure::Memory,
-        _ => Failure::Script { fault, place },
+        _ => Failure::Script { fault, told },
     }
 }
 

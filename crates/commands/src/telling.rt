@@ -4,7 +4,7 @@ use events::phase::EntryKind;
 use imports::EntryPoint;
 use limits::{MAX_BYTES, MAX_DEPTH};
 use order::{Order, Told};
-use sentences::{Ran, Stopped, What, tell_stopped};
+use sentences::{Ran, Stopped, What, tell_stopped, unit_of};
 use serve::{Account, Callback, LoopEnding, Served};
 use std::alloc::Global;
 use std::io::{self, Write};
@@ -46,10 +46,13 @@ fn tell_limit<E: Write>(account: &Account, err: &mut E) -> io::Result<()> {
     };
     let last = What::Callback { kind, number };
     let (in_row, now) = (account.in_row(), account.now());
-    write!(
-        err,
-        "the last {in_row} callbacks are of {last}, at moment {now}"
-    )?;
+    match in_row {
+        1 => write!(err, "the last callback is of {last}, at moment {now}")?,
+        _ => write!(
+            err,
+            "the last {in_row} callbacks are of {last}, at moment {now}"
+        )?,
+    }
     match kind {
         EntryKind::Idle | EntryKind::Check => {
             err.write_all(b"; while an idle or a check is active, no time passes\n")
@@ -112,7 +115,8 @@ impl Teller<'_> {
         let fuel = self.service.settings.fuel;
         writeln!(
             err,
-            "loop {loop_no}: a callback used {most} of {fuel} units at most"
+            "loop {loop_no}: a callback used {most} of {fuel} {} at most",
+            unit_of(fuel)
         )?;
         let Some(most) = served.account.most_work() else {
             return Ok(());
@@ -120,7 +124,8 @@ impl Teller<'_> {
         let fuel = self.service.settings.work_fuel;
         writeln!(
             err,
-            "loop {loop_no}: a work function used {most} of {fuel} units at most"
+            "loop {loop_no}: a work function used {most} of {fuel} {} at most",
+            unit_of(fuel)
         )
     }
 

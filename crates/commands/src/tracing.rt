@@ -3,7 +3,7 @@
 use events::did::StepDid;
 use order::Reply;
 use script::print_entry;
-use sentences::ending_of;
+use sentences::{ending_of, unit_of};
 use serve::Watch;
 use std::alloc::Global;
 use std::io::{self, Write};
@@ -14,7 +14,7 @@ use world_log::{CollectOutcome, FinishOutcome, JobId, LogEntry, PostOutcome, Sta
 
 /// Tells how many units of fuel were used, of how many.
 pub fn tell_used<E: Write>(used: u64, fuel: u64, err: &mut E) -> io::Result<()> {
-    writeln!(err, "used {used} of {fuel} units")
+    writeln!(err, "used {used} of {fuel} {}", unit_of(fuel))
 }
 
 /// Writes the lines of the log of what loops and workers do.

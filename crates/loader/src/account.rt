@@ -3,7 +3,7 @@
 use crate::invalid::invalid;
 use crate::refusal::Refusal;
 use crate::undecoded::undecoded;
-use crate::unlinked::place_of_unlinked;
+use crate::unlinked::unlinked;
 use places::{Place, Reason};
 use std::alloc::Global;
 use std::fmt;
@@ -25,14 +25,13 @@ impl fmt::Display for Account {
 }
 
 impl Refusal {
-    /// Where these bytes are refused so, and why. It reads them anew, and takes memory; where there is not enough, the place is
-    /// left out.
+    /// Where these bytes are refused so, and why. It reads them anew; without memory for that the place is left out.
     pub fn explain(self, alloc: Global, bytes: &[u8]) -> Account {
         let told = match self {
             Refusal::Memory => None,
             Refusal::Decode(_) => undecoded(alloc, bytes),
             Refusal::Validate(_) => invalid(alloc, bytes),
-            Refusal::Link(_) => place_of_unlinked(alloc, bytes).map(|place| (place, None)),
+            Refusal::Link(fault) => unlinked(alloc, bytes, fault, self.meaning()),
         };
         let (place, found) = match told {
             Some((place, found)) => (Some(place), found),

@@ -1,10 +1,11 @@
 // In which section, function and operation a module is not valid, and for what.
 
-use crate::help::{NO_TABLES, OPTIMIZED};
 use crate::loading::decoded;
-use places::{Place, Reason, place_of_function, place_of_operation, place_of_section};
+use places::{
+    NO_TABLES, OPTIMIZED, Place, Reason, name_of_type, place_of_function, place_of_operation,
+    place_of_section,
+};
 use std::alloc::Global;
-use syntax::types::ValType;
 use validate::{Lack, Site, ValidFault, refused_at};
 
 fn place_of(bytes: &[u8], site: Site) -> Option<Place> {
@@ -16,14 +17,6 @@ fn place_of(bytes: &[u8], site: Site) -> Option<Place> {
             number,
             ..
         } => place_of_operation(bytes, function, number),
-    }
-}
-
-/// The name of a type, as the text format has it.
-pub fn name_of_type(value_type: ValType) -> &'static str {
-    match value_type {
-        ValType::I32 => "i32",
-        ValType::I64 => "i64",
     }
 }
 

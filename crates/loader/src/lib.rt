@@ -6,7 +6,6 @@
 #![tactic(auto)]
 
 mod account;
-mod help;
 mod invalid;
 mod loading;
 mod meaning;
@@ -15,6 +14,5 @@ mod undecoded;
 mod unlinked;
 
 pub use account::Account;
-pub use invalid::name_of_type;
 pub use loading::load;
 pub use refusal::Refusal;

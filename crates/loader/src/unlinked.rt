@@ -1,33 +1,141 @@
-// Which import, export or segments don't fit the host.
+// Which import, export or segment doesn't fit the host, and what would.
 
 use crate::loading::validated;
-use imports::{Site, refused_at};
-use places::{DATA, ELEMENTS, Place, place_of_section};
-use std::alloc::Global;
-use syntax::contents::Contents;
+use imports::{Call, EntryPoint, LinkFault, Signature, Site, refused_at};
+use limits::PAGE_SIZE;
+use places::{DATA, DEFINED, ELEMENTS, Place, Reason, Shape, place_of_section};
+use std::alloc::{AllocError, Global};
+use syntax::body::Body;
+use syntax::contents::{Contents, ExternKind, FuncType, Import, ModuleExport};
+use syntax::instruction::{Instr, Token};
+use syntax::types::Value;
+use validate::{type_at, type_of_function};
 
-fn place_of_import(alloc: Global, contents: &Contents, number: usize) -> Option<Place> {
-    let import = contents.imports.get(number)?;
-    Place::import(
-        alloc,
-        number,
-        import.module.as_slice(),
-        import.name.as_slice(),
-    )
-}
-
-fn place_of_export(alloc: Global, contents: &Contents, number: usize) -> Option<Place> {
-    let export = contents.exports.get(number)?;
-    Place::export(alloc, export.name.as_slice())
-}
-
-/// What of the module doesn't fit the host.
-pub fn place_of_unlinked(alloc: Global, bytes: &[u8]) -> Option<Place> {
-    let valid = validated(alloc, bytes).ok()?;
-    match refused_at(&valid)? {
-        Site::Import(number) => place_of_import(alloc, valid.contents(), number),
-        Site::Export(number) => place_of_export(alloc, valid.contents(), number),
-        Site::Elements => place_of_section(bytes, ELEMENTS),
-        Site::Data => place_of_section(bytes, DATA),
+/// The functions that can be imported.
+fn offered(alloc: Global) -> Result<String, AllocError> {
+    let mut text = String::from_str(alloc, "there are")?;
+    let mut between = " ";
+    for call in Call::ALL {
+        write!(text, "{between}{}", call.name())?;
+        between = ", ";
     }
+    Ok(text)
+}
+
+/// Which type is wanted, and which is there.
+fn compared(alloc: Global, wanted: Signature, found: &FuncType) -> Option<String> {
+    let wanted = Shape::new(wanted.params, wanted.results);
+    let found = Shape::new(found.params.as_slice(), found.results.as_slice());
+    format!(in alloc; "{wanted} is wanted, and {found} is there").ok()
+}
+
+/// What is known of an import that is refused so.
+fn of_import(
+    alloc: Global,
+    contents: &Contents,
+    import: &Import,
+    fault: LinkFault,
+) -> Option<String> {
+    match fault {
+        LinkFault::Name => offered(alloc).ok(),
+        LinkFault::BadType => {
+            let wanted = Call::from_name(import.name.as_slice())?.signature();
+            compared(alloc, wanted, type_at(contents, import.type_index)?)
+        }
+        _ => String::from_str(alloc, DEFINED).ok(),
+    }
+}
+
+/// What is known of an export that the host can't call.
+fn of_export(alloc: Global, contents: &Contents, export: &ModuleExport) -> Option<String> {
+    let wanted = EntryPoint::from_name(export.name.as_slice())?.signature();
+    if export.kind == ExternKind::Func {
+        return compared(alloc, wanted, type_of_function(contents, export.index)?);
+    }
+    let wanted = Shape::new(wanted.params, wanted.results);
+    format!(in alloc; "a function of type {wanted} is wanted").ok()
+}
+
+/// Whether so many elements or bytes from this offset on end behind the room, and where.
+fn end_behind(room: u64, offset: &Body, count: usize) -> Option<u64> {
+    let Token::Plain(Instr::Const(Value::I32(start))) = offset.as_slice().first()?.operation()
+    else {
+        return None;
+    };
+    let end = u64::from(start).saturating_add(count as u64);
+    if end > room { Some(end) } else { None }
+}
+
+/// The first element segment that ends behind the table.
+fn of_elements(alloc: Global, contents: &Contents) -> Option<String> {
+    let room = contents.table.map_or(0, |limits| u64::from(limits.min));
+    for (number, element) in contents.elements.as_slice().iter().enumerate() {
+        if let Some(end) = end_behind(room, &element.offset, element.functions.len()) {
+            return format!(in alloc;
+                "segment {number} ends at {end}; elements of the table at first: {room}"
+            ).ok();
+        }
+    }
+    None
+}
+
+/// The first data segment that ends behind the memory.
+fn of_data(alloc: Global, contents: &Contents) -> Option<String> {
+    let pages = contents.memory.map_or(0, |limits| u64::from(limits.min));
+    let room = pages.saturating_mul(PAGE_SIZE as u64);
+    for (number, segment) in contents.data.as_slice().iter().enumerate() {
+        if let Some(end) = end_behind(room, &segment.offset, segment.bytes.len()) {
+            return format!(in alloc;
+                "segment {number} ends at {end}; bytes of the memory at first: {room}"
+            ).ok();
+        }
+    }
+    None
+}
+
+/// The part of the module that is refused so, and what is known of it.
+fn part_of(
+    alloc: Global,
+    bytes: &[u8],
+    contents: &Contents,
+    site: Site,
+    fault: LinkFault,
+) -> Option<(Place, Option<String>)> {
+    Some(match site {
+        Site::Import(number) => {
+            let import = contents.imports.get(number)?;
+            let (module, name) = (import.module.as_slice(), import.name.as_slice());
+            (
+                Place::import(alloc, number, module, name)?,
+                of_import(alloc, contents, import, fault),
+            )
+        }
+        Site::Export(number) => {
+            let export = contents.exports.get(number)?;
+            (
+                Place::export(alloc, export.name.as_slice())?,
+                of_export(alloc, contents, export),
+            )
+        }
+        Site::Elements => (
+            place_of_section(bytes, ELEMENTS)?,
+            of_elements(alloc, contents),
+        ),
+        Site::Data => (place_of_section(bytes, DATA)?, of_data(alloc, contents)),
+    })
+}
+
+/// What of the module doesn't fit the host, which means this, and what is known besides.
+pub fn unlinked(
+    alloc: Global,
+    bytes: &[u8],
+    fault: LinkFault,
+    meaning: &'static str,
+) -> Option<(Place, Option<Reason>)> {
+    let valid = validated(alloc, bytes).ok()?;
+    let (place, told) = part_of(alloc, bytes, valid.contents(), refused_at(&valid)?, fault)?;
+    Some((
+        place,
+        told.map(|told| Reason::words(meaning).with_told(told)),
+    ))
 }

@@ -3,14 +3,22 @@
 //! are broken, an answer is missing.
 #![tactic(auto)]
 
+pub mod found;
+mod help;
 mod names;
 mod operations;
 mod place;
 mod reason;
+mod shown;
+mod sizes;
 mod spans;
+mod types;
 
+pub use help::{DEFINED, NO_TABLES, OPTIMIZED};
 pub use names::function_name;
-pub use operations::{extension_at, is_in_locals, name_of, place_of_operation};
+pub use operations::place_of_operation;
 pub use place::{Part, Place};
 pub use reason::Reason;
-pub use spans::{CODE, DATA, ELEMENTS, part_with, place_of_function, place_of_section};
+pub use shown::Shown;
+pub use spans::{DATA, ELEMENTS, part_with, place_of_function, place_of_section};
+pub use types::{Shape, name_of_type};

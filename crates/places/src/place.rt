@@ -1,5 +1,6 @@
 // Where in its bytes a module is refused.
 
+use crate::shown::Shown;
 use crate::spans::CODE;
 use std::alloc::Global;
 use std::{fmt, str};
@@ -108,8 +109,11 @@ impl fmt::Display for Place {
                 number,
                 module,
                 name,
-            } => { write!(f, "import {number}, \"{module}\" \"{name}\"") }
-            Place::Export { name } => write!(f, "export \"{name}\""),
+            } => {
+                let (module, name) = (Shown(module.as_str()), Shown(name.as_str()));
+                write!(f, "import {number}, \"{module}\" \"{name}\"")
+            }
+            Place::Export { name } => write!(f, "export \"{}\"", Shown(name.as_str())),
         }
     }
 }

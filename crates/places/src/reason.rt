@@ -17,16 +17,27 @@ enum Found {
     },
 }
 
+/// What helps, or what is known besides.
+#[derive(Debug, Drop)]
+enum Help {
+    Nothing,
+    Words(&'static str),
+    Told(String),
+}
+
 /// Why bytes are refused. It prints as words, with what helps behind them in brackets.
-#[derive(Clone, Copy, Debug)]
+#[derive(Debug, Drop)]
 pub struct Reason {
     found: Found,
-    help: Option<&'static str>,
+    help: Help,
 }
 
 impl Reason {
     fn of(found: Found) -> Reason {
-        Reason { found, help: None }
+        Reason {
+            found,
+            help: Help::Nothing,
+        }
     }
 
     /// As these words say.
@@ -52,8 +63,16 @@ impl Reason {
     /// The same, and what helps.
     pub fn with(self, help: &'static str) -> Reason {
         Reason {
-            help: Some(help),
-            ..self
+            found: self.found,
+            help: Help::Words(help),
+        }
+    }
+
+    /// The same, and what is known besides.
+    pub fn with_told(self, told: String) -> Reason {
+        Reason {
+            found: self.found,
+            help: Help::Told(told),
         }
     }
 }
@@ -78,9 +97,10 @@ impl fmt::Display for Found {
 impl fmt::Display for Reason {
     fn fmt<W: fmt::Write>(&self, f: &mut fmt::Formatter<W>) -> fmt::Result {
         write!(f, "{}", self.found)?;
-        match self.help {
-            Some(help) => write!(f, " ({help})"),
-            None => Ok(()),
+        match &self.help {
+            Help::Nothing => Ok(()),
+            Help::Words(help) => write!(f, " ({help})"),
+            Help::Told(told) => write!(f, " ({told})"),
         }
     }
 }

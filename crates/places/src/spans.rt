@@ -3,8 +3,17 @@
 use crate::place::{Part, Place};
 use leb::read_u32;
 
+/// The id of the section of types.
+pub const TYPES: u8 = 1;
+
 /// The id of the section of imports.
 pub const IMPORTS: u8 = 2;
+
+/// The id of the section of tables.
+pub const TABLES: u8 = 4;
+
+/// The id of the section of memories.
+pub const MEMORIES: u8 = 5;
 
 /// The id of the section of element segments.
 pub const ELEMENTS: u8 = 9;
@@ -98,6 +107,12 @@ pub fn body_with(bytes: &[u8], code: Span, byte: usize) -> Option<(usize, Span)>
 pub fn place_of_section(bytes: &[u8], id: u8) -> Option<Place> {
     let section = find(bytes, id)?;
     Some(Place::Section { id, at: section.at })
+}
+
+/// Whether this byte of the section with this id is one of the number of things that it holds.
+pub fn is_in_count(bytes: &[u8], id: u8, byte: usize) -> Option<bool> {
+    let (_, behind) = read_u32(bytes, find(bytes, id)?.from).ok()?;
+    Some(byte < behind)
 }
 
 /// The place of a function, by its number among those with bodies.

@@ -4,18 +4,16 @@
 //! line for each entry (`specs/Text.antt`); docs/COMMANDS.md has both forms.
 //!
 //! JSON itself is read by the kit's `serde_json`, into the types of `document`, and `json` tells exactly which texts are none. Begin
-//! with `plan`, what a script asks for, and `reader`; where a fault stands in the text is `place`'s.
+//! with `plan`, what a script asks for, and `reader`.
 #![tactic(auto)]
 
 mod document;
 mod fault;
-mod place;
 mod plan;
 mod reader;
 mod text;
 
 pub use fault::ScriptFault;
-pub use place::ScriptPlace;
 pub use plan::{LoopPlan, Plan};
 pub use reader::read;
 pub use text::{print, print_entry};

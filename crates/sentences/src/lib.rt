@@ -1,22 +1,25 @@
 //! What is told on standard error, in words: where a run stopped that did not return (`tell_stopped`), what a module lacks to
-//! run on a loop (`warn`), what arguments a function takes (`Mismatch`), what a step of a script names that isn't there
-//! (`Missing`). No clause speaks of words; tests compare them. Names that come from a module are printed where a line can hold
-//! them.
+//! run on a loop (`warn`), what arguments a function takes (`Mismatch`), where and why a text is no script
+//! (`script_fault`), what a step of a script names that isn't there (`Missing`). No clause speaks of words; tests compare them.
+//! Names that come from a module are printed as a line can hold them.
 #![tactic(auto)]
 
+mod fault;
+mod flaw;
 mod line;
 mod listing;
 mod mismatch;
 mod missing;
-mod names;
 mod ran;
 mod stopping;
+mod walk;
 mod warning;
 
+pub use fault::script_fault;
 pub use line::EndedLine;
 pub use listing::Listing;
 pub use mismatch::Mismatch;
 pub use missing::{Counts, Missing};
 pub use ran::{Ran, What};
-pub use stopping::{Reason, Stopped, ending_of, tell_stopped};
+pub use stopping::{Reason, Stopped, ending_of, tell_stopped, unit_of};
 pub use warning::warn;

@@ -1,12 +1,12 @@
 // Names in a row.
 
-use crate::names::is_printable;
+use places::Shown;
 use std::alloc::{AllocError, Global};
 
 /// How many names are listed at most.
 const MOST: usize = 16;
 
-/// Names in a row, the first 16 of them, and how many there are. One that can't be printed is a question mark.
+/// Names in a row, the first 16 of them, and how many there are, each as a line can hold it.
 #[derive(Drop)]
 pub struct Listing {
     alloc: Global,
@@ -30,8 +30,7 @@ impl Listing {
             if self.count > 0 {
                 self.text.push_str(", ")?;
             }
-            self.text
-                .push_str(if is_printable(name) { name } else { "?" })?;
+            write!(self.text, "{}", Shown(name))?;
         }
         self.count = self.count.saturating_add(1);
         Ok(())

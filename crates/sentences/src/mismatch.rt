@@ -1,7 +1,7 @@
 // Why words are not the arguments of a function.
 
 use crate::listing::Listing;
-use loader::name_of_type;
+use places::{Shown, name_of_type};
 use std::alloc::{AllocError, Global};
 use std::fmt;
 use syntax::types::ValType;
@@ -79,7 +79,7 @@ impl fmt::Display for Mismatch<'_> {
             } => {
                 let name = name_of_type(*value_type);
                 let most = greatest(*value_type);
-                write!(f, "argument {number} ({name}), '{word}': ")?;
+                write!(f, "argument {number} ({name}), '{}': ", Shown(word))?;
                 write!(
                     f,
                     "a whole number from 0 to {most}; -1 is written as {most}"

@@ -1,11 +1,10 @@
 // Where a run stopped that did not return, told in a sentence.
 
-use crate::names::is_printable;
 use events::ended::{Ended, Ending};
 use events::trap::TrapCode;
 use instance::stack::Site;
 use order::{MAX_TRAIL, Outcome, Told, Trail};
-use places::{Place, function_name, place_of_operation};
+use places::{Place, Shown, function_name, place_of_operation};
 use std::fmt;
 use std::io::{self, Write};
 use world_log::JobEnd;
@@ -83,15 +82,20 @@ impl<'a> Stopped<'a> {
     }
 }
 
+/// In what so much fuel is told.
+pub fn unit_of(fuel: u64) -> &'static str {
+    if fuel == 1 { "unit" } else { "units" }
+}
+
 /// What a trap means.
 fn meaning(trap: TrapCode) -> &'static str {
     match trap {
         TrapCode::Unreachable => "unreachable",
         TrapCode::DivideByZero => "division by zero",
-        TrapCode::Overflow => "a result that its type doesn't hold",
-        TrapCode::Memory => "an address beyond the memory",
-        TrapCode::Table => "an index beyond the table",
-        TrapCode::EmptyElement => "an empty element of the table",
+        TrapCode::Overflow => "a quotient out of range",
+        TrapCode::Memory => "an access outside the memory",
+        TrapCode::Table => "an index past the table",
+        TrapCode::EmptyElement => "an empty element",
         TrapCode::OtherType => "a function of another type",
     }
 }
@@ -108,19 +112,15 @@ fn write_reason<E: Write>(reason: Reason, err: &mut E) -> io::Result<()> {
     }
 }
 
-/// A function's name, if it can be printed on one line.
-fn printed_name(bytes: &[u8], function: u64) -> Option<&str> {
+/// The name of a function in the module's name section.
+fn name_of(bytes: &[u8], function: u64) -> Option<Shown<'_>> {
     let index = u32::try_from(function).ok()?;
-    let name = function_name(bytes, index)?;
-    if is_printable(name) {
-        return Some(name);
-    }
-    None
+    Some(Shown(function_name(bytes, index)?))
 }
 
 /// Writes a function's index and, where the module has it, its name.
 fn write_function<E: Write>(bytes: &[u8], function: u64, err: &mut E) -> io::Result<()> {
-    match printed_name(bytes, function) {
+    match name_of(bytes, function) {
         Some(name) => write!(err, "function {function} ({name})"),
         None => write!(err, "function {function}"),
     }
@@ -185,7 +185,7 @@ pub fn tell_stopped<W: fmt::Display, E: Write>(
     let used = stopped.used;
     write!(err, "{what} ")?;
     write_reason(stopped.reason, err)?;
-    write!(err, ", after {used} units")?;
+    write!(err, ", after {used} {}", unit_of(used))?;
     if let Some(site) = stopped.trail.get(0) {
         write_innermost(bytes, site, err)?;
     }

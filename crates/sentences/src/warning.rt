@@ -56,8 +56,34 @@ fn warn_of_exports<E: Write>(linked: &Linked, err: &mut E) -> io::Result<()> {
     )
 }
 
+/// Whether the module imports this call.
+fn imports(linked: &Linked, wanted: Call) -> bool {
+    let imports = linked.valid().contents().imports.as_slice();
+    imports.iter().any(|import| Call::from_name(import.name.as_slice()) == Some(wanted))
+}
+
+fn warn_of_work<E: Write>(linked: &Linked, err: &mut E) -> io::Result<()> {
+    let lacks = match (
+        linked.entry(EntryPoint::Work),
+        linked.entry(EntryPoint::AfterWork),
+    ) {
+        (Some(_), Some(_)) => return Ok(()),
+        (None, Some(_)) => "no uv_work",
+        (Some(_), None) => "no uv_after_work",
+        (None, None) => "neither uv_work nor uv_after_work",
+    };
+    if !imports(linked, Call::QueueWork) {
+        return Ok(());
+    }
+    writeln!(
+        err,
+        "warning: the module imports queue_work and exports {lacks}, so that each request is answered -38"
+    )
+}
+
 /// Says what an accepted module lacks to run on a loop. A sentence that can't be written changes nothing.
 pub fn warn<E: Write>(linked: &Linked, err: &mut E) {
     let _ = warn_of_table(linked, err);
     let _ = warn_of_exports(linked, err);
+    let _ = warn_of_work(linked, err);
 }

@@ -20,7 +20,8 @@ Example:
 
 const CHECK_TEXT: &str = "\
 Prints `accepted`, or what refuses the module, with its number and word, as `decode 10 Counts`,
-`validate 1 Type` or `link 2 Name`. Standard error says where and why.
+`validate 1 Type` or `link 2 Name`. Standard error says where and why, and warns of what an accepted
+module lacks to run on a loop: a table, exports.
 
 Status: 0 accepted; 1 the file, the memory or the output failed; 2 wrong words; 3 refused.
 
@@ -34,8 +35,8 @@ from 0 to 18446744073709551615, which stands for -1.
 Prints how the call ended and the fuel that it used: `return 7 used 1` with the results as signed numbers,
 `trap 4 used 2`, `depth used 64` or `spent used 1000000`; where the start function ended so, `start trap 4 used 2`.
 Standard error says where it did not return, and why.
-Traps: 1 unreachable, 2 division by zero, 3 overflow, 4 outside the memory, 5 outside the table,
-6 an empty element, 7 an element of another type.
+Traps: 1 unreachable, 2 division by zero, 3 a quotient out of range, 4 an access outside the memory,
+5 an index past the table, 6 an empty element, 7 a function of another type.
 
 Status: 0 returned; 1 the file, the memory or the output failed; 2 wrong words, or no such function;
 3 the module is refused; 4 it ended otherwise than by return.

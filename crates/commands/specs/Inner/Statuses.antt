@@ -8,7 +8,7 @@ use Rattle.commands.specs.declared.failure.Failure.TheVariants as failure
 abbrev pub status_of_failure : Failure → Status
 status_of_failure (failure.File _ _) = status.Failed
 status_of_failure failure.Memory = status.Failed
-status_of_failure failure.Output = status.Failed
+status_of_failure (failure.Output _) = status.Failed
 status_of_failure (failure.Script _ _) = status.Failed
 status_of_failure (failure.Refused _ _ _) = status.Refused
 status_of_failure (failure.NoFunction _ _) = status.Usage

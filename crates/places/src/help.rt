@@ -11,3 +11,7 @@ pub const OPTIMIZED: &str = "compile with -O1 or more";
 
 /// Floats can be computed by functions on integers.
 pub const SOFT: &str = "floating point is lowered by examples/kit/lower.py";
+
+/// What is imported, and no function of the host's, is missing in the module.
+pub const DEFINED: &str =
+    "link what defines it, for WASI examples/kit/wasi.c, or declare it as examples/uv.h does";

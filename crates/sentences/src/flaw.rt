@@ -1,0 +1,199 @@
+// What is wrong with a script, in words.
+
+use hex::FromHexError;
+use json::Token;
+use places::Shown;
+use std::fmt;
+
+/// A part of a script.
+#[derive(Clone, Copy)]
+pub enum Part {
+    Script,
+    Module(usize),
+    Loop(usize),
+    Step(usize),
+}
+
+/// What is wrong.
+#[derive(Clone, Copy)]
+pub enum Wrong<'a> {
+    /// This key is none of those that there are.
+    Unknown {
+        key: &'a str,
+        keys: &'static str,
+    },
+    /// This key stands there twice.
+    Twice(&'static str),
+    /// This key is missing.
+    Lacks(&'static str),
+    /// Another value is wanted of what has this name.
+    Wanted {
+        name: Option<&'static str>,
+        wanted: &'static str,
+        found: Token<'a>,
+    },
+    /// No step has this name.
+    NoStep(&'a str),
+    /// A step of this name takes so many numbers.
+    Count {
+        name: &'a str,
+        taken: usize,
+        given: usize,
+    },
+    /// A loop has a module of this number, of so many.
+    NoModule {
+        found: &'a str,
+        modules: u64,
+    },
+    /// This number lies elsewhere.
+    Outside {
+        name: &'static str,
+        found: &'a str,
+        least: u64,
+        most: u64,
+    },
+    /// There are so many of these.
+    Many {
+        name: &'static str,
+        found: u64,
+        least: u64,
+        most: u64,
+    },
+    /// These are no bytes.
+    Digits(FromHexError),
+}
+
+/// The first thing that is wrong with a script: where it begins, in bytes, in which part, and what it is.
+#[derive(Clone, Copy)]
+pub struct Flaw<'a> {
+    pub at: usize,
+    pub part: Part,
+    pub wrong: Wrong<'a>,
+}
+
+impl<'a> Flaw<'a> {
+    /// This is wrong there.
+    pub fn new(at: usize, part: Part, wrong: Wrong<'a>) -> Flaw<'a> {
+        Flaw { at, part, wrong }
+    }
+
+    /// Another value is wanted of what has this name.
+    pub fn wanted(
+        at: usize,
+        part: Part,
+        name: Option<&'static str>,
+        wanted: &'static str,
+        found: Token<'a>,
+    ) -> Flaw<'a> {
+        let wrong = Wrong::Wanted {
+            name,
+            wanted,
+            found,
+        };
+        Flaw { at, part, wrong }
+    }
+}
+
+impl fmt::Display for Part {
+    fn fmt<W: fmt::Write>(&self, f: &mut fmt::Formatter<W>) -> fmt::Result {
+        match self {
+            Part::Script => Ok(()),
+            Part::Module(number) => write!(f, "module {number}: "),
+            Part::Loop(number) => write!(f, "loop {number}: "),
+            Part::Step(number) => write!(f, "step {number}: "),
+        }
+    }
+}
+
+fn write_token<W: fmt::Write>(f: &mut fmt::Formatter<W>, token: Token<'_>) -> fmt::Result {
+    match token {
+        Token::BeginObject => f.write_str("an object"),
+        Token::BeginArray => f.write_str("a list"),
+        Token::String(_) => f.write_str("a string"),
+        Token::Number(text) => write!(f, "{}", Shown(text)),
+        Token::Bool(true) => f.write_str("true"),
+        Token::Bool(false) => f.write_str("false"),
+        Token::Null => f.write_str("null"),
+        Token::EndObject | Token::EndArray | Token::Key(_) | Token::Bad => f.write_str("none"),
+    }
+}
+
+fn write_wanted<W: fmt::Write>(
+    f: &mut fmt::Formatter<W>,
+    name: Option<&'static str>,
+    wanted: &str,
+    found: Token<'_>,
+) -> fmt::Result {
+    if let Some(name) = name {
+        write!(f, "{name}: ")?;
+    }
+    write!(f, "{wanted} is wanted, and ")?;
+    write_token(f, found)?;
+    f.write_str(" is there")
+}
+
+fn write_count<W: fmt::Write>(
+    f: &mut fmt::Formatter<W>,
+    name: &str,
+    taken: usize,
+    given: usize,
+) -> fmt::Result {
+    match taken {
+        1 => write!(f, "{name} takes 1 number; given: {given}"),
+        _ => write!(f, "{name} takes {taken} numbers; given: {given}"),
+    }
+}
+
+impl fmt::Display for Wrong<'_> {
+    fn fmt<W: fmt::Write>(&self, f: &mut fmt::Formatter<W>) -> fmt::Result {
+        match *self {
+            Wrong::Unknown { key, keys } => {
+                write!(f, "\"{}\" is no key; keys: {keys}", Shown(key))
+            }
+            Wrong::Twice(key) => write!(f, "the key \"{key}\" stands there twice"),
+            Wrong::Lacks(key) => write!(f, "the key \"{key}\" is missing"),
+            Wrong::Wanted {
+                name,
+                wanted,
+                found,
+            } => write_wanted(f, name, wanted, found),
+            Wrong::NoStep(name) => write!(
+                f,
+                "\"{}\" is no step; steps: loop, post, take, start, finish, collect, send, cancel, clock",
+                Shown(name)
+            ),
+            Wrong::Count { name, taken, given } => write_count(f, name, taken, given),
+            Wrong::NoModule { found, modules } => {
+                write!(
+                    f,
+                    "there is no module {found}; modules of the script: {modules}"
+                )
+            }
+            Wrong::Outside {
+                name,
+                found,
+                least,
+                most,
+            } => write!(f, "{name} {found}: {least} to {most}"),
+            Wrong::Many {
+                name,
+                found,
+                least,
+                most,
+            } => write!(f, "{name} {found}: {least} to {most}"),
+            Wrong::Digits(fault) => {
+                write!(
+                    f,
+                    "{fault}; two digits for each byte, with no 0x and no blanks"
+                )
+            }
+        }
+    }
+}
+
+impl fmt::Display for Flaw<'_> {
+    fn fmt<W: fmt::Write>(&self, f: &mut fmt::Formatter<W>) -> fmt::Result {
+        let (part, wrong) = (self.part, self.wrong);
+        write!(f, "{part}{wrong}")
+    }
+}

@@ -30,13 +30,15 @@ pub there : {J : Type 0} (old : PassView J) (jobs : HandView J) (replies : List 
     → k < length board.replies → k < length replies
 there old jobs replies was board own k below =
     let ids = length-map board.replies (λ (l : LineView). l.id) in
-    let same : length (map (λ (l : LineView). l.id) board.replies) ≡ length (map (λ (h : HandView Reply). h.line) replies) = ap length (sym own.replies) ∙ ap (λ (p : PassView _). length (map (λ (h : HandView Reply). h.line) p.replies)) (sym was) in
+    let same : length (map (λ (l : LineView). l.id) board.replies) ≡ length (map (λ (h : HandView Reply). h.line) replies) =
+    ap length (sym own.replies) ∙ ap (λ (p : PassView _). length (map (λ (h : HandView Reply). h.line) p.replies)) (sym was) in
     let size = length-map replies (λ (h : HandView Reply). h.line) in
     omega arith
 
 -- the hand and the line of one loop's replies belong together
 pub line_there : {J : Type 0} (old : PassView J) (jobs : HandView J) (replies : List (HandView Reply)) → record { jobs = jobs; replies = replies } ≡ old → (board : BoardView) → IsPassOf board old
-    → (line : LineView) (lines : List LineView) → record { jobs = line; replies = lines } ≡ board → (k : ℕ) (h : HandView Reply) (l : LineView) → slice_get replies k ≡ Some h → slice_get lines k ≡ Some l → h.line ≡ l.id
+    → (line : LineView) (lines : List LineView) → record { jobs = line; replies = lines } ≡ board → (k : ℕ) (h : HandView Reply) (l : LineView)
+    → slice_get replies k ≡ Some h → slice_get lines k ≡ Some l → h.line ≡ l.id
 line_there old jobs replies was board own line lines is k h l at on =
     same_part (λ (h : HandView Reply). h.line) (λ (l : LineView). l.id) replies lines k h l
     (ap (λ (p : PassView _). map (λ h. h.line) p.replies) was ∙ own.replies ∙ ap (λ (b : BoardView). map (λ l. l.id) b.replies) (sym is)) at on
@@ -52,7 +54,8 @@ each_set P (y ∷ xs) (suc k) b h own (suc i) x e = each_set (λ j. P (suc j)) x
 pub still_of_loops : (hands : List (HandView Reply)) (k : ℕ) (a b : HandView Reply) → slice_get hands k ≡ Some a → b.key ≡ a.key → AreOfTheirLoops hands → AreOfTheirLoops (set hands k b)
 still_of_loops hands k a b at same each = each_set (λ i (h : HandView Reply). h.key ≡ i) hands k b each (same ∙ each k a at)
 
-module _ {J : Type 0} (old : PassView J) (jobs : HandView J) (replies : List (HandView Reply)) (was : record { jobs = jobs; replies = replies } ≡ old) (k : ℕ) (a b : HandView Reply) (at : slice_get replies k ≡ Some a) where
+module _ {J : Type 0} (old : PassView J) (jobs : HandView J) (replies : List (HandView Reply)) (was : record { jobs = jobs; replies = replies } ≡ old)
+    (k : ℕ) (a b : HandView Reply) (at : slice_get replies k ≡ Some a) where
   pub still_own : (board : BoardView) → IsPassOf board old → b.line ≡ a.line → IsPassOf board (record { jobs = jobs; replies = set replies k b })
   still_own board own same =
       record {

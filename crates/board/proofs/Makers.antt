@@ -59,12 +59,14 @@ pub made_later : (n key : ℕ) (lines : List LineView) → map one_later (makers
 made_later n key [] = refl
 made_later n key (l ∷ ls) = ap (λ xs. maker_at (n + 1) key l ∷ xs) (made_later n (key + 1) ls)
 
-pub one_line_more : (n key count : ℕ) (lines : List LineView) (line : LineView) → key + length lines ≡ count → makers_at n key (lines ++ line ∷ []) ≡ makers_at n key lines ++ maker_at n count line ∷ []
+pub one_line_more : (n key count : ℕ) (lines : List LineView) (line : LineView) → key + length lines ≡ count
+    → makers_at n key (lines ++ line ∷ []) ≡ makers_at n key lines ++ maker_at n count line ∷ []
 one_line_more n key count [] line e = ap (λ k. maker_at n k line ∷ []) (omega arith)
 one_line_more n key count (l ∷ ls) line e = ap (λ xs. maker_at n key l ∷ xs) (one_line_more n (key + 1) count ls line (omega arith))
 
 -- the hands that they make are all numbered alike
-all_numbered_by : {T : Type 0} (hands : List (HandView T)) (n key : ℕ) (lines : List LineView) → map (λ h. h.number) hands ≡ map (λ m. m.next) (makers_at n key lines) → ByRecursion (λ h. h.number ≡ n) hands
+all_numbered_by : {T : Type 0} (hands : List (HandView T)) (n key : ℕ) (lines : List LineView)
+    → map (λ h. h.number) hands ≡ map (λ m. m.next) (makers_at n key lines) → ByRecursion (λ h. h.number ≡ n) hands
 all_numbered_by [] n key lines e = tt
 all_numbered_by (h ∷ hs) n key [] e = let none : suc (length (map (λ (h : HandView _). h.number) hs)) ≡ 0 = ap length e in absurd (omega arith)
 all_numbered_by (h ∷ hs) n key (l ∷ ls) e = (ap (λ xs. get_or xs 0 n) e, all_numbered_by hs n (key + 1) ls (ap (drop 1) e))
@@ -73,7 +75,8 @@ pub all_numbered : {T : Type 0} (hands : List (HandView T)) (n key : ℕ) (lines
 all_numbered hands n key lines e = All-from_recursion (λ (h : HandView _). h.number ≡ n) hands (all_numbered_by hands n key lines e)
 
 -- and their keys are counted from the first one
-pub all_keyed : {T : Type 0} (hands : List (HandView T)) (n key : ℕ) (lines : List LineView) → map (λ h. h.key) hands ≡ map (λ m. m.key) (makers_at n key lines) → (k : ℕ) (h : HandView T) → slice_get hands k ≡ Some h
+pub all_keyed : {T : Type 0} (hands : List (HandView T)) (n key : ℕ) (lines : List LineView)
+    → map (λ h. h.key) hands ≡ map (λ m. m.key) (makers_at n key lines) → (k : ℕ) (h : HandView T) → slice_get hands k ≡ Some h
     → h.key ≡ key + k
 all_keyed [] n key lines e k h at = absurd (none_there h at)
 all_keyed (x ∷ xs) n key [] e k h at = let none : suc (length (map (λ (h : HandView _). h.key) xs)) ≡ 0 = ap length e in absurd (omega arith)
@@ -84,7 +87,8 @@ all_keyed (x ∷ xs) n key (l ∷ ls) e zero h at =
 all_keyed (x ∷ xs) n key (l ∷ ls) e (suc k) h at = let rest = all_keyed xs n (key + 1) ls (ap (drop 1) e) k h at in omega arith
 
 -- a fact of each place, of a list with one more
-pub each_push : {A : Type 0} (P : ℕ → A → Type 0) (xs : List A) (x : A) → ((k : ℕ) (y : A) → slice_get xs k ≡ Some y → P k y) → P (length xs) x → (k : ℕ) (y : A) → slice_get (xs ++ x ∷ []) k ≡ Some y → P k y
+pub each_push : {A : Type 0} (P : ℕ → A → Type 0) (xs : List A) (x : A) → ((k : ℕ) (y : A) → slice_get xs k ≡ Some y → P k y) → P (length xs) x
+    → (k : ℕ) (y : A) → slice_get (xs ++ x ∷ []) k ≡ Some y → P k y
 each_push P [] x h own zero y e = subst (P 0) (same_Some x y e) own
 each_push P [] x h own (suc k) y e = absurd (none_there y e)
 each_push P (z ∷ xs) x h own zero y e = h zero y e

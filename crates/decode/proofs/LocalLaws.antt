@@ -36,7 +36,8 @@ pub record Grouped (count : ℕ) (types : List ValType) (bytes rest : List ℕ) 
   pub all : types ≡ ungrouped groups
   pub few : length types ≤ 256
 
-pub group_more : {count : ℕ} {types more : List ValType} {bytes mid rest : List ℕ} (g : ℕ × ValType) → Grouped count types bytes mid → Leaves (group g) mid rest → more ≡ types ++ replicate g.0 g.1 → g.0 + length types ≤ 256 → Grouped (count + 1) more bytes rest
+pub group_more : {count : ℕ} {types more : List ValType} {bytes mid rest : List ℕ} (g : ℕ × ValType) → Grouped count types bytes mid
+    → Leaves (group g) mid rest → more ≡ types ++ replicate g.0 g.1 → g.0 + length types ≤ 256 → Grouped (count + 1) more bytes rest
 group_more {count} {types} {more} {bytes} {mid} {rest} g h k e few =
     let old = h.as_many in
     record {
@@ -61,7 +62,8 @@ record Begins {V : Type 0} (G : V → Language) (vs ws : List V) (mid rest : Lis
   whole : ws ≡ vs ++ more
   behind : Leaves (items G more) mid rest
 
-items_begin : {V : Type 0} {G : V → Language} → IsPrefixFree G → (vs ws : List V) (bytes mid rest : List ℕ) → length vs ≤ length ws → Leaves (items G vs) bytes mid → Leaves (items G ws) bytes rest → Begins G vs ws mid rest
+items_begin : {V : Type 0} {G : V → Language} → IsPrefixFree G → (vs ws : List V) (bytes mid rest : List ℕ) → length vs ≤ length ws
+    → Leaves (items G vs) bytes mid → Leaves (items G ws) bytes rest → Begins G vs ws mid rest
 items_begin {V} {G} g [] ws bytes mid rest l h k = record { more = ws; whole = refl; behind = subst (λ t. Leaves (items G ws) t rest) (items_none h) k }
 items_begin g (v ∷ vs) [] bytes mid rest l h k = absurd (omega arith)
 items_begin {V} {G} g (v ∷ vs) (w ∷ ws) bytes mid rest l h k =
@@ -73,7 +75,8 @@ items_begin {V} {G} g (v ∷ vs) (w ∷ ws) bytes mid rest l h k =
     record { more = r.more; whole = ap (λ u. u ∷ ws) (sym here.0) ∙ ap (λ us. v ∷ us) r.whole; behind = r.behind }
 
 -- where the locals of one group more are too many
-pub too_many : {count read : ℕ} {types : List ValType} {bytes mid behind : List ℕ} (g : ℕ × ValType) → read < count → Grouped read types bytes mid → Leaves (group g) mid behind → 256 < g.0 + length types → NoneLeaves (LocalsOf count) bytes
+pub too_many : {count read : ℕ} {types : List ValType} {bytes mid behind : List ℕ} (g : ℕ × ValType) → read < count → Grouped read types bytes mid
+    → Leaves (group g) mid behind → 256 < g.0 + length types → NoneLeaves (LocalsOf count) bytes
 too_many {count} {read} {types} {bytes} {mid} {behind} g l h k long all rest w =
     let s = w.spelled in
     let many = s.as_many in
@@ -88,7 +91,8 @@ too_many {count} {read} {types} {bytes} {mid} {behind} g l h k long all rest w =
     omega (arith, types_all, types_now, pushed, length-append (ungrouped gs) (ungrouped b.more), length-append (ungrouped h.groups) (replicate g.0 g.1), length-replicate g.0 g.1)
 
 -- a count, and the locals of so many groups
-pub locals_counted : {count : ℕ} {bytes mid : List ℕ} → Leaves (u32 count) bytes mid → (result : Result (List ValType × Bor (List ℕ)) Stop) → Reads (LocalsOf count) mid result → Reads Locals bytes result
+pub locals_counted : {count : ℕ} {bytes mid : List ℕ} → Leaves (u32 count) bytes mid → (result : Result (List ValType × Bor (List ℕ)) Stop)
+    → Reads (LocalsOf count) mid result → Reads Locals bytes result
 locals_counted {count} {bytes} {mid} h (Ok r) k =
     let s = k.spelled in
     let all = joined (subst (λ n. Leaves (u32 n) bytes mid) (sym s.as_many) h) (record { front = k.front; spelled = s.spelled; split = k.split }) in

@@ -1,5 +1,6 @@
 -- A loop is alive exactly where a handle is active, a request is outstanding or a handle is closing.
-use Rattle.std.proofs.Common.{◌≡◌, ◌≢◌, ◌↔◌, ℕ, suc, ◌+◌, ◌-◌, ◌<◌, ◌≤◌, Bool, true, false, cond, not, ◌&&◌, ◌||◌, inl, inr, ◌⊎◌, List, [], ◌∷◌, ◌++◌, length, map, Option, Some, None, is_some, Contains, All, refl, sym, ap, subst, ◌∙◌, arith, eqb-true, IsTrue}
+use Rattle.std.proofs.Common.{◌≡◌, ◌≢◌, ◌↔◌, ℕ, suc, ◌+◌, ◌-◌, ◌<◌, ◌≤◌, Bool, true, false, cond, not, ◌&&◌, ◌||◌, inl, inr, ◌⊎◌, List, [], ◌∷◌, ◌++◌, length}
+use Rattle.std.proofs.Common.{map, Option, Some, None, is_some, Contains, All, refl, sym, ap, subst, ◌∙◌, arith, eqb-true, IsTrue}
 use Rattle.std.specs.List.{list_any, slice_get}
 use Rattle.std.specs.Option.{option_map, option_map_or, option_and_then}
 use Rattle.std.specs.Prelude.{nat_le, IfSome}
@@ -15,7 +16,8 @@ use Rattle.handles.specs.Table.{Table, record_of, same_kind, place_of, place_in,
 use Rattle.handles.proofs.Dues.{first_is_least}
 use Rattle.handles.proofs.Laws.{in_order-place, place-in_order}
 use Rattle.phases.specs.Fitting.{IsKept}
-use Rattle.phases.specs.PhaseList.{is_empty, is_active_handle, active_from, active_asyncs, has_active, is_alive, HasActive, IsAlive, IsActive, HasActiveOf, IsNextDue, IsAtOnce, IsHint, until_due, hint_of}
+use Rattle.phases.specs.PhaseList.{is_empty, is_active_handle, active_from, active_asyncs, has_active, is_alive, HasActive, IsAlive, IsActive, HasActiveOf}
+use Rattle.phases.specs.PhaseList.{IsNextDue, IsAtOnce, IsHint, until_due, hint_of}
 use Rattle.phases.specs.Roster.{Roster, is_handle}
 use Rattle.phases.specs.State.{State}
 

@@ -1,5 +1,6 @@
 -- A loop makes MAX_ASYNCS asyncs at most.
-use Rattle.std.proofs.Common.{◌≡◌, ℕ, zero, suc, ◌<◌, ◌≤◌, ◌==◌, ◌&&◌, Bool, true, false, cond, not, List, [], ◌∷◌, length, map, Option, Some, None, refl, sym, ap, subst, ◌∙◌, arith, slice_get, MatchBool, MatchOption}
+use Rattle.std.proofs.Common.{◌≡◌, ℕ, zero, suc, ◌<◌, ◌≤◌, ◌==◌, ◌&&◌, Bool, true, false, cond, not, List, [], ◌∷◌, length, map, Option, Some, None, refl, sym}
+use Rattle.std.proofs.Common.{ap, subst, ◌∙◌, arith, slice_get, MatchBool, MatchOption}
 use Rattle.std.proofs.lemmas.List.{length-map}
 use Rattle.limits.specs.declared.TheConstants.{MAX_ASYNCS}
 use Rattle.syntax.specs.declared.types.Value.{Value}
@@ -26,7 +27,8 @@ use Rattle.phases.specs.Guests.{GuestCall, GuestSteps}
 use Rattle.phases.specs.Host.{with_roster, with_requests}
 use Rattle.phases.specs.History.{Event, Stepped, OrderAsked, EndOffered, CancelAnswered, ClockRaised, MovedBeside, EventStep, Offers}
 use Rattle.phases.specs.Outside.{CancelIn, next_order_of, next_in, handing}
-use Rattle.phases.specs.Step.{StepsWith, StepIn, ListStep, EntryStep, NextPhase, RunsFrom, CallsBack, CallsHandle, Skips, TakesFirst, AfterWork, in_state, sharing, begun, entered, now_in, turn, is_as_listed, handle_function}
+use Rattle.phases.specs.Step.{StepsWith, StepIn, ListStep, EntryStep, NextPhase, RunsFrom, CallsBack, CallsHandle, Skips, TakesFirst, AfterWork, in_state}
+use Rattle.phases.specs.Step.{sharing, begun, entered, now_in, turn, is_as_listed, handle_function}
 use Rattle.phases.proofs.GuestCallsKeepListed.{guest_grows}
 
 abbrev pub Few : State → Type 0
@@ -47,7 +49,8 @@ stays_few s t same few = subst (λ (r : Roster). length r.asyncs ≤ MAX_ASYNCS)
 
 module _ {S : Type 0} (calls : Calls S) (g : Setting) where
   module _ (did : StepDid) (made : List GuestCall) (new : Loop S) where
-    run_few : (old : Loop S) (kind : EntryKind) (number function : ℕ) (args : List Value) (reply : Option (List ℕ)) → RunsFrom calls g old kind number function args reply did made new → Few old.state → Few new.state
+    run_few : (old : Loop S) (kind : EntryKind) (number function : ℕ) (args : List Value) (reply : Option (List ℕ))
+        → RunsFrom calls g old kind number function args reply did made new → Few old.state → Few new.state
     run_few old kind number function args reply h few =
         stays_few h.state new.state (ap (λ (s : State). s.roster) h.finished)
         ((guest_grows calls g made (begun old.state reply, old.shared) (h.state, new.shared) h.answers).few few)
@@ -78,7 +81,8 @@ module _ {S : Type 0} (calls : Calls S) (g : Setting) where
     taking_few old false async_no handle few h = same_few old h.1 few
 
     async_few : (old : Loop S) (async_no : ℕ) (handle : Option ℕ) → Few old.state
-        → MatchOption handle ⊥ (λ handle. MatchBool (is_active_handle old.state.roster.handles (Some handle)) (TakesFirst calls g old async_no handle did made new) (Skips calls g old kind.Async handle did made new))
+        → MatchOption handle ⊥ (λ handle. MatchBool (is_active_handle old.state.roster.handles (Some handle))
+        (TakesFirst calls g old async_no handle did made new) (Skips calls g old kind.Async handle did made new))
         → Few new.state
     async_few old async_no None few h = absurd h
     async_few old async_no (Some handle) few h = taking_few old (is_active_handle old.state.roster.handles (Some handle)) async_no handle few h
@@ -109,7 +113,8 @@ module _ {S : Type 0} (calls : Calls S) (g : Setting) where
 
     turned_roster : (s : State) → (turn s).1.roster ≡ s.roster
     turned_roster s = by (may_end s.phase && not (is_alive s)) where
-      by : (b : Bool) → (cond {A = StepDid × State} b (step.Over, record s { status = Over }) (Entered (next_phase s.phase) (now_in s (next_phase s.phase)), entered s (next_phase s.phase))).1.roster ≡ s.roster
+      by : (b : Bool) → (cond {A = StepDid × State} b (step.Over, record s { status = Over })
+          (Entered (next_phase s.phase) (now_in s (next_phase s.phase)), entered s (next_phase s.phase))).1.roster ≡ s.roster
       by true = refl
       by false = refl
 

@@ -10,7 +10,8 @@ use Rattle.validate.specs.Typing.{type_of}
 use Rattle.reduction.specs.Run.{HostCall}
 use Rattle.reduction.specs.Hosting.{Lawful}
 use Rattle.imports.specs.declared.call.Call.{Call}
-use Rattle.imports.specs.declared.call.Call.TheVariants.{Now, TimerInit, IdleInit, CheckInit, TimerStart, TimerStop, IdleStop, CheckStop, TimerAgain, IdleStart, CheckStart, AsyncInit, AsyncSend, IsActive, Close, QueueWork, Cancel, InLen, InCopy, OutSet, Emit}
+use Rattle.imports.specs.declared.call.Call.TheVariants.{Now, TimerInit, IdleInit, CheckInit, TimerStart, TimerStop, IdleStop, CheckStop, TimerAgain, IdleStart}
+use Rattle.imports.specs.declared.call.Call.TheVariants.{CheckStart, AsyncInit, AsyncSend, IsActive, Close, QueueWork, Cancel, InLen, InCopy, OutSet, Emit}
 use Rattle.phases.specs.declared.progress.CancelState.{CancelState}
 use Rattle.phases.specs.declared.progress.CancelState.TheVariants.{Unknown, Pending}
 use Rattle.phases.specs.declared.progress.CancelState.TheVariants as cancel_state
@@ -110,7 +111,8 @@ module _ {S : Type 0} (calls : Calls S) (lawful : IsLawful calls) where
   cancels_at_upto cancel_state.Answered old new number answer h upto = upto_same old new h.1 upto
   cancels_at_upto (Pending slot) old new number answer h upto =
       let last : new.0.last ≡ old.0.last = ap (λ (rs : Requests). rs.last) h.3 ∙ kept_last h.0 in
-      rw last (upto_view old.0.last (calls.view old.1) (calls.view new.1) (cancelled_opened (calls.view old.1) (calls.view new.1) (slot, number) h.0 (lawful.cancels old.1 new.1 slot number h.0 h.1)) upto) where
+      rw last (upto_view old.0.last (calls.view old.1) (calls.view new.1)
+      (cancelled_opened (calls.view old.1) (calls.view new.1) (slot, number) h.0 (lawful.cancels old.1 new.1 slot number h.0 h.1)) upto) where
         kept_last : (b : Bool) → (cond b (with_stage old.0 number cancelled) old.0).last ≡ old.0.last
         kept_last true = refl
         kept_last false = refl

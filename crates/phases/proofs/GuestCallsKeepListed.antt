@@ -1,5 +1,6 @@
 -- No call of a guest takes away what a loop has listed.
-use Rattle.std.proofs.Common.{◌≡◌, ℕ, zero, suc, ◌+◌, ◌≤◌, ◌==◌, Bool, true, false, cond, not, ◌&&◌, ◌⊎◌, inl, inr, List, [], ◌∷◌, ◌++◌, length, map, find, Option, Some, None, refl, sym, ap, subst, ◌∙◌, arith, MatchBool, MatchOption, IsSomeAnd, nat_lt, nat_le, codes, slice_get}
+use Rattle.std.proofs.Common.{◌≡◌, ℕ, zero, suc, ◌+◌, ◌≤◌, ◌==◌, Bool, true, false, cond, not, ◌&&◌, ◌⊎◌, inl, inr, List, [], ◌∷◌, ◌++◌, length, map, find}
+use Rattle.std.proofs.Common.{Option, Some, None, refl, sym, ap, subst, ◌∙◌, arith, MatchBool, MatchOption, IsSomeAnd, nat_lt, nat_le, codes, slice_get}
 use Rattle.std.specs.Option.{option_map_or, option_or}
 use Rattle.std.specs.FinMap as finite
 use Rattle.std.proofs.lemmas.Bool.{eqb-false}
@@ -11,11 +12,13 @@ use Rattle.syntax.specs.declared.types.Value.TheVariants.{I32, I64}
 use Rattle.handles.specs.declared.handle.Record.{Record}
 use Rattle.handles.specs.declared.handle.Kind.{Kind}
 use Rattle.handles.specs.declared.handle.Kind.TheVariants as kind
-use Rattle.handles.specs.Table.{Table, record_of, IsClosing, new_record, with_record, with_started, saturated, stopped, closed, same_kind, was_started, after_start, after_stop, after_again, after_close}
+use Rattle.handles.specs.Table.{Table, record_of, IsClosing, new_record, with_record, with_started, saturated, stopped, closed, same_kind, was_started}
+use Rattle.handles.specs.Table.{after_start, after_stop, after_again, after_close}
 use Rattle.reduction.specs.Run.{HostCall}
 use Rattle.reduction.specs.Hosting.{Lawful}
 use Rattle.imports.specs.declared.call.Call.{Call}
-use Rattle.imports.specs.declared.call.Call.TheVariants.{Now, TimerInit, IdleInit, CheckInit, TimerStart, TimerStop, IdleStop, CheckStop, TimerAgain, IdleStart, CheckStart, AsyncInit, AsyncSend, IsActive, Close, QueueWork, Cancel, InLen, InCopy, OutSet, Emit}
+use Rattle.imports.specs.declared.call.Call.TheVariants.{Now, TimerInit, IdleInit, CheckInit, TimerStart, TimerStop, IdleStop, CheckStop, TimerAgain, IdleStart}
+use Rattle.imports.specs.declared.call.Call.TheVariants.{CheckStart, AsyncInit, AsyncSend, IsActive, Close, QueueWork, Cancel, InLen, InCopy, OutSet, Emit}
 use Rattle.order.specs.Uv.Numbers.{invalid, none_left}
 use Rattle.order.specs.Uv.Bytes.{taken_out}
 use Rattle.order.specs.Work.{WorkOrder}

@@ -25,7 +25,8 @@ use Rattle.phases.proofs.StepFates.{Held, WasWon, after_of, Steps, step_holds, n
 use Rattle.phases.proofs.RequestByNumber.{Fits, Same, Stages, numbered, Stands, Owned, fits_more, fits_staged, fits_handed, fits_answered, only_found, found_only}
 
 -- some events and then others
-history_split : {S : Type 0} (calls : Calls S) (g : Setting) (xs ys : List Event) (old new : Loop S) → History calls g old (xs ++ ys) new → (mid : Loop S) × History calls g old xs mid × History calls g mid ys new
+history_split : {S : Type 0} (calls : Calls S) (g : Setting) (xs ys : List Event) (old new : Loop S) → History calls g old (xs ++ ys) new
+    → (mid : Loop S) × History calls g old xs mid × History calls g mid ys new
 history_split calls g [] ys old new h = (old, refl, h)
 history_split calls g (x ∷ xs) ys old new h = let it = history_split calls g xs ys h.0 new h.2 in (it.0, (h.0, h.1, it.1), it.2)
 
@@ -97,7 +98,8 @@ module _ {S : Type 0} (calls : Calls S) (g : Setting) (r : ℕ) where
     next_good Running s f = handing_good s.requests (lowest_open s.requests) refl f
     next_good Over s f = handing_good s.requests (lowest_open s.requests) refl f
 
-    offered_good : (o : WorkOrder) (end : WorkEnd) (taken : Bool) (old new : Loop S) → Offers calls g o end taken old new → Good ran early events old.state.requests → Good ran early events new.state.requests
+    offered_good : (o : WorkOrder) (end : WorkEnd) (taken : Bool) (old new : Loop S) → Offers calls g o end taken old new
+        → Good ran early events old.state.requests → Good ran early events new.state.requests
     offered_good o end true old new h f =
         subst (Good ran early events) (sym (ap (λ l. l.state.requests) h.1.1))
         (fits_answered r (WasAsked g (guest_calls events)) (WasWon g r (ByOwner events) (guest_calls events)) ran early old.state.requests o end h.1.0.one h.0 f)
@@ -114,11 +116,13 @@ module _ {S : Type 0} (calls : Calls S) (g : Setting) (r : ℕ) where
       won_good q found zeroed f =
           subst (λ cs. Held g r (ByOwner (events ++ e ∷ [])) ran early cs (with_stage rs n Cancelled)) (sym (calls_push events e))
           (nothing_more g r (ByOwner (events ++ e ∷ [])) ran early (guest_calls events) (with_stage rs n Cancelled) (with_stage rs n Cancelled) refl
-          (fits_staged r n Cancelled (WasAsked g (guest_calls events)) (WasAsked g (guest_calls events)) (WasWon g r (ByOwner events) (guest_calls events)) (WasWon g r (ByOwner (events ++ e ∷ [])) (guest_calls events)) ran early rs stages f)) where
+          (fits_staged r n Cancelled (WasAsked g (guest_calls events)) (WasAsked g (guest_calls events)) (WasWon g r (ByOwner events) (guest_calls events))
+          (WasWon g r (ByOwner (events ++ e ∷ [])) (guest_calls events)) ran early rs stages f)) where
             is_event : r ≡ n → e ≡ CancelAnswered r 0
             is_event same = ap (λ k. CancelAnswered k answer) (sym same) ∙ ap (CancelAnswered r) zeroed
 
-            stages : Stages (WasAsked g (guest_calls events)) (WasAsked g (guest_calls events)) (WasWon g r (ByOwner events) (guest_calls events)) (WasWon g r (ByOwner (events ++ e ∷ [])) (guest_calls events)) r n Cancelled rs
+            stages : Stages (WasAsked g (guest_calls events)) (WasAsked g (guest_calls events)) (WasWon g r (ByOwner events) (guest_calls events))
+                (WasWon g r (ByOwner (events ++ e ∷ [])) (guest_calls events)) r n Cancelled rs
             stages = record {
               covers = λ o a. a;
               apart = λ other. same_won g r (ByOwner events) (ByOwner (events ++ e ∷ [])) (guest_calls events) (same_owner events e (λ is. other (sym (names is).0)));
@@ -133,7 +137,8 @@ module _ {S : Type 0} (calls : Calls S) (g : Setting) (r : ℕ) where
     pub event_held : (e : Event) (old new : Loop S) → EventStep calls g e old new → Good ran early events old.state.requests → Good ran early (events ++ e ∷ []) new.state.requests
     event_held (Stepped did emits made) old new h f = stepped_held did emits made old new h f
     event_held (OrderAsked order) old new h f =
-        silent (OrderAsked order) (next_order_of old.state).1.requests new.state.requests refl (no_cancel (OrderAsked order) refl) (ap (λ l. l.state.requests) h.1) (next_good old.state.status old.state f)
+        silent (OrderAsked order) (next_order_of old.state).1.requests new.state.requests refl (no_cancel (OrderAsked order) refl)
+        (ap (λ l. l.state.requests) h.1) (next_good old.state.status old.state f)
     event_held (EndOffered o end taken) old new h f =
         silent (EndOffered o end taken) new.state.requests new.state.requests refl (no_cancel (EndOffered o end taken) refl) refl (offered_good o end taken old new h f)
     event_held (CancelAnswered request answer) old new h f =
@@ -144,7 +149,8 @@ module _ {S : Type 0} (calls : Calls S) (g : Setting) (r : ℕ) where
         silent MovedBeside old.state.requests new.state.requests refl (no_cancel MovedBeside refl) (ap (λ s. s.requests) h.state) f
 
   -- the same of many events
-  run_held : (ran early : Type 0) (events more : List Event) (old new : Loop S) → History calls g old more new → Good ran early events old.state.requests → Good ran early (events ++ more) new.state.requests
+  run_held : (ran early : Type 0) (events more : List Event) (old new : Loop S) → History calls g old more new → Good ran early events old.state.requests
+      → Good ran early (events ++ more) new.state.requests
   run_held ran early events [] old new h f =
       subst (λ l. Good ran early (events ++ []) l.state.requests) (sym h) (subst (λ es. Good ran early es old.state.requests) (sym (append-nil events)) f)
   run_held ran early events (e ∷ more) old new h f =
@@ -170,19 +176,25 @@ module _ {S : Type 0} (calls : Calls S) (g : Setting) (r : ℕ) where
 
   quiet_next : (events : List Event) (e : Event) (old new : Loop S) → is_after_event r e ≡ false → EventStep calls g e old new → Holds events old → Holds (events ++ e ∷ []) new
   quiet_next events e old new none h was = record {
-    good = less_ran r (WasAsked g (guest_calls (events ++ e ∷ []))) (WasWon g r (ByOwner (events ++ e ∷ [])) (guest_calls (events ++ e ∷ []))) (HasRun events) (HasRun (events ++ e ∷ [])) (Unit {0}) new.state.requests
+    good =
+        less_ran r (WasAsked g (guest_calls (events ++ e ∷ []))) (WasWon g r (ByOwner (events ++ e ∷ [])) (guest_calls (events ++ e ∷ []))) (HasRun events)
+        (HasRun (events ++ e ∷ [])) (Unit {0}) new.state.requests
         (λ k. subst (λ n. 1 ≤ n) (uncounted events e none) k) (event_held (HasRun events) (Unit {0}) events e old new h was.good);
     once = subst (λ n. n ≤ 1) (sym (uncounted events e none)) was.once;
   }
 
   -- an after-work callback of the request
-  module _ (events : List Event) (did : StepDid) (emits : List ℕ) (made : List GuestCall) (old new : Loop S) (h : EventStep calls g (Stepped did emits made) old new) (was : Holds events old) (is : is_after_event r (Stepped did emits made) ≡ true) where
+  module _ (events : List Event) (did : StepDid) (emits : List ℕ) (made : List GuestCall) (old new : Loop S)
+      (h : EventStep calls g (Stepped did emits made) old new) (was : Holds events old) (is : is_after_event r (Stepped did emits made) ≡ true) where
     stepped : Steps calls g r (ByOwner events) (HasRun events) (Unit {0}) (guest_calls events) made old did new
     stepped = step_held (HasRun events) (Unit {0}) events did emits made old new h was.good
 
     ran_next : Holds (events ++ Stepped did emits made ∷ []) new
     ran_next = record {
-      good = less_ran r (WasAsked g (guest_calls (events ++ Stepped did emits made ∷ []))) (WasWon g r (ByOwner (events ++ Stepped did emits made ∷ [])) (guest_calls (events ++ Stepped did emits made ∷ []))) (Unit {0}) (HasRun (events ++ Stepped did emits made ∷ [])) (Unit {0}) new.state.requests
+      good =
+          less_ran r (WasAsked g (guest_calls (events ++ Stepped did emits made ∷ [])))
+          (WasWon g r (ByOwner (events ++ Stepped did emits made ∷ [])) (guest_calls (events ++ Stepped did emits made ∷ []))) (Unit {0})
+          (HasRun (events ++ Stepped did emits made ∷ [])) (Unit {0}) new.state.requests
           (λ _. tt)
           (told (Unit {0}) (Unit {0}) events (Stepped did emits made) new.state.requests (no_cancel (Stepped did emits made) refl) (stepped.after (after_told did emits made is)).3.gone);
       once = subst (λ n. n ≤ 1) (sym (counted events (Stepped did emits made) ∙ rw is refl)) (below (cases_lt 0 (count_by (is_after_event r) events)));
@@ -270,7 +282,8 @@ module _ {S : Type 0} (calls : Calls S) (g : Setting) (r : ℕ) where
   own_after l old new events did emits made o h step is = ran_own events did emits made old new step (holds_after l old events o h) is
 
   -- what follows the callback
-  late_behind : (before behind : List Event) (e : Event) (old mid l' : Loop S) → Holds before old → EventStep calls g e old mid → is_after_event r e ≡ true → History calls g mid behind l' → WasCancelled r (e ∷ behind) → ⊥
+  late_behind : (before behind : List Event) (e : Event) (old mid l' : Loop S) → Holds before old → EventStep calls g e old mid → is_after_event r e ≡ true
+      → History calls g mid behind l' → WasCancelled r (e ∷ behind) → ⊥
   late_behind before behind (Stepped did emits made) old mid l' was h is rest =
       (run_held (Unit {0}) ⊥ (Stepped did emits made ∷ []) behind mid l' rest (ran_late before did emits made old mid h was is)).late tt
   late_behind before behind (OrderAsked order) old mid l' was h is rest = absurd (cc)
@@ -279,7 +292,8 @@ module _ {S : Type 0} (calls : Calls S) (g : Setting) (r : ℕ) where
   late_behind before behind (ClockRaised ms) old mid l' was h is rest = absurd (cc)
   late_behind before behind MovedBeside old mid l' was h is rest = absurd (cc)
 
-  pub last_after : (l l' : Loop S) (before behind : List Event) (e : Event) → IsOpening calls g l → History calls g l (before ++ e ∷ behind) l' → is_after_event r e ≡ true → WasCancelled r (e ∷ behind) → ⊥
+  pub last_after : (l l' : Loop S) (before behind : List Event) (e : Event) → IsOpening calls g l → History calls g l (before ++ e ∷ behind) l'
+      → is_after_event r e ≡ true → WasCancelled r (e ∷ behind) → ⊥
   last_after l l' before behind e o h is =
       let it = history_split calls g before (e ∷ behind) l l' h in
       late_behind before behind e it.0 it.2.0 l' (holds_after l it.0 before o it.1) it.2.1 is it.2.2

@@ -8,7 +8,8 @@ use Rattle.handles.specs.declared.handle.Kind.TheVariants as handle_kind
 use Rattle.handles.specs.Table.{after_again}
 use Rattle.reduction.specs.Run.{HostCall}
 use Rattle.imports.specs.declared.call.Call.{Call}
-use Rattle.imports.specs.declared.call.Call.TheVariants.{Now, TimerInit, IdleInit, CheckInit, TimerStart, TimerStop, IdleStop, CheckStop, TimerAgain, IdleStart, CheckStart, AsyncInit, AsyncSend, IsActive, Close, QueueWork, Cancel, InLen, InCopy, OutSet, Emit}
+use Rattle.imports.specs.declared.call.Call.TheVariants.{Now, TimerInit, IdleInit, CheckInit, TimerStart, TimerStop, IdleStop, CheckStop, TimerAgain, IdleStart}
+use Rattle.imports.specs.declared.call.Call.TheVariants.{CheckStart, AsyncInit, AsyncSend, IsActive, Close, QueueWork, Cancel, InLen, InCopy, OutSet, Emit}
 use Rattle.order.specs.Uv.Numbers.{no_such_export, invalid, no_room, none_left, no_memory, outside_memory}
 use Rattle.order.specs.Uv.Bytes.{taken_out}
 use Rattle.events.specs.declared.did.StepDid.{StepDid}
@@ -137,7 +138,8 @@ module _ {S T : Type 0} (calls : Calls S) (other : Calls T) (g : Setting) (Comes
     call_mirrors Emit (I64 value ∷ []) h = let it = kept _ h.1 in (t, (h.0, it.0), it.1)
     call_mirrors _ _ h = absurd h
 
-  pub trace_mirrors : (made : List GuestCall) (old new : State × S) (t : T) → Comes new.1 → R old.1 t → GuestSteps calls g made old new → After (λ t'. GuestSteps other g made (old.0, t) (new.0, t')) new.1
+  pub trace_mirrors : (made : List GuestCall) (old new : State × S) (t : T) → Comes new.1 → R old.1 t → GuestSteps calls g made old new
+      → After (λ t'. GuestSteps other g made (old.0, t) (new.0, t')) new.1
   trace_mirrors [] old new t c r h = (t, ap (λ p. (p.0, t)) h, stays old.1 new.1 t (ap (λ p. p.1) h) r)
   trace_mirrors (call ∷ made) old new t c r h =
       let one = call_mirrors old call.call h.0 t (back made h.0 new h.2 c) r call.function call.call.args h.1.1 in
@@ -200,7 +202,8 @@ module _ {S T : Type 0} (calls : Calls S) (other : Calls T) (g : Setting) (Comes
         (it.0, (h.0, took.0, took.1, it.1), it.2)
 
     async_mirrors : (old : Loop S) (async_no : ℕ) (handle : Option ℕ) (t : T) → ((k : ℕ) → handle ≡ Some k → IsThere async_no) → R₀ old.shared t
-        → MatchOption handle ⊥ (λ handle. MatchBool (is_active_handle old.state.roster.handles (Some handle)) (TakesFirst calls g old async_no handle did made new) (Skips calls g old kind.Async handle did made new))
+        → MatchOption handle ⊥ (λ handle. MatchBool (is_active_handle old.state.roster.handles (Some handle))
+        (TakesFirst calls g old async_no handle did made new) (Skips calls g old kind.Async handle did made new))
         → After (λ t'. MatchOption handle ⊥ (λ handle. MatchBool (is_active_handle old.state.roster.handles (Some handle)) (TakesFirst other g (over t old) async_no handle did made (over t' new))
         (Skips other g (over t old) kind.Async handle did made (over t' new)))) new.shared
     async_mirrors old async_no None t there r h = absurd h
@@ -228,7 +231,8 @@ module _ {S T : Type 0} (calls : Calls S) (other : Calls T) (g : Setting) (Comes
     abbrev AreThere : Loop S → Type 0
     AreThere old = (async_no handle : ℕ) → async_handle old.state.roster async_no ≡ Some handle → IsThere async_no
 
-    entry_mirrors : (old : Loop S) (e : Entry) (t : T) → AreThere old → R₀ old.shared t → EntryStep calls g old e did made new → After (λ t'. EntryStep other g (over t old) e did made (over t' new)) new.shared
+    entry_mirrors : (old : Loop S) (e : Entry) (t : T) → AreThere old → R₀ old.shared t → EntryStep calls g old e did made new
+        → After (λ t'. EntryStep other g (over t old) e did made (over t' new)) new.shared
     entry_mirrors old entry.Start t there r h = back_mirrors old kind.Start 0 g.loaded.contents.start [] t (mirrored.begins old.shared t r) h
     entry_mirrors old entry.Main t there r h = let it = run_mirrors old kind.Main 0 h.0 [] None t (mirrored.begins old.shared t r) h.2 in (it.0, (h.0, h.1, it.1), it.2)
     entry_mirrors old (entry.Timer handle start) t there r h =
@@ -239,18 +243,22 @@ module _ {S T : Type 0} (calls : Calls S) (other : Calls T) (g : Setting) (Comes
     entry_mirrors old (entry.After number) t there r h = after_mirrors old number (request_of old.state.requests number) t r h
     entry_mirrors old (entry.Async async_no) t there r h = async_mirrors old async_no (async_handle old.state.roster async_no) t (there async_no) r h
     entry_mirrors old (entry.Close handle) t there r h =
-        back_mirrors (in_state old (with_roster old.state (without_handle old.state.roster handle))) kind.Close handle (handle_function old.state.roster handle) (I32 handle ∷ []) t (mirrored.begins old.shared t r) h
+        back_mirrors (in_state old (with_roster old.state (without_handle old.state.roster handle))) kind.Close handle
+        (handle_function old.state.roster handle) (I32 handle ∷ []) t (mirrored.begins old.shared t r) h
 
-    list_mirrors : (old : Loop S) (list : List Entry) (t : T) → AreThere old → R₀ old.shared t → ListStep calls g old list did made new → After (λ t'. ListStep other g (over t old) list did made (over t' new)) new.shared
+    list_mirrors : (old : Loop S) (list : List Entry) (t : T) → AreThere old → R₀ old.shared t → ListStep calls g old list did made new
+        → After (λ t'. ListStep other g (over t old) list did made (over t' new)) new.shared
     list_mirrors old [] t there r h = (t, (h.0, ap (over t) h.1, h.2), stays old.shared new.shared t (ap (λ l. l.shared) h.1) (mirrored.begins old.shared t r))
     list_mirrors old (e ∷ rest) t there r h = entry_mirrors (in_state old (record old.state { list = rest })) e t there r h
 
-    status_mirrors : (status : Status) (old : Loop S) (t : T) → AreThere old → R₀ old.shared t → StepIn calls g status old did made new → After (λ t'. StepIn other g status (over t old) did made (over t' new)) new.shared
+    status_mirrors : (status : Status) (old : Loop S) (t : T) → AreThere old → R₀ old.shared t → StepIn calls g status old did made new
+        → After (λ t'. StepIn other g status (over t old) did made (over t' new)) new.shared
     status_mirrors Running old t there r h = list_mirrors old old.state.list t there r h
     status_mirrors Over old t there r h = let it = same old t (mirrored.begins old.shared t r) h.1 in (t, (h.0, it.0, h.2), it.1)
     status_mirrors Failed old t there r h = let it = same old t (mirrored.begins old.shared t r) h.1 in (t, (h.0, it.0, h.2), it.1)
 
-  pub step_mirrors : (old : Loop S) (did : StepDid) (made : List GuestCall) (new : Loop S) (t : T) → Comes new.shared → ((async_no handle : ℕ) → async_handle old.state.roster async_no ≡ Some handle → IsThere async_no)
+  pub step_mirrors : (old : Loop S) (did : StepDid) (made : List GuestCall) (new : Loop S) (t : T) → Comes new.shared
+      → ((async_no handle : ℕ) → async_handle old.state.roster async_no ≡ Some handle → IsThere async_no)
       → R₀ old.shared t → StepsWith calls g old did made new → (t' : T) × StepsWith other g (over t old) did made (over t' new) × R new.shared t'
   step_mirrors old did made new t c there r h = status_mirrors did made new c old.state.status old t there r h
 

@@ -1,5 +1,6 @@
 -- A loop hands the order of each request out once, as its guest asked for it.
-use Rattle.std.proofs.Common.{◌≡◌, ◌≢◌, ℕ, ◌+◌, ◌<◌, ◌≤◌, Bool, true, false, cond, not, inl, inr, ◌⊎◌, List, [], ◌∷◌, ◌++◌, map, Option, Some, None, refl, sym, ap, subst, ◌∙◌, arith, append_assoc, append-nil}
+use Rattle.std.proofs.Common.{◌≡◌, ◌≢◌, ℕ, ◌+◌, ◌<◌, ◌≤◌, Bool, true, false, cond, not, inl, inr, ◌⊎◌, List, [], ◌∷◌, ◌++◌, map, Option, Some, None, refl, sym}
+use Rattle.std.proofs.Common.{ap, subst, ◌∙◌, arith, append_assoc, append-nil}
 use Rattle.std.specs.List.{count_by, filter, find}
 use Rattle.std.proofs.lemmas.Bool.{cases_lt, eqb-true, eq-eqb}
 use Rattle.std.proofs.lemmas.List.Sums.{sum_by_push}
@@ -134,13 +135,25 @@ handed_is Running s o is h = by (lowest_open s.requests) refl h where
   by None e k = absurd (cc)
   by (Some q) e k =
       let same : q.order ≡ o = cc in
-      record { request = q; lowest = e; order = same; after = ap (λ t. (next_in t s).1.requests) is ∙ ap (λ x. (handing s.requests x).1) e ∙ ap (λ (y : WorkOrder). with_stage s.requests y.request HandedOut) same }
+      record {
+        request = q;
+        lowest = e;
+        order = same;
+        after = ap (λ t. (next_in t s).1.requests) is ∙ ap (λ x. (handing s.requests x).1) e
+            ∙ ap (λ (y : WorkOrder). with_stage s.requests y.request HandedOut) same;
+      }
 handed_is Over s o is h = by (lowest_open s.requests) refl h where
   by : (x : Option Request) → lowest_open s.requests ≡ x → Some o ≡ (handing s.requests x).0 → IsLowest s o
   by None e k = absurd (cc)
   by (Some q) e k =
       let same : q.order ≡ o = cc in
-      record { request = q; lowest = e; order = same; after = ap (λ t. (next_in t s).1.requests) is ∙ ap (λ x. (handing s.requests x).1) e ∙ ap (λ (y : WorkOrder). with_stage s.requests y.request HandedOut) same }
+      record {
+        request = q;
+        lowest = e;
+        order = same;
+        after = ap (λ t. (next_in t s).1.requests) is ∙ ap (λ x. (handing s.requests x).1) e
+            ∙ ap (λ (y : WorkOrder). with_stage s.requests y.request HandedOut) same;
+      }
 
 module _ {S : Type 0} (calls : Calls S) (g : Setting) (r : ℕ) where
   abbrev WasHanded : List Event → Type 0
@@ -162,7 +175,8 @@ module _ {S : Type 0} (calls : Calls S) (g : Setting) (r : ℕ) where
         handed = record { up_to = kept.up_to; shut = λ w. kept.shut (subst (λ n. 1 ≤ n) same w) };
       }
 
-  this_event : (events : List Event) (o : WorkOrder) (old new : Loop S) → hands_out r (OrderAsked (Some o)) ≡ true → EventStep calls g (OrderAsked (Some o)) old new → Holds events old → Holds (events ++ OrderAsked (Some o) ∷ []) new
+  this_event : (events : List Event) (o : WorkOrder) (old new : Loop S) → hands_out r (OrderAsked (Some o)) ≡ true
+      → EventStep calls g (OrderAsked (Some o)) old new → Holds events old → Holds (events ++ OrderAsked (Some o) ∷ []) new
   this_event events o old new is h was =
       let it = handed_is old.state.status old.state o refl h.0 in
       let number : o.request ≡ r = eqb-true o.request r is in
@@ -218,7 +232,8 @@ owned_member asked won (x ∷ []) q h (inr m) = absurd m
 owned_member asked won (x ∷ y ∷ ys) q h m = absurd h
 
 module _ {S : Type 0} (calls : Calls S) (g : Setting) where
-  pub handed_own : (l old new : Loop S) (events : List Event) (o : WorkOrder) → IsOpening calls g l → History calls g l events old → EventStep calls g (OrderAsked (Some o)) old new → WasAsked g (guest_calls events) o
+  pub handed_own : (l old new : Loop S) (events : List Event) (o : WorkOrder) → IsOpening calls g l → History calls g l events old
+      → EventStep calls g (OrderAsked (Some o)) old new → WasAsked g (guest_calls events) o
   handed_own l old new events o opens h step =
       let it = handed_is old.state.status old.state o refl step.0 in
       let n = it.request.order.request in

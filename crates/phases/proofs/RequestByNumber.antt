@@ -4,7 +4,8 @@ use Rattle.std.specs.List.{filter}
 use Rattle.std.proofs.lemmas.Bool.{cases_eq, cases_lt, eqb-true, eq-eqb, ne_eqb}
 use Rattle.std.proofs.lemmas.List.Elements.{filter-append}
 use Rattle.order.specs.Work.{WorkOrder, WorkEnd, IsEndOf}
-use Rattle.phases.specs.Requests.{Stage, Open, HandedOut, Answered, Cancelled, Request, Requests, has_number, request_of, in_stage, with_stage, without_request, with_work, is_open_stage, is_settled, lowest_open}
+use Rattle.phases.specs.Requests.{Stage, Open, HandedOut, Answered, Cancelled, Request, Requests, has_number, request_of, in_stage, with_stage, without_request}
+use Rattle.phases.specs.Requests.{with_work, is_open_stage, is_settled, lowest_open}
 use Rattle.phases.specs.Outside.{IsOneOf, answered}
 use Rattle.tallies.proofs.Filtered.{first, Member, find_first, first_passes, filter_mapped, found_kept, filter_kept, filter_dropped}
 
@@ -51,7 +52,8 @@ owned_more asked asked' won won' (q ∷ []) c e h = (c q.order h.0, stands_same 
 owned_more asked asked' won won' (q ∷ x ∷ xs) c e h = h
 
 -- nothing happens to this request, or to any
-pub fits_more : (r : ℕ) (asked asked' : WorkOrder → Type 0) (won won' ran early : Type 0) (rs : Requests) → Covers asked asked' → Same won won' → Fits r asked won ran early rs → Fits r asked' won' ran early rs
+pub fits_more : (r : ℕ) (asked asked' : WorkOrder → Type 0) (won won' ran early : Type 0) (rs : Requests) → Covers asked asked' → Same won won'
+    → Fits r asked won ran early rs → Fits r asked' won' ran early rs
 fits_more r asked asked' won won' ran early rs c e f = record {
   owned = owned_more asked asked' won won' (numbered r rs) c e f.owned;
   fresh = λ low. let it = f.fresh low in (it.0, λ w. it.1 (e.1 w));
@@ -187,7 +189,8 @@ is_open HandedOut h = absurd (cc)
 is_open (Answered end) h = absurd (cc)
 is_open Cancelled h = absurd (cc)
 
-pub fits_handed : (r : ℕ) (asked : WorkOrder → Type 0) (won ran early : Type 0) (rs : Requests) (q : Request) → lowest_open rs ≡ Some q → Fits r asked won ran early rs → Fits r asked won ran early (with_stage rs q.order.request HandedOut)
+pub fits_handed : (r : ℕ) (asked : WorkOrder → Type 0) (won ran early : Type 0) (rs : Requests) (q : Request) → lowest_open rs ≡ Some q
+    → Fits r asked won ran early rs → Fits r asked won ran early (with_stage rs q.order.request HandedOut)
 fits_handed r asked won ran early rs q lowest f = fits_staged r q.order.request HandedOut asked asked won won ran early rs stages f where
   kept : r ≡ q.order.request → Member q (numbered r rs)
   kept here = found_kept (λ x. is_open_stage x.stage) (has_number r) rs.outstanding q lowest (eq-eqb q.order.request r (sym here))
@@ -219,7 +222,8 @@ unsettled_not o won HandedOut e h = h
 unsettled_not o won (Answered end) e h = absurd (cc)
 unsettled_not o won Cancelled e h = absurd (cc)
 
-pub fits_answered : (r : ℕ) (asked : WorkOrder → Type 0) (won ran early : Type 0) (rs : Requests) (o : WorkOrder) (end : WorkEnd) → IsOneOf o rs → ∥ IsEndOf o end ∥₁ → Fits r asked won ran early rs → Fits r asked won ran early (answered rs o end)
+pub fits_answered : (r : ℕ) (asked : WorkOrder → Type 0) (won ran early : Type 0) (rs : Requests) (o : WorkOrder) (end : WorkEnd) → IsOneOf o rs
+    → ∥ IsEndOf o end ∥₁ → Fits r asked won ran early rs → Fits r asked won ran early (answered rs o end)
 fits_answered r asked won ran early rs o end one right f = fits_staged r o.request (Answered end) asked asked won won ran early rs stages f where
   only : r ≡ o.request → numbered r rs ≡ one.request ∷ []
   only here = only_found asked won r rs one.request f.owned (ap (request_of rs) here ∙ one.outstanding)

@@ -1,5 +1,6 @@
 -- What a loop has outstanding are orders of the loop, which can be run.
-use Rattle.std.proofs.Common.{◌≡◌, ℕ, suc, ◌+◌, ◌<◌, ◌≤◌, ◌==◌, ◌||◌, ◌&&◌, Bool, true, false, cond, not, ◌⊎◌, inl, inr, List, [], ◌∷◌, ◌++◌, length, find, take, drop, All, Option, Some, None, refl, sym, ap, subst, ◌∙◌, MatchBool, MatchOption, nat_lt, nat_le, codes, slice_get, arith, min}
+use Rattle.std.proofs.Common.{◌≡◌, ℕ, suc, ◌+◌, ◌<◌, ◌≤◌, ◌==◌, ◌||◌, ◌&&◌, Bool, true, false, cond, not, ◌⊎◌, inl, inr, List, [], ◌∷◌, ◌++◌, length, find, take}
+use Rattle.std.proofs.Common.{drop, All, Option, Some, None, refl, sym, ap, subst, ◌∙◌, MatchBool, MatchOption, nat_lt, nat_le, codes, slice_get, arith, min}
 use Rattle.std.specs.List.{list_any}
 use Rattle.std.specs.Str.{bytes_eq}
 use Rattle.std.proofs.lemmas.Slice.Eq.{bytes_eq-Decides}
@@ -15,7 +16,8 @@ use Rattle.syntax.specs.declared.contents.ModuleExport.{ModuleExport}
 use Rattle.reduction.specs.Run.{HostCall}
 use Rattle.reduction.specs.Hosting.{Lawful}
 use Rattle.imports.specs.declared.call.Call.{Call}
-use Rattle.imports.specs.declared.call.Call.TheVariants.{Now, TimerInit, IdleInit, CheckInit, TimerStart, TimerStop, IdleStop, CheckStop, TimerAgain, IdleStart, CheckStart, AsyncInit, AsyncSend, IsActive, Close, QueueWork, Cancel, InLen, InCopy, OutSet, Emit}
+use Rattle.imports.specs.declared.call.Call.TheVariants.{Now, TimerInit, IdleInit, CheckInit, TimerStart, TimerStop, IdleStop, CheckStop, TimerAgain, IdleStart}
+use Rattle.imports.specs.declared.call.Call.TheVariants.{CheckStart, AsyncInit, AsyncSend, IsActive, Close, QueueWork, Cancel, InLen, InCopy, OutSet, Emit}
 use Rattle.imports.specs.declared.entry_point.EntryPoint.TheVariants.{Work}
 use Rattle.imports.specs.Linking.{IsLinked, IsCallable, ExportsFunction}
 use Rattle.order.specs.Uv.Numbers.{none_left}
@@ -25,7 +27,8 @@ use Rattle.phases.specs.declared.progress.CancelState.{CancelState}
 use Rattle.phases.specs.declared.progress.CancelState.TheVariants.{Unknown, Pending}
 use Rattle.phases.specs.declared.progress.CancelState.TheVariants as cancel_state
 use Rattle.phases.specs.PhaseList.{exports}
-use Rattle.phases.specs.Requests.{Requests, Request, Stage, Open, HandedOut, Cancelled, in_stage, has_number, with_stage, with_work, without_request, lowest_open, is_open_stage, is_settled, request_of}
+use Rattle.phases.specs.Requests.{Requests, Request, Stage, Open, HandedOut, Cancelled, in_stage, has_number, with_stage, with_work, without_request}
+use Rattle.phases.specs.Requests.{lowest_open, is_open_stage, is_settled, request_of}
 use Rattle.phases.specs.State.{Setting, State}
 use Rattle.phases.specs.Calls.{Calls}
 use Rattle.phases.specs.declared.entry.Status.{Status}
@@ -86,11 +89,15 @@ module _ {S : Type 0} (calls : Calls S) (g : Setting) (P : Requests → Type 0)
       to_state : (t : State) → t.requests ≡ old.0.requests → new.0 ≡ t → P old.0.requests → P new.0.requests
       to_state t kept e h = subst P (sym (ap (λ s. s.requests) e ∙ kept)) h
 
-      of_work : (R : ℕ → Requests × S → Type 0) → ((answer : ℕ) (us : Requests) → R answer (us, new.1) → P old.0.requests → P us) → RelatesWork calls g old call new R → P old.0.requests → P new.0.requests
+      of_work : (R : ℕ → Requests × S → Type 0) → ((answer : ℕ) (us : Requests) → R answer (us, new.1) → P old.0.requests → P us)
+          → RelatesWork calls g old call new R → P old.0.requests → P new.0.requests
       of_work R k h p = subst P (sym (ap (λ s. s.requests) h.4)) (k h.0 h.1 h.2 p)
 
       emitted : (value : ℕ) → (emitted_in value old.0).1.requests ≡ old.0.requests
-      emitted value = elim (nat_le MAX_EMITS (length old.0.emits)) as (λ b. (cond {A = ℕ × State} b (none_left, old.0) (0, record old.0 { emits = old.0.emits ++ value ∷ [] })).1.requests ≡ old.0.requests) [ true ↦ refl | false ↦ refl ]
+      emitted value =
+          elim (nat_le MAX_EMITS (length old.0.emits)) as
+          (λ b. (cond {A = ℕ × State} b (none_left, old.0) (0, record old.0 { emits = old.0.emits ++ value ∷ [] })).1.requests ≡ old.0.requests)
+          [ true ↦ refl | false ↦ refl ]
 
       of_call : (f : Call) (args : List Value) → CallStep calls g old call new f args → P old.0.requests → P new.0.requests
       of_call Now [] h = to_state _ refl (ap (λ p. p.0) h.2)
@@ -109,8 +116,11 @@ module _ {S : Type 0} (calls : Calls S) (g : Setting) (P : Requests → Type 0)
       of_call IsActive (I32 handle ∷ []) h = to_state _ refl (ap (λ p. p.0) h.1)
       of_call Close (I32 handle ∷ I32 callback ∷ []) h = to_state _ refl (ap (λ p. p.0) h.1)
       of_call QueueWork (I32 op ∷ I32 place ∷ I32 count ∷ []) h =
-          of_work (λ answer after. QueuesWork calls g call.before (old.0.requests, old.1) op place count answer after) (λ answer us. after_queue call.before (old.0.requests, old.1) op place count answer (us, new.1)) h
-      of_call Cancel (I32 number ∷ []) h = of_work (λ answer after. Cancels calls (old.0.requests, old.1) number answer after) (λ answer us. after_cancel (old.0.requests, old.1) number answer (us, new.1)) h
+          of_work (λ answer after. QueuesWork calls g call.before (old.0.requests, old.1) op place count answer after)
+          (λ answer us. after_queue call.before (old.0.requests, old.1) op place count answer (us, new.1)) h
+      of_call Cancel (I32 number ∷ []) h =
+          of_work (λ answer after. Cancels calls (old.0.requests, old.1) number answer after)
+          (λ answer us. after_cancel (old.0.requests, old.1) number answer (us, new.1)) h
       of_call InLen [] h = to_state _ refl (ap (λ p. p.0) h.1)
       of_call InCopy (I32 to ∷ I32 from ∷ I32 count ∷ []) h = to_state _ refl (ap (λ p. p.0) h.1)
       of_call OutSet (I32 place ∷ I32 count ∷ []) h = to_state _ refl (ap (λ p. p.0) h.1)
@@ -173,7 +183,8 @@ module _ (g : Setting) where
   won_orders rs us number true e h = subst (AreOrdersOf g) (sym e) (staged_orders rs number Cancelled h)
   won_orders rs us number false e h = subst (AreOrdersOf g) (sym e) h
 
-  pub cancelled_orders : {S : Type 0} (calls : Calls S) (at : CancelState) (old new : Requests × S) (number answer : ℕ) → CancelsAt calls at old number answer new → AreOrdersOf g old.0 → AreOrdersOf g new.0
+  pub cancelled_orders : {S : Type 0} (calls : Calls S) (at : CancelState) (old new : Requests × S) (number answer : ℕ)
+      → CancelsAt calls at old number answer new → AreOrdersOf g old.0 → AreOrdersOf g new.0
   cancelled_orders calls Unknown old new number answer h k = subst (AreOrdersOf g) (sym (ap (λ p. p.0) h.1)) k
   cancelled_orders calls cancel_state.Answered old new number answer h k = subst (AreOrdersOf g) (sym (ap (λ p. p.0) h.1)) k
   cancelled_orders calls (Pending slot) old new number answer h k = won_orders old.0 new.0 number h.0 h.3 k

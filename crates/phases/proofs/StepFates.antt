@@ -1,5 +1,6 @@
 -- What one step of a loop does to the request of one number.
-use Rattle.std.proofs.Common.{◌≡◌, ℕ, ◌≤◌, ◌==◌, Bool, true, false, cond, not, ◌&&◌, inl, inr, ◌⊎◌, List, [], ◌∷◌, ◌++◌, Option, Some, None, refl, sym, ap, subst, ◌∙◌, arith, append_assoc, MatchBool, MatchOption}
+use Rattle.std.proofs.Common.{◌≡◌, ℕ, ◌≤◌, ◌==◌, Bool, true, false, cond, not, ◌&&◌, inl, inr, ◌⊎◌, List, [], ◌∷◌, ◌++◌, Option, Some, None, refl, sym, ap}
+use Rattle.std.proofs.Common.{subst, ◌∙◌, arith, append_assoc, MatchBool, MatchOption}
 use Rattle.std.specs.List.{Contains}
 use Rattle.std.proofs.lemmas.List.Elements.{Contains-append_left, Contains-append_cases, Contains-push, Contains-push_cases}
 use Rattle.syntax.specs.declared.types.Value.{Value}
@@ -25,7 +26,8 @@ use Rattle.events.specs.Phases.{may_end, next_phase}
 use Rattle.phases.specs.PhaseList.{is_alive, is_active_handle}
 use Rattle.phases.specs.Calls.{Calls}
 use Rattle.phases.specs.Host.{next_work, with_roster, with_requests}
-use Rattle.phases.specs.Step.{StepsWith, StepIn, ListStep, EntryStep, NextPhase, RunsFrom, CallsBack, CallsHandle, Skips, TakesFirst, AfterWork, in_state, sharing, begun, entered, now_in, is_as_listed, handle_function}
+use Rattle.phases.specs.Step.{StepsWith, StepIn, ListStep, EntryStep, NextPhase, RunsFrom, CallsBack, CallsHandle, Skips, TakesFirst, AfterWork, in_state}
+use Rattle.phases.specs.Step.{sharing, begun, entered, now_in, is_as_listed, handle_function}
 use Rattle.phases.specs.Guests.{GuestCall, GuestSteps}
 use Rattle.phases.specs.Laws.{WasAsked, IsCancel}
 use Rattle.phases.proofs.StepsByCalls.{CallFate, changes_nothing, opens_one, cancels_one, call_fate}
@@ -95,7 +97,8 @@ module _ (g : Setting) (r : ℕ) (L : Type 0) where
 
   -- and all calls of a callback
   module _ {S : Type 0} (calls : Calls S) where
-    trace_holds : (ran early : Type 0) (made more : List GuestCall) (old new : State × S) → GuestSteps calls g more old new → Held ran early made old.0.requests → Held ran early (made ++ more) new.0.requests
+    trace_holds : (ran early : Type 0) (made more : List GuestCall) (old new : State × S) → GuestSteps calls g more old new
+        → Held ran early made old.0.requests → Held ran early (made ++ more) new.0.requests
     trace_holds ran early made [] old new h f = nothing_more ran early made old.0.requests new.0.requests (ap (λ p. p.0.requests) h) f
     trace_holds ran early made (c ∷ more) old new h f =
         subst (λ cs. Held ran early cs new.0.requests) (append_assoc made (c ∷ []) more)
@@ -107,7 +110,8 @@ after_of (Ran kind.After number ended) = Some number
 after_of _ = None
 
 module _ {S : Type 0} (calls : Calls S) (g : Setting) (r : ℕ) where
-  callback_holds : (L ran early : Type 0) (made more : List GuestCall) (old : Loop S) (kind : EntryKind) (number function : ℕ) (args : List Value) (reply : Option (List ℕ)) (did : StepDid) (new : Loop S)
+  callback_holds : (L ran early : Type 0) (made more : List GuestCall) (old : Loop S) (kind : EntryKind) (number function : ℕ) (args : List Value)
+      (reply : Option (List ℕ)) (did : StepDid) (new : Loop S)
       → RunsFrom calls g old kind number function args reply did more new → Held g r L ran early made old.state.requests → Held g r L ran early (made ++ more) new.state.requests
   callback_holds L ran early made more old kind number function args reply did new h f =
       subst (Held g r L ran early (made ++ more)) (sym (ap (λ s. s.requests) h.finished))
@@ -169,7 +173,8 @@ module _ {S : Type 0} (calls : Calls S) (g : Setting) (r : ℕ) (L : Type 0) whe
     taking_passes old false async_no handle did new f h = skips_pass old old kind.Async handle did new h f
 
     async_passes : (old : Loop S) (async_no : ℕ) (handle : Option ℕ) (did : StepDid) (new : Loop S) → Held g r L ran early made old.state.requests
-        → MatchOption handle ⊥ (λ handle. MatchBool (is_active_handle old.state.roster.handles (Some handle)) (TakesFirst calls g old async_no handle did more new) (Skips calls g old kind.Async handle did more new))
+        → MatchOption handle ⊥ (λ handle. MatchBool (is_active_handle old.state.roster.handles (Some handle))
+        (TakesFirst calls g old async_no handle did more new) (Skips calls g old kind.Async handle did more new))
         → Passes e ran early made more old did new
     async_passes old async_no None did new f h = absurd h
     async_passes old async_no (Some handle) did new f h = taking_passes old (is_active_handle old.state.roster.handles (Some handle)) async_no handle did new f h
@@ -200,18 +205,22 @@ module _ {S : Type 0} (calls : Calls S) (g : Setting) (r : ℕ) (L : Type 0) whe
 
     removed : (L early : Type 0) (made : List GuestCall) → number ≡ r → r ≤ old.state.requests.last → (WasWon g r L made → early) → Held g r L (Unit {0}) early made base.state.requests
     removed L early made is given then_early =
-        subst (λ k. Held g r L (Unit {0}) early made (without_request old.state.requests k)) (sym is) (fits_ran r (WasAsked g made) (WasWon g r L made) (Unit {0}) early old.state.requests given then_early)
+        subst (λ k. Held g r L (Unit {0}) early made (without_request old.state.requests k)) (sym is)
+        (fits_ran r (WasAsked g made) (WasWon g r L made) (Unit {0}) early old.state.requests given then_early)
 
     never : WasWon g r ⊥ [] → ⊥
     never (inl h) = h
     never (inr a) = omega (arith, a.1.1)
 
-  after_passes : (ran early : Type 0) (made more : List GuestCall) (old : Loop S) (number : ℕ) (request : Option Request) (did : StepDid) (new : Loop S) → request_of old.state.requests number ≡ request
-      → MatchOption request ⊥ (λ q. AfterWork calls g old number (completion_of q.stage) did more new) → Held g r L ran early made old.state.requests → Passes (entry.After number) ran early made more old did new
+  after_passes : (ran early : Type 0) (made more : List GuestCall) (old : Loop S) (number : ℕ) (request : Option Request) (did : StepDid) (new : Loop S)
+      → request_of old.state.requests number ≡ request
+      → MatchOption request ⊥ (λ q. AfterWork calls g old number (completion_of q.stage) did more new) → Held g r L ran early made old.state.requests
+      → Passes (entry.After number) ran early made more old did new
   after_passes ran early made more old number None did new found h f = absurd h
   after_passes ran early made more old number (Some q) did new found h f = work_passes ran early made more old number q (completion_of q.stage) did new found refl h f
 
-  entry_passes : (ran early : Type 0) (made more : List GuestCall) (old : Loop S) (e : Entry) (did : StepDid) (new : Loop S) → EntryStep calls g old e did more new → Held g r L ran early made old.state.requests
+  entry_passes : (ran early : Type 0) (made more : List GuestCall) (old : Loop S) (e : Entry) (did : StepDid) (new : Loop S)
+      → EntryStep calls g old e did more new → Held g r L ran early made old.state.requests
       → Passes e ran early made more old did new
   entry_passes ran early made more old entry.Start did new h f = back_passes entry.Start ran early made more old old kind.Start 0 g.loaded.contents.start [] did new (λ number ended. refl) h f
   entry_passes ran early made more old entry.Main did new h f = back_passes entry.Main ran early made more old old kind.Main 0 (Some h.0) [] did new (λ number ended. refl) h.2 f
@@ -225,14 +234,17 @@ module _ {S : Type 0} (calls : Calls S) (g : Setting) (r : ℕ) (L : Type 0) whe
   entry_passes ran early made more old (entry.After number) did new h f = after_passes ran early made more old number (request_of old.state.requests number) did new refl h f
   entry_passes ran early made more old (entry.Async async_no) did new h f = async_passes (entry.Async async_no) ran early made more old async_no (async_handle old.state.roster async_no) did new f h
   entry_passes ran early made more old (entry.Close handle) did new h f =
-      back_passes (entry.Close handle) ran early made more old (in_state old (with_roster old.state (without_handle old.state.roster handle))) kind.Close handle (handle_function old.state.roster handle) (I32 handle ∷ []) did new (λ number ended. refl) h f
+      back_passes (entry.Close handle) ran early made more old (in_state old (with_roster old.state (without_handle old.state.roster handle))) kind.Close
+      handle (handle_function old.state.roster handle) (I32 handle ∷ []) did new (λ number ended. refl) h f
 
   -- the same of a whole step, whose entry is taken off the list
   pub record Steps (ran early : Type 0) (made more : List GuestCall) (old : Loop S) (did : StepDid) (new : Loop S) : Type 0 where
     pub held : Held g r L ran early (made ++ more) new.state.requests
-    pub after : after_of did ≡ Some r → (rest : List Entry) × (old.state.list ≡ entry.After r ∷ rest) × WorkedAfter (in_state old (record old.state { list = rest })) did more new × Leaves made more new
+    pub after : after_of did ≡ Some r → (rest : List Entry) × (old.state.list ≡ entry.After r ∷ rest)
+        × WorkedAfter (in_state old (record old.state { list = rest })) did more new × Leaves made more new
 
-  nothing_ran : (ran early : Type 0) (made more : List GuestCall) (old : Loop S) (did : StepDid) (new : Loop S) → new.state.requests ≡ old.state.requests → more ≡ [] → after_of did ≡ None → Held g r L ran early made old.state.requests
+  nothing_ran : (ran early : Type 0) (made more : List GuestCall) (old : Loop S) (did : StepDid) (new : Loop S) → new.state.requests ≡ old.state.requests
+      → more ≡ [] → after_of did ≡ None → Held g r L ran early made old.state.requests
       → Steps ran early made more old did new
   nothing_ran ran early made more old did new e silent none f = record {
     held = subst (λ cs. Held g r L ran early (made ++ cs) new.state.requests) (sym silent) (nothing_more g r L ran early made old.state.requests new.state.requests e f);
@@ -242,22 +254,26 @@ module _ {S : Type 0} (calls : Calls S) (g : Setting) (r : ℕ) (L : Type 0) whe
   abbrev Keeps : Requests → StepDid × State → Type 0
   Keeps rs p = (after_of p.0 ≡ None) × (p.1.requests ≡ rs)
 
-  turn_steps : (ran early : Type 0) (made more : List GuestCall) (old : Loop S) (did : StepDid) (new : Loop S) → NextPhase calls g old did more new → Held g r L ran early made old.state.requests → Steps ran early made more old did new
+  turn_steps : (ran early : Type 0) (made more : List GuestCall) (old : Loop S) (did : StepDid) (new : Loop S) → NextPhase calls g old did more new
+      → Held g r L ran early made old.state.requests → Steps ran early made more old did new
   turn_steps ran early made more old did new h f =
       let it = turned (may_end old.state.phase && not (is_alive old.state)) in
       nothing_ran ran early made more old did new (ap (λ l. l.state.requests) h.1 ∙ it.1) h.2 (ap after_of h.0 ∙ it.0) f where
-        turned : (b : Bool) → Keeps old.state.requests (cond b (step.Over, record old.state { status = Over }) (Entered (next_phase old.state.phase) (now_in old.state (next_phase old.state.phase)), entered old.state (next_phase old.state.phase)))
+        turned : (b : Bool) → Keeps old.state.requests (cond b (step.Over, record old.state { status = Over })
+            (Entered (next_phase old.state.phase) (now_in old.state (next_phase old.state.phase)), entered old.state (next_phase old.state.phase)))
         turned true = (refl, refl)
         turned false = (refl, refl)
 
-  list_steps : (ran early : Type 0) (made more : List GuestCall) (old : Loop S) (list : List Entry) (did : StepDid) (new : Loop S) → old.state.list ≡ list → ListStep calls g old list did more new → Held g r L ran early made old.state.requests
+  list_steps : (ran early : Type 0) (made more : List GuestCall) (old : Loop S) (list : List Entry) (did : StepDid) (new : Loop S) → old.state.list ≡ list
+      → ListStep calls g old list did more new → Held g r L ran early made old.state.requests
       → Steps ran early made more old did new
   list_steps ran early made more old [] did new is h f = turn_steps ran early made more old did new h f
   list_steps ran early made more old (e ∷ rest) did new is h f =
       let it = entry_passes ran early made more (in_state old (record old.state { list = rest })) e did new h f in
       record { held = it.held; after = λ told. let both = it.after told in (rest, is ∙ ap (λ x. x ∷ rest) both.0, both.1, both.2) }
 
-  status_steps : (ran early : Type 0) (made more : List GuestCall) (status : Status) (old : Loop S) (did : StepDid) (new : Loop S) → StepIn calls g status old did more new → Held g r L ran early made old.state.requests
+  status_steps : (ran early : Type 0) (made more : List GuestCall) (status : Status) (old : Loop S) (did : StepDid) (new : Loop S)
+      → StepIn calls g status old did more new → Held g r L ran early made old.state.requests
       → Steps ran early made more old did new
   status_steps ran early made more Running old did new h f = list_steps ran early made more old old.state.list did new refl h f
   status_steps ran early made more Over old did new h f = nothing_ran ran early made more old did new (ap (λ l. l.state.requests) h.1) h.2 (ap after_of h.0) f

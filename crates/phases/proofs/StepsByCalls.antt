@@ -1,5 +1,6 @@
 -- What the steps of a loop make of its guest's calls and of its requests, one call at a time.
-use Rattle.std.proofs.Common.{◌≡◌, ℕ, ◌+◌, ◌<◌, ◌≤◌, ◌==◌, Bool, true, false, cond, not, ◌&&◌, inl, inr, ◌⊎◌, List, [], ◌∷◌, ◌++◌, length, Option, Some, None, refl, sym, ap, subst, ◌∙◌, arith, append_assoc, append-nil, MatchBool, MatchOption}
+use Rattle.std.proofs.Common.{◌≡◌, ℕ, ◌+◌, ◌<◌, ◌≤◌, ◌==◌, Bool, true, false, cond, not, ◌&&◌, inl, inr, ◌⊎◌, List, [], ◌∷◌, ◌++◌, length, Option, Some, None}
+use Rattle.std.proofs.Common.{refl, sym, ap, subst, ◌∙◌, arith, append_assoc, append-nil, MatchBool, MatchOption}
 use Rattle.std.specs.Prelude.{◌^◌, nat_lt, nat_le, codes}
 use Rattle.std.proofs.lemmas.Bool.{ne_eqb}
 use Rattle.limits.specs.declared.TheConstants.{MAX_BYTES, MAX_REQUESTS, MAX_EMITS}
@@ -9,7 +10,8 @@ use Rattle.handles.specs.declared.handle.Kind.TheVariants as handle_kind
 use Rattle.handles.specs.Table.{after_again}
 use Rattle.reduction.specs.Run.{HostCall}
 use Rattle.imports.specs.declared.call.Call.{Call}
-use Rattle.imports.specs.declared.call.Call.TheVariants.{Now, TimerInit, IdleInit, CheckInit, TimerStart, TimerStop, IdleStop, CheckStop, TimerAgain, IdleStart, CheckStart, AsyncInit, AsyncSend, IsActive, Close, QueueWork, Cancel, InLen, InCopy, OutSet, Emit}
+use Rattle.imports.specs.declared.call.Call.TheVariants.{Now, TimerInit, IdleInit, CheckInit, TimerStart, TimerStop, IdleStop, CheckStop, TimerAgain, IdleStart}
+use Rattle.imports.specs.declared.call.Call.TheVariants.{CheckStart, AsyncInit, AsyncSend, IsActive, Close, QueueWork, Cancel, InLen, InCopy, OutSet, Emit}
 use Rattle.order.specs.Uv.Numbers.{no_such_export, invalid, no_room, none_left, no_memory, outside_memory}
 use Rattle.order.specs.Work.{WorkOrder, WorkEnd}
 use Rattle.order.specs.Uv.Bytes.{taken_out}
@@ -29,7 +31,8 @@ use Rattle.events.specs.Phases.{may_end, next_phase}
 use Rattle.phases.specs.PhaseList.{exports, is_alive, is_active_handle}
 use Rattle.phases.specs.Calls.{Calls}
 use Rattle.phases.specs.Host.{CallStep, QueuesWork, Opens, next_work, emitted_in, with_roster, with_requests}
-use Rattle.phases.specs.Step.{StepsWith, StepIn, ListStep, EntryStep, NextPhase, RunsFrom, CallsBack, CallsHandle, Skips, TakesFirst, AfterWork, in_state, sharing, begun, entered, now_in, is_as_listed, handle_function}
+use Rattle.phases.specs.Step.{StepsWith, StepIn, ListStep, EntryStep, NextPhase, RunsFrom, CallsBack, CallsHandle, Skips, TakesFirst, AfterWork, in_state}
+use Rattle.phases.specs.Step.{sharing, begun, entered, now_in, is_as_listed, handle_function}
 use Rattle.phases.specs.Guests.{GuestCall, GuestSteps}
 use Rattle.phases.specs.History.{Event, Stepped, OrderAsked, EndOffered, CancelAnswered, ClockRaised, MovedBeside, EventStep, Offers, History, calls_in, guest_calls}
 use Rattle.phases.specs.Laws.{asks_for, IsCancel}
@@ -119,7 +122,8 @@ module _ {S : Type 0} (calls : Calls S) (g : Setting) where
     cancels number answer requests is told e (wins q found won same at) =
         cancels_won number q refl is (told ∙ ap (λ k. Some (I32 k)) won) found (e ∙ same) at
 
-    sends : (b : Bool) (async_no answer : ℕ) (P : Type 0) → new.0 ≡ old.0 → MatchBool b (P × (new.1 ≡ old.1)) ((sent : Bool) × calls.sends old.1 async_no sent new.1 × (answer ≡ cond sent 0 none_left)) → Moves AsyncSend
+    sends : (b : Bool) (async_no answer : ℕ) (P : Type 0) → new.0 ≡ old.0
+        → MatchBool b (P × (new.1 ≡ old.1)) ((sent : Bool) × calls.sends old.1 async_no sent new.1 × (answer ≡ cond sent 0 none_left)) → Moves AsyncSend
     sends true async_no answer P e h = plain AsyncSend refl (λ n. refl) (ap (λ s. s.requests) e) (unmoved h.1)
     sends false async_no answer P e h = plain AsyncSend refl (λ n. refl) (ap (λ s. s.requests) e) (sent async_no h.0 h.1)
 
@@ -212,7 +216,8 @@ module _ {S : Type 0} (calls : Calls S) (g : Setting) (P : List GuestCall → Re
     taking_keeps old false async_no handle did new p h = stays_silent old new h.1 h.2 p
 
     async_keeps : (old : Loop S) (async_no : ℕ) (handle : Option ℕ) (did : StepDid) (new : Loop S) → Before old
-        → MatchOption handle ⊥ (λ handle. MatchBool (is_active_handle old.state.roster.handles (Some handle)) (TakesFirst calls g old async_no handle did more new) (Skips calls g old kind.Async handle did more new))
+        → MatchOption handle ⊥ (λ handle. MatchBool (is_active_handle old.state.roster.handles (Some handle))
+        (TakesFirst calls g old async_no handle did more new) (Skips calls g old kind.Async handle did more new))
         → Behind new
     async_keeps old async_no None did new p h = absurd h
     async_keeps old async_no (Some handle) did new p h = taking_keeps old (is_active_handle old.state.roster.handles (Some handle)) async_no handle did new p h
@@ -244,8 +249,11 @@ module _ {S : Type 0} (calls : Calls S) (g : Setting) (P : List GuestCall → Re
     turn_keeps : (old : Loop S) (did : StepDid) (new : Loop S) → NextPhase calls g old did more new → Before old → Behind new
     turn_keeps old did new h p =
         subst (λ cs. P (made ++ cs) new.state.requests new.shared) (sym h.2)
-        (nothing made old.state.requests new.state.requests old.shared new.shared (ap (λ l. l.state.requests) h.1 ∙ turned (may_end old.state.phase && not (is_alive old.state))) (ap (λ l. l.shared) h.1) p) where
-          turned : (b : Bool) → (cond {A = StepDid × State} b (step.Over, record old.state { status = Over }) (Entered (next_phase old.state.phase) (now_in old.state (next_phase old.state.phase)), entered old.state (next_phase old.state.phase))).1.requests ≡ old.state.requests
+        (nothing made old.state.requests new.state.requests old.shared new.shared
+        (ap (λ l. l.state.requests) h.1 ∙ turned (may_end old.state.phase && not (is_alive old.state))) (ap (λ l. l.shared) h.1) p) where
+          turned : (b : Bool) → (cond {A = StepDid × State} b (step.Over, record old.state { status = Over })
+              (Entered (next_phase old.state.phase) (now_in old.state (next_phase old.state.phase)), entered old.state (next_phase old.state.phase))).1.requests
+              ≡ old.state.requests
           turned true = refl
           turned false = refl
 

@@ -55,7 +55,14 @@ only what = record { what = what; phase = 0; kind = 0; number = 0; ending = 0; t
 -- a step, and how many values its callback put out
 abbrev pub did_of : StepDid → ℕ → Did
 did_of (step.Entered phase now) emits = record (only 1) { phase = phase_number phase; moment = now }
-did_of (step.Ran kind number ended) emits = record (only 2) { kind = kind_number kind; number = number; ending = (ending_numbers ended.ending).0; trap = (ending_numbers ended.ending).1; emits = emits; used = ended.used }
+did_of (step.Ran kind number ended) emits = record (only 2) {
+  kind = kind_number kind;
+  number = number;
+  ending = (ending_numbers ended.ending).0;
+  trap = (ending_numbers ended.ending).1;
+  emits = emits;
+  used = ended.used;
+}
 did_of (step.Skipped kind number) emits = record (only 3) { kind = kind_number kind; number = number }
 did_of step.Over emits = only 4
 did_of step.Failed emits = only 5

@@ -51,7 +51,8 @@ into_loose_spec 𝓤 𝓛 𝓜 𝓡 wired =
     -- [the box or nothing; the handle; true; what lives; true]
     let w : Val = beside p h in let o : Val = alone p in let made : L.Denot = record { ptr = p; alloc = a; value = v.value } in
     let e : z.0.4.0 ≡ o ∷ [] = ev ∙ (λ i. vstruct (of_list (ep i ++ [])) ∷ []) in
-    let typed : T (has_ty ty_ptr (ptr_val p) && (has_ty (layout Z) h && true)) × WT w = (both_tt (has_ty ty_ptr (ptr_val p)) (has_ty (layout Z) h) (Ptr-Good p).0 fits.0, ((Ptr-Good p).1, (fits.1, tt))) in
+    let typed : T (has_ty ty_ptr (ptr_val p) && (has_ty (layout Z) h && true)) × WT w =
+    (both_tt (has_ty ty_ptr (ptr_val p)) (has_ty (layout Z) h) (Ptr-Good p).0 fits.0, ((Ptr-Good p).1, (fits.1, tt))) in
     suffices ! (Run (o ∷ h ∷ [])) (subst (λ (us : List Val). ent 𝓤 (Run (o ∷ h ∷ [])) (Run us)) (sym (λ i. e i ++ (ea i ++ []))) (id⊢ 𝓤 (Run (o ∷ h ∷ [])))) $
     enter ! 𝓣.C 𝓣.Λ fn (o ∷ h ∷ []) Post $ alloc_all ! (λ l. pass_all ! refl ((one_tt (has_ty ty_ptr (ptr_val p)) (Ptr-Good p).0, ((Ptr-Good p).1, tt)), (fits, tt)) $
     sets ! (of_opd ! (get_in ! (fld ! refl (stop !)) (sub ! 0 refl (whole !)))) refl (Ptr-Good p) $ sets ! (of_opd ! (get ! refl)) refl (Ptr-Good p) $

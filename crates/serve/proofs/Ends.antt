@@ -2,6 +2,9 @@
 use Rattle.std.proofs.Common.{◌≡◌, ℕ, ◌==◌, Bool, true, false, cond, not, ◌&&◌, List, [], ◌∷◌, Option, Some, None, refl, sym, ap, ◌∙◌, MatchBool, MatchOption}
 use Rattle.events.specs.declared.did.StepDid.{StepDid}
 use Rattle.events.specs.declared.did.StepDid.TheVariants as did
+use Rattle.phases.specs.Bare.{whole}
+use Rattle.phases.specs.declared.did.BareDid.{BareDid}
+use Rattle.phases.specs.declared.did.BareDid.TheVariants as bare
 use Rattle.phases.specs.declared.entry.Entry.{Entry}
 use Rattle.phases.specs.declared.entry.Entry.TheVariants as entry
 use Rattle.events.specs.declared.phase.EntryKind.{EntryKind}
@@ -93,5 +96,8 @@ module _ {S : Type 0} (calls : Calls S) (g : Setting) (made : List GuestCall) wh
   step_is_over status.Over old d new is h over = ap (λ l. l.state.status) h.1 ∙ is
   step_is_over status.Failed old d new is h over = absurd (let none = ap tells_over h.0 in cc)
 
-pub is_over : {S : Type 0} (calls : Calls S) (g : Setting) (old : Loop S) (d : StepDid) (new : Loop S) → LoopStep calls g old d new → d ≡ did.Over → new.state.status ≡ status.Over
+is_over : {S : Type 0} (calls : Calls S) (g : Setting) (old : Loop S) (d : StepDid) (new : Loop S) → LoopStep calls g old d new → d ≡ did.Over → new.state.status ≡ status.Over
 is_over calls g old d new h over = step_is_over calls g h.0 old.state.status old d new refl h.1 (ap tells_over over)
+
+pub is_bare_over : {S : Type 0} (calls : Calls S) (g : Setting) (old : Loop S) (d : BareDid) (new : Loop S) → LoopStep calls g old (whole d) new → d ≡ bare.Over → new.state.status ≡ status.Over
+is_bare_over calls g old d new h over = is_over calls g old (whole d) new h (ap whole over)

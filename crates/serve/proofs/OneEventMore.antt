@@ -15,6 +15,10 @@ use Rattle.events.specs.declared.phase.EntryKind.{EntryKind}
 use Rattle.phases.specs.declared.entry.Status.{Status}
 use Rattle.phases.specs.declared.entry.Status.TheVariants as status
 use Rattle.events.specs.declared.ended.Ended.{Ended}
+use Rattle.events.specs.declared.ended.BareEnded.{BareEnded}
+use Rattle.phases.specs.Bare.{whole}
+use Rattle.phases.specs.declared.did.BareDid.{BareDid}
+use Rattle.phases.specs.declared.did.BareDid.TheVariants as bare
 use Rattle.phases.specs.declared.loop_core.Accepted.{Accepted}
 use Rattle.phases.specs.declared.loop_core.Accepted.TheVariants as accepted
 use Rattle.phases.specs.Accepting.{Accepts}
@@ -79,6 +83,14 @@ pub does_run : (g g' : Setting) (l m : Loop Seats) (ran ran' : ℕ) (emits emits
 does_run g g' l m ran ran' emits emits' kind number ended told is same step count more was =
     let ran_it : LoopStep thread_calls g l (did.Ran kind number ended) m = subst (λ d. LoopStep thread_calls g l d m) is step in
     does_more g g' l m ran ran' emits emits' (Stepped (did.Ran kind number ended) m.state.emits ran_it.0) same (ran_it.1, refl) tt count more was
+
+-- a step that runs none, as it is told
+pub tells_other : (d : BareDid) → ((kind : EntryKind) (number : ℕ) (ended : BareEnded) → d ≢ bare.Ran kind number ended) → (kind : EntryKind) (number : ℕ) (ended : Ended) → whole d ≢ did.Ran kind number ended
+tells_other (bare.Ran of at end) not kind number ended is = absurd (not of at end refl)
+tells_other (bare.Entered phase now) not kind number ended is = absurd (cc)
+tells_other (bare.Skipped of other) not kind number ended is = absurd (cc)
+tells_other bare.Over not kind number ended is = absurd (cc)
+tells_other bare.Failed not kind number ended is = absurd (cc)
 
 -- a step that runs none
 pub does_other : (g g' : Setting) (l m : Loop Seats) (ran : ℕ) (emits emits' : List ℕ) (told : StepDid) → g' ≡ g → LoopStep thread_calls g l told m

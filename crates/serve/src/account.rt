@@ -1,11 +1,11 @@
 // What a loop did last, for those who want to know why it ended.
 
 use crate::meter::Meter;
-use events::did::StepDid;
-use events::ended::{Ended, Ending};
+use events::ended::{BareEnded, BareEnding, Ended};
 use events::phase::{EntryKind, Phase};
 use limits::MAX_ASYNCS;
 use order::{Order, Outcome, Reply};
+use phases::BareDid;
 use std::alloc::{AllocError, Global};
 use std::sync::Arc;
 
@@ -48,20 +48,6 @@ impl Drop for Account {
     }
 }
 
-/// How a callback ended that did not return.
-fn stopped(ended: &Ended) -> Option<Ended> {
-    let ending = match &ended.ending {
-        Ending::Return(_) => return None,
-        Ending::Trap(trap) => Ending::Trap(*trap),
-        Ending::Depth => Ending::Depth,
-        Ending::Spent => Ending::Spent,
-    };
-    Some(Ended {
-        ending,
-        used: ended.used,
-    })
-}
-
 /// The same order once more.
 fn copy_of(order: &Order) -> Result<Order, AllocError> {
     Ok(Order {
@@ -92,22 +78,22 @@ impl Account {
     }
 
     /// The loop took this step.
-    pub(crate) fn saw(&mut self, did: &StepDid) {
+    pub(crate) fn saw(&mut self, did: &BareDid) {
         match did {
-            StepDid::Entered { phase, now } => self.enter(*phase, *now),
-            StepDid::Ran {
+            BareDid::Entered { phase, now } => self.enter(*phase, *now),
+            BareDid::Ran {
                 kind,
                 number,
                 ended,
             } => {
                 let (kind, number) = (*kind, *number);
-                self.run(Callback { kind, number }, ended);
+                self.run(Callback { kind, number }, *ended);
             }
-            StepDid::Skipped {
+            BareDid::Skipped {
                 kind: EntryKind::Async,
                 number,
             } => self.pass_by(*number),
-            StepDid::Skipped { .. } | StepDid::Over | StepDid::Failed => {}
+            BareDid::Skipped { .. } | BareDid::Over | BareDid::Failed => {}
         }
     }
 
@@ -119,7 +105,8 @@ impl Account {
         }
     }
 
-    fn run(&mut self, callback: Callback, ended: &Ended) {
+    // After a callback that did not return no other runs, so only such a one changes how the last ended.
+    fn run(&mut self, callback: Callback, ended: BareEnded) {
         self.in_row = if self.last == Some(callback) {
             self.in_row.saturating_add(1)
         } else {
@@ -127,7 +114,9 @@ impl Account {
         };
         self.last = Some(callback);
         self.most_used = self.most_used.max(ended.used);
-        self.stopped = stopped(ended);
+        if ended.ending != BareEnding::Return {
+            self.stopped = Some(ended.whole());
+        }
     }
 
     fn pass_by(&mut self, handle: u32) {

@@ -14,11 +14,11 @@ use crate::account::Account;
 use crate::meter::Meter;
 use crate::served::{LoopEnding, Served};
 use crate::watch::Watch;
-use events::did::{Hint, StepDid};
+use events::did::Hint;
 use events::phase::Phase;
 use limits::{MAX_CALLBACKS, MAX_EMITS};
 use order::{Order, Reply, Trail};
-use phases::{Accepted, LoopCore};
+use phases::{Accepted, BareDid, LoopCore};
 use pool::Seats;
 use std::alloc::{AllocError, Global};
 use std::sync::Wait;
@@ -35,10 +35,10 @@ pub struct Record<'a> {
     ghost told: { ∥ HasDone thread_calls core.setting core.loop ran emits.items ∥₁ },
 }
 
-fn enters_timers(did: &StepDid) -> bool {
+fn enters_timers(did: &BareDid) -> bool {
     matches!(
         did,
-        StepDid::Entered {
+        BareDid::Entered {
             phase: Phase::Timers,
             ..
         }
@@ -110,7 +110,7 @@ impl<'a> Record<'a> {
             let did = self.step()?;
             let is_turn = enters_timers(&did);
             let ended = self.ended(&did);
-            watch.step(rt, loop_no, did, self.core.emits());
+            watch.step(rt, loop_no, did.whole(), self.core.emits());
             match ended {
                 Some(ending) => return Ok(Some(ending)),
                 None if is_turn => return Ok(None),
@@ -120,18 +120,16 @@ impl<'a> Record<'a> {
         unreachable!()
     }
 
-    // One step of the loop. Where memory for what a callback may put out is refused, it takes none. Inlined, so that what the step
-    // did isn't copied: it has room for results.
-    #[inline(always)]
-    fn step(&mut self) -> Result<StepDid, AllocError>
+    // One step of the loop. Where memory for what a callback may put out is refused, it takes none.
+    fn step(&mut self) -> Result<BareDid, AllocError>
         requires room { self.old.ran < MAX_CALLBACKS }
         ensures setting { self.new.core.setting ≡ self.old.core.setting }
-        ensures over { IfOk result (λ did. did ≡ StepDid.Over → self.new.core.loop.state.status ≡ status.Over) }
+        ensures over { IfOk result (λ did. did ≡ BareDid.Over → self.new.core.loop.state.status ≡ status.Over) }
     {
         self.emits.reserve(MAX_EMITS)?;
-        let did = self.core.step();
+        let did = self.core.step_bare();
         self.account.saw(&did);
-        if let StepDid::Ran { .. } = did {
+        if let BareDid::Ran { .. } = did {
             self.ran += 1;
             let Ok(()) = self.emits.extend_from_slice(self.core.emits()) else {
                 unreachable!()
@@ -142,12 +140,12 @@ impl<'a> Record<'a> {
 
     // How the loop has ended with a step, if it has: it is over; the callback failed; or it was the last that the loop
     // may run.
-    fn ended(&self, did: &StepDid) -> Option<LoopEnding>
-        requires { did.now ≡ StepDid.Over → self.now.core.loop.state.status ≡ status.Over }
+    fn ended(&self, did: &BareDid) -> Option<LoopEnding>
+        requires { did.now ≡ BareDid.Over → self.now.core.loop.state.status ≡ status.Over }
         ensures { ComesTo result self.now.core.loop self.now.ran }
     {
         match did {
-            StepDid::Over => Some(LoopEnding::Over),
+            BareDid::Over => Some(LoopEnding::Over),
             _ if self.core.failed() => Some(LoopEnding::Failed),
             _ if self.ran == MAX_CALLBACKS => Some(LoopEnding::Limit),
             _ => None,

@@ -1,5 +1,5 @@
 // The turns of one loop.
-ghost use Rattle.std.specs.Prelude.{◌≡◌, ◌<◌, ◌≤◌, length, IfOk};
+ghost use Rattle.std.specs.Prelude.{◌≡◌, ◌<◌, ◌≤◌, length, IfOk, IfSome};
 ghost use Rattle.std.specs.Arc.{arc_value};
 ghost use Rattle.limits.specs.declared.TheConstants.{MAX_CALLBACKS, MAX_LOOPS};
 ghost use Rattle.board.specs.Boards.{IsPassOf, IsEventOf};
@@ -135,12 +135,45 @@ impl<'a, J: Drop> Turns<'a, J> {
         ensures comes { IfOk result (λ ended. ComesTo ended self.new.told.core.loop self.new.told.ran) }
     {
         let board = self.board;
-        let reply = board.listen(Event::Put(self.loop_no));
-        let room = board.listen(Event::Taken);
+        let heard = self.exchange_if_any(rt, make, watch)?;
+        self.step_through(rt, board, heard, watch)
+    }
+
+    // The exchange with the board. Without requests and without a job that was kept there is none.
+    fn exchange_if_any<R: Wait, M: Fn(Task) -> Result<J, AllocError>, W: Watch>(
+        &mut self,
+        rt: &R,
+        make: &M,
+        watch: &W,
+    ) -> Result<Option<Heard>, AllocError>
+        requires make { M.IsAlwaysCallable make.now }
+        ensures setting { self.new.told.core.setting ≡ self.old.told.core.setting }
+        ensures ran { self.new.told.ran ≡ self.old.told.ran }
+        ensures heard { IfOk result (λ heard. IfSome heard (λ h. IsEventOf self.old.board.now h.event)) }
+    {
+        if !self.told.has_requests() && self.kept.is_none() {
+            return Ok(None);
+        }
+        Ok(Some(self.exchange(rt, make, watch)?))
+    }
+
+    // Accepts the replies and posts the orders that are there. What the loop waits for if it has nothing else to do.
+    fn exchange<R: Wait, M: Fn(Task) -> Result<J, AllocError>, W: Watch>(
+        &mut self,
+        rt: &R,
+        make: &M,
+        watch: &W,
+    ) -> Result<Heard, AllocError>
+        requires make { M.IsAlwaysCallable make.now }
+        ensures setting { self.new.told.core.setting ≡ self.old.told.core.setting }
+        ensures ran { self.new.told.ran ≡ self.old.told.ran }
+        ensures heard { IfOk result (λ heard. IsEventOf self.old.board.now heard.event) }
+    {
+        let reply = self.board.listen(Event::Put(self.loop_no));
+        let room = self.board.listen(Event::Taken);
         self.accept_all(rt, watch);
         self.post_all(rt, make, watch)?;
-        let heard = if self.kept.is_some() { room } else { reply };
-        self.step_through(rt, board, heard, watch)
+        Ok(if self.kept.is_some() { room } else { reply })
     }
 
     // Steps through the loop, and rests where no callback ran and the loop has nothing to do.
@@ -148,11 +181,11 @@ impl<'a, J: Drop> Turns<'a, J> {
         &mut self,
         rt: &R,
         board: &Board<J>,
-        heard: Heard,
+        heard: Option<Heard>,
         watch: &W,
     ) -> Result<Option<LoopEnding>, AllocError>
         requires room { self.old.told.ran < MAX_CALLBACKS }
-        requires heard { IsEventOf board.now heard.event }
+        requires heard { IfSome heard (λ h. IsEventOf board.now h.event) }
         ensures setting { self.new.told.core.setting ≡ self.old.told.core.setting }
         ensures comes { IfOk result (λ ended. ComesTo ended self.new.told.core.loop self.new.told.ran) }
     {
@@ -165,22 +198,24 @@ impl<'a, J: Drop> Turns<'a, J> {
     }
 
     // Where requests are outstanding, the loop sleeps until one is answered, or, where a job is kept, until there is room
-    // for it: a worker that has put a reply takes a job next. Without requests the clock is raised to the next timer, and
+    // for it: a worker that has put a reply takes a job next. With nothing heard it takes a turn first. Without requests the clock is raised to the next timer, and
     // without a timer the loop waits for ever.
     fn rest<R: Wait, W: Watch>(
         &mut self,
         rt: &R,
         board: &Board<J>,
-        heard: Heard,
+        heard: Option<Heard>,
         watch: &W,
     ) -> Option<LoopEnding>
         requires room { self.old.told.ran < MAX_CALLBACKS }
-        requires heard { IsEventOf board.now heard.event }
+        requires heard { IfSome heard (λ h. IsEventOf board.now h.event) }
         ensures setting { self.new.told.core.setting ≡ self.old.told.core.setting }
         ensures comes { ComesTo result self.new.told.core.loop self.new.told.ran }
     {
         if self.told.has_requests() {
-            board.wait(rt, heard);
+            if let Some(heard) = heard {
+                board.wait(rt, heard);
+            }
             return None;
         }
         self.told.wait(rt, self.loop_no, watch)

@@ -1,5 +1,6 @@
 use Rattle.std.proofs.Common.{◌≡◌, ◌++◌, ◌+◌, cond, refl, ap, ◌∙◌, arith}
-use Rattle.serve.proofs.OneEventMore.{does_run, does_other}
+use Rattle.phases.specs.Bare.{whole}
+use Rattle.serve.proofs.OneEventMore.{does_run, does_other, tells_other}
 use Rattle.serve.proofs.record.Record.step.Goals as goal
 
 pub invariant_of-self-in-Ran : goal.invariant_of-self-in-Ran
@@ -13,7 +14,7 @@ invariant_of-self-in-Ran c =
     let more : c.extend_from_slice.new.self.items ≡ was.items ++ put = c.extend_from_slice.ensures.items ∙ ap (λ b. cond b (was.items ++ put) was.items) ok in
     record {
       few = omega arith;
-      told = does_run r.core.setting c.step-did.new.self.setting r.core.loop c.step-did.new.self.loop r.ran (r.ran + 1) r.emits.items c.extend_from_slice.new.self.items _ _ _ c.step-did.result c.in-Ran.is c.step-did.ensures.setting c.step-did.ensures.step refl
+      told = does_run r.core.setting c.step_bare-did.new.self.setting r.core.loop c.step_bare-did.new.self.loop r.ran (r.ran + 1) r.emits.items c.extend_from_slice.new.self.items _ _ _ (whole c.step_bare-did.result) (ap whole c.in-Ran.is) c.step_bare-did.ensures.setting c.step_bare-did.ensures.step refl
           (more ∙ ap (λ xs. xs ++ put) c.reserve.ensures.items ∙ ap (λ xs. r.emits.items ++ xs) c.emits.ensures.emits) r.told;
     }
 
@@ -22,6 +23,6 @@ invariant_of-self-in_default c =
     let r = c.args.self.now in
     record {
       few = r.few;
-      told = does_other r.core.setting c.step-did.new.self.setting r.core.loop c.step-did.new.self.loop r.ran r.emits.items c.reserve.new.self.items c.step-did.result c.step-did.ensures.setting c.step-did.ensures.step
-          c.reserve.ensures.items c.in_default.not-Ran r.told;
+      told = does_other r.core.setting c.step_bare-did.new.self.setting r.core.loop c.step_bare-did.new.self.loop r.ran r.emits.items c.reserve.new.self.items (whole c.step_bare-did.result) c.step_bare-did.ensures.setting c.step_bare-did.ensures.step
+          c.reserve.ensures.items (tells_other c.step_bare-did.result c.in_default.not-Ran) r.told;
     }

@@ -198,8 +198,8 @@ impl<'a, J: Drop> Turns<'a, J> {
     }
 
     // Where requests are outstanding, the loop sleeps until one is answered, or, where a job is kept, until there is room
-    // for it: a worker that has put a reply takes a job next. With nothing heard it takes a turn first. Without requests the clock is raised to the next timer, and
-    // without a timer the loop waits for ever.
+    // for it: a worker that has put a reply takes a job next. With nothing heard it takes a turn first. Without requests the
+    // clock is raised to the next timer, and without a timer the loop waits for ever.
     fn rest<R: Wait, W: Watch>(
         &mut self,
         rt: &R,

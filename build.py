@@ -34,11 +34,13 @@ MOST_JOBS = 4
 BESIDE, NEARLY = ["nice", "-n", "10"], 0.9
 # How long nothing is said, in seconds.
 QUIET = 30
-# What the crates took on 4 processors, in seconds, three side by side; another one is guessed to take as long as most.
+# What the crates took on 4 processors, in seconds, four side by side, those off the longest chain with one job; another one is guessed to
+# take as long as most.
 TAKES = {
-    "limits": 4, "tallies": 9, "leb": 18, "events": 20, "desk": 32, "world_log": 37, "reduction": 39, "syntax": 48, "pool": 53, "order": 55, "claims": 60, "instance": 63,
-    "marks": 69, "handles": 71, "interp": 75, "commands": 96, "numeric": 99, "wasmloop": 104, "validate": 112, "imports": 120, "words": 136,
-    "serve": 156, "phases": 167, "engine": 175, "board": 185, "script": 262, "world": 264, "loader": 280, "decode": 324,
+    "limits": 4, "tallies": 9, "handles": 29, "desk": 34, "leb": 34, "reduction": 42, "marks": 45, "numeric": 51, "world_log": 78, "order": 81,
+    "claims": 88, "events": 90, "syntax": 96, "wasmloop": 104, "interp": 126, "instance": 136, "pool": 138, "world": 161, "loader": 169,
+    "imports": 174, "commands": 200, "board": 262, "words": 269, "phases": 290, "engine": 291, "validate": 308, "places": 333, "script": 381,
+    "serve": 525, "sentences": 542, "decode": 610,
 }
 GUESSED = 100
 # How many of those seconds the pace that is seen needs before it counts as much as the one that was measured.
@@ -199,8 +201,8 @@ def report(plan, crate):
 
 
 def shares(rtlib):
-    """Returns how many crates are built at a time, and with how many jobs one that the longest chain stands on. The others get one job
-    each: with four, a check takes a sixth more of the processors' time."""
+    """Returns how many crates are built at a time, and with how many jobs one that the longest chain stands on. The others share what is
+    free: with four jobs, a check takes a sixth more of the processors' time."""
     processors = len(os.sched_getaffinity(0))
     jobs = min(MOST_JOBS, processors)
     at_once = processors
@@ -219,12 +221,15 @@ def build_all(rtlib, plan):
     with ThreadPoolExecutor(at_once) as pool:
         while waiting or running:
             ready = [it for it in waiting if all(dep in plan.done for dep in it.deps)]
-            for crate in ready[: at_once - len(running)]:
+            free = at_once - len(running)
+            for crate in ready[:free]:
                 waiting.remove(crate)
                 longest = max(plan.behind[it] for it in [*waiting, *running.values(), crate])
                 is_first = plan.behind[crate] >= NEARLY * longest
+                # (where little else can be done, the processors that are free are for this one)
+                shared = jobs if is_first else min(jobs, max(1, free // len(ready)))
                 plan.begins(crate)
-                running[pool.submit(build, rtlib, crate, jobs if is_first else 1, is_first)] = crate
+                running[pool.submit(build, rtlib, crate, shared, is_first)] = crate
             ended = wait(running, timeout=QUIET, return_when=FIRST_COMPLETED).done
             for it in ended:
                 crate = running.pop(it)

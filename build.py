@@ -38,8 +38,8 @@ QUIET = 30
 # take as long as most.
 TAKES = {
     "limits": 4, "tallies": 9, "handles": 29, "desk": 34, "leb": 34, "reduction": 42, "marks": 45, "numeric": 51, "world_log": 78, "order": 81,
-    "claims": 88, "events": 90, "syntax": 96, "wasmloop": 104, "interp": 126, "instance": 136, "pool": 138, "world": 161, "loader": 169,
-    "imports": 174, "commands": 200, "board": 262, "words": 269, "phases": 290, "engine": 291, "validate": 308, "places": 333, "script": 381,
+    "claims": 88, "events": 90, "syntax": 96, "wasmloop": 210, "interp": 126, "instance": 136, "pool": 138, "world": 161, "loader": 169,
+    "imports": 174, "commands": 259, "board": 262, "words": 269, "phases": 290, "engine": 291, "validate": 308, "places": 333, "script": 381,
     "serve": 525, "sentences": 542, "decode": 610,
 }
 GUESSED = 100

@@ -11,7 +11,7 @@
  *         while (wasmloop_step(&loop, &did) == WASMLOOP_OK && did.what != WASMLOOP_OVER && did.what != WASMLOOP_FAILED)
  *             ;
  *
- * Handles. A handle is a struct in your own memory. Zeroed memory is an empty handle. What fills one (load, loop, next_job) wants
+ * Handles. A handle is a struct in your own memory. Zeroed memory is an empty handle. What fills one (load, loop, next_job) needs
  * it empty; wasmloop_drop empties it. A call on an empty handle, or on one that was dropped or whose job was accepted, answers
  * WASMLOOP_EMPTY; on one of another kind WASMLOOP_KIND; where a pointer is NULL WASMLOOP_NULL. You owe the rest: don't write into
  * a handle, don't copy one and then use both copies (you may move one), drop each one that is not empty, and give each pointer

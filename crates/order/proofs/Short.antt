@@ -13,7 +13,7 @@ use Rattle.reduction.specs.Run.{HostCall, RunEnd, Returned, Trapped, TooDeep, Ou
 use Rattle.reduction.specs.Hosting.{Lawful}
 use Rattle.imports.specs.declared.call.Call.{Call}
 use Rattle.imports.specs.declared.call.Call.TheVariants.{Now, InLen, InCopy, OutSet}
-use Rattle.order.specs.Uv.Numbers.{invalid, outside_memory}
+use Rattle.order.specs.declared.uv.answers.TheConstants.{INVALID, OUTSIDE_MEMORY}
 use Rattle.order.specs.Uv.Bytes.{set_out, taken_out}
 use Rattle.order.specs.Work.{WorkOrder, WorkEnd, Done, Trap, Depth, Spent, NoMemory, EndsAs, WorkAnswers, WorkCall, StartRun, Computes, stops, works, IsEndOf, IsShortEnd}
 
@@ -29,9 +29,9 @@ taken_short place count memory few = let is = length-take count (drop place memo
 set_short : (place count : ℕ) (memory reply : List ℕ) → IsShort reply → IsShort (set_out place count memory reply).1
 set_short place count memory reply short =
     elim (nat_lt MAX_BYTES count) as (λ b. nat_lt MAX_BYTES count ≡ b
-    → IsSet (cond b (invalid, reply) (cond (nat_lt (length memory) (place + count)) (outside_memory, reply) (0, taken_out place count memory)))) [
+    → IsSet (cond b (INVALID, reply) (cond (nat_lt (length memory) (place + count)) (OUTSIDE_MEMORY, reply) (0, taken_out place count memory)))) [
       | true ↦ λ e. short
-      | false ↦ λ e. elim (nat_lt (length memory) (place + count)) as (λ b. IsSet (cond b (outside_memory, reply) (0, taken_out place count memory))) [
+      | false ↦ λ e. elim (nat_lt (length memory) (place + count)) as (λ b. IsSet (cond b (OUTSIDE_MEMORY, reply) (0, taken_out place count memory))) [
         | true ↦ short
         | false ↦ taken_short place count memory (ltb-false MAX_BYTES count e)
       ]

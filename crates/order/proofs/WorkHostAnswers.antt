@@ -8,7 +8,7 @@ use Rattle.imports.specs.declared.call.Call.{Call}
 use Rattle.imports.specs.declared.call.Call.TheVariants.{Now, InLen, InCopy, OutSet}
 use Rattle.imports.specs.Linking.{Imports}
 use Rattle.order.specs.declared.host.WorkHost.{WorkHost}
-use Rattle.order.specs.Uv.Numbers.{not_here}
+use Rattle.order.specs.declared.uv.answers.TheConstants.{NOT_HERE}
 use Rattle.order.specs.Work.{WorkOrder, WorkEnd, Done, Trap, Depth, Spent, NoMemory, WorkAnswers, WorkCall, Works, IsTheEnd, IsEndOf, Gives}
 use Rattle.order.specs.Inner.WorkHosting.{Answered}
 use Rattle.order.specs.Inner.Serving.{Serves}

@@ -1,3 +1,2 @@
 -- What a call of "uv" reads, writes and answers.
 pub mod Bytes
-pub mod Numbers

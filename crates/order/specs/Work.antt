@@ -12,7 +12,7 @@ use Rattle.reduction.specs.Invoking.{Invokes}
 use Rattle.imports.specs.declared.call.Call.{Call}
 use Rattle.imports.specs.declared.call.Call.TheVariants.{Now, InLen, InCopy, OutSet}
 use Rattle.imports.specs.Linking.{Imports, ExportsFunction}
-use Rattle.order.specs.Uv.Numbers.{not_here}
+use Rattle.order.specs.declared.uv.answers.TheConstants.{NOT_HERE}
 use Rattle.order.specs.Uv.Bytes.{input_length, copied_in, set_out}
 
 -- A request as it is handed out: whose it is, the module, the operation, the bytes, and what it may use.
@@ -59,7 +59,7 @@ WorkAnswers bytes reply call reply' OutSet (I32 place ∷ I32 count ∷ []) =
     let set = set_out place count call.before reply in Gives call reply' set.0 call.before set.1
 -- every other call is not here, `now` by its own type
 WorkAnswers bytes reply call reply' Now args = (call.answer ≡ Some (I64 (2 ^ 64 - 1))) × (call.after ≡ call.before) × (reply' ≡ reply)
-WorkAnswers bytes reply call reply' _ args = Gives call reply' not_here call.before reply
+WorkAnswers bytes reply call reply' _ args = Gives call reply' NOT_HERE call.before reply
 
 -- one call of the host of a work function
 abbrev pub WorkCall : WorkOrder → List ℕ → HostCall → List ℕ → Type 0

@@ -30,6 +30,7 @@ pub struct Order {
     pub depth: u32,
 }
 
+// By hand, as for each type here that crates above drop: they take its contract, and prove no derived body anew.
 impl Drop for Order {
     fn drop(self) {
         let Order {

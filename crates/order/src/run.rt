@@ -180,6 +180,7 @@ impl Order {
         ensures store { IfOk result (λ i. IsStoreOf (arc_value self.now.module).contents i) }
     {
         let valid = self.module.valid();
+        // for what its contract tells: the module is valid
         let _contents = valid.contents();
         match Instance::new(alloc, valid) {
             Ok(instance) => Ok(instance),

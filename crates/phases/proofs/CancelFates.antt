@@ -2,17 +2,18 @@
 use Rattle.std.proofs.Common.{◌≡◌, ◌≢◌, ℕ, ◌==◌, Bool, true, false, cond, Option, Some, None, refl, sym, ap, subst, ◌∙◌, ℤ, negsuc}
 use Rattle.std.specs.Prelude.{pos}
 use Rattle.std.specs.Int.{w32, cast_signed}
-use Rattle.order.specs.Uv.Numbers.{not_here, busy, invalid}
+use Rattle.order.specs.declared.uv.answers.TheConstants.{NOT_HERE, BUSY, INVALID}
 use Rattle.phases.specs.declared.entry.Status.{Status}
 use Rattle.phases.specs.declared.entry.Status.TheVariants.{Running, Over, Failed}
-use Rattle.phases.specs.declared.progress.CancelState.{CancelState}
-use Rattle.phases.specs.declared.progress.CancelState.TheVariants.{Unknown, Pending}
-use Rattle.phases.specs.declared.progress.CancelState.TheVariants as cancel_state
-use Rattle.phases.specs.Requests.{Stage, Open, HandedOut, Answered, Cancelled, Request, Requests, request_of, with_stage}
+use Rattle.phases.specs.declared.stage.CancelState.{CancelState}
+use Rattle.phases.specs.declared.stage.CancelState.TheVariants.{Unknown, Pending}
+use Rattle.phases.specs.declared.stage.CancelState.TheVariants as cancel_state
+use Rattle.phases.specs.Requests.{Cancelled, Request, Requests, request_of, with_stage}
 use Rattle.phases.specs.State.{State}
 use Rattle.phases.specs.Calls.{Calls}
-use Rattle.phases.specs.Host.{Cancels, CancelsAt, cancel_state_of, request_cancel_state, stage_cancel_state}
+use Rattle.phases.specs.Host.{Cancels, CancelsAt, cancel_state_of, request_cancel_state}
 use Rattle.phases.specs.Outside.{CancelIn}
+use Rattle.phases.proofs.FoundCancels.{in_slot}
 
 -- an answer other than 0, read as unsigned and as signed
 pub record IsRefusal (answer : ℕ) : Type 0 where
@@ -52,22 +53,16 @@ module _ {S : Type 0} (calls : Calls S) where
   fate old n answer new (leaves refused is beside) = stayed refused is
 
   moves_at : (st : CancelState) (old : Requests × S) (n answer : ℕ) (new : Requests × S) → cancel_state_of old.0 n ≡ st → CancelsAt calls st old n answer new → CancelMoves calls old n answer new
-  moves_at Unknown old n answer new is h = leaves (refusal answer invalid h.0 refl refl) (ap (λ p. p.0) h.1) (unmoved (ap (λ p. p.1) h.1))
-  moves_at cancel_state.Answered old n answer new is h = leaves (refusal answer busy h.0 refl refl) (ap (λ p. p.0) h.1) (unmoved (ap (λ p. p.1) h.1))
+  moves_at Unknown old n answer new is h = leaves (refusal answer INVALID h.0 refl refl) (ap (λ p. p.0) h.1) (unmoved (ap (λ p. p.1) h.1))
+  moves_at cancel_state.Answered old n answer new is h = leaves (refusal answer BUSY h.0 refl refl) (ap (λ p. p.0) h.1) (unmoved (ap (λ p. p.1) h.1))
   moves_at (Pending slot) old n answer new is h = won h.0 h.1 h.2 h.3 where
-    in_slot : (q : Request) (st : Stage) → stage_cancel_state q.order.slot st ≡ Pending slot → slot ≡ q.order.slot
-    in_slot q Open e = cc
-    in_slot q HandedOut e = cc
-    in_slot q (Answered end) e = absurd (cc)
-    in_slot q Cancelled e = absurd (cc)
-
     there : (o : Option Request) → request_of old.0 n ≡ o → (q : Request) × (request_of old.0 n ≡ Some q) × (slot ≡ q.order.slot)
     there None e = absurd (let it : request_cancel_state (request_of old.0 n) ≡ Unknown = ap request_cancel_state e in cc)
-    there (Some q) e = (q, e, in_slot q q.stage (sym (ap request_cancel_state e) ∙ is))
+    there (Some q) e = (q, e, in_slot q slot q.stage (sym (ap request_cancel_state e) ∙ is))
 
-    won : (b : Bool) → calls.cancels old.1 slot n b new.1 → answer ≡ cond b 0 busy → new.0 ≡ cond b (with_stage old.0 n Cancelled) old.0 → CancelMoves calls old n answer new
+    won : (b : Bool) → calls.cancels old.1 slot n b new.1 → answer ≡ cond b 0 BUSY → new.0 ≡ cond b (with_stage old.0 n Cancelled) old.0 → CancelMoves calls old n answer new
     won true at a e = let it = there (request_of old.0 n) refl in wins it.0 it.1 a e (subst (λ k. calls.cancels old.1 k n true new.1) it.2 at)
-    won false at a e = leaves (refusal answer busy a refl refl) e (tried slot n at)
+    won false at a e = leaves (refusal answer BUSY a refl refl) e (tried slot n at)
 
   pub moves_of : (old : Requests × S) (n answer : ℕ) (new : Requests × S) → Cancels calls old n answer new → CancelMoves calls old n answer new
   moves_of old n answer new h = moves_at (cancel_state_of old.0 n) old n answer new refl h
@@ -78,7 +73,7 @@ module _ {S : Type 0} (calls : Calls S) where
 
   -- the owner's
   pub moves_in : (status : Status) (old : State × S) (n answer : ℕ) (new : State × S) → CancelIn calls status old n answer new → CancelMoves calls (old.0.requests, old.1) n answer (new.0.requests, new.1)
-  moves_in Failed old n answer new h = leaves (refusal answer not_here h.0 refl refl) (ap (λ p. p.0.requests) h.1) (unmoved (ap (λ p. p.1) h.1))
+  moves_in Failed old n answer new h = leaves (refusal answer NOT_HERE h.0 refl refl) (ap (λ p. p.0.requests) h.1) (unmoved (ap (λ p. p.1) h.1))
   moves_in Running old n answer new h =
       renamed (old.0.requests, old.1) n answer h.0 new.0.requests new.1 (ap (λ s. s.requests) h.2) (moves_of (old.0.requests, old.1) n answer (h.0, new.1) h.1)
   moves_in Over old n answer new h =

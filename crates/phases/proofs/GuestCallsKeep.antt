@@ -12,14 +12,14 @@ use Rattle.reduction.specs.Hosting.{Lawful}
 use Rattle.imports.specs.declared.call.Call.{Call}
 use Rattle.imports.specs.declared.call.Call.TheVariants.{Now, TimerInit, IdleInit, CheckInit, TimerStart, TimerStop, IdleStop, CheckStop, TimerAgain, IdleStart}
 use Rattle.imports.specs.declared.call.Call.TheVariants.{CheckStart, AsyncInit, AsyncSend, IsActive, Close, QueueWork, Cancel, InLen, InCopy, OutSet, Emit}
-use Rattle.phases.specs.declared.progress.CancelState.{CancelState}
-use Rattle.phases.specs.declared.progress.CancelState.TheVariants.{Unknown, Pending}
-use Rattle.phases.specs.declared.progress.CancelState.TheVariants as cancel_state
+use Rattle.phases.specs.declared.stage.CancelState.{CancelState}
+use Rattle.phases.specs.declared.stage.CancelState.TheVariants.{Unknown, Pending}
+use Rattle.phases.specs.declared.stage.CancelState.TheVariants as cancel_state
 use Rattle.phases.specs.View.{View, AreOpenedUpTo, Opened, Cancelled, Sent}
 use Rattle.phases.specs.Calls.{Calls, IsLawful}
 use Rattle.phases.specs.Requests.{Requests, Cancelled as cancelled, with_stage}
 use Rattle.handles.specs.declared.handle.Kind.TheVariants as kind
-use Rattle.order.specs.Uv.Numbers.{no_room, no_memory, outside_memory, invalid, none_left, no_such_export}
+use Rattle.order.specs.declared.uv.answers.TheConstants.{NO_ROOM, NO_MEMORY, OUTSIDE_MEMORY, INVALID, NONE_LEFT, NO_SUCH_EXPORT}
 use Rattle.order.specs.Uv.Bytes.{taken_out}
 use Rattle.phases.specs.PhaseList.{exports}
 use Rattle.phases.specs.Roster.{Roster, is_open_of, async_number}
@@ -91,12 +91,12 @@ module _ {S : Type 0} (calls : Calls S) (lawful : IsLawful calls) where
 
     queues_upto : (memory : List ℕ) (place count : ℕ) → QueuesWork calls g memory old op place count answer new → UpTo new
     queues_upto memory place count h =
-        unless (not (exports g.loaded.contents (codes "uv_work") && exports g.loaded.contents (codes "uv_after_work"))) no_such_export
-        (unless (nat_lt MAX_BYTES count) invalid
-        (unless (nat_lt (length memory) (place + count)) outside_memory
-        (unless (length old.0.outstanding == MAX_REQUESTS) no_room
-        (unless (old.0.last == 2147483647) none_left
-        (refused_or_opened no_memory (taken_out place count memory))))))
+        unless (not (exports g.loaded.contents (codes "uv_work") && exports g.loaded.contents (codes "uv_after_work"))) NO_SUCH_EXPORT
+        (unless (nat_lt MAX_BYTES count) INVALID
+        (unless (nat_lt (length memory) (place + count)) OUTSIDE_MEMORY
+        (unless (length old.0.outstanding == MAX_REQUESTS) NO_ROOM
+        (unless (old.0.last == 2147483647) NONE_LEFT
+        (refused_or_opened NO_MEMORY (taken_out place count memory))))))
         h
 
   cancelled_opened : (v w : View) (c : ℕ × ℕ) (won : Bool) → Cancelled v w c won → w.opened ≡ v.opened
@@ -123,7 +123,7 @@ module _ {S : Type 0} (calls : Calls S) (lawful : IsLawful calls) where
 
   sends_upto : (r : Roster) (last : ℕ) (old new : S) (handle answer : ℕ) → Sends calls r old handle answer new → AreOpenedUpTo last (calls.view old) → AreOpenedUpTo last (calls.view new)
   sends_upto r last old new handle answer h upto =
-      either (not (is_open_of kind.Async r handle)) ((answer ≡ invalid) × (new ≡ old)) ((sent : Bool) × calls.sends old (async_number r handle) sent new × (answer ≡ cond sent 0 none_left)) _
+      either (not (is_open_of kind.Async r handle)) ((answer ≡ INVALID) × (new ≡ old)) ((sent : Bool) × calls.sends old (async_number r handle) sent new × (answer ≡ cond sent 0 NONE_LEFT)) _
       (λ k. rw k.1 upto)
       (λ k. upto_view last (calls.view old) (calls.view new) (sent_opened (calls.view old) (calls.view new) (async_number r handle) k.0 (lawful.sends old new (async_number r handle) k.0 k.1)) upto)
       h
@@ -134,7 +134,7 @@ module _ {S : Type 0} (calls : Calls S) (lawful : IsLawful calls) where
 
   emitted_requests : (value : ℕ) (s : State) → (emitted_in value s).1.requests ≡ s.requests
   emitted_requests value s = kept (nat_le MAX_EMITS (length s.emits)) where
-    kept : (b : Bool) → (let done : ℕ × State = cond b (none_left, s) (0, record s { emits = s.emits ++ value ∷ [] }) in done.1.requests) ≡ s.requests
+    kept : (b : Bool) → (let done : ℕ × State = cond b (NONE_LEFT, s) (0, record s { emits = s.emits ++ value ∷ [] }) in done.1.requests) ≡ s.requests
     kept true = refl
     kept false = refl
 

@@ -19,13 +19,13 @@ use Rattle.reduction.specs.Hosting.{Lawful}
 use Rattle.imports.specs.declared.call.Call.{Call}
 use Rattle.imports.specs.declared.call.Call.TheVariants.{Now, TimerInit, IdleInit, CheckInit, TimerStart, TimerStop, IdleStop, CheckStop, TimerAgain, IdleStart}
 use Rattle.imports.specs.declared.call.Call.TheVariants.{CheckStart, AsyncInit, AsyncSend, IsActive, Close, QueueWork, Cancel, InLen, InCopy, OutSet, Emit}
-use Rattle.order.specs.Uv.Numbers.{invalid, none_left}
+use Rattle.order.specs.declared.uv.answers.TheConstants.{INVALID, NONE_LEFT}
 use Rattle.order.specs.Uv.Bytes.{taken_out}
 use Rattle.order.specs.Work.{WorkOrder}
 use Rattle.tallies.proofs.Requests.{either}
-use Rattle.phases.specs.declared.progress.CancelState.{CancelState}
-use Rattle.phases.specs.declared.progress.CancelState.TheVariants.{Unknown, Pending}
-use Rattle.phases.specs.declared.progress.CancelState.TheVariants as cancel_state
+use Rattle.phases.specs.declared.stage.CancelState.{CancelState}
+use Rattle.phases.specs.declared.stage.CancelState.TheVariants.{Unknown, Pending}
+use Rattle.phases.specs.declared.stage.CancelState.TheVariants as cancel_state
 use Rattle.phases.specs.PhaseList.{exports}
 use Rattle.phases.specs.Requests.{Requests, Request, Stage, Open, Cancelled, has_number, in_stage, with_stage, with_work, is_settled}
 use Rattle.phases.specs.Roster.{Roster, in_table, async_handle, is_open, is_open_of, is_callback, with_handles, with_made, with_async, Makes, MakesAsync, stopped_in, started_in, again_in, closed_in}
@@ -220,7 +220,7 @@ holds_made k r answer u = holds_makes (with_made k) r answer u (λ none. holds_h
 holds_made_async : (callback : ℕ) (r : Roster) (answer : ℕ) (u : Roster) → MakesAsync callback r answer u → Holds r u
 holds_made_async callback r answer u =
     either (not (is_callback r callback)) _ _ _ (λ h. holds_same r u h.1) (by (length r.asyncs == MAX_ASYNCS) refl) where
-      by : (b : Bool) → (length r.asyncs == MAX_ASYNCS) ≡ b → MatchBool b ((answer ≡ none_left) × (u ≡ r)) (Makes (with_async callback) r answer u) → Holds r u
+      by : (b : Bool) → (length r.asyncs == MAX_ASYNCS) ≡ b → MatchBool b ((answer ≡ NONE_LEFT) × (u ≡ r)) (Makes (with_async callback) r answer u) → Holds r u
       by true full h = holds_same r u h.1
       by false room h = holds_makes (with_async callback) r answer u (holds_async r answer callback room) h
 
@@ -228,8 +228,8 @@ module _ (r : Roster) where
   abbrev HoldsAfter : ℕ × Roster → Type 0
   HoldsAfter p = Holds r p.1
 
-  refused_or : (b : Bool) (done : ℕ × Roster) → HoldsAfter done → HoldsAfter (cond b (invalid, r) done)
-  refused_or b done h = choose HoldsAfter b (invalid, r) done (λ _. holds_same r r refl) (λ _. h)
+  refused_or : (b : Bool) (done : ℕ × Roster) → HoldsAfter done → HoldsAfter (cond b (INVALID, r) done)
+  refused_or b done h = choose HoldsAfter b (INVALID, r) done (λ _. holds_same r r refl) (λ _. h)
 
   holds_stopped : (k : Kind) (handle : ℕ) → HoldsAfter (stopped_in k handle r)
   holds_stopped k handle =
@@ -309,7 +309,7 @@ module _ {S : Type 0} (calls : Calls S) (g : Setting) (old : State × S) (call :
 
   emits : (value : ℕ) → Grows old.0 (emitted_in value old.0).1
   emits value =
-      choose (λ (p : ℕ × State). Grows old.0 p.1) (nat_le MAX_EMITS (length old.0.emits)) (none_left, old.0) (0, record old.0 { emits = old.0.emits ++ value ∷ [] })
+      choose (λ (p : ℕ × State). Grows old.0 p.1) (nat_le MAX_EMITS (length old.0.emits)) (NONE_LEFT, old.0) (0, record old.0 { emits = old.0.emits ++ value ∷ [] })
       (λ _. grows_refl old.0)
       (λ _. grows_same old.0 (record old.0 { emits = old.0.emits ++ value ∷ [] }) refl refl refl refl)
 

@@ -4,6 +4,7 @@ pub mod RequestsRise
 pub mod CancelFates
 pub mod PhaseListsAreReady
 pub mod HostExports
+pub mod FoundCancels
 pub mod FrontSearches
 pub mod GuestCallsKeepListed
 pub mod GuestCallsKeep

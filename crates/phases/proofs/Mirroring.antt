@@ -10,7 +10,7 @@ use Rattle.reduction.specs.Run.{HostCall}
 use Rattle.imports.specs.declared.call.Call.{Call}
 use Rattle.imports.specs.declared.call.Call.TheVariants.{Now, TimerInit, IdleInit, CheckInit, TimerStart, TimerStop, IdleStop, CheckStop, TimerAgain, IdleStart}
 use Rattle.imports.specs.declared.call.Call.TheVariants.{CheckStart, AsyncInit, AsyncSend, IsActive, Close, QueueWork, Cancel, InLen, InCopy, OutSet, Emit}
-use Rattle.order.specs.Uv.Numbers.{no_such_export, invalid, no_room, none_left, no_memory, outside_memory}
+use Rattle.order.specs.declared.uv.answers.TheConstants.{NO_SUCH_EXPORT, INVALID, NO_ROOM, NONE_LEFT, NO_MEMORY, OUTSIDE_MEMORY}
 use Rattle.order.specs.Uv.Bytes.{taken_out}
 use Rattle.events.specs.declared.did.StepDid.{StepDid}
 use Rattle.events.specs.declared.phase.EntryKind.{EntryKind}
@@ -19,9 +19,9 @@ use Rattle.phases.specs.declared.entry.Entry.{Entry}
 use Rattle.phases.specs.declared.entry.Entry.TheVariants as entry
 use Rattle.phases.specs.declared.entry.Status.{Status}
 use Rattle.phases.specs.declared.entry.Status.TheVariants.{Running, Over, Failed}
-use Rattle.phases.specs.declared.progress.CancelState.{CancelState}
-use Rattle.phases.specs.declared.progress.CancelState.TheVariants.{Unknown, Pending}
-use Rattle.phases.specs.declared.progress.CancelState.TheVariants as cancel_state
+use Rattle.phases.specs.declared.stage.CancelState.{CancelState}
+use Rattle.phases.specs.declared.stage.CancelState.TheVariants.{Unknown, Pending}
+use Rattle.phases.specs.declared.stage.CancelState.TheVariants as cancel_state
 use Rattle.phases.specs.Roster.{is_open_of, async_number, async_handle, with_handles, without_handle}
 use Rattle.phases.specs.Requests.{Request, Requests, Completion, request_of, without_request, completion_of}
 use Rattle.phases.specs.State.{Setting, State, Loop}
@@ -77,10 +77,10 @@ module _ {S T : Type 0} (calls : Calls S) (other : Calls T) (g : Setting) (Comes
 
     abbrev Opened : T → Type 0
     Opened t' =
-        ((answer ≡ no_memory) × (◌≡◌ {A = Requests × T} (requests, t') (old.0, t)))
+        ((answer ≡ NO_MEMORY) × (◌≡◌ {A = Requests × T} (requests, t') (old.0, t)))
         ⊎ Opens other g (old.0, t) op (taken_out place count memory) answer (requests, t')
 
-    opened : ((answer ≡ no_memory) × (◌≡◌ {A = Requests × S} (requests, s') old)) ⊎ Opens calls g old op (taken_out place count memory) answer (requests, s') → After Opened s'
+    opened : ((answer ≡ NO_MEMORY) × (◌≡◌ {A = Requests × S} (requests, s') old)) ⊎ Opens calls g old op (taken_out place count memory) answer (requests, s') → After Opened s'
     opened (inl h) = (t, inl (h.0, ap (λ p. (p.0, t)) h.1), stays old.1 s' t (ap (λ p. p.1) h.1) r)
     opened (inr h) =
         let it = mirrored.opens old.1 s' t h.slot (old.0.last + 1) c r h.opened in
@@ -88,11 +88,11 @@ module _ {S T : Type 0} (calls : Calls S) (other : Calls T) (g : Setting) (Comes
 
     queues : QueuesWork calls g memory old op place count answer (requests, s') → After (λ t'. QueuesWork other g memory (old.0, t) op place count answer (requests, t')) s'
     queues h =
-        refused (not (exports g.loaded.contents (codes "uv_work") && exports g.loaded.contents (codes "uv_after_work"))) no_such_export _ _
-        (refused (nat_lt MAX_BYTES count) invalid _ _
-        (refused (nat_lt (length memory) (place + count)) outside_memory _ _
-        (refused (length old.0.outstanding == MAX_REQUESTS) no_room _ _
-        (refused (old.0.last == 2147483647) none_left _ _ opened)))) h
+        refused (not (exports g.loaded.contents (codes "uv_work") && exports g.loaded.contents (codes "uv_after_work"))) NO_SUCH_EXPORT _ _
+        (refused (nat_lt MAX_BYTES count) INVALID _ _
+        (refused (nat_lt (length memory) (place + count)) OUTSIDE_MEMORY _ _
+        (refused (length old.0.outstanding == MAX_REQUESTS) NO_ROOM _ _
+        (refused (old.0.last == 2147483647) NONE_LEFT _ _ opened)))) h
 
   -- one call of the guest
   module _ (old : State × S) (call : HostCall) (new : State × S) (t : T) (c : Comes new.1) (r : R old.1 t) where
@@ -103,8 +103,8 @@ module _ {S T : Type 0} (calls : Calls S) (other : Calls T) (g : Setting) (Comes
     kept : (s : State) → new ≡ (s, old.1) → (◌≡◌ {A = State × T} (new.0, t) (s, t)) × R new.1 t
     kept s e = (ap (λ p. (p.0, t)) e, stays old.1 new.1 t (ap (λ p. p.1) e) r)
 
-    sends : (b : Bool) (async_no answer : ℕ) → MatchBool b ((answer ≡ invalid) × (new.1 ≡ old.1)) ((sent : Bool) × calls.sends old.1 async_no sent new.1 × (answer ≡ cond sent 0 none_left))
-        → After (λ t'. MatchBool b ((answer ≡ invalid) × (t' ≡ t)) ((sent : Bool) × other.sends t async_no sent t' × (answer ≡ cond sent 0 none_left))) new.1
+    sends : (b : Bool) (async_no answer : ℕ) → MatchBool b ((answer ≡ INVALID) × (new.1 ≡ old.1)) ((sent : Bool) × calls.sends old.1 async_no sent new.1 × (answer ≡ cond sent 0 NONE_LEFT))
+        → After (λ t'. MatchBool b ((answer ≡ INVALID) × (t' ≡ t)) ((sent : Bool) × other.sends t async_no sent t' × (answer ≡ cond sent 0 NONE_LEFT))) new.1
     sends true async_no answer h = (t, (h.0, refl), stays old.1 new.1 t h.1 r)
     sends false async_no answer h = let it = mirrored.sends old.1 new.1 t async_no h.0 c r h.1 in (it.0, (h.0, it.1, h.2), it.2)
 

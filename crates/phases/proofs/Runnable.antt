@@ -20,12 +20,12 @@ use Rattle.imports.specs.declared.call.Call.TheVariants.{Now, TimerInit, IdleIni
 use Rattle.imports.specs.declared.call.Call.TheVariants.{CheckStart, AsyncInit, AsyncSend, IsActive, Close, QueueWork, Cancel, InLen, InCopy, OutSet, Emit}
 use Rattle.imports.specs.declared.entry_point.EntryPoint.TheVariants.{Work}
 use Rattle.imports.specs.Linking.{IsLinked, IsCallable, ExportsFunction}
-use Rattle.order.specs.Uv.Numbers.{none_left}
+use Rattle.order.specs.declared.uv.answers.TheConstants.{NONE_LEFT}
 use Rattle.order.specs.Uv.Bytes.{taken_out}
 use Rattle.order.specs.Work.{WorkOrder}
-use Rattle.phases.specs.declared.progress.CancelState.{CancelState}
-use Rattle.phases.specs.declared.progress.CancelState.TheVariants.{Unknown, Pending}
-use Rattle.phases.specs.declared.progress.CancelState.TheVariants as cancel_state
+use Rattle.phases.specs.declared.stage.CancelState.{CancelState}
+use Rattle.phases.specs.declared.stage.CancelState.TheVariants.{Unknown, Pending}
+use Rattle.phases.specs.declared.stage.CancelState.TheVariants as cancel_state
 use Rattle.phases.specs.PhaseList.{exports}
 use Rattle.phases.specs.Requests.{Requests, Request, Stage, Open, HandedOut, Cancelled, in_stage, has_number, with_stage, with_work, without_request}
 use Rattle.phases.specs.Requests.{lowest_open, is_open_stage, is_settled, request_of}
@@ -96,7 +96,7 @@ module _ {S : Type 0} (calls : Calls S) (g : Setting) (P : Requests → Type 0)
       emitted : (value : ℕ) → (emitted_in value old.0).1.requests ≡ old.0.requests
       emitted value =
           elim (nat_le MAX_EMITS (length old.0.emits)) as
-          (λ b. (cond {A = ℕ × State} b (none_left, old.0) (0, record old.0 { emits = old.0.emits ++ value ∷ [] })).1.requests ≡ old.0.requests)
+          (λ b. (cond {A = ℕ × State} b (NONE_LEFT, old.0) (0, record old.0 { emits = old.0.emits ++ value ∷ [] })).1.requests ≡ old.0.requests)
           [ true ↦ refl | false ↦ refl ]
 
       of_call : (f : Call) (args : List Value) → CallStep calls g old call new f args → P old.0.requests → P new.0.requests

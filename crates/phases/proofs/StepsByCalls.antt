@@ -12,7 +12,7 @@ use Rattle.reduction.specs.Run.{HostCall}
 use Rattle.imports.specs.declared.call.Call.{Call}
 use Rattle.imports.specs.declared.call.Call.TheVariants.{Now, TimerInit, IdleInit, CheckInit, TimerStart, TimerStop, IdleStop, CheckStop, TimerAgain, IdleStart}
 use Rattle.imports.specs.declared.call.Call.TheVariants.{CheckStart, AsyncInit, AsyncSend, IsActive, Close, QueueWork, Cancel, InLen, InCopy, OutSet, Emit}
-use Rattle.order.specs.Uv.Numbers.{no_such_export, invalid, no_room, none_left, no_memory, outside_memory}
+use Rattle.order.specs.declared.uv.answers.TheConstants.{NO_SUCH_EXPORT, INVALID, NO_ROOM, NONE_LEFT, NO_MEMORY, OUTSIDE_MEMORY}
 use Rattle.order.specs.Work.{WorkOrder, WorkEnd}
 use Rattle.order.specs.Uv.Bytes.{taken_out}
 use Rattle.events.specs.declared.did.StepDid.{StepDid}
@@ -77,21 +77,21 @@ module _ {S : Type 0} (calls : Calls S) (g : Setting) where
     refuse true code big f h = inl (subst (λ n. 2 ^ 31 ≤ n) (sym h.0) big, h.1)
     refuse false code big f h = f h
 
-    last : ((answer ≡ no_memory) × (new ≡ old)) ⊎ Opens calls g old op (taken_out place count memory) answer new → QueueFate
-    last (inl h) = inl (subst (λ n. 2 ^ 31 ≤ n) (sym h.0) (let big : 2 ^ 31 ≤ no_memory = omega arith in big), h.1)
+    last : ((answer ≡ NO_MEMORY) × (new ≡ old)) ⊎ Opens calls g old op (taken_out place count memory) answer new → QueueFate
+    last (inl h) = inl (subst (λ n. 2 ^ 31 ≤ n) (sym h.0) (let big : 2 ^ 31 ≤ NO_MEMORY = omega arith in big), h.1)
     last (inr h) = inr h
 
     queue_fate : QueuesWork calls g memory old op place count answer new → QueueFate
     queue_fate h =
-        refuse (not (exports g.loaded.contents (codes "uv_work") && exports g.loaded.contents (codes "uv_after_work"))) no_such_export (omega arith)
-        (refuse (nat_lt MAX_BYTES count) invalid (omega arith)
-        (refuse (nat_lt (length memory) (place + count)) outside_memory (omega arith)
-        (refuse (length old.0.outstanding == MAX_REQUESTS) no_room (omega arith)
-        (refuse (old.0.last == 2147483647) none_left (omega arith) last)))) h
+        refuse (not (exports g.loaded.contents (codes "uv_work") && exports g.loaded.contents (codes "uv_after_work"))) NO_SUCH_EXPORT (omega arith)
+        (refuse (nat_lt MAX_BYTES count) INVALID (omega arith)
+        (refuse (nat_lt (length memory) (place + count)) OUTSIDE_MEMORY (omega arith)
+        (refuse (length old.0.outstanding == MAX_REQUESTS) NO_ROOM (omega arith)
+        (refuse (old.0.last == 2147483647) NONE_LEFT (omega arith) last)))) h
 
   emit_keeps : (value : ℕ) (s : State) → (emitted_in value s).1.requests ≡ s.requests
   emit_keeps value s = by (nat_le MAX_EMITS (length s.emits)) where
-    by : (b : Bool) → (cond {A = ℕ × State} b (none_left, s) (0, record s { emits = s.emits ++ value ∷ [] })).1.requests ≡ s.requests
+    by : (b : Bool) → (cond {A = ℕ × State} b (NONE_LEFT, s) (0, record s { emits = s.emits ++ value ∷ [] })).1.requests ≡ s.requests
     by true = refl
     by false = refl
 
@@ -123,7 +123,7 @@ module _ {S : Type 0} (calls : Calls S) (g : Setting) where
         cancels_won number q refl is (told ∙ ap (λ k. Some (I32 k)) won) found (e ∙ same) at
 
     sends : (b : Bool) (async_no answer : ℕ) (P : Type 0) → new.0 ≡ old.0
-        → MatchBool b (P × (new.1 ≡ old.1)) ((sent : Bool) × calls.sends old.1 async_no sent new.1 × (answer ≡ cond sent 0 none_left)) → Moves AsyncSend
+        → MatchBool b (P × (new.1 ≡ old.1)) ((sent : Bool) × calls.sends old.1 async_no sent new.1 × (answer ≡ cond sent 0 NONE_LEFT)) → Moves AsyncSend
     sends true async_no answer P e h = plain AsyncSend refl (λ n. refl) (ap (λ s. s.requests) e) (unmoved h.1)
     sends false async_no answer P e h = plain AsyncSend refl (λ n. refl) (ap (λ s. s.requests) e) (sent async_no h.0 h.1)
 
@@ -140,7 +140,7 @@ module _ {S : Type 0} (calls : Calls S) (g : Setting) where
     call_moves IdleStart (I32 handle ∷ I32 callback ∷ []) is h = kept IdleStart _ refl (λ n. refl) refl h.1
     call_moves CheckStart (I32 handle ∷ I32 callback ∷ []) is h = kept CheckStart _ refl (λ n. refl) refl h.1
     call_moves AsyncInit (I32 callback ∷ []) is h = kept AsyncInit _ refl (λ n. refl) refl h.4
-    call_moves AsyncSend (I32 handle ∷ []) is h = sends (not (is_open_of handle_kind.Async old.0.roster handle)) (async_number old.0.roster handle) h.0 (h.0 ≡ invalid) h.3 h.1
+    call_moves AsyncSend (I32 handle ∷ []) is h = sends (not (is_open_of handle_kind.Async old.0.roster handle)) (async_number old.0.roster handle) h.0 (h.0 ≡ INVALID) h.3 h.1
     call_moves IsActive (I32 handle ∷ []) is h = kept IsActive _ refl (λ n. refl) refl h.1
     call_moves Close (I32 handle ∷ I32 callback ∷ []) is h = kept Close _ refl (λ n. refl) refl h.1
     call_moves QueueWork (I32 op ∷ I32 place ∷ I32 count ∷ []) is h =

@@ -8,8 +8,6 @@ use Rattle.handles.specs.declared.handle.Record.{Record}
 use Rattle.handles.specs.declared.handle.Kind.TheVariants as kind
 use Rattle.handles.specs.Table.{Table, record_of, IsClosing}
 use Rattle.order.specs.Work.{WorkOrder, IsEndOf}
-use Rattle.phases.specs.declared.progress.CancelState.{CancelState}
-use Rattle.phases.specs.declared.progress.CancelState.TheVariants.{Pending}
 use Rattle.phases.specs.Roster.{Roster, is_handle, is_callback}
 use Rattle.phases.specs.Requests.{Requests, Request, Stage, Answered}
 
@@ -56,11 +54,6 @@ pub record AreKept (rs : Requests) : Type 0 where
 -- the outcome of each answered request is what its own order gives, or that there was no memory
 abbrev pub AllRight : Requests → Type 0
 AllRight rs = All IsRight rs.outstanding
-
--- a slot in which a request may be cancelled is below MAX_REQUESTS
-abbrev pub IsSlotBelow : CancelState → Type 0
-IsSlotBelow (Pending slot) = slot < MAX_REQUESTS
-IsSlotBelow _ = Unit {0}
 
 -- what an after-work callback may read is no longer than a reply
 abbrev pub IsShort : Option (List ℕ) → Type 0

@@ -12,12 +12,12 @@ use Rattle.imports.specs.declared.call.Call.TheVariants.{Now, TimerInit, IdleIni
 use Rattle.imports.specs.declared.call.Call.TheVariants.{CheckStop, TimerAgain, IdleStart, CheckStart, AsyncInit, AsyncSend}
 use Rattle.imports.specs.declared.call.Call.TheVariants.{IsActive, Close, QueueWork, Cancel, InLen, InCopy, OutSet, Emit}
 use Rattle.imports.specs.Linking.{Imports}
-use Rattle.order.specs.Uv.Numbers.{not_here, no_room, no_memory, outside_memory, busy, invalid, none_left, no_such_export}
+use Rattle.order.specs.declared.uv.answers.TheConstants.{NOT_HERE, NO_ROOM, NO_MEMORY, OUTSIDE_MEMORY, BUSY, INVALID, NONE_LEFT, NO_SUCH_EXPORT}
 use Rattle.order.specs.Uv.Bytes.{input_length, copied_in, taken_out}
 use Rattle.order.specs.Work.{WorkOrder}
-use Rattle.phases.specs.declared.progress.CancelState.{CancelState}
-use Rattle.phases.specs.declared.progress.CancelState.TheVariants.{Unknown, Pending}
-use Rattle.phases.specs.declared.progress.CancelState.TheVariants as cancel_state
+use Rattle.phases.specs.declared.stage.CancelState.{CancelState}
+use Rattle.phases.specs.declared.stage.CancelState.TheVariants.{Unknown, Pending}
+use Rattle.phases.specs.declared.stage.CancelState.TheVariants as cancel_state
 use Rattle.phases.specs.Roster.{Roster, is_open_of, async_number, with_made, Makes, MakesAsync, stopped_in, started_in}
 use Rattle.phases.specs.Roster.{again_in, closed_in, active_answer}
 use Rattle.phases.specs.Requests.{Requests, Request, Stage, Open, HandedOut, Answered, Cancelled, request_of, with_stage}
@@ -34,7 +34,7 @@ with_requests s requests = record s { requests = requests }
 
 -- a number is emitted, of which a callback has MAX_EMITS
 abbrev pub emitted_in : (value : ℕ) → State → ℕ × State
-emitted_in value s = if nat_le MAX_EMITS (length s.emits) then (none_left, s) else (0, record s { emits = s.emits ++ value ∷ [] })
+emitted_in value s = if nat_le MAX_EMITS (length s.emits) then (NONE_LEFT, s) else (0, record s { emits = s.emits ++ value ∷ [] })
 
 -- the order that a loop makes of a guest's operation and bytes
 abbrev pub next_work : Setting → Requests → (slot op : ℕ) → List ℕ → WorkOrder
@@ -67,11 +67,11 @@ cancel_state_of rs number = request_cancel_state (request_of rs number)
 module _ {S : Type 0} (calls : Calls S) where
   -- A pending request is cancelled where the shared object says so; else a worker has started it.
   abbrev pub CancelsAt : CancelState → Requests × S → (number answer : ℕ) → Requests × S → Type 0
-  CancelsAt Unknown old number answer new = (answer ≡ invalid) × (new ≡ old)
-  CancelsAt cancel_state.Answered old number answer new = (answer ≡ busy) × (new ≡ old)
+  CancelsAt Unknown old number answer new = (answer ≡ INVALID) × (new ≡ old)
+  CancelsAt cancel_state.Answered old number answer new = (answer ≡ BUSY) × (new ≡ old)
   CancelsAt (Pending slot) old number answer new =
       (won : Bool) × calls.cancels old.1 slot number won new.1
-      × (answer ≡ (if won then 0 else busy))
+      × (answer ≡ (if won then 0 else BUSY))
       × (new.0 ≡ (if won then with_stage old.0 number Cancelled else old.0))
 
   abbrev pub Cancels : Requests × S → (number answer : ℕ) → Requests × S → Type 0
@@ -90,23 +90,23 @@ module _ {S : Type 0} (calls : Calls S) where
   abbrev pub QueuesWork : Setting → (memory : List ℕ) → Requests × S → (op place count answer : ℕ) → Requests × S → Type 0
   QueuesWork g memory old op place count answer new =
       MatchBool (not (exports g.loaded.contents (codes "uv_work") && exports g.loaded.contents (codes "uv_after_work")))
-      ((answer ≡ no_such_export) × (new ≡ old))
+      ((answer ≡ NO_SUCH_EXPORT) × (new ≡ old))
       (MatchBool (nat_lt MAX_BYTES count)
-      ((answer ≡ invalid) × (new ≡ old))
+      ((answer ≡ INVALID) × (new ≡ old))
       (MatchBool (nat_lt (length memory) (place + count))
-      ((answer ≡ outside_memory) × (new ≡ old))
+      ((answer ≡ OUTSIDE_MEMORY) × (new ≡ old))
       (MatchBool (length old.0.outstanding == MAX_REQUESTS)
-      ((answer ≡ no_room) × (new ≡ old))
+      ((answer ≡ NO_ROOM) × (new ≡ old))
       (MatchBool (old.0.last == MAX_REQUEST_NUMBER)
-      ((answer ≡ none_left) × (new ≡ old))
-      (((answer ≡ no_memory) × (new ≡ old)) ⊎ Opens g old op (taken_out place count memory) answer new)))))
+      ((answer ≡ NONE_LEFT) × (new ≡ old))
+      (((answer ≡ NO_MEMORY) × (new ≡ old)) ⊎ Opens g old op (taken_out place count memory) answer new)))))
 
   -- a send to an async of the loop goes to the shared object
   abbrev pub Sends : Roster → S → (handle answer : ℕ) → S → Type 0
   Sends r old handle answer new =
       MatchBool (not (is_open_of kind.Async r handle))
-      ((answer ≡ invalid) × (new ≡ old))
-      ((sent : Bool) × calls.sends old (async_number r handle) sent new × (answer ≡ (if sent then 0 else none_left)))
+      ((answer ≡ INVALID) × (new ≡ old))
+      ((sent : Bool) × calls.sends old (async_number r handle) sent new × (answer ≡ (if sent then 0 else NONE_LEFT)))
 
 module _ {S : Type 0} (calls : Calls S) (g : Setting) (old : State × S) (call : HostCall) (new : State × S) where
   -- this number is answered, and the memory stays
@@ -157,7 +157,7 @@ module _ {S : Type 0} (calls : Calls S) (g : Setting) (old : State × S) (call :
   CallStep Cancel (I32 number ∷ []) = RelatesWork (λ answer after. Cancels calls (old.0.requests, old.1) number answer after)
   CallStep InLen [] = Does (input_length old.0.reply, old.0)
   CallStep InCopy (I32 to ∷ I32 from ∷ I32 count ∷ []) = CopiesIn to from count
-  CallStep OutSet (I32 place ∷ I32 count ∷ []) = Does (not_here, old.0)
+  CallStep OutSet (I32 place ∷ I32 count ∷ []) = Does (NOT_HERE, old.0)
   CallStep Emit (I64 value ∷ []) = Does (emitted_in value old.0)
   CallStep _ _ = ⊥
 

@@ -1,7 +1,7 @@
 -- No public clause reaches these: how the code keeps a loop.
 pub mod Codes
 pub mod Hosting
-pub mod Progress
 pub mod Ready
 pub mod Setting
+pub mod Stage
 pub mod Keeping

@@ -5,7 +5,7 @@ use Rattle.syntax.specs.declared.types.Value.{Value}
 use Rattle.syntax.specs.declared.types.Value.TheVariants.{I32}
 use Rattle.imports.specs.declared.call.Call.{Call}
 use Rattle.imports.specs.declared.call.Call.TheVariants.{QueueWork, Cancel}
-use Rattle.order.specs.Uv.Numbers.{cancelled_code}
+use Rattle.order.specs.declared.uv.answers.TheConstants.{CANCELLED_CODE}
 use Rattle.order.specs.Uv.Bytes.{taken_out}
 use Rattle.order.specs.Work.{WorkOrder, WorkEnd, IsEndOf}
 use Rattle.events.specs.declared.did.StepDid.{StepDid}
@@ -78,7 +78,7 @@ hands_out request _ = false
 
 -- as much as the callback of a cancelled request is given
 abbrev pub cancellation : Completion
-cancellation = record { kind = 5; code = cancelled_code; bytes = [] }
+cancellation = record { kind = 5; code = CANCELLED_CODE; bytes = [] }
 
 -- Once cancelled, it is told that alone; else what one thread computes from the order alone, or that there was no
 -- memory.

@@ -1,6 +1,6 @@
 -- The calls of a loop's owner, other than its step.
 use Rattle.std.specs.Prelude.{◌≡◌, ℕ, Bool, true, false, max, Option, Some, None}
-use Rattle.order.specs.Uv.Numbers.{not_here}
+use Rattle.order.specs.declared.uv.answers.TheConstants.{NOT_HERE}
 use Rattle.order.specs.Work.{WorkOrder, WorkEnd}
 use Rattle.phases.specs.Calls.{Calls, OtherCalls}
 use Rattle.phases.specs.declared.entry.Status.{Status}
@@ -56,7 +56,7 @@ answered rs o end = with_stage rs o.request (Answered end)
 module _ {S : Type 0} (calls : Calls S) where
   -- the owner's cancel answers as a guest's, and -1 on a failed loop
   abbrev pub CancelIn : Status → State × S → (number answer : ℕ) → State × S → Type 0
-  CancelIn Failed old number answer new = (answer ≡ not_here) × (new ≡ old)
+  CancelIn Failed old number answer new = (answer ≡ NOT_HERE) × (new ≡ old)
   CancelIn _ old number answer new =
       (requests : Requests) × Cancels calls (old.0.requests, old.1) number answer (requests, new.1)
       × (new.0 ≡ with_requests old.0 requests)

@@ -2,7 +2,7 @@
 use Rattle.std.specs.Prelude.{◌≡◌, ℕ, ◌≤◌, ◌==◌, Bool, true, false, not, List, [], ◌∷◌, ◌++◌, map, filter, find, All, Option}
 use Rattle.std.specs.Prelude.{Some, None, if◌then◌else◌}
 use Rattle.std.specs.List.{list_any}
-use Rattle.order.specs.Uv.Numbers.{no_memory, cancelled_code}
+use Rattle.order.specs.declared.uv.answers.TheConstants.{NO_MEMORY, CANCELLED_CODE}
 use Rattle.order.specs.Work.{WorkOrder, WorkEnd, Done, Trap, Depth, Spent, NoMemory}
 
 -- how far a request has come: not handed out, handed out, answered by a reply, or cancelled
@@ -82,11 +82,11 @@ end_completion (Done value bytes) = record { kind = 0; code = value; bytes = byt
 end_completion (Trap code) = record { kind = 1; code = code; bytes = [] }
 end_completion Depth = record { kind = 2; code = 0; bytes = [] }
 end_completion Spent = record { kind = 3; code = 0; bytes = [] }
-end_completion NoMemory = record { kind = 4; code = no_memory; bytes = [] }
+end_completion NoMemory = record { kind = 4; code = NO_MEMORY; bytes = [] }
 
 -- as much as an after-work callback is told of a settled request
 abbrev pub completion_of : Stage → Option Completion
 completion_of Open = None
 completion_of HandedOut = None
 completion_of (Answered end) = Some (end_completion end)
-completion_of Cancelled = Some (record { kind = 5; code = cancelled_code; bytes = [] })
+completion_of Cancelled = Some (record { kind = 5; code = CANCELLED_CODE; bytes = [] })

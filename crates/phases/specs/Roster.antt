@@ -14,7 +14,7 @@ use Rattle.handles.specs.declared.handle.Kind.{Kind}
 use Rattle.handles.specs.declared.handle.Kind.TheVariants as kind
 use Rattle.handles.specs.Table.{Table, empty_table, record_of, new_record, with_record, same_kind, was_started, after_start}
 use Rattle.handles.specs.Table.{after_stop, after_again, after_close, after_remove}
-use Rattle.order.specs.Uv.Numbers.{no_room, invalid, none_left}
+use Rattle.order.specs.declared.uv.answers.TheConstants.{NO_ROOM, INVALID, NONE_LEFT}
 
 -- The handles by their numbers; for each async made, in order, its handle, until that is removed; the closing
 -- handles in the order of their closing; and the functions that callbacks name.
@@ -98,42 +98,42 @@ without_handle r handle = record r {
 
 abbrev pub stopped_in : Kind → (handle : ℕ) → Roster → ℕ × Roster
 stopped_in k handle r =
-    if not (is_open_of k r handle) then (invalid, r)
+    if not (is_open_of k r handle) then (INVALID, r)
     else (0, with_handles r (after_stop r.handles handle))
 
 abbrev pub started_in : Kind → (handle callback due repeat : ℕ) → Roster → ℕ × Roster
 started_in k handle callback due repeat r =
-    if not (is_open_of k r handle) then (invalid, r)
-    else (if not (is_callback r callback) then (invalid, r)
+    if not (is_open_of k r handle) then (INVALID, r)
+    else (if not (is_callback r callback) then (INVALID, r)
     else (0, with_handles r (after_start r.handles handle callback due repeat)))
 
 abbrev pub again_in : (handle now : ℕ) → Roster → ℕ × Roster
 again_in handle now r =
-    if not (is_open_of kind.Timer r handle) then (invalid, r)
-    else (if not (was_started r.handles handle) then (invalid, r)
+    if not (is_open_of kind.Timer r handle) then (INVALID, r)
+    else (if not (was_started r.handles handle) then (INVALID, r)
     else (0, with_handles r (after_again r.handles handle now)))
 
 abbrev pub closed_in : (handle callback : ℕ) → Roster → ℕ × Roster
 closed_in handle callback r =
-    if not (is_open r handle) then (invalid, r)
-    else (if not (is_callback r callback) then (invalid, r)
+    if not (is_open r handle) then (INVALID, r)
+    else (if not (is_callback r callback) then (INVALID, r)
     else (0, record r { handles = after_close r.handles handle callback; closing = r.closing ++ handle ∷ [] }))
 
 -- 1 for an active handle, 0 for another
 abbrev pub active_answer : Roster → (handle : ℕ) → ℕ
-active_answer r handle = option_map_or (λ it. if it.active then 1 else 0) (record_of r.handles handle) invalid
+active_answer r handle = option_map_or (λ it. if it.active then 1 else 0) (record_of r.handles handle) INVALID
 
 -- a handle is made under any free number, which is answered
 abbrev pub Makes : (Roster → ℕ → Roster) → (old : Roster) → (answer : ℕ) → (new : Roster) → Type 0
 Makes made old answer new =
     MatchBool (finite.len old.handles.records == MAX_HANDLES)
-    ((answer ≡ no_room) × (new ≡ old))
+    ((answer ≡ NO_ROOM) × (new ≡ old))
     ((answer < 2 ^ 31) × (record_of old.handles answer ≡ None) × (new ≡ made old answer))
 
 abbrev pub MakesAsync : (callback : ℕ) → (old : Roster) → (answer : ℕ) → (new : Roster) → Type 0
 MakesAsync callback old answer new =
     MatchBool (not (is_callback old callback))
-    ((answer ≡ invalid) × (new ≡ old))
+    ((answer ≡ INVALID) × (new ≡ old))
     (MatchBool (length old.asyncs == MAX_ASYNCS)
-    ((answer ≡ none_left) × (new ≡ old))
+    ((answer ≡ NONE_LEFT) × (new ≡ old))
     (Makes (with_async callback) old answer new))

@@ -7,7 +7,7 @@ ghost use Rattle.phases.specs.PhaseList.{first_list, handle_entry, active_asyncs
 ghost use Rattle.phases.specs.Requests.{is_settled};
 
 use crate::entry::Entry;
-use crate::outstanding::Outstanding;
+use crate::request::Request;
 use crate::roster::Roster;
 use arrayvec::ArrayVec;
 use handles::{Kind, Place};
@@ -77,7 +77,7 @@ impl Entries {
     }
 
     /// Lists the requests that are answered or cancelled, then the asyncs that are active, each by number.
-    pub fn list_poll(&mut self, requests: &[Outstanding], roster: &Roster)
+    pub fn list_poll(&mut self, requests: &[Request], roster: &Roster)
         requires { length requests.now ≤ MAX_REQUESTS }
         ensures { self.new ≡ map (λ r. Entry.After r.order.request) (filter (λ r. is_settled r.stage) requests.now) ++ map (λ a. Entry.Async a) (active_asyncs roster.now) }
     {
@@ -132,7 +132,7 @@ fn list_closing(items: &mut ArrayVec<Entry, MAX_ENTRIES>, handles: &[u32])
     }
 }
 
-fn list_settled(items: &mut ArrayVec<Entry, MAX_ENTRIES>, requests: &[Outstanding])
+fn list_settled(items: &mut ArrayVec<Entry, MAX_ENTRIES>, requests: &[Request])
     requires { length requests.now ≤ MAX_REQUESTS }
     ensures entries { items.new.items ≡ map (λ r. Entry.After r.order.request) (filter (λ r. is_settled r.stage) requests.now) }
     ensures few { length items.new.items ≤ MAX_REQUESTS }

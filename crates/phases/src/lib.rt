@@ -21,12 +21,12 @@ mod loop_core;
 mod loop_host;
 mod loop_state;
 mod opening;
-mod outstanding;
-mod progress;
+mod request;
 mod requests;
 mod roster;
 mod setting;
 mod shared;
+mod stage;
 mod stepping;
 mod work;
 

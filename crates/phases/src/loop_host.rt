@@ -1,22 +1,19 @@
 // The host of a loop's callbacks.
 
-ghost use Rattle.std.specs.Prelude.{◌≡◌, ◌+◌, Some, map, length};
+ghost use Rattle.std.specs.Prelude.{◌≡◌, Some, map, length};
 ghost use Rattle.validate.specs.Typing.{type_of};
-ghost use Rattle.handles.specs.Table.{saturated};
-ghost use Rattle.instance.specs.Reads.{with_bytes};
 ghost use Rattle.reduction.specs.Hosting.{Answers};
 ghost use Rattle.imports.specs.Uv.{type_of_call};
-ghost use Rattle.order.specs.Uv.Bytes.{copied_in};
-ghost use Rattle.phases.specs.Host.{with_roster};
 ghost use Rattle.phases.specs.Inner.Hosting.{Replies};
-ghost use Rattle.phases.specs.Roster.{started_in, closed_in};
+ghost use Rattle.phases.specs.Roster.{started_in};
 ghost use Rattle.phases.specs.Inner.Setting.{setting_of};
 ghost use Rattle.phases.specs.View.{AreOpenedUpTo};
 
 use crate::loop_state::LoopState;
+use crate::roster::Roster;
 use crate::setting::Setting;
 use crate::shared::Shared;
-use crate::work::{Asked, cancel, queue_work, send};
+use crate::work::{Asked, queue_work, send};
 use handles::Kind;
 use imports::Call;
 use instance::memory::Memory;
@@ -61,43 +58,13 @@ impl<B: Shared + Drop> Drop for LoopHost<B> {
     }
 }
 
-fn start_timer(state: &mut LoopState, args: (u32, u32, u64, u64)) -> u32
-    ensures answer { result ≡ (started_in Kind.Timer args.0 args.1 (saturated (state.old.«now» + args.2)) args.3 state.old.roster).0 }
-    ensures state { state.new ≡ with_roster state.old (started_in Kind.Timer args.0 args.1 (saturated (state.old.«now» + args.2)) args.3 state.old.roster).1 }
-{
-    let (handle, callback, timeout, repeat) = args;
-    state.start_timer(handle, callback, timeout, repeat)
-}
-
-fn start(state: &mut LoopState, kind: Kind, args: (u32, u32)) -> u32
-    ensures answer { result ≡ (started_in kind args.0 args.1 0 0 state.old.roster).0 }
-    ensures state { state.new ≡ with_roster state.old (started_in kind args.0 args.1 0 0 state.old.roster).1 }
+// Starts an idle or a check handle.
+fn start(roster: &mut Roster, kind: Kind, args: (u32, u32)) -> u32
+    ensures answer { result ≡ (started_in kind args.0 args.1 0 0 roster.old).0 }
+    ensures roster { roster.new ≡ (started_in kind args.0 args.1 0 0 roster.old).1 }
 {
     let (handle, callback) = args;
-    state.start(kind, handle, callback)
-}
-
-fn close(state: &mut LoopState, args: (u32, u32)) -> u32
-    ensures answer { result ≡ (closed_in args.0 args.1 state.old.roster).0 }
-    ensures state { state.new ≡ with_roster state.old (closed_in args.0 args.1 state.old.roster).1 }
-{
-    let (handle, callback) = args;
-    state.close(handle, callback)
-}
-
-fn copy_in(state: &LoopState, args: (u32, u32, u32), memory: &mut Memory) -> u32
-    ensures answer { result ≡ (copied_in state.now.reply args.0 args.1 args.2 memory.old.bytes).0 }
-    ensures memory { memory.new ≡ with_bytes (copied_in state.now.reply args.0 args.1 args.2 memory.old.bytes).1 memory.old }
-{
-    let (to, from, count) = args;
-    state.copy_in(to, from, count, memory)
-}
-
-fn asked(args: (u32, u32, u32)) -> Asked
-    ensures { result ≡ record { op = args.0; place = args.1; count = args.2 } }
-{
-    let (op, place, count) = args;
-    Asked { op, place, count }
+    roster.start(kind, handle, callback, 0, 0)
 }
 
 /// What a loop answers to a function of "uv".
@@ -118,28 +85,41 @@ fn answer<B: Shared>(
     ensures limit { memory.new.limit ≡ memory.old.limit }
 {
     let answer = match call {
-        Call::Now => return Value::I64(state.time()),
-        Call::TimerInit => state.init(Kind::Timer),
-        Call::IdleInit => state.init(Kind::Idle),
-        Call::CheckInit => state.init(Kind::Check),
-        Call::TimerStart => start_timer(state, two_and_two_wide(args)),
-        Call::TimerStop => state.stop(Kind::Timer, one(args)),
-        Call::IdleStop => state.stop(Kind::Idle, one(args)),
-        Call::CheckStop => state.stop(Kind::Check, one(args)),
-        Call::TimerAgain => state.again(one(args)),
-        Call::IdleStart => start(state, Kind::Idle, two(args)),
-        Call::CheckStart => start(state, Kind::Check, two(args)),
-        Call::AsyncInit => state.init_async(one(args)),
+        Call::Now => return Value::I64(state.time),
+        Call::TimerInit => state.roster.init(Kind::Timer),
+        Call::IdleInit => state.roster.init(Kind::Idle),
+        Call::CheckInit => state.roster.init(Kind::Check),
+        Call::TimerStart => {
+            let (handle, callback, timeout, repeat) = two_and_two_wide(args);
+            let due = state.time.saturating_add(timeout);
+            state
+                .roster
+                .start(Kind::Timer, handle, callback, due, repeat)
+        }
+        Call::TimerStop => state.roster.stop(Kind::Timer, one(args)),
+        Call::IdleStop => state.roster.stop(Kind::Idle, one(args)),
+        Call::CheckStop => state.roster.stop(Kind::Check, one(args)),
+        Call::TimerAgain => state.roster.again(one(args), state.time),
+        Call::IdleStart => start(&mut state.roster, Kind::Idle, two(args)),
+        Call::CheckStart => start(&mut state.roster, Kind::Check, two(args)),
+        Call::AsyncInit => state.roster.init_async(one(args)),
         Call::AsyncSend => send(&state.roster, shared, one(args)),
-        Call::IsActive => state.active_answer(one(args)),
-        Call::Close => close(state, two(args)),
+        Call::IsActive => state.roster.active_answer(one(args)),
+        Call::Close => {
+            let (handle, callback) = two(args);
+            state.roster.close(handle, callback)
+        }
         Call::QueueWork => {
-            let asked = asked(three(args));
+            let (op, place, count) = three(args);
+            let asked = Asked { op, place, count };
             queue_work(alloc, setting, &mut state.requests, shared, asked, memory)
         }
-        Call::Cancel => cancel(&mut state.requests, shared, one(args)),
+        Call::Cancel => state.requests.cancel(shared, one(args)),
         Call::InLen => state.input_length(),
-        Call::InCopy => copy_in(state, three(args), memory),
+        Call::InCopy => {
+            let (to, from, count) = three(args);
+            state.copy_in(to, from, count, memory)
+        }
         Call::OutSet => NOT_HERE,
         Call::Emit => state.emit(one_wide(args)),
     };

@@ -1,25 +1,23 @@
 // The state of a loop, and what it answers to its guest.
 
 ghost use Rattle.std.specs.Prelude.{◌≡◌, ◌≢◌, ◌↔◌, ◌≤◌, ◌<◌, ◌+◌, ◌^◌, ◌||◌, if◌then◌else◌, [], Some, None, true, false, length, max, IsTrue, IfOk, IfErr, IfSome, OnOk, option_map};
-ghost use Rattle.handles.specs.Table.{saturated, empty_table};
+ghost use Rattle.handles.specs.Table.{empty_table};
 ghost use Rattle.instance.specs.Reads.{with_bytes};
 ghost use Rattle.order.specs.Uv.Bytes.{input_length, copied_in};
 ghost use Rattle.order.specs.Orders.{order_of, end_of};
 ghost use Rattle.phases.specs.Fitting.{AllRight};
-ghost use Rattle.phases.specs.Host.{with_roster, with_requests, emitted_in};
+ghost use Rattle.phases.specs.Host.{with_requests, emitted_in};
 ghost use Rattle.phases.specs.Outside.{after_clock, next_order_of, CancelIn, Takes, answered};
 ghost use Rattle.phases.specs.Inner.Ready.{Grows};
 ghost use Rattle.phases.specs.Requests.{IsLowestOpen};
 ghost use Rattle.phases.specs.PhaseList.{is_alive, hint_of, until_due, first_list, IsAlive, IsHint};
 ghost use Rattle.phases.specs.State.{opening};
-ghost use Rattle.phases.specs.Roster.{Roster as Handles_of, with_made, stopped_in, started_in, again_in, closed_in, active_answer, Makes, MakesAsync};
 
 use crate::entries::Entries;
 use crate::entry::Status;
 use crate::requests::Requests;
 use crate::roster::Roster;
 use crate::shared::Shared;
-use crate::work::cancel;
 use arrayvec::ArrayVec;
 use events::did::Hint;
 use events::phase::Phase;
@@ -78,6 +76,7 @@ impl Model for LoopState {
     ghost invariant = { λ a. IsShort (option_map (λ v. v.items) a.reply) };
 }
 
+// A call of its own, so that its caller has one case to prove, not one for each way through.
 fn any(a: bool, b: bool, c: bool) -> bool
     ensures { result ≡ (a || (b || c)) }
 {
@@ -116,77 +115,6 @@ impl LoopState {
             emits: ArrayVec::new(),
             status: Status::Running,
         })
-    }
-
-    /// The moment that the loop has cached, in milliseconds.
-    pub fn time(&self) -> u64
-        ensures { result ≡ self.now.«now» }
-    {
-        self.time
-    }
-
-    /// Makes a timer, an idle or a check handle.
-    pub fn init(&mut self, kind: Kind) -> u32
-        requires { kind ≢ Kind.Async }
-        ensures { (roster : Handles_of) × Makes (with_made kind) self.old.roster result roster × (self.new ≡ with_roster self.old roster) }
-    {
-        self.roster.init(kind)
-    }
-
-    /// Makes an async.
-    pub fn init_async(&mut self, callback: u32) -> u32
-        ensures { (roster : Handles_of) × MakesAsync callback self.old.roster result roster × (self.new ≡ with_roster self.old roster) }
-    {
-        self.roster.init_async(callback)
-    }
-
-    /// Starts a timer, whose timeout and repeat are in milliseconds.
-    pub fn start_timer(&mut self, handle: u32, callback: u32, timeout: u64, repeat: u64) -> u32
-        ensures answer { result ≡ (started_in Kind.Timer handle callback (saturated (self.old.«now» + timeout)) repeat self.old.roster).0 }
-        ensures state { self.new ≡ with_roster self.old (started_in Kind.Timer handle callback (saturated (self.old.«now» + timeout)) repeat self.old.roster).1 }
-    {
-        let due = self.time.saturating_add(timeout);
-        self.roster
-            .start(Kind::Timer, handle, callback, due, repeat)
-    }
-
-    /// Starts an idle or a check handle.
-    pub fn start(&mut self, kind: Kind, handle: u32, callback: u32) -> u32
-        ensures answer { result ≡ (started_in kind handle callback 0 0 self.old.roster).0 }
-        ensures state { self.new ≡ with_roster self.old (started_in kind handle callback 0 0 self.old.roster).1 }
-    {
-        self.roster.start(kind, handle, callback, 0, 0)
-    }
-
-    /// Stops a handle.
-    pub fn stop(&mut self, kind: Kind, handle: u32) -> u32
-        ensures answer { result ≡ (stopped_in kind handle self.old.roster).0 }
-        ensures state { self.new ≡ with_roster self.old (stopped_in kind handle self.old.roster).1 }
-    {
-        self.roster.stop(kind, handle)
-    }
-
-    /// Starts a timer again by its repeat.
-    pub fn again(&mut self, handle: u32) -> u32
-        ensures answer { result ≡ (again_in handle self.old.«now» self.old.roster).0 }
-        ensures state { self.new ≡ with_roster self.old (again_in handle self.old.«now» self.old.roster).1 }
-    {
-        self.roster.again(handle, self.time)
-    }
-
-    /// Closes a handle.
-    pub fn close(&mut self, handle: u32, callback: u32) -> u32
-        ensures answer { result ≡ (closed_in handle callback self.old.roster).0 }
-        ensures state { self.new ≡ with_roster self.old (closed_in handle callback self.old.roster).1 }
-    {
-        self.roster.close(handle, callback)
-    }
-
-    /// Whether a handle is active: 1 or 0.
-    pub fn active_answer(&self, handle: u32) -> u32
-        ensures { result ≡ active_answer self.now.roster handle }
-    {
-        self.roster.active_answer(handle)
     }
 
     /// How many bytes an after-work callback may read.
@@ -275,7 +203,7 @@ impl LoopState {
     {
         match self.status {
             Status::Failed => NOT_HERE,
-            Status::Running | Status::Over => cancel(&mut self.requests, shared, number),
+            Status::Running | Status::Over => self.requests.cancel(shared, number),
         }
     }
 

@@ -4,24 +4,26 @@ ghost use Rattle.std.specs.Prelude.{◌≡◌, ◌≢◌, ◌+◌, ◌<◌, ◌�
 ghost use Rattle.std.specs.List.{list_any};
 ghost use Rattle.limits.specs.declared.TheConstants.{MAX_BYTES};
 ghost use Rattle.order.specs.Orders.{order_of, end_of};
-ghost use Rattle.phases.specs.Host.{cancel_state_of};
+ghost use Rattle.phases.specs.Host.{Cancels};
 ghost use Rattle.phases.specs.Outside.{IsOneOf, next_of, answered};
-ghost use Rattle.phases.specs.Inner.Progress.{completion_in};
-ghost use Rattle.phases.specs.Requests.{Request, Cancelled, no_requests, has_number, request_of, with_stage, with_work, without_request, is_free_slot, is_settled, is_open_stage, settled, completion_of};
-ghost use Rattle.phases.specs.Fitting.{AllRight, AreKept, IsSlotBelow};
+ghost use Rattle.phases.specs.Inner.Stage.{completion_in};
+ghost use Rattle.phases.specs.Requests.{no_requests, has_number, request_of, with_work, without_request, is_free_slot, is_settled, is_open_stage, settled, completion_of};
+ghost use Rattle.phases.specs.Fitting.{AllRight, AreKept};
 ghost use Rattle.phases.specs.PhaseList.{is_empty};
 
-use crate::outstanding::Outstanding;
-use crate::progress::{CancelState, Completion};
+use crate::request::Request;
+use crate::shared::Shared;
+use crate::stage::{CancelState, Completion};
 use limits::MAX_REQUESTS;
 use order::laws::ends_are_short;
+use order::uv::answers::{BUSY, INVALID};
 use order::{Order, Reply};
 use std::alloc::{AllocError, Global};
 use std::marker::Model;
 
 /// The outstanding requests of a loop by their numbers, which rise, and the last number that was given.
 pub struct Requests {
-    items: Vec<Outstanding>,
+    items: Vec<Request>,
     last: u32,
 }
 
@@ -48,7 +50,7 @@ impl Model for Requests {
 }
 
 /// Where the request of a number stands.
-fn position_of(items: &[Outstanding], number: u32) -> Option<usize>
+fn position_of(items: &[Request], number: u32) -> Option<usize>
     ensures none { IfNone result (find (has_number number) items.now ≡ None) }
     ensures some { IfSome result (λ at. (r : Request) × (slice_get items.now at ≡ Some r) × (find (has_number number) items.now ≡ Some r)) }
     ensures within { IfSome result (λ at. at < length items.now) }
@@ -62,7 +64,7 @@ fn position_of(items: &[Outstanding], number: u32) -> Option<usize>
 }
 
 /// Where the lowest request stands that is not handed out.
-fn lowest_open(items: &[Outstanding]) -> Option<usize>
+fn lowest_open(items: &[Request]) -> Option<usize>
     ensures none { IfNone result (find (λ r. is_open_stage r.stage) items.now ≡ None) }
     ensures some { IfSome result (λ at. (r : Request) × (slice_get items.now at ≡ Some r) × (find (λ r. is_open_stage r.stage) items.now ≡ Some r)) }
     ensures within { IfSome result (λ at. at < length items.now) }
@@ -75,7 +77,7 @@ fn lowest_open(items: &[Outstanding]) -> Option<usize>
     None
 }
 
-fn uses_slot(items: &[Outstanding], slot: u32) -> bool
+fn uses_slot(items: &[Request], slot: u32) -> bool
     ensures { result ≡ list_any (λ r. r.order.slot == slot) items.now }
 {
     for item in items {
@@ -86,7 +88,7 @@ fn uses_slot(items: &[Outstanding], slot: u32) -> bool
     false
 }
 
-fn any_settled(items: &[Outstanding]) -> bool
+fn any_settled(items: &[Request]) -> bool
     ensures { result ≡ not (is_empty (filter (λ r. is_settled r.stage) items.now)) }
 {
     for item in items {
@@ -98,7 +100,7 @@ fn any_settled(items: &[Outstanding]) -> bool
 }
 
 /// A slot that no request uses.
-fn free_slot(items: &[Outstanding]) -> u32
+fn free_slot(items: &[Request]) -> u32
     requires { length items.now < MAX_REQUESTS }
     ensures below { result < MAX_REQUESTS }
     ensures free { list_any (λ r. r.order.slot == result) items.now ≡ false }
@@ -126,6 +128,7 @@ impl Requests {
     pub fn keeps(&self)
         ensures { AreKept self.now }
     {
+        // a field that is read opens the model, and with it what the fields keep
         let _ = &self.items;
     }
 
@@ -154,7 +157,7 @@ impl Requests {
     }
 
     /// The requests.
-    pub fn as_slice(&self) -> &[Outstanding]
+    pub fn as_slice(&self) -> &[Request]
         ensures value { result.now ≡ self.now.outstanding }
         ensures few { length result.now ≤ MAX_REQUESTS }
     {
@@ -187,20 +190,29 @@ impl Requests {
         ensures { self.new ≡ with_work self.old (order_of order) }
     {
         self.last = order.request;
-        let Ok(()) = self.items.push(Outstanding::new(order, copy)) else {
+        let Ok(()) = self.items.push(Request::new(order, copy)) else {
             unreachable!();
         };
     }
 
-    /// Whether a request can be cancelled.
-    pub fn cancel_state(&self, number: u32) -> CancelState
-        ensures value { result ≡ cancel_state_of self.now number }
-        ensures below { IsSlotBelow result }
+    /// Cancels a request: -22 where it is not outstanding or cancelled already, -16 where it is answered or started.
+    pub fn cancel<B: Shared>(&mut self, shared: &mut B, number: u32) -> u32
+        ensures { Cancels B.calls (self.old, shared.old) number result (self.new, shared.new) }
     {
-        let items = self.items.as_slice();
-        match position_of(items, number) {
-            Some(at) => items[at].cancel_state(),
-            None => CancelState::Unknown,
+        let Some(at) = position_of(self.items.as_slice(), number) else {
+            return INVALID;
+        };
+        match self.items[at].cancel_state() {
+            CancelState::Unknown => INVALID,
+            CancelState::Answered => BUSY,
+            CancelState::Pending { slot } => {
+                if !shared.cancel(slot, number) {
+                    return BUSY;
+                }
+                let request = &mut self.items[at];
+                request.cancel();
+                0
+            }
         }
     }
 
@@ -212,17 +224,6 @@ impl Requests {
         let at = lowest_open(self.items.as_slice())?;
         let item = &mut self.items[at];
         item.hand_out()
-    }
-
-    /// The request of this number was cancelled.
-    pub fn cancel(&mut self, number: u32)
-        ensures { self.new ≡ with_stage self.old number Cancelled }
-    {
-        let Some(at) = position_of(self.items.as_slice(), number) else {
-            return;
-        };
-        let item = &mut self.items[at];
-        item.cancel();
     }
 
     /// Takes the answer to a request that is neither answered nor cancelled, if the reply's order is the request's

@@ -66,6 +66,7 @@ impl Roster {
     pub fn keeps(&self)
         ensures { IsKept self.now }
     {
+        // a field that is read opens the model, and with it what the fields keep
         let _ = &self.handles;
     }
 

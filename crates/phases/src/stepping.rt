@@ -1,4 +1,7 @@
 // How a loop's state goes from phase to phase, and from entry to entry.
+//
+// Eight methods only pass on to entries, roster or requests: `LoopCore` is seen through a model, and a loop's state is too,
+// and a call of the part itself would open both at once.
 
 ghost use Rattle.std.specs.Prelude.{◌≡◌, ◌≤◌, ◌<◌, [], length, Some, None, true, false, drop, slice_get, IfSome, IfNone, MatchOption, option_map};
 ghost use Rattle.handles.specs.Table.{IsClosing, IsOpen, record_of, after_again};
@@ -9,7 +12,7 @@ ghost use Rattle.phases.specs.Fitting.{IsShort};
 ghost use Rattle.phases.specs.Host.{with_roster, with_requests};
 ghost use Rattle.phases.specs.PhaseList.{is_active_handle, is_alive, phase_list};
 ghost use Rattle.phases.specs.Bare.{whole};
-ghost use Rattle.phases.specs.Inner.Progress.{completion_in};
+ghost use Rattle.phases.specs.Inner.Stage.{completion_in};
 ghost use Rattle.syntax.specs.declared.contents.Contents.{Contents};
 ghost use Rattle.phases.specs.Inner.Ready.{AreReady};
 ghost use Rattle.phases.specs.Requests.{request_of, without_request, is_settled, completion_of};
@@ -19,7 +22,7 @@ ghost use Rattle.phases.specs.Step.{turn, in_phase, now_in, moment_in, begun, fi
 use crate::did::BareDid;
 use crate::entry::{Entry, Status};
 use crate::loop_state::LoopState;
-use crate::progress::Completion;
+use crate::stage::Completion;
 use events::ended::{BareEnded, BareEnding};
 use events::phase::Phase;
 use handles::Kind;

@@ -2,13 +2,11 @@
 
 ghost use Rattle.std.specs.Prelude.{◌≡◌, ◌<◌, ◌+◌, ◌^◌, ◌⊎◌, length};
 ghost use Rattle.imports.specs.Uv.{name_of_entry};
-ghost use Rattle.order.specs.Uv.Numbers.{no_memory};
-ghost use Rattle.phases.specs.Host.{Cancels, Sends, QueuesWork, Opens};
+ghost use Rattle.phases.specs.Host.{Sends, QueuesWork, Opens};
 ghost use Rattle.phases.specs.PhaseList.{exports};
 ghost use Rattle.phases.specs.Inner.Setting.{setting_of};
 ghost use Rattle.phases.specs.View.{AreOpenedUpTo};
 
-use crate::progress::CancelState;
 use crate::requests::Requests;
 use crate::roster::Roster;
 use crate::setting::Setting;
@@ -16,27 +14,8 @@ use crate::shared::Shared;
 use imports::{EntryPoint, Linked};
 use instance::memory::Memory;
 use limits::{MAX_BYTES, MAX_REQUEST_NUMBER, MAX_REQUESTS};
-use order::uv::answers::{
-    BUSY, INVALID, NO_MEMORY, NO_ROOM, NO_SUCH_EXPORT, NONE_LEFT, OUTSIDE_MEMORY,
-};
+use order::uv::answers::{INVALID, NO_MEMORY, NO_ROOM, NO_SUCH_EXPORT, NONE_LEFT, OUTSIDE_MEMORY};
 use std::alloc::Global;
-
-/// Cancels a request: -22 where it is not outstanding or cancelled already, -16 where it is answered or started.
-pub fn cancel<B: Shared>(requests: &mut Requests, shared: &mut B, number: u32) -> u32
-    ensures { Cancels B.calls (requests.old, shared.old) number result (requests.new, shared.new) }
-{
-    match requests.cancel_state(number) {
-        CancelState::Unknown => INVALID,
-        CancelState::Answered => BUSY,
-        CancelState::Pending { slot } => {
-            if !shared.cancel(slot, number) {
-                return BUSY;
-            }
-            requests.cancel(number);
-            0
-        }
-    }
-}
 
 /// Sends to an async of the loop: -22 where the handle is none, -28 where the loop's sends are used up.
 pub fn send<B: Shared>(roster: &Roster, shared: &mut B, handle: u32) -> u32
@@ -110,7 +89,7 @@ fn open<B: Shared>(
     requires opened { AreOpenedUpTo requests.old.last (B.calls.view shared.old) }
     requires room { length requests.old.outstanding < MAX_REQUESTS }
     requires numbers { requests.old.last + 1 < 2 ^ 31 }
-    ensures { ((result ≡ no_memory) × (requests.new ≡ requests.old) × (shared.new ≡ shared.old)) ⊎ Opens B.calls (setting_of setting.now) (requests.old, shared.old) op bytes.now result (requests.new, shared.new) }
+    ensures { ((result ≡ NO_MEMORY) × (requests.new ≡ requests.old) × (shared.new ≡ shared.old)) ⊎ Opens B.calls (setting_of setting.now) (requests.old, shared.old) op bytes.now result (requests.new, shared.new) }
 {
     let request = requests.last() + 1;
     let slot = requests.free_slot();

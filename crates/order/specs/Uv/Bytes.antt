@@ -2,19 +2,19 @@
 use Rattle.std.specs.Prelude.{ℕ, ◌+◌, nat_lt, List, length, take, drop, Option, Some, None, if◌then◌else◌}
 use Rattle.limits.specs.declared.TheConstants.{MAX_BYTES}
 use Rattle.instance.specs.Fresh.{overwritten}
-use Rattle.order.specs.Uv.Numbers.{not_here, invalid, outside_memory}
+use Rattle.order.specs.declared.uv.answers.TheConstants.{NOT_HERE, INVALID, OUTSIDE_MEMORY}
 
 -- what `in_len` answers, of the input where there is one
 abbrev pub input_length : Option (List ℕ) → ℕ
-input_length None = not_here
+input_length None = NOT_HERE
 input_length (Some input) = length input
 
 -- what `in_copy` answers, and the memory after it
 abbrev pub copied_in : Option (List ℕ) → (to from count : ℕ) → (memory : List ℕ) → ℕ × List ℕ
-copied_in None to from count memory = (not_here, memory)
+copied_in None to from count memory = (NOT_HERE, memory)
 copied_in (Some input) to from count memory =
-    if nat_lt (length input) (from + count) then (invalid, memory)
-    else (if nat_lt (length memory) (to + count) then (outside_memory, memory)
+    if nat_lt (length input) (from + count) then (INVALID, memory)
+    else (if nat_lt (length memory) (to + count) then (OUTSIDE_MEMORY, memory)
     else (0, overwritten to (take count (drop from input)) memory))
 
 -- the bytes of a memory at a place
@@ -24,6 +24,6 @@ taken_out place count memory = take count (drop place memory)
 -- what `out_set` answers, and the bytes of the reply after it
 abbrev pub set_out : (place count : ℕ) → (memory reply : List ℕ) → ℕ × List ℕ
 set_out place count memory reply =
-    if nat_lt MAX_BYTES count then (invalid, reply)
-    else (if nat_lt (length memory) (place + count) then (outside_memory, reply)
+    if nat_lt MAX_BYTES count then (INVALID, reply)
+    else (if nat_lt (length memory) (place + count) then (OUTSIDE_MEMORY, reply)
     else (0, taken_out place count memory))

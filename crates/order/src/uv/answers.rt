@@ -1,4 +1,5 @@
-// The numbers that a guest is answered where a call does not do what it asks: negative numbers as i32.
+// The numbers that a guest is answered where a call does not do what it asks, as a C library of errors has them: negative
+// numbers, read as i32. Code and definitions cite them by name.
 
 /// -1: the call is not one for this place.
 pub const NOT_HERE: u32 = u32::MAX;

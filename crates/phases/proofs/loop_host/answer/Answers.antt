@@ -2,9 +2,6 @@ use Rattle.std.proofs.Common.{refl, sym, ap, subst}
 use Rattle.instance.specs.Store.{MemoryInstance}
 use Rattle.phases.specs.View.{AreOpenedUpTo}
 use Rattle.phases.specs.State.{State}
-use Rattle.phases.specs.declared.work.Asked.{Asked}
-use Rattle.phases.specs.Host.{QueuesWork}
-use Rattle.phases.specs.Inner.Setting.{setting_of}
 use Rattle.phases.proofs.GuestCallsKeep.{no_arguments}
 use Rattle.phases.proofs.loop_host.answer.Goals as goal
 
@@ -15,28 +12,25 @@ queue_work-answer-requires g c =
 pub returns-in-TimerInit-clause-replies : goal.returns-in-TimerInit-clause-replies
 returns-in-TimerInit-clause-replies g c =
     let none = no_arguments c.args.args.now (rw c.in-TimerInit.is at c.requires.typed) in
-    let made = c.init-answer.ensures in
-    rw (c.in-TimerInit.is, none) (λ import. (c.init-answer.result, made.0, made.1, (refl, refl), ap (λ (s : State). (s, c.args.shared.now)) made.2))
+    rw (c.in-TimerInit.is, none, ← c.state-in-TimerInit.view_is) (λ import. (c.init-answer.result, c.init-answer.new.self, c.init-answer.ensures, (refl, refl), refl))
 
 pub returns-in-IdleInit-clause-replies : goal.returns-in-IdleInit-clause-replies
 returns-in-IdleInit-clause-replies g c =
     let none = no_arguments c.args.args.now (rw c.in-IdleInit.is at c.requires.typed) in
-    let made = c.init-answer-in-IdleInit.ensures in
-    rw (c.in-IdleInit.is, none) (λ import. (c.init-answer-in-IdleInit.result, made.0, made.1, (refl, refl), ap (λ (s : State). (s, c.args.shared.now)) made.2))
+    rw (c.in-IdleInit.is, none, ← c.state-in-IdleInit.view_is) (λ import. (c.init-answer-in-IdleInit.result, c.init-answer-in-IdleInit.new.self, c.init-answer-in-IdleInit.ensures, (refl, refl), refl))
 
 pub returns-in-CheckInit-clause-replies : goal.returns-in-CheckInit-clause-replies
 returns-in-CheckInit-clause-replies g c =
     let none = no_arguments c.args.args.now (rw c.in-CheckInit.is at c.requires.typed) in
-    let made = c.init-answer-in-CheckInit.ensures in
-    rw (c.in-CheckInit.is, none) (λ import. (c.init-answer-in-CheckInit.result, made.0, made.1, (refl, refl), ap (λ (s : State). (s, c.args.shared.now)) made.2))
+    rw (c.in-CheckInit.is, none, ← c.state-in-CheckInit.view_is) (λ import. (c.init-answer-in-CheckInit.result, c.init-answer-in-CheckInit.new.self, c.init-answer-in-CheckInit.ensures, (refl, refl), refl))
 
 pub returns-in-AsyncInit-clause-replies : goal.returns-in-AsyncInit-clause-replies
 returns-in-AsyncInit-clause-replies g c =
-    let made = c.init_async-answer.ensures in
-    rw (c.in-AsyncInit.is, c.one-in-AsyncInit.ensures) (λ import. (c.init_async-answer.result, made.0, made.1, (refl, refl), ap (λ (s : State). (s, c.args.shared.now)) made.2))
+    rw (c.in-AsyncInit.is, c.one-in-AsyncInit.ensures, ← c.state-in-AsyncInit.view_is)
+    (λ import. (c.init_async-answer.result, c.init_async-answer.new.self, c.init_async-answer.ensures, (refl, refl), refl))
 
 pub returns-in-QueueWork-clause-replies : goal.returns-in-QueueWork-clause-replies
 returns-in-QueueWork-clause-replies g c =
-    let queued = subst (λ (a : Asked). QueuesWork g.B.Shared.calls (setting_of c.args.setting.now) c.args.memory.now.bytes (c.state-in-QueueWork.inside.requests, c.args.shared.now) a.op a.place a.count c.queue_work-answer.result (c.queue_work-answer.new.requests, c.queue_work-answer.new.shared)) c.asked-asked.ensures c.queue_work-answer.ensures.queued in
     let same = ap (λ (m : MemoryInstance). m.bytes) c.queue_work-answer.ensures.memory in
-    rw (c.in-QueueWork.is, c.three.ensures, ← c.state-in-QueueWork.view_is) (λ import. (c.queue_work-answer.result, c.queue_work-answer.new.requests, queued, (refl, same), refl))
+    rw (c.in-QueueWork.is, c.three-op.ensures, ← c.state-in-QueueWork.view_is)
+    (λ import. (c.queue_work-answer.result, c.queue_work-answer.new.requests, c.queue_work-answer.ensures.queued, (refl, same), refl))

@@ -11,7 +11,7 @@ use Rattle.syntax.specs.declared.types.Value.TheVariants.{I32}
 use Rattle.phases.specs.Host.{with_requests}
 use Rattle.phases.specs.Bare.{whole}
 use Rattle.phases.specs.Inner.Keeping.{Keeps}
-use Rattle.phases.specs.Inner.Progress.{completion_in}
+use Rattle.phases.specs.Inner.Stage.{completion_in}
 use Rattle.phases.specs.Requests.{request_of, without_request}
 use Rattle.events.specs.declared.phase.EntryKind.TheVariants.{After}
 use Rattle.phases.specs.State.{State, Loop}

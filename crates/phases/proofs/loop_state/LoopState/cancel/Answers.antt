@@ -8,4 +8,4 @@ use Rattle.phases.proofs.loop_state.LoopState.cancel.Goals as goal
 pub returns-in-Running : goal.returns-in-Running
 returns-in-Running g c =
     let s : State = record { roster = c.self.inside.roster; requests = c.self.inside.requests; clock = c.self.inside.clock; now = c.self.inside.time; phase = c.self.inside.phase; list = c.self.inside.entries; reply = option_map (λ v. v.items) c.self.inside.reply; emits = c.self.inside.emits.items; status = c.self.inside.status } in
-    rw (← c.self.view_is) (cancel_unfailed g.B.Shared.calls s.status (s, c.args.shared.now) (with_requests s c.cancel.new.requests, c.cancel.new.shared) c.args.number c.cancel.result c.in-Running.is (c.cancel.new.requests, c.cancel.ensures, refl))
+    rw (← c.self.view_is) (cancel_unfailed g.B.Shared.calls s.status (s, c.args.shared.now) (with_requests s c.cancel.new.self, c.cancel.new.shared) c.args.number c.cancel.result c.in-Running.is (c.cancel.new.self, c.cancel.ensures, refl))

@@ -1,27 +1,53 @@
-use Rattle.std.proofs.Common.{sym, ap, ◌∙◌, map, List}
+use Rattle.std.proofs.Common.{refl, sym, ap, ◌∙◌, true, map, List}
 use Rattle.std.proofs.lemmas.Bool.{eqb-true}
-use Rattle.phases.specs.Requests.{Request, Requests, has_number, Cancelled}
-use Rattle.phases.proofs.RequestsRise.{Staged, staged_there}
+use Rattle.order.specs.declared.uv.answers.TheConstants.{BUSY, INVALID}
+use Rattle.phases.specs.declared.stage.CancelState.TheVariants.{Unknown, Pending}
+use Rattle.phases.specs.declared.stage.CancelState.TheVariants as cancel_state
+use Rattle.phases.specs.Requests.{Request, Requests, Cancelled, has_number, in_stage}
+use Rattle.phases.proofs.FoundCancels.{cancels_found}
+use Rattle.phases.proofs.RequestsRise.{staged_there, same_item}
 use Rattle.phases.proofs.requests.Requests.cancel.Goals as goal
-use Rattle.phases.specs.Requests.{in_stage}
-use Rattle.phases.proofs.RequestsRise.{untouched_all}
-
-pub returns-in_default : goal.returns-in_default
-returns-in_default c =
-    rw (← c.self.view_is)
-    (ap (λ (ys : List Request). let rs : Requests = record { outstanding = ys; last = c.self.inside.last } in rs)
-    (sym (untouched_all Cancelled c.args.number c.self.inside.items.items (rw c.as_slice.ensures.value at c.in_default.ensures.none))))
-
-there : (c : goal.After-self-1) → Staged c.self.inside.items.items c.self.inside.last (has_number c.args.number) c.in-Some.at c.index_mut-item.result.now c.cancel.new.self Cancelled
-there c =
-    staged_there c.self.inside.items.items c.self.inside.last c.self.invariant.0 (has_number c.args.number) c.as_slice.result.now c.in-Some.at c.index_mut-item.result.now c.cancel.new.self Cancelled
-    c.as_slice.ensures.value c.in-Some.ensures.some c.index_mut-item.ensures.value c.cancel.ensures tt
 
 pub invariant_of-self : goal.invariant_of-self
-invariant_of-self c = ((there c).kept, c.self.invariant.1)
+invariant_of-self g c =
+    let there =
+    staged_there c.self.inside.items.items c.self.inside.last c.self.invariant.0 (has_number c.args.number) c.as_slice.result.now c.in-Some.at
+    c.index_mut-request.result.now c.cancel-in-Pending.new.self Cancelled
+    c.as_slice.ensures.value c.in-Some.ensures.some c.index_mut-request.ensures.value c.cancel-in-Pending.ensures tt in
+    (there.kept, c.self.invariant.1)
 
-pub returns : goal.returns
-returns c =
+pub returns-in-Unknown : goal.returns-in-Unknown
+returns-in-Unknown g c =
+    let place =
+    same_item (has_number c.args.number) c.self.inside.items.items c.as_slice.result.now c.in-Some.at c.index.result.now
+    c.as_slice.ensures.value c.in-Some.ensures.some c.index.ensures in
+    cancels_found g.B.Shared.calls (c.args.self.now, c.args.shared.now) c.args.number INVALID (c.args.self.now, c.args.shared.now) c.index.result.now Unknown
+    (rw (← c.self.view_is) place.1) (sym c.cancel_state.ensures ∙ c.in-Unknown.is) (refl, refl)
+
+pub returns-in-Answered : goal.returns-in-Answered
+returns-in-Answered g c =
+    let place =
+    same_item (has_number c.args.number) c.self.inside.items.items c.as_slice.result.now c.in-Some.at c.index.result.now
+    c.as_slice.ensures.value c.in-Some.ensures.some c.index.ensures in
+    cancels_found g.B.Shared.calls (c.args.self.now, c.args.shared.now) c.args.number BUSY (c.args.self.now, c.args.shared.now) c.index.result.now cancel_state.Answered
+    (rw (← c.self.view_is) place.1) (sym c.cancel_state.ensures ∙ c.in-Answered.is) (refl, refl)
+
+pub returns-else-not-cancel : goal.returns-else-not-cancel
+returns-else-not-cancel g c =
+    let items = c.self.inside.items.items in
+    let place =
+    same_item (has_number c.args.number) items c.as_slice.result.now c.in-Some.at c.index.result.now
+    c.as_slice.ensures.value c.in-Some.ensures.some c.index.ensures in
+    let there =
+    staged_there items c.self.inside.last c.self.invariant.0 (has_number c.args.number) c.as_slice.result.now c.in-Some.at
+    c.index_mut-request.result.now c.cancel-in-Pending.new.self Cancelled
+    c.as_slice.ensures.value c.in-Some.ensures.some c.index_mut-request.ensures.value c.cancel-in-Pending.ensures tt in
     rw (← c.self.view_is)
-    (ap (λ (ys : List Request). let rs : Requests = record { outstanding = ys; last = c.self.inside.last } in rs)
-    ((there c).changed ∙ ap (λ n. map (in_stage n Cancelled) c.self.inside.items.items) (eqb-true _ _ (there c).passes)))
+    (cancels_found g.B.Shared.calls (record { outstanding = items; last = c.self.inside.last }, c.args.shared.now) c.args.number 0 _
+    c.index.result.now (Pending c.in-Pending.slot) place.1 (sym c.cancel_state.ensures ∙ c.in-Pending.is) (
+      true,
+      c.if-not-cancel.ensures,
+      refl,
+      ap (λ (ys : List Request). let rs : Requests = record { outstanding = ys; last = c.self.inside.last } in rs)
+          (there.changed ∙ ap (λ n. map (in_stage n Cancelled) items) (eqb-true _ _ there.passes)),
+    ))

@@ -1,7 +1,7 @@
 use Rattle.std.proofs.Common.{ap, ◌∙◌, filter, List}
 use Rattle.std.proofs.lemmas.Bool.{eqb-true}
 use Rattle.phases.specs.Requests.{Request, Requests, has_number}
-use Rattle.phases.specs.Inner.Progress.{completion_in}
+use Rattle.phases.specs.Inner.Stage.{completion_in}
 use Rattle.phases.proofs.RequestsRise.{Removed, removed_there, short_completion}
 use Rattle.phases.proofs.requests.Requests.take.Goals as goal
 use Rattle.std.proofs.Common.{arith, not}

@@ -4,7 +4,7 @@ use order::{Order, Outcome};
 
 /// How far an outstanding request has come.
 #[derive(Drop)]
-pub enum Progress {
+pub enum Stage {
     /// It is not handed out yet: its order, to be handed out.
     Open(Order),
     /// A worker may have it.

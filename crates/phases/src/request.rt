@@ -1,12 +1,12 @@
 // One outstanding request.
 
 ghost use Rattle.std.specs.Prelude.{◌≡◌, ◌↔◌, [], Some, None, true, false, IsTrue, MatchOption};
-ghost use Rattle.phases.specs.Inner.Progress.{completion_in};
+ghost use Rattle.phases.specs.Inner.Stage.{completion_in};
 ghost use Rattle.order.specs.Orders.{order_of, end_of};
 ghost use Rattle.phases.specs.Host.{stage_cancel_state};
-ghost use Rattle.phases.specs.Requests.{Stage, HandedOut, Answered, Cancelled, is_open_stage, is_settled, completion_of, end_completion};
+ghost use Rattle.phases.specs.Requests.{Open, HandedOut, Answered, Cancelled, is_open_stage, is_settled, completion_of, end_completion};
 
-use crate::progress::{CancelState, Completion, Progress};
+use crate::stage::{CancelState, Completion, Stage};
 use order::uv::answers::{CANCELLED_CODE, NO_MEMORY};
 use order::{Order, Outcome};
 use std::alloc::Global;
@@ -14,44 +14,41 @@ use std::marker::Model;
 use std::mem;
 
 /// An outstanding request: its order, and how far it has come.
-pub struct Outstanding {
+pub struct Request {
     order: Order,
-    progress: Progress,
+    stage: Stage,
 }
 
-impl Drop for Outstanding {
+impl Drop for Request {
     fn drop(self) {
-        let Outstanding {
-            order: _,
-            progress: _,
-        } = self;
+        let Request { order: _, stage: _ } = self;
     }
 }
 
-impl Model for Outstanding {
+impl Model for Request {
     ghost use Rattle.order.specs.Orders.{order_of};
-    ghost use Rattle.phases.specs.Requests.{Request};
+    ghost use Rattle.phases.specs.Requests.{Request as Value_of};
     ghost use Rattle.phases.specs.Inner.Codes.{request_code};
-    ghost use Rattle.phases.specs.Inner.Progress.{stage_of, IsCopyOf};
+    ghost use Rattle.phases.specs.Inner.Stage.{stage_of, IsCopyOf};
 
-    ghost Value = { Request };
+    ghost Value = { Value_of };
 
     ghost coded = { request_code };
 
-    ghost view = { λ a. record { order = order_of a.order; stage = stage_of a.progress } };
+    ghost view = { λ a. record { order = order_of a.order; stage = stage_of a.stage } };
 
-    ghost invariant = { λ a. IsCopyOf (order_of a.order) a.progress };
+    ghost invariant = { λ a. IsCopyOf (order_of a.order) a.stage };
 }
 
-impl Outstanding {
+impl Request {
     /// A request that is not handed out, with the copy of its order that will be.
     pub fn new(order: Order, copy: Order) -> Self
         requires { order_of copy ≡ order_of order }
-        ensures { result ≡ record { order = order_of order; stage = Stage.Open } }
+        ensures { result ≡ record { order = order_of order; stage = Open } }
     {
-        Outstanding {
+        Request {
             order,
-            progress: Progress::Open(copy),
+            stage: Stage::Open(copy),
         }
     }
 
@@ -73,26 +70,26 @@ impl Outstanding {
     pub fn is_open(&self) -> bool
         ensures { result ≡ is_open_stage self.now.stage }
     {
-        matches!(self.progress, Progress::Open(_))
+        matches!(self.stage, Stage::Open(_))
     }
 
     /// Whether it is answered or cancelled.
     pub fn is_settled(&self) -> bool
         ensures { result ≡ is_settled self.now.stage }
     {
-        matches!(self.progress, Progress::Answered(_) | Progress::Cancelled)
+        matches!(self.stage, Stage::Answered(_) | Stage::Cancelled)
     }
 
     /// Whether it can be cancelled.
     pub fn cancel_state(&self) -> CancelState
         ensures { result ≡ stage_cancel_state self.now.order.slot self.now.stage }
     {
-        match self.progress {
-            Progress::Open(_) | Progress::HandedOut => CancelState::Pending {
+        match self.stage {
+            Stage::Open(_) | Stage::HandedOut => CancelState::Pending {
                 slot: self.order.slot,
             },
-            Progress::Answered(_) => CancelState::Answered,
-            Progress::Cancelled => CancelState::Unknown,
+            Stage::Answered(_) => CancelState::Answered,
+            Stage::Cancelled => CancelState::Unknown,
         }
     }
 
@@ -109,8 +106,8 @@ impl Outstanding {
         ensures order { MatchOption result ⊥ (λ order. order_of order ≡ self.old.order) }
         ensures request { self.new ≡ record self.old { stage = HandedOut } }
     {
-        match mem::replace(&mut self.progress, Progress::HandedOut) {
-            Progress::Open(order) => Some(order),
+        match mem::replace(&mut self.stage, Stage::HandedOut) {
+            Stage::Open(order) => Some(order),
             _ => unreachable!(),
         }
     }
@@ -119,14 +116,14 @@ impl Outstanding {
     pub fn answer(&mut self, outcome: Outcome)
         ensures { self.new ≡ record self.old { stage = Answered (end_of outcome) } }
     {
-        self.progress = Progress::Answered(outcome);
+        self.stage = Stage::Answered(outcome);
     }
 
     /// It was cancelled.
     pub fn cancel(&mut self)
         ensures { self.new ≡ record self.old { stage = Cancelled } }
     {
-        self.progress = Progress::Cancelled;
+        self.stage = Stage::Cancelled;
     }
 
     /// What its after-work callback is told.
@@ -134,11 +131,11 @@ impl Outstanding {
         requires { is_settled self.stage ≡ true }
         ensures { completion_of self.stage ≡ Some (completion_in result) }
     {
-        let Outstanding { order: _, progress } = self;
-        match progress {
-            Progress::Answered(outcome) => outcome_completion(alloc, outcome),
-            Progress::Cancelled => Completion::without_bytes(alloc, 5, CANCELLED_CODE),
-            Progress::Open(_) | Progress::HandedOut => unreachable!(),
+        let Request { order: _, stage } = self;
+        match stage {
+            Stage::Answered(outcome) => outcome_completion(alloc, outcome),
+            Stage::Cancelled => Completion::without_bytes(alloc, 5, CANCELLED_CODE),
+            Stage::Open(_) | Stage::HandedOut => unreachable!(),
         }
     }
 }

@@ -1,6 +1,6 @@
 pub mod Modules
 pub mod ImportTypes
-pub mod NewInstance
+pub mod FunctionTypes
 pub mod WorkHostAnswers
 pub mod WhereOrdersStop
 pub mod Short

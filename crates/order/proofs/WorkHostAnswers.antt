@@ -4,15 +4,12 @@ use Rattle.syntax.specs.declared.types.Value.{Value}
 use Rattle.syntax.specs.Loaded.{Loaded}
 use Rattle.reduction.specs.Run.{HostCall}
 use Rattle.reduction.specs.Hosting.{Lawful}
-use Rattle.imports.specs.declared.call.Call.{Call}
-use Rattle.imports.specs.declared.call.Call.TheVariants.{Now, InLen, InCopy, OutSet}
 use Rattle.imports.specs.Linking.{Imports}
 use Rattle.order.specs.declared.host.WorkHost.{WorkHost}
-use Rattle.order.specs.declared.uv.answers.TheConstants.{NOT_HERE}
-use Rattle.order.specs.Work.{WorkOrder, WorkEnd, Done, Trap, Depth, Spent, NoMemory, WorkAnswers, WorkCall, Works, IsTheEnd, IsEndOf, Gives}
+use Rattle.order.specs.Work.{WorkOrder, WorkEnd, Done, Trap, Depth, Spent, NoMemory, WorkAnswers, WorkCall, Works, IsTheEnd, IsEndOf}
 use Rattle.order.specs.Inner.WorkHosting.{Answered}
 use Rattle.order.specs.Inner.Serving.{Serves}
-use Rattle.std.proofs.Common.{Result, Ok, Err, IfOk, reverse, ◌+◌, ◌-◌, codes}
+use Rattle.std.proofs.Common.{reverse, ◌+◌, ◌-◌, codes}
 use Rattle.syntax.specs.declared.types.Value.TheVariants.{I32}
 use Rattle.validate.specs.Valid.{ValidModule}
 use Rattle.instance.specs.Store.{Store}

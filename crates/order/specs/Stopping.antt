@@ -14,11 +14,16 @@ use Rattle.imports.specs.Linking.{ExportsFunction}
 use Rattle.order.specs.Trails.{Innermost, innermost}
 use Rattle.order.specs.Work.{WorkOrder, WorkEnd, NoMemory, WorkRun, WorkCall, StartRun, EndsAs}
 
+-- a run of a function of the order's module tells this stop
+abbrev pub TellsWork : (o : WorkOrder) → Store → (reply : List ℕ) → (function : ℕ) → List Value → Ended → Store → (reply' : List ℕ)
+    → Option (List Site) → Type 0
+TellsWork o = Tells o.loaded.contents o.depth (WorkCall o)
+
 -- a function of the order's module runs so, and stops there if it does not return
 pub record WorkStop (o : WorkOrder) (fuel : ℕ) (s : Store) (reply : List ℕ) (function : ℕ) (args : List Value) (ended : Ended) (t : Store)
     (reply' : List ℕ) (stop : Option (List Site)) : Type 0 where
   pub run : WorkRun o fuel s reply function args (end_of_run ended.ending) ended.used t reply'
-  pub tells : Tells o.loaded.contents o.depth (WorkCall o) s reply function args ended t reply' stop
+  pub tells : TellsWork o s reply function args ended t reply' stop
 
 -- One thread computes this end from the order and uses so much, as in `Computes`, and stops there: where the start function
 -- does not return, there, and else where `uv_work` does not.

@@ -9,12 +9,11 @@ ghost use Rattle.instance.specs.Fresh.{IsFresh};
 ghost use Rattle.instance.specs.Storing.{IsStoreOf};
 ghost use Rattle.reduction.specs.Invoking.{TakesArguments, ReturnsTyped};
 ghost use Rattle.reduction.specs.Running.{end_of_run, AreResults};
-ghost use Rattle.reduction.specs.Stopping.{Tells};
 ghost use Rattle.imports.specs.Linking.{ExportsFunction};
 ghost use Rattle.order.specs.Orders.{order_of, end_of};
 ghost use Rattle.order.specs.Inner.Serving.{Serves};
-ghost use Rattle.order.specs.Stopping.{WorkStop, ComputesTo, Leaves};
-ghost use Rattle.order.specs.Work.{WorkCall, WorkRun, WorkEnd, NoMemory, StartRun, Computes, Uses, IsEndOf, EndsAs};
+ghost use Rattle.order.specs.Stopping.{TellsWork, WorkStop, ComputesTo, Leaves};
+ghost use Rattle.order.specs.Work.{WorkRun, WorkEnd, NoMemory, StartRun, Computes, Uses, IsEndOf, EndsAs};
 
 use crate::host::WorkHost;
 use crate::order::{Order, Outcome};
@@ -244,7 +243,7 @@ impl Order {
         requires serves { Serves host.old (order_of self.now) }
         requires depth { (1 ≤ self.now.depth) × (self.now.depth ≤ MAX_DEPTH) }
         ensures run { WorkRun (order_of self.now) fuel state.old host.old.reply.items function args.now (end_of_run result.ending) result.used state.new host.new.reply.items }
-        ensures stops { Tells (arc_value self.now.module).contents self.now.depth (WorkCall (order_of self.now)) state.old host.old.reply.items function args.now result state.new host.new.reply.items stack.new }
+        ensures stops { TellsWork (order_of self.now) state.old host.old.reply.items function args.now result state.new host.new.reply.items stack.new }
         ensures within { result.used ≤ fuel }
         ensures results { ReturnsTyped (arc_value self.now.module).contents function result.ending }
         ensures store { IsStoreOf (arc_value self.now.module).contents state.new }

@@ -20,6 +20,7 @@ use Rattle.phases.specs.PhaseList.{is_empty, is_active_handle, active_from, acti
 use Rattle.phases.specs.PhaseList.{IsNextDue, IsAtOnce, IsHint, until_due, hint_of}
 use Rattle.phases.specs.Roster.{Roster, is_handle}
 use Rattle.phases.specs.State.{State}
+use Rattle.phases.proofs.RosterKeeps.{or_right}
 
 or_cases : (a b : Bool) → (a || b) ≡ true → (a ≡ true) ⊎ (b ≡ true)
 or_cases true b h = inl refl
@@ -27,10 +28,6 @@ or_cases false b h = inr h
 
 or_left : (a b : Bool) → a ≡ true → (a || b) ≡ true
 or_left a b h = ap (λ x. x || b) h
-
-or_right : (a b : Bool) → b ≡ true → (a || b) ≡ true
-or_right true b h = refl
-or_right false b h = h
 
 filled : {X : Type 0} (xs : List X) → not (is_empty xs) ≡ true → xs ≢ []
 filled [] h = absurd (cc)

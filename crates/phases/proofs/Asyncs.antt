@@ -1,5 +1,5 @@
 -- A loop makes MAX_ASYNCS asyncs at most.
-use Rattle.std.proofs.Common.{◌≡◌, ℕ, zero, suc, ◌<◌, ◌≤◌, ◌==◌, ◌&&◌, Bool, true, false, cond, not, List, [], ◌∷◌, length, map, Option, Some, None, refl, sym}
+use Rattle.std.proofs.Common.{◌≡◌, ℕ, zero, suc, ◌<◌, ◌≤◌, ◌==◌, ◌&&◌, Bool, true, false, cond, not, List, [], ◌∷◌, length, Option, Some, None, refl, sym}
 use Rattle.std.proofs.Common.{ap, subst, ◌∙◌, arith, slice_get, MatchBool, MatchOption}
 use Rattle.std.proofs.lemmas.List.{length-map}
 use Rattle.limits.specs.declared.TheConstants.{MAX_ASYNCS}
@@ -18,16 +18,16 @@ use Rattle.phases.specs.declared.entry.Entry.TheVariants as entry
 use Rattle.phases.specs.declared.entry.Status.{Status}
 use Rattle.phases.specs.declared.entry.Status.TheVariants.{Running, Over, Failed}
 use Rattle.phases.specs.Roster.{Roster, in_table, async_handle, with_handles, without_handle, unless_handle}
-use Rattle.phases.specs.Requests.{Request, Requests, Completion, request_of, without_request, completion_of, lowest_open}
+use Rattle.phases.specs.Requests.{Request, Completion, request_of, without_request, completion_of}
 use Rattle.phases.specs.State.{Setting, State, Loop}
 use Rattle.events.specs.Phases.{may_end, next_phase}
 use Rattle.phases.specs.PhaseList.{is_alive, is_active_handle}
 use Rattle.phases.specs.Calls.{Calls}
-use Rattle.phases.specs.Guests.{GuestCall, GuestSteps}
+use Rattle.phases.specs.Guests.{GuestCall}
 use Rattle.phases.specs.Host.{with_roster, with_requests}
 use Rattle.phases.specs.History.{Event, Stepped, OrderAsked, EndOffered, CancelAnswered, ClockRaised, MovedBeside, EventStep, Offers}
-use Rattle.phases.specs.Outside.{CancelIn, next_order_of, next_in, handing}
-use Rattle.phases.specs.Step.{StepsWith, StepIn, ListStep, EntryStep, NextPhase, RunsFrom, CallsBack, CallsHandle, Skips, TakesFirst, AfterWork, in_state}
+use Rattle.phases.specs.Outside.{CancelIn, next_in}
+use Rattle.phases.specs.Step.{StepIn, ListStep, EntryStep, RunsFrom, CallsBack, CallsHandle, Skips, TakesFirst, AfterWork, in_state}
 use Rattle.phases.specs.Step.{sharing, begun, entered, now_in, turn, is_as_listed, handle_function}
 use Rattle.phases.proofs.GuestCallsKeepListed.{guest_grows}
 

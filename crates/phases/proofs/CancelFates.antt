@@ -52,7 +52,8 @@ module _ {S : Type 0} (calls : Calls S) where
   fate old n answer new (wins q found zeroed is at) = cancelled q found zeroed is
   fate old n answer new (leaves refused is beside) = stayed refused is
 
-  moves_at : (st : CancelState) (old : Requests × S) (n answer : ℕ) (new : Requests × S) → cancel_state_of old.0 n ≡ st → CancelsAt calls st old n answer new → CancelMoves calls old n answer new
+  moves_at : (st : CancelState) (old : Requests × S) (n answer : ℕ) (new : Requests × S) → cancel_state_of old.0 n ≡ st
+      → CancelsAt calls st old n answer new → CancelMoves calls old n answer new
   moves_at Unknown old n answer new is h = leaves (refusal answer INVALID h.0 refl refl) (ap (λ p. p.0) h.1) (unmoved (ap (λ p. p.1) h.1))
   moves_at cancel_state.Answered old n answer new is h = leaves (refusal answer BUSY h.0 refl refl) (ap (λ p. p.0) h.1) (unmoved (ap (λ p. p.1) h.1))
   moves_at (Pending slot) old n answer new is h = won h.0 h.1 h.2 h.3 where
@@ -68,19 +69,18 @@ module _ {S : Type 0} (calls : Calls S) where
   moves_of old n answer new h = moves_at (cancel_state_of old.0 n) old n answer new refl h
 
   -- of requests by another name
-  renamed : (old : Requests × S) (n answer : ℕ) (requests requests' : Requests) (s : S) → requests' ≡ requests → CancelMoves calls old n answer (requests, s) → CancelMoves calls old n answer (requests', s)
+  renamed : (old : Requests × S) (n answer : ℕ) (requests requests' : Requests) (s : S) → requests' ≡ requests
+      → CancelMoves calls old n answer (requests, s) → CancelMoves calls old n answer (requests', s)
   renamed old n answer requests requests' s e h = subst (λ x. CancelMoves calls old n answer (x, s)) (sym e) h
 
   -- the owner's
-  pub moves_in : (status : Status) (old : State × S) (n answer : ℕ) (new : State × S) → CancelIn calls status old n answer new → CancelMoves calls (old.0.requests, old.1) n answer (new.0.requests, new.1)
+  pub moves_in : (status : Status) (old : State × S) (n answer : ℕ) (new : State × S) → CancelIn calls status old n answer new
+      → CancelMoves calls (old.0.requests, old.1) n answer (new.0.requests, new.1)
   moves_in Failed old n answer new h = leaves (refusal answer NOT_HERE h.0 refl refl) (ap (λ p. p.0.requests) h.1) (unmoved (ap (λ p. p.1) h.1))
   moves_in Running old n answer new h =
       renamed (old.0.requests, old.1) n answer h.0 new.0.requests new.1 (ap (λ s. s.requests) h.2) (moves_of (old.0.requests, old.1) n answer (h.0, new.1) h.1)
   moves_in Over old n answer new h =
       renamed (old.0.requests, old.1) n answer h.0 new.0.requests new.1 (ap (λ s. s.requests) h.2) (moves_of (old.0.requests, old.1) n answer (h.0, new.1) h.1)
-
-  pub fate_of : (old : Requests × S) (n answer : ℕ) (new : Requests × S) → Cancels calls old n answer new → CancelFate old.0 n answer new.0
-  fate_of old n answer new h = fate old n answer new (moves_of old n answer new h)
 
   pub fate_in : (status : Status) (old : State × S) (n answer : ℕ) (new : State × S) → CancelIn calls status old n answer new → CancelFate old.0.requests n answer new.0.requests
   fate_in status old n answer new h = fate (old.0.requests, old.1) n answer (new.0.requests, new.1) (moves_in status old n answer new h)

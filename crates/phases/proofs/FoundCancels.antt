@@ -1,6 +1,5 @@
 -- A cancel of a request that was found, by whether it can be cancelled.
-use Rattle.std.proofs.Common.{◌≡◌, ℕ, ◌<◌, Some, sym, ap, subst, ◌∙◌}
-use Rattle.limits.specs.declared.TheConstants.{MAX_REQUESTS}
+use Rattle.std.proofs.Common.{◌≡◌, ℕ, Some, sym, ap, subst, ◌∙◌}
 use Rattle.phases.specs.declared.stage.CancelState.{CancelState}
 use Rattle.phases.specs.declared.stage.CancelState.TheVariants.{Pending}
 use Rattle.phases.specs.Requests.{Stage, Open, HandedOut, Answered, Cancelled, Request, Requests, request_of}
@@ -14,9 +13,7 @@ in_slot q slot HandedOut e = cc
 in_slot q slot (Answered end) e = absurd (cc)
 in_slot q slot Cancelled e = absurd (cc)
 
-pub slot_below : (q : Request) (slot : ℕ) → q.order.slot < MAX_REQUESTS → stage_cancel_state q.order.slot q.stage ≡ Pending slot → slot < MAX_REQUESTS
-slot_below q slot below is = subst (λ n. n < MAX_REQUESTS) (sym (in_slot q slot q.stage is)) below
-
+-- a cancel of the request with a number is one of the request that was found
 pub cancels_found : {S : Type 0} (calls : Calls S) (old : Requests × S) (number answer : ℕ) (new : Requests × S) (q : Request) (state : CancelState)
     → request_of old.0 number ≡ Some q → stage_cancel_state q.order.slot q.stage ≡ state → CancelsAt calls state old number answer new
     → Cancels calls old number answer new

@@ -57,6 +57,13 @@ pub no_arguments : (args : List Value) → map type_of args ≡ [] → args ≡ 
 no_arguments [] h = refl
 no_arguments (x ∷ xs) h = absurd (cc)
 
+-- what is emitted leaves the requests
+pub emitted_requests : (value : ℕ) (s : State) → (emitted_in value s).1.requests ≡ s.requests
+emitted_requests value s = kept (nat_le MAX_EMITS (length s.emits)) where
+  kept : (b : Bool) → (let done : ℕ × State = cond b (NONE_LEFT, s) (0, record s { emits = s.emits ++ value ∷ [] }) in done.1.requests) ≡ s.requests
+  kept true = refl
+  kept false = refl
+
 -- no number above the last is opened
 opened_more : (last slot : ℕ) (v : View) → AreOpenedUpTo last v → AreOpenedUpTo (last + 1) (record v { opened = v.opened ++ (slot, last + 1) ∷ [] })
 opened_more last slot v upto c within =
@@ -131,12 +138,6 @@ module _ {S : Type 0} (calls : Calls S) (lawful : IsLawful calls) where
   pub taken_upto : (last : ℕ) (old new : S) (async_no answer : ℕ) → calls.takes old async_no answer new → AreOpenedUpTo last (calls.view old) → AreOpenedUpTo last (calls.view new)
   taken_upto last old new async_no answer h upto =
       upto_view last (calls.view old) (calls.view new) (ap (λ (v : View). v.opened) (lawful.takes old new async_no answer h).0) upto
-
-  emitted_requests : (value : ℕ) (s : State) → (emitted_in value s).1.requests ≡ s.requests
-  emitted_requests value s = kept (nat_le MAX_EMITS (length s.emits)) where
-    kept : (b : Bool) → (let done : ℕ × State = cond b (NONE_LEFT, s) (0, record s { emits = s.emits ++ value ∷ [] }) in done.1.requests) ≡ s.requests
-    kept true = refl
-    kept false = refl
 
   abbrev Keeps : State × S → Type 0
   Keeps x = AreOpenedUpTo x.0.requests.last (calls.view x.1)

@@ -1,5 +1,6 @@
 -- What a loop keeps as a callback runs, and as entries are taken off its list.
-use Rattle.std.proofs.Common.{◌≡◌, ℕ, ◌≤◌, Bool, true, false, cond, not, ◌&&◌, List, [], ◌∷◌, drop, Option, Some, None, refl, sym, ap, subst, ◌∙◌, map, slice_get, codes, MatchOption, MatchBool, Result, Ok, Err, OnOk, IfErr, ◌==◌, ◌⊎◌, inl, inr, arith, IfSome}
+use Rattle.std.proofs.Common.{◌≡◌, ℕ, ◌≤◌, Bool, true, false, cond, not, ◌&&◌, List, [], ◌∷◌, drop, Option, Some, None, refl, sym, ap, subst, ◌∙◌, map}
+use Rattle.std.proofs.Common.{slice_get, codes, MatchOption, MatchBool, Result, Ok, Err, OnOk, IfErr, ◌==◌, ◌⊎◌, inl, inr, arith, IfSome}
 use Rattle.std.proofs.lemmas.Bool.{eqb-true}
 use Rattle.std.specs.Option.{option_map, option_map_or, option_and_then, is_some}
 use Rattle.std.proofs.lemmas.Option.{slice_get-map}
@@ -12,7 +13,7 @@ use Rattle.syntax.specs.declared.types.ValType.TheVariants as valtype
 use Rattle.syntax.specs.declared.types.Value.{Value}
 use Rattle.syntax.specs.declared.types.Value.TheVariants.{I32}
 use Rattle.validate.specs.Typing.{type_of_function}
-use Rattle.validate.specs.Typing.{function_types, type_of, HasFunctionType}
+use Rattle.validate.specs.Typing.{type_of, HasFunctionType}
 use Rattle.validate.specs.Valid.{ValidModule}
 use Rattle.handles.specs.Table.{record_of, empty_table}
 use Rattle.handles.specs.declared.handle.Record.{Record}
@@ -27,6 +28,7 @@ use Rattle.imports.specs.Linking.{IsLinked, ExportsFunction, ExportsNothing}
 use Rattle.order.specs.Inner.Hosting.{import_types}
 use Rattle.order.specs.Orders.{order_of}
 use Rattle.order.specs.declared.order.Order.{Order}
+use Rattle.order.proofs.FunctionTypes.{has_type}
 use Rattle.events.specs.declared.did.StepDid.TheVariants.{Ran}
 use Rattle.events.specs.declared.phase.EntryKind.{EntryKind}
 use Rattle.phases.specs.declared.entry.Status.{Status}
@@ -64,6 +66,11 @@ kept_on l g s u t keeps grows orders = record {
   orders = orders;
 }
 
+-- requests that stay fit what is shared as before
+pub still_upto : {S : Type 0} (calls : Calls S) (shared : S) (old new : State) → new ≡ old → AreOpenedUpTo old.requests.last (calls.view shared)
+    → AreOpenedUpTo new.requests.last (calls.view shared)
+still_upto calls shared old new same upto = subst (λ (s : State). AreOpenedUpTo s.requests.last (calls.view shared)) (sym same) upto
+
 -- with another list
 pub kept_with : (l : Loaded) (g : Setting) (s u : State) (t : Store) → Keeps l g s t → u.roster.callbacks ≡ s.roster.callbacks → AreReady g.loaded.contents u → AreOrdersOf g u.requests → Keeps l g u t
 kept_with l g s u t keeps callbacks ready orders = record {
@@ -97,12 +104,6 @@ names_of v d l h a b e n =
     subst (λ (x : Loaded). Names x.contents (import_types h.contents)) (sym a) (subst (λ (x : Loaded). Names d.contents (import_types x.contents)) (b ∙ e) n)
 
 -- a function of this type takes these arguments
-has_type : (m : Contents) (f : ℕ) (type : FuncType) → type_of_function m f ≡ Some type → HasFunctionType m f type
-has_type m f type h = found (slice_get (function_types m) f) refl h where
-  found : (o : Option ℕ) → slice_get (function_types m) f ≡ o → option_and_then (slice_get m.types) o ≡ Some type → HasFunctionType m f type
-  found None e k = absurd (cc)
-  found (Some t) e k = (t, e, k)
-
 pub takes : (m : Contents) (f : ℕ) (type : FuncType) (args : List Value) → type_of_function m f ≡ Some type → map type_of args ≡ type.params → TakesArguments m f args
 takes m f type args h fit = record { type = type; known = has_type m f type h; fit = fit }
 
@@ -176,7 +177,10 @@ module _ (m : Contents) (f n : ℕ) where
   handle_bare r handle same h = (handle_fits r handle same h).1
 
 -- a callback that ran on the host of a loop
-module _ {G S : Type 0} (calls : Calls S) (setting : G → Setting) (standing : G → State × S) (l v : Loaded) (is : v ≡ l) (g : Setting) (old : Loop S) (keeps : Keeps l g old.state old.store) (before after : G) (made : setting before ≡ g) (reply : Option (List ℕ)) (begins : standing before ≡ (begun old.state reply, old.shared)) (t : Store) (function : ℕ) (args : List Value) (ended : Ended) (h : Invoked v.contents g.depth g.fuel (Answered calls setting standing) old.store before function args ended t after) where
+module _ {G S : Type 0} (calls : Calls S) (setting : G → Setting) (standing : G → State × S) (l v : Loaded) (is : v ≡ l) (g : Setting) (old : Loop S)
+    (keeps : Keeps l g old.state old.store) (before after : G) (made : setting before ≡ g) (reply : Option (List ℕ))
+    (begins : standing before ≡ (begun old.state reply, old.shared)) (t : Store) (function : ℕ) (args : List Value) (ended : Ended)
+    (h : Invoked v.contents g.depth g.fuel (Answered calls setting standing) old.store before function args ended t after) where
   answered : Lawful (HostStep calls g) h.trace (begun old.state reply, old.shared) (standing after)
   answered =
       let it = served calls setting standing h.trace before after h.lawful in
@@ -256,7 +260,8 @@ not_missing d l g a b name o found none there =
     absurd (let it : false ≡ true = nothing ∙ (known ∙ (same ∙ there)) in cc)
 
 -- an after-work callback is told what became of its request
-pub told_of : (o : Option Request) (t : Completion) (A : Option Completion → Type 0) → MatchOption o ⊥ (λ r. completion_of r.stage ≡ Some t) → A (Some t) → MatchOption o ⊥ (λ r. A (completion_of r.stage))
+pub told_of : (o : Option Request) (t : Completion) (A : Option Completion → Type 0) → MatchOption o ⊥ (λ r. completion_of r.stage ≡ Some t) → A (Some t)
+    → MatchOption o ⊥ (λ r. A (completion_of r.stage))
 told_of None t A h a = absurd h
 told_of (Some r) t A h a = subst A (sym h) a
 

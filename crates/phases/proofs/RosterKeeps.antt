@@ -1,5 +1,6 @@
 -- What a roster keeps as a handle is made, changed, closed or removed.
-use Rattle.std.proofs.Common.{◌≡◌, ◌≢◌, ℕ, zero, suc, ◌+◌, ◌-◌, ◌<◌, ◌≤◌, ◌==◌, Bool, true, false, cond, not, ◌||◌, ◌⊎◌, List, [], ◌∷◌, ◌++◌, length, map, filter, Option, Some, None, refl, sym, ap, subst, ◌∙◌, inl, inr, IsSomeAnd, arith}
+use Rattle.std.proofs.Common.{◌≡◌, ◌≢◌, ℕ, zero, suc, ◌+◌, ◌-◌, ◌<◌, ◌≤◌, ◌==◌, Bool, true, false, cond, not, ◌||◌, ◌⊎◌, List, [], ◌∷◌, ◌++◌, length}
+use Rattle.std.proofs.Common.{map, filter, Option, Some, None, refl, sym, ap, subst, ◌∙◌, inl, inr, IsSomeAnd, arith}
 use Rattle.std.specs.List.{list_any}
 use Rattle.std.specs.Option.{is_some}
 use Rattle.std.specs.Cmp.{nat_cmp_total, unsigned_tied}
@@ -12,13 +13,18 @@ use Rattle.limits.specs.declared.TheConstants.{MAX_HANDLES}
 use Rattle.handles.specs.declared.handle.Record.{Record}
 use Rattle.handles.specs.declared.handle.Kind.{Kind}
 use Rattle.handles.specs.declared.handle.Kind.TheVariants as kind
-use Rattle.handles.specs.Table.{Table, record_of, IsClosing, IsOpen, new_record, with_record, with_started, saturated, stopped, closed, after_start, after_stop, after_again, after_close, after_remove, same_kind}
+use Rattle.handles.specs.Table.{Table, record_of, IsClosing, IsOpen, new_record, with_record, with_started, saturated, stopped, closed}
+use Rattle.handles.specs.Table.{after_start, after_stop, after_again, after_close, after_remove, same_kind}
 use Rattle.phases.specs.Roster.{Roster, is_callback, is_handle, unless_handle, with_handles, with_made, with_async, without_handle}
 use Rattle.phases.specs.Fitting.{IsKept, AreClosing, has_duty}
 
 pub choose : {X : Type 0} (P : X → Type 0) (b : Bool) (x y : X) → (b ≡ true → P x) → (b ≡ false → P y) → P (cond b x y)
 choose P true x y f g = f refl
 choose P false x y f g = g refl
+
+pub or_right : (a b : Bool) → b ≡ true → (a || b) ≡ true
+or_right true b h = refl
+or_right false b h = h
 
 pub some_of : (o : Option Record) (P : Record → Type 0) → IsSomeAnd o P → (r : Record) × (o ≡ Some r) × P r
 some_of None P h = absurd h
@@ -96,10 +102,12 @@ kept_in_place old handle r r' n kept is same_kind same_closing duty =
     (rw (len_same old.handles.records handle r r' is) kept.few)
     duty
     (all_still_closing old.handles handle r' n
-    (λ other was here. same_closing ∙ (let it : IsSomeAnd (Some r) (λ s. s.closing ≡ true) = subst (λ (o : Option Record). IsSomeAnd o (λ s. s.closing ≡ true)) (ap (record_of old.handles) here ∙ is) was in it))
+    (λ other was here. same_closing ∙ was_closing other was here)
     old.closing kept.closing_handles)
     (λ other h. h)
-    (λ async. kept.numbered handle r is (sym same_kind ∙ async))
+    (λ async. kept.numbered handle r is (sym same_kind ∙ async)) where
+      was_closing : (other : ℕ) → IsClosing old.handles other → other ≡ handle → r.closing ≡ true
+      was_closing other was here = subst (λ (o : Option Record). IsSomeAnd o (λ s. s.closing ≡ true)) (ap (record_of old.handles) here ∙ is) was
 
 -- stops and starts
 pub kept_stop : (old : Roster) (handle : ℕ) → IsKept old → IsOpen old.handles handle → IsKept (with_handles old (after_stop old.handles handle))
@@ -107,10 +115,7 @@ kept_stop old handle kept there =
     let it = some_of (record_of old.handles handle) _ there in
     rw it.1
     (kept_in_place old handle it.0 (stopped it.0) old.handles.last_start kept it.1 refl refl
-    (λ has. kept.callbacks handle it.0 it.1 (stopped_duty it.0.active _ has))) where
-      stopped_duty : (a b : Bool) → b ≡ true → (a || b) ≡ true
-      stopped_duty true b h = refl
-      stopped_duty false b h = h
+    (λ has. kept.callbacks handle it.0 it.1 (or_right it.0.active _ has)))
 
 pub kept_start : (old : Roster) (handle callback due repeat : ℕ) → IsKept old → IsOpen old.handles handle → is_callback old callback ≡ true
     → IsKept (with_handles old (after_start old.handles handle callback due repeat))
@@ -184,7 +189,8 @@ kept_async old handle callback kept none room good =
     kept_change old.handles handle (new_record kind.Async) old.handles.last_start old refl asyncs old.closing kept
     (rw (len_more old.handles.records handle (new_record kind.Async) none) (let few = kept.few in omega arith))
     (λ has. absurd (cc))
-    (all_still_closing old.handles handle (new_record kind.Async) old.handles.last_start (λ other was here. absurd (closing_there old.handles handle other none was here)) old.closing kept.closing_handles)
+    (all_still_closing old.handles handle (new_record kind.Async) old.handles.last_start
+    (λ other was here. absurd (closing_there old.handles handle other none was here)) old.closing kept.closing_handles)
     (λ other h. any_push other handle old.asyncs h)
     (λ async. any_last handle old.asyncs) in
     kept_start made handle callback 0 0 kept_first (made_async_open old.handles handle) good
@@ -246,7 +252,8 @@ open_record t handle there = some_of (record_of t handle) _ there
 pub closing_room : (old : Roster) (handle : ℕ) → IsKept old → IsOpen old.handles handle → length old.closing < MAX_HANDLES
 closing_room old handle kept there =
     let it = open_record old.handles handle there in
-    let all : AreIn old.handles.records (handle ∷ old.closing) = (ap is_some it.1, not_among old.handles handle it.0 it.1 it.2 old.closing kept.closing_handles, closing_in old.handles old.closing kept.closing_handles) in
+    let apart = not_among old.handles handle it.0 it.1 it.2 old.closing kept.closing_handles in
+    let all : AreIn old.handles.records (handle ∷ old.closing) = (ap is_some it.1, apart, closing_in old.handles old.closing kept.closing_handles) in
     let most : length (handle ∷ old.closing) ≤ finite.len old.handles.records = few_in old.handles.records (handle ∷ old.closing) all in
     let few = kept.few in
     omega arith
@@ -317,11 +324,8 @@ still_numbered handle other (Some x ∷ asyncs) apart h =
       | inl here ↦ rw (ne_eqb x handle (λ e. apart (sym here ∙ e)), eq-eqb x other here) refl
       | inr different ↦
           let rest = still_numbered handle other asyncs apart (sym (ap (λ b. b || list_any (is_handle other) asyncs) (ne_eqb x other different)) ∙ h) in
-          kept_any (is_handle other (unless_handle handle (Some x))) _ rest
-    ] where
-      kept_any : (a b : Bool) → b ≡ true → (a || b) ≡ true
-      kept_any true b k = refl
-      kept_any false b k = k
+          or_right (is_handle other (unless_handle handle (Some x))) _ rest
+    ]
 
 pub kept_remove : (old : Roster) (handle : ℕ) → IsKept old → IsKept (without_handle old handle)
 kept_remove old handle kept = record {

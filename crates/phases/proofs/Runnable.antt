@@ -1,6 +1,6 @@
 -- What a loop has outstanding are orders of the loop, which can be run.
-use Rattle.std.proofs.Common.{◌≡◌, ℕ, suc, ◌+◌, ◌<◌, ◌≤◌, ◌==◌, ◌||◌, ◌&&◌, Bool, true, false, cond, not, ◌⊎◌, inl, inr, List, [], ◌∷◌, ◌++◌, length, find, take}
-use Rattle.std.proofs.Common.{drop, All, Option, Some, None, refl, sym, ap, subst, ◌∙◌, MatchBool, MatchOption, nat_lt, nat_le, codes, slice_get, arith, min}
+use Rattle.std.proofs.Common.{◌≡◌, ℕ, suc, ◌+◌, ◌<◌, ◌≤◌, ◌==◌, ◌||◌, ◌&&◌, Bool, true, false, cond, not, ◌⊎◌, inl, inr, List, [], ◌∷◌, length, find, take}
+use Rattle.std.proofs.Common.{drop, All, Option, Some, None, refl, sym, ap, subst, ◌∙◌, MatchBool, MatchOption, nat_lt, codes, slice_get, arith, min}
 use Rattle.std.specs.List.{list_any}
 use Rattle.std.specs.Str.{bytes_eq}
 use Rattle.std.proofs.lemmas.Slice.Eq.{bytes_eq-Decides}
@@ -8,7 +8,7 @@ use Rattle.std.proofs.lemmas.Bool.{ltb-false}
 use Rattle.std.proofs.lemmas.List.{length-take}
 use Rattle.std.proofs.lemmas.List.Elements.{All-append, All-map, All-weaker, All-get_or, All-cons, All-head, All-tail, All-filter}
 use Rattle.std.proofs.lemmas.Option.{slice_get_within, get_or_from_slice_get}
-use Rattle.limits.specs.declared.TheConstants.{MAX_DEPTH, MAX_BYTES, MAX_REQUESTS, MAX_EMITS}
+use Rattle.limits.specs.declared.TheConstants.{MAX_DEPTH, MAX_BYTES, MAX_REQUESTS}
 use Rattle.syntax.specs.declared.types.Value.{Value}
 use Rattle.syntax.specs.declared.types.Value.TheVariants.{I32, I64}
 use Rattle.syntax.specs.declared.contents.Contents.{Contents}
@@ -20,7 +20,6 @@ use Rattle.imports.specs.declared.call.Call.TheVariants.{Now, TimerInit, IdleIni
 use Rattle.imports.specs.declared.call.Call.TheVariants.{CheckStart, AsyncInit, AsyncSend, IsActive, Close, QueueWork, Cancel, InLen, InCopy, OutSet, Emit}
 use Rattle.imports.specs.declared.entry_point.EntryPoint.TheVariants.{Work}
 use Rattle.imports.specs.Linking.{IsLinked, IsCallable, ExportsFunction}
-use Rattle.order.specs.declared.uv.answers.TheConstants.{NONE_LEFT}
 use Rattle.order.specs.Uv.Bytes.{taken_out}
 use Rattle.order.specs.Work.{WorkOrder}
 use Rattle.phases.specs.declared.stage.CancelState.{CancelState}
@@ -34,10 +33,11 @@ use Rattle.phases.specs.Calls.{Calls}
 use Rattle.phases.specs.declared.entry.Status.{Status}
 use Rattle.phases.specs.declared.entry.Status.TheVariants.{Running, Over, Failed}
 use Rattle.phases.specs.Outside.{handing, next_in, next_order_of}
-use Rattle.phases.specs.Host.{emitted_in, next_work, CancelsAt, Cancels, Opens, QueuesWork, RelatesWork, CallStep, HostStep}
+use Rattle.phases.specs.Host.{next_work, CancelsAt, Cancels, Opens, QueuesWork, RelatesWork, CallStep, HostStep}
 use Rattle.phases.specs.Inner.Ready.{IsSettledIn}
 use Rattle.order.specs.Runnable.{CanRun}
 use Rattle.phases.specs.Inner.Keeping.{IsOrderOf, AreOrdersOf}
+use Rattle.phases.proofs.GuestCallsKeep.{emitted_requests}
 
 decide : {P Q R : Type 0} (b : Bool) → (b ≡ true → P → R) → (b ≡ false → Q → R) → MatchBool b P Q → R
 decide true f g h = f refl h
@@ -93,12 +93,6 @@ module _ {S : Type 0} (calls : Calls S) (g : Setting) (P : Requests → Type 0)
           → RelatesWork calls g old call new R → P old.0.requests → P new.0.requests
       of_work R k h p = subst P (sym (ap (λ s. s.requests) h.4)) (k h.0 h.1 h.2 p)
 
-      emitted : (value : ℕ) → (emitted_in value old.0).1.requests ≡ old.0.requests
-      emitted value =
-          elim (nat_le MAX_EMITS (length old.0.emits)) as
-          (λ b. (cond {A = ℕ × State} b (NONE_LEFT, old.0) (0, record old.0 { emits = old.0.emits ++ value ∷ [] })).1.requests ≡ old.0.requests)
-          [ true ↦ refl | false ↦ refl ]
-
       of_call : (f : Call) (args : List Value) → CallStep calls g old call new f args → P old.0.requests → P new.0.requests
       of_call Now [] h = to_state _ refl (ap (λ p. p.0) h.2)
       of_call TimerInit [] h = to_state _ refl (ap (λ p. p.0) h.4)
@@ -124,7 +118,7 @@ module _ {S : Type 0} (calls : Calls S) (g : Setting) (P : Requests → Type 0)
       of_call InLen [] h = to_state _ refl (ap (λ p. p.0) h.1)
       of_call InCopy (I32 to ∷ I32 from ∷ I32 count ∷ []) h = to_state _ refl (ap (λ p. p.0) h.1)
       of_call OutSet (I32 place ∷ I32 count ∷ []) h = to_state _ refl (ap (λ p. p.0) h.1)
-      of_call Emit (I64 value ∷ []) h = to_state _ (emitted value) (ap (λ p. p.0) h.1)
+      of_call Emit (I64 value ∷ []) h = to_state _ (emitted_requests value old.0) (ap (λ p. p.0) h.1)
       of_call _ _ h = absurd h
 
       pub after_call : HostStep calls g old call new → P old.0.requests → P new.0.requests

@@ -1,9 +1,9 @@
 -- What the steps of a loop make of its guest's calls and of its requests, one call at a time.
 use Rattle.std.proofs.Common.{◌≡◌, ℕ, ◌+◌, ◌<◌, ◌≤◌, ◌==◌, Bool, true, false, cond, not, ◌&&◌, inl, inr, ◌⊎◌, List, [], ◌∷◌, ◌++◌, length, Option, Some, None}
 use Rattle.std.proofs.Common.{refl, sym, ap, subst, ◌∙◌, arith, append_assoc, append-nil, MatchBool, MatchOption}
-use Rattle.std.specs.Prelude.{◌^◌, nat_lt, nat_le, codes}
+use Rattle.std.specs.Prelude.{◌^◌, nat_lt, codes}
 use Rattle.std.proofs.lemmas.Bool.{ne_eqb}
-use Rattle.limits.specs.declared.TheConstants.{MAX_BYTES, MAX_REQUESTS, MAX_EMITS}
+use Rattle.limits.specs.declared.TheConstants.{MAX_BYTES, MAX_REQUESTS}
 use Rattle.syntax.specs.declared.types.Value.{Value}
 use Rattle.syntax.specs.declared.types.Value.TheVariants.{I32, I64}
 use Rattle.handles.specs.declared.handle.Kind.TheVariants as handle_kind
@@ -30,13 +30,14 @@ use Rattle.phases.specs.State.{Setting, State, Loop}
 use Rattle.events.specs.Phases.{may_end, next_phase}
 use Rattle.phases.specs.PhaseList.{exports, is_alive, is_active_handle}
 use Rattle.phases.specs.Calls.{Calls}
-use Rattle.phases.specs.Host.{CallStep, QueuesWork, Opens, next_work, emitted_in, with_roster, with_requests}
+use Rattle.phases.specs.Host.{CallStep, QueuesWork, Opens, next_work, with_roster, with_requests}
 use Rattle.phases.specs.Step.{StepsWith, StepIn, ListStep, EntryStep, NextPhase, RunsFrom, CallsBack, CallsHandle, Skips, TakesFirst, AfterWork, in_state}
 use Rattle.phases.specs.Step.{sharing, begun, entered, now_in, is_as_listed, handle_function}
 use Rattle.phases.specs.Guests.{GuestCall, GuestSteps}
 use Rattle.phases.specs.History.{Event, Stepped, OrderAsked, EndOffered, CancelAnswered, ClockRaised, MovedBeside, EventStep, Offers, History, calls_in, guest_calls}
 use Rattle.phases.specs.Laws.{asks_for, IsCancel}
 use Rattle.phases.specs.Outside.{next_order_of, next_in, handing}
+use Rattle.phases.proofs.GuestCallsKeep.{emitted_requests}
 use Rattle.phases.proofs.CancelFates.{IsBeside, unmoved, sent, took, CancelMoves, wins, leaves, CancelFate, stayed, cancelled, moves_of, fate_in}
 
 -- How one call of a guest went: it changes no request; it opens the next one; or it cancels one.
@@ -88,12 +89,6 @@ module _ {S : Type 0} (calls : Calls S) (g : Setting) where
         (refuse (nat_lt (length memory) (place + count)) OUTSIDE_MEMORY (omega arith)
         (refuse (length old.0.outstanding == MAX_REQUESTS) NO_ROOM (omega arith)
         (refuse (old.0.last == 2147483647) NONE_LEFT (omega arith) last)))) h
-
-  emit_keeps : (value : ℕ) (s : State) → (emitted_in value s).1.requests ≡ s.requests
-  emit_keeps value s = by (nat_le MAX_EMITS (length s.emits)) where
-    by : (b : Bool) → (cond {A = ℕ × State} b (NONE_LEFT, s) (0, record s { emits = s.emits ++ value ∷ [] })).1.requests ≡ s.requests
-    by true = refl
-    by false = refl
 
   -- one call of the guest
   module _ (old : State × S) (call : HostCall) (new : State × S) where
@@ -150,7 +145,7 @@ module _ {S : Type 0} (calls : Calls S) (g : Setting) where
     call_moves InLen [] is h = kept InLen _ refl (λ n. refl) refl h.1
     call_moves InCopy (I32 to ∷ I32 from ∷ I32 count ∷ []) is h = kept InCopy old.0 refl (λ n. refl) refl h.1
     call_moves OutSet (I32 place ∷ I32 count ∷ []) is h = kept OutSet _ refl (λ n. refl) refl h.1
-    call_moves Emit (I64 value ∷ []) is h = kept Emit _ refl (λ n. refl) (emit_keeps value old.0) h.1
+    call_moves Emit (I64 value ∷ []) is h = kept Emit _ refl (λ n. refl) (emitted_requests value old.0) h.1
     call_moves _ _ is h = absurd h
 
     pub call_fate : (f : Call) (args : List Value) → call.args ≡ args → CallStep calls g old call new f args → CallFate g old.0.requests (record { function = f; call = call }) new.0.requests

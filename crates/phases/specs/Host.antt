@@ -37,10 +37,10 @@ abbrev pub emitted_in : (value : ℕ) → State → ℕ × State
 emitted_in value s = if nat_le MAX_EMITS (length s.emits) then (NONE_LEFT, s) else (0, record s { emits = s.emits ++ value ∷ [] })
 
 -- the order that a loop makes of a guest's operation and bytes
-abbrev pub next_work : Setting → Requests → (slot op : ℕ) → List ℕ → WorkOrder
-next_work g rs slot op bytes = record {
+abbrev pub work_of : Setting → (request slot op : ℕ) → List ℕ → WorkOrder
+work_of g request slot op bytes = record {
   loop_no = g.loop_no;
-  request = rs.last + 1;
+  request = request;
   slot = slot;
   loaded = g.loaded;
   op = op;
@@ -48,6 +48,9 @@ next_work g rs slot op bytes = record {
   fuel = g.work_fuel;
   depth = g.depth;
 }
+
+abbrev pub next_work : Setting → Requests → (slot op : ℕ) → List ℕ → WorkOrder
+next_work g rs slot op bytes = work_of g (rs.last + 1) slot op bytes
 
 -- whether a request can be cancelled
 abbrev pub stage_cancel_state : (slot : ℕ) → Stage → CancelState
@@ -86,7 +89,11 @@ module _ {S : Type 0} (calls : Calls S) where
     pub answered : answer ≡ old.0.last + 1
     pub kept : new.0 ≡ with_work old.0 (next_work g old.0 slot op bytes)
 
-  -- Asks for work on the bytes at a place of the memory. Where memory is refused, nothing changes.
+  -- where memory is refused, nothing changes
+  abbrev pub OpensIfRoom : Setting → Requests × S → (op : ℕ) → (bytes : List ℕ) → (answer : ℕ) → Requests × S → Type 0
+  OpensIfRoom g old op bytes answer new = ((answer ≡ NO_MEMORY) × (new ≡ old)) ⊎ Opens g old op bytes answer new
+
+  -- asks for work on the bytes at a place of the memory
   abbrev pub QueuesWork : Setting → (memory : List ℕ) → Requests × S → (op place count answer : ℕ) → Requests × S → Type 0
   QueuesWork g memory old op place count answer new =
       MatchBool (not (exports g.loaded.contents (codes "uv_work") && exports g.loaded.contents (codes "uv_after_work")))
@@ -99,7 +106,7 @@ module _ {S : Type 0} (calls : Calls S) where
       ((answer ≡ NO_ROOM) × (new ≡ old))
       (MatchBool (old.0.last == MAX_REQUEST_NUMBER)
       ((answer ≡ NONE_LEFT) × (new ≡ old))
-      (((answer ≡ NO_MEMORY) × (new ≡ old)) ⊎ Opens g old op (taken_out place count memory) answer new)))))
+      (OpensIfRoom g old op (taken_out place count memory) answer new)))))
 
   -- a send to an async of the loop goes to the shared object
   abbrev pub Sends : Roster → S → (handle answer : ℕ) → S → Type 0

@@ -103,8 +103,8 @@ impl Entries {
     }
 }
 
-// Leaves nothing. What is empty already isn't touched: a phase without entries costs no call.
-fn empty(items: &mut ArrayVec<Entry, MAX_ENTRIES>)
+/// Leaves nothing. What is empty already isn't touched: a phase without entries costs no call.
+pub fn empty<T: Default + Drop, const N: usize>(items: &mut ArrayVec<T, N>)
     ensures { items.new.items ≡ [] }
 {
     if !items.is_empty() {

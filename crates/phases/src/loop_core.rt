@@ -32,14 +32,14 @@ use crate::opening::opened;
 use crate::setting::Setting;
 use crate::shared::{Beside, Shared};
 use events::did::{Hint, StepDid};
-use events::ended::{Ended, Ending};
+use events::ended::Ended;
 use events::phase::EntryKind;
 use events::settings::LoopSettings;
 use handles::Kind;
 use imports::{EntryPoint, Linked};
 use instance::stack::{Stack, Stop};
 use instance::state::State;
-use interp::invoke::invoke_bare;
+use interp::invoke::{invoke_bare, unwritten};
 use order::laws::imports_are_named;
 use order::{Order, Reply};
 use std::alloc::{AllocError, Global};
@@ -139,16 +139,12 @@ impl<B: Shared + Drop> LoopCore<B> {
             state,
             shared,
         };
-        let place = Ended {
-            ending: Ending::Spent,
-            used: 0,
-        };
         Ok(LoopCore {
             linked,
             store,
             stack,
             host,
-            place,
+            place: unwritten(),
         })
     }
 

@@ -1,6 +1,6 @@
 // The state of a loop, and what it answers to its guest.
 
-ghost use Rattle.std.specs.Prelude.{◌≡◌, ◌≢◌, ◌↔◌, ◌≤◌, ◌<◌, ◌+◌, ◌^◌, ◌||◌, if◌then◌else◌, [], Some, None, true, false, length, max, IsTrue, IfOk, IfErr, IfSome, OnOk, option_map};
+ghost use Rattle.std.specs.Prelude.{◌≡◌, ◌↔◌, ◌≤◌, ◌<◌, ◌^◌, ◌||◌, if◌then◌else◌, [], Some, None, true, false, length, max, IsTrue, IfOk, IfErr, IfSome, OnOk, option_map};
 ghost use Rattle.handles.specs.Table.{empty_table};
 ghost use Rattle.instance.specs.Reads.{with_bytes};
 ghost use Rattle.order.specs.Uv.Bytes.{input_length, copied_in};
@@ -71,7 +71,17 @@ impl Model for LoopState {
 
     ghost use Rattle.phases.specs.Fitting.{IsShort};
 
-    ghost view = { λ a. record { roster = a.roster; requests = a.requests; clock = a.clock; now = a.time; phase = a.phase; list = a.entries; reply = option_map (λ v. v.items) a.reply; emits = a.emits.items; status = a.status } };
+    ghost view = { λ a. record {
+      roster = a.roster;
+      requests = a.requests;
+      clock = a.clock;
+      now = a.time;
+      phase = a.phase;
+      list = a.entries;
+      reply = option_map (λ v. v.items) a.reply;
+      emits = a.emits.items;
+      status = a.status;
+    } };
 
     ghost invariant = { λ a. IsShort (option_map (λ v. v.items) a.reply) };
 }

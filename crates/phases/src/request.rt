@@ -1,6 +1,6 @@
 // One outstanding request.
 
-ghost use Rattle.std.specs.Prelude.{◌≡◌, ◌↔◌, [], Some, None, true, false, IsTrue, MatchOption};
+ghost use Rattle.std.specs.Prelude.{◌≡◌, ◌↔◌, [], Some, true, IsTrue, MatchOption};
 ghost use Rattle.phases.specs.Inner.Stage.{completion_in};
 ghost use Rattle.order.specs.Orders.{order_of, end_of};
 ghost use Rattle.phases.specs.Host.{stage_cancel_state};

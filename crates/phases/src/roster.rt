@@ -3,9 +3,11 @@
 ghost use Rattle.std.specs.Prelude.{◌≡◌, ◌≢◌, ◌<◌, ◌≤◌, [], Some, None, true, false, length, map, slice_get, IfOk, IfSome, IfNone, MatchOption, IsSomeAnd, ◌⊎◌, ◌==◌, filter, not};
 ghost use Rattle.std.specs.List.{list_any, position_or_len};
 ghost use Rattle.handles.specs.Table.{empty_table, record_of, IsOpen, IsClosing, after_again, entry, due_list, kind_list, nearest_due};
-ghost use Rattle.phases.specs.Roster.{callback_function, is_callback, is_open, is_open_of, async_number, async_handle, with_handles, with_made, without_handle, is_handle, unless_handle, stopped_in, started_in, again_in, closed_in, active_answer, Makes, MakesAsync};
+ghost use Rattle.phases.specs.Roster.{callback_function, is_callback, is_open, is_open_of, async_number, async_handle, with_handles, with_made, without_handle};
+ghost use Rattle.phases.specs.Roster.{is_handle, unless_handle, stopped_in, started_in, again_in, closed_in, active_answer, Makes, MakesAsync};
 ghost use Rattle.phases.specs.PhaseList.{is_empty, has_active, active_asyncs, is_active_handle};
 ghost use Rattle.phases.specs.Fitting.{has_duty, IsKept};
+ghost use Rattle.phases.specs.Inner.Ready.{IsActiveAsync};
 ghost use Rattle.phases.specs.Step.{is_as_listed, handle_function};
 
 use arrayvec::ArrayVec;
@@ -267,7 +269,7 @@ impl Roster {
     /// The handle of an async, if it is active, and its callback.
     pub fn active_async(&self, async_no: u32) -> Option<(u32, u32)>
         ensures none { IfNone result (is_active_handle self.now.handles (async_handle self.now async_no) ≡ false) }
-        ensures some { IfSome result (λ found. (is_active_handle self.now.handles (Some found.0) ≡ true) × (async_handle self.now async_no ≡ Some found.0) × (handle_function self.now found.0 ≡ Some found.1)) }
+        ensures some { IfSome result (λ found. IsActiveAsync self.now async_no found) }
     {
         let handle = self.async_at(async_no)?;
         let record = self.handles.get(handle)?;

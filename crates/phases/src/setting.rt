@@ -3,6 +3,7 @@
 ghost use Rattle.std.specs.Prelude.{◌≡◌, IfOk};
 ghost use Rattle.std.specs.Arc.{arc_value};
 ghost use Rattle.order.specs.Orders.{order_of};
+ghost use Rattle.phases.specs.Host.{work_of};
 ghost use Rattle.phases.specs.Inner.Setting.{setting_of};
 
 use events::settings::LoopSettings;
@@ -38,7 +39,7 @@ impl Setting {
         op: u32,
         bytes: &[u8],
     ) -> Result<(Order, Order), AllocError>
-        ensures kept { IfOk result (λ made. order_of made.0 ≡ record { loop_no = self.now.loop_no; request = request; slot = slot; loaded = (setting_of self.now).loaded; op = op; bytes = bytes.now; fuel = self.now.settings.work_fuel; depth = self.now.settings.depth }) }
+        ensures kept { IfOk result (λ made. order_of made.0 ≡ work_of (setting_of self.now) request slot op bytes.now) }
         ensures same { IfOk result (λ made. order_of made.1 ≡ order_of made.0) }
     {
         let bytes = Arc::new(alloc, Vec::from_slice(alloc, bytes)?)?;
@@ -54,7 +55,7 @@ impl Setting {
         op: u32,
         bytes: Arc<Vec<u8>, Global>,
     ) -> Result<Order, AllocError>
-        ensures { IfOk result (λ made. order_of made ≡ record { loop_no = self.now.loop_no; request = request; slot = slot; loaded = (setting_of self.now).loaded; op = op; bytes = (arc_value bytes).items; fuel = self.now.settings.work_fuel; depth = self.now.settings.depth }) }
+        ensures { IfOk result (λ made. order_of made ≡ work_of (setting_of self.now) request slot op (arc_value bytes).items) }
     {
         Ok(Order {
             loop_no: self.loop_no,

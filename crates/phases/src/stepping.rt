@@ -14,12 +14,13 @@ ghost use Rattle.phases.specs.PhaseList.{is_active_handle, is_alive, phase_list}
 ghost use Rattle.phases.specs.Bare.{whole};
 ghost use Rattle.phases.specs.Inner.Stage.{completion_in};
 ghost use Rattle.syntax.specs.declared.contents.Contents.{Contents};
-ghost use Rattle.phases.specs.Inner.Ready.{AreReady};
+ghost use Rattle.phases.specs.Inner.Ready.{AreReady, IsActiveAsync};
 ghost use Rattle.phases.specs.Requests.{request_of, without_request, is_settled, completion_of};
 ghost use Rattle.phases.specs.Roster.{async_handle, with_handles, without_handle};
 ghost use Rattle.phases.specs.Step.{turn, in_phase, now_in, moment_in, begun, finished, returns, is_as_listed, handle_function};
 
 use crate::did::BareDid;
+use crate::entries::empty;
 use crate::entry::{Entry, Status};
 use crate::loop_state::LoopState;
 use crate::stage::Completion;
@@ -127,7 +128,7 @@ impl LoopState {
     /// The handle of an async, if it is active, and its callback.
     pub fn active_async(&self, async_no: u32) -> Option<(u32, u32)>
         ensures none { IfNone result (is_active_handle self.now.roster.handles (async_handle self.now.roster async_no) ≡ false) }
-        ensures some { IfSome result (λ found. (is_active_handle self.now.roster.handles (Some found.0) ≡ true) × (async_handle self.now.roster async_no ≡ Some found.0) × (handle_function self.now.roster found.0 ≡ Some found.1)) }
+        ensures some { IfSome result (λ found. IsActiveAsync self.now.roster async_no found) }
     {
         self.roster.active_async(async_no)
     }
@@ -157,9 +158,7 @@ impl LoopState {
         ensures { self.new ≡ begun self.old (option_map (λ v. v.items) reply) }
     {
         self.reply = reply;
-        if !self.emits.is_empty() {
-            self.emits.clear();
-        }
+        empty(&mut self.emits);
     }
 
     /// A callback has ended. Where it did not return, the loop has failed.

@@ -1,8 +1,8 @@
 // The requests of a loop, and what it shares with other threads.
 
-ghost use Rattle.std.specs.Prelude.{◌≡◌, ◌<◌, ◌+◌, ◌^◌, ◌⊎◌, length};
+ghost use Rattle.std.specs.Prelude.{◌≡◌, ◌<◌, ◌+◌, ◌^◌, length};
 ghost use Rattle.imports.specs.Uv.{name_of_entry};
-ghost use Rattle.phases.specs.Host.{Sends, QueuesWork, Opens};
+ghost use Rattle.phases.specs.Host.{Sends, QueuesWork, OpensIfRoom};
 ghost use Rattle.phases.specs.PhaseList.{exports};
 ghost use Rattle.phases.specs.Inner.Setting.{setting_of};
 ghost use Rattle.phases.specs.View.{AreOpenedUpTo};
@@ -89,7 +89,7 @@ fn open<B: Shared>(
     requires opened { AreOpenedUpTo requests.old.last (B.calls.view shared.old) }
     requires room { length requests.old.outstanding < MAX_REQUESTS }
     requires numbers { requests.old.last + 1 < 2 ^ 31 }
-    ensures { ((result ≡ NO_MEMORY) × (requests.new ≡ requests.old) × (shared.new ≡ shared.old)) ⊎ Opens B.calls (setting_of setting.now) (requests.old, shared.old) op bytes.now result (requests.new, shared.new) }
+    ensures { OpensIfRoom B.calls (setting_of setting.now) (requests.old, shared.old) op bytes.now result (requests.new, shared.new) }
 {
     let request = requests.last() + 1;
     let slot = requests.free_slot();

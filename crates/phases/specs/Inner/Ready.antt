@@ -6,10 +6,11 @@ use Rattle.syntax.specs.declared.contents.Contents.{Contents}
 use Rattle.handles.specs.Table.{IsClosing}
 use Rattle.phases.specs.declared.entry.Entry.{Entry}
 use Rattle.phases.specs.declared.entry.Entry.TheVariants as entry
-use Rattle.phases.specs.PhaseList.{exports}
+use Rattle.phases.specs.PhaseList.{exports, is_active_handle}
 use Rattle.phases.specs.Requests.{Requests, request_of, is_settled}
-use Rattle.phases.specs.Roster.{async_handle}
+use Rattle.phases.specs.Roster.{Roster, async_handle}
 use Rattle.phases.specs.State.{State}
+use Rattle.phases.specs.Step.{handle_function}
 
 -- the request is outstanding, and answered or cancelled
 abbrev pub IsSettledIn : Requests → ℕ → Type 0
@@ -34,6 +35,11 @@ Spares _ _ = Unit {0}
 -- each entry spares all behind it
 abbrev pub AreApart : List Entry → Type 0
 AreApart entries = AllPairs Spares entries
+
+-- an async is active, its handle and its callback are these
+abbrev pub IsActiveAsync : Roster → (async_no : ℕ) → (found : ℕ × ℕ) → Type 0
+IsActiveAsync r async_no found =
+    (is_active_handle r.handles (Some found.0) ≡ true) × (async_handle r async_no ≡ Some found.0) × (handle_function r found.0 ≡ Some found.1)
 
 -- what is left of the list of a loop of this module is ready
 pub record AreReady (m : Contents) (s : State) : Type 0 where

@@ -12,17 +12,20 @@ queue_work-answer-requires g c =
 pub returns-in-TimerInit-clause-replies : goal.returns-in-TimerInit-clause-replies
 returns-in-TimerInit-clause-replies g c =
     let none = no_arguments c.args.args.now (rw c.in-TimerInit.is at c.requires.typed) in
-    rw (c.in-TimerInit.is, none, ← c.state-in-TimerInit.view_is) (λ import. (c.init-answer.result, c.init-answer.new.self, c.init-answer.ensures, (refl, refl), refl))
+    rw (c.in-TimerInit.is, none, ← c.state-in-TimerInit.view_is)
+    (λ import. (c.init-answer.result, c.init-answer.new.self, c.init-answer.ensures, (refl, refl), refl))
 
 pub returns-in-IdleInit-clause-replies : goal.returns-in-IdleInit-clause-replies
 returns-in-IdleInit-clause-replies g c =
     let none = no_arguments c.args.args.now (rw c.in-IdleInit.is at c.requires.typed) in
-    rw (c.in-IdleInit.is, none, ← c.state-in-IdleInit.view_is) (λ import. (c.init-answer-in-IdleInit.result, c.init-answer-in-IdleInit.new.self, c.init-answer-in-IdleInit.ensures, (refl, refl), refl))
+    rw (c.in-IdleInit.is, none, ← c.state-in-IdleInit.view_is)
+    (λ import. (c.init-answer-in-IdleInit.result, c.init-answer-in-IdleInit.new.self, c.init-answer-in-IdleInit.ensures, (refl, refl), refl))
 
 pub returns-in-CheckInit-clause-replies : goal.returns-in-CheckInit-clause-replies
 returns-in-CheckInit-clause-replies g c =
     let none = no_arguments c.args.args.now (rw c.in-CheckInit.is at c.requires.typed) in
-    rw (c.in-CheckInit.is, none, ← c.state-in-CheckInit.view_is) (λ import. (c.init-answer-in-CheckInit.result, c.init-answer-in-CheckInit.new.self, c.init-answer-in-CheckInit.ensures, (refl, refl), refl))
+    rw (c.in-CheckInit.is, none, ← c.state-in-CheckInit.view_is)
+    (λ import. (c.init-answer-in-CheckInit.result, c.init-answer-in-CheckInit.new.self, c.init-answer-in-CheckInit.ensures, (refl, refl), refl))
 
 pub returns-in-AsyncInit-clause-replies : goal.returns-in-AsyncInit-clause-replies
 returns-in-AsyncInit-clause-replies g c =

@@ -1,4 +1,4 @@
-use Rattle.std.proofs.Common.{sym, ap, ◌∙◌}
+use Rattle.std.proofs.Common.{Bool, sym, ap, ◌∙◌}
 use Rattle.std.specs.List.{list_any}
 use Rattle.std.proofs.lemmas.List.{take_all}
 use Rattle.phases.specs.Requests.{Request, is_settled}
@@ -6,13 +6,22 @@ use Rattle.phases.proofs.FrontSearches.{any_here, any_passed}
 use Rattle.phases.proofs.RequestsRise.{any_filtered}
 use Rattle.phases.proofs.requests.any_settled.Goals as goal
 
+abbrev settles : Request → Bool
+settles r = is_settled r.stage
+
 pub loop-item-preserved : goal.loop-item-preserved
 loop-item-preserved c =
-    any_passed (λ (r : Request). is_settled r.stage) c.args.items.now c.loop-item.item-index c.item-item.result c.loop-item-test.true c.item-item.is c.loop-item.invariant (sym c.is_settled.ensures ∙ c.if-is_settled.false)
+    any_passed settles c.args.items.now c.loop-item.item-index c.item-item.result c.loop-item-test.true c.item-item.is c.loop-item.invariant
+    (sym c.is_settled.ensures ∙ c.if-is_settled.false)
 
 pub returns-then-is_settled : goal.returns-then-is_settled
 returns-then-is_settled c =
-    sym (any_filtered (λ (r : Request). is_settled r.stage) c.args.items.now ∙ any_here (λ (r : Request). is_settled r.stage) c.args.items.now c.loop-item.item-index c.item-item.result c.loop-item-test.true c.item-item.is c.loop-item.invariant (sym c.is_settled.ensures ∙ c.if-is_settled.true))
+    let here =
+    any_here settles c.args.items.now c.loop-item.item-index c.item-item.result c.loop-item-test.true c.item-item.is c.loop-item.invariant
+    (sym c.is_settled.ensures ∙ c.if-is_settled.true) in
+    sym (any_filtered settles c.args.items.now ∙ here)
 
 pub returns : goal.returns
-returns c = sym (any_filtered (λ (r : Request). is_settled r.stage) c.args.items.now ∙ ap (list_any (λ (r : Request). is_settled r.stage)) (sym (take_all c.loop-item.item-index c.args.items.now c.loop-item-test.false)) ∙ c.loop-item.invariant)
+returns c =
+    let all = ap (list_any settles) (sym (take_all c.loop-item.item-index c.args.items.now c.loop-item-test.false)) in
+    sym (any_filtered settles c.args.items.now ∙ all ∙ c.loop-item.invariant)

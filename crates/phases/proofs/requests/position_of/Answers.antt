@@ -14,4 +14,5 @@ returns-then-number-clause-some c =
 
 pub loop-at-preserved : goal.loop-at-preserved
 loop-at-preserved c =
-    passed (has_number c.args.number) c.args.items.now c.loop-at.at c.index-items-at.result c.loop-at-test.true c.index-items-at.is c.loop-at.invariant (ne_eqb _ _ (λ same. c.if-number.false (c.number.ensures ∙ same)))
+    passed (has_number c.args.number) c.args.items.now c.loop-at.at c.index-items-at.result c.loop-at-test.true c.index-items-at.is c.loop-at.invariant
+    (ne_eqb _ _ (λ same. c.if-number.false (c.number.ensures ∙ same)))

@@ -14,11 +14,14 @@ is_here handle (Some x) h = sym h
 
 pub returns-then-eq-clause-value : goal.returns-then-eq-clause-value
 returns-then-eq-clause-value c =
-    sym (position_or_len_is (is_handle c.args.handle) c.args.asyncs.now c.loop-number.number None (omega arith) c.loop-number.invariant (λ within. is_here c.args.handle (get_or c.args.asyncs.now c.loop-number.number None) c.if-eq.ensures))
+    sym (position_or_len_is (is_handle c.args.handle) c.args.asyncs.now c.loop-number.number None (omega arith) c.loop-number.invariant
+    (λ within. is_here c.args.handle (get_or c.args.asyncs.now c.loop-number.number None) c.if-eq.ensures))
 
 pub unreachable-requires : goal.unreachable-requires
 unreachable-requires c =
-    let all : All (λ x. is_handle c.args.handle x ≡ false) c.args.asyncs.now = All-from_get_or (λ x. is_handle c.args.handle x ≡ false) c.args.asyncs.now None (λ i within. c.loop-number.invariant i (let end = c.loop-number-test.false in omega arith)) in
+    let all : All (λ x. is_handle c.args.handle x ≡ false) c.args.asyncs.now =
+    All-from_get_or (λ x. is_handle c.args.handle x ≡ false) c.args.asyncs.now None
+    (λ i within. c.loop-number.invariant i (let end = c.loop-number-test.false in omega arith)) in
     let none : list_any (is_handle c.args.handle) c.args.asyncs.now ≡ false = list_any_none (is_handle c.args.handle) c.args.asyncs.now all in
     let some = c.requires.there in
     cc

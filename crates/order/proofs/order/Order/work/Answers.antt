@@ -5,7 +5,7 @@ use Rattle.imports.specs.Uv.{type_of_entry}
 use Rattle.validate.specs.Typing.{type_of_function}
 use Rattle.std.proofs.Common.{Some}
 use Rattle.std.specs.Arc.{arc_value}
-use Rattle.order.proofs.NewInstance.{has_type}
+use Rattle.order.proofs.FunctionTypes.{has_type}
 use Rattle.order.proofs.order.Order.work.Goals as goal
 
 pub returns-clause-results : goal.returns-clause-results

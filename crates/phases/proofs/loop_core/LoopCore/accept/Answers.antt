@@ -18,7 +18,11 @@ invariant_of-self-inside g c =
     let o = order_of c.args.reply.order in
     let end = end_of c.args.reply.outcome in
     let taken : State = with_requests s (answered s.requests o end) in
-    ((by_reply (λ (u : State). AreOpenedUpTo u.requests.last (g.B.Shared.calls.view c.self.inside.host.shared)) _ _ c.accept.result taken s c.accept.new.self c.self.inside.host.opened c.self.inside.host.opened c.accept.ensures.answered c.accept.ensures.refused, tt), (c.self.inside.stopped, tt))
+    let upto = c.self.inside.host.opened in
+    let still =
+    by_reply (λ (u : State). AreOpenedUpTo u.requests.last (g.B.Shared.calls.view c.self.inside.host.shared)) _ _ c.accept.result taken s
+    c.accept.new.self upto upto c.accept.ensures.answered c.accept.ensures.refused in
+    ((still, tt), (c.self.inside.stopped, tt))
 
 pub invariant_of-self : goal.invariant_of-self
 invariant_of-self g c =

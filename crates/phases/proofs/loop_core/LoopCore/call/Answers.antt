@@ -7,24 +7,29 @@ use Rattle.imports.specs.Linking.{IsLinked}
 use Rattle.phases.specs.Inner.Keeping.{Keeps}
 use Rattle.phases.specs.Inner.Setting.{setting_of}
 use Rattle.phases.specs.State.{Setting, State, Loop}
-use Rattle.phases.specs.View.{AreOpenedUpTo}
-use Rattle.phases.proofs.LoopsKeep.{names_of, runs_from, kept_after, same_setting}
+use Rattle.phases.proofs.LoopsKeep.{still_upto, names_of, runs_from, kept_after, same_setting}
 use Rattle.phases.proofs.StopsOfCallbacks.{stops_at}
 use Rattle.phases.proofs.loop_core.LoopCore.call.Goals as goal
 
 pub invariant_of-self-inside : goal.invariant_of-self-inside
-invariant_of-self-inside g c = (subst (λ (s : State). AreOpenedUpTo s.requests.last (g.B.Shared.calls.view c.self.inside.host.shared)) (sym c.begin_callback.ensures) c.self.inside.host.opened, tt)
+invariant_of-self-inside g c = (still_upto g.B.Shared.calls c.self.inside.host.shared _ _ c.begin_callback.ensures c.self.inside.host.opened, tt)
 
 pub invoke_bare-ended-requires-clause-names : goal.invoke_bare-ended-requires-clause-names
 invoke_bare-ended-requires-clause-names g c =
-    names_of c.valid-valid.result.now c.deref.result.now (arc_value c.self.inside.linked) (arc_value c.self.inside.host.setting.linked) (c.valid-valid.ensures.same ∙ c.deref-2.ensures ∙ sym c.deref.ensures) c.deref.ensures c.self.invariant.same
+    let is = c.valid-valid.ensures.same ∙ c.deref-2.ensures ∙ sym c.deref.ensures in
+    names_of c.valid-valid.result.now c.deref.result.now (arc_value c.self.inside.linked) (arc_value c.self.inside.host.setting.linked) is
+    c.deref.ensures c.self.invariant.same
     c.imports_are_named.ensures
 
 pub invariant_of-self-inside-2 : goal.invariant_of-self-inside-2
 invariant_of-self-inside-2 g c =
     let is = c.valid-valid.ensures.same ∙ c.deref-2.ensures ∙ c.self.invariant.same in
-    let stopped = stops_at g.B.Shared.calls (λ h. setting_of h.setting) (λ h. (h.state, h.shared)) c.valid-valid.result.now (setting_of c.self.inside.host.setting) is _ c.invoke_bare-ended.new.host refl c.self.inside.store c.invoke_bare-ended.new.state c.args.function c.args.args.now (whole c.invoke_bare-ended.result) c.invoke_bare-ended.new.stack c.invoke_bare-ended.ensures.stops in
-    ((subst (λ (s : State). AreOpenedUpTo s.requests.last (g.B.Shared.calls.view c.invoke_bare-ended.new.host.shared)) (sym c.end_callback.ensures) c.invoke_bare-ended.new.host.opened, tt), (stopped, tt))
+    let stopped =
+    stops_at g.B.Shared.calls (λ h. setting_of h.setting) (λ h. (h.state, h.shared)) c.valid-valid.result.now (setting_of c.self.inside.host.setting) is
+    _ c.invoke_bare-ended.new.host refl c.self.inside.store c.invoke_bare-ended.new.state c.args.function c.args.args.now
+    (whole c.invoke_bare-ended.result) c.invoke_bare-ended.new.stack c.invoke_bare-ended.ensures.stops in
+    let upto = still_upto g.B.Shared.calls c.invoke_bare-ended.new.host.shared _ _ c.end_callback.ensures c.invoke_bare-ended.new.host.opened in
+    ((upto, tt), (stopped, tt))
 
 pub invariant_of-self : goal.invariant_of-self
 invariant_of-self g c =
@@ -33,9 +38,15 @@ invariant_of-self g c =
     let begins = ap (λ (s : State). (s, c.self.inside.host.shared)) c.begin_callback.ensures in
     let is = c.valid-valid.ensures.same ∙ c.deref-2.ensures in
     let old : Loop _ = record { state = c.self.inside.host.state; store = c.self.inside.store; shared = c.self.inside.host.shared } in
-    let kept = kept_after g.B.Shared.calls (λ h. setting_of h.setting) (λ h. (h.state, h.shared)) (arc_value c.self.inside.linked) c.valid-valid.result.now is set old c.self.invariant _ c.invoke_bare-ended.new.host refl reply begins c.invoke_bare-ended.new.state c.args.function c.args.args.now (whole c.invoke_bare-ended.result) c.invoke_bare-ended.ensures.runs
+    let kept =
+    kept_after g.B.Shared.calls (λ h. setting_of h.setting) (λ h. (h.state, h.shared)) (arc_value c.self.inside.linked) c.valid-valid.result.now is set old
+    c.self.invariant _ c.invoke_bare-ended.new.host refl reply begins c.invoke_bare-ended.new.state c.args.function c.args.args.now
+    (whole c.invoke_bare-ended.result) c.invoke_bare-ended.ensures.runs
     (subst (λ (x : Loaded). IsLinked x.contents) (sym c.valid-valid.ensures.same) c.valid-valid.ensures.linked) c.invoke_bare-ended.ensures.kept c.end_callback.new.self c.end_callback.ensures in
-    let same = same_setting g.B.Shared.calls (λ h. setting_of h.setting) (λ h. (h.state, h.shared)) (arc_value c.self.inside.linked) c.valid-valid.result.now is set old c.self.invariant _ c.invoke_bare-ended.new.host refl reply begins c.invoke_bare-ended.new.state c.args.function c.args.args.now (whole c.invoke_bare-ended.result) c.invoke_bare-ended.ensures.runs in
+    let same =
+    same_setting g.B.Shared.calls (λ h. setting_of h.setting) (λ h. (h.state, h.shared)) (arc_value c.self.inside.linked) c.valid-valid.result.now is set old
+    c.self.invariant _ c.invoke_bare-ended.new.host refl reply begins c.invoke_bare-ended.new.state c.args.function c.args.args.now
+    (whole c.invoke_bare-ended.result) c.invoke_bare-ended.ensures.runs in
     subst (λ (x : Setting). Keeps (arc_value c.self.inside.linked) x c.end_callback.new.self c.invoke_bare-ended.new.state) (sym same) kept
 
 pub returns-clause-run : goal.returns-clause-run
@@ -45,7 +56,10 @@ returns-clause-run g c =
     let begins = ap (λ (s : State). (s, c.self.inside.host.shared)) c.begin_callback.ensures in
     let is = c.valid-valid.ensures.same ∙ c.deref-2.ensures in
     let old : Loop _ = record { state = c.self.inside.host.state; store = c.self.inside.store; shared = c.self.inside.host.shared } in
-    rw (← c.self.view_is) (runs_from g.B.Shared.calls (λ h. setting_of h.setting) (λ h. (h.state, h.shared)) (arc_value c.self.inside.linked) c.valid-valid.result.now is set old c.self.invariant _ c.invoke_bare-ended.new.host refl reply begins c.invoke_bare-ended.new.state c.args.function c.args.args.now (whole c.invoke_bare-ended.result) c.invoke_bare-ended.ensures.runs c.args.kind c.args.number c.end_callback.new.self c.end_callback.ensures)
+    rw (← c.self.view_is)
+    (runs_from g.B.Shared.calls (λ h. setting_of h.setting) (λ h. (h.state, h.shared)) (arc_value c.self.inside.linked) c.valid-valid.result.now is set old
+    c.self.invariant _ c.invoke_bare-ended.new.host refl reply begins c.invoke_bare-ended.new.state c.args.function c.args.args.now
+    (whole c.invoke_bare-ended.result) c.invoke_bare-ended.ensures.runs c.args.kind c.args.number c.end_callback.new.self c.end_callback.ensures)
 
 pub returns-clause-setting : goal.returns-clause-setting
 returns-clause-setting g c =
@@ -54,4 +68,7 @@ returns-clause-setting g c =
     let begins = ap (λ (s : State). (s, c.self.inside.host.shared)) c.begin_callback.ensures in
     let is = c.valid-valid.ensures.same ∙ c.deref-2.ensures in
     let old : Loop _ = record { state = c.self.inside.host.state; store = c.self.inside.store; shared = c.self.inside.host.shared } in
-    rw (← c.self.view_is) (same_setting g.B.Shared.calls (λ h. setting_of h.setting) (λ h. (h.state, h.shared)) (arc_value c.self.inside.linked) c.valid-valid.result.now is set old c.self.invariant _ c.invoke_bare-ended.new.host refl reply begins c.invoke_bare-ended.new.state c.args.function c.args.args.now (whole c.invoke_bare-ended.result) c.invoke_bare-ended.ensures.runs)
+    rw (← c.self.view_is)
+    (same_setting g.B.Shared.calls (λ h. setting_of h.setting) (λ h. (h.state, h.shared)) (arc_value c.self.inside.linked) c.valid-valid.result.now is set old
+    c.self.invariant _ c.invoke_bare-ended.new.host refl reply begins c.invoke_bare-ended.new.state c.args.function c.args.args.now
+    (whole c.invoke_bare-ended.result) c.invoke_bare-ended.ensures.runs)

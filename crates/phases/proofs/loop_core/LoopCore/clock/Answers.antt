@@ -4,13 +4,14 @@ use Rattle.phases.specs.Inner.Keeping.{Keeps}
 use Rattle.phases.specs.Outside.{after_clock}
 use Rattle.phases.specs.Inner.Setting.{setting_of}
 use Rattle.phases.specs.State.{State}
-use Rattle.phases.specs.View.{AreOpenedUpTo}
-use Rattle.phases.proofs.LoopsKeep.{kept_on}
+use Rattle.phases.proofs.LoopsKeep.{still_upto, kept_on}
 use Rattle.phases.proofs.OwnerCallsKeepListed.{grows_clock}
 use Rattle.phases.proofs.loop_core.LoopCore.clock.Goals as goal
 
 pub invariant_of-self-inside : goal.invariant_of-self-inside
-invariant_of-self-inside g c = ((subst (λ (s : State). AreOpenedUpTo s.requests.last (g.B.Shared.calls.view c.self.inside.host.shared)) (sym c.raise.ensures.state) c.self.inside.host.opened, tt), (c.self.inside.stopped, tt))
+invariant_of-self-inside g c =
+    let upto = still_upto g.B.Shared.calls c.self.inside.host.shared _ _ c.raise.ensures.state c.self.inside.host.opened in
+    ((upto, tt), (c.self.inside.stopped, tt))
 
 pub invariant_of-self : goal.invariant_of-self
 invariant_of-self g c =

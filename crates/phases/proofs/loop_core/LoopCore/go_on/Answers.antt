@@ -10,14 +10,16 @@ use Rattle.phases.specs.State.{State, Loop}
 use Rattle.phases.specs.Step.{ListStep, EntryStep}
 use Rattle.phases.specs.declared.entry.Entry.{Entry}
 use Rattle.phases.specs.View.{AreOpenedUpTo}
-use Rattle.phases.proofs.LoopsKeep.{kept_with, turn_leaves, front_of, no_front}
+use Rattle.phases.proofs.LoopsKeep.{still_upto, kept_with, turn_leaves, front_of, no_front}
 use Rattle.phases.proofs.ListedStaysReady.{ready_front, ready_rest, spared_rest}
 use Rattle.phases.proofs.loop_core.LoopCore.go_on.Goals as goal
 
 pub invariant_of-self-inside : goal.invariant_of-self-inside
 invariant_of-self-inside g c =
     let requests = ap (λ (s : State). s.requests) c.turn.ensures.state ∙ (turn_leaves c.self.inside.host.state).1 in
-    ((subst (λ (rs : Requests). AreOpenedUpTo rs.last (g.B.Shared.calls.view c.self.inside.host.shared)) (sym requests) c.self.inside.host.opened, tt), (c.self.inside.stopped, tt))
+    let upto =
+    subst (λ (rs : Requests). AreOpenedUpTo rs.last (g.B.Shared.calls.view c.self.inside.host.shared)) (sym requests) c.self.inside.host.opened in
+    ((upto, tt), (c.self.inside.stopped, tt))
 
 pub invariant_of-self : goal.invariant_of-self
 invariant_of-self g c =
@@ -31,7 +33,9 @@ invariant_of-self g c =
     (subst (AreOrdersOf set) (sym requests) c.self.invariant.orders)
 
 pub invariant_of-self-inside-2 : goal.invariant_of-self-inside-2
-invariant_of-self-inside-2 g c = ((subst (λ (s : State). AreOpenedUpTo s.requests.last (g.B.Shared.calls.view c.self.inside.host.shared)) (sym c.pop.ensures) c.self.inside.host.opened, tt), (c.self.inside.stopped, tt))
+invariant_of-self-inside-2 g c =
+    let upto = still_upto g.B.Shared.calls c.self.inside.host.shared _ _ c.pop.ensures c.self.inside.host.opened in
+    ((upto, tt), (c.self.inside.stopped, tt))
 
 pub invariant_of-self-2 : goal.invariant_of-self-2
 invariant_of-self-2 g c =
@@ -64,11 +68,13 @@ returns-clause-step g c =
     let s = c.self.inside.host.state in
     let is = front_of s.list c.in-Some.entry (sym c.front.ensures ∙ c.in-Some.is) in
     let set = setting_of c.self.inside.host.setting in
+    let over : State → Loop _ = λ u. record { state = u; store = c.self.inside.store; shared = c.self.inside.host.shared } in
+    let did = whole c.run.result in
     let made = c.run.ensures.step.0 in (
       made,
-      subst (λ now. ListStep g.B.Shared.calls now.setting now.loop now.loop.state.list (whole c.run.result) made c.run.new.self.loop) c.self.view_is
-          (subst (λ (list : List Entry). ListStep g.B.Shared.calls set (record { state = s; store = c.self.inside.store; shared = c.self.inside.host.shared }) list (whole c.run.result) made c.run.new.self.loop) (sym is)
-          (subst (λ (u : State). EntryStep g.B.Shared.calls set (record { state = u; store = c.self.inside.store; shared = c.self.inside.host.shared }) c.in-Some.entry (whole c.run.result) made c.run.new.self.loop) c.pop.ensures c.run.ensures.step.1)),
+      subst (λ now. ListStep g.B.Shared.calls now.setting now.loop now.loop.state.list did made c.run.new.self.loop) c.self.view_is
+          (subst (λ (list : List Entry). ListStep g.B.Shared.calls set (over s) list did made c.run.new.self.loop) (sym is)
+          (subst (λ (u : State). EntryStep g.B.Shared.calls set (over u) c.in-Some.entry did made c.run.new.self.loop) c.pop.ensures c.run.ensures.step.1)),
     )
 
 pub returns-in_default-clause-step : goal.returns-in_default-clause-step
@@ -79,5 +85,6 @@ returns-in_default-clause-step g c =
     let over : State → Loop _ = λ u. record { state = u; store = c.self.inside.store; shared = c.self.inside.host.shared } in (
       [],
       subst (λ now. ListStep g.B.Shared.calls now.setting now.loop now.loop.state.list (whole c.turn.result) [] (over c.turn.new.self)) c.self.view_is
-          (subst (λ (list : List Entry). ListStep g.B.Shared.calls set (over s) list (whole c.turn.result) [] (over c.turn.new.self)) (sym empty) (c.turn.ensures.did, ap over c.turn.ensures.state, refl)),
+          (subst (λ (list : List Entry). ListStep g.B.Shared.calls set (over s) list (whole c.turn.result) [] (over c.turn.new.self)) (sym empty)
+          (c.turn.ensures.did, ap over c.turn.ensures.state, refl)),
     )

@@ -12,7 +12,11 @@ use Rattle.phases.proofs.LoopsKeep.{handle_takes, handle_bare, active_step, none
 use Rattle.phases.proofs.loop_core.LoopCore.run_async.Goals as goal
 
 pub invariant_of-self-inside : goal.invariant_of-self-inside
-invariant_of-self-inside g c = ((taken_upto g.B.Shared.calls g.met.B.Shared.lawful c.self.inside.host.state.requests.last c.self.inside.host.shared c.take.new.self c.args.async_no c.take.result c.take.ensures c.self.inside.host.opened, tt), (c.self.inside.stopped, tt))
+invariant_of-self-inside g c =
+    let upto =
+    taken_upto g.B.Shared.calls g.met.B.Shared.lawful c.self.inside.host.state.requests.last c.self.inside.host.shared c.take.new.self
+    c.args.async_no c.take.result c.take.ensures c.self.inside.host.opened in
+    ((upto, tt), (c.self.inside.stopped, tt))
 
 pub returns-then-take-eq0-clause-step : goal.returns-then-take-eq0-clause-step
 returns-then-take-eq0-clause-step g c =
@@ -25,15 +29,20 @@ returns-then-take-eq0-clause-step g c =
     let same = same_some (async_handle s.roster c.args.async_no) c.in-Some-active_async.field-0-0 handle c.in-Some-active_async.ensures.some.1 is in
     let active = subst (λ n. is_active_handle s.roster.handles (Some n) ≡ true) same c.in-Some-active_async.ensures.some.0 in (
       [],
-      rw (← c.self.view_is) (active_step (async_handle s.roster c.args.async_no) handle (λ h. is_active_handle s.roster.handles (Some h)) (λ h. TakesFirst g.B.Shared.calls set old c.args.async_no h _ [] new) (λ h. Skips g.B.Shared.calls set old Async h _ [] new) is active
+      rw (← c.self.view_is) (active_step (async_handle s.roster c.args.async_no) handle (λ h. is_active_handle s.roster.handles (Some h))
+          (λ h. TakesFirst g.B.Shared.calls set old c.args.async_no h _ [] new) (λ h. Skips g.B.Shared.calls set old Async h _ [] new) is active
           (c.take.result, c.take.new.self, c.take.ensures, none_taken c.take.result _ _ c.if-take-eq0.true (refl, refl, refl))),
     )
 
 pub call_handle-requires-clause-callback : goal.call_handle-requires-clause-callback
-call_handle-requires-clause-callback g c = handle_takes _ c.in-Some-active_async.function c.in-Some.handle c.self.inside.host.state.roster c.in-Some-active_async.field-0-0 c.self.invariant.callbacks c.in-Some-active_async.ensures.some.2
+call_handle-requires-clause-callback g c =
+    handle_takes _ c.in-Some-active_async.function c.in-Some.handle c.self.inside.host.state.roster c.in-Some-active_async.field-0-0
+    c.self.invariant.callbacks c.in-Some-active_async.ensures.some.2
 
 pub call_handle-requires-clause-bare : goal.call_handle-requires-clause-bare
-call_handle-requires-clause-bare g c = handle_bare _ c.in-Some-active_async.function c.in-Some.handle c.self.inside.host.state.roster c.in-Some-active_async.field-0-0 c.self.invariant.callbacks c.in-Some-active_async.ensures.some.2
+call_handle-requires-clause-bare g c =
+    handle_bare _ c.in-Some-active_async.function c.in-Some.handle c.self.inside.host.state.roster c.in-Some-active_async.field-0-0
+    c.self.invariant.callbacks c.in-Some-active_async.ensures.some.2
 
 pub returns-clause-step : goal.returns-clause-step
 returns-clause-step g c =
@@ -45,10 +54,15 @@ returns-clause-step g c =
     let same = same_some (async_handle s.roster c.args.async_no) c.in-Some-active_async.field-0-0 handle c.in-Some-active_async.ensures.some.1 is in
     let active = subst (λ n. is_active_handle s.roster.handles (Some n) ≡ true) same c.in-Some-active_async.ensures.some.0 in
     let function = subst (λ n. handle_function s.roster n ≡ Some c.in-Some-active_async.function) same c.in-Some-active_async.ensures.some.2 in
+    let did = whole c.call_handle.result in
     let made = c.call_handle.ensures.run.0 in
-    let run : CallsHandle g.B.Shared.calls set (sharing old c.take.new.self) s.roster Async handle (whole c.call_handle.result) made c.call_handle.new.self.loop =
-    called (handle_function s.roster handle) c.in-Some-active_async.function (λ f. RunsFrom g.B.Shared.calls set (sharing old c.take.new.self) Async handle f (I32 handle ∷ []) None (whole c.call_handle.result) made c.call_handle.new.self.loop) function c.call_handle.ensures.run.1 in (
+    let new = c.call_handle.new.self.loop in
+    let run : CallsHandle g.B.Shared.calls set (sharing old c.take.new.self) s.roster Async handle did made new =
+    called (handle_function s.roster handle) c.in-Some-active_async.function
+    (λ f. RunsFrom g.B.Shared.calls set (sharing old c.take.new.self) Async handle f (I32 handle ∷ []) None did made new)
+    function c.call_handle.ensures.run.1 in (
       made,
-      rw (← c.self.view_is) (active_step (async_handle s.roster c.args.async_no) handle (λ h. is_active_handle s.roster.handles (Some h)) (λ h. TakesFirst g.B.Shared.calls set old c.args.async_no h (whole c.call_handle.result) made c.call_handle.new.self.loop) (λ h. Skips g.B.Shared.calls set old Async h (whole c.call_handle.result) made c.call_handle.new.self.loop) is active
+      rw (← c.self.view_is) (active_step (async_handle s.roster c.args.async_no) handle (λ h. is_active_handle s.roster.handles (Some h))
+          (λ h. TakesFirst g.B.Shared.calls set old c.args.async_no h did made new) (λ h. Skips g.B.Shared.calls set old Async h did made new) is active
           (c.take.result, c.take.new.self, c.take.ensures, some_taken c.take.result _ _ c.if-take-eq0.false run)),
     )

@@ -11,7 +11,8 @@ use Rattle.phases.proofs.loop_core.LoopCore.run_main.Goals as goal
 
 pub unreachable-requires : goal.unreachable-requires
 unreachable-requires g c =
-    not_missing c.deref.result.now (arc_value c.self.inside.linked) (setting_of c.self.inside.host.setting) c.deref.ensures c.self.invariant.same (name_of_entry Main) c.entry.result c.entry.ensures.found c.in_default.is
+    not_missing c.deref.result.now (arc_value c.self.inside.linked) (setting_of c.self.inside.host.setting) c.deref.ensures c.self.invariant.same
+    (name_of_entry Main) c.entry.result c.entry.ensures.found c.in_default.is
     (rw (← c.self.view_is) at c.requires.ready)
 
 pub call-requires-clause-takes : goal.call-requires-clause-takes

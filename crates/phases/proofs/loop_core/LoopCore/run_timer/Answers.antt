@@ -13,7 +13,10 @@ use Rattle.phases.proofs.ListedStaysReady.{grows_again}
 use Rattle.phases.proofs.loop_core.LoopCore.run_timer.Goals as goal
 
 pub invariant_of-self-inside : goal.invariant_of-self-inside
-invariant_of-self-inside g c = ((subst (λ (rs : Requests). AreOpenedUpTo rs.last (g.B.Shared.calls.view c.self.inside.host.shared)) (sym c.fire.ensures.requests) c.self.inside.host.opened, tt), (c.self.inside.stopped, tt))
+invariant_of-self-inside g c =
+    let calls = g.B.Shared.calls in
+    let upto = subst (λ (rs : Requests). AreOpenedUpTo rs.last (calls.view c.self.inside.host.shared)) (sym c.fire.ensures.requests) c.self.inside.host.opened in
+    ((upto, tt), (c.self.inside.stopped, tt))
 
 pub invariant_of-self : goal.invariant_of-self
 invariant_of-self g c =

@@ -7,4 +7,9 @@ pub invariant_of-self-inside : goal.invariant_of-self-inside
 invariant_of-self-inside g c =
     let old = g.B.Shared.calls.view c.self.inside.host.shared in
     let new = g.B.Shared.calls.view c.sent.new.self in
-    ((upto_view g.B.Shared.calls g.met.B.Shared.lawful c.self.inside.host.state.requests.last old new (ap (λ (v : View). v.opened) (g.met.B.Beside.beside.gets c.self.inside.host.shared c.sent.new.self c.args.async_no c.sent.result c.sent.ensures)) c.self.inside.host.opened, tt), (c.self.inside.stopped, tt))
+    let same =
+    ap (λ (v : View). v.opened)
+    (g.met.B.Beside.beside.gets c.self.inside.host.shared c.sent.new.self c.args.async_no c.sent.result c.sent.ensures) in
+    let last = c.self.inside.host.state.requests.last in
+    let upto = upto_view g.B.Shared.calls g.met.B.Shared.lawful last old new same c.self.inside.host.opened in
+    ((upto, tt), (c.self.inside.stopped, tt))

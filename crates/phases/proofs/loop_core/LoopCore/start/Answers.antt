@@ -7,4 +7,9 @@ pub invariant_of-self-inside : goal.invariant_of-self-inside
 invariant_of-self-inside g c =
     let old = g.B.Shared.calls.view c.self.inside.host.shared in
     let new = g.B.Shared.calls.view c.start.new.self in
-    ((upto_view g.B.Shared.calls g.met.B.Shared.lawful c.self.inside.host.state.requests.last old new (ap (λ (v : View). v.opened) (g.met.B.Beside.beside.starts c.self.inside.host.shared c.start.new.self c.args.slot c.args.request c.start.result c.start.ensures)) c.self.inside.host.opened, tt), (c.self.inside.stopped, tt))
+    let same =
+    ap (λ (v : View). v.opened)
+    (g.met.B.Beside.beside.starts c.self.inside.host.shared c.start.new.self c.args.slot c.args.request c.start.result c.start.ensures) in
+    let last = c.self.inside.host.state.requests.last in
+    let upto = upto_view g.B.Shared.calls g.met.B.Shared.lawful last old new same c.self.inside.host.opened in
+    ((upto, tt), (c.self.inside.stopped, tt))

@@ -1,11 +1,13 @@
 use Rattle.std.proofs.Common.{refl}
-use Rattle.std.specs.Option.{option_map}
 use Rattle.phases.specs.State.{State}
+use Rattle.phases.specs.contracts.loop_state.LoopState.{the_view}
 use Rattle.phases.specs.Host.{with_requests}
 use Rattle.phases.proofs.LoopsKeep.{cancel_unfailed}
 use Rattle.phases.proofs.loop_state.LoopState.cancel.Goals as goal
 
 pub returns-in-Running : goal.returns-in-Running
 returns-in-Running g c =
-    let s : State = record { roster = c.self.inside.roster; requests = c.self.inside.requests; clock = c.self.inside.clock; now = c.self.inside.time; phase = c.self.inside.phase; list = c.self.inside.entries; reply = option_map (λ v. v.items) c.self.inside.reply; emits = c.self.inside.emits.items; status = c.self.inside.status } in
-    rw (← c.self.view_is) (cancel_unfailed g.B.Shared.calls s.status (s, c.args.shared.now) (with_requests s c.cancel.new.self, c.cancel.new.shared) c.args.number c.cancel.result c.in-Running.is (c.cancel.new.self, c.cancel.ensures, refl))
+    let s : State = the_view c.self.inside in
+    rw (← c.self.view_is)
+    (cancel_unfailed g.B.Shared.calls s.status (s, c.args.shared.now) (with_requests s c.cancel.new.self, c.cancel.new.shared)
+    c.args.number c.cancel.result c.in-Running.is (c.cancel.new.self, c.cancel.ensures, refl))

@@ -1,8 +1,8 @@
 use Rattle.std.proofs.Common.{sym, subst, ap, ◌∙◌}
-use Rattle.std.specs.Option.{option_map}
 use Rattle.phases.specs.Host.{with_requests}
 use Rattle.phases.specs.Inner.Ready.{Grows}
 use Rattle.phases.specs.State.{State}
+use Rattle.phases.specs.contracts.loop_state.LoopState.{the_view}
 use Rattle.phases.proofs.LoopsKeep.{next_unfailed}
 use Rattle.phases.proofs.Lowest.{lowest_next}
 use Rattle.phases.proofs.OwnerCallsKeepListed.{grows_next}
@@ -10,7 +10,7 @@ use Rattle.phases.proofs.loop_state.LoopState.next_order.Goals as goal
 
 pub returns-in-Running : goal.returns-in-Running
 returns-in-Running c =
-    let s : State = record { roster = c.self.inside.roster; requests = c.self.inside.requests; clock = c.self.inside.clock; now = c.self.inside.time; phase = c.self.inside.phase; list = c.self.inside.entries; reply = option_map (λ v. v.items) c.self.inside.reply; emits = c.self.inside.emits.items; status = c.self.inside.status } in
+    let s : State = the_view c.self.inside in
     let next = next_unfailed s c.in-Running.is in
     let state = ap (with_requests s) c.next.ensures.requests ∙ sym (ap (λ p. p.1) next) in
     rw (← c.self.view_is) (record {

@@ -13,9 +13,11 @@ use Rattle.phases.specs.Requests.{in_stage, is_settled}
 use Rattle.order.specs.Orders.{order_of, end_of}
 use Rattle.phases.specs.Outside.{IsOneOf}
 
-there : (c : goal.After-self-2-1) → Staged c.self.inside.items.items c.self.inside.last (has_number c.args.reply.order.request) c.in-Some.at c.index_mut-item.result.now c.answer.new.self (Answered (end_of c.args.reply.outcome))
+there : (c : goal.After-self-2-1) → Staged c.self.inside.items.items c.self.inside.last (has_number c.args.reply.order.request) c.in-Some.at
+    c.index_mut-item.result.now c.answer.new.self (Answered (end_of c.args.reply.outcome))
 there c =
-    staged_there c.self.inside.items.items c.self.inside.last c.self.invariant.0 (has_number c.args.reply.order.request) c.as_slice.result.now c.in-Some.at c.index_mut-item.result.now c.answer.new.self (Answered (end_of c.args.reply.outcome))
+    staged_there c.self.inside.items.items c.self.inside.last c.self.invariant.0 (has_number c.args.reply.order.request) c.as_slice.result.now
+    c.in-Some.at c.index_mut-item.result.now c.answer.new.self (Answered (end_of c.args.reply.outcome))
     c.as_slice.ensures.value c.in-Some.ensures.some c.index_mut-item.ensures.value (rw c.into_outcome.ensures at c.answer.ensures) (rw (is_it c) c.args.reply.computed) where
       is_it : (c : goal.After-self-2-1) → c.index_mut-item.result.now.order ≡ order_of c.args.reply.order
       is_it c = c.if-not-is_for.ensures.0 refl
@@ -37,7 +39,9 @@ returns-clause-answered c =
     (ap (λ (ys : List Request). let rs : Requests = record { outstanding = ys; last = c.self.inside.last } in rs)
     ((there c).changed ∙ ap (λ n. map (in_stage n (Answered (end_of c.args.reply.outcome))) c.self.inside.items.items) (eqb-true _ _ (there c).passes)))
 
-put_back : (c : goal.Joined-then-is_settled) → (inside : Inside) → inside ≡ record { items = with_item c.self.inside.items c.in-Some.at c.index_mut-item.result.now; last = c.self.inside.last } → the_view inside ≡ c.args.self.now
+put_back : (c : goal.Joined-then-is_settled) → (inside : Inside)
+    → inside ≡ record { items = with_item c.self.inside.items c.in-Some.at c.index_mut-item.result.now; last = c.self.inside.last }
+    → the_view inside ≡ c.args.self.now
 put_back c inside is =
     rw is
     (ap (λ (ys : List Request). let rs : Requests = record { outstanding = ys; last = c.self.inside.last } in rs)
@@ -46,7 +50,9 @@ put_back c inside is =
 
 the_one : (c : goal.Joined-then-is_settled) → (one : IsOneOf (order_of c.args.reply.order) c.args.self.now) → one.request ≡ c.index_mut-item.result.now
 the_one c one =
-    let place = same_item (has_number c.args.reply.order.request) c.self.inside.items.items c.as_slice.result.now c.in-Some.at c.index_mut-item.result.now c.as_slice.ensures.value c.in-Some.ensures.some c.index_mut-item.ensures.value in
+    let place =
+    same_item (has_number c.args.reply.order.request) c.self.inside.items.items c.as_slice.result.now c.in-Some.at c.index_mut-item.result.now
+    c.as_slice.ensures.value c.in-Some.ensures.some c.index_mut-item.ensures.value in
     let other : find (has_number c.args.reply.order.request) c.self.inside.items.items ≡ Some one.request = rw (← c.self.view_is) at one.outstanding in
     cc
 

@@ -9,19 +9,21 @@ use Rattle.order.specs.declared.order.Order.{Order}
 use Rattle.order.specs.Work.{WorkOrder}
 use Rattle.order.specs.Orders.{order_of}
 
-test : Request → Bool
+abbrev test : Request → Bool
 test r = is_open_stage r.stage
 
-found_at : (c : goal.After-index_mut-item) → (slice_get c.self.inside.items.items c.in_ok-at.at ≡ Some c.index_mut-item.result.now) × (find (λ r. is_open_stage r.stage) c.self.inside.items.items ≡ Some c.index_mut-item.result.now)
+found_at : (c : goal.After-index_mut-item) → (slice_get c.self.inside.items.items c.in_ok-at.at ≡ Some c.index_mut-item.result.now)
+    × (find test c.self.inside.items.items ≡ Some c.index_mut-item.result.now)
 found_at c =
-    same_item (λ r. is_open_stage r.stage) c.self.inside.items.items c.as_slice.result.now c.in_ok-at.at c.index_mut-item.result.now c.as_slice.ensures.value c.in_ok-at.ensures.some c.index_mut-item.ensures.value
+    same_item test c.self.inside.items.items c.as_slice.result.now c.in_ok-at.at c.index_mut-item.result.now
+    c.as_slice.ensures.value c.in_ok-at.ensures.some c.index_mut-item.ensures.value
 
 pub hand_out-requires : goal.hand_out-requires
-hand_out-requires c = found_passes (λ r. is_open_stage r.stage) c.self.inside.items.items c.index_mut-item.result.now (found_at c).1
+hand_out-requires c = found_passes test c.self.inside.items.items c.index_mut-item.result.now (found_at c).1
 
-there : (c : goal.After-self-1) → Staged c.self.inside.items.items c.self.inside.last (λ r. is_open_stage r.stage) c.in_ok-at.at c.index_mut-item.result.now c.hand_out.new.self HandedOut
+there : (c : goal.After-self-1) → Staged c.self.inside.items.items c.self.inside.last test c.in_ok-at.at c.index_mut-item.result.now c.hand_out.new.self HandedOut
 there c =
-    staged_there c.self.inside.items.items c.self.inside.last c.self.invariant.0 (λ r. is_open_stage r.stage) c.as_slice.result.now c.in_ok-at.at c.index_mut-item.result.now c.hand_out.new.self HandedOut
+    staged_there c.self.inside.items.items c.self.inside.last c.self.invariant.0 test c.as_slice.result.now c.in_ok-at.at c.index_mut-item.result.now c.hand_out.new.self HandedOut
     c.as_slice.ensures.value c.in_ok-at.ensures.some c.index_mut-item.ensures.value c.hand_out.ensures.request tt
 
 pub invariant_of-self : goal.invariant_of-self

@@ -6,7 +6,9 @@ use Rattle.phases.proofs.RosterKeeps.{kept_close, closing_room}
 use Rattle.phases.proofs.roster.Roster.close.Goals as goal
 
 pub push-requires : goal.push-requires
-push-requires c = (omega arith, closing_room (the_view c.self.inside) c.args.handle c.self.invariant (subst (λ (r : Roster). IsOpen r.handles c.args.handle) (sym c.self.view_is) (c.is_open.ensures.«open» c.if-not-is_open.false)))
+push-requires c =
+    let there = subst (λ (r : Roster). IsOpen r.handles c.args.handle) (sym c.self.view_is) (c.is_open.ensures.«open» c.if-not-is_open.false) in
+    (omega arith, closing_room (the_view c.self.inside) c.args.handle c.self.invariant there)
 
 pub invariant_of-self : goal.invariant_of-self
 invariant_of-self c =

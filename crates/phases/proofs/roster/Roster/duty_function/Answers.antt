@@ -9,7 +9,8 @@ unreachable-requires c =
     let r = c.args.record.now in
     let there = subst (λ (it : Roster). record_of it.handles c.args.handle ≡ Some r) (sym c.self.view_is) c.requires.there in
     let good : is_some (callback_function c.self.inside.callbacks.items r.callback) ≡ true = c.self.invariant.callbacks c.args.handle r there c.requires.duty in
-    let none : callback_function c.self.inside.callbacks.items r.callback ≡ None = ap (λ cs. callback_function cs r.callback) (sym c.as_slice.ensures.value) ∙ sym c.function_at.ensures ∙ c.in_default.is in
+    let none : callback_function c.self.inside.callbacks.items r.callback ≡ None =
+    ap (λ cs. callback_function cs r.callback) (sym c.as_slice.ensures.value) ∙ sym c.function_at.ensures ∙ c.in_default.is in
     let bad : is_some (callback_function c.self.inside.callbacks.items r.callback) ≡ false = ap is_some none in
     cc
 

@@ -12,5 +12,6 @@ start-requires c = rw c.in-Some.ensures.added (made_async_open c.self.inside.han
 pub invariant_of-self-2 : goal.invariant_of-self-2
 invariant_of-self-2 c =
     rw (c.start.ensures, c.push.ensures.items, c.in-Some.ensures.added)
-    (kept_async (the_view c.self.inside) c.in-Some.handle c.args.callback c.self.invariant c.in-Some.ensures.free (λ (full : finite.len c.self.inside.handles.records ≡ MAX_HANDLES). let bad = c.in-Some.ensures.full.1 full in cc)
+    (kept_async (the_view c.self.inside) c.in-Some.handle c.args.callback c.self.invariant c.in-Some.ensures.free
+    (λ (full : finite.len c.self.inside.handles.records ≡ MAX_HANDLES). let bad = c.in-Some.ensures.full.1 full in cc)
     (subst (λ (r : Roster). is_callback r c.args.callback ≡ true) (sym c.self.view_is) (sym c.is_callback.ensures ∙ c.if-not-is_callback.false)))

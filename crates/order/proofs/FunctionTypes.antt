@@ -1,4 +1,4 @@
--- A new instance, and the functions that are called on it.
+-- The types of a module's functions.
 use Rattle.std.proofs.Common.{◌≡◌, ℕ, Option, Some, None, refl}
 use Rattle.std.specs.List.{slice_get}
 use Rattle.std.specs.Option.{option_and_then}

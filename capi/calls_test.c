@@ -469,7 +469,37 @@ static void warns(void) {
     }
 }
 
-/* a job's start is told to its loop; where a failed loop stopped; sentences and names */
+/* where a failed loop stopped */
+static void stops(void) {
+    wasmloop_handle module = module_of("countdown.wasm"), loop = WASMLOOP_HANDLE_INIT;
+    wasmloop_limits few = usual;
+    wasmloop_site sites[4];
+    uint64_t count = 7;
+    /* three units reach the fourth operation; functions are counted without the four imports */
+    few.fuel = 3;
+    IS(wasmloop_loop(&module, &few, &loop), WASMLOOP_OK);
+    IS(wasmloop_drop(&module), WASMLOOP_OK);
+    run_to(&loop, 99);
+    memset(sites, 0x55, sizeof sites);
+    IS(wasmloop_stop(&loop, sites, 4, &count), WASMLOOP_OK);
+    IS(count, 1);
+    IS(sites[0].function, 2);
+    IS(sites[0].operation, 3);
+    IS(sites[1].function == 0x5555555555555555, 1);
+    IS(wasmloop_drop(&loop), WASMLOOP_OK);
+    loop = loop_of("endless.wasm");
+    run_to(&loop, 99);
+    memset(sites, 0x55, sizeof sites);
+    IS(wasmloop_stop(&loop, sites, 4, &count), WASMLOOP_OK);
+    IS(count, usual.depth);
+    for (int i = 0; i < 4; i++) IS(sites[i].function == 0 && sites[i].operation == 0, 1);
+    IS(wasmloop_stop(&loop, NULL, 4, &count), WASMLOOP_NULL);
+    IS(wasmloop_stop(&loop, sites, SIZE_MAX, &count), WASMLOOP_RANGE);
+    IS(wasmloop_drop(&loop), WASMLOOP_OK);
+    IS(wasmloop_stop(&loop, sites, 4, &count), WASMLOOP_EMPTY);
+}
+
+/* a job's start is told to its loop; sentences and names */
 static void tells(void) {
     wasmloop_handle loop = loop_of("digest.wasm"), job = WASMLOOP_HANDLE_INIT, none = WASMLOOP_HANDLE_INIT;
     wasmloop_about about;
@@ -499,14 +529,6 @@ static void tells(void) {
     IS(wasmloop_job_start(&loop, &job), WASMLOOP_STRANGER);
     IS(wasmloop_drop(&job), WASMLOOP_OK);
     IS(wasmloop_drop(&loop), WASMLOOP_OK);
-    loop = loop_of("endless.wasm");
-    run_to(&loop, 99);
-    IS(wasmloop_stop(&loop, sites, 4, &count), WASMLOOP_OK);
-    IS(count >= 1, 1);
-    IS(wasmloop_stop(&loop, NULL, 4, &count), WASMLOOP_NULL);
-    IS(wasmloop_stop(&loop, sites, SIZE_MAX, &count), WASMLOOP_RANGE);
-    IS(wasmloop_drop(&loop), WASMLOOP_OK);
-    IS(wasmloop_stop(&loop, sites, 4, &count), WASMLOOP_EMPTY);
     IS(wasmloop_explain((const uint8_t *)"asm", 3, text, sizeof text, &count), WASMLOOP_OK);
     IS(count > 10 && count < sizeof text && memcmp(text, "byte ", 5) == 0, 1);
     memset(text, 'x', sizeof text);
@@ -535,6 +557,7 @@ int main(int argc, char **argv) {
     emits_and_clocks();
     threads();
     works();
+    stops();
     tells();
     warns();
     if (failed) printf("%u of %u checks fail\n", failed, checks);

@@ -59,8 +59,13 @@ returns-clause-asked g c = λ type known.
       typed = subst (λ (o : Option FuncType). Answers o answer) named c.call-answer.ensures.typed;
       small = c.lay_answer-results.ensures.small;
       same = c.call-answer.ensures.kept ∙ ap (λ (xs : List ℕ). length xs) before;
-      moved = subst (λ (vs : List Value). g.H.Host.moves c.args.host.now (record { function = c.args.import; args = vs; before = c.args.state.now.memory; answer = answer; after = c.call-answer.new.memory.bytes }) c.call-answer.new.self) read
-          (subst (λ (xs : List ℕ). g.H.Host.moves c.args.host.now (record { function = c.args.import; args = c.new-args.result; before = xs; answer = answer; after = c.call-answer.new.memory.bytes }) c.call-answer.new.self) before c.call-answer.ensures.moved);
+      moved = subst
+          (λ (vs : List Value). g.H.Host.moves c.args.host.now
+          (record { function = c.args.import; args = vs; before = c.args.state.now.memory; answer = answer; after = c.call-answer.new.memory.bytes }) c.call-answer.new.self) read
+          (subst
+          (λ (xs : List ℕ). g.H.Host.moves c.args.host.now
+          (record { function = c.args.import; args = c.new-args.result; before = xs; answer = answer; after = c.call-answer.new.memory.bytes }) c.call-answer.new.self)
+          before c.call-answer.ensures.moved);
       at_is = λ i. record { function = c.args.at.now.function; pc = c.args.at.now.pc + 1; sp = sp i; base = c.args.at.now.base; depth = c.args.at.now.depth };
       slots_are = c.lay_answer-results.ensures.laid ∙ ap (λ (n : ℕ). laid answer (height - n) slots) count;
       store_is = λ i. record { globals = c.args.state.now.globals; table = c.args.state.now.table; memory = c.call-answer.new.memory.bytes; limit = limit i };

@@ -1,6 +1,5 @@
 pub mod AtDesk
 pub mod NumberedLists
-pub mod Ends
 pub mod Promised
 pub mod OneEventMore
 pub mod Seats

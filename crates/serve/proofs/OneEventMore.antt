@@ -34,15 +34,16 @@ use Rattle.pool.specs.declared.seats.Seats.{Seats}
 use Rattle.serve.specs.declared.served.LoopEnding.{LoopEnding}
 use Rattle.serve.specs.Histories.{HasDone, HasEnded, HasServed, EndsBy, thread_calls, is_callback, callbacks_in, IsByThread, AreByThread}
 
-push : (g : Setting) (events : List Event) (e : Event) (start old new : Loop Seats) → History thread_calls g start events old → EventStep thread_calls g e old new → History thread_calls g start (events ++ e ∷ []) new
-push g [] e start old new h step = (new, subst (λ l. EventStep thread_calls g e l new) h step, refl)
-push g (x ∷ events) e start old new h step = (h.0, h.1, push g events e h.0 old new h.2 step)
+module _ (g : Setting) (old new : Loop Seats) (e : Event) (step : EventStep thread_calls g e old new) where
+  push : (events : List Event) (start : Loop Seats) → History thread_calls g start events old → History thread_calls g start (events ++ e ∷ []) new
+  push [] start h = (new, subst (λ l. EventStep thread_calls g e l new) h step, refl)
+  push (x ∷ events) start h = (h.0, h.1, push events h.0 h.2)
 
-push_own : (g : Setting) (events : List Event) (e : Event) (start old new : Loop Seats) (h : History thread_calls g start events old) (step : EventStep thread_calls g e old new)
-    → AreByThread thread_calls g start events old h → IsByThread e old.state → AreByThread thread_calls g start (events ++ e ∷ []) new (push g events e start old new h step)
-unfolding push
-push_own g [] e start old new h step all own = (subst (λ l. IsByThread e l.state) h own, tt)
-push_own g (x ∷ events) e start old new h step all own = (all.0, push_own g events e h.0 old new h.2 step all.1 own)
+  push_own : (events : List Event) (start : Loop Seats) (h : History thread_calls g start events old) → AreByThread thread_calls g start events old h
+      → IsByThread e old.state → AreByThread thread_calls g start (events ++ e ∷ []) new (push events start h)
+  unfolding push
+  push_own [] start h all own = (subst (λ l. IsByThread e l.state) h own, tt)
+  push_own (x ∷ events) start h all own = (all.0, push_own events h.0 h.2 all.1 own)
 
 emitted_push : (events : List Event) (e : Event) → emitted (events ++ e ∷ []) ≡ emitted events ++ emits_in e
 emitted_push [] e = append-nil (emits_in e)
@@ -57,64 +58,69 @@ Does g l ran emits = ∥ HasDone thread_calls g l ran emits ∥₁
 pub does_nothing : (g : Setting) (l : Loop Seats) (emits : List ℕ) → emits ≡ [] → IsOpening thread_calls g l → Does g l 0 emits
 does_nothing g l emits none opens = ∣ record { start = l; opens = opens; events = []; history = refl; own = tt; counted = refl; told = none } ∣₁
 
-does_more : (g g' : Setting) (l m : Loop Seats) (ran ran' : ℕ) (emits emits' : List ℕ) (e : Event) → g' ≡ g → EventStep thread_calls g e l m → IsByThread e l.state
-    → ran' ≡ ran + cond (is_callback e) 1 0 → emits' ≡ emits ++ emits_in e → Does g l ran emits → Does g' m ran' emits'
-does_more g g' l m ran ran' emits emits' e same step own count more was = subst (λ x. Does x m ran' emits') (sym same) (∥∥₁_map was one) where
-  one : HasDone thread_calls g l ran emits → HasDone thread_calls g m ran' emits'
-  one h = record {
-    start = h.start;
-    opens = h.opens;
-    events = h.events ++ e ∷ [];
-    history = push g h.events e h.start l m h.history step;
-    own = push_own g h.events e h.start l m h.history step h.own own;
-    counted = count ∙ ap (λ n. n + cond (is_callback e) 1 0) h.counted ∙ sym (callbacks_push h.events e);
-    told = more ∙ ap (λ xs. xs ++ emits_in e) h.told ∙ sym (emitted_push h.events e);
-  }
+-- a step that runs no callback
+abbrev pub RunsNone : StepDid → Type 0
+RunsNone d = (kind : EntryKind) (number : ℕ) (ended : Ended) → d ≢ did.Ran kind number ended
 
--- an event that is no callback
-does_quiet : (g g' : Setting) (l m : Loop Seats) (ran : ℕ) (emits emits' : List ℕ) (e : Event) → is_callback e ≡ false → emits_in e ≡ [] → g' ≡ g → EventStep thread_calls g e l m → IsByThread e l.state
-    → emits' ≡ emits → Does g l ran emits → Does g' m ran emits'
-does_quiet g g' l m ran emits emits' e quiet none same step own kept was =
-    does_more g g' l m ran ran emits emits' e same step own (sym (add-zero ran) ∙ ap (λ b. ran + cond b 1 0) (sym quiet)) (kept ∙ sym (append-nil emits) ∙ ap (λ xs. emits ++ xs) (sym none)) was
-
--- a step that runs a callback
-pub does_run : (g g' : Setting) (l m : Loop Seats) (ran ran' : ℕ) (emits emits' : List ℕ) (kind : EntryKind) (number : ℕ) (ended : Ended) (told : StepDid) → told ≡ did.Ran kind number ended → g' ≡ g
-    → LoopStep thread_calls g l told m → ran' ≡ ran + 1 → emits' ≡ emits ++ m.state.emits → Does g l ran emits → Does g' m ran' emits'
-does_run g g' l m ran ran' emits emits' kind number ended told is same step count more was =
-    let ran_it : LoopStep thread_calls g l (did.Ran kind number ended) m = subst (λ d. LoopStep thread_calls g l d m) is step in
-    does_more g g' l m ran ran' emits emits' (Stepped (did.Ran kind number ended) m.state.emits ran_it.0) same (ran_it.1, refl) tt count more was
-
--- a step that runs none, as it is told
-pub tells_other : (d : BareDid) → ((kind : EntryKind) (number : ℕ) (ended : BareEnded) → d ≢ bare.Ran kind number ended) → (kind : EntryKind) (number : ℕ) (ended : Ended) → whole d ≢ did.Ran kind number ended
+-- as it is told
+pub tells_other : (d : BareDid) → ((kind : EntryKind) (number : ℕ) (ended : BareEnded) → d ≢ bare.Ran kind number ended) → RunsNone (whole d)
 tells_other (bare.Ran of at end) not kind number ended is = absurd (not of at end refl)
 tells_other (bare.Entered phase now) not kind number ended is = absurd (cc)
 tells_other (bare.Skipped of other) not kind number ended is = absurd (cc)
 tells_other bare.Over not kind number ended is = absurd (cc)
 tells_other bare.Failed not kind number ended is = absurd (cc)
 
--- a step that runs none
-pub does_other : (g g' : Setting) (l m : Loop Seats) (ran : ℕ) (emits emits' : List ℕ) (told : StepDid) → g' ≡ g → LoopStep thread_calls g l told m
-    → emits' ≡ emits → ((kind : EntryKind) (number : ℕ) (ended : Ended) → told ≢ did.Ran kind number ended) → Does g l ran emits → Does g' m ran emits'
-does_other g g' l m ran emits emits' told same step kept other was =
-    let it = quiet told step.0 other in
-    does_quiet g g' l m ran emits emits' (Stepped told m.state.emits step.0) it.0 it.1 same (step.1, refl) tt kept was where
-      quiet : (d : StepDid) (made : List GuestCall) → ((kind : EntryKind) (number : ℕ) (ended : Ended) → d ≢ did.Ran kind number ended)
-          → (is_callback (Stepped d m.state.emits made) ≡ false) × (emits_in (Stepped d m.state.emits made) ≡ [])
-      quiet (did.Ran kind number ended) made not = absurd (not kind number ended refl)
-      quiet (did.Entered phase now) made not = (refl, refl)
-      quiet (did.Skipped kind number) made not = (refl, refl)
-      quiet did.Over made not = (refl, refl)
-      quiet did.Failed made not = (refl, refl)
+-- what was done, and one event more, of a loop whose setting stays
+module _ {g g' : Setting} {l m : Loop Seats} {ran : ℕ} {emits : List ℕ} (same : g' ≡ g) (was : Does g l ran emits) where
+  does_more : (ran' : ℕ) (emits' : List ℕ) (e : Event) → EventStep thread_calls g e l m → IsByThread e l.state
+      → ran' ≡ ran + cond (is_callback e) 1 0 → emits' ≡ emits ++ emits_in e → Does g' m ran' emits'
+  does_more ran' emits' e step own count more = subst (λ x. Does x m ran' emits') (sym same) (∥∥₁_map was one) where
+    one : HasDone thread_calls g l ran emits → HasDone thread_calls g m ran' emits'
+    one h = record {
+      start = h.start;
+      opens = h.opens;
+      events = h.events ++ e ∷ [];
+      history = push g l m e step h.events h.start h.history;
+      own = push_own g l m e step h.events h.start h.history h.own own;
+      counted = count ∙ ap (λ n. n + cond (is_callback e) 1 0) h.counted ∙ sym (callbacks_push h.events e);
+      told = more ∙ ap (λ xs. xs ++ emits_in e) h.told ∙ sym (emitted_push h.events e);
+    }
 
-pub does_order : (g g' : Setting) (l m : Loop Seats) (ran : ℕ) (emits emits' : List ℕ) → g' ≡ g → m ≡ record l { state = (next_order_of l.state).1 } → emits' ≡ emits → Does g l ran emits → Does g' m ran emits'
-does_order g g' l m ran emits emits' same is kept was =
-    does_quiet g g' l m ran emits emits' (OrderAsked (next_order_of l.state).0) refl refl same (refl, is) tt kept was
+  -- an event that is no callback
+  does_quiet : (emits' : List ℕ) (e : Event) → is_callback e ≡ false → emits_in e ≡ [] → EventStep thread_calls g e l m → IsByThread e l.state
+      → emits' ≡ emits → Does g' m ran emits'
+  does_quiet emits' e quiet none step own kept =
+      let count : ran ≡ ran + cond (is_callback e) 1 0 = sym (add-zero ran) ∙ ap (λ b. ran + cond b 1 0) (sym quiet) in
+      does_more ran emits' e step own count (kept ∙ sym (append-nil emits) ∙ ap (λ xs. emits ++ xs) (sym none))
 
-pub does_accept : (g g' : Setting) (l m : Loop Seats) (ran : ℕ) (emits emits' : List ℕ) (reply : Reply) (a : Accepted) → g' ≡ g → Accepts reply l a m → emits' ≡ emits → Does g l ran emits → Does g' m ran emits'
-does_accept g g' l m ran emits emits' reply accepted.Accepted same h kept was =
-    does_quiet g g' l m ran emits emits' (EndOffered (order_of reply.order) (end_of reply.outcome) true) refl refl same (reply.computed, (h.0, h.1)) tt kept was
-does_accept g g' l m ran emits emits' reply (accepted.Stranger other) same h kept was =
-    does_quiet g g' l m ran emits emits' (EndOffered (order_of reply.order) (end_of reply.outcome) false) refl refl same (reply.computed, (h.2, h.1)) tt kept was
+  -- a step that runs a callback
+  pub does_run : (emits' : List ℕ) (kind : EntryKind) (number : ℕ) (ended : Ended) (told : StepDid) → told ≡ did.Ran kind number ended
+      → LoopStep thread_calls g l told m → emits' ≡ emits ++ m.state.emits → Does g' m (ran + 1) emits'
+  does_run emits' kind number ended told is step more =
+      let ran_it : LoopStep thread_calls g l (did.Ran kind number ended) m = subst (λ d. LoopStep thread_calls g l d m) is step in
+      does_more (ran + 1) emits' (Stepped (did.Ran kind number ended) m.state.emits ran_it.0) (ran_it.1, refl) tt refl more
+
+  -- a step that runs none
+  pub does_other : (emits' : List ℕ) (told : StepDid) → LoopStep thread_calls g l told m → emits' ≡ emits → RunsNone told → Does g' m ran emits'
+  does_other emits' told step kept none =
+      let it = quiet told step.0 none in
+      does_quiet emits' (Stepped told m.state.emits step.0) it.0 it.1 (step.1, refl) tt kept where
+        quiet : (d : StepDid) (made : List GuestCall) → RunsNone d
+            → (is_callback (Stepped d m.state.emits made) ≡ false) × (emits_in (Stepped d m.state.emits made) ≡ [])
+        quiet (did.Ran kind number ended) made none = absurd (none kind number ended refl)
+        quiet (did.Entered phase now) made none = (refl, refl)
+        quiet (did.Skipped kind number) made none = (refl, refl)
+        quiet did.Over made none = (refl, refl)
+        quiet did.Failed made none = (refl, refl)
+
+  pub does_order : m ≡ record l { state = (next_order_of l.state).1 } → Does g' m ran emits
+  does_order is = does_quiet emits (OrderAsked (next_order_of l.state).0) refl refl (refl, is) tt refl
+
+  pub does_accept : (reply : Reply) (a : Accepted) → Accepts reply l a m → Does g' m ran emits
+  does_accept reply accepted.Accepted h =
+      does_quiet emits (EndOffered (order_of reply.order) (end_of reply.outcome) true) refl refl (reply.computed, (h.0, h.1)) tt refl
+  does_accept reply (accepted.Stranger other) h =
+      does_quiet emits (EndOffered (order_of reply.order) (end_of reply.outcome) false) refl refl (reply.computed, (h.2, h.1)) tt refl
 
 -- to raise the clock to 0 is to read it
 clock_read : (s : Status) (n : ℕ) → clock_in s n 0 ≡ n
@@ -123,25 +129,29 @@ clock_read status.Running n = omega arith
 clock_read status.Over n = omega arith
 
 -- the clock is read, and raised by how long the loop has nothing to do
-pub does_wait : (g g' g'' : Setting) (l mid m : Loop Seats) (ran : ℕ) (emits : List ℕ) (d clock ms : ℕ) → g' ≡ g → g'' ≡ g'
-    → mid ≡ record l { state = after_clock l.state 0 } → clock ≡ mid.state.clock → ms ≡ saturated (clock + d) → m ≡ record mid { state = after_clock mid.state ms }
-    → l.state.requests.outstanding ≡ [] → hint_of l.state ≡ For d → Does g l ran emits → Does g'' m ran emits
-does_wait g g' g'' l mid m ran emits d clock ms same same' read is_clock is_ms raised none hint was =
-    let still : mid ≡ l = read ∙ ap (λ (n : ℕ). record l { state = record l.state { clock = n } }) (clock_read l.state.status l.state.clock) in
-    let moment = is_ms ∙ ap (λ (n : ℕ). saturated (n + d)) (is_clock ∙ ap (λ (x : Loop Seats). x.state.clock) still) in
-    does_quiet g g'' l m ran emits emits (ClockRaised ms) refl refl (same' ∙ same) (raised ∙ ap (λ (x : Loop Seats). record x { state = after_clock x.state ms }) still) (none, (d, hint, moment)) refl was
+module _ {g g' : Setting} {l mid m : Loop Seats} {ran : ℕ} {emits : List ℕ} (same : g' ≡ g) (was : Does g l ran emits) (d clock ms : ℕ) where
+  pub does_wait : mid ≡ record l { state = after_clock l.state 0 } → clock ≡ mid.state.clock → ms ≡ saturated (clock + d)
+      → m ≡ record mid { state = after_clock mid.state ms } → l.state.requests.outstanding ≡ [] → hint_of l.state ≡ For d → Does g' m ran emits
+  does_wait read is_clock is_ms raised none hint =
+      let still : mid ≡ l = read ∙ ap (λ (n : ℕ). record l { state = record l.state { clock = n } }) (clock_read l.state.status l.state.clock) in
+      let moment = is_ms ∙ ap (λ (n : ℕ). saturated (n + d)) (is_clock ∙ ap (λ (x : Loop Seats). x.state.clock) still) in
+      let from_l = raised ∙ ap (λ (x : Loop Seats). record x { state = after_clock x.state ms }) still in
+      does_quiet same was emits (ClockRaised ms) refl refl from_l (none, (d, hint, moment)) refl
 
 -- a new loop opens so
-pub opens_new : (g : Setting) (l : Loop Seats) (loaded : Loaded) (loop_no fuel work_fuel depth : ℕ) (seats : Seats) → g ≡ record { loaded = loaded; loop_no = loop_no; fuel = fuel; work_fuel = work_fuel; depth = depth }
+pub opens_new : (g : Setting) (l : Loop Seats) (loaded : Loaded) (loop_no fuel work_fuel depth : ℕ) (seats : Seats)
+    → g ≡ record { loaded = loaded; loop_no = loop_no; fuel = fuel; work_fuel = work_fuel; depth = depth }
     → l.state ≡ opening (opening_roster loaded.contents) (begin_list loaded.contents) → IsFresh loaded.contents l.store → l.shared ≡ seats → thread_calls.view seats ≡ new_view loop_no
     → IsOpening thread_calls g l
 opens_new g l loaded loop_no fuel work_fuel depth seats is state store shared view =
     subst (λ x. IsOpening thread_calls x l) (sym is) (record { state = state; store = store.store; shared = ap thread_calls.view shared ∙ view })
 
 -- what is done is ended
-pub ended_by : (g : Setting) (l : Loop Seats) (ran : ℕ) (ending : LoopEnding) (emits : List ℕ) → ran ≤ MAX_CALLBACKS → EndsBy ending l ran → Does g l ran emits → ∥ HasEnded thread_calls g ending emits ∥₁
-ended_by g l ran ending emits few ends was = ∥∥₁_map was (λ done. record { now = l; ran = ran; few = few; done = done; ends = ends })
+pub ended_by : {g : Setting} {l : Loop Seats} {ran : ℕ} {emits : List ℕ} (ending : LoopEnding) → ran ≤ MAX_CALLBACKS → EndsBy ending l ran → Does g l ran emits
+    → ∥ HasEnded thread_calls g ending emits ∥₁
+ended_by {l = l} {ran = ran} ending few ends was = ∥∥₁_map was (λ done. record { now = l; ran = ran; few = few; done = done; ends = ends })
 
 -- and is that of a loop of this number
-pub served_by : (g : Setting) (loop_no : ℕ) (ending : LoopEnding) (emits : List ℕ) → loop_no ≡ g.loop_no → ∥ HasEnded thread_calls g ending emits ∥₁ → ∥ HasServed loop_no ending emits ∥₁
-served_by g loop_no ending emits same was = ∥∥₁_map was (λ ended. record { setting = g; numbered = sym same; ended = ended })
+pub served_by : {g : Setting} {emits : List ℕ} (loop_no : ℕ) (ending : LoopEnding) → loop_no ≡ g.loop_no → ∥ HasEnded thread_calls g ending emits ∥₁
+    → ∥ HasServed loop_no ending emits ∥₁
+served_by {g = g} loop_no ending same was = ∥∥₁_map was (λ ended. record { setting = g; numbered = sym same; ended = ended })

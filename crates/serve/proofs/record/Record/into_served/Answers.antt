@@ -4,9 +4,9 @@ use Rattle.serve.proofs.record.Record.into_served.Goals as goal
 pub invariant_of-result : goal.invariant_of-result
 invariant_of-result c =
     let r = c.args.self in
-    record { told = served_by r.core.setting c.args.loop_no c.args.ending r.emits.items c.requires.loop_no (ended_by r.core.setting r.core.loop r.ran c.args.ending r.emits.items r.few c.requires.ends r.told) }
+    record { told = served_by c.args.loop_no c.args.ending c.requires.loop_no (ended_by c.args.ending r.few c.requires.ends r.told) }
 
 pub returns : goal.returns
 returns c =
     let r = c.args.self in
-    record { numbered = c.requires.loop_no; ended = ended_by r.core.setting r.core.loop r.ran c.args.ending r.emits.items r.few c.requires.ends r.told }
+    record { numbered = c.requires.loop_no; ended = ended_by c.args.ending r.few c.requires.ends r.told }

@@ -1,4 +1,3 @@
-use Rattle.std.proofs.Common.{refl}
 use Rattle.serve.proofs.OneEventMore.{does_order}
 use Rattle.serve.proofs.record.Record.next_order.Goals as goal
 
@@ -7,5 +6,5 @@ invariant_of-self c =
     let r = c.args.self.now in
     record {
       few = r.few;
-      told = does_order r.core.setting c.next_order.new.self.setting r.core.loop c.next_order.new.self.loop r.ran r.emits.items r.emits.items c.next_order.ensures.setting c.next_order.ensures.core refl r.told;
+      told = does_order c.next_order.ensures.setting r.told c.next_order.ensures.core;
     }

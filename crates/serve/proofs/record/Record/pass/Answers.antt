@@ -1,4 +1,4 @@
-use Rattle.std.proofs.Common.{arith}
+use Rattle.std.proofs.Common.{◌∙◌, arith}
 use Rattle.serve.proofs.OneEventMore.{does_wait}
 use Rattle.serve.proofs.record.Record.pass.Goals as goal
 
@@ -9,6 +9,6 @@ invariant_of-self c =
     let sum = c.saturating_add-moment.ensures in
     record {
       few = r.few;
-      told = does_wait r.core.setting read.new.self.setting c.clock.new.self.setting r.core.loop read.new.self.loop c.clock.new.self.loop r.ran r.emits.items c.args.ms read.result c.saturating_add-moment.result
-          read.ensures.setting c.clock.ensures.setting read.ensures.core read.ensures.clock (omega arith) c.clock.ensures.core c.requires.none c.requires.hint r.told;
+      told = does_wait (c.clock.ensures.setting ∙ read.ensures.setting) r.told c.args.ms read.result c.saturating_add-moment.result
+          read.ensures.core read.ensures.clock (omega arith) c.clock.ensures.core c.requires.none c.requires.hint;
     }

@@ -10,6 +10,7 @@ mod line;
 mod listing;
 mod mismatch;
 mod missing;
+mod piece;
 mod ran;
 mod stopping;
 mod walk;

@@ -1,8 +1,9 @@
--- What the status 0 comes from.
-use Rattle.std.proofs.Common.{◌≡◌, refl, Result, Ok, Err, IfOk, OnOk}
+-- What the statuses 0, 3 and 4 come from.
+use Rattle.std.proofs.Common.{◌≡◌, refl, Result, Ok, Err, IfOk, IfErr, OnOk}
+use Rattle.commands.specs.declared.failure.Failure.{Failure}
 use Rattle.commands.specs.declared.status.Status.{Status}
 use Rattle.commands.specs.declared.status.Status.TheVariants as status
-use Rattle.commands.specs.Inner.Statuses.{number_of}
+use Rattle.commands.specs.Inner.Statuses.{number_of, status_of_failure, status_of_end}
 
 pub done_of : (s : Status) → number_of s ≡ 0 → s ≡ status.Done
 done_of status.Done h = refl
@@ -21,3 +22,36 @@ at_done (Err e) P h is = cc
 pub both : {E : Type 0} (r : Result Status E) (A B : Type 0) → OnOk r A → OnOk r B → IfOk r (λ (s : Status). s ≡ status.Done → A × B)
 both (Ok s) A B a b = λ _. (a, b)
 both (Err e) A B a b = tt
+
+pub refused_of : (s : Status) → number_of s ≡ 3 → s ≡ status.Refused
+refused_of status.Done h = cc
+refused_of status.Failed h = cc
+refused_of status.Usage h = cc
+refused_of status.Refused h = refl
+refused_of status.Ended h = cc
+
+pub ended_of : (s : Status) → number_of s ≡ 4 → s ≡ status.Ended
+ended_of status.Done h = cc
+ended_of status.Failed h = cc
+ended_of status.Usage h = cc
+ended_of status.Refused h = cc
+ended_of status.Ended h = refl
+
+pub at_ended : {E : Type 0} (r : Result Status E) (P : Status → Type 0) → IfOk r P → r ≡ Ok status.Ended → P status.Ended
+at_ended (Ok s) P h is =
+    let same : s ≡ status.Ended = cc in
+    rw same at h
+at_ended (Err e) P h is = cc
+
+-- what is done unless it fails is refused by its failure
+pub at_refused : (r : Result Status Failure) (A : Type 0) → IfOk r (λ (s : Status). s ≡ status.Done)
+    → IfErr r (λ (f : Failure). status_of_failure f ≡ status.Refused → A) → status_of_end r ≡ status.Refused → A
+at_refused (Ok s) A done refused is = cc
+at_refused (Err f) A done refused is = refused is
+
+pub not_done : {s : Status} → s ≡ status.Done → s ≡ status.Ended → ⊥
+not_done done ended = cc
+
+pub nothing_ended : {E : Type 0} (r : Result Status E) → IfOk r (λ (s : Status). s ≡ status.Ended → Unit {0})
+nothing_ended (Ok s) = λ _. tt
+nothing_ended (Err e) = tt

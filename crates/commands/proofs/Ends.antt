@@ -1,7 +1,7 @@
 -- What a run of an order comes to.
 use Rattle.std.proofs.Common.{◌≡◌, ℕ, List, refl}
 use Rattle.validate.specs.Valid.{ValidModule}
-use Rattle.order.specs.Work.{WorkOrder, WorkEnd, Done, Trap, Depth, Spent, NoMemory, Works, Uses, IsTheEnd}
+use Rattle.order.specs.Work.{WorkOrder, WorkEnd, Done, Trap, Depth, Spent, NoMemory, Works, Uses, IsTheEnd, IsEndOf}
 use Rattle.order.specs.declared.order.Order.{Order}
 use Rattle.order.specs.Orders.{order_of}
 use Rattle.words.specs.declared.command.WorkRequest.{WorkRequest}
@@ -38,3 +38,13 @@ result o (Trap code) used valid one uses is = absurd is
 result o Depth used valid one uses is = absurd is
 result o Spent used valid one uses is = absurd is
 result o NoMemory used valid one uses is = absurd is
+
+-- any end is the order's, or tells of want of memory
+pub end_of_order : (o : WorkOrder) (end : WorkEnd) (used : ℕ) → ValidModule o.loaded.contents
+    → ((o : WorkOrder) (end other : WorkEnd) → ValidModule o.loaded.contents → Works o end → Works o other → end ≡ other)
+    → Uses o end used → IsEndOf o end
+end_of_order o (Done value bytes) used valid one uses = record { computed = (used, uses); only = λ other works. one o other (Done value bytes) valid works (used, uses) }
+end_of_order o (Trap code) used valid one uses = record { computed = (used, uses); only = λ other works. one o other (Trap code) valid works (used, uses) }
+end_of_order o Depth used valid one uses = record { computed = (used, uses); only = λ other works. one o other Depth valid works (used, uses) }
+end_of_order o Spent used valid one uses = record { computed = (used, uses); only = λ other works. one o other Spent valid works (used, uses) }
+end_of_order o NoMemory used valid one uses = tt

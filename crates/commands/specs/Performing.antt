@@ -1,4 +1,4 @@
--- What a command has done that ends with the status 0.
+-- What a command has done that ends with the status 0, and of two what the statuses 3 and 4 say.
 use Rattle.std.specs.Prelude.{ℕ, List, Option, Some, map, string_bytes, codes}
 use Rattle.std.specs.Io.KnownBytes.{Appends}
 use Rattle.syntax.specs.declared.types.Value.{Value}
@@ -11,10 +11,10 @@ use Rattle.words.specs.declared.command.Command.TheVariants.{Check, Invoke, Work
 use Rattle.words.specs.declared.command.Invocation.{Invocation}
 use Rattle.commands.specs.declared.calling.Called.{Called}
 use Rattle.commands.specs.declared.calling.Called.TheVariants.{Function}
-use Rattle.commands.specs.Accepted.{Holds}
+use Rattle.commands.specs.Accepted.{Holds, HoldsNone}
 use Rattle.commands.specs.Calling.{IsCalled, HasReturned, HasFunctionReturned}
 use Rattle.commands.specs.Arguments.{AllSpell}
-use Rattle.commands.specs.Working.{HasWorked}
+use Rattle.commands.specs.Working.{HasWorked, HasStopped}
 use Rattle.commands.specs.Scripting.{HasRun}
 use Rattle.commands.specs.Serving.{HasServedAll}
 
@@ -53,3 +53,21 @@ IsDone gives before after (Work order) = HasWorked gives before after order
 IsDone gives before after (Script file) = HasRun gives before after (string_bytes file)
 -- what loops in threads print is no clause's
 IsDone gives before after (Serve service) = HasServedAll gives service
+
+-- whose file is refused where the status is 3
+abbrev pub IsRefusedBy : (List ℕ → ℕ → List ℕ → Type 0) → Command → Type 0
+IsRefusedBy gives (Check file) = HoldsNone gives (string_bytes file)
+-- of the others no clause says it
+IsRefusedBy gives (Invoke invocation) = Unit {0}
+IsRefusedBy gives (Work order) = Unit {0}
+IsRefusedBy gives (Script file) = Unit {0}
+IsRefusedBy gives (Serve service) = Unit {0}
+
+-- what has ended otherwise where the status is 4
+abbrev pub IsEnded : (List ℕ → ℕ → List ℕ → Type 0) → Option (List ℕ) → Option (List ℕ) → Command → Type 0
+IsEnded gives before after (Work order) = HasStopped gives before after order
+-- of the others no clause says it
+IsEnded gives before after (Check file) = Unit {0}
+IsEnded gives before after (Invoke invocation) = Unit {0}
+IsEnded gives before after (Script file) = Unit {0}
+IsEnded gives before after (Serve service) = Unit {0}

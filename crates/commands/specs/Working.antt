@@ -4,7 +4,7 @@ use Rattle.std.specs.List.{join_with_byte}
 use Rattle.std.specs.Io.KnownBytes.{Appends}
 use Rattle.hex.specs.Hex.{encode_lower}
 use Rattle.syntax.specs.Loaded.{Loaded}
-use Rattle.order.specs.Work.{WorkOrder, WorkEnd, Done, Trap, Depth, Spent, NoMemory, IsTheEnd}
+use Rattle.order.specs.Work.{WorkOrder, WorkEnd, Done, Trap, Depth, Spent, NoMemory, IsTheEnd, IsEndOf}
 use Rattle.script.specs.Text.{signed_i32}
 use Rattle.words.specs.declared.command.WorkRequest.{WorkRequest}
 use Rattle.commands.specs.Accepted.{IsLoaded}
@@ -64,3 +64,14 @@ pub record HasWorked (gives : List ℕ → ℕ → List ℕ → Type 0) (before 
   pub bytes : List ℕ
   pub computed : IsTheEnd (asked_order work loaded) (Done value bytes)
   pub printed : Appends before after (end_line (Done value bytes))
+
+-- The file's module is accepted, the order's end is no value and bytes, or there was no memory, and the line of that was
+-- written.
+pub record HasStopped (gives : List ℕ → ℕ → List ℕ → Type 0) (before after : Option (List ℕ)) (work : WorkRequest)
+    : Type 0 where
+  pub loaded : Loaded
+  pub held : IsLoaded gives (string_bytes work.file) loaded
+  pub end : WorkEnd
+  pub computed : IsEndOf (asked_order work loaded) end
+  pub no_result : ¬ IsResult end
+  pub printed : Appends before after (end_line end)

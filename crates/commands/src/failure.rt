@@ -68,9 +68,12 @@ fn exported_functions(alloc: Global, contents: &Contents) -> Result<String, Allo
 
 impl<'a> Failure<'a> {
     ghost use Rattle.commands.specs.Inner.Statuses.{status_of_failure};
+    ghost use Rattle.commands.specs.declared.status.Status.TheVariants as status;
 
     /// The file of this name is not read.
-    pub fn unread(name: &'a str, fault: ReadFault) -> Failure<'a> {
+    pub fn unread(name: &'a str, fault: ReadFault) -> Failure<'a>
+        ensures { status_of_failure result ≡ status.Failed }
+    {
         match fault {
             ReadFault::File(reason) => Failure::File { name, reason },
             ReadFault::Memory => Failure::Memory,
@@ -188,6 +191,12 @@ impl<T: Drop> From<AllocFailed<T>> for Failure<'_> {
 
 /// What is written can't be, or there is no memory to write it.
 impl From<io::Error> for Failure<'_> {
+    ghost use Rattle.std.specs.Prelude.{◌≡◌};
+    ghost use Rattle.commands.specs.Inner.Statuses.{status_of_failure};
+    ghost use Rattle.commands.specs.declared.status.Status.TheVariants.{Failed};
+
+    ghost from_gives = { λ _ failure. status_of_failure failure ≡ Failed };
+
     fn from(error: io::Error) -> Self {
         match error.kind() {
             ErrorKind::OutOfMemory => Failure::Memory,

@@ -1,8 +1,10 @@
 // From a file to a module that the host can run.
 
-ghost use Rattle.std.specs.Prelude.{◌≡◌, IfOk};
+ghost use Rattle.std.specs.Prelude.{◌≡◌, ◌≢◌, IfOk, IfErr};
 ghost use Rattle.loader.specs.Loading.{IsAccepted};
-ghost use Rattle.commands.specs.Accepted.{enough};
+ghost use Rattle.commands.specs.Accepted.{enough, AreRefused, HoldsNone};
+ghost use Rattle.commands.specs.Inner.Statuses.{status_of_failure};
+ghost use Rattle.commands.specs.declared.status.Status.TheVariants as status;
 
 use crate::failure::{Failure, Site};
 use crate::file::Reader;
@@ -21,7 +23,9 @@ fn site_of(alloc: Global, bytes: &[u8], refusal: Refusal) -> Site {
     Site::Told(refusal.explain(alloc, bytes))
 }
 
-fn refused(alloc: Global, bytes: &[u8], refusal: Refusal) -> Failure<'static> {
+fn refused(alloc: Global, bytes: &[u8], refusal: Refusal) -> Failure<'static>
+    ensures { status_of_failure result ≡ status.Refused → refusal ≢ Refusal.Memory }
+{
     match refusal {
         Refusal::Memory => Failure::Memory,
         _ => Failure::Refused {
@@ -36,6 +40,7 @@ fn refused(alloc: Global, bytes: &[u8], refusal: Refusal) -> Failure<'static> {
 pub fn accept(alloc: Global, bytes: &[u8]) -> Result<Linked, Failure<'static>>
     ensures same { IfOk result (λ linked. linked.bytes ≡ bytes.now) }
     ensures accepted { IfOk result (λ linked. IsAccepted linked.bytes linked.contents) }
+    ensures refused { IfErr result (λ f. status_of_failure f ≡ status.Refused → AreRefused bytes.now) }
 {
     match loader::load(alloc, bytes) {
         Ok(linked) => Ok(linked),
@@ -51,6 +56,7 @@ pub fn load_whole<'a, R: Reader>(
 ) -> Result<(Linked, Vec<u8>), Failure<'a>>
     ensures read { IfOk result (λ loaded. R.gives reader.now file.now enough loaded.0.bytes) }
     ensures accepted { IfOk result (λ loaded. IsAccepted loaded.0.bytes loaded.0.contents) }
+    ensures refused { IfErr result (λ f. status_of_failure f ≡ status.Refused → HoldsNone (R.gives reader.now) file.now) }
 {
     match reader.read(alloc, file, ENOUGH) {
         Ok(bytes) => {
@@ -65,6 +71,7 @@ pub fn load_whole<'a, R: Reader>(
 pub fn load<'a, R: Reader>(alloc: Global, reader: &R, file: &'a str) -> Result<Linked, Failure<'a>>
     ensures read { IfOk result (λ linked. R.gives reader.now file.now enough linked.bytes) }
     ensures accepted { IfOk result (λ linked. IsAccepted linked.bytes linked.contents) }
+    ensures refused { IfErr result (λ f. status_of_failure f ≡ status.Refused → HoldsNone (R.gives reader.now) file.now) }
 {
     let loaded = load_whole(alloc, reader, file)?;
     Ok(loaded.0)

@@ -1,11 +1,12 @@
 // What each command does.
 
-ghost use Rattle.std.specs.Prelude.{◌≡◌, ◌≢◌, ◌≤◌, ◌⊎◌, Ok, OnOk, IfOk, codes};
+ghost use Rattle.std.specs.Prelude.{◌≡◌, ◌≢◌, ◌≤◌, ◌⊎◌, Ok, OnOk, IfOk, IfErr, codes};
 ghost use Rattle.std.specs.Io.KnownBytes.{Appends};
 ghost use Rattle.syntax.specs.declared.contents.Contents.{Contents};
-ghost use Rattle.commands.specs.Accepted.{Holds};
+ghost use Rattle.commands.specs.Accepted.{Holds, HoldsNone};
 ghost use Rattle.commands.specs.Calling.{HasReturned, HasFunctionReturned};
-ghost use Rattle.commands.specs.Performing.{HasInvoked, IsCallOf, Returns, IsDone};
+ghost use Rattle.commands.specs.Inner.Statuses.{status_of_failure, status_of_end};
+ghost use Rattle.commands.specs.Performing.{HasInvoked, IsCallOf, Returns, IsDone, IsRefusedBy, IsEnded};
 
 use crate::arguments::values;
 use crate::calling::{Called, call, exported_function, has_returned};
@@ -39,6 +40,8 @@ fn check<'a, R: Reader, O: Write, E: Write>(
 ) -> Result<Status, Failure<'a>>
     ensures accepted { OnOk result ((contents : Contents) × Holds (R.gives reader.now) file.now contents) }
     ensures told { OnOk result (Appends (O.contents out.old) (O.contents out.new) (codes "accepted\n")) }
+    ensures done { IfOk result (λ status. status ≡ Status.Done) }
+    ensures refused { IfErr result (λ f. status_of_failure f ≡ Status.Refused → HoldsNone (R.gives reader.now) file.now) }
 {
     let linked = load(alloc, reader, file)?;
     out.write_all(b"accepted\n")?;
@@ -164,7 +167,9 @@ fn invoke<'a, R: Reader, O: Write, E: Write>(
 
 /// Tells why there is no result: a refused module to `out`, everything else to `err`.
 fn tell<O: Write, E: Write>(failure: &Failure<'_>, out: &mut O, err: &mut E) -> Status
-    ensures { result ≢ Status.Done }
+    ensures done { result ≢ Status.Done }
+    ensures ended { result ≢ Status.Ended }
+    ensures refused { result ≡ Status.Refused → status_of_failure failure.now ≡ Status.Refused }
 {
     let status = failure.status();
     let told = match status {
@@ -187,6 +192,9 @@ fn status_from<O: Write, E: Write>(
 ) -> Status
     ensures done { result ≡ Status.Done → ended.entry ≡ Ok Status.Done }
     ensures kept { result ≡ Status.Done → out.new ≡ out.old }
+    ensures ended { result ≡ Status.Ended → ended.entry ≡ Ok Status.Ended }
+    ensures kept_ended { result ≡ Status.Ended → out.new ≡ out.old }
+    ensures refused { result ≡ Status.Refused → status_of_end ended.entry ≡ Status.Refused }
 {
     match ended {
         Ok(status) => status,
@@ -213,7 +221,9 @@ fn run<
     make: &M,
 ) -> Result<Status, Failure<'a>>
     requires make { M.IsAlwaysCallable make.now }
-    ensures { IfOk result (λ status. status ≡ Status.Done → IsDone (R.gives reader.now) (O.contents out.old) (O.contents out.new) command.now) }
+    ensures done { IfOk result (λ status. status ≡ Status.Done → IsDone (R.gives reader.now) (O.contents out.old) (O.contents out.new) command.now) }
+    ensures refused { status_of_end result ≡ Status.Refused → IsRefusedBy (R.gives reader.now) command.now }
+    ensures ended { IfOk result (λ status. status ≡ Status.Ended → IsEnded (R.gives reader.now) (O.contents out.old) (O.contents out.new) command.now) }
 {
     match command {
         Command::Check { file } => check(alloc, file.as_str(), reader, out, err),
@@ -239,6 +249,8 @@ pub fn perform<
     requires make { M.IsAlwaysCallable make.now }
     ensures known { result ≤ 4 }
     ensures done { result ≡ 0 → IsDone (R.gives reader.now) (O.contents out.old) (O.contents out.new) command.now }
+    ensures refused { result ≡ 3 → IsRefusedBy (R.gives reader.now) command.now }
+    ensures ended { result ≡ 4 → IsEnded (R.gives reader.now) (O.contents out.old) (O.contents out.new) command.now }
 {
     let ended = run(rt, alloc, command, reader, out, err, make);
     let status = status_from(ended, out, err);

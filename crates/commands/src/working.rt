@@ -6,7 +6,7 @@ ghost use Rattle.std.specs.Io.KnownBytes.{Appends};
 ghost use Rattle.events.specs.Traps.{trap_number};
 ghost use Rattle.order.specs.Orders.{end_of};
 ghost use Rattle.order.specs.Work.{Done, Trap, Uses};
-ghost use Rattle.commands.specs.Working.{asked_order, done_words, line, end_line, IsResult, HasWorked};
+ghost use Rattle.commands.specs.Working.{asked_order, done_words, line, end_line, IsResult, HasWorked, HasStopped};
 
 use crate::failure::Failure;
 use crate::file::Reader;
@@ -184,7 +184,8 @@ pub fn work<'a, R: Reader, O: Write, E: Write>(
     out: &mut O,
     err: &mut E,
 ) -> Result<Status, Failure<'a>>
-    ensures { IfOk result (λ status. status ≡ Status.Done → HasWorked (R.gives reader.now) (O.contents out.old) (O.contents out.new) work.now) }
+    ensures done { IfOk result (λ status. status ≡ Status.Done → HasWorked (R.gives reader.now) (O.contents out.old) (O.contents out.new) work.now) }
+    ensures ended { IfOk result (λ status. status ≡ Status.Ended → HasStopped (R.gives reader.now) (O.contents out.old) (O.contents out.new) work.now) }
 {
     one_end();
     let linked = load(alloc, reader, work.file.as_str())?;

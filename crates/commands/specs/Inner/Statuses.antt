@@ -1,5 +1,5 @@
 -- What the program ends with.
-use Rattle.std.specs.Prelude.{ℕ}
+use Rattle.std.specs.Prelude.{ℕ, Result, Ok, Err}
 use Rattle.commands.specs.declared.status.Status.{Status}
 use Rattle.commands.specs.declared.status.Status.TheVariants as status
 use Rattle.commands.specs.declared.failure.Failure.{Failure}
@@ -13,6 +13,11 @@ status_of_failure (failure.Script _ _) = status.Failed
 status_of_failure (failure.Refused _ _ _) = status.Refused
 status_of_failure (failure.NoFunction _ _) = status.Usage
 status_of_failure (failure.Arguments _) = status.Usage
+
+-- the status of a command that ended so
+abbrev pub status_of_end : Result Status Failure → Status
+status_of_end (Ok s) = s
+status_of_end (Err f) = status_of_failure f
 
 abbrev pub number_of : Status → ℕ
 number_of status.Done = 0

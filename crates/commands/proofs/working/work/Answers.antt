@@ -2,11 +2,12 @@ use Rattle.std.proofs.Common.{string_bytes}
 use Rattle.order.specs.Orders.{end_of}
 use Rattle.commands.specs.Accepted.{IsLoaded}
 use Rattle.commands.specs.Working.{asked_order}
-use Rattle.commands.proofs.Ends.{result}
+use Rattle.commands.proofs.Ends.{result, end_of_order}
+use Rattle.commands.proofs.Done.{not_done}
 use Rattle.commands.proofs.working.work.Goals as goal
 
-pub returns : goal.returns
-returns g c = λ done.
+pub returns-clause-done : goal.returns-clause-done
+returns-clause-done g c = λ done.
     let linked = c.in_ok-linked.linked in
     let told = c.in_ok-told.told in
     let held : IsLoaded (g.R.Reader.gives c.args.reader.now) (string_bytes c.args.work.now.file) linked =
@@ -20,4 +21,20 @@ returns g c = λ done.
       bytes = end.bytes;
       computed = end.computed;
       printed = rw end.is at c.in_ok-tell_outcome.ensures;
+    }
+
+pub returns-clause-ended : goal.returns-clause-ended
+returns-clause-ended g c = λ ended.
+    let linked = c.in_ok-linked.linked in
+    let told = c.in_ok-told.told in
+    let held : IsLoaded (g.R.Reader.gives c.args.reader.now) (string_bytes c.args.work.now.file) linked =
+    rw (← c.as_str.ensures.value) (c.in_ok-linked.ensures.read, c.in_ok-linked.ensures.accepted) in
+    record {
+      loaded = linked;
+      held = held;
+      end = end_of told.reply.outcome;
+      computed = end_of_order (asked_order c.args.work.now linked) (end_of told.reply.outcome) told.used c.in_ok-linked.ensures.accepted.valid
+          c.one_end.ensures c.in_ok-told.ensures;
+      no_result = λ is. not_done (c.status_of.ensures.1 is) ended;
+      printed = c.in_ok-tell_outcome.ensures;
     }

@@ -1,4 +1,5 @@
 // The board that loops and workers share, and the passes with which they step.
+
 ghost use Rattle.std.specs.Prelude.{◌≡◌, ◌<◌, ◌≤◌, ◌∷◌, ◌++◌, ℕ, length, map, All, IfOk, OnOk, IfErr, IfSome, IfNone};
 ghost use Rattle.limits.specs.declared.TheConstants.{MAX_LOOPS};
 ghost use Rattle.board.specs.Views.{IsIdle, makers_at, one_later};
@@ -15,7 +16,7 @@ use std::marker::Model;
 use std::sync::Wait;
 use std::sync::atomic::{AtomicBool, Ordering};
 
-// A reply fits the line whose key is the number of its order's loop.
+/// A reply fits the line whose key is the number of its order's loop.
 pub struct OfLoop;
 
 impl Fits<Reply> for OfLoop {
@@ -175,7 +176,7 @@ impl<J: Drop> Board<J> {
         }
     }
 
-    // What counts it.
+    /// What counts it.
     fn count_of(&self, event: Event) -> &EventCount
         requires { IsEventOf self.now event }
     {
@@ -218,7 +219,7 @@ impl<J: Drop> Board<J> {
     }
 }
 
-// An empty line of replies for each loop, whose key is the loop's number, and the makers of the lines.
+/// An empty line of replies for each loop, whose key is the loop's number, and the makers of the lines.
 fn reply_lines(
     alloc: Global,
     loops: u32,
@@ -236,7 +237,7 @@ fn reply_lines(
     Ok((lines, makers))
 }
 
-// A new hand on each of the lines.
+/// A new hand on each of the lines.
 fn hands_of(
     alloc: Global,
     lines: &[Line<Reply, OfLoop>],

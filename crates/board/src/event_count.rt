@@ -1,10 +1,11 @@
 // An event count: what threads sleep on until something is done.
+
 use std::sync::Wait;
 use std::sync::atomic::{AtomicU64, Ordering};
 
-// It counts its events. A thread that is going to wait first asks how many there were, and then looks for what it waits
-// for: if that comes behind the look, so does an event, and the wait ends. A thread is counted in `sleepers` before the
-// system compares the events, and an event is counted before `sleepers` is read, so that one of them sees the other.
+/// It counts its events. A thread that is going to wait first asks how many there were, and then looks for what it waits
+/// for: if that comes behind the look, so does an event, and the wait ends. A thread is counted in `sleepers` before the
+/// system compares the events, and an event is counted before `sleepers` is read, so that one of them sees the other.
 #[derive(Drop)]
 pub struct EventCount {
     events: AtomicU64,
@@ -19,12 +20,12 @@ impl EventCount {
         }
     }
 
-    // How many events there were.
+    /// How many events there were.
     pub fn events(&self) -> u64 {
         self.events.load(Ordering::SeqCst)
     }
 
-    // Wakes one of those that wait.
+    /// Wakes one of those that wait.
     pub fn wake_one(&self) {
         self.events.fetch_add(1, Ordering::SeqCst);
         if self.sleepers.load(Ordering::SeqCst) != 0 {
@@ -32,7 +33,7 @@ impl EventCount {
         }
     }
 
-    // Wakes all that wait.
+    /// Wakes all that wait.
     pub fn wake_all(&self) {
         self.events.fetch_add(1, Ordering::SeqCst);
         if self.sleepers.load(Ordering::SeqCst) != 0 {
@@ -40,7 +41,7 @@ impl EventCount {
         }
     }
 
-    // Sleeps until there are more events than so many.
+    /// Sleeps until there are more events than so many.
     pub fn wait<R: Wait>(&self, rt: &R, heard: u64) {
         self.sleepers.fetch_add(1, Ordering::SeqCst);
         for _ in rt.forever() {

@@ -19,7 +19,7 @@ use phases::{Beside, Shared};
 use std::alloc::{AllocError, Global};
 use std::marker::Model;
 
-// No request has this number, which stands in a slot where none is open.
+/// No request has this number, which stands in a slot where none is open.
 const NO_REQUEST: u32 = 0;
 
 /// What a loop shares. Contracts see all that was done: what the loop knows, the requests that workers started, how
@@ -60,7 +60,7 @@ impl Model for Desk {
         × IsCounted (desk_of d.seat.me.0) d.own_sends d.other_sends };
 }
 
-// The place of an async's word.
+/// The place of an async's word.
 fn waiting_place(async_no: u32) -> usize
     requires { async_no < MAX_ASYNCS }
     ensures { result ≡ MAX_REQUESTS + async_no }

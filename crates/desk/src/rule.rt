@@ -26,7 +26,7 @@ pub(crate) struct History {
     pub(crate) sent: [u64; MAX_ASYNCS],
 }
 
-// What holds between any two steps. Its key is the loop's number.
+/// What holds between any two steps. Its key is the loop's number.
 pub(crate) struct Agreement;
 
 impl TableRule<(), History, u32> for Agreement {
@@ -35,42 +35,42 @@ impl TableRule<(), History, u32> for Agreement {
     ghost first = { λ loop_no. history_of (new_desk loop_no) };
 }
 
-// A store of its number in the slot's word opens a request.
+/// A store of its number in the slot's word opens a request.
 pub(crate) struct Opening;
 
 impl Play<(), History> for Opening {
     ghost then = { λ step before _ after. desk_of after.0 ≡ opened (desk_of before.0) (step.word, step.first) };
 }
 
-// An exchange of its number for 0 cancels a request, where it was found.
+/// An exchange of its number for 0 cancels a request, where it was found.
 pub(crate) struct Cancelling;
 
 impl Play<(), History> for Cancelling {
     ghost then = { λ step before found after. DeskCancels (desk_of before.0) (step.word, step.first) (found == step.first) (desk_of after.0) };
 }
 
-// The same exchange by a worker starts it.
+/// The same exchange by a worker starts it.
 pub(crate) struct Starting;
 
 impl Play<(), History> for Starting {
     ghost then = { λ step before found after. DeskStarts (desk_of before.0) (step.word, step.first) (found == step.first) (desk_of after.0) };
 }
 
-// An addition of 1 is a send of the loop.
+/// An addition of 1 is a send of the loop.
 pub(crate) struct Sending;
 
 impl Play<(), History> for Sending {
     ghost then = { λ step before _ after. (a : ℕ) → step.word ≡ waiting_place a → desk_of after.0 ≡ sent_own (desk_of before.0) a };
 }
 
-// The same addition by another.
+/// The same addition by another.
 pub(crate) struct Getting;
 
 impl Play<(), History> for Getting {
     ghost then = { λ step before _ after. (a : ℕ) → step.word ≡ waiting_place a → desk_of after.0 ≡ sent_by_another (desk_of before.0) a };
 }
 
-// A swap with 0 is a take.
+/// A swap with 0 is a take.
 pub(crate) struct Taking;
 
 impl Play<(), History> for Taking {

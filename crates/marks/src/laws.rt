@@ -1,4 +1,5 @@
 // What the rule of the words means for sends.
+
 ghost use Rattle.marks.specs.Laws.{Always, SentIsTakenOrWaits, EachIsCounted, WordsFit};
 
 /// No send is lost, and none is invented: those of all seats to an async are what its loop took from it and what waits

@@ -180,7 +180,7 @@ impl<B: Shared + Drop> LoopCore<B> {
         self.run(entry)
     }
 
-    // Runs an entry that was taken off the list.
+    /// Runs an entry that was taken off the list.
     fn run(&mut self, entry: Entry) -> BareDid
         requires ready { IsReady self.old.setting.loaded.contents self.old.loop.state entry }
         requires apart { All (Spares entry) self.old.loop.state.list }
@@ -239,7 +239,7 @@ impl<B: Shared + Drop> LoopCore<B> {
         }
     }
 
-    // An idle or a check handle.
+    /// An idle or a check handle.
     fn run_listed(&mut self, listed: Kind, kind: EntryKind, handle: u32, start: u64) -> BareDid
         ensures step { (made : List GuestCall) × MatchBool (is_as_listed listed self.old.loop.state.roster handle start)
             (CallsHandle B.calls self.old.setting self.old.loop self.old.loop.state.roster kind handle (whole result) made self.new.loop)
@@ -279,7 +279,7 @@ impl<B: Shared + Drop> LoopCore<B> {
         )
     }
 
-    // What waits at the async is taken first; where that is nothing, no callback runs.
+    /// What waits at the async is taken first; where that is nothing, no callback runs.
     fn run_async(&mut self, async_no: u32) -> BareDid
         requires ready { IsReady self.old.setting.loaded.contents self.old.loop.state (Entry.Async async_no) }
         ensures step { (made : List GuestCall) × EntryStep B.calls self.old.setting self.old.loop (Entry.Async async_no) (whole result) made self.new.loop }
@@ -304,7 +304,7 @@ impl<B: Shared + Drop> LoopCore<B> {
         self.call_handle(kind, handle, function)
     }
 
-    // The handle is removed first.
+    /// The handle is removed first.
     fn run_close(&mut self, handle: u32) -> BareDid
         requires ready { IsReady self.old.setting.loaded.contents self.old.loop.state (Entry.Close handle) }
         requires apart { All (Spares (Entry.Close handle)) self.old.loop.state.list }
@@ -315,7 +315,7 @@ impl<B: Shared + Drop> LoopCore<B> {
         self.call_handle(EntryKind::Close, handle, function)
     }
 
-    // A handle's callback is given its number.
+    /// A handle's callback is given its number.
     fn call_handle(&mut self, kind: EntryKind, handle: u32, function: u32) -> BareDid
         requires callback { TakesArguments self.old.setting.loaded.contents function (Value.I32 handle ∷ []) }
         requires bare { HasNoResults self.old.setting.loaded.contents function }

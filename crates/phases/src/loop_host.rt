@@ -58,7 +58,7 @@ impl<B: Shared + Drop> Drop for LoopHost<B> {
     }
 }
 
-// Starts an idle or a check handle.
+/// Starts an idle or a check handle.
 fn start(roster: &mut Roster, kind: Kind, args: (u32, u32)) -> u32
     ensures answer { result ≡ (started_in kind args.0 args.1 0 0 roster.old).0 }
     ensures roster { roster.new ≡ (started_in kind args.0 args.1 0 0 roster.old).1 }

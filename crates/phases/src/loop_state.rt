@@ -86,7 +86,7 @@ impl Model for LoopState {
     ghost invariant = { λ a. IsShort (option_map (λ v. v.items) a.reply) };
 }
 
-// A call of its own, so that its caller has one case to prove, not one for each way through.
+/// A call of its own, so that its caller has one case to prove, not one for each way through.
 fn any(a: bool, b: bool, c: bool) -> bool
     ensures { result ≡ (a || (b || c)) }
 {
@@ -247,7 +247,7 @@ impl LoopState {
         self.listed_hint()
     }
 
-    // The same, by the lists of the phases.
+    /// The same, by the lists of the phases.
     #[tactic(auto, unfolding(crate::specs::PhaseList::hint_of))]
     fn listed_hint(&self) -> Hint
         ensures { result ≡ hint_of self.now }

@@ -81,7 +81,7 @@ impl LoopState {
         }
     }
 
-    // Lists anew what is to come in the phase that the loop is in.
+    /// Lists anew what is to come in the phase that the loop is in.
     fn list(&mut self)
         ensures { self.new ≡ record self.old { list = phase_list self.old self.old.phase } }
     {

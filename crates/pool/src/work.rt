@@ -1,4 +1,5 @@
 // One job's way, and a worker's.
+
 ghost use Rattle.std.specs.Prelude.{◌≡◌, ◌<◌, length};
 ghost use Rattle.board.specs.Boards.{IsPassOf};
 ghost use Rattle.pool.specs.Work.{DidSo};
@@ -84,7 +85,7 @@ pub fn work_until_closed<G: Gate, R: Wait>(
     }
 }
 
-// Puts the reply, or gives it up where the board is closed.
+/// Puts the reply, or gives it up where the board is closed.
 fn put_until_closed<G: Gate, R: Wait>(
     rt: &R,
     board: &Board,

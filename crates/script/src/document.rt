@@ -95,7 +95,7 @@ const STEP_NAMES: [&str; 9] = [
     "loop", "post", "take", "start", "finish", "collect", "send", "cancel", "clock",
 ];
 
-// The step of this name, which has one number.
+/// The step of this name, which has one number.
 fn step_of_one(name: usize, number: u32) -> Step {
     match name {
         0 => Step::Loop(number),
@@ -107,7 +107,7 @@ fn step_of_one(name: usize, number: u32) -> Step {
     }
 }
 
-// The step of this name, which has the loop's number and one more.
+/// The step of this name, which has the loop's number and one more.
 fn step_of_two(name: usize, loop_no: u32, number: u32) -> Step {
     match name {
         6 => Step::Send(loop_no, number),
@@ -115,7 +115,7 @@ fn step_of_two(name: usize, loop_no: u32, number: u32) -> Step {
     }
 }
 
-// The next item of an array.
+/// The next item of an array.
 fn item<'de, T: Drop, F: Format>(
     alloc: Global,
     from: &mut Deserializer<'de, '_, F>,
@@ -127,7 +127,7 @@ where
     Ok(Ranged::<T>::deserialize(alloc, from)?.0)
 }
 
-// The next two items of an array.
+/// The next two items of an array.
 fn pair<'de, T: Drop, F: Format>(
     alloc: Global,
     from: &mut Deserializer<'de, '_, F>,

@@ -35,7 +35,7 @@ pub fn read(alloc: Global, text: &str) -> Result<Plan, ScriptFault>
     Ok(plan)
 }
 
-// The whole text has to be JSON before its shape is looked at.
+/// The whole text has to be JSON before its shape is looked at.
 fn check_json(alloc: Global, text: &str) -> Result<(), ScriptFault>
     ensures json { OnOk result (IsJson text.now) }
     ensures fault { IfErr result (λ e. FaultSays text.now e) }

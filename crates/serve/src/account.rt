@@ -97,7 +97,7 @@ impl Account {
         }
     }
 
-    // The asyncs are those of the last poll phase.
+    /// The asyncs are those of the last poll phase.
     fn enter(&mut self, phase: Phase, now: u64) {
         self.now = now;
         if phase == Phase::Poll {
@@ -105,7 +105,7 @@ impl Account {
         }
     }
 
-    // After a callback that did not return no other runs, so only such a one changes how the last ended.
+    /// After a callback that did not return no other runs, so only such a one changes how the last ended.
     fn run(&mut self, callback: Callback, ended: BareEnded) {
         self.in_row = if self.last == Some(callback) {
             self.in_row.saturating_add(1)

@@ -1,4 +1,5 @@
 // What a worker does with jobs.
+
 ghost use Rattle.std.specs.Prelude.{◌≡◌, length};
 ghost use Rattle.board.specs.Boards.{IsPassOf};
 
@@ -27,7 +28,7 @@ pub trait Job: Drop {
         requires loops { length board.now.replies ≡ claims.now.loops };
 }
 
-// Tells what a worker does. It holds nobody.
+/// Tells what a worker does. It holds nobody.
 #[derive(Drop)]
 struct Watched<'a, R, W> {
     rt: &'a R,

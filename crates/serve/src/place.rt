@@ -1,4 +1,5 @@
 // What a loop and a worker step with: their seats and their passes.
+
 ghost use Rattle.std.specs.Prelude.{◌≡◌, ◌<◌, ◌≤◌, ◌+◌, length, All, IfOk};
 ghost use Rattle.board.specs.Boards.{IsPassOf, IsNewPass};
 ghost use Rattle.claims.specs.Views.{new_loop_view};
@@ -52,7 +53,7 @@ impl<J: Job> WorkerPlace<'_, J> {
     }
 }
 
-// One of the board's passes, of which there is one.
+/// One of the board's passes, of which there is one.
 fn take_pass<J>(board: &Board<J>, passes: &mut Vec<Pass<J>>) -> Pass<J>
     requires new { All (IsNewPass board.now) passes.old.items }
     requires one { 0 < length passes.old.items }
@@ -83,7 +84,7 @@ fn worker_place<'a, J>(
     }
 }
 
-// A place for each worker. It takes a pass for each.
+/// A place for each worker. It takes a pass for each.
 fn worker_places<'a, J: Drop>(
     alloc: Global,
     board: &'a Board<J>,
@@ -125,7 +126,7 @@ fn loop_place<'a, J>(
     }
 }
 
-// A place for each loop, in the order of their numbers.
+/// A place for each loop, in the order of their numbers.
 fn loop_places<'a, J: Drop>(
     alloc: Global,
     board: &'a Board<J>,

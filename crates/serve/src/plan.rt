@@ -1,4 +1,5 @@
 // What all loops are made of, and the run of one.
+
 ghost use Rattle.std.specs.Prelude.{◌≡◌, ◌<◌, IfOk};
 ghost use Rattle.std.specs.Arc.{arc_value};
 ghost use Rattle.limits.specs.declared.TheConstants.{MAX_CALLBACKS};
@@ -94,7 +95,7 @@ impl Plan {
         turns.run(rt, make, watch)
     }
 
-    // The turns of a loop, of which none is taken yet.
+    /// The turns of a loop, of which none is taken yet.
     fn begin<'a, J: Drop>(
         &self,
         marks: &'a Marks,
@@ -119,7 +120,7 @@ impl Plan {
     }
 }
 
-// The marks of a loop to which nobody else sends.
+/// The marks of a loop to which nobody else sends.
 fn own_marks(alloc: Global) -> Result<(Marks, TakeSeat), AllocError>
     ensures { IfOk result (λ m. m.1 ≡ new_taker m.0 0) }
 {

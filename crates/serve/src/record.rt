@@ -1,4 +1,5 @@
 // A loop, with how many of its callbacks ran and what they have put out.
+
 ghost use Rattle.std.specs.Prelude.{◌≡◌, ◌<◌, ◌≤◌, [], IfOk, IfSome};
 ghost use Rattle.std.specs.Bool.{OnFalse};
 ghost use Rattle.limits.specs.declared.TheConstants.{MAX_CALLBACKS, MAX_REQUESTS};
@@ -49,7 +50,7 @@ fn is_taken(accepted: &Accepted) -> bool {
     matches!(accepted, Accepted::Accepted)
 }
 
-// Where the last callback stopped, if it did not return.
+/// Where the last callback stopped, if it did not return.
 fn last_trail(core: &LoopCore<Seats<'_>>) -> Option<Trail> {
     Some(Trail::of(&core.last_stop()?))
 }
@@ -120,7 +121,7 @@ impl<'a> Record<'a> {
         unreachable!()
     }
 
-    // One step of the loop. Where memory for what a callback may put out is refused, it takes none.
+    /// One step of the loop. Where memory for what a callback may put out is refused, it takes none.
     fn step(&mut self) -> Result<BareDid, AllocError>
         requires room { self.old.ran < MAX_CALLBACKS }
         ensures setting { self.new.core.setting ≡ self.old.core.setting }
@@ -138,8 +139,8 @@ impl<'a> Record<'a> {
         Ok(did)
     }
 
-    // How the loop has ended with a step, if it has: it is over; the callback failed; or it was the last that the loop
-    // may run.
+    /// How the loop has ended with a step, if it has: it is over; the callback failed; or it was the last that the loop
+    /// may run.
     fn ended(&self, did: &BareDid) -> Option<LoopEnding>
         requires { did.now ≡ BareDid.Over → self.now.core.loop.state.status ≡ status.Over }
         ensures { ComesTo result self.now.core.loop self.now.ran }
@@ -175,7 +176,7 @@ impl<'a> Record<'a> {
         }
     }
 
-    // Raises the clock by so many milliseconds, for which the loop has nothing to do. To which moment.
+    /// Raises the clock by so many milliseconds, for which the loop has nothing to do. To which moment.
     fn pass(&mut self, ms: u64) -> u64
         requires none { self.old.core.loop.state.requests.outstanding ≡ [] }
         requires hint { hint_of self.old.core.loop.state ≡ Hint.For ms }

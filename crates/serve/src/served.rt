@@ -1,4 +1,5 @@
 // What became of a loop.
+
 ghost use Rattle.serve.specs.Histories.{HasServed};
 
 use crate::account::Account;

@@ -1,4 +1,5 @@
 // How many threads there are, and what a loop may spend.
+
 ghost use Rattle.std.specs.Prelude.{◌≤◌};
 ghost use Rattle.limits.specs.declared.TheConstants.{MAX_DEPTH, MAX_LOOPS, MAX_WORKERS};
 

@@ -1,4 +1,5 @@
 // What jobs are made of.
+
 ghost use Rattle.std.specs.Prelude.{◌≡◌, ◌<◌};
 ghost use Rattle.limits.specs.declared.TheConstants.{MAX_LOOPS, MAX_REQUESTS};
 ghost use Rattle.board.specs.Jobs.{ticket_of};

@@ -1,4 +1,5 @@
 // The threads of the loops and the workers.
+
 ghost use Rattle.std.specs.Prelude.{◌≡◌, ◌≤◌, [], length, vec_capacity, IfOk, OnOk};
 ghost use Rattle.std.specs.Arc.{arc_value};
 ghost use Rattle.std.specs.Thread.{IsSync};
@@ -65,7 +66,7 @@ pub fn serve_watched<
     with_claims(rt, &plan, make, watch)
 }
 
-// The same of what all loops are made of, with claims for them.
+/// The same of what all loops are made of, with claims for them.
 fn with_claims<
     R: Threads + Wait + Sync,
     M: Fn(Task) -> Result<J, AllocError> + Sync,
@@ -84,7 +85,7 @@ fn with_claims<
     with_board(rt, plan, &claims, loop_seats, worker_seats, make, watch)
 }
 
-// With a board for them too.
+/// With a board for them too.
 fn with_board<
     R: Threads + Wait + Sync,
     M: Fn(Task) -> Result<J, AllocError> + Sync,
@@ -112,10 +113,10 @@ fn with_board<
     run_all(rt, plan, &board, workers, loops, make, watch)
 }
 
-// The thread of a loop.
+/// The thread of a loop.
 type LoopThread<'s> = PromisedHandle<LoopResult, OfLoop<'s>>;
 
-// Starts the workers and then the loops, and closes the board once all loops have ended.
+/// Starts the workers and then the loops, and closes the board once all loops have ended.
 fn run_all<
     'a,
     R: Threads + Wait + Sync,
@@ -156,7 +157,7 @@ fn run_all<
     )
 }
 
-// A thread for each worker.
+/// A thread for each worker.
 fn start_workers<'s, R: Wait + Sync, J: Job + Send, W: Watch + Sync, E>(
     scope: &Scope<'s, E>,
     rt: &'s R,
@@ -175,7 +176,7 @@ fn start_workers<'s, R: Wait + Sync, J: Job + Send, W: Watch + Sync, E>(
     Ok(())
 }
 
-// Runs the loops, and waits until all that were started have ended.
+/// Runs the loops, and waits until all that were started have ended.
 fn run_loops<
     's,
     R: Threads + Wait + Sync,
@@ -206,7 +207,7 @@ fn run_loops<
     Ok(served)
 }
 
-// A thread for each loop, the first loop's first, until memory runs out.
+/// A thread for each loop, the first loop's first, until memory runs out.
 fn start_loops<
     's,
     R: Wait + Sync,
@@ -239,7 +240,7 @@ fn start_loops<
     Ok(())
 }
 
-// A thread for a loop, unless memory ran out.
+/// A thread for a loop, unless memory ran out.
 fn start_loop<
     's,
     R: Wait + Sync,
@@ -274,7 +275,7 @@ fn start_loop<
     Ok(thread)
 }
 
-// Waits for each thread. What their loops did, unless one of them found no memory.
+/// Waits for each thread. What their loops did, unless one of them found no memory.
 fn join_all<'s, R: Threads>(
     rt: &R,
     plan: &'s Plan,

@@ -1,4 +1,5 @@
 // The turns of one loop.
+
 ghost use Rattle.std.specs.Prelude.{◌≡◌, ◌<◌, ◌≤◌, length, IfOk, IfSome};
 ghost use Rattle.std.specs.Arc.{arc_value};
 ghost use Rattle.limits.specs.declared.TheConstants.{MAX_CALLBACKS, MAX_LOOPS};
@@ -95,7 +96,7 @@ impl<'a, J: Drop> Turns<'a, J> {
         Ok(self.into_served(ending))
     }
 
-    // What the loop has done, and how it ended.
+    /// What the loop has done, and how it ended.
     fn into_served(self, ending: LoopEnding) -> Served
         requires { EndsBy ending self.told.core.loop self.told.ran }
         ensures { IsServed self.entry.told.core.setting result }
@@ -122,7 +123,7 @@ impl<'a, J: Drop> Turns<'a, J> {
         unreachable!()
     }
 
-    // One turn. How the loop ended, if it did.
+    /// One turn. How the loop ended, if it did.
     fn turn<R: Wait, M: Fn(Task) -> Result<J, AllocError>, W: Watch>(
         &mut self,
         rt: &R,
@@ -139,7 +140,7 @@ impl<'a, J: Drop> Turns<'a, J> {
         self.step_through(rt, board, heard, watch)
     }
 
-    // The exchange with the board. Without requests and without a job that was kept there is none.
+    /// The exchange with the board. Without requests and without a job that was kept there is none.
     fn exchange_if_any<R: Wait, M: Fn(Task) -> Result<J, AllocError>, W: Watch>(
         &mut self,
         rt: &R,
@@ -157,7 +158,7 @@ impl<'a, J: Drop> Turns<'a, J> {
         Ok(Some(self.exchange(rt, make, watch)?))
     }
 
-    // Accepts the replies and posts the orders that are there. What the loop waits for if it has nothing else to do.
+    /// Accepts the replies and posts the orders that are there. What the loop waits for if it has nothing else to do.
     fn exchange<R: Wait, M: Fn(Task) -> Result<J, AllocError>, W: Watch>(
         &mut self,
         rt: &R,
@@ -176,7 +177,7 @@ impl<'a, J: Drop> Turns<'a, J> {
         Ok(if self.kept.is_some() { room } else { reply })
     }
 
-    // Steps through the loop, and rests where no callback ran and the loop has nothing to do.
+    /// Steps through the loop, and rests where no callback ran and the loop has nothing to do.
     fn step_through<R: Wait, W: Watch>(
         &mut self,
         rt: &R,
@@ -197,9 +198,9 @@ impl<'a, J: Drop> Turns<'a, J> {
         Ok(self.rest(rt, board, heard, watch))
     }
 
-    // Where requests are outstanding, the loop sleeps until one is answered, or, where a job is kept, until there is room
-    // for it: a worker that has put a reply takes a job next. With nothing heard it takes a turn first. Without requests the
-    // clock is raised to the next timer, and without a timer the loop waits for ever.
+    /// Where requests are outstanding, the loop sleeps until one is answered, or, where a job is kept, until there is room
+    /// for it: a worker that has put a reply takes a job next. With nothing heard it takes a turn first. Without requests the
+    /// clock is raised to the next timer, and without a timer the loop waits for ever.
     fn rest<R: Wait, W: Watch>(
         &mut self,
         rt: &R,
@@ -221,7 +222,7 @@ impl<'a, J: Drop> Turns<'a, J> {
         self.told.wait(rt, self.loop_no, watch)
     }
 
-    // Accepts all replies that are there.
+    /// Accepts all replies that are there.
     fn accept_all<R: Wait, W: Watch>(&mut self, rt: &R, watch: &W)
         ensures setting { self.new.told.core.setting ≡ self.old.told.core.setting }
         ensures ran { self.new.told.ran ≡ self.old.told.ran }
@@ -236,7 +237,7 @@ impl<'a, J: Drop> Turns<'a, J> {
         }
     }
 
-    // Posts the job that was kept and all orders that are there, until a post is refused. That job is kept.
+    /// Posts the job that was kept and all orders that are there, until a post is refused. That job is kept.
     fn post_all<R: Wait, M: Fn(Task) -> Result<J, AllocError>, W: Watch>(
         &mut self,
         rt: &R,
@@ -259,7 +260,7 @@ impl<'a, J: Drop> Turns<'a, J> {
         unreachable!()
     }
 
-    // The job that was kept, or one for the next order, of which it is told that it is posted.
+    /// The job that was kept, or one for the next order, of which it is told that it is posted.
     fn next_job<R: Wait, M: Fn(Task) -> Result<J, AllocError>, W: Watch>(
         &mut self,
         rt: &R,

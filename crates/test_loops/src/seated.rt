@@ -56,7 +56,7 @@ impl<'a> Shared for Noted<'a> {
     ghost lawful = { seats_lawful (λ s. s.seats.loop_seat) (λ s. s.seats.taker) };
 }
 
-// Claims for one loop, with its seat.
+/// Claims for one loop, with its seat.
 fn claims_of_one(alloc: Global) -> Result<(Claims, LoopSeat), AllocError>
     ensures { IfOk result (λ m. m.1 ≡ new_loop_view m.0.id 0) }
 {
@@ -71,7 +71,7 @@ fn claims_of_one(alloc: Global) -> Result<(Claims, LoopSeat), AllocError>
     Ok((claims, loop_seat))
 }
 
-// Marks with one seat that sends.
+/// Marks with one seat that sends.
 fn marks_of_one(alloc: Global) -> Result<(Marks, TakeSeat, SendSeat), AllocError>
     ensures taker { IfOk result (λ m. m.1 ≡ new_taker m.0 1) }
     ensures sender { IfOk result (λ m. m.2 ≡ new_sender m.0) }
@@ -83,7 +83,7 @@ fn marks_of_one(alloc: Global) -> Result<(Marks, TakeSeat, SendSeat), AllocError
     Ok((marks, taker, sender))
 }
 
-// Sends so many times to async 0. Whether each time was taken in.
+/// Sends so many times to async 0. Whether each time was taken in.
 fn sends(marks: &Marks, sender: &mut SendSeat, count: u32) -> bool
     requires { sender.old.marks ≡ marks.now }
     ensures { sender.new.marks ≡ marks.now }
@@ -208,7 +208,7 @@ fn check(
 }
 
 impl Noted<'_> {
-    // Tells whether the sends were taken in, and what the first takes answered.
+    /// Tells whether the sends were taken in, and what the first takes answered.
     fn tell(&self, sent: (bool, bool), text: &mut String) -> Result<(), AllocError> {
         let taken = self.taken.get(..self.takes).unwrap_or(&[]);
         write!(text, "; sent {} {}; taken {taken:?}", sent.0, sent.1)

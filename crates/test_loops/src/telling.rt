@@ -54,7 +54,7 @@ fn tell(did: &StepDid, emits: &[u64], text: &mut String) -> Result<(), AllocErro
     }
 }
 
-// What is told of an ending behind the callback. Of a return it is nothing.
+/// What is told of an ending behind the callback. Of a return it is nothing.
 fn word(ending: &Ending) -> &'static str {
     match ending {
         Ending::Return(_) => "",

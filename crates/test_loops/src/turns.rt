@@ -147,7 +147,7 @@ impl Driven {
         tell_send(text, self.core.sent(async_no))
     }
 
-    // The order that was handed out last.
+    /// The order that was handed out last.
     fn copy(&self) -> Result<Order, Fail> {
         match &self.order {
             Some(order) => Ok(copy_of(order)?),
@@ -155,7 +155,7 @@ impl Driven {
         }
     }
 
-    // That order with another value in this field.
+    /// That order with another value in this field.
     fn changed(&self, field: Field) -> Result<Order, Fail> {
         let mut order = self.copy()?;
         change(self.alloc, &mut order, field)?;
@@ -180,7 +180,7 @@ impl Driven {
     }
 }
 
-// Runs the order, where it can be run.
+/// Runs the order, where it can be run.
 fn run(alloc: Global, order: Order) -> Result<Reply, Fail> {
     let Some(_work) = order.module.entry(EntryPoint::Work) else {
         return Err(Fail::from("no `uv_work`"));
@@ -204,7 +204,7 @@ fn other_bytes(alloc: Global) -> Result<Arc<Vec<u8>>, AllocError> {
     Ok(Arc::new(alloc, bytes)?)
 }
 
-// Puts another value into one field.
+/// Puts another value into one field.
 fn change(alloc: Global, order: &mut Order, field: Field) -> Result<(), Fail> {
     match field {
         Field::LoopNo => order.loop_no ^= 1,

@@ -43,7 +43,7 @@ fn is_timer(handles: &Handles, handle: u32) -> bool
         .is_some_and(|kept| kept.kind == Kind::Timer)
 }
 
-// Whether the handle is there, which is started then.
+/// Whether the handle is there, which is started then.
 fn start(handles: &mut Handles, handle: u32, due: u64, repeat: u64) -> bool {
     let is_there = is_open(handles, handle);
     if is_there {
@@ -64,7 +64,7 @@ fn again(handles: &mut Handles, handle: u32, now: u64) -> bool {
     is_open(handles, handle) && is_timer(handles, handle) && handles.again(handle, now)
 }
 
-// Each handle with its start number.
+/// Each handle with its start number.
 fn tell_list(text: &mut String, list: &List) -> Result<(), AllocError> {
     text.push_str("listed")?;
     for index in 0..list.len() {

@@ -29,7 +29,7 @@ fn check_line(
     Ok(())
 }
 
-// A callback of loop 3 under number 8, of the least and the greatest numbers.
+/// A callback of loop 3 under number 8, of the least and the greatest numbers.
 fn ran(alloc: Global, kind: EntryKind, ending: Ending) -> Result<LogEntry, AllocError> {
     let emits = Vec::from_slice(alloc, &[1 << 63, (1 << 63) - 1])?;
     Ok(LogEntry::Ran {
@@ -52,7 +52,7 @@ const BEFORE: &str = "loop 3 run ";
 
 const BEHIND: &str = " used 18446744073709551615 emit -9223372036854775808 9223372036854775807\n";
 
-// What such a line says of the callback and of how it ended.
+/// What such a line says of the callback and of how it ended.
 fn words_of(line: &str) -> Option<&str> {
     line.strip_prefix(BEFORE)?.strip_suffix(BEHIND)
 }

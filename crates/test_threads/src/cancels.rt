@@ -1,4 +1,5 @@
 // A loop cancels a request at each point of its job's way.
+
 ghost use Rattle.std.specs.Prelude.{◌≡◌};
 ghost use Rattle.std.specs.Thread.{IsSync};
 
@@ -16,7 +17,7 @@ use std::test::Fail;
 use std::thread;
 use std::thread::Threads;
 
-// Holds a worker at one point until it is let go.
+/// Holds a worker at one point until it is let go.
 struct HoldAt {
     point: Point,
     reached: AtomicU64,
@@ -45,7 +46,7 @@ impl HoldAt {
         }
     }
 
-    // Waits until the word is 1. Notes where the turns run out.
+    /// Waits until the word is 1. Notes where the turns run out.
     fn wait_for(&self, word: &AtomicU64) {
         if !comes(word, 1) {
             self.ran_out.store(1, Ordering::SeqCst);
@@ -64,8 +65,8 @@ impl Gate for HoldAt {
     fn replies(&self, _reply: &Reply) {}
 }
 
-// What was seen of request 1: whether it was posted, what two tries to cancel it answered, what the worker did, whether
-// the turns ran out, of which request a reply came, and how often the box was called.
+/// What was seen of request 1: whether it was posted, what two tries to cancel it answered, what the worker did, whether
+/// the turns ran out, of which request a reply came, and how often the box was called.
 #[derive(Clone, Copy, Debug, PartialEq)]
 struct Seen {
     posted: bool,
@@ -76,7 +77,7 @@ struct Seen {
     calls: u64,
 }
 
-// Where the request is cancelled.
+/// Where the request is cancelled.
 #[derive(Clone, Copy, Debug, PartialEq)]
 enum When {
     Opened,
@@ -84,12 +85,12 @@ enum When {
     HeldAt(Point),
 }
 
-// What two tries to cancel request 1 answer.
+/// What two tries to cancel request 1 answer.
 fn cancel_twice(side: &mut LoopSide<'_>) -> (bool, bool) {
     (side.cancel(1), side.cancel(1))
 }
 
-// Cancels request 1 once its job is held, and then lets the job go.
+/// Cancels request 1 once its job is held, and then lets the job go.
 fn cancel_while_held(side: &mut LoopSide<'_>, hold: &HoldAt) -> (bool, bool) {
     hold.wait_for(&hold.reached);
     let answers = cancel_twice(side);
@@ -97,7 +98,7 @@ fn cancel_while_held(side: &mut LoopSide<'_>, hold: &HoldAt) -> (bool, bool) {
     answers
 }
 
-// A worker takes the job in a thread of its own, and the loop cancels while the job is held.
+/// A worker takes the job in a thread of its own, and the loop cancels while the job is held.
 fn held<R: Threads + Wait + Sync>(
     rt: &R,
     side: &mut LoopSide<'_>,
@@ -115,7 +116,7 @@ fn held<R: Threads + Wait + Sync>(
     (end, cancelled, hold.ran_out.load(Ordering::SeqCst) == 1)
 }
 
-// The loop cancels before the worker looks at the board.
+/// The loop cancels before the worker looks at the board.
 fn early<R: Wait>(
     rt: &R,
     side: &mut LoopSide<'_>,

@@ -1,4 +1,5 @@
 // Claims: one of cancel and start, by threads.
+
 ghost use Rattle.std.specs.Prelude.{◌≡◌, ◌+◌, ◌^◌, ◌<◌, All, IfOk, IfSome};
 ghost use Rattle.limits.specs.declared.TheConstants.{MAX_REQUESTS};
 ghost use Rattle.claims.specs.Views.{new_loop_view, new_worker_view};
@@ -15,7 +16,7 @@ use std::thread::{Promise, Threads};
 
 const ROUNDS: u32 = 1_000;
 
-// A thread gives a loop's seat back with the requests that it had opened.
+/// A thread gives a loop's seat back with the requests that it had opened.
 struct SameLoop(Snapshot<LoopSeat>);
 
 impl Drop for SameLoop {
@@ -28,7 +29,7 @@ impl Promise<(bool, LoopSeat)> for SameLoop {
     ghost kept_by = { λ p r. (r.1.claims ≡ p.0.value.claims) × (r.1.loop_no ≡ p.0.value.loop_no) × (r.1.opened ≡ p.0.value.opened) };
 }
 
-// A thread gives a worker's seat of the same claims back.
+/// A thread gives a worker's seat of the same claims back.
 struct SameWorker(Snapshot<WorkerSeat>);
 
 impl Drop for SameWorker {
@@ -59,7 +60,7 @@ fn started(claims: &Claims, mut seat: WorkerSeat, ticket: Ticket) -> (bool, Work
     (answer, seat)
 }
 
-// A loop cancels and a worker starts one request, each in a thread of its own.
+/// A loop cancels and a worker starts one request, each in a thread of its own.
 fn race<R: Threads + Wait>(
     rt: &R,
     claims: &Claims,
@@ -101,7 +102,7 @@ fn race<R: Threads + Wait>(
     )
 }
 
-// Claims for one loop and one worker, with their seats.
+/// Claims for one loop and one worker, with their seats.
 fn one_of_each(alloc: Global) -> Result<(Claims, LoopSeat, WorkerSeat), AllocError>
     ensures { IfOk result (λ m. (m.0.loops ≡ 1) × (m.1 ≡ new_loop_view m.0.id 0) × (m.2 ≡ new_worker_view m.0.id 0)) }
 {
@@ -119,7 +120,7 @@ fn one_of_each(alloc: Global) -> Result<(Claims, LoopSeat, WorkerSeat), AllocErr
     Ok((claims, loop_seat, worker_seat))
 }
 
-// Opens the request in slot 0.
+/// Opens the request in slot 0.
 #[tactic(auto, using(crate::proofs::RequestsRise::below_next))]
 fn opened(claims: &Claims, seat: &mut LoopSeat, request: u32) -> Ticket
     requires own { seat.old.claims ≡ claims.now.id }
@@ -136,7 +137,7 @@ fn opened(claims: &Claims, seat: &mut LoopSeat, request: u32) -> Ticket
     }
 }
 
-// A second start and a second cancel.
+/// A second start and a second cancel.
 fn again(
     claims: &Claims,
     loop_seat: &mut LoopSeat,
@@ -185,7 +186,7 @@ fn an_open_request_is_started(rt: HostRuntime) -> Result<(), Fail> {
     Ok(())
 }
 
-// What a cancel of request 1 in slot 3 answers, and, once request 9 is opened there, a start of each.
+/// What a cancel of request 1 in slot 3 answers, and, once request 9 is opened there, a start of each.
 fn opens_anew(
     claims: &Claims,
     loop_seat: &mut LoopSeat,
@@ -219,7 +220,7 @@ fn a_slot_opened_anew_is_not_the_old_request(rt: HostRuntime) -> Result<(), Fail
     Ok(())
 }
 
-// How many loops' seats there are, if they are numbered in turn.
+/// How many loops' seats there are, if they are numbered in turn.
 fn loops_in_turn(seats: &[LoopSeat]) -> Option<u32> {
     let mut count = 0;
     for seat in seats {
@@ -231,7 +232,7 @@ fn loops_in_turn(seats: &[LoopSeat]) -> Option<u32> {
     Some(count)
 }
 
-// How many workers' seats there are, if they are numbered in turn.
+/// How many workers' seats there are, if they are numbered in turn.
 fn workers_in_turn(seats: &[WorkerSeat]) -> Option<u32> {
     let mut count = 0;
     for seat in seats {
@@ -260,7 +261,7 @@ fn seats_are_numbered(rt: HostRuntime) -> Result<(), Fail> {
     Ok(())
 }
 
-// Whether a worker starts request 1, and, once its seat is joined, the loop cancels request 2.
+/// Whether a worker starts request 1, and, once its seat is joined, the loop cancels request 2.
 fn joins(claims: &Claims, loop_seat: &mut LoopSeat, mut worker_seat: WorkerSeat) -> (bool, bool)
     requires loops { claims.now.loops ≡ 1 }
     requires new { loop_seat.old ≡ new_loop_view claims.now.id 0 }

@@ -1,4 +1,5 @@
 // Several workers that work until the board is closed, on a line of replies that is full at first.
+
 ghost use Rattle.std.specs.Prelude.{◌≡◌};
 
 use crate::gates::comes;
@@ -17,13 +18,13 @@ const WORKERS: u32 = 3;
 
 const POSTED: usize = 10;
 
-// The number of the first of the replies that fill the line. No job has it.
+/// The number of the first of the replies that fill the line. No job has it.
 const FILLING: u32 = 100;
 
-// How often a reply of each posted request was collected.
+/// How often a reply of each posted request was collected.
 type Times = [u32; POSTED];
 
-// Fills the line of replies. Whether it is full then.
+/// Fills the line of replies. Whether it is full then.
 fn fill<R: Wait>(rt: &R, jobs: &Jobs, side: &mut LoopSide<'_>) -> Result<bool, AllocError> {
     for n in 0..=MAX_REPLIES as u32 {
         let reply = jobs.reply(ticket(FILLING + n))?;
@@ -34,7 +35,7 @@ fn fill<R: Wait>(rt: &R, jobs: &Jobs, side: &mut LoopSide<'_>) -> Result<bool, A
     Ok(false)
 }
 
-// Opens the requests and posts their jobs. Whether all were taken.
+/// Opens the requests and posts their jobs. Whether all were taken.
 fn post_all<R: Wait>(rt: &R, side: &mut LoopSide<'_>) -> Result<bool, Fail> {
     for _ in 0..POSTED {
         side.open()?;
@@ -45,7 +46,7 @@ fn post_all<R: Wait>(rt: &R, side: &mut LoopSide<'_>) -> Result<bool, Fail> {
     Ok(true)
 }
 
-// Waits until each worker has called a job, and gives them time for more. How many jobs are called then.
+/// Waits until each worker has called a job, and gives them time for more. How many jobs are called then.
 fn called_while_full(jobs: &Jobs) -> u64 {
     comes(&jobs.calls, u64::from(WORKERS));
     for _ in 0..1_000 {
@@ -54,14 +55,14 @@ fn called_while_full(jobs: &Jobs) -> u64 {
     jobs.called()
 }
 
-// Notes that a reply was collected.
+/// Notes that a reply was collected.
 fn count(times: &mut Times, request: u32) {
     if let Some(times) = times.get_mut((request as usize).wrapping_sub(1)) {
         *times = times.saturating_add(1);
     }
 }
 
-// Collects so many replies, in at most 1,000,000 turns.
+/// Collects so many replies, in at most 1,000,000 turns.
 fn collect<R: Wait>(rt: &R, side: &mut LoopSide<'_>, most: usize) -> Times {
     let mut times = [0; POSTED];
     let mut left = most;
@@ -80,7 +81,7 @@ fn collect<R: Wait>(rt: &R, side: &mut LoopSide<'_>, most: usize) -> Times {
     times
 }
 
-// Fills the line of replies and posts the jobs.
+/// Fills the line of replies and posts the jobs.
 fn load<R: Wait>(rt: &R, jobs: &Jobs, side: &mut LoopSide<'_>) -> Result<(), Fail> {
     if !fill(rt, jobs, side)? || !post_all(rt, side)? {
         return Err(Fail::from("no full line, or no room for the jobs"));
@@ -88,8 +89,8 @@ fn load<R: Wait>(rt: &R, jobs: &Jobs, side: &mut LoopSide<'_>) -> Result<(), Fai
     Ok(())
 }
 
-// What was seen of the posted jobs: how many were called while the line was full, how often each was collected, and how
-// many were called at the end.
+/// What was seen of the posted jobs: how many were called while the line was full, how often each was collected, and how
+/// many were called at the end.
 #[derive(Clone, Copy, Debug, PartialEq)]
 struct Seen {
     called_while_full: u64,
@@ -97,7 +98,7 @@ struct Seen {
     calls: u64,
 }
 
-// So many replies are collected before the board is closed.
+/// So many replies are collected before the board is closed.
 #[derive(Clone, Copy)]
 struct Crowd {
     most: usize,
@@ -131,7 +132,7 @@ impl Scene for Crowd {
     }
 }
 
-// How many jobs the workers call while the line is full, and what is collected then.
+/// How many jobs the workers call while the line is full, and what is collected then.
 #[derive(Clone, Copy)]
 struct Collecting<'a> {
     jobs: &'a Jobs,

@@ -7,7 +7,7 @@ use pool::{Gate, Point};
 use std::sync::atomic::{AtomicU64, Ordering};
 use std::thread;
 
-// A gate that holds nobody.
+/// A gate that holds nobody.
 pub struct Open;
 
 impl Gate for Open {
@@ -16,7 +16,7 @@ impl Gate for Open {
     fn replies(&self, _reply: &Reply) {}
 }
 
-// A gate that holds one request once it is started, until the board is closed, for at most 1,000,000 turns.
+/// A gate that holds one request once it is started, until the board is closed, for at most 1,000,000 turns.
 #[derive(Clone, Copy)]
 pub struct UntilClosed<'a> {
     pub board: &'a Board,
@@ -39,7 +39,7 @@ impl Gate for UntilClosed<'_> {
     fn replies(&self, _reply: &Reply) {}
 }
 
-// Waits for the word to be this number at least, for at most 1,000,000 turns. Whether it came to be.
+/// Waits for the word to be this number at least, for at most 1,000,000 turns. Whether it came to be.
 pub fn comes(word: &AtomicU64, number: u64) -> bool {
     for _ in 0..1_000_000 {
         if word.load(Ordering::SeqCst) >= number {

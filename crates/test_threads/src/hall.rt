@@ -1,4 +1,5 @@
 // A board and claims for one loop and some workers, and the sides from which they are used.
+
 ghost use Rattle.std.specs.Prelude.{◌≡◌, ◌<◌, ◌≤◌, length, All, IfOk, IfSome};
 ghost use Rattle.limits.specs.declared.TheConstants.{MAX_WORKERS};
 ghost use Rattle.board.specs.Boards.{IsPassOf};
@@ -15,7 +16,7 @@ use std::alloc::{AllocError, Global};
 use std::sync::Wait;
 use std::test::Fail;
 
-// The ticket of the loop's request, in the slots in turn.
+/// The ticket of the loop's request, in the slots in turn.
 pub fn ticket(request: u32) -> Ticket
     ensures request { (result.request ≡ request) × (result.loop_no ≡ 0) }
     ensures slot { result.slot < MAX_REQUESTS }
@@ -42,7 +43,7 @@ impl Drop for Hall {
     }
 }
 
-// What a new hall hands out.
+/// What a new hall hands out.
 #[derive(Drop)]
 pub struct Gear {
     loop_pass: Pass,
@@ -51,7 +52,7 @@ pub struct Gear {
     worker_seats: Vec<WorkerSeat>,
 }
 
-// Claims for one loop and so many workers, with their seats.
+/// Claims for one loop and so many workers, with their seats.
 #[tactic(auto, using(crate::proofs::Crew::all_own))]
 pub fn with_workers(
     alloc: Global,
@@ -88,7 +89,7 @@ fn with_passes(alloc: Global, workers: u32) -> Result<(Board, Pass, Vec<Pass>), 
 }
 
 impl Hall {
-    // A hall with one pass for the loop and one for each worker.
+    /// A hall with one pass for the loop and one for each worker.
     pub fn new(alloc: Global, workers: u32) -> Result<(Hall, Gear), AllocError>
         requires { workers ≤ MAX_WORKERS }
         ensures loop_pass { IfOk result (λ h. IsPassOf h.0.board h.1.loop_pass) }
@@ -107,7 +108,7 @@ impl Hall {
         Ok((Hall { board, claims }, gear))
     }
 
-    // The loop's side, where its requests have these jobs, and what is left for the workers.
+    /// The loop's side, where its requests have these jobs, and what is left for the workers.
     pub fn settle<'a>(&'a self, jobs: Vec<JobBox>, gear: Gear) -> (LoopSide<'a>, Spares<'a>)
         requires loop_pass { IsPassOf self.now.board gear.loop_pass }
         requires loop_seat { gear.loop_seat ≡ new_loop_view self.now.claims.id 0 }
@@ -140,7 +141,7 @@ impl Hall {
     }
 }
 
-// The passes and seats that no worker has yet.
+/// The passes and seats that no worker has yet.
 pub struct Spares<'a> {
     hall: &'a Hall,
     passes: Vec<Pass>,
@@ -160,7 +161,7 @@ impl Drop for Spares<'_> {
 }
 
 impl<'a> Spares<'a> {
-    // The next worker's side.
+    /// The next worker's side.
     pub fn worker(&mut self) -> Result<WorkerSide<'a>, AllocError> {
         let Some(pass) = self.passes.pop() else {
             return Err(AllocError);
@@ -177,7 +178,7 @@ impl<'a> Spares<'a> {
     }
 }
 
-// What a worker did in one turn.
+/// What a worker did in one turn.
 #[derive(Clone, Copy, Debug, PartialEq)]
 pub enum End {
     Nothing,
@@ -195,8 +196,8 @@ fn end_of(did: Did) -> End {
     }
 }
 
-// It refers to the board and the claims, not to their hall: threads hold it, and each type that is in between makes
-// `Send` of what they hold longer to show.
+/// It refers to the board and the claims, not to their hall: threads hold it, and each type that is in between makes
+/// `Send` of what they hold longer to show.
 pub struct WorkerSide<'a> {
     board: &'a Board,
     claims: &'a Claims,
@@ -230,7 +231,7 @@ impl<'a> WorkerSide<'a> {
         ))
     }
 
-    // Works until the board is closed. Until then this request is held once it is started; no request is 0.
+    /// Works until the board is closed. Until then this request is held once it is started; no request is 0.
     pub fn work_until_closed<R: Wait>(self, rt: &R, held: u32) {
         let WorkerSide {
             board,
@@ -246,7 +247,7 @@ impl<'a> WorkerSide<'a> {
     }
 }
 
-// The loop opens its requests in the slots in turn, and pops the job that it posts. It keeps one that was refused.
+/// The loop opens its requests in the slots in turn, and pops the job that it posts. It keeps one that was refused.
 pub struct LoopSide<'a> {
     hand: Hand<'a>,
     claims: &'a Claims,
@@ -271,11 +272,11 @@ impl Drop for LoopSide<'_> {
     }
 }
 
-// The largest request that a loop may open here.
+/// The largest request that a loop may open here.
 const LAST: u32 = 1000;
 
 impl<'a> LoopSide<'a> {
-    // Opens the next request. Its number.
+    /// Opens the next request. Its number.
     #[tactic(auto, using(crate::proofs::RequestsRise::below_next))]
     pub fn open(&mut self) -> Result<u32, Fail> {
         let request = self.next;
@@ -292,7 +293,7 @@ impl<'a> LoopSide<'a> {
         self.claims.cancel(&mut self.seat, ticket(request))
     }
 
-    // Posts the next job. Whether the board took it.
+    /// Posts the next job. Whether the board took it.
     pub fn post<R: Wait>(&mut self, rt: &R) -> bool {
         let Some(job) = self.jobs.pop() else {
             return false;
@@ -304,7 +305,7 @@ impl<'a> LoopSide<'a> {
         false
     }
 
-    // Posts the job that was refused. Whether the board took it.
+    /// Posts the job that was refused. Whether the board took it.
     pub fn post_kept<R: Wait>(&mut self, rt: &R) -> bool {
         let Some(job) = self.kept.take() else {
             return false;
@@ -312,14 +313,14 @@ impl<'a> LoopSide<'a> {
         self.hand.post(rt, job).is_none()
     }
 
-    // Puts a reply. Whether the board took it.
+    /// Puts a reply. Whether the board took it.
     pub fn put_reply<R: Wait>(&mut self, rt: &R, reply: Reply) -> bool
         requires { reply.order.loop_no ≡ 0 }
     {
         self.hand.put(rt, reply).is_none()
     }
 
-    // Collects a reply. Its request.
+    /// Collects a reply. Its request.
     pub fn collect<R: Wait>(&mut self, rt: &R) -> Option<u32> {
         self.hand.collect(rt)
     }

@@ -1,4 +1,5 @@
 // A board with one of its passes.
+
 ghost use Rattle.std.specs.Prelude.{◌≡◌, ◌+◌, ◌<◌, ◌≤◌, length, All};
 ghost use Rattle.board.specs.Boards.{IsPassOf, IsNewPass};
 
@@ -21,24 +22,24 @@ impl Drop for Hand<'_> {
 }
 
 impl Hand<'_> {
-    // Posts a job. The one that comes back.
+    /// Posts a job. The one that comes back.
     pub fn offer<R: Wait>(&mut self, rt: &R, job: JobBox) -> Option<JobBox> {
         self.board.post(rt, &mut self.pass, job).err()
     }
 
-    // Posts a job. The ticket of one that comes back.
+    /// Posts a job. The ticket of one that comes back.
     pub fn post<R: Wait>(&mut self, rt: &R, job: JobBox) -> Option<Ticket> {
         let back = self.offer(rt, job)?;
         Some(back.ticket)
     }
 
-    // Takes a job. Its ticket.
+    /// Takes a job. Its ticket.
     pub fn take<R: Wait>(&mut self, rt: &R) -> Option<Ticket> {
         let job = self.board.take(rt, &mut self.pass)?;
         Some(job.ticket)
     }
 
-    // Puts a reply for the first loop. The request of one that comes back.
+    /// Puts a reply for the first loop. The request of one that comes back.
     pub fn put<R: Wait>(&mut self, rt: &R, reply: Reply) -> Option<u32>
         requires { reply.order.loop_no ≡ 0 }
     {
@@ -46,14 +47,14 @@ impl Hand<'_> {
         Some(back.order.request)
     }
 
-    // Collects a reply for the first loop. Its request.
+    /// Collects a reply for the first loop. Its request.
     pub fn collect<R: Wait>(&mut self, rt: &R) -> Option<u32> {
         let reply = self.board.collect(rt, &mut self.pass, 0)?;
         Some(reply.order.request)
     }
 }
 
-// With two of the board's passes.
+/// With two of the board's passes.
 pub fn two_hands<'a>(board: &'a Board, passes: &mut Vec<Pass>) -> (Hand<'a>, Hand<'a>)
     requires loops { 0 < length board.now.replies }
     requires count { 2 ≤ length passes.old.items }

@@ -9,7 +9,7 @@ use std::test::Fail;
 use std::thread;
 use std::thread::Threads;
 
-// The request whose reply is collected first, in at most 1,000,000 turns; none is 0.
+/// The request whose reply is collected first, in at most 1,000,000 turns; none is 0.
 struct FirstCollected;
 
 impl Watch for FirstCollected {
@@ -28,15 +28,15 @@ impl Watch for FirstCollected {
     }
 }
 
-// Opens two requests and posts their jobs. Whether each was taken.
+/// Opens two requests and posts their jobs. Whether each was taken.
 fn post_two<R: Wait>(rt: &R, side: &mut LoopSide<'_>) -> Result<(bool, bool), Fail> {
     side.open()?;
     side.open()?;
     Ok((side.post(rt), side.post(rt)))
 }
 
-// Whether each of two requests is posted, and which is replied to first where both workers are at it and the first request
-// is held.
+/// Whether each of two requests is posted, and which is replied to first where both workers are at it and the first request
+/// is held.
 struct AtOnce;
 
 impl Scene for AtOnce {

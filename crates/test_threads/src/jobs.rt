@@ -1,4 +1,5 @@
 // The jobs of the tests. Their orders have no fuel, and each is answered that it was spent.
+
 ghost use Rattle.std.specs.Prelude.{◌≡◌, ◌<◌, ℕ, [], IfOk, codes};
 ghost use Rattle.std.specs.Arc.{arc_value};
 ghost use Rattle.limits.specs.declared.TheConstants.{MAX_LOOPS, MAX_REQUESTS};
@@ -17,7 +18,7 @@ use std::sync::Arc;
 use std::sync::atomic::{AtomicU64, Ordering};
 use std::test::Fail;
 
-// What jobs are made of, and how often they were called.
+/// What jobs are made of, and how often they were called.
 pub struct Jobs {
     pub alloc: Global,
     linked: Arc<Linked>,
@@ -49,7 +50,7 @@ impl Model for Jobs {
     ghost invariant = { λ j. ((f : ℕ) × ExportsFunction (arc_value j.linked).contents (codes "uv_work") f) × ((arc_value j.bytes).items ≡ []) };
 }
 
-// A module whose `uv_work` gives its operation.
+/// A module whose `uv_work` gives its operation.
 const WORKS: &str =
     "0061736d0100000001060160017f017f03020100070b010775765f776f726b00000a0601040020000b";
 
@@ -67,7 +68,7 @@ impl Jobs {
         })
     }
 
-    // One more owner of each part.
+    /// One more owner of each part.
     fn shared(&self) -> Result<Jobs, AllocError> {
         Ok(Jobs {
             alloc: self.alloc,
@@ -99,14 +100,14 @@ impl Jobs {
         order.run(alloc)
     }
 
-    // The reply to the ticket's request.
+    /// The reply to the ticket's request.
     pub fn reply(&self, ticket: Ticket) -> Result<Reply, AllocError>
         ensures { IfOk result (λ reply. ticket_of reply.order ≡ ticket) }
     {
         Ok(self.shared()?.into_reply(ticket))
     }
 
-    // A job that gives that reply and counts its call.
+    /// A job that gives that reply and counts its call.
     pub fn job(&self, ticket: Ticket) -> Result<JobBox, AllocError>
         requires { (ticket.loop_no < MAX_LOOPS) × (ticket.slot < MAX_REQUESTS) }
         ensures { IfOk result (λ job. job.ticket ≡ ticket) }
@@ -121,7 +122,7 @@ impl Jobs {
         Ok(JobBox::new(ticket, Box::new(self.alloc, run)?))
     }
 
-    // The jobs of the loop's first so many requests, to be popped in their order.
+    /// The jobs of the loop's first so many requests, to be popped in their order.
     pub fn in_turn(&self, count: u32) -> Result<Vec<JobBox>, AllocError> {
         let mut jobs = Vec::new(self.alloc);
         for n in 0..count {
@@ -130,12 +131,12 @@ impl Jobs {
         Ok(jobs)
     }
 
-    // How often they were called.
+    /// How often they were called.
     pub fn called(&self) -> u64 {
         self.calls.load(Ordering::SeqCst)
     }
 
-    // How many jobs still stand, and this.
+    /// How many jobs still stand, and this.
     pub fn owners(&self) -> usize {
         Arc::strong_count(&self.calls)
     }

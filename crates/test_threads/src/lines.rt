@@ -1,4 +1,5 @@
 // Jobs that two threads take while two others post.
+
 ghost use Rattle.std.specs.Prelude.{◌≡◌, ◌<◌};
 ghost use Rattle.std.specs.Thread.{IsSync};
 ghost use Rattle.limits.specs.declared.TheConstants.{MAX_LOOPS};
@@ -15,10 +16,10 @@ use std::test::Fail;
 use std::thread;
 use std::thread::Threads;
 
-// How many jobs each of the two posts. Their tickets have its number for the loop's, and count from 0.
+/// How many jobs each of the two posts. Their tickets have its number for the loop's, and count from 0.
 const EACH: usize = 100;
 
-// What one thread took of the jobs of one poster: how often each, and whether they came in their order.
+/// What one thread took of the jobs of one poster: how often each, and whether they came in their order.
 #[derive(Clone, Copy)]
 struct Taken {
     times: [u32; EACH],
@@ -42,10 +43,10 @@ impl Taken {
     }
 }
 
-// What one thread took of both posters' jobs.
+/// What one thread took of both posters' jobs.
 type TakenOfBoth = [Taken; 2];
 
-// Posts the jobs in their order. Whether all were taken.
+/// Posts the jobs in their order. Whether all were taken.
 fn post_all<R: Wait>(rt: &R, hand: &mut Hand<'_>, jobs: Vec<JobBox>) -> bool {
     for job in jobs {
         if hand.post(rt, job).is_some() {
@@ -55,7 +56,7 @@ fn post_all<R: Wait>(rt: &R, hand: &mut Hand<'_>, jobs: Vec<JobBox>) -> bool {
     true
 }
 
-// Takes until all jobs are taken, in at most 1,000,000 turns.
+/// Takes until all jobs are taken, in at most 1,000,000 turns.
 fn take_all<R: Wait>(rt: &R, hand: &mut Hand<'_>, count: &AtomicU64) -> TakenOfBoth {
     let mut taken = [Taken::NOTHING; 2];
     for _ in 0..1_000_000 {
@@ -79,7 +80,7 @@ fn note(taken: &mut TakenOfBoth, ticket: Ticket) {
     }
 }
 
-// Posts the jobs in a thread of its own.
+/// Posts the jobs in a thread of its own.
 fn start_to_post<'s, R: Wait + Sync, E>(
     scope: &thread::Scope<'s, E>,
     rt: &'s R,
@@ -92,7 +93,7 @@ fn start_to_post<'s, R: Wait + Sync, E>(
     Ok(())
 }
 
-// Whether two threads take the jobs of each of two others in their order.
+/// Whether two threads take the jobs of each of two others in their order.
 fn post_and_take<R: Threads + Wait + Sync>(
     rt: &R,
     posters: (Hand<'_>, Hand<'_>),
@@ -119,7 +120,7 @@ fn post_and_take<R: Threads + Wait + Sync>(
     )
 }
 
-// Whether both threads took one poster's jobs in their order, and each job was taken once, by either.
+/// Whether both threads took one poster's jobs in their order, and each job was taken once, by either.
 fn are_in_order(left: &Taken, right: &Taken) -> bool {
     for (a, b) in left.times.iter().zip(right.times.iter()) {
         if a.saturating_add(*b) != 1 {
@@ -161,7 +162,7 @@ fn by_four_threads<R: Threads + Wait + Sync>(
     post_and_take(rt, posters, takers, jobs)
 }
 
-// Hundred jobs of each of two posters.
+/// Hundred jobs of each of two posters.
 fn both_jobs(alloc: Global) -> Result<(Vec<JobBox>, Vec<JobBox>), Fail> {
     let jobs = Jobs::new(alloc)?;
     Ok((

@@ -1,4 +1,5 @@
 // Marks: sends and takes, by threads.
+
 ghost use Rattle.std.specs.Prelude.{◌≡◌, ◌+◌, ◌≤◌, ◌<◌, [], ◌∷◌, slice_index, sum, IfOk};
 ghost use Rattle.std.specs.Thread.{IsSync};
 ghost use Rattle.tallies.specs.Counts.{none_counted};
@@ -11,10 +12,10 @@ use std::alloc::{AllocError, Global};
 use std::test::Fail;
 use std::thread::{Threads, join, yield_now};
 
-// The last async.
+/// The last async.
 const LAST: u32 = MAX_ASYNCS as u32 - 1;
 
-// The marks of a loop with one send seat.
+/// The marks of a loop with one send seat.
 fn one_sender(alloc: Global) -> Result<(Marks, TakeSeat, SendSeat), AllocError>
     ensures { IfOk result (λ m. (m.1 ≡ new_taker m.0 1) × (m.2 ≡ new_sender m.0)) }
 {
@@ -25,7 +26,7 @@ fn one_sender(alloc: Global) -> Result<(Marks, TakeSeat, SendSeat), AllocError>
     Ok((marks, taker, seat))
 }
 
-// Sends so often to async 0.
+/// Sends so often to async 0.
 fn send_times(marks: &Marks, mut seat: SendSeat, times: u32) -> SendSeat
     requires { seat ≡ new_sender marks.now }
     ensures own { result.marks ≡ marks.now }
@@ -84,7 +85,7 @@ fn a_joined_seats_sends_are_taken(rt: HostRuntime) -> Result<(), Fail> {
     Ok(())
 }
 
-// Sends by the loop itself, so often to this async.
+/// Sends by the loop itself, so often to this async.
 fn send_own_times(marks: &Marks, taker: &mut TakeSeat, async_no: u32, times: u32)
     requires { (taker.old.marks ≡ marks.now) × (async_no < MAX_ASYNCS) }
     ensures { taker.new.marks ≡ marks.now }
@@ -122,7 +123,7 @@ fn all_send_seats_send_and_join(rt: HostRuntime) -> Result<(), Fail> {
     Ok(())
 }
 
-// What a loop took while others sent: the sum, and how many takes found something.
+/// What a loop took while others sent: the sum, and how many takes found something.
 struct Taken {
     taker: TakeSeat,
     sum: u64,
@@ -139,7 +140,7 @@ impl Drop for Taken {
     }
 }
 
-// Takes so often from async 0.
+/// Takes so often from async 0.
 fn take_turns(marks: &Marks, mut taker: TakeSeat, turns: u32) -> Taken
     requires { taker ≡ new_taker marks.now 3 }
     ensures taker { (result.taker.marks ≡ marks.now) × (result.taker.own ≡ none_counted) × (result.taker.joined ≡ []) × (result.taker.apart ≡ 3) }
@@ -163,7 +164,7 @@ fn take_turns(marks: &Marks, mut taker: TakeSeat, turns: u32) -> Taken
     }
 }
 
-// Three threads send 5, 7 and 11 times.
+/// Three threads send 5, 7 and 11 times.
 fn three_senders<R: Threads + Sync>(
     rt: &R,
     marks: &Marks,
@@ -190,7 +191,7 @@ fn three_senders<R: Threads + Sync>(
     (one, two, three)
 }
 
-// Two threads send 7 and 11 times.
+/// Two threads send 7 and 11 times.
 fn two_senders<R: Threads + Sync>(
     rt: &R,
     marks: &Marks,
@@ -214,7 +215,7 @@ fn two_senders<R: Threads + Sync>(
     )
 }
 
-// Three threads send while the loop takes. Then their seats are joined, and it takes once more.
+/// Three threads send while the loop takes. Then their seats are joined, and it takes once more.
 fn race<R: Threads + Sync>(rt: &R, alloc: Global) -> Result<Taken, AllocError>
     ensures sum { IfOk result (λ t. t.sum ≡ 23) }
     ensures callbacks { IfOk result (λ t. t.callbacks ≤ 23) }

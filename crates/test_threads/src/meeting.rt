@@ -5,7 +5,7 @@ use std::alloc::{AllocError, Global};
 use std::sync::Arc;
 use std::sync::atomic::{AtomicU64, Ordering};
 
-// How many are wanted, how many came, and whether one of them waited in vain.
+/// How many are wanted, how many came, and whether one of them waited in vain.
 pub struct Meeting {
     wanted: u64,
     came: Arc<AtomicU64>,
@@ -23,7 +23,7 @@ impl Drop for Meeting {
 }
 
 impl Meeting {
-    // Of so many. Nobody came yet.
+    /// Of so many. Nobody came yet.
     pub fn new(alloc: Global, wanted: u32) -> Result<Meeting, AllocError> {
         Ok(Meeting {
             wanted: u64::from(wanted),
@@ -32,7 +32,7 @@ impl Meeting {
         })
     }
 
-    // One more owner of it.
+    /// One more owner of it.
     pub fn shared(&self) -> Result<Meeting, AllocError> {
         Ok(Meeting {
             wanted: self.wanted,
@@ -41,7 +41,7 @@ impl Meeting {
         })
     }
 
-    // Comes, and waits until all that are wanted are there, for at most 1,000,000 turns, unless somebody waited in vain.
+    /// Comes, and waits until all that are wanted are there, for at most 1,000,000 turns, unless somebody waited in vain.
     pub fn meet(&self) {
         self.came.fetch_add(1, Ordering::SeqCst);
         if self.is_missed() || !comes(&self.came, self.wanted) {
@@ -53,7 +53,7 @@ impl Meeting {
         self.in_vain.load(Ordering::SeqCst) != 0
     }
 
-    // Whether all came that are wanted, and nobody waited in vain.
+    /// Whether all came that are wanted, and nobody waited in vain.
     pub fn took_place(&self) -> bool {
         self.came.load(Ordering::SeqCst) >= self.wanted && !self.is_missed()
     }

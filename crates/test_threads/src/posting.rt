@@ -11,7 +11,7 @@ use std::process::Abort;
 use std::sync::Wait;
 use std::test::Fail;
 
-// A job goes from one hand to the other, and its reply back.
+/// A job goes from one hand to the other, and its reply back.
 fn pass_on<R: Wait + Abort>(
     rt: &R,
     jobs: &Jobs,
@@ -30,7 +30,7 @@ fn pass_on<R: Wait + Abort>(
     Ok(())
 }
 
-// So many jobs and replies are taken in, and the next of each comes back.
+/// So many jobs and replies are taken in, and the next of each comes back.
 fn fill<R: Wait + Abort>(rt: &R, jobs: &Jobs, hand: &mut Hand<'_>) -> Result<(), AllocError> {
     for request in 0..MAX_JOBS as u32 {
         shows(rt, hand.post(rt, jobs.job(ticket(request))?), None);

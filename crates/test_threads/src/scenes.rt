@@ -1,4 +1,5 @@
 // What a loop and its workers do in a hall, and what is seen of it.
+
 ghost use Rattle.std.specs.Prelude.{◌≡◌, ◌≤◌};
 ghost use Rattle.std.specs.Thread.{IsSync};
 ghost use Rattle.limits.specs.declared.TheConstants.{MAX_WORKERS};
@@ -39,8 +40,8 @@ fn in_hall<S: Scene, R: Threads + Wait + Sync>(
     scene.play(rt, jobs, &mut side, &mut spares)
 }
 
-// With so many workers at most, and so many jobs. What is seen, and how many owners the counter of calls has once the
-// hall is gone.
+/// With so many workers at most, and so many jobs. What is seen, and how many owners the counter of calls has once the
+/// hall is gone.
 pub fn played<S: Scene, R: Threads + Wait + Sync>(
     rt: &R,
     alloc: Global,
@@ -55,14 +56,14 @@ pub fn played<S: Scene, R: Threads + Wait + Sync>(
     Ok((seen, jobs.owners()))
 }
 
-// What a loop sees while its workers work.
+/// What a loop sees while its workers work.
 pub trait Watch {
     type Seen: Copy;
 
     fn watch<R: Wait>(&self, rt: &R, side: &mut LoopSide<'_>) -> Self::Seen;
 }
 
-// Starts a worker that holds this request.
+/// Starts a worker that holds this request.
 fn start<'s, R: Wait + Sync, E>(
     scope: &thread::Scope<'s, E>,
     rt: &'s R,
@@ -94,7 +95,7 @@ fn start_all<'a: 's, 's, R: Wait + Sync, E>(
     Ok(())
 }
 
-// So many workers work in a thread each and hold this request, until what is to be seen was seen and the board is closed.
+/// So many workers work in a thread each and hold this request, until what is to be seen was seen and the board is closed.
 pub fn at_work<W: Watch, R: Threads + Wait + Sync>(
     rt: &R,
     watch: &W,

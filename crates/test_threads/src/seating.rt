@@ -1,4 +1,5 @@
 // A loop's seats are what it shares.
+
 ghost use Rattle.std.specs.Prelude.{◌≡◌};
 ghost use Rattle.phases.specs.View.{IsAbove};
 
@@ -10,7 +11,7 @@ use pool::Seats;
 use std::alloc::{AllocError, Global};
 use std::test::Fail;
 
-// Opens and cancels request 1, and sends to async 0 and takes.
+/// Opens and cancels request 1, and sends to async 0 and takes.
 fn shares<B: Shared>(shared: &mut B) -> (bool, bool, u64)
     requires { IsAbove (B.calls.view shared.old) 1 }
 {
@@ -20,7 +21,7 @@ fn shares<B: Shared>(shared: &mut B) -> (bool, bool, u64)
     (cancelled, sent, shared.take(0))
 }
 
-// What new seats share, and the loop's number in the seat that they give back.
+/// What new seats share, and the loop's number in the seat that they give back.
 fn seats_share(alloc: Global) -> Result<((bool, bool, u64), u32), AllocError> {
     let (claims, loop_seat, _) = with_workers(alloc, 0)?;
     let (marks, taker, _send_seats) = Marks::new(alloc, 0)?;

@@ -1,4 +1,5 @@
 // Loops that are served in threads.
+
 ghost use Rattle.std.specs.Prelude.{◌≡◌, ◌≤◌};
 ghost use Rattle.board.specs.Jobs.{ticket_of};
 
@@ -17,52 +18,52 @@ use std::sync::Wait;
 use std::test::Fail;
 use std::thread::Threads;
 
-// Starts a timer of 50, whose callback emits the moment.
+/// Starts a timer of 50, whose callback emits the moment.
 const TIMER: &str =
     "0061736d01000000011d066000017e6000017f60047f7f7e7e017f60017e017f60017f00600000023504027576036e6f7700000275760a74696d65725f696e697400010275760b74696d65725f7374617274000202757604656d697400030303020405040401700004070b010775765f6d61696e00050907010041000b01040a17020700100010031a0b0d00100141004232420010021a0b";
 
-// Calls itself for ever.
+/// Calls itself for ever.
 const CALLS_ITSELF: &str =
     "0061736d0100000001040160000003020100070b010775765f6d61696e00000a0601040010000b";
 
-// Asks for one piece of work, operation 5; its work function adds 1, and the callback emits the result.
+/// Asks for one piece of work, operation 5; its work function adds 1, and the callback emits the result.
 const ASKS_ONCE: &str =
     "0061736d01000000011b0560037f7f7f017f60017e017f60000060017f017f60037f7f7f00021b020275760a71756575655f776f726b000002757604656d697400010304030203040725030775765f6d61696e00020775765f776f726b00030d75765f61667465725f776f726b00040a1e030b0041054100410010001a0b0700200041016a0b08002002ac10011a0b";
 
-// Asks for the operations 0 to 31; its work function doubles, and the last callback emits the sum of the results.
+/// Asks for the operations 0 to 31; its work function doubles, and the last callback emits the sum of the results.
 const ASKS: &str =
     "0061736d01000000011b0560037f7f7f017f60017e017f60000060017f017f60037f7f7f00021b020275760a71756575655f776f726b000002757604656d6974000103040302030405030100010610037f0141000b7f0141000b7f0141000b0725030775765f6d61696e00020775765f776f726b00030d75765f61667465725f776f726b00040a45031c00034023004100410010001a230041016a240023004120490d000b0b0700200020006a0b1e00230220026a2402230141016a2401230141204604402302ad10011a0b0b";
 
-// A timer of 5, repeated each 10, emits the moment, and is stopped in its third callback.
+/// A timer of 5, repeated each 10, emits the moment, and is stopped in its third callback.
 const TICKS: &str =
     "0061736d010000000122076000017f60047f7f7e7e017f60017e017f60017f006000006000017e60017f017f0245050275760a74696d65725f696e697400000275760b74696d65725f7374617274000102757604656d69740002027576036e6f7700050275760a74696d65725f73746f70000603030203040404017000010606017f0141000b070b010775765f6d61696e00060907010041000b01050a2b021b00100310021a230041016a240023004103460440200010041a0b0b0d00100041004205420a10011a0b";
 
-// Makes an async to which nobody sends.
+/// Makes an async to which nobody sends.
 const WAITS: &str =
     "0061736d010000000111046000017f60000060017f0060017f017f0211010275760a6173796e635f696e697400030303020201040401700001070b010775765f6d61696e00020907010041000b01010a0c0202000b0700410010001a0b";
 
-// An idle callback that counts its runs, and emits the count from 99,998 on.
+/// An idle callback that counts its runs, and emits the count from 99,998 on.
 const COUNTS: &str =
     "0061736d010000000117056000017f60027f7f017f60017e017f60017f00600000022a030275760969646c655f696e697400000275760a69646c655f7374617274000102757604656d6974000203030203040404017000010606017f0141000b070b010775765f6d61696e00040907010041000b01030a25021900230041016a24002300419e8d064f04402300ad10021a0b0b09001000410010011a0b";
 
-// An idle callback that counts its runs, and traps in run 99,999.
+/// An idle callback that counts its runs, and traps in run 99,999.
 const TRAPS: &str =
     "0061736d010000000117056000017f60027f7f017f60017e017f60017f00600000022a030275760969646c655f696e697400000275760a69646c655f7374617274000102757604656d6974000203030203040404017000010606017f0141000b070b010775765f6d61696e00040907010041000b01030a20021400230041016a24002300419f8d06460440000b0b09001000410010011a0b";
 
-// Asks for work 200 times, 32 at once, with the request's number as its operation; its work function adds 1. A timer's
-// callback in the turn behind each post cancels every third request. Each after-work looks at whether it is the
-// request's first, whether it is told of a cancel exactly where that was answered 0, and at the result. The last emits
-// how many there were, and how much was wrong.
+/// Asks for work 200 times, 32 at once, with the request's number as its operation; its work function adds 1. A timer's
+/// callback in the turn behind each post cancels every third request. Each after-work looks at whether it is the
+/// request's first, whether it is told of a cancel exactly where that was answered 0, and at the result. The last emits
+/// how many there were, and how much was wrong.
 pub const CANCELS: &str =
     "0061736d01000000012b086000017f60047f7f7e7e017f60037f7f7f017f60017f017f60017e017f60000060037f7f7f0060017f000248050275760a74696d65725f696e697400000275760b74696d65725f737461727400010275760a71756575655f776f726b00020275760663616e63656c000302757604656d69740004030504050306070404017000010503010001061a057f0141000b7f0141000b7f0141000b7f0141000b7f0141000b0725030775765f6d61696e00050775765f776f726b00060d75765f61667465725f776f726b00070907010041000b01080a9e0204110010002400230041004200420010011a0b0700200041016a0b85010020002d00002001470440230441016a24040b20002d0080080440230441016a24040b200041013a00800820010440200241837f470440230441016a24040b052002200041016a470440230441016a24040b0b230341016a2403230341c8014604402303ac10041a2304ac10041a05230141c801490440230041004200420010011a0b0b0b7b01017f034023022301490440230241016a2402230241037045044023021003450440230241053a00000b0b0c010b0b02400340230141c8014f0d01230141016a41004100100222014100480d012001230141016a470440230441016a24040b200124010c000b0b23022301490440230041004200420010011a0b0b";
 
-// Asks for work that never ends, and meanwhile for 359 pieces more, of which it cancels all that no worker has started
-// as often as 31 are outstanding. The job of each is posted before, so that a worker that is busy leaves the board full.
-// Then it asks once more. The last after-work emits how many there were.
+/// Asks for work that never ends, and meanwhile for 359 pieces more, of which it cancels all that no worker has started
+/// as often as 31 are outstanding. The job of each is posted before, so that a worker that is busy leaves the board full.
+/// Then it asks once more. The last after-work emits how many there were.
 const FILLS: &str =
     "0061736d010000000129086000017f60027f7f017f60017f017f60037f7f7f017f60017e017f60000060017f0060037f7f7f000255060275760969646c655f696e697400000275760a69646c655f737461727400010275760969646c655f73746f7000020275760a71756575655f776f726b00030275760663616e63656c000202757604656d697400040308070205050605020704040170000105030100010610037f0141000b7f0141000b7f0141000b0725030775765f6d61696e000a0775765f776f726b000b0d75765f61667465725f776f726b000c0907010041000b01090abe01071c01017f20004100410010032101200141004a0440200124000b20010b17000340230041e8024804404100100641004a0d010b0b0b2701017f230021000340200010041a200041016b2100200041014a2000230041206b4a710d000b0b250023020440100805230041e802480440100705200010021a410010061a0b0b23024524020b1401017f100021002000410010011a410110061a0b0b00034020000d000b41070b1800230141016a2401230141e9024604402301ac10051a0b0b";
 
-// So many loops and workers, with ample fuel.
+/// So many loops and workers, with ample fuel.
 pub fn ample(loops: u32, workers: u32) -> Serving
     requires loops { (1 ≤ loops) × (loops ≤ MAX_LOOPS) }
     requires workers { (1 ≤ workers) × (workers ≤ MAX_WORKERS) }
@@ -78,7 +79,7 @@ pub fn ample(loops: u32, workers: u32) -> Serving
     }
 }
 
-// What comes of the loops that are served so.
+/// What comes of the loops that are served so.
 pub fn served<R: Threads + Wait + Sync + AllocGlobal>(
     rt: &R,
     digits: &str,
@@ -88,7 +89,7 @@ pub fn served<R: Threads + Wait + Sync + AllocGlobal>(
     served_meeting(rt, digits, serving, &nobody, &nobody)
 }
 
-// The same of loops that meet as they make a job, and of workers that meet as they call one.
+/// The same of loops that meet as they make a job, and of workers that meet as they call one.
 fn served_meeting<R: Threads + Wait + Sync + AllocGlobal>(
     rt: &R,
     digits: &str,
@@ -112,7 +113,7 @@ fn served_meeting<R: Threads + Wait + Sync + AllocGlobal>(
     Ok(serve(rt, alloc, linked_of(alloc, digits)?, serving, &make)?)
 }
 
-// The lines of the loops that are served so.
+/// The lines of the loops that are served so.
 fn lines<R: Threads + Wait + Sync + AllocGlobal>(
     rt: &R,
     digits: &str,
@@ -130,7 +131,7 @@ fn text_of(alloc: Global, served: &[Served]) -> Result<String, Fail> {
     Ok(text)
 }
 
-// That these are the lines of the loops that are served so.
+/// That these are the lines of the loops that are served so.
 fn check<R: Threads + Wait + Sync + AllocGlobal + Abort>(
     rt: &R,
     digits: &str,
@@ -224,7 +225,7 @@ fn a_last_callback_that_fails_is_a_failure(rt: HostRuntime) -> Result<(), Fail> 
     check(&rt, TRAPS, ample(1, 1), "loop 0 failed emits\n")
 }
 
-// The lines of as many loops as may be, each of which emits the sum of its results.
+/// The lines of as many loops as may be, each of which emits the sum of its results.
 fn all_over(alloc: Global) -> Result<String, Fail> {
     let mut text = String::new(alloc);
     for loop_no in 0..MAX_LOOPS {

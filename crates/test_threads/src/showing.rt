@@ -3,12 +3,12 @@
 use std::fmt::Debug;
 use std::process::Abort;
 
-// That what is seen is what is expected.
+/// That what is seen is what is expected.
 pub fn shows<T: Copy + Debug + PartialEq>(rt: &impl Abort, seen: T, expected: T) {
     assert_eq!(rt; seen, expected);
 }
 
-// That this was told.
+/// That this was told.
 pub fn check_told(rt: &impl Abort, told: &str, wanted: &str) {
     assert_eq!(rt; told, wanted);
 }

@@ -1,4 +1,5 @@
 // What loops and workers do with a request is told in its order.
+
 ghost use Rattle.std.specs.Prelude.{◌≡◌};
 ghost use Rattle.board.specs.Jobs.{ticket_of};
 
@@ -14,7 +15,7 @@ use std::sync::Wait;
 use std::sync::atomic::{AtomicU64, Ordering};
 use std::test::Fail;
 
-// How far a request has come. A dropped one goes no further.
+/// How far a request has come. A dropped one goes no further.
 const NOWHERE: u64 = 0;
 
 const POSTED: u64 = 1;
@@ -29,13 +30,13 @@ const COLLECTED: u64 = 5;
 
 const DROPPED: u64 = 6;
 
-// How many requests of a loop have a place, and how many places two loops have.
+/// How many requests of a loop have a place, and how many places two loops have.
 const REQUESTS: u32 = 256;
 
 const PLACES: u32 = 512;
 
-// How far each request of two loops has come, how many were begun and collected, and how often one was told out of its
-// order.
+/// How far each request of two loops has come, how many were begun and collected, and how often one was told out of its
+/// order.
 struct Stages {
     stages: Vec<AtomicU64>,
     begun: AtomicU64,
@@ -55,7 +56,7 @@ impl Drop for Stages {
 }
 
 impl Stages {
-    // No request has come anywhere.
+    /// No request has come anywhere.
     fn new(alloc: Global) -> Result<Stages, AllocError> {
         let mut stages = Vec::new(alloc);
         for _ in 0..PLACES {
@@ -69,7 +70,7 @@ impl Stages {
         })
     }
 
-    // The request comes from one stage to the next.
+    /// The request comes from one stage to the next.
     fn comes(&self, loop_no: u32, request: u32, from: u64, to: u64) {
         let place = loop_no.saturating_mul(REQUESTS).saturating_add(request);
         let Some(stage) = self.stages.get(place as usize) else {
@@ -82,7 +83,7 @@ impl Stages {
         stage.store(to, Ordering::SeqCst);
     }
 
-    // How often one was told out of its order, how many were begun, and how many of these were not collected.
+    /// How often one was told out of its order, how many were begun, and how many of these were not collected.
     fn seen(&self) -> (u64, u64, u64) {
         let begun = self.begun.load(Ordering::SeqCst);
         let collected = self.collected.load(Ordering::SeqCst);
@@ -132,7 +133,7 @@ impl Watch for Stages {
     }
 }
 
-// What a work function of one of the loops used at most, if that is known of each.
+/// What a work function of one of the loops used at most, if that is known of each.
 fn most_of(told: &[Served]) -> Option<u64> {
     let mut most = 0;
     for one in told {

@@ -1,4 +1,5 @@
 // One worker's turns, with the loop's calls between them.
+
 use crate::gates::Open;
 use crate::hall::{End, LoopSide, Spares, WorkerSide, ticket};
 use crate::jobs::Jobs;
@@ -9,7 +10,7 @@ use std::sync::Wait;
 use std::test::Fail;
 use std::thread::Threads;
 
-// What was seen of two requests, where the second is cancelled before it is posted.
+/// What was seen of two requests, where the second is cancelled before it is posted.
 #[derive(Clone, Copy, Debug, PartialEq)]
 struct Seen {
     posted: (bool, bool),
@@ -80,7 +81,7 @@ fn a_started_job_is_called_and_a_cancelled_one_dropped(rt: HostRuntime) -> Resul
     Ok(())
 }
 
-// Opens so many requests, and posts and cancels each. Whether all of that worked.
+/// Opens so many requests, and posts and cancels each. Whether all of that worked.
 fn post_and_cancel<R: Wait>(rt: &R, side: &mut LoopSide<'_>, count: usize) -> Result<bool, Fail> {
     for _ in 0..count {
         let request = side.open()?;
@@ -91,7 +92,7 @@ fn post_and_cancel<R: Wait>(rt: &R, side: &mut LoopSide<'_>, count: usize) -> Re
     Ok(true)
 }
 
-// Whether each of so many turns of the worker dropped a job.
+/// Whether each of so many turns of the worker dropped a job.
 fn drops<R: Wait>(rt: &R, worker: &mut WorkerSide<'_>, turns: usize) -> bool {
     for _ in 0..turns {
         if !matches!(worker.turn(rt, &Open), End::Dropped(_)) {
@@ -101,7 +102,7 @@ fn drops<R: Wait>(rt: &R, worker: &mut WorkerSide<'_>, turns: usize) -> bool {
     true
 }
 
-// What was seen of a board that is full of cancelled jobs, and of one request more, whose job is posted twice.
+/// What was seen of a board that is full of cancelled jobs, and of one request more, whose job is posted twice.
 #[derive(Clone, Copy, Debug, PartialEq)]
 struct SeenFull {
     is_filled: bool,

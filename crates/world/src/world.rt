@@ -114,7 +114,7 @@ fn job_of(order: &Order) -> JobId
     }
 }
 
-// How an outcome is told.
+/// How an outcome is told.
 fn ending_of(outcome: &Outcome) -> JobEnd
     ensures { Tells result (end_of outcome.now) }
 {
@@ -131,7 +131,7 @@ fn none_undone(alloc: Global) -> Result<Vec<Undone>, AllocError> {
     Vec::with_capacity(alloc, MAX_UNDONE)
 }
 
-// Keeps a job whose work did not return, while there is room.
+/// Keeps a job whose work did not return, while there is room.
 fn keep_undone(
     undone: &mut Vec<Undone>,
     job: JobId,
@@ -152,7 +152,7 @@ fn keep_undone(
     }
 }
 
-// The loops of a world as they open, each under its place as its number.
+/// The loops of a world as they open, each under its place as its number.
 fn opening_loops(alloc: Global, configs: &[LoopConfig]) -> Result<Vec<LoopCore<Desk>>, AllocError>
     requires few { length configs.now ≤ MAX_LOOPS }
     requires depths { All HasDepth configs.now }
@@ -187,7 +187,7 @@ fn opening_loop(
     )
 }
 
-// An empty list of replies for each loop.
+/// An empty list of replies for each loop.
 fn no_replies(alloc: Global, loops: usize) -> Result<Vec<VecDeque<Reply>>, AllocError>
     ensures { IfOk result (λ lists. map (λ d. answers_of d.items) lists.items ≡ replicate loops []) }
 {

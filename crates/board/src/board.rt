@@ -132,7 +132,7 @@ impl<J: Drop> Board<J> {
         self.jobs.give(rt, &mut pass.jobs, job)
     }
 
-    /// Takes the front job, by one pop.
+    /// Takes the front job, by one pop. `None` where it found none, and then nothing has changed.
     pub fn take<R: Wait>(&self, rt: &R, pass: &mut Pass<J>) -> Option<J>
         requires { IsPassOf self.now pass.old }
         ensures own { IsPassOf self.now pass.new }
@@ -154,7 +154,7 @@ impl<J: Drop> Board<J> {
         self.replies[loop_no].give(rt, &mut pass.replies[loop_no], reply)
     }
 
-    /// Takes the front reply of a loop, by one pop.
+    /// Takes the front reply of a loop, by one pop. `None` where it found none, and then nothing has changed.
     pub fn collect<R: Wait>(&self, rt: &R, pass: &mut Pass<J>, loop_no: u32) -> Option<Reply>
         requires own { IsPassOf self.now pass.old }
         requires there { loop_no < length self.now.replies }

@@ -192,7 +192,7 @@ fn invoke_within<H: Host>(
     );
 }
 
-/// Calls a function of a module on one of its instances, with these arguments and so much fuel. At most `depth`
+/// Calls a function of a module on one of its instances, with these arguments and so much fuel. At most `depth`, 1 to `MAX_DEPTH`,
 /// calls stand open, this one among them; calls of the host are not counted. A call of an imported function is one
 /// call of the host, and uses no fuel. No memory is taken: the instance has room for the slots of all calls.
 pub fn invoke<H: Host>(

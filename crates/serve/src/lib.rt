@@ -5,7 +5,7 @@
 //!
 //! By its contract `serve` gives an answer for each loop, and the k-th tells a history of loop k of this module over its
 //! seats: what its callbacks emitted, in order, and how it ended. `laws::after_once` is the law of after-work callbacks in
-//! each such history. Begin with `specs/Inner/Promises.antt` and `specs/Histories.antt`; the code with `threads` and `turn`.
+//! each such history. Begin with `specs/Histories.antt` and `specs/Answers.antt`; the code with `threads` and `turn`.
 #![tactic(auto)]
 
 mod account;

@@ -60,6 +60,7 @@ pub enum Mutability {
     Var,
 }
 
+/// A global of a module, with its initializer.
 pub struct Global {
     pub value_type: ValType,
     pub mutability: Mutability,
@@ -85,6 +86,7 @@ pub enum ExternKind {
     Global,
 }
 
+/// An export: its name, in UTF-8, and what it names, by kind and index.
 pub struct ModuleExport {
     pub name: Items<u8>,
     pub kind: ExternKind,

@@ -1,7 +1,7 @@
 -- A worker's starts and finishes, as those of a world.
 use Rattle.std.proofs.Common.{◌≡◌, ℕ, ◌<◌, Bool, true, false, List, [], ◌∷◌, ◌++◌, length, map, get_or, Result, Ok, Err, Some, refl, sym, ap, ◌∙◌, subst}
 use Rattle.std.specs.Prelude.{slice_get, slice_set, All, OnErr}
-use Rattle.std.proofs.lemmas.Option.{slice_get-get_or, get_or_from_slice_get, slice_get_within}
+use Rattle.std.proofs.lemmas.Option.{slice_get-get_or}
 use Rattle.std.proofs.lemmas.List.{length-set, map-set}
 use Rattle.std.proofs.lemmas.List.Elements.{All-set}
 use Rattle.order.specs.declared.order.Order.{Order}
@@ -21,6 +21,7 @@ use Rattle.world.specs.World.{World, Worker, Answer, Idle, Taken, Started, WithW
 use Rattle.world.specs.declared.worker.Worker.{Worker as CodeWorker}
 use Rattle.world.specs.declared.worker.Worker.TheVariants as worker
 use Rattle.world.specs.Making.{worker_of, answer_of, IsJob, IsHeld, IsKept}
+use Rattle.phases.proofs.RequestsRise.{at_all}
 use Rattle.world.proofs.StepsAgree.{world_of, moved}
 
 -- what each worker has
@@ -35,9 +36,6 @@ read_or xs n x d within is = slice_get-get_or xs n d within ∙ ap Some (sym is)
 pub loop_there : (loops : ℕ) (o : Order) (job : JobId) → job ≡ job_of (order_of o) → IsJob loops o → job.loop_no < loops
 loop_there loops o job told held = subst (λ j. j.loop_no < loops) (sym told) held.there
 
-holds_at : {X : Type 0} (P : X → Type 0) (xs : List X) (n : ℕ) (x : X) → All P xs → slice_get xs n ≡ Some x → P x
-holds_at P xs n x all at = subst P (get_or_from_slice_get xs n x x at) (all n x (slice_get_within xs n x at))
-
 pub on_err : {X E : Type 0} (r : Result X E) (P : Type 0) → P → OnErr r P
 on_err (Ok x) P h = tt
 on_err (Err e) P h = h
@@ -49,7 +47,7 @@ pub started_same : (x y : Order) → worker.Started x ≡ worker.Started y → x
 started_same x y h = cc
 
 pub job_held : (loops n : ℕ) (hs : List CodeWorker) (h h' : CodeWorker) → All (IsHeld loops) hs → slice_get hs n ≡ Some h → h ≡ h' → IsHeld loops h'
-job_held loops n hs h h' all at is = subst (IsHeld loops) is (holds_at (IsHeld loops) hs n h all at)
+job_held loops n hs h h' all at is = subst (IsHeld loops) is (at_all (IsHeld loops) hs n h all at)
 
 pub kept_worker : (ls : List (Core Desk)) (js : List Order) (hs : List CodeWorker) (lists room n : ℕ) (h : CodeWorker) → IsHeld (length ls) h
     → IsKept ls js hs lists room → IsKept ls js (slice_set hs n h) lists room

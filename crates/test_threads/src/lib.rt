@@ -35,6 +35,8 @@ mod scenes;
 #[cfg(test)]
 mod seating;
 #[cfg(test)]
+mod sending;
+#[cfg(test)]
 mod serving;
 #[cfg(test)]
 mod showing;

@@ -51,15 +51,24 @@ fn an_unjoined_seats_sends_are_taken_once(rt: HostRuntime) -> Result<(), Fail> {
     Ok(())
 }
 
+// What a loop takes from this async before a send to it, behind that, and behind another.
+fn take_thrice(alloc: Global, async_no: u32) -> Result<(u64, u64, u64), Fail>
+    requires { async_no < MAX_ASYNCS }
+{
+    let (marks, mut taker, mut seat) = one_sender(alloc)?;
+    let before = marks.take(&mut taker, async_no);
+    marks.send(&mut seat, async_no)?;
+    let first = marks.take(&mut taker, async_no);
+    marks.send(&mut seat, async_no)?;
+    let second = marks.take(&mut taker, async_no);
+    Ok((before, first, second))
+}
+
 #[test]
 fn sends_between_two_takes_are_taken(rt: HostRuntime) -> Result<(), Fail> {
-    let (marks, mut taker, mut seat) = one_sender(rt.alloc())?;
-    let before = marks.take(&mut taker, 0);
-    assert_eq!(rt; marks.send(&mut seat, 0), Ok(()));
-    let first = marks.take(&mut taker, 0);
-    assert_eq!(rt; marks.send(&mut seat, 0), Ok(()));
-    let second = marks.take(&mut taker, 0);
-    shows(&rt, (before, first, second), (0, 1, 1));
+    for async_no in 0..MAX_ASYNCS as u32 {
+        shows(&rt, take_thrice(rt.alloc(), async_no)?, (0, 1, 1));
+    }
     Ok(())
 }
 

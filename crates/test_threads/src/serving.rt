@@ -132,7 +132,7 @@ fn text_of(alloc: Global, served: &[Served]) -> Result<String, Fail> {
 }
 
 /// That these are the lines of the loops that are served so.
-fn check<R: Threads + Wait + Sync + AllocGlobal + Abort>(
+pub fn check<R: Threads + Wait + Sync + AllocGlobal + Abort>(
     rt: &R,
     digits: &str,
     serving: Serving,

@@ -25,7 +25,7 @@ pub record IsCallOf (contents : Contents) (i : Invocation) (called : Called) : T
   pub named : IsFirst contents.exports (string_bytes i.name) (Some (record { kind = Func; index = function }))
   pub args : List Value
   pub spelled : AllSpell (map string_bytes i.arguments.items) args
-  pub gives : IsCalled contents i.budget function args called
+  pub gives : IsCalled contents i.fuel i.depth function args called
 
 -- called so, the function returns
 abbrev pub Returns : Contents → Invocation → Type 0
@@ -41,7 +41,7 @@ pub record HasInvoked (gives : List ℕ → ℕ → List ℕ → Type 0) (i : In
   pub args : List Value
   pub spelled : AllSpell (map string_bytes i.arguments.items) args
   pub ended : Ended
-  pub called : IsCalled contents i.budget function args (Function ended)
+  pub called : IsCalled contents i.fuel i.depth function args (Function ended)
   pub returned : HasReturned ended.ending
 
 -- what is written behind what the output held is given where that is known

@@ -18,8 +18,8 @@ asked_order work loaded = record {
   loaded = loaded;
   op = work.operation;
   bytes = work.bytes.items;
-  fuel = work.budget.fuel;
-  depth = work.budget.depth;
+  fuel = work.fuel;
+  depth = work.depth;
 }
 
 -- the bytes of a reply in hex, and nothing where there are none

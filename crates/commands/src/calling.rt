@@ -20,7 +20,6 @@ use std::alloc::Global;
 use syntax::contents::{ExternKind, FuncType};
 use syntax::types::Value;
 use validate::{Valid, type_of_function};
-use words::Budget;
 
 /// What came of a call.
 #[derive(Debug, Drop)]
@@ -74,15 +73,16 @@ fn run(
 }
 
 /// Runs the start function, where there is one.
-fn start(valid: &Valid, instance: &mut Instance, budget: Budget) -> Ended
+fn start(valid: &Valid, instance: &mut Instance, fuel: u64, depth: u32) -> Ended
     requires fresh { IsFresh valid.now.contents instance.old }
     requires store { IsStoreOf valid.now.contents instance.old }
-    ensures starts { Starts valid.now.contents budget.depth budget.fuel valid.now.contents.start result instance.new }
-    ensures within { result.used ≤ budget.fuel }
+    requires depth { (1 ≤ depth) × (depth ≤ MAX_DEPTH) }
+    ensures starts { Starts valid.now.contents depth fuel valid.now.contents.start result instance.new }
+    ensures within { result.used ≤ fuel }
     ensures kept { IsStoreOf valid.now.contents instance.new }
 {
     match valid.contents().start {
-        Some(function) => run(valid, instance, function, &[], budget.fuel, budget.depth),
+        Some(function) => run(valid, instance, function, &[], fuel, depth),
         None => Ended {
             ending: Ending::Return(Values::from_slice(&[])),
             used: 0,
@@ -97,17 +97,19 @@ pub fn call(
     valid: &Valid,
     function: u32,
     args: &[Value],
-    budget: Budget,
+    fuel: u64,
+    depth: u32,
 ) -> Result<(Called, Instance), Failure<'static>>
-    requires { TakesArguments valid.now.contents function args.now }
-    ensures { IfOk result (λ done. IsCalled valid.now.contents budget function args.now done.0) }
+    requires takes { TakesArguments valid.now.contents function args.now }
+    requires depth { (1 ≤ depth) × (depth ≤ MAX_DEPTH) }
+    ensures { IfOk result (λ done. IsCalled valid.now.contents fuel depth function args.now done.0) }
 {
     let mut instance = Instance::new(alloc, valid)?;
-    let started = start(valid, &mut instance, budget);
+    let started = start(valid, &mut instance, fuel, depth);
     if !has_returned(&started.ending) {
         return Ok((Called::Start(started), instance));
     }
-    let fuel = budget.fuel - started.used;
-    let ended = run(valid, &mut instance, function, args, fuel, budget.depth);
+    let left = fuel - started.used;
+    let ended = run(valid, &mut instance, function, args, left, depth);
     Ok((Called::Function(ended), instance))
 }

@@ -66,7 +66,14 @@ fn call_named<'a>(
         func_type.params.as_slice(),
         invocation.arguments.as_slice(),
     )?;
-    call(alloc, valid, function, args.as_slice(), invocation.budget)
+    call(
+        alloc,
+        valid,
+        function,
+        args.as_slice(),
+        invocation.fuel,
+        invocation.depth,
+    )
 }
 
 /// Tells how a call ended. Done, where the function was called and returned.
@@ -128,7 +135,7 @@ fn trace<E: Write>(invocation: &Invocation, called: &Called, err: &mut E) -> io:
         return Ok(());
     }
     let (_, ended) = ended_call("", called);
-    tell_used(ended.used, invocation.budget.fuel, err)
+    tell_used(ended.used, invocation.fuel, err)
 }
 
 /// Calls the function of the module that the words name, and tells how it ended.

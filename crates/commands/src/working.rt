@@ -39,8 +39,8 @@ fn request(alloc: Global, linked: Linked, work: &WorkRequest) -> Result<Order, A
     ensures module { IfOk result (λ order. arc_value order.«module» ≡ linked) }
     ensures operation { IfOk result (λ order. order.op ≡ work.now.operation) }
     ensures bytes { IfOk result (λ order. (arc_value order.bytes).items ≡ work.now.bytes.items) }
-    ensures fuel { IfOk result (λ order. order.fuel ≡ work.now.budget.fuel) }
-    ensures depth { IfOk result (λ order. order.depth ≡ work.now.budget.depth) }
+    ensures fuel { IfOk result (λ order. order.fuel ≡ work.now.fuel) }
+    ensures depth { IfOk result (λ order. order.depth ≡ work.now.depth) }
 {
     let module = Arc::new(alloc, linked)?;
     let bytes = shared(alloc, work.bytes.as_slice())?;
@@ -51,8 +51,8 @@ fn request(alloc: Global, linked: Linked, work: &WorkRequest) -> Result<Order, A
         module,
         op: work.operation,
         bytes,
-        fuel: work.budget.fuel,
-        depth: work.budget.depth,
+        fuel: work.fuel,
+        depth: work.depth,
     })
 }
 
@@ -194,7 +194,7 @@ pub fn work<'a, R: Reader, O: Write, E: Write>(
     // a sentence that can't be written changes nothing
     let _ = explain(&told, err);
     if work.is_traced {
-        let _ = tell_used(told.used, work.budget.fuel, err);
+        let _ = tell_used(told.used, work.fuel, err);
     }
     Ok(status_of(&told.reply.outcome))
 }

@@ -32,6 +32,7 @@ fn main(rt: HostRuntime) -> ExitCode {
     let alloc = rt.alloc();
     let mut out = rt.stdout();
     let mut err = rt.stderr();
+    // made here: a library that gave out boxes of closures would promise less than its contracts say
     let make = move |task: Task| -> Result<JobBox, AllocError> {
         let ticket = task.ticket();
         let run = move || -> Reply

@@ -5,16 +5,6 @@ ghost use Rattle.limits.specs.declared.TheConstants.{MAX_BYTES, MAX_DEPTH, MAX_L
 
 use events::settings::LoopSettings;
 
-/// How far a call may go.
-#[derive(Clone, Copy, Debug, PartialEq, Eq)]
-pub struct Budget {
-    /// How many instructions may be paid for.
-    pub fuel: u64,
-    /// How many calls may stand open, 1 to `MAX_DEPTH`.
-    pub depth: u32,
-    pub ghost in_range: { (1 ≤ depth) × (depth ≤ MAX_DEPTH) },
-}
-
 /// A function of a module and the words that spell its arguments.
 #[derive(Drop)]
 pub struct Invocation {
@@ -24,10 +14,13 @@ pub struct Invocation {
     pub name: String,
     /// The arguments, as unsigned decimal numbers.
     pub arguments: Vec<String>,
-    /// What the start function and the function may use together.
-    pub budget: Budget,
+    /// The units of fuel that the start function and the function may use together.
+    pub fuel: u64,
+    /// How many calls may stand open, 1 to `MAX_DEPTH`.
+    pub depth: u32,
     /// Whether it is told what was used.
     pub is_traced: bool,
+    pub ghost depth_in_range: { (1 ≤ depth) × (depth ≤ MAX_DEPTH) },
 }
 
 /// A work order for a module.
@@ -39,10 +32,13 @@ pub struct WorkRequest {
     pub operation: u32,
     /// What it may read, at most `MAX_BYTES` bytes.
     pub bytes: Vec<u8>,
-    /// What the start function and `uv_work` may use together.
-    pub budget: Budget,
+    /// The units of fuel that the start function and `uv_work` may use together.
+    pub fuel: u64,
+    /// How many calls may stand open, 1 to `MAX_DEPTH`.
+    pub depth: u32,
     /// Whether it is told what was used.
     pub is_traced: bool,
+    pub ghost depth_in_range: { (1 ≤ depth) × (depth ≤ MAX_DEPTH) },
     pub ghost short: { vec_len bytes ≤ MAX_BYTES },
 }
 

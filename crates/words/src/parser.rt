@@ -2,7 +2,7 @@
 
 ghost use Rattle.std.specs.Prelude.{◌≤◌, IfOk, vec_len};
 
-use crate::command::{Budget, Command, Invocation, Service, WorkRequest};
+use crate::command::{Command, Invocation, Service, WorkRequest};
 use crate::grammar::{self, TRACE};
 use crate::number::{decimal, small_decimal};
 use crate::refused::Refused;
@@ -51,10 +51,15 @@ fn option(
     }
 }
 
-fn budget(alloc: Global, matches: &ArgMatches<'_>) -> Result<Budget, Refused> {
-    let fuel = option(alloc, matches, "fuel", 0, u64::MAX)?;
-    let depth = option(alloc, matches, "depth", 1, MAX_DEPTH.into())? as u32;
-    Ok(Budget { fuel, depth })
+fn fuel(alloc: Global, matches: &ArgMatches<'_>) -> Result<u64, Refused> {
+    option(alloc, matches, "fuel", 0, u64::MAX)
+}
+
+fn depth(alloc: Global, matches: &ArgMatches<'_>) -> Result<u32, Refused>
+    ensures { IfOk result (λ depth. (1 ≤ depth) × (depth ≤ MAX_DEPTH)) }
+{
+    let depth = option(alloc, matches, "depth", 1, MAX_DEPTH.into())?;
+    Ok(depth as u32)
 }
 
 fn is_traced(matches: &ArgMatches<'_>) -> bool {
@@ -76,7 +81,8 @@ fn arguments(alloc: Global, matches: &ArgMatches<'_>) -> Result<Vec<String>, Ref
 
 fn invoke(alloc: Global, matches: &ArgMatches<'_>) -> Result<Command, Refused> {
     Ok(Command::Invoke(Invocation {
-        budget: budget(alloc, matches)?,
+        fuel: fuel(alloc, matches)?,
+        depth: depth(alloc, matches)?,
         file: text(alloc, matches, "file")?,
         name: text(alloc, matches, "name")?,
         arguments: arguments(alloc, matches)?,
@@ -109,7 +115,8 @@ fn work(alloc: Global, matches: &ArgMatches<'_>) -> Result<Command, Refused> {
     let operation = operation(alloc, matches)?;
     let bytes = bytes(alloc, matches.get_str("bytes").unwrap_or(""))?;
     Ok(Command::Work(WorkRequest {
-        budget: budget(alloc, matches)?,
+        fuel: fuel(alloc, matches)?,
+        depth: depth(alloc, matches)?,
         file: text(alloc, matches, "file")?,
         operation,
         bytes,
@@ -125,17 +132,18 @@ fn script(alloc: Global, matches: &ArgMatches<'_>) -> Result<Command, Refused> {
 fn serve(alloc: Global, matches: &ArgMatches<'_>) -> Result<Command, Refused> {
     let loops = option(alloc, matches, "loops", 1, MAX_LOOPS.into())? as u32;
     let workers = option(alloc, matches, "workers", 1, MAX_WORKERS.into())? as u32;
-    let budget = budget(alloc, matches)?;
-    let settings = LoopSettings {
-        fuel: budget.fuel,
-        work_fuel: option(alloc, matches, "work-fuel", 0, u64::MAX)?,
-        depth: budget.depth,
-    };
+    let fuel = fuel(alloc, matches)?;
+    let depth = depth(alloc, matches)?;
+    let work_fuel = option(alloc, matches, "work-fuel", 0, u64::MAX)?;
     Ok(Command::Serve(Service {
         file: text(alloc, matches, "file")?,
         loops,
         workers,
-        settings,
+        settings: LoopSettings {
+            fuel,
+            work_fuel,
+            depth,
+        },
         is_traced: is_traced(matches),
     }))
 }

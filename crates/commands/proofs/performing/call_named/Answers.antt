@@ -6,8 +6,8 @@ use Rattle.commands.specs.Arguments.{AllSpell}
 use Rattle.commands.proofs.InvocationParts.{takes}
 use Rattle.commands.proofs.performing.call_named.Goals as goal
 
-pub call-requires : goal.call-requires
-call-requires c =
+pub call-requires-clause-takes : goal.call-requires-clause-takes
+call-requires-clause-takes c =
     takes c.args.valid.now.contents c.in-Some.function c.as_slice-3.result.now c.in-Some.func_type.now c.in-Some.ensures.typed
     (rw c.as_slice-3.ensures.value (c.in_ok-args.ensures.typed ∙ c.as_slice.ensures))
 

@@ -18,8 +18,8 @@ use std::sync::{Arc, Wait};
 use std::test::Fail;
 use std::thread::Threads;
 
-// Asks for three pieces of work, and a timer's callback in the turn behind their posts cancels the second. Each after-work
-// emits its status.
+/// Asks for three pieces of work, and a timer's callback in the turn behind their posts cancels the second. Each after-work
+/// emits its status.
 const CANCELS_ONE: &str = "0061736d 01000000
     012b086000017f60047f7f7e7e017f60037f7f7f017f60017f017f60017e017f60000060017f0060037f7f7f00
     0248050275760a74696d65725f696e697400000275760b74696d65725f737461727400010275760a71756575655f776f726b00020275760663616e63656c000302757604656d69740004
@@ -49,8 +49,8 @@ const REQUESTS: u32 = 256;
 
 const PLACES: u32 = 512;
 
-// How far each request of two loops has come, how many were begun, dropped and collected, how often one was told out of
-// its order, and how many timers' callbacks ran.
+/// How far each request of two loops has come, how many were begun, dropped and collected, how often one was told out of
+/// its order, and how many timers' callbacks ran.
 struct Stages {
     stages: Vec<AtomicU64>,
     begun: AtomicU64,
@@ -114,7 +114,7 @@ impl Stages {
         )
     }
 
-    // Whether a worker that took a request has told neither that it dropped it nor that it finished it.
+    /// Whether a worker that took a request has told neither that it dropped it nor that it finished it.
     fn has_unfinished(&self) -> bool {
         for stage in &self.stages {
             let stage = stage.load(Ordering::SeqCst);
@@ -182,7 +182,7 @@ fn most_of(told: &[Served]) -> Option<u64> {
     Some(most)
 }
 
-// Serves so. A job is called once so many timers' callbacks have run.
+/// Serves so. A job is called once so many timers' callbacks have run.
 fn served_telling<R: Threads + Wait + Sync + AllocGlobal>(
     rt: &R,
     digits: &str,
@@ -217,7 +217,7 @@ fn what_is_done_with_a_request_is_told_in_its_order(rt: HostRuntime) -> Result<(
     Ok(())
 }
 
-// The one worker is held at the first job until the second is cancelled, and the loop ends behind the third.
+/// The one worker is held at the first job until the second is cancelled, and the loop ends behind the third.
 #[test]
 fn a_dropped_job_is_told(rt: HostRuntime) -> Result<(), Fail> {
     let stages = Stages::new(rt.alloc())?;

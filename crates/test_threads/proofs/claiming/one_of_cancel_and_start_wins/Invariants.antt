@@ -7,4 +7,5 @@ invariant-loop-round g l = record {
   own : l.loop_seat.claims ≡ l.claims.id;
   first : l.loop_seat.loop_no ≡ 0;
   worker : l.worker_seat.claims ≡ l.claims.id;
-  rising : All (λ c. c.1 < l.round + 1) l.loop_seat.opened }
+  rising : All (λ c. c.1 < l.round + 1) l.loop_seat.opened;
+}

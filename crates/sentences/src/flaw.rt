@@ -1,8 +1,8 @@
 // What is wrong with a script, in words.
 
-use crate::piece::{Piece, write_pieces};
 use hex::FromHexError;
 use json::Token;
+use places::Shown;
 use std::fmt;
 
 /// A part of a script.
@@ -96,53 +96,40 @@ impl<'a> Flaw<'a> {
 
 impl fmt::Display for Part {
     fn fmt<W: fmt::Write>(&self, f: &mut fmt::Formatter<W>) -> fmt::Result {
-        let (words, number) = match *self {
-            Part::Script => return Ok(()),
-            Part::Module(number) => ("module ", number),
-            Part::Loop(number) => ("loop ", number),
-            Part::Step(number) => ("step ", number),
-        };
-        let words = [
-            Piece::Words(words),
-            Piece::Number(number as u64),
-            Piece::Words(": "),
-        ];
-        write_pieces(f, &words)
+        match self {
+            Part::Script => Ok(()),
+            Part::Module(number) => write!(f, "module {number}: "),
+            Part::Loop(number) => write!(f, "loop {number}: "),
+            Part::Step(number) => write!(f, "step {number}: "),
+        }
     }
 }
 
-fn told_as(token: Token<'_>) -> Piece<'_> {
+fn write_token<W: fmt::Write>(f: &mut fmt::Formatter<W>, token: Token<'_>) -> fmt::Result {
     match token {
-        Token::BeginObject => Piece::Words("an object"),
-        Token::BeginArray => Piece::Words("a list"),
-        Token::String(_) => Piece::Words("a string"),
-        Token::Number(text) => Piece::Name(text),
-        Token::Bool(true) => Piece::Words("true"),
-        Token::Bool(false) => Piece::Words("false"),
-        Token::Null => Piece::Words("null"),
-        Token::EndObject | Token::EndArray | Token::Key(_) | Token::Bad => Piece::Words("none"),
+        Token::BeginObject => f.write_str("an object"),
+        Token::BeginArray => f.write_str("a list"),
+        Token::String(_) => f.write_str("a string"),
+        Token::Number(text) => write!(f, "{}", Shown(text)),
+        Token::Bool(true) => f.write_str("true"),
+        Token::Bool(false) => f.write_str("false"),
+        Token::Null => f.write_str("null"),
+        Token::EndObject | Token::EndArray | Token::Key(_) | Token::Bad => f.write_str("none"),
     }
 }
 
-fn write_wanted<'a, W: fmt::Write>(
+fn write_wanted<W: fmt::Write>(
     f: &mut fmt::Formatter<W>,
-    name: Option<&'a str>,
-    wanted: &'a str,
-    found: Token<'a>,
+    name: Option<&'static str>,
+    wanted: &str,
+    found: Token<'_>,
 ) -> fmt::Result {
-    let (name, between) = match name {
-        Some(name) => (name, ": "),
-        None => ("", ""),
-    };
-    let words = [
-        Piece::Words(name),
-        Piece::Words(between),
-        Piece::Words(wanted),
-        Piece::Words(" is wanted, and "),
-        told_as(found),
-        Piece::Words(" is there"),
-    ];
-    write_pieces(f, &words)
+    if let Some(name) = name {
+        write!(f, "{name}: ")?;
+    }
+    write!(f, "{wanted} is wanted, and ")?;
+    write_token(f, found)?;
+    f.write_str(" is there")
 }
 
 fn write_count<W: fmt::Write>(
@@ -151,98 +138,49 @@ fn write_count<W: fmt::Write>(
     taken: usize,
     given: usize,
 ) -> fmt::Result {
-    let words = [
-        Piece::Words(name),
-        Piece::Words(" takes "),
-        Piece::Number(taken as u64),
-        Piece::Words(if taken == 1 {
-            " number; given: "
-        } else {
-            " numbers; given: "
-        }),
-        Piece::Number(given as u64),
-    ];
-    write_pieces(f, &words)
-}
-
-fn write_key<'a, W: fmt::Write>(
-    f: &mut fmt::Formatter<W>,
-    before: &'a str,
-    key: &'a str,
-    behind: &'a str,
-) -> fmt::Result {
-    write_pieces(
-        f,
-        &[Piece::Words(before), Piece::Name(key), Piece::Words(behind)],
-    )
-}
-
-fn write_outside<'a, W: fmt::Write>(
-    f: &mut fmt::Formatter<W>,
-    name: &'a str,
-    found: Piece<'a>,
-    least: u64,
-    most: u64,
-) -> fmt::Result {
-    let words = [
-        Piece::Words(name),
-        Piece::Words(" "),
-        found,
-        Piece::Words(": "),
-        Piece::Number(least),
-        Piece::Words(" to "),
-        Piece::Number(most),
-    ];
-    write_pieces(f, &words)
+    match taken {
+        1 => write!(f, "{name} takes 1 number; given: {given}"),
+        _ => write!(f, "{name} takes {taken} numbers; given: {given}"),
+    }
 }
 
 impl fmt::Display for Wrong<'_> {
     fn fmt<W: fmt::Write>(&self, f: &mut fmt::Formatter<W>) -> fmt::Result {
         match *self {
             Wrong::Unknown { key, keys } => {
-                let words = [
-                    Piece::Words("\""),
-                    Piece::Name(key),
-                    Piece::Words("\" is no key; keys: "),
-                    Piece::Words(keys),
-                ];
-                write_pieces(f, &words)
+                write!(f, "\"{}\" is no key; keys: {keys}", Shown(key))
             }
-            Wrong::Twice(key) => write_key(f, "the key \"", key, "\" stands there twice"),
-            Wrong::Lacks(key) => write_key(f, "the key \"", key, "\" is missing"),
+            Wrong::Twice(key) => write!(f, "the key \"{key}\" stands there twice"),
+            Wrong::Lacks(key) => write!(f, "the key \"{key}\" is missing"),
             Wrong::Wanted {
                 name,
                 wanted,
                 found,
             } => write_wanted(f, name, wanted, found),
-            Wrong::NoStep(name) => write_key(
+            Wrong::NoStep(name) => write!(
                 f,
-                "\"",
-                name,
-                "\" is no step; steps: loop, post, take, start, finish, collect, send, cancel, clock",
+                "\"{}\" is no step; steps: loop, post, take, start, finish, collect, send, cancel, clock",
+                Shown(name)
             ),
             Wrong::Count { name, taken, given } => write_count(f, name, taken, given),
             Wrong::NoModule { found, modules } => {
-                let words = [
-                    Piece::Words("there is no module "),
-                    Piece::Words(found),
-                    Piece::Words("; modules of the script: "),
-                    Piece::Number(modules),
-                ];
-                write_pieces(f, &words)
+                write!(
+                    f,
+                    "there is no module {found}; modules of the script: {modules}"
+                )
             }
             Wrong::Outside {
                 name,
                 found,
                 least,
                 most,
-            } => write_outside(f, name, Piece::Words(found), least, most),
+            } => write!(f, "{name} {found}: {least} to {most}"),
             Wrong::Many {
                 name,
                 found,
                 least,
                 most,
-            } => write_outside(f, name, Piece::Number(found), least, most),
+            } => write!(f, "{name} {found}: {least} to {most}"),
             Wrong::Digits(fault) => {
                 write!(
                     f,

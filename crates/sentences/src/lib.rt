@@ -10,7 +10,6 @@ mod line;
 mod listing;
 mod mismatch;
 mod missing;
-mod piece;
 mod ran;
 mod stopping;
 mod walk;

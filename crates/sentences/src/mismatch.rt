@@ -1,8 +1,7 @@
 // Why words are not the arguments of a function.
 
 use crate::listing::Listing;
-use crate::piece::{Piece, write_pieces};
-use places::name_of_type;
+use places::{Shown, name_of_type};
 use std::alloc::{AllocError, Global};
 use std::fmt;
 use syntax::types::ValType;
@@ -57,18 +56,12 @@ fn write_count<W: fmt::Write>(
     types: &Option<String>,
     given: usize,
 ) -> fmt::Result {
-    let types = match types {
-        Some(types) if taken > 0 => Some(types.as_str()),
-        _ => None,
-    };
-    let words = [
-        Piece::Words("arguments taken: "),
-        Piece::Number(taken as u64),
-        Piece::Bracketed(types),
-        Piece::Words("; given: "),
-        Piece::Number(given as u64),
-    ];
-    write_pieces(f, &words)
+    match types {
+        Some(types) if taken > 0 => {
+            write!(f, "arguments taken: {taken} ({types}); given: {given}")
+        }
+        _ => write!(f, "arguments taken: {taken}; given: {given}"),
+    }
 }
 
 impl fmt::Display for Mismatch<'_> {
@@ -84,19 +77,13 @@ impl fmt::Display for Mismatch<'_> {
                 value_type,
                 word,
             } => {
+                let name = name_of_type(*value_type);
                 let most = greatest(*value_type);
-                let words = [
-                    Piece::Words("argument "),
-                    Piece::Number(*number as u64),
-                    Piece::Bracketed(Some(name_of_type(*value_type))),
-                    Piece::Words(", '"),
-                    Piece::Name(word),
-                    Piece::Words("': a whole number from 0 to "),
-                    Piece::Number(most),
-                    Piece::Words("; -1 is written as "),
-                    Piece::Number(most),
-                ];
-                write_pieces(f, &words)
+                write!(f, "argument {number} ({name}), '{}': ", Shown(word))?;
+                write!(
+                    f,
+                    "a whole number from 0 to {most}; -1 is written as {most}"
+                )
             }
         }
     }

@@ -1,6 +1,5 @@
 // What a step of a script names that is not there.
 
-use crate::piece::{Piece, write_pieces};
 use limits::MAX_ASYNCS;
 use std::fmt;
 use world_log::Step;
@@ -22,37 +21,18 @@ pub struct Missing {
     pub counts: Counts,
 }
 
-/// The name of a step, and its numbers.
-fn parts_of(step: Step) -> (&'static str, u32, Option<u64>) {
-    match step {
-        Step::Loop(number) => ("loop", number, None),
-        Step::Post(number) => ("post", number, None),
-        Step::Take(number) => ("take", number, None),
-        Step::Start(number) => ("start", number, None),
-        Step::Finish(number) => ("finish", number, None),
-        Step::Collect(number) => ("collect", number, None),
-        Step::Send(loop_no, number) => ("send", loop_no, Some(u64::from(number))),
-        Step::Cancel(loop_no, number) => ("cancel", loop_no, Some(u64::from(number))),
-        Step::Clock(loop_no, clock) => ("clock", loop_no, Some(clock)),
-    }
-}
-
 fn write_step<W: fmt::Write>(f: &mut fmt::Formatter<W>, step: Step) -> fmt::Result {
-    let (name, first, second) = parts_of(step);
-    let (between, last) = match second {
-        Some(second) => (",", Piece::Number(second)),
-        None => ("", Piece::Words("")),
-    };
-    let words = [
-        Piece::Words("[\""),
-        Piece::Words(name),
-        Piece::Words("\","),
-        Piece::Number(u64::from(first)),
-        Piece::Words(between),
-        last,
-        Piece::Words("]: "),
-    ];
-    write_pieces(f, &words)
+    match step {
+        Step::Loop(number) => write!(f, "[\"loop\",{number}]"),
+        Step::Post(number) => write!(f, "[\"post\",{number}]"),
+        Step::Take(number) => write!(f, "[\"take\",{number}]"),
+        Step::Start(number) => write!(f, "[\"start\",{number}]"),
+        Step::Finish(number) => write!(f, "[\"finish\",{number}]"),
+        Step::Collect(number) => write!(f, "[\"collect\",{number}]"),
+        Step::Send(loop_no, number) => write!(f, "[\"send\",{loop_no},{number}]"),
+        Step::Cancel(loop_no, number) => write!(f, "[\"cancel\",{loop_no},{number}]"),
+        Step::Clock(loop_no, clock) => write!(f, "[\"clock\",{loop_no},{clock}]"),
+    }
 }
 
 fn write_loop<W: fmt::Write>(
@@ -60,13 +40,8 @@ fn write_loop<W: fmt::Write>(
     number: u32,
     counts: Counts,
 ) -> fmt::Result {
-    let words = [
-        Piece::Words("there is no loop "),
-        Piece::Number(u64::from(number)),
-        Piece::Words("; loops of the script: "),
-        Piece::Number(counts.loops as u64),
-    ];
-    write_pieces(f, &words)
+    let loops = counts.loops;
+    write!(f, "there is no loop {number}; loops of the script: {loops}")
 }
 
 fn write_worker<W: fmt::Write>(
@@ -74,30 +49,26 @@ fn write_worker<W: fmt::Write>(
     number: u32,
     counts: Counts,
 ) -> fmt::Result {
-    let words = [
-        Piece::Words("there is no worker "),
-        Piece::Number(u64::from(number)),
-        Piece::Words("; workers of the script: "),
-        Piece::Number(u64::from(counts.workers)),
-    ];
-    write_pieces(f, &words)
+    let workers = counts.workers;
+    write!(
+        f,
+        "there is no worker {number}; workers of the script: {workers}"
+    )
 }
 
 impl fmt::Display for Missing {
     fn fmt<W: fmt::Write>(&self, f: &mut fmt::Formatter<W>) -> fmt::Result {
         write_step(f, self.step)?;
+        f.write_str(": ")?;
         match self.step {
             Step::Take(number) | Step::Start(number) | Step::Finish(number) => {
                 write_worker(f, number, self.counts)
             }
             Step::Send(loop_no, number) if (loop_no as usize) < self.counts.loops => {
-                let words = [
-                    Piece::Words("there is no async "),
-                    Piece::Number(u64::from(number)),
-                    Piece::Words("; they are numbered from 0 to "),
-                    Piece::Number(LAST_ASYNC as u64),
-                ];
-                write_pieces(f, &words)
+                write!(
+                    f,
+                    "there is no async {number}; they are numbered from 0 to {LAST_ASYNC}"
+                )
             }
             Step::Loop(number)
             | Step::Post(number)

@@ -1,6 +1,5 @@
 // What ran in a loop, or for it.
 
-use crate::piece::{Piece, write_pieces};
 use events::phase::EntryKind;
 use std::fmt;
 
@@ -43,17 +42,16 @@ fn write_callback<W: fmt::Write>(
     kind: EntryKind,
     number: u32,
 ) -> fmt::Result {
-    let words = match kind {
-        EntryKind::Start => return f.write_str("start function"),
-        EntryKind::Main => return f.write_str("uv_main"),
-        EntryKind::Timer => "timer ",
-        EntryKind::Idle => "idle ",
-        EntryKind::After => "after-work of request ",
-        EntryKind::Async => "async ",
-        EntryKind::Check => "check ",
-        EntryKind::Close => "close ",
-    };
-    write_pieces(f, &[Piece::Words(words), Piece::Number(u64::from(number))])
+    match kind {
+        EntryKind::Start => f.write_str("start function"),
+        EntryKind::Main => f.write_str("uv_main"),
+        EntryKind::Timer => write!(f, "timer {number}"),
+        EntryKind::Idle => write!(f, "idle {number}"),
+        EntryKind::After => write!(f, "after-work of request {number}"),
+        EntryKind::Async => write!(f, "async {number}"),
+        EntryKind::Check => write!(f, "check {number}"),
+        EntryKind::Close => write!(f, "close {number}"),
+    }
 }
 
 impl fmt::Display for What {

@@ -1,11 +1,10 @@
 // Where a run stopped that did not return, told in a sentence.
 
-use crate::piece::{Piece, say};
 use events::ended::{Ended, Ending};
 use events::trap::TrapCode;
 use instance::stack::Site;
 use order::{MAX_TRAIL, Outcome, Told, Trail};
-use places::{Place, function_name, place_of_operation};
+use places::{Place, Shown, function_name, place_of_operation};
 use std::fmt;
 use std::io::{self, Write};
 use world_log::JobEnd;
@@ -105,14 +104,8 @@ fn meaning(trap: TrapCode) -> &'static str {
 fn write_reason<E: Write>(reason: Reason, err: &mut E) -> io::Result<()> {
     match reason {
         Reason::Trap(trap) => {
-            let words = [
-                Piece::Words("trapped: "),
-                Piece::Words(meaning(trap)),
-                Piece::Words(" ("),
-                Piece::Number(u64::from(trap.code())),
-                Piece::Words(")"),
-            ];
-            say(err, &words)
+            let (meaning, code) = (meaning(trap), trap.code());
+            write!(err, "trapped: {meaning} ({code})")
         }
         Reason::Depth => err.write_all(b"made too many nested calls"),
         Reason::Spent => err.write_all(b"spent its fuel"),
@@ -120,9 +113,17 @@ fn write_reason<E: Write>(reason: Reason, err: &mut E) -> io::Result<()> {
 }
 
 /// The name of a function in the module's name section.
-fn name_of(bytes: &[u8], function: u64) -> Option<&str> {
+fn name_of(bytes: &[u8], function: u64) -> Option<Shown<'_>> {
     let index = u32::try_from(function).ok()?;
-    function_name(bytes, index)
+    Some(Shown(function_name(bytes, index)?))
+}
+
+/// Writes a function's index and, where the module has it, its name.
+fn write_function<E: Write>(bytes: &[u8], function: u64, err: &mut E) -> io::Result<()> {
+    match name_of(bytes, function) {
+        Some(name) => write!(err, "function {function} ({name})"),
+        None => write!(err, "function {function}"),
+    }
 }
 
 /// Writes the operation at which a run stopped.
@@ -138,42 +139,23 @@ fn write_innermost<E: Write>(bytes: &[u8], site: Site, err: &mut E) -> io::Resul
     else {
         return Ok(());
     };
-    let words = [
-        Piece::Words(", in function "),
-        Piece::Number(function),
-        Piece::Bracketed(name_of(bytes, function)),
-        Piece::Words(", operation "),
-        Piece::Number(number as u64),
-        Piece::Bracketed(Some(name)),
-        Piece::Words(" at byte "),
-        Piece::Number(at as u64),
-    ];
-    say(err, &words)
+    err.write_all(b", in ")?;
+    write_function(bytes, function, err)?;
+    write!(err, ", operation {number} ({name}) at byte {at}")
 }
 
-/// Writes one of the calls around it, behind these words.
-fn write_caller<'a, E: Write>(
-    before: &'a str,
-    bytes: &'a [u8],
-    site: Site,
-    err: &mut E,
-) -> io::Result<()> {
+/// Writes one of the calls around it.
+fn write_caller<E: Write>(bytes: &[u8], site: Site, err: &mut E) -> io::Result<()> {
     let Some(Place::Operation { function, at, .. }) = place_of_operation(
         bytes,
         site.function,
         site.operation,
     ) else {
-        return err.write_all(before.as_bytes());
+        return Ok(());
     };
-    let words = [
-        Piece::Words(before),
-        Piece::Words("by function "),
-        Piece::Number(function),
-        Piece::Bracketed(name_of(bytes, function)),
-        Piece::Words(" at byte "),
-        Piece::Number(at as u64),
-    ];
-    say(err, &words)
+    err.write_all(b"by ")?;
+    write_function(bytes, function, err)?;
+    write!(err, " at byte {at}")
 }
 
 /// Writes the calls around it, from the inside outwards, and how many are left out.
@@ -183,19 +165,13 @@ fn write_callers<E: Write>(bytes: &[u8], trail: &Trail, err: &mut E) -> io::Resu
         let Some(site) = trail.get(index) else {
             return Ok(());
         };
-        write_caller(between, bytes, site, err)?;
+        err.write_all(between.as_bytes())?;
+        write_caller(bytes, site, err)?;
         between = "; ";
     }
     match trail.more() {
         0 => Ok(()),
-        more => {
-            let words = [
-                Piece::Words("; and "),
-                Piece::Number(more as u64),
-                Piece::Words(" more"),
-            ];
-            say(err, &words)
-        }
+        more => write!(err, "; and {more} more"),
     }
 }
 
@@ -209,13 +185,7 @@ pub fn tell_stopped<W: fmt::Display, E: Write>(
     let used = stopped.used;
     write!(err, "{what} ")?;
     write_reason(stopped.reason, err)?;
-    let words = [
-        Piece::Words(", after "),
-        Piece::Number(used),
-        Piece::Words(" "),
-        Piece::Words(unit_of(used)),
-    ];
-    say(err, &words)?;
+    write!(err, ", after {used} {}", unit_of(used))?;
     if let Some(site) = stopped.trail.get(0) {
         write_innermost(bytes, site, err)?;
     }

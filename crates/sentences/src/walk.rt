@@ -15,11 +15,6 @@ const LOOP_KEYS: [&str; KEYS] = ["module", "fuel", "work_fuel", "depth"];
 
 const WHOLE: &str = "a whole number";
 
-/// The names of the steps: three that a loop takes, three that a worker takes, and those with two numbers.
-const STEPS: [&str; 9] = [
-    "loop", "post", "collect", "take", "start", "finish", "send", "cancel", "clock",
-];
-
 /// The greatest number of a loop, a worker, an async or a request.
 const WORD: u64 = u32::MAX as u64;
 
@@ -104,13 +99,13 @@ fn number_of(text: &str) -> Number {
 
 /// What the numbers of a step of this name are of.
 fn names_of(step: &str) -> Option<Names> {
-    let (index, _) = find(&STEPS, step)?;
-    let (first, second) = match index {
-        0..=2 => ("loop", None),
-        3..=5 => ("worker", None),
-        6 => ("loop", Some("async")),
-        7 => ("loop", Some("request")),
-        _ => ("loop", Some("moment")),
+    let (first, second) = match step {
+        "loop" | "post" | "collect" => ("loop", None),
+        "take" | "start" | "finish" => ("worker", None),
+        "send" => ("loop", Some("async")),
+        "cancel" => ("loop", Some("request")),
+        "clock" => ("loop", Some("moment")),
+        _ => return None,
     };
     Some(Names { first, second })
 }
@@ -123,10 +118,10 @@ fn bounds_of(name: &'static str) -> Bounds {
     }
 }
 
-/// The name, and its number among these.
-fn find(names: &[&'static str], wanted: &str) -> Option<(usize, &'static str)> {
-    for (index, name) in names.iter().enumerate() {
-        if *name == wanted {
+/// The key, and its number among these.
+fn find_key(keys: [&'static str; KEYS], key: &str) -> Option<(usize, &'static str)> {
+    for (index, name) in keys.iter().enumerate() {
+        if *name == key {
             return Some((index, *name));
         }
     }
@@ -135,8 +130,8 @@ fn find(names: &[&'static str], wanted: &str) -> Option<(usize, &'static str)> {
 
 /// The first key that is not seen.
 fn first_missing(keys: [&'static str; KEYS], seen: &[bool; KEYS]) -> Option<&'static str> {
-    for (index, name) in keys.iter().enumerate() {
-        if seen.get(index) == Some(&false) {
+    for (name, is_seen) in keys.iter().zip(seen.iter()) {
+        if !*is_seen {
             return Some(*name);
         }
     }
@@ -292,7 +287,7 @@ impl<'a> Walk<'a> {
                 None => Ok(None),
             };
         };
-        let Some((index, name)) = find(&keys, key) else {
+        let Some((index, name)) = find_key(keys, key) else {
             let keys = match part {
                 Part::Script => "modules, loops, workers, steps",
                 _ => "module, fuel, work_fuel, depth",

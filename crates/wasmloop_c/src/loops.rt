@@ -1,6 +1,6 @@
 // Loops.
 
-ghost use Rattle.std.specs.Prelude.{◌≡◌, ◌≤◌, ◌<◌, None, length, IfOk, IsSomeAnd};
+ghost use Rattle.std.specs.Prelude.{◌≡◌, ◌≤◌, ◌<◌, ◌↔◌, ◌⊎◌, None, length, IfOk, IsNone, IsSome, IsSomeAnd};
 ghost use Rattle.std.specs.Arc.{arc_value};
 ghost use Rattle.limits.specs.declared.TheConstants.{MAX_ASYNCS, MAX_DEPTH};
 ghost use Rattle.wasmloop_c.specs.Calls.{OnLoop, OnHeldLoop, ReadsLoop, ReadsHeldLoop, Steps, Clocks, Sends, Cancels, IsNewLoop, CopiesEmits, loop_of, module_of, standing_of};
@@ -73,6 +73,8 @@ fn open(alloc: Global, module: &Thing, limits: Limits, handle: &mut Handle) -> u
     requires empty { handle.old.raw.value ≡ None }
     ensures opens { result ≡ OK → IsSomeAnd (module_of module.now) (λ m. IsSomeAnd handle.new.raw.value (λ t. IsSomeAnd (loop_of t) (IsNewLoop m limits))) }
     ensures refuses { (result ≡ OK → ⊥) → handle.new.raw.value ≡ None }
+    ensures kind { (result ≡ KIND) ↔ (module_of module.now ≡ None) }
+    ensures known { (result ≡ OK) ⊎ (result ≡ KIND) ⊎ (result ≡ MEMORY) }
 {
     let Thing::Module(linked) = module else {
         return KIND;
@@ -97,6 +99,10 @@ pub extern "C" fn wasmloop_rt_loop(
     ensures opens { result ≡ OK → IsSomeAnd module.old.raw.value (λ m. IsSomeAnd (module_of m) (λ l. IsSomeAnd handle.new.raw.value (λ t. IsSomeAnd (loop_of t) (IsNewLoop l limits.now)))) }
     ensures refuses { (result ≡ OK → ⊥) → handle.new.raw.value ≡ handle.old.raw.value }
     ensures kept { module.new.raw.value ≡ module.old.raw.value }
+    ensures full { IsSome handle.old.raw.value → result ≡ KIND }
+    ensures kind { result ≡ KIND → IsSome handle.old.raw.value ⊎ IsSomeAnd module.old.raw.value (λ t. module_of t ≡ None) }
+    ensures empty { result ≡ EMPTY → IsNone module.old.raw.value }
+    ensures range { result ≡ RANGE → (limits.now.depth < 1) ⊎ (MAX_DEPTH < limits.now.depth) }
 {
     if handle.is_full() {
         return KIND;

@@ -1,5 +1,5 @@
 -- What each call does to what its handles have.
-use Rattle.std.specs.Prelude.{◌≡◌, ◌≢◌, ◌⊎◌, ◌++◌, ℕ, Bool, ℤ, List, [], length, take, drop, codes, is_some, Option, Some, None, MatchOption, IsSomeAnd, if◌then◌else◌}
+use Rattle.std.specs.Prelude.{◌≡◌, ◌≢◌, ◌⊎◌, ◌++◌, ℕ, Bool, ℤ, List, [], length, take, drop, codes, is_some, Option, Some, None, MatchOption, IfSome, IsSomeAnd, if◌then◌else◌}
 use Rattle.std.specs.Arc.{arc_value}
 use Rattle.instance.specs.Fresh.{IsFresh}
 use Rattle.order.specs.Orders.{order_of, end_of}
@@ -50,6 +50,10 @@ abbrev pub OnLoop : (old new : Thing) → (status : ℕ) → (Same : Type 0) →
 OnLoop old new status Same Does =
     MatchOption (loop_of old) ((status ≡ KIND) × (new ≡ old) × Same) (λ c. IsSomeAnd (loop_of new) (λ d. (d.setting ≡ c.setting) × Does c d))
 
+-- a call on the loop that a handle has
+abbrev pub OnHeldLoop : (old new : Option Thing) → (status : ℕ) → (Same : Type 0) → (Does : Core Desk → Core Desk → Type 0) → Type 0
+OnHeldLoop old new status Same Does = OnHandle old new status Same (λ t u. OnLoop t u status Same Does)
+
 -- a step, told in numbers
 abbrev pub Steps : Core Desk → Core Desk → Did → Type 0
 Steps c d told = (t : StepDid) × LoopStep desk_calls c.setting c.loop t d.loop × (told ≡ did_of t (length d.loop.state.emits))
@@ -62,9 +66,17 @@ ReadsLoop old status Same Does = MatchOption (loop_of old) ((status ≡ KIND) ×
 abbrev pub ReadsHandle : (old new : Option Thing) → (status : ℕ) → (Same : Type 0) → (Does : Thing → Type 0) → Type 0
 ReadsHandle old new status Same Does = (new ≡ old) × MatchOption old ((status ≡ EMPTY) × Same) Does
 
+-- a call that only reads the loop that a handle has
+abbrev pub ReadsHeldLoop : (old new : Option Thing) → (status : ℕ) → (Same : Type 0) → (Does : Core Desk → Type 0) → Type 0
+ReadsHeldLoop old new status Same Does = ReadsHandle old new status Same (λ t. ReadsLoop t status Same Does)
+
 -- as much of a list as there is room for
 abbrev pub copied : {A : Type 0} → List A → List A → List A
 copied from old = take (length old) from ++ drop (length from) old
+
+-- what a loop's last callback put out, as far as there is room, and how much that is
+abbrev pub CopiesEmits : Core Desk → (old new : List ℕ) → (count : ℕ) → Type 0
+CopiesEmits c old new count = (new ≡ copied c.loop.state.emits old) × (count ≡ length c.loop.state.emits)
 
 abbrev pub one_if : Bool → ℕ
 one_if b = if b then 1 else 0
@@ -147,6 +159,10 @@ Tells other old new status = (status ≡ KIND) × (new ≡ old)
 abbrev pub left_in : Option Thing → Thing
 left_in None = thing.Gone
 left_in (Some t) = t
+
+-- a job that is offered to the loop that a handle has; where there is none the job stays
+abbrev pub OffersHeld : (old new job left : Option Thing) → (status : ℕ) → Type 0
+OffersHeld old new job left status = IfSome job (λ offered. OnHeldLoop old new status (left ≡ job) (λ c d. Offers c d offered (left_in left) status))
 
 -- the order of a job that no loop asks for: its loop, request and slot are 0
 abbrev pub lone_order : Loaded → Task → (bytes : List ℕ) → WorkOrder

@@ -1,7 +1,11 @@
 -- What is told of where a loop's last callback stopped, or a job.
 use Rattle.std.specs.Prelude.{◌≡◌, ℕ, List, length, map, Option, Some, None}
 use Rattle.instance.specs.declared.stack.Site.{Site as Operation}
+use Rattle.instance.specs.Store.{Store}
 use Rattle.order.specs.Trails.{Innermost}
+use Rattle.phases.specs.State.{Setting}
+use Rattle.phases.specs.Stopping.{StopsAt}
+use Rattle.desk.specs.Desk.{desk_calls}
 use Rattle.wasmloop_c.specs.Calls.{copied}
 use Rattle.wasmloop_c.specs.declared.status.TheConstants.{OK, NONE, KIND}
 use Rattle.wasmloop_c.specs.declared.stops.Place.{Place}
@@ -22,9 +26,10 @@ abbrev pub told_of : Place → Innermost
 told_of (place.Callback stop) = whole stop
 told_of (place.Job trail) = trail.now
 
-abbrev pub IsWhole : Option Innermost → Type 0
-IsWhole None = Unit {0}
-IsWhole (Some stop) = stop.calls ≡ length stop.sites
+-- where a callback of a loop of this setting stopped that left this store, and all the calls around it
+abbrev pub IsStopOf : Setting → Store → Option Innermost → Type 0
+IsStopOf g store None = Unit {0}
+IsStopOf g store (Some stop) = (stop.calls ≡ length stop.sites) × ∥ StopsAt desk_calls g store stop.sites ∥₁
 
 -- the sites are copied as far as there is room, and the count is how many calls were open
 abbrev pub TellsStop : Option Innermost → (old new : List Site) → (before count status : ℕ) → Type 0
@@ -33,7 +38,8 @@ TellsStop (Some stop) old new before count status = (status ≡ OK) × (new ≡ 
 
 -- where a loop's last callback stopped, all of it, or where a job did that was run, as far as that is kept
 abbrev pub ReadsStop : Thing → (old new : List Site) → (before count status : ℕ) → Type 0
-ReadsStop (thing.Loop core) old new before count status = (stop : Option Innermost) × IsWhole stop × TellsStop stop old new before count status
+ReadsStop (thing.Loop core) old new before count status =
+    (stop : Option Innermost) × IsStopOf core.value.setting core.value.loop.store stop × TellsStop stop old new before count status
 ReadsStop (thing.Answered told) old new before count status = TellsStop told.trail old new before count status
 ReadsStop (thing.Asked order) old new before count status = TellsStop None old new before count status
 ReadsStop other old new before count status = (status ≡ KIND) × (new ≡ old) × (count ≡ before)

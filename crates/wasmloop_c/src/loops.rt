@@ -1,9 +1,9 @@
 // Loops.
 
-ghost use Rattle.std.specs.Prelude.{◌≡◌, ◌≤◌, ◌<◌, None, length, IfOk, IsSomeAnd};
+ghost use Rattle.std.specs.Prelude.{◌≡◌, ◌≤◌, ◌<◌, ◌↔◌, ◌⊎◌, None, length, IfOk, IsNone, IsSome, IsSomeAnd};
 ghost use Rattle.std.specs.Arc.{arc_value};
 ghost use Rattle.limits.specs.declared.TheConstants.{MAX_ASYNCS, MAX_DEPTH};
-ghost use Rattle.wasmloop_c.specs.Calls.{OnHandle, OnLoop, ReadsHandle, ReadsLoop, Steps, Clocks, Sends, Cancels, IsNewLoop, loop_of, module_of, copied, standing_of};
+ghost use Rattle.wasmloop_c.specs.Calls.{OnLoop, OnHeldLoop, ReadsLoop, ReadsHeldLoop, Steps, Clocks, Sends, Cancels, IsNewLoop, CopiesEmits, loop_of, module_of, standing_of};
 ghost use Rattle.wasmloop_c.specs.Numbers.{hint_number};
 ghost use Rattle.phases.specs.PhaseList.{hint_of};
 
@@ -73,6 +73,8 @@ fn open(alloc: Global, module: &Thing, limits: Limits, handle: &mut Handle) -> u
     requires empty { handle.old.raw.value ≡ None }
     ensures opens { result ≡ OK → IsSomeAnd (module_of module.now) (λ m. IsSomeAnd handle.new.raw.value (λ t. IsSomeAnd (loop_of t) (IsNewLoop m limits))) }
     ensures refuses { (result ≡ OK → ⊥) → handle.new.raw.value ≡ None }
+    ensures kind { (result ≡ KIND) ↔ (module_of module.now ≡ None) }
+    ensures known { (result ≡ OK) ⊎ (result ≡ KIND) ⊎ (result ≡ MEMORY) }
 {
     let Thing::Module(linked) = module else {
         return KIND;
@@ -97,6 +99,10 @@ pub extern "C" fn wasmloop_rt_loop(
     ensures opens { result ≡ OK → IsSomeAnd module.old.raw.value (λ m. IsSomeAnd (module_of m) (λ l. IsSomeAnd handle.new.raw.value (λ t. IsSomeAnd (loop_of t) (IsNewLoop l limits.now)))) }
     ensures refuses { (result ≡ OK → ⊥) → handle.new.raw.value ≡ handle.old.raw.value }
     ensures kept { module.new.raw.value ≡ module.old.raw.value }
+    ensures full { IsSome handle.old.raw.value → result ≡ KIND }
+    ensures kind { result ≡ KIND → IsSome handle.old.raw.value ⊎ IsSomeAnd module.old.raw.value (λ t. module_of t ≡ None) }
+    ensures empty { result ≡ EMPTY → IsNone module.old.raw.value }
+    ensures range { result ≡ RANGE → (limits.now.depth < 1) ⊎ (MAX_DEPTH < limits.now.depth) }
 {
     if handle.is_full() {
         return KIND;
@@ -128,7 +134,7 @@ fn step(thing: &mut Thing, did: &mut Did) -> u32
 /// Takes one step of a loop.
 #[unsafe(no_mangle)]
 pub extern "C" fn wasmloop_rt_step(alloc: Global, handle: &mut Handle, did: &mut Did) -> u32
-    ensures { OnHandle handle.old.raw.value handle.new.raw.value result (did.new ≡ did.old) (λ t u. OnLoop t u result (did.new ≡ did.old) (λ c d. (result ≡ OK) × Steps c d did.new)) }
+    ensures { OnHeldLoop handle.old.raw.value handle.new.raw.value result (did.new ≡ did.old) (λ c d. (result ≡ OK) × Steps c d did.new) }
 {
     let Some(mut held) = handle.take(alloc) else {
         return EMPTY;
@@ -139,7 +145,7 @@ pub extern "C" fn wasmloop_rt_step(alloc: Global, handle: &mut Handle, did: &mut
 }
 
 fn emits(thing: &Thing, into: &mut [u64], count: &mut u32) -> u32
-    ensures { ReadsLoop thing.now result ((into.new ≡ into.old) × (count.new ≡ count.old)) (λ c. (into.new ≡ copied c.loop.state.emits into.old) × (count.new ≡ length c.loop.state.emits)) }
+    ensures { ReadsLoop thing.now result ((into.new ≡ into.old) × (count.new ≡ count.old)) (λ c. CopiesEmits c into.old into.new count.new) }
 {
     let Thing::Loop(core) = thing else {
         return KIND;
@@ -158,7 +164,7 @@ pub extern "C" fn wasmloop_rt_emits(
     into: &mut [u64],
     count: &mut u32,
 ) -> u32
-    ensures { ReadsHandle handle.old.raw.value handle.new.raw.value result ((into.new ≡ into.old) × (count.new ≡ count.old)) (λ t. ReadsLoop t result ((into.new ≡ into.old) × (count.new ≡ count.old)) (λ c. (into.new ≡ copied c.loop.state.emits into.old) × (count.new ≡ length c.loop.state.emits))) }
+    ensures { ReadsHeldLoop handle.old.raw.value handle.new.raw.value result ((into.new ≡ into.old) × (count.new ≡ count.old)) (λ c. CopiesEmits c into.old into.new count.new) }
 {
     let Some(held) = handle.take(alloc) else {
         return EMPTY;
@@ -181,7 +187,7 @@ fn send(thing: &mut Thing, async_no: u32) -> u32
 /// A send to an async from outside.
 #[unsafe(no_mangle)]
 pub extern "C" fn wasmloop_rt_async_send(alloc: Global, handle: &mut Handle, async_no: u32) -> u32
-    ensures sends { async_no < MAX_ASYNCS → OnHandle handle.old.raw.value handle.new.raw.value result (Unit {0}) (λ t u. OnLoop t u result (Unit {0}) (λ c d. Sends c d async_no result)) }
+    ensures sends { async_no < MAX_ASYNCS → OnHeldLoop handle.old.raw.value handle.new.raw.value result (Unit {0}) (λ c d. Sends c d async_no result) }
     ensures range { MAX_ASYNCS ≤ async_no → (result ≡ RANGE) × (handle.new ≡ handle.old) }
 {
     if async_no as usize >= MAX_ASYNCS {
@@ -213,7 +219,7 @@ pub extern "C" fn wasmloop_rt_clock(
     ms: u64,
     now: &mut u64,
 ) -> u32
-    ensures { OnHandle handle.old.raw.value handle.new.raw.value result (now.new ≡ now.old) (λ t u. OnLoop t u result (now.new ≡ now.old) (λ c d. (result ≡ OK) × Clocks c d ms now.new)) }
+    ensures { OnHeldLoop handle.old.raw.value handle.new.raw.value result (now.new ≡ now.old) (λ c d. (result ≡ OK) × Clocks c d ms now.new) }
 {
     let Some(mut held) = handle.take(alloc) else {
         return EMPTY;
@@ -240,7 +246,7 @@ fn hint(thing: &Thing, ms: &mut u64) -> u32
 /// How long the loop has nothing to do: 0, or milliseconds until a timer is due, or all ones where nothing comes of itself.
 #[unsafe(no_mangle)]
 pub extern "C" fn wasmloop_rt_hint(alloc: Global, handle: &mut Handle, ms: &mut u64) -> u32
-    ensures { ReadsHandle handle.old.raw.value handle.new.raw.value result (ms.new ≡ ms.old) (λ t. ReadsLoop t result (ms.new ≡ ms.old) (λ c. ms.new ≡ hint_number (hint_of c.loop.state))) }
+    ensures { ReadsHeldLoop handle.old.raw.value handle.new.raw.value result (ms.new ≡ ms.old) (λ c. ms.new ≡ hint_number (hint_of c.loop.state)) }
 {
     let Some(held) = handle.take(alloc) else {
         return EMPTY;
@@ -268,7 +274,7 @@ pub extern "C" fn wasmloop_rt_cancel(
     request: u32,
     answer: &mut i32,
 ) -> u32
-    ensures { OnHandle handle.old.raw.value handle.new.raw.value result (answer.new ≡ answer.old) (λ t u. OnLoop t u result (answer.new ≡ answer.old) (λ c d. (result ≡ OK) × Cancels c d request answer.new)) }
+    ensures { OnHeldLoop handle.old.raw.value handle.new.raw.value result (answer.new ≡ answer.old) (λ c d. (result ≡ OK) × Cancels c d request answer.new) }
 {
     let Some(mut held) = handle.take(alloc) else {
         return EMPTY;
@@ -299,7 +305,7 @@ pub extern "C" fn wasmloop_rt_standing(
     handle: &mut Handle,
     told: &mut Standing,
 ) -> u32
-    ensures { ReadsHandle handle.old.raw.value handle.new.raw.value result (told.new ≡ told.old) (λ t. ReadsLoop t result (told.new ≡ told.old) (λ c. told.new ≡ standing_of c)) }
+    ensures { ReadsHeldLoop handle.old.raw.value handle.new.raw.value result (told.new ≡ told.old) (λ c. told.new ≡ standing_of c) }
 {
     let Some(held) = handle.take(alloc) else {
         return EMPTY;

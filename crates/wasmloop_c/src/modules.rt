@@ -1,6 +1,6 @@
 // Modules, and what ends a handle.
 
-ghost use Rattle.std.specs.Prelude.{◌≡◌, Some, None, IfOk, IsNone, IsSomeAnd};
+ghost use Rattle.std.specs.Prelude.{◌≡◌, ◌↔◌, ◌⊎◌, Some, None, IfOk, IsNone, IsSome, IsSomeAnd};
 ghost use Rattle.std.specs.Arc.{arc_value};
 ghost use Rattle.loader.specs.Loading.{IsAccepted};
 ghost use Rattle.wasmloop_c.specs.Calls.{Loads, Refuses, module_of};
@@ -35,6 +35,7 @@ pub extern "C" fn wasmloop_rt_load(
 ) -> u32
     ensures loads { result ≡ OK → IsSomeAnd module.new.raw.value (Loads bytes.now) }
     ensures refuses { result ≡ REFUSED → Refuses bytes.now fault.new }
+    ensures full { (result ≡ KIND) ↔ IsSome module.old.raw.value }
     ensures kept { (result ≡ OK → ⊥) → module.new.raw.value ≡ module.old.raw.value }
     ensures fault { (result ≡ REFUSED → ⊥) → fault.new ≡ fault.old }
 {
@@ -67,6 +68,8 @@ fn doubled(alloc: Global, linked: &Arc<Linked, Global>) -> Result<Box<Thing, Glo
 fn share(alloc: Global, module: &Thing, other: &mut Handle) -> u32
     requires { other.old.raw.value ≡ None }
     ensures shares { result ≡ OK → IsSomeAnd (module_of module.now) (λ m. IsSomeAnd other.new.raw.value (λ t. module_of t ≡ Some m)) }
+    ensures kind { (result ≡ KIND) ↔ (module_of module.now ≡ None) }
+    ensures known { (result ≡ OK) ⊎ (result ≡ KIND) ⊎ (result ≡ MEMORY) }
     ensures refuses { (result ≡ OK → ⊥) → other.new.raw.value ≡ None }
 {
     let Thing::Module(linked) = module else {
@@ -87,6 +90,9 @@ pub extern "C" fn wasmloop_rt_share(alloc: Global, module: &mut Handle, other: &
     ensures shares { result ≡ OK → IsSomeAnd module.old.raw.value (λ t. IsSomeAnd (module_of t) (λ m. IsSomeAnd other.new.raw.value (λ u. module_of u ≡ Some m))) }
     ensures refuses { (result ≡ OK → ⊥) → other.new.raw.value ≡ other.old.raw.value }
     ensures kept { module.new.raw.value ≡ module.old.raw.value }
+    ensures full { IsSome other.old.raw.value → result ≡ KIND }
+    ensures kind { result ≡ KIND → IsSome other.old.raw.value ⊎ IsSomeAnd module.old.raw.value (λ t. module_of t ≡ None) }
+    ensures empty { result ≡ EMPTY → IsNone module.old.raw.value }
 {
     if other.is_full() {
         return KIND;

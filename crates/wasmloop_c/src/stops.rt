@@ -2,7 +2,7 @@
 
 ghost use Rattle.std.specs.Prelude.{◌≡◌, length, map, slice_get, option_map};
 ghost use Rattle.wasmloop_c.specs.Calls.{ReadsHandle, copied};
-ghost use Rattle.wasmloop_c.specs.Sites.{site_of, told_of, IsWhole, TellsStop, ReadsStop};
+ghost use Rattle.wasmloop_c.specs.Sites.{site_of, told_of, IsStopOf, TellsStop, ReadsStop};
 
 use crate::handle::Handle;
 use crate::status::{EMPTY, KIND, NONE, OK};
@@ -80,7 +80,7 @@ fn tell_place(place: Option<Place<'_>>, into: &mut [Site], count: &mut u64) -> u
 }
 
 fn place_of_loop(core: &LoopCore<Desk>) -> Option<Place<'_>>
-    ensures { IsWhole (option_map told_of result) }
+    ensures { IsStopOf core.now.setting core.now.loop.store (option_map told_of result) }
 {
     Some(Place::Callback(core.last_stop()?))
 }

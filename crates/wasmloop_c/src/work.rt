@@ -1,7 +1,7 @@
 // Jobs: what a loop asks for, and in time the reply.
 
 ghost use Rattle.std.specs.Prelude.{◌≡◌, ◌⊎◌, None, IsNone, IsSomeAnd, IfSome};
-ghost use Rattle.wasmloop_c.specs.Calls.{OnHandle, OnLoop, ReadsHandle, HandsOut, Runs, Starts, Offers, Tells, left_in};
+ghost use Rattle.wasmloop_c.specs.Calls.{OnHandle, OnLoop, OnHeldLoop, ReadsHandle, HandsOut, Runs, Starts, Offers, OffersHeld, Tells, left_in};
 ghost use Rattle.wasmloop_c.specs.Numbers.{about_order, about_told, outcome_numbers};
 
 use crate::handle::Handle;
@@ -102,7 +102,7 @@ fn next_job(alloc: Global, thing: &mut Thing, job: &mut Handle) -> u32
 /// Takes the loop's lowest request that is not handed out yet, as a job in an empty handle.
 #[unsafe(no_mangle)]
 pub extern "C" fn wasmloop_rt_next_job(alloc: Global, handle: &mut Handle, job: &mut Handle) -> u32
-    ensures hands_out { job.old.raw.value ≡ None → OnHandle handle.old.raw.value handle.new.raw.value result (job.new.raw.value ≡ None) (λ t u. OnLoop t u result (job.new.raw.value ≡ None) (λ c d. HandsOut c d job.new.raw.value result)) }
+    ensures hands_out { job.old.raw.value ≡ None → OnHeldLoop handle.old.raw.value handle.new.raw.value result (job.new.raw.value ≡ None) (λ c d. HandsOut c d job.new.raw.value result) }
     ensures kept { IsSomeAnd job.old.raw.value (λ _. (job.new.raw.value ≡ job.old.raw.value) × (handle.new.raw.value ≡ handle.old.raw.value) × (result ≡ KIND)) ⊎ (job.old.raw.value ≡ None) }
 {
     if job.is_full() {
@@ -190,7 +190,7 @@ fn start(thing: &mut Thing, job: &Thing) -> u32
 pub extern "C" fn wasmloop_rt_job_start(alloc: Global, handle: &mut Handle, job: &mut Handle) -> u32
     ensures job { job.new.raw.value ≡ job.old.raw.value }
     ensures empty { IsNone job.old.raw.value → (result ≡ EMPTY) × (handle.new.raw.value ≡ handle.old.raw.value) }
-    ensures starts { IfSome job.old.raw.value (λ asked. OnHandle handle.old.raw.value handle.new.raw.value result (Unit {0}) (λ t u. OnLoop t u result (Unit {0}) (λ c d. Starts c d asked result))) }
+    ensures starts { IfSome job.old.raw.value (λ asked. OnHeldLoop handle.old.raw.value handle.new.raw.value result (Unit {0}) (λ c d. Starts c d asked result)) }
 {
     let Some(asked) = job.take(alloc) else {
         return EMPTY;
@@ -225,7 +225,7 @@ fn accept(thing: &mut Thing, answered: Thing) -> (Thing, u32)
 pub extern "C" fn wasmloop_rt_accept(alloc: Global, handle: &mut Handle, job: &mut Handle) -> u32
     ensures taken { result ≡ OK → job.new.raw.value ≡ None }
     ensures empty { IsNone job.old.raw.value → (result ≡ EMPTY) × (job.new.raw.value ≡ None) × (handle.new.raw.value ≡ handle.old.raw.value) }
-    ensures offers { IfSome job.old.raw.value (λ offered. OnHandle handle.old.raw.value handle.new.raw.value result (job.new.raw.value ≡ job.old.raw.value) (λ t u. OnLoop t u result (job.new.raw.value ≡ job.old.raw.value) (λ c d. Offers c d offered (left_in job.new.raw.value) result))) }
+    ensures offers { OffersHeld handle.old.raw.value handle.new.raw.value job.old.raw.value job.new.raw.value result }
 {
     let Some(mut answered) = job.take(alloc) else {
         return EMPTY;

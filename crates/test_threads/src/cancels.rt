@@ -3,11 +3,10 @@
 ghost use Rattle.std.specs.Prelude.{◌≡◌};
 ghost use Rattle.std.specs.Thread.{IsSync};
 
-use crate::gates::{Open, comes};
+use crate::gates::Open;
 use crate::hall::{End, LoopSide, Spares, WorkerSide, ticket};
 use crate::jobs::Jobs;
 use crate::scenes::{Scene, played};
-use crate::showing::shows;
 use claims::Ticket;
 use order::Reply;
 use pool::{Gate, Point};
@@ -16,6 +15,7 @@ use std::sync::atomic::{AtomicU64, Ordering};
 use std::test::Fail;
 use std::thread;
 use std::thread::Threads;
+use test_fixtures::{comes, shows};
 
 /// Holds a worker at one point until it is let go.
 struct HoldAt {

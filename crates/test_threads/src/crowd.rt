@@ -2,17 +2,16 @@
 
 ghost use Rattle.std.specs.Prelude.{◌≡◌};
 
-use crate::gates::comes;
 use crate::hall::{LoopSide, Spares, ticket};
 use crate::jobs::Jobs;
 use crate::scenes::{Scene, Watch, at_work, played};
-use crate::showing::shows;
 use limits::MAX_REPLIES;
 use std::alloc::AllocError;
 use std::sync::Wait;
 use std::test::Fail;
 use std::thread;
 use std::thread::Threads;
+use test_fixtures::{comes, shows};
 
 const WORKERS: u32 = 3;
 

@@ -4,7 +4,6 @@ use board::Board;
 use claims::Ticket;
 use order::Reply;
 use pool::{Gate, Point};
-use std::sync::atomic::{AtomicU64, Ordering};
 use std::thread;
 
 /// A gate that holds nobody.
@@ -37,15 +36,4 @@ impl Gate for UntilClosed<'_> {
     }
 
     fn replies(&self, _reply: &Reply) {}
-}
-
-/// Waits for the word to be this number at least, for at most 1,000,000 turns. Whether it came to be.
-pub fn comes(word: &AtomicU64, number: u64) -> bool {
-    for _ in 0..1_000_000 {
-        if word.load(Ordering::SeqCst) >= number {
-            return true;
-        }
-        thread::yield_now();
-    }
-    false
 }

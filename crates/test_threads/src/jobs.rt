@@ -7,7 +7,6 @@ ghost use Rattle.imports.specs.Linking.{ExportsFunction};
 ghost use Rattle.board.specs.Jobs.{ticket_of};
 
 use crate::hall::ticket;
-use crate::modules::linked_of;
 use board::JobBox;
 use claims::Ticket;
 use imports::{EntryPoint, Linked};
@@ -17,6 +16,7 @@ use std::marker::Model;
 use std::sync::Arc;
 use std::sync::atomic::{AtomicU64, Ordering};
 use std::test::Fail;
+use test_fixtures::linked_of;
 
 /// What jobs are made of, and how often they were called.
 pub struct Jobs {

@@ -1,9 +1,6 @@
-//! Tests of what loops and workers share: claims, marks, a board and its jobs, workers, and loops that are served in
-//! threads.
+//! Tests of what loops and workers share: claims, marks, a board and its jobs, and workers in threads.
 #![tactic(auto)]
 
-#[cfg(test)]
-mod apart;
 #[cfg(test)]
 mod cancels;
 #[cfg(test)]
@@ -25,22 +22,10 @@ mod lines;
 #[cfg(test)]
 mod marking;
 #[cfg(test)]
-mod meeting;
-#[cfg(test)]
-mod modules;
-#[cfg(test)]
 mod posting;
 #[cfg(test)]
 mod scenes;
 #[cfg(test)]
 mod seating;
-#[cfg(test)]
-mod sending;
-#[cfg(test)]
-mod serving;
-#[cfg(test)]
-mod showing;
-#[cfg(test)]
-mod telling;
 #[cfg(test)]
 mod turns;

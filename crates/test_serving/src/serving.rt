@@ -4,8 +4,6 @@ ghost use Rattle.std.specs.Prelude.{◌≡◌, ◌≤◌};
 ghost use Rattle.board.specs.Jobs.{ticket_of};
 
 use crate::meeting::Meeting;
-use crate::modules::linked_of;
-use crate::showing::{check_told, shows};
 use board::JobBox;
 use events::settings::LoopSettings;
 use limits::{MAX_LOOPS, MAX_WORKERS};
@@ -17,6 +15,7 @@ use std::process::Abort;
 use std::sync::Wait;
 use std::test::Fail;
 use std::thread::Threads;
+use test_fixtures::{check_told, linked_of, shows};
 
 /// Starts a timer of 50, whose callback emits the moment.
 const TIMER: &str = "0061736d 01000000

@@ -3,10 +3,7 @@
 ghost use Rattle.std.specs.Prelude.{◌≡◌};
 ghost use Rattle.board.specs.Jobs.{ticket_of};
 
-use crate::gates::comes;
-use crate::modules::linked_of;
 use crate::serving::{CANCELS, ample};
-use crate::showing::shows;
 use board::JobBox;
 use events::did::StepDid;
 use events::phase::EntryKind;
@@ -17,6 +14,7 @@ use std::sync::atomic::{AtomicU64, Ordering};
 use std::sync::{Arc, Wait};
 use std::test::Fail;
 use std::thread::Threads;
+use test_fixtures::{comes, linked_of, shows};
 
 /// Asks for three pieces of work, and a timer's callback in the turn behind their posts cancels the second. Each after-work
 /// emits its status.

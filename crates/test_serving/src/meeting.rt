@@ -1,9 +1,9 @@
 // Where threads wait for each other.
 
-use crate::gates::comes;
 use std::alloc::{AllocError, Global};
 use std::sync::Arc;
 use std::sync::atomic::{AtomicU64, Ordering};
+use test_fixtures::comes;
 
 /// How many are wanted, how many came, and whether one of them waited in vain.
 pub struct Meeting {

@@ -1,0 +1,13 @@
+//! Tests of `serve`: loops and workers in threads, and what a watcher is told.
+#![tactic(auto)]
+
+#[cfg(test)]
+mod apart;
+#[cfg(test)]
+mod meeting;
+#[cfg(test)]
+mod sending;
+#[cfg(test)]
+mod serving;
+#[cfg(test)]
+mod telling;

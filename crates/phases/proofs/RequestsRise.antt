@@ -9,7 +9,7 @@ use Rattle.limits.specs.declared.TheConstants.{MAX_BYTES, MAX_REQUESTS}
 use Rattle.order.specs.declared.uv.answers.TheConstants.{CANCELLED_CODE}
 use Rattle.order.specs.Work.{WorkOrder, WorkEnd, Done, Trap, Depth, Spent, NoMemory, IsEndOf, IsShortEnd}
 use Rattle.phases.specs.Requests.{Request, Stage, Open, HandedOut, Answered, Cancelled, has_number, in_stage, Completion, completion_of, end_completion}
-use Rattle.std.proofs.Common.{eqb}
+use Rattle.std.proofs.Math.Dec.{eqb-suc-zero}
 use Rattle.phases.specs.PhaseList.{is_empty}
 use Rattle.phases.specs.Fitting.{AreRising, IsRight, IsTrueTo, AreKept}
 
@@ -246,13 +246,10 @@ untouched_all stage n (x ∷ xs) none =
     ] none
 
 -- a filter leaves something exactly where something passes
-not_none : (n : ℕ) → eqb (suc n) 0 ≡ false
-not_none n = ne_eqb (suc n) 0 (λ same. omega arith)
-
 pub any_filtered : {X : Type 0} (p : X → Bool) (xs : List X) → not (is_empty (filter p xs)) ≡ list_any p xs
 any_filtered p [] = refl
 any_filtered p (x ∷ xs) =
     elim (p x) as (λ b. not (is_empty (cond b (x ∷ filter p xs) (filter p xs))) ≡ (b || list_any p xs)) [
-      | true ↦ ap not (not_none (length (filter p xs)))
+      | true ↦ ap not (eqb-suc-zero (length (filter p xs)))
       | false ↦ any_filtered p xs
     ]

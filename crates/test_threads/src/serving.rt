@@ -5,7 +5,7 @@ ghost use Rattle.board.specs.Jobs.{ticket_of};
 
 use crate::meeting::Meeting;
 use crate::modules::linked_of;
-use crate::showing::{check_told, shows};
+use crate::showing::shows;
 use board::JobBox;
 use events::settings::LoopSettings;
 use limits::{MAX_LOOPS, MAX_WORKERS};
@@ -17,6 +17,7 @@ use std::process::Abort;
 use std::sync::Wait;
 use std::test::Fail;
 use std::thread::Threads;
+use test_fixtures::check_told;
 
 /// Starts a timer of 50, whose callback emits the moment.
 const TIMER: &str = "0061736d 01000000

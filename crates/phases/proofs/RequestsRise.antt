@@ -1,11 +1,11 @@
 -- Requests that rise by their numbers, and what changes one of them.
-use Rattle.std.proofs.Common.{◌≡◌, ℕ, zero, suc, ◌+◌, ◌^◌, ◌<◌, ◌≤◌, ◌==◌, ◌||◌, Bool, true, false, cond, not, List, [], ◌∷◌, ◌++◌, length, map, filter, set}
+use Rattle.std.proofs.Common.{◌≡◌, ℕ, zero, suc, ◌+◌, ◌<◌, ◌≤◌, ◌==◌, ◌||◌, Bool, true, false, cond, not, List, [], ◌∷◌, ◌++◌, length, map, filter, set}
 use Rattle.std.proofs.Common.{get_or, Some, None, refl, sym, ap, subst, ◌∙◌, arith, inl, inr, ◌⊎◌, length-append, length-set}
 use Rattle.std.specs.List.{find, list_any, slice_get, remove, All}
 use Rattle.std.proofs.lemmas.Bool.{eq-eqb, ne_eqb, eqb-true}
 use Rattle.std.proofs.lemmas.List.Elements.{All-filter, All-push, All-set}
 use Rattle.std.proofs.lemmas.Option.{get_or_from_slice_get, slice_get_within}
-use Rattle.limits.specs.declared.TheConstants.{MAX_BYTES, MAX_REQUESTS}
+use Rattle.limits.specs.declared.TheConstants.{MAX_BYTES, MAX_REQUESTS, MAX_REQUEST_NUMBER}
 use Rattle.order.specs.declared.uv.answers.TheConstants.{CANCELLED_CODE}
 use Rattle.order.specs.Work.{WorkOrder, WorkEnd, Done, Trap, Depth, Spent, NoMemory, IsEndOf, IsShortEnd}
 use Rattle.phases.specs.Requests.{Request, Stage, Open, HandedOut, Answered, Cancelled, has_number, in_stage, Completion, completion_of, end_completion}
@@ -152,7 +152,7 @@ module _ (xs : List Request) (last : ℕ) (kept : AreKept (record { outstanding 
     right = All-set IsRight xs at (staged r stage) right kept.right;
   }
 
-  pub kept_open : (o : WorkOrder) → length xs < MAX_REQUESTS → o.request ≡ last + 1 → o.slot < MAX_REQUESTS → last + 1 < 2 ^ 31
+  pub kept_open : (o : WorkOrder) → length xs < MAX_REQUESTS → o.request ≡ last + 1 → o.slot < MAX_REQUESTS → last + 1 ≤ MAX_REQUEST_NUMBER
       → AreKept (record { outstanding = xs ++ record { order = o; stage = Open } ∷ []; last = o.request })
   kept_open o room number slot small = record {
     few = rw (length-append xs (record { order = o; stage = Open } ∷ [])) (omega arith);

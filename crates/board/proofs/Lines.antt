@@ -1,5 +1,5 @@
 -- A step on one of the lines of replies.
-use Rattle.std.proofs.Common.{◌≡◌, ℕ, zero, suc, ◌<◌, List, [], ◌∷◌, length, set, map, Option, Some, None, IfSome, IfNone, Result, Ok, Err, OnOk, refl, sym, ap, ◌∙◌, subst, arith}
+use Rattle.std.proofs.Common.{◌≡◌, ℕ, zero, suc, ◌<◌, List, [], ◌∷◌, length, set, map, Option, Some, None, IfSome, IfNone, refl, sym, ap, ◌∙◌, subst, arith}
 use Rattle.std.specs.List.{slice_get}
 use Rattle.std.proofs.lemmas.List.{length-map}
 use Rattle.std.proofs.lemmas.Option.{same_Some}
@@ -16,10 +16,6 @@ some_then P Q (Some x) f h = f x h
 pub none_then : {A : Type 0} (P Q : Type 0) (o : Option A) → (P → Q) → IfNone o P → IfNone o Q
 none_then P Q None f h = f h
 none_then P Q (Some x) f h = tt
-
-pub ok_then : {A B : Type 0} (P Q : Type 0) (o : Result A B) → (P → Q) → OnOk o P → OnOk o Q
-ok_then P Q (Ok x) f h = f h
-ok_then P Q (Err x) f h = tt
 
 lines_set : (hands : List (HandView Reply)) (k : ℕ) (a b : HandView Reply) → slice_get hands k ≡ Some a → b.line ≡ a.line → map (λ h. h.line) (set hands k b) ≡ map (λ h. h.line) hands
 lines_set [] k a b e same = refl

@@ -1,5 +1,5 @@
 -- The host that refuses every import names the types of a valid module's imports.
-use Rattle.std.proofs.Common.{◌≡◌, ℕ, zero, suc, ◌<◌, List, [], ◌∷◌, ◌++◌, length, map, Option, Some, refl, sym, ap, ◌∙◌, subst, arith}
+use Rattle.std.proofs.Common.{◌≡◌, ℕ, zero, suc, List, [], ◌∷◌, ◌++◌, map, Option, Some, sym, ap, ◌∙◌, subst}
 use Rattle.std.specs.Prelude.{slice_get, unwrap_or, option_and_then}
 use Rattle.std.specs.Option.{option_map}
 use Rattle.std.proofs.lemmas.Option.{slice_get-map, slice_get_within, slice_get-get_or, get_or_from_slice_get}
@@ -13,20 +13,23 @@ use Rattle.reduction.specs.Hosting.{Names}
 use Rattle.commands.specs.NoHost.{nothing, type_of_import, types_of_imports}
 
 -- an element of the front
-in_front : {A : Type 0} (front back : List A) (k : ℕ) → k < length front → slice_get (front ++ back) k ≡ slice_get front k
-in_front [] back k h = absurd (omega arith)
-in_front (x ∷ front) back zero h = refl
-in_front (x ∷ front) back (suc k) h = in_front front back k (omega arith)
+in_front : {A : Type 0} (front back : List A) (k : ℕ) (x : A) → slice_get front k ≡ Some x → slice_get (front ++ back) k ≡ Some x
+in_front [] back k x h = absurd cc
+in_front (y ∷ front) back zero x h = h
+in_front (y ∷ front) back (suc k) x h = in_front front back k x h
 
 module _ (m : Contents) (v : ValidModule m) where
   abbrev indexes : List ℕ
   indexes = map (λ (i : Import). i.type_index) m.imports
 
+  abbrev own_indexes : List ℕ
+  own_indexes = map (λ (f : Func). f.type_index) m.functions
+
   known : (function : ℕ) (i : Import) → slice_get m.imports function ≡ Some i → slice_get (types_of_imports m) function ≡ type_of_function m function
   known function i at =
       let valid : ValidImport m i = subst (λ (j : Import). ValidImport m j) (get_or_from_slice_get m.imports function i i at) (v.imports function i (slice_get_within m.imports function i at)) in
       let index : slice_get indexes function ≡ Some i.type_index = slice_get-map (λ (j : Import). j.type_index) m.imports function ∙ ap (option_map (λ (j : Import). j.type_index)) at in
-      let front : slice_get (function_types m) function ≡ Some i.type_index = in_front indexes (map (λ (f : Func). f.type_index) m.functions) function (slice_get_within indexes function i.type_index index) ∙ index in
+      let front : slice_get (function_types m) function ≡ Some i.type_index = in_front indexes own_indexes function i.type_index index in
       let left : slice_get (types_of_imports m) function ≡ Some (type_of_import m i) = slice_get-map (type_of_import m) m.imports function ∙ ap (option_map (type_of_import m)) at in
       let type : type_of_import m i ≡ valid.type = ap (λ (o : Option FuncType). unwrap_or o nothing) valid.known in
       left ∙ ap (λ (t : FuncType). Some t) type ∙ sym valid.known ∙ ap (λ (o : Option ℕ). option_and_then (slice_get m.types) o) (sym front)

@@ -20,7 +20,8 @@ pub use events::values::Values;
 pub use imports::{EntryPoint, LinkFault, Linked};
 pub use instance::stack::{Site, Stop};
 pub use limits::{
-    MAX_BYTES, MAX_DEPTH, MAX_LOOPS, MAX_MODULE_BYTES, MAX_PAGES, MAX_REQUESTS, MAX_WORKERS,
+    MAX_ASYNCS, MAX_BYTES, MAX_CALLBACKS, MAX_DEPTH, MAX_EMITS, MAX_HANDLES, MAX_JOBS, MAX_LOOPS,
+    MAX_MODULE_BYTES, MAX_PAGES, MAX_REQUEST_NUMBER, MAX_REQUESTS, MAX_SENDS, MAX_WORKERS,
 };
 pub use loader::{Refusal, load};
 pub use order::{Order, Outcome, Reply, Told, Trail};

@@ -41,6 +41,7 @@ fn main(rt: HostRuntime) -> anyhow::Result<()> {
     drive(&rt, guest(&rt, "ticker.wasm")?)?;
     drive(&rt, Arc::try_clone(&asks)?)?;
     let memory = rt.alloc();
+    // made here: a library that gave out boxes of closures would promise less than its contracts say
     let make = move |task: Task| -> Result<JobBox, alloc::AllocError> {
         let ticket = task.ticket();
         let run = move || -> Reply

@@ -12,6 +12,7 @@ ghost use Rattle.reduction.specs.Running.{end_of_run, AreResults};
 ghost use Rattle.imports.specs.Linking.{ExportsFunction};
 ghost use Rattle.order.specs.Orders.{order_of, end_of};
 ghost use Rattle.order.specs.Inner.Serving.{Serves};
+ghost use Rattle.order.specs.Runnable.{CanRun};
 ghost use Rattle.order.specs.Stopping.{TellsWork, WorkStop, ComputesTo, Leaves};
 ghost use Rattle.order.specs.Work.{WorkRun, WorkEnd, NoMemory, StartRun, Computes, Uses, IsEndOf, EndsAs};
 
@@ -110,9 +111,7 @@ impl Order {
     }
 
     fn compute(&self, alloc: Global) -> Result<Computed, AllocError>
-        requires work { (f : ℕ) × ExportsFunction (arc_value self.now.module).contents (codes "uv_work") f }
-        requires bytes { length (arc_value self.now.bytes).items ≤ MAX_BYTES }
-        requires depth { (1 ≤ self.now.depth) × (self.now.depth ≤ MAX_DEPTH) }
+        requires runs { CanRun (order_of self.now) }
         ensures end { IfOk result (λ computed. IsEndOf (order_of self.now) (end_of computed.outcome)) }
         ensures used { IfOk result (λ computed. Uses (order_of self.now) (end_of computed.outcome) computed.used) }
         ensures within { IfOk result (λ computed. computed.used ≤ self.now.fuel) }
@@ -125,13 +124,12 @@ impl Order {
 
     /// The same, on a new instance, for a host that has set no bytes. Nothing is reserved.
     fn compute_on(&self, instance: &mut Instance, host: WorkHost) -> Computed
-        requires work { (f : ℕ) × ExportsFunction (arc_value self.now.module).contents (codes "uv_work") f }
+        requires runs { CanRun (order_of self.now) }
         requires valid { ValidModule (arc_value self.now.module).contents }
         requires fresh { IsFresh (arc_value self.now.module).contents instance.old }
         requires store { IsStoreOf (arc_value self.now.module).contents instance.old }
         requires serves { Serves host (order_of self.now) }
         requires empty { host.reply.items ≡ [] }
-        requires depth { (1 ≤ self.now.depth) × (self.now.depth ≤ MAX_DEPTH) }
         ensures end { IsEndOf (order_of self.now) (end_of result.outcome) }
         ensures told { end_of result.outcome ≢ NoMemory }
         ensures used { Uses (order_of self.now) (end_of result.outcome) result.used }
@@ -151,12 +149,11 @@ impl Order {
 
     /// The start function and, where it returns, `uv_work`.
     fn start_and_work(&self, state: &mut State, stack: &mut Stack, host: &mut WorkHost) -> Ended
-        requires work { (f : ℕ) × ExportsFunction (arc_value self.now.module).contents (codes "uv_work") f }
+        requires runs { CanRun (order_of self.now) }
         requires fresh { IsFresh (arc_value self.now.module).contents state.old }
         requires store { IsStoreOf (arc_value self.now.module).contents state.old }
         requires serves { Serves host.old (order_of self.now) }
         requires empty { host.old.reply.items ≡ [] }
-        requires depth { (1 ≤ self.now.depth) × (self.now.depth ≤ MAX_DEPTH) }
         ensures computes { (end : WorkEnd) → EndsAs (end_of_run result.ending) host.new.reply.items end → Computes (order_of self.now) end result.used }
         ensures stops { (end : WorkEnd) → EndsAs (end_of_run result.ending) host.new.reply.items end → ComputesTo (order_of self.now) end result.used stack.new }
         ensures within { result.used ≤ self.now.fuel }
@@ -193,7 +190,7 @@ impl Order {
         requires store { IsStoreOf (arc_value self.now.module).contents state.old }
         requires serves { Serves host.old (order_of self.now) }
         requires empty { host.old.reply.items ≡ [] }
-        requires depth { (1 ≤ self.now.depth) × (self.now.depth ≤ MAX_DEPTH) }
+        requires runs { CanRun (order_of self.now) }
         ensures run { StartRun (order_of self.now) (arc_value self.now.module).contents.start state.old (end_of_run result.ending) result.used state.new host.new.reply.items }
         ensures stops { (f : ℕ) → (arc_value self.now.module).contents.start ≡ Some f
             → WorkStop (order_of self.now) self.now.fuel state.old [] f [] result state.new host.new.reply.items stack.new }
@@ -213,10 +210,9 @@ impl Order {
 
     /// `uv_work`, with the fuel that is left.
     fn work(&self, state: &mut State, stack: &mut Stack, host: &mut WorkHost, fuel: u64) -> Ended
-        requires work { (f : ℕ) × ExportsFunction (arc_value self.now.module).contents (codes "uv_work") f }
+        requires runs { CanRun (order_of self.now) }
         requires store { IsStoreOf (arc_value self.now.module).contents state.old }
         requires serves { Serves host.old (order_of self.now) }
-        requires depth { (1 ≤ self.now.depth) × (self.now.depth ≤ MAX_DEPTH) }
         ensures run { (f : ℕ) × ExportsFunction (arc_value self.now.module).contents (codes "uv_work") f
             × WorkStop (order_of self.now) fuel state.old host.old.reply.items f (Value.I32 self.now.op ∷ []) result state.new host.new.reply.items stack.new }
         ensures within { result.used ≤ fuel }
@@ -241,7 +237,7 @@ impl Order {
         requires takes { TakesArguments (arc_value self.now.module).contents function args.now }
         requires store { IsStoreOf (arc_value self.now.module).contents state.old }
         requires serves { Serves host.old (order_of self.now) }
-        requires depth { (1 ≤ self.now.depth) × (self.now.depth ≤ MAX_DEPTH) }
+        requires runs { CanRun (order_of self.now) }
         ensures run { WorkRun (order_of self.now) fuel state.old host.old.reply.items function args.now (end_of_run result.ending) result.used state.new host.new.reply.items }
         ensures stops { TellsWork (order_of self.now) state.old host.old.reply.items function args.now result state.new host.new.reply.items stack.new }
         ensures within { result.used ≤ fuel }

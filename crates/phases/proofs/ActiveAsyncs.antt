@@ -1,11 +1,11 @@
 -- The asyncs that are active, found from the front.
 use Rattle.std.proofs.Common.{◌≡◌, ℕ, ◌+◌, ◌<◌, ◌≤◌, None, Bool, true, false, cond, List, [], ◌∷◌, ◌++◌, length, map, take, get_or, Option, refl, sym, ap, ◌∙◌}
-use Rattle.std.proofs.Common.{suc, not, eqb, ◌||◌, append_assoc, append-nil, arith}
+use Rattle.std.proofs.Common.{not, ◌||◌, append_assoc, append-nil, arith}
 use Rattle.std.proofs.lemmas.List.{take_more, take_all}
 use Rattle.std.proofs.lemmas.Option.{get_or_from_slice_get, slice_get-get_or}
 use Rattle.phases.proofs.FrontSearches.{any_here}
 use Rattle.std.specs.List.{list_any}
-use Rattle.std.proofs.lemmas.Bool.{ne_eqb}
+use Rattle.std.proofs.Math.Dec.{eqb-suc-zero}
 use Rattle.handles.specs.Table.{Table}
 use Rattle.phases.specs.declared.entry.Entry.TheVariants.{Async}
 use Rattle.phases.specs.PhaseList.{active_from, is_active_handle, is_empty}
@@ -39,14 +39,11 @@ pub joined : {X : Type 0} (old mid last items new all : List X) → new ≡ item
 joined old mid last items new all h k l = h ∙ ap (λ ys. ys ++ last) k ∙ append_assoc old mid last ∙ ap (λ ys. old ++ ys) (sym l)
 
 -- none is active exactly where no handle is
-not_none : (n : ℕ) → eqb (suc n) 0 ≡ false
-not_none n = ne_eqb (suc n) 0 (λ same. omega arith)
-
 pub active_any : (t : Table) (n : ℕ) (xs : List (Option ℕ)) → not (is_empty (active_from t n xs)) ≡ list_any (is_active_handle t) xs
 active_any t n [] = refl
 active_any t n (x ∷ xs) =
     elim (is_active_handle t x) as (λ b. not (is_empty (cond b (n ∷ []) [] ++ active_from t (n + 1) xs)) ≡ (b || list_any (is_active_handle t) xs)) [
-      | true ↦ ap not (not_none (length (active_from t (n + 1) xs)))
+      | true ↦ ap not (eqb-suc-zero (length (active_from t (n + 1) xs)))
       | false ↦ active_any t (n + 1) xs
     ]
 

@@ -1,11 +1,12 @@
 -- A loop is alive exactly where a handle is active, a request is outstanding or a handle is closing.
-use Rattle.std.proofs.Common.{◌≡◌, ◌≢◌, ◌↔◌, ℕ, suc, ◌+◌, ◌-◌, ◌<◌, ◌≤◌, Bool, true, false, cond, not, ◌&&◌, ◌||◌, inl, inr, ◌⊎◌, List, [], ◌∷◌, ◌++◌, length}
+use Rattle.std.proofs.Common.{◌≡◌, ◌≢◌, ◌↔◌, ℕ, suc, ◌+◌, ◌-◌, ◌<◌, ◌≤◌, Bool, true, false, cond, not, ◌&&◌, ◌||◌, inl, inr, List, [], ◌∷◌, ◌++◌, length}
 use Rattle.std.proofs.Common.{map, Option, Some, None, is_some, Contains, All, refl, sym, ap, subst, ◌∙◌, arith, eqb-true, IsTrue}
 use Rattle.std.specs.List.{list_any, slice_get}
 use Rattle.std.specs.Option.{option_map, option_map_or, option_and_then}
 use Rattle.std.specs.Prelude.{nat_le, IfSome}
-use Rattle.std.proofs.lemmas.Bool.{and_parts, ne_eqb, leb-true, leb-false}
+use Rattle.std.proofs.lemmas.Bool.{and_parts, or_cases, or_left, or_right, ne_eqb, leb-true, leb-false}
 use Rattle.std.proofs.lemmas.List.Elements.{All-contains}
+use Rattle.std.proofs.lemmas.Option.{cond_some}
 use Rattle.events.specs.declared.did.Hint.TheVariants.{Now, For}
 use Rattle.phases.specs.Requests.{settled}
 use Rattle.handles.specs.declared.handle.Kind.{Kind}
@@ -20,14 +21,6 @@ use Rattle.phases.specs.PhaseList.{is_empty, is_active_handle, active_from, acti
 use Rattle.phases.specs.PhaseList.{IsNextDue, IsAtOnce, IsHint, until_due, hint_of}
 use Rattle.phases.specs.Roster.{Roster, is_handle}
 use Rattle.phases.specs.State.{State}
-use Rattle.phases.proofs.RosterKeeps.{or_right}
-
-or_cases : (a b : Bool) → (a || b) ≡ true → (a ≡ true) ⊎ (b ≡ true)
-or_cases true b h = inl refl
-or_cases false b h = inr h
-
-or_left : (a b : Bool) → a ≡ true → (a || b) ≡ true
-or_left a b h = ap (λ x. x || b) h
 
 filled : {X : Type 0} (xs : List X) → not (is_empty xs) ≡ true → xs ≢ []
 filled [] h = absurd (cc)
@@ -44,10 +37,6 @@ map_none f (x ∷ xs) h = absurd (cc)
 append_none : {X : Type 0} (xs ys : List X) → xs ++ ys ≡ [] → ys ≡ []
 append_none [] ys h = h
 append_none (x ∷ xs) ys h = absurd (cc)
-
-chosen : (b : Bool) (p q : Place) → cond b (Some p) None ≡ Some q → (b ≡ true) × (p ≡ q)
-chosen true p q e = (refl, cc)
-chosen false p q e = absurd (cc)
 
 the_same : (a b : Kind) → same_kind a b ≡ true → a ≡ b
 the_same Timer Timer h = refl
@@ -79,7 +68,7 @@ of_place k t handle place is = by (record_of t handle) refl is where
   by : (o : Option Record) → record_of t handle ≡ o → option_and_then (place_of k handle) o ≡ Some place → Placed k t handle place
   by None there e = absurd (cc)
   by (Some r) there e =
-      let it = chosen (r.active && same_kind r.kind k) (place_at k handle r) place e in
+      let it = cond_some (r.active && same_kind r.kind k) (place_at k handle r) place e in
       let both = and_parts r.active (same_kind r.kind k) it.0 in
       (r, record { there = there; active = both.0; kind = the_same r.kind k both.1 }, it.1)
 

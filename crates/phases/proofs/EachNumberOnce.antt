@@ -1,9 +1,9 @@
 -- A guest is answered each number of a request once.
 use Rattle.std.proofs.Common.{◌≡◌, ◌≢◌, ℕ, ◌+◌, ◌<◌, ◌≤◌, ◌==◌, false, cond, ◌&&◌, inl, inr, ◌⊎◌, List, [], ◌∷◌, ◌++◌, refl, sym, ap, subst, ◌∙◌, arith}
-use Rattle.std.specs.Prelude.{◌^◌}
 use Rattle.std.specs.List.{count_by}
 use Rattle.std.proofs.lemmas.Bool.{cases_eq, eq-eqb, ne_eqb}
 use Rattle.std.proofs.lemmas.List.Sums.{sum_by_push}
+use Rattle.limits.specs.declared.TheConstants.{MAX_REQUEST_NUMBER}
 use Rattle.phases.specs.Calls.{Calls}
 use Rattle.phases.specs.Guests.{GuestCall}
 use Rattle.phases.specs.History.{Event, History, IsOpening, guest_calls}
@@ -18,7 +18,7 @@ record IsAsked (made : List GuestCall) (last r : ℕ) : Type 0 where
   pub later : last < r → count_by (asks_for r) made ≡ 0
 
 abbrev AreAsked : List GuestCall → Requests → Type 0
-AreAsked made rs = (r : ℕ) → r < 2 ^ 31 → IsAsked made rs.last r
+AreAsked made rs = (r : ℕ) → r ≤ MAX_REQUEST_NUMBER → IsAsked made rs.last r
 
 counted : (r : ℕ) (made : List GuestCall) (c : GuestCall) → count_by (asks_for r) (made ++ c ∷ []) ≡ count_by (asks_for r) made + cond (asks_for r c) 1 0
 counted r made c = sum_by_push (λ x. cond (asks_for r x) 1 0) made c
@@ -61,6 +61,6 @@ module _ (g : Setting) where
   none_asked r few = record { once = omega arith; later = λ low. refl }
 
   pub asked_after : {S : Type 0} (calls : Calls S) (l l' : Loop S) (events : List Event) → IsOpening calls g l → History calls g l events l'
-      → (r : ℕ) → r < 2 ^ 31 → count_by (asks_for r) (guest_calls events) ≤ 1
+      → (r : ℕ) → r ≤ MAX_REQUEST_NUMBER → count_by (asks_for r) (guest_calls events) ≤ 1
   asked_after calls l l' events opens run r few =
       (history_keeps calls g AreAsked keeps [] events l l' run (subst (λ (s : State). AreAsked [] s.requests) (sym opens.state) none_asked) r few).once

@@ -1,15 +1,15 @@
 -- Requests that rise by their numbers, and what changes one of them.
-use Rattle.std.proofs.Common.{◌≡◌, ℕ, zero, suc, ◌+◌, ◌^◌, ◌<◌, ◌≤◌, ◌==◌, ◌||◌, Bool, true, false, cond, not, List, [], ◌∷◌, ◌++◌, length, map, filter, set}
+use Rattle.std.proofs.Common.{◌≡◌, ℕ, zero, suc, ◌+◌, ◌<◌, ◌≤◌, ◌==◌, ◌||◌, Bool, true, false, cond, not, List, [], ◌∷◌, ◌++◌, length, map, filter, set}
 use Rattle.std.proofs.Common.{get_or, Some, None, refl, sym, ap, subst, ◌∙◌, arith, inl, inr, ◌⊎◌, length-append, length-set}
 use Rattle.std.specs.List.{find, list_any, slice_get, remove, All}
 use Rattle.std.proofs.lemmas.Bool.{eq-eqb, ne_eqb, eqb-true}
 use Rattle.std.proofs.lemmas.List.Elements.{All-filter, All-push, All-set}
 use Rattle.std.proofs.lemmas.Option.{get_or_from_slice_get, slice_get_within}
-use Rattle.limits.specs.declared.TheConstants.{MAX_BYTES, MAX_REQUESTS}
+use Rattle.limits.specs.declared.TheConstants.{MAX_BYTES, MAX_REQUESTS, MAX_REQUEST_NUMBER}
 use Rattle.order.specs.declared.uv.answers.TheConstants.{CANCELLED_CODE}
 use Rattle.order.specs.Work.{WorkOrder, WorkEnd, Done, Trap, Depth, Spent, NoMemory, IsEndOf, IsShortEnd}
 use Rattle.phases.specs.Requests.{Request, Stage, Open, HandedOut, Answered, Cancelled, has_number, in_stage, Completion, completion_of, end_completion}
-use Rattle.std.proofs.Common.{eqb}
+use Rattle.std.proofs.Math.Dec.{eqb-suc-zero}
 use Rattle.phases.specs.PhaseList.{is_empty}
 use Rattle.phases.specs.Fitting.{AreRising, IsRight, IsTrueTo, AreKept}
 
@@ -152,7 +152,7 @@ module _ (xs : List Request) (last : ℕ) (kept : AreKept (record { outstanding 
     right = All-set IsRight xs at (staged r stage) right kept.right;
   }
 
-  pub kept_open : (o : WorkOrder) → length xs < MAX_REQUESTS → o.request ≡ last + 1 → o.slot < MAX_REQUESTS → last + 1 < 2 ^ 31
+  pub kept_open : (o : WorkOrder) → length xs < MAX_REQUESTS → o.request ≡ last + 1 → o.slot < MAX_REQUESTS → last + 1 ≤ MAX_REQUEST_NUMBER
       → AreKept (record { outstanding = xs ++ record { order = o; stage = Open } ∷ []; last = o.request })
   kept_open o room number slot small = record {
     few = rw (length-append xs (record { order = o; stage = Open } ∷ [])) (omega arith);
@@ -246,13 +246,10 @@ untouched_all stage n (x ∷ xs) none =
     ] none
 
 -- a filter leaves something exactly where something passes
-not_none : (n : ℕ) → eqb (suc n) 0 ≡ false
-not_none n = ne_eqb (suc n) 0 (λ same. omega arith)
-
 pub any_filtered : {X : Type 0} (p : X → Bool) (xs : List X) → not (is_empty (filter p xs)) ≡ list_any p xs
 any_filtered p [] = refl
 any_filtered p (x ∷ xs) =
     elim (p x) as (λ b. not (is_empty (cond b (x ∷ filter p xs) (filter p xs))) ≡ (b || list_any p xs)) [
-      | true ↦ ap not (not_none (length (filter p xs)))
+      | true ↦ ap not (eqb-suc-zero (length (filter p xs)))
       | false ↦ any_filtered p xs
     ]

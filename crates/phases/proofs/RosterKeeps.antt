@@ -7,7 +7,7 @@ use Rattle.std.specs.Cmp.{nat_cmp_total, unsigned_tied}
 use Rattle.std.specs.Ordering.{nat_cmp}
 use Rattle.std.specs.FinMap as finite
 use Rattle.std.specs.FinMap.{FinMap}
-use Rattle.std.proofs.lemmas.Bool.{cases_eq, eq-eqb, ne_eqb}
+use Rattle.std.proofs.lemmas.Bool.{cases_eq, eq-eqb, ne_eqb, or_right}
 use Rattle.std.proofs.lemmas.List.Folds.{list_any-append}
 use Rattle.limits.specs.declared.TheConstants.{MAX_HANDLES}
 use Rattle.handles.specs.declared.handle.Record.{Record}
@@ -21,10 +21,6 @@ use Rattle.phases.specs.Fitting.{IsKept, AreClosing, has_duty}
 pub choose : {X : Type 0} (P : X → Type 0) (b : Bool) (x y : X) → (b ≡ true → P x) → (b ≡ false → P y) → P (cond b x y)
 choose P true x y f g = f refl
 choose P false x y f g = g refl
-
-pub or_right : (a b : Bool) → b ≡ true → (a || b) ≡ true
-or_right true b h = refl
-or_right false b h = h
 
 pub some_of : (o : Option Record) (P : Record → Type 0) → IsSomeAnd o P → (r : Record) × (o ≡ Some r) × P r
 some_of None P h = absurd h
@@ -240,10 +236,6 @@ not_among t handle r is open_one (x ∷ xs) all =
     let closes : r.closing ≡ true = it in
     cc) in
     rw (ne_eqb x handle apart) (not_among t handle r is open_one xs all.2)
-
-not_true : (b : Bool) → not b ≡ true → b ≡ false
-not_true true h = absurd (cc)
-not_true false h = refl
 
 open_record : (t : Table) (handle : ℕ) → IsOpen t handle → (r : Record) × (record_of t handle ≡ Some r) × (r.closing ≡ false)
 open_record t handle there = some_of (record_of t handle) _ there

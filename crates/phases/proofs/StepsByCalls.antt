@@ -1,9 +1,9 @@
 -- What the steps of a loop make of its guest's calls and of its requests, one call at a time.
 use Rattle.std.proofs.Common.{◌≡◌, ℕ, ◌+◌, ◌<◌, ◌≤◌, ◌==◌, Bool, true, false, cond, not, ◌&&◌, inl, inr, ◌⊎◌, List, [], ◌∷◌, ◌++◌, length, Option, Some, None}
 use Rattle.std.proofs.Common.{refl, sym, ap, subst, ◌∙◌, arith, append_assoc, append-nil, MatchBool, MatchOption}
-use Rattle.std.specs.Prelude.{◌^◌, nat_lt, codes}
+use Rattle.std.specs.Prelude.{nat_lt, codes}
 use Rattle.std.proofs.lemmas.Bool.{ne_eqb}
-use Rattle.limits.specs.declared.TheConstants.{MAX_BYTES, MAX_REQUESTS}
+use Rattle.limits.specs.declared.TheConstants.{MAX_BYTES, MAX_REQUESTS, MAX_REQUEST_NUMBER}
 use Rattle.syntax.specs.declared.types.Value.{Value}
 use Rattle.syntax.specs.declared.types.Value.TheVariants.{I32, I64}
 use Rattle.handles.specs.declared.handle.Kind.TheVariants as handle_kind
@@ -42,7 +42,7 @@ use Rattle.phases.proofs.CancelFates.{IsBeside, unmoved, sent, took, CancelMoves
 
 -- How one call of a guest went: it changes no request; it opens the next one; or it cancels one.
 pub data CallFate (g : Setting) (rs : Requests) (c : GuestCall) (rs' : Requests) : Type 0 where
-  changes_nothing : ((n : ℕ) → n < 2 ^ 31 → asks_for n c ≡ false) → ((n : ℕ) → IsCancel n c → ⊥) → rs' ≡ rs → CallFate g rs c rs'
+  changes_nothing : ((n : ℕ) → n ≤ MAX_REQUEST_NUMBER → asks_for n c ≡ false) → ((n : ℕ) → IsCancel n c → ⊥) → rs' ≡ rs → CallFate g rs c rs'
   opens_one : (op place count slot : ℕ) → c.function ≡ QueueWork → c.call.args ≡ I32 op ∷ I32 place ∷ I32 count ∷ [] → c.call.answer ≡ Some (I32 (rs.last + 1))
       → rs' ≡ with_work rs (next_work g rs slot op (taken_out place count c.call.before)) → CallFate g rs c rs'
   cancels_one : (n : ℕ) (q : Request) → c.function ≡ Cancel → c.call.args ≡ I32 n ∷ [] → c.call.answer ≡ Some (I32 0) → request_of rs n ≡ Some q
@@ -50,7 +50,7 @@ pub data CallFate (g : Setting) (rs : Requests) (c : GuestCall) (rs' : Requests)
 
 -- how it went at the shared object too
 pub data CallMoves {S : Type 0} (calls : Calls S) (g : Setting) (old : Requests × S) (c : GuestCall) (new : Requests × S) : Type 0 where
-  leaves_all : ((n : ℕ) → n < 2 ^ 31 → asks_for n c ≡ false) → ((n : ℕ) → IsCancel n c → ⊥) → new.0 ≡ old.0 → IsBeside calls old.1 new.1 → CallMoves calls g old c new
+  leaves_all : ((n : ℕ) → n ≤ MAX_REQUEST_NUMBER → asks_for n c ≡ false) → ((n : ℕ) → IsCancel n c → ⊥) → new.0 ≡ old.0 → IsBeside calls old.1 new.1 → CallMoves calls g old c new
   opens : (op place count slot : ℕ) → c.function ≡ QueueWork → c.call.args ≡ I32 op ∷ I32 place ∷ I32 count ∷ [] → c.call.answer ≡ Some (I32 (old.0.last + 1))
       → new.0 ≡ with_work old.0 (next_work g old.0 slot op (taken_out place count c.call.before)) → calls.opens old.1 slot (old.0.last + 1) new.1 → CallMoves calls g old c new
   cancels_won : (n : ℕ) (q : Request) → c.function ≡ Cancel → c.call.args ≡ I32 n ∷ [] → c.call.answer ≡ Some (I32 0) → request_of old.0 n ≡ Some q
@@ -72,14 +72,14 @@ module _ {S : Type 0} (calls : Calls S) (g : Setting) where
   -- a guest asks for work
   module _ (memory : List ℕ) (old : Requests × S) (op place count answer : ℕ) (new : Requests × S) where
     abbrev QueueFate : Type 0
-    QueueFate = ((2 ^ 31 ≤ answer) × (new ≡ old)) ⊎ Opens calls g old op (taken_out place count memory) answer new
+    QueueFate = ((MAX_REQUEST_NUMBER < answer) × (new ≡ old)) ⊎ Opens calls g old op (taken_out place count memory) answer new
 
-    refuse : (b : Bool) (code : ℕ) {Q : Type 0} → 2 ^ 31 ≤ code → (Q → QueueFate) → MatchBool b ((answer ≡ code) × (new ≡ old)) Q → QueueFate
-    refuse true code big f h = inl (subst (λ n. 2 ^ 31 ≤ n) (sym h.0) big, h.1)
+    refuse : (b : Bool) (code : ℕ) {Q : Type 0} → MAX_REQUEST_NUMBER < code → (Q → QueueFate) → MatchBool b ((answer ≡ code) × (new ≡ old)) Q → QueueFate
+    refuse true code big f h = inl (subst (λ n. MAX_REQUEST_NUMBER < n) (sym h.0) big, h.1)
     refuse false code big f h = f h
 
     last : ((answer ≡ NO_MEMORY) × (new ≡ old)) ⊎ Opens calls g old op (taken_out place count memory) answer new → QueueFate
-    last (inl h) = inl (subst (λ n. 2 ^ 31 ≤ n) (sym h.0) (let big : 2 ^ 31 ≤ NO_MEMORY = omega arith in big), h.1)
+    last (inl h) = inl (subst (λ n. MAX_REQUEST_NUMBER < n) (sym h.0) (let big : MAX_REQUEST_NUMBER < NO_MEMORY = omega arith in big), h.1)
     last (inr h) = inr h
 
     queue_fate : QueuesWork calls g memory old op place count answer new → QueueFate

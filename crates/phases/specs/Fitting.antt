@@ -1,9 +1,9 @@
 -- What the parts of a loop keep.
-use Rattle.std.specs.Prelude.{◌≡◌, ℕ, ◌<◌, ◌≤◌, ◌^◌, ◌==◌, Bool, true, false, ◌||◌, not, List, [], ◌∷◌, length, map, All}
+use Rattle.std.specs.Prelude.{◌≡◌, ℕ, ◌<◌, ◌≤◌, ◌==◌, Bool, true, false, ◌||◌, not, List, [], ◌∷◌, length, map, All}
 use Rattle.std.specs.Prelude.{Option, Some, None}
 use Rattle.std.specs.List.{list_any}
 use Rattle.std.specs.FinMap as finite
-use Rattle.limits.specs.declared.TheConstants.{MAX_BYTES, MAX_HANDLES, MAX_REQUESTS}
+use Rattle.limits.specs.declared.TheConstants.{MAX_BYTES, MAX_HANDLES, MAX_REQUESTS, MAX_REQUEST_NUMBER}
 use Rattle.handles.specs.declared.handle.Record.{Record}
 use Rattle.handles.specs.declared.handle.Kind.TheVariants as kind
 use Rattle.handles.specs.Table.{Table, record_of, IsClosing}
@@ -42,13 +42,13 @@ IsTrueTo o _ = Unit {0}
 abbrev pub IsRight : Request → Type 0
 IsRight r = IsTrueTo r.order r.stage
 
--- There are MAX_REQUESTS requests at most, in slots below that number, their own numbers rise and are below 2^31, and
+-- There are MAX_REQUESTS requests at most, in slots below that number, their own numbers rise up to MAX_REQUEST_NUMBER, and
 -- what is answered is right.
 pub record AreKept (rs : Requests) : Type 0 where
   pub few : length rs.outstanding ≤ MAX_REQUESTS
   pub slots : All (λ r. r.order.slot < MAX_REQUESTS) rs.outstanding
   pub rising : AreRising 0 (map (λ r. r.order.request) rs.outstanding) rs.last
-  pub numbers : rs.last < 2 ^ 31
+  pub numbers : rs.last ≤ MAX_REQUEST_NUMBER
   pub right : All IsRight rs.outstanding
 
 -- the outcome of each answered request is what its own order gives, or that there was no memory

@@ -1,6 +1,7 @@
 -- Laws of the histories of a loop.
-use Rattle.std.specs.Prelude.{◌≡◌, ℕ, ◌^◌, ◌<◌, ◌≤◌, ◌==◌, Bool, true, false, ◌&&◌, ◌⊎◌, List, [], ◌∷◌, ◌++◌, Contains}
+use Rattle.std.specs.Prelude.{◌≡◌, ℕ, ◌≤◌, ◌==◌, Bool, true, false, ◌&&◌, ◌⊎◌, List, [], ◌∷◌, ◌++◌, Contains}
 use Rattle.std.specs.Prelude.{count_by, Option, Some}
+use Rattle.limits.specs.declared.TheConstants.{MAX_REQUEST_NUMBER}
 use Rattle.syntax.specs.declared.types.Value.{Value}
 use Rattle.syntax.specs.declared.types.Value.TheVariants.{I32}
 use Rattle.imports.specs.declared.call.Call.{Call}
@@ -137,7 +138,7 @@ module _ {S : Type 0} (calls : Calls S) where
   abbrev pub IsAskedOnce : Type 0
   IsAskedOnce =
       (g : Setting) (l l' : Loop S) (events : List Event) → IsOpening calls g l → History calls g l events l'
-      → (request : ℕ) → request < 2 ^ 31 → count_by (asks_for request) (guest_calls events) ≤ 1
+      → (request : ℕ) → request ≤ MAX_REQUEST_NUMBER → count_by (asks_for request) (guest_calls events) ≤ 1
 
   -- and each order is handed out at most once
   abbrev pub IsHandedOnce : Type 0

@@ -1,9 +1,9 @@
 // The outstanding requests of a loop.
 
-ghost use Rattle.std.specs.Prelude.{◌≡◌, ◌≢◌, ◌+◌, ◌<◌, ◌≤◌, ◌^◌, ◌==◌, ◌↔◌, [], Some, None, true, false, length, find, filter, slice_get, not};
+ghost use Rattle.std.specs.Prelude.{◌≡◌, ◌≢◌, ◌+◌, ◌<◌, ◌≤◌, ◌==◌, ◌↔◌, [], Some, None, true, false, length, find, filter, slice_get, not};
 ghost use Rattle.std.specs.Prelude.{IfOk, IfErr, OnOk, IfSome, IfNone, MatchOption, MatchResult, option_map};
 ghost use Rattle.std.specs.List.{list_any};
-ghost use Rattle.limits.specs.declared.TheConstants.{MAX_BYTES};
+ghost use Rattle.limits.specs.declared.TheConstants.{MAX_BYTES, MAX_REQUEST_NUMBER};
 ghost use Rattle.order.specs.Orders.{order_of, end_of};
 ghost use Rattle.phases.specs.Host.{Cancels};
 ghost use Rattle.phases.specs.Outside.{IsOneOf, next_of, answered};
@@ -152,7 +152,7 @@ impl Requests {
     /// The last number that was given, 0 where none was.
     pub fn last(&self) -> u32
         ensures value { result ≡ self.now.last }
-        ensures most { result < 2 ^ 31 }
+        ensures most { result ≤ MAX_REQUEST_NUMBER }
     {
         self.last
     }
@@ -186,7 +186,7 @@ impl Requests {
         requires room { length self.old.outstanding < MAX_REQUESTS }
         requires number { order.request ≡ self.old.last + 1 }
         requires slot { order.slot < MAX_REQUESTS }
-        requires last { self.old.last + 1 < 2 ^ 31 }
+        requires last { self.old.last + 1 ≤ MAX_REQUEST_NUMBER }
         requires same { order_of copy ≡ order_of order }
         ensures { self.new ≡ with_work self.old (order_of order) }
     {

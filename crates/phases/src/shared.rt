@@ -1,7 +1,7 @@
 // What a loop shares with other threads, as the loop uses it.
 
-ghost use Rattle.std.specs.Prelude.{ℕ, ◌^◌, ◌<◌};
-ghost use Rattle.limits.specs.declared.TheConstants.{MAX_ASYNCS, MAX_REQUESTS};
+ghost use Rattle.std.specs.Prelude.{ℕ, ◌<◌, ◌≤◌};
+ghost use Rattle.limits.specs.declared.TheConstants.{MAX_ASYNCS, MAX_REQUESTS, MAX_REQUEST_NUMBER};
 ghost use Rattle.phases.specs.Calls.{Calls, OtherCalls, IsLawful, AreBeside};
 ghost use Rattle.phases.specs.View.{IsAbove};
 
@@ -12,10 +12,10 @@ ghost use Rattle.phases.specs.View.{IsAbove};
 pub trait Shared {
     ghost calls: { Calls Self };
 
-    /// Opens a request in a slot. Slots are below `MAX_REQUESTS`, requests are 1 to 2,147,483,647 and rise.
+    /// Opens a request in a slot. Slots are below `MAX_REQUESTS`, requests are 1 to `MAX_REQUEST_NUMBER` and rise.
     fn open(&mut self, slot: u32, request: u32)
         requires slot { slot < MAX_REQUESTS }
-        requires request { (0 < request) × (request < 2 ^ 31) }
+        requires request { (0 < request) × (request ≤ MAX_REQUEST_NUMBER) }
         requires rising { IsAbove (calls.view self.old) request }
         ensures { calls.opens self.old slot request self.new };
 

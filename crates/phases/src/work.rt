@@ -1,6 +1,6 @@
 // The requests of a loop, and what it shares with other threads.
 
-ghost use Rattle.std.specs.Prelude.{◌≡◌, ◌<◌, ◌+◌, ◌^◌, length};
+ghost use Rattle.std.specs.Prelude.{◌≡◌, ◌<◌, ◌≤◌, ◌+◌, length};
 ghost use Rattle.imports.specs.Uv.{name_of_entry};
 ghost use Rattle.phases.specs.Host.{Sends, QueuesWork, OpensIfRoom};
 ghost use Rattle.phases.specs.PhaseList.{exports};
@@ -88,7 +88,7 @@ fn open<B: Shared>(
 ) -> u32
     requires opened { AreOpenedUpTo requests.old.last (B.calls.view shared.old) }
     requires room { length requests.old.outstanding < MAX_REQUESTS }
-    requires numbers { requests.old.last + 1 < 2 ^ 31 }
+    requires numbers { requests.old.last + 1 ≤ MAX_REQUEST_NUMBER }
     ensures { OpensIfRoom B.calls (setting_of setting.now) (requests.old, shared.old) op bytes.now result (requests.new, shared.new) }
 {
     let request = requests.last() + 1;

@@ -43,10 +43,6 @@ module _ {A : Type 0} (P : ℕ → A → Type 0) where
   push_at xs x ys e h last = subst (EachFrom P 0) (sym e) (from_push 0 xs x h (subst (λ k. P k x) (omega arith) last))
 
 -- what follows where there is no error
-pub on_ok : {T E : Type 0} (P Q : Type 0) (r : Result T E) → (P → Q) → OnOk r P → OnOk r Q
-on_ok P Q (Ok x) f p = f p
-on_ok P Q (Err e) f p = tt
-
 pub on_both : {T E : Type 0} (P Q R : Type 0) (r : Result T E) → (P → Q → R) → OnOk r P → OnOk r Q → OnOk r R
 on_both P Q R (Ok x) f p q = f p q
 on_both P Q R (Err e) f p q = tt

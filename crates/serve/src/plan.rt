@@ -22,7 +22,7 @@ use std::thread::Promise;
 
 /// What all loops are made of, and whether one of them found no memory.
 #[derive(Drop)]
-pub struct Plan {
+pub struct LoopPlan {
     pub alloc: Global,
     pub linked: Arc<Linked>,
     pub serving: Serving,
@@ -35,7 +35,7 @@ pub type LoopResult = Result<Served, AllocError>;
 /// That what comes of a thread is said of this loop.
 #[derive(Clone, Copy)]
 pub struct OfLoop<'a> {
-    pub plan: &'a Plan,
+    pub plan: &'a LoopPlan,
     pub loop_no: u32,
 }
 
@@ -43,13 +43,13 @@ impl<'a> Promise<LoopResult> for OfLoop<'a> {
     ghost kept_by = { λ p r. IfOk r (λ s. IsServed (setting_at (arc_value p.plan.now.linked) p.plan.now.serving p.loop_no) s) };
 }
 
-impl Plan {
+impl LoopPlan {
     /// No loop has found no memory.
-    pub fn new(alloc: Global, linked: Arc<Linked>, serving: Serving) -> Plan
+    pub fn new(alloc: Global, linked: Arc<Linked>, serving: Serving) -> LoopPlan
         ensures linked { result.linked ≡ linked }
         ensures serving { result.serving ≡ serving }
     {
-        Plan {
+        LoopPlan {
             alloc,
             linked,
             serving,

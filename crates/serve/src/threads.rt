@@ -11,7 +11,7 @@ ghost use Rattle.serve.specs.Inner.Promises.{IsThreadOf};
 
 use crate::job::Job;
 use crate::place::{LoopPlace, WorkerPlace, places};
-use crate::plan::{LoopResult, OfLoop, Plan};
+use crate::plan::{LoopPlan, LoopResult, OfLoop};
 use crate::served::Served;
 use crate::serving::Serving;
 use crate::task::Task;
@@ -62,7 +62,7 @@ pub fn serve_watched<
     ensures count { IfOk result (λ served. length served.items ≡ serving.loops) }
     ensures each { IfOk result (λ served. EachServed (arc_value linked) serving served.items) }
 {
-    let plan = Plan::new(alloc, linked, serving);
+    let plan = LoopPlan::new(alloc, linked, serving);
     with_claims(rt, &plan, make, watch)
 }
 
@@ -72,7 +72,7 @@ fn with_claims<
     M: Fn(Task) -> Result<J, AllocError> + Sync,
     J: Job + Send,
     W: Watch + Sync,
->(rt: &R, plan: &Plan, make: &M, watch: &W) -> Result<Vec<Served>, AllocError>
+>(rt: &R, plan: &LoopPlan, make: &M, watch: &W) -> Result<Vec<Served>, AllocError>
     requires make { M.IsAlwaysCallable make.now }
     ensures count { IfOk result (λ served. length served.items ≡ plan.now.serving.loops) }
     ensures each { IfOk result (λ served. EachServed (arc_value plan.now.linked) plan.now.serving served.items) }
@@ -93,7 +93,7 @@ fn with_board<
     W: Watch + Sync,
 >(
     rt: &R,
-    plan: &Plan,
+    plan: &LoopPlan,
     claims: &Claims,
     loop_seats: Vec<LoopSeat>,
     worker_seats: Vec<WorkerSeat>,
@@ -125,7 +125,7 @@ fn run_all<
     W: Watch + Sync,
 >(
     rt: &R,
-    plan: &Plan,
+    plan: &LoopPlan,
     board: &'a Board<J>,
     workers: Vec<WorkerPlace<'a, J>>,
     loops: Vec<LoopPlace<'a, J>>,
@@ -187,7 +187,7 @@ fn run_loops<
 >(
     scope: &Scope<'s, E>,
     rt: &'s R,
-    plan: &'s Plan,
+    plan: &'s LoopPlan,
     places: Vec<LoopPlace<'s, J>>,
     make: &'s M,
     watch: &'s W,
@@ -218,7 +218,7 @@ fn start_loops<
 >(
     scope: &Scope<'s, E>,
     rt: &'s R,
-    plan: &'s Plan,
+    plan: &'s LoopPlan,
     places: Vec<LoopPlace<'s, J>>,
     make: &'s M,
     watch: &'s W,
@@ -251,7 +251,7 @@ fn start_loop<
 >(
     scope: &Scope<'s, E>,
     rt: &'s R,
-    plan: &'s Plan,
+    plan: &'s LoopPlan,
     place: LoopPlace<'s, J>,
     make: &'s M,
     watch: &'s W,
@@ -278,7 +278,7 @@ fn start_loop<
 /// Waits for each thread. What their loops did, unless one of them found no memory.
 fn join_all<'s, R: Threads>(
     rt: &R,
-    plan: &'s Plan,
+    plan: &'s LoopPlan,
     started: Vec<LoopThread<'s>>,
     served: &mut Vec<Served>,
 ) -> Result<(), AllocError>

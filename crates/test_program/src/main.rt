@@ -45,6 +45,7 @@ fn perform_line<R: Threads + Wait + Sync + AllocGlobal, O: Write>(
     out: &mut O,
 ) -> Result<(u8, Vec<u8>), AllocError> {
     let alloc = rt.alloc();
+    // made here: a library that gave out boxes of closures would promise less than its contracts say
     let make = move |task: Task| -> Result<JobBox, AllocError> {
         let ticket = task.ticket();
         let run = move || -> Reply

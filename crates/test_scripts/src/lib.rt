@@ -7,5 +7,3 @@ mod handling;
 mod printing;
 #[cfg(test)]
 mod reading;
-#[cfg(test)]
-mod telling;

@@ -1,7 +1,7 @@
 // Claims: one of cancel and start, by threads.
 
-ghost use Rattle.std.specs.Prelude.{◌≡◌, ◌+◌, ◌^◌, ◌<◌, All, IfOk, IfSome};
-ghost use Rattle.limits.specs.declared.TheConstants.{MAX_REQUESTS};
+ghost use Rattle.std.specs.Prelude.{◌≡◌, ◌+◌, ◌<◌, ◌≤◌, All, IfOk, IfSome};
+ghost use Rattle.limits.specs.declared.TheConstants.{MAX_REQUESTS, MAX_REQUEST_NUMBER};
 ghost use Rattle.claims.specs.Views.{new_loop_view, new_worker_view};
 
 use claims::{Claims, LoopSeat, NewClaims, Ticket, WorkerSeat};
@@ -124,7 +124,7 @@ fn one_of_each(alloc: Global) -> Result<(Claims, LoopSeat, WorkerSeat), AllocErr
 #[tactic(auto, using(crate::proofs::RequestsRise::below_next))]
 fn opened(claims: &Claims, seat: &mut LoopSeat, request: u32) -> Ticket
     requires own { seat.old.claims ≡ claims.now.id }
-    requires request { (0 < request) × (request < 2 ^ 31) }
+    requires request { (0 < request) × (request ≤ MAX_REQUEST_NUMBER) }
     requires rising { All (λ c. c.1 < request) seat.old.opened }
     ensures seat { (seat.new.claims ≡ seat.old.claims) × (seat.new.loop_no ≡ seat.old.loop_no) × All (λ c. c.1 < request + 1) seat.new.opened }
     ensures ticket { (result.loop_no ≡ seat.old.loop_no) × (result.slot ≡ 0) }

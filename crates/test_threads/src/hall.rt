@@ -1,4 +1,5 @@
-// A board and claims for one loop and some workers, and the sides from which they are used.
+// A hall is a board and claims for one loop and some workers. Its gear is the seats and passes that come with it: the loop's
+// are in its side, a worker's in a side of its own, and the spares are those that no worker has yet.
 
 ghost use Rattle.std.specs.Prelude.{◌≡◌, ◌<◌, ◌≤◌, length, All, IfOk, IfSome};
 ghost use Rattle.limits.specs.declared.TheConstants.{MAX_WORKERS};
@@ -28,6 +29,7 @@ pub fn ticket(request: u32) -> Ticket
     }
 }
 
+/// What one loop and its workers share.
 pub struct Hall {
     pub board: Board,
     pub claims: Claims,
@@ -53,7 +55,7 @@ pub struct Gear {
 }
 
 /// Claims for one loop and so many workers, with their seats.
-#[tactic(auto, using(crate::proofs::Crew::all_own))]
+#[tactic(auto, using(serve::proofs::Seats::all_own))]
 pub fn with_workers(
     alloc: Global,
     workers: u32,
@@ -196,7 +198,7 @@ fn end_of(did: Did) -> End {
     }
 }
 
-/// It refers to the board and the claims, not to their hall: threads hold it, and each type that is in between makes
+/// A worker's part of a hall. It refers to the board and the claims, not to their hall: threads hold it, and each type that is in between makes
 /// `Send` of what they hold longer to show.
 pub struct WorkerSide<'a> {
     board: &'a Board,
@@ -247,7 +249,7 @@ impl<'a> WorkerSide<'a> {
     }
 }
 
-/// The loop opens its requests in the slots in turn, and pops the job that it posts. It keeps one that was refused.
+/// The loop's part of a hall. The loop opens its requests in the slots in turn, and pops the job that it posts. It keeps one that was refused.
 pub struct LoopSide<'a> {
     hand: Hand<'a>,
     claims: &'a Claims,

@@ -1,4 +1,4 @@
-// What a loop and its workers do in a hall, and what is seen of it.
+// A scene is what a loop and its workers do in a hall, and what is seen of it.
 
 ghost use Rattle.std.specs.Prelude.{◌≡◌, ◌≤◌};
 ghost use Rattle.std.specs.Thread.{IsSync};
@@ -12,6 +12,7 @@ use std::test::Fail;
 use std::thread;
 use std::thread::Threads;
 
+/// What is played in a hall: the loop has its side, and the workers' sides come from the spares.
 pub trait Scene {
     type Seen: Copy;
 

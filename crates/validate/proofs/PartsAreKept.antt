@@ -11,7 +11,7 @@ use Rattle.validate.specs.declared.operands.Operand.{Operand}
 use Rattle.validate.specs.declared.operands.Operand.TheVariants.{Known}
 use Rattle.validate.specs.declared.frames.ControlFrame.{ControlFrame}
 use Rattle.validate.specs.declared.scope.Scope.{Scope}
-use Rattle.validate.specs.Typing.{Context, inside}
+use Rattle.validate.specs.Typing.{Context, inside, block_type}
 use Rattle.validate.specs.Height.{greatest_height, nesting, shape_of, type_or_none, effect_of, after_effect}
 use Rattle.validate.specs.Rules.{Rule, Kept}
 use Rattle.validate.specs.Inner.Frames.{label_of}
@@ -161,66 +161,52 @@ low_begun scope f g fs type taken h mid body code first other os b p l =
       subst (λ (k : Held). LowOpens scope (f ∷ fs) k (open_of code other ∷ os)) (sym back) behind,
     )
 
--- the height in a block, by what it takes and leaves
+-- the height in a block or a loop whose label takes these types, by what it takes and leaves
+low_inside : (scope : Scope) (f g : ControlFrame) (fs : List ControlFrame) (type : FuncType) (labels : List ValType) (h mid : Held) (body code : Code)
+    → labels ≡ label_of scope.contents.now g → Begun scope f g fs type type.params h mid
+    → block_height (context_in scope (f ∷ fs)) labels type (length h.below) (height_of h) body code ≤ 256
+    → LowParts scope f g fs type h mid body code None
+low_inside scope f g fs type labels h mid body code label b known =
+    let c = context_in scope (f ∷ fs) in
+    let at = length mid.own + length mid.below in
+    let inner : max (length h.below) (height_of h - length type.params) ≡ at = omega (arith, b.takes.height, ap (λ (os : List Operand). length os) b.takes.below) in
+    let within = greatest_height (inside labels c) at (at + length type.params) body in
+    let behind = greatest_height c (length h.below) (at + length type.results) code in
+    let all : max (height_of h) (max within behind) ≤ 256 =
+    subst (λ (n : ℕ). max (height_of h)
+    (max (greatest_height (inside labels c) n (n + length type.params) body) (greatest_height c (length h.below) (n + length type.results) code))
+    ≤ 256) inner known in
+    record {
+      body =
+          subst (λ (ls : List ValType). greatest_height (inside ls c) at (at + length type.params) body ≤ 256) label
+          (second_of_three (height_of h) within behind all);
+      first = tt;
+      rest = third_of_three (height_of h) within behind all;
+    }
+
+named_shape : (scope : Scope) (g : ControlFrame) (type : FuncType) (named : BlockType) → g.block_type ≡ named → block_type scope.contents.now g.block_type ≡ Some type
+    → shape_of scope.contents.now named ≡ type
+named_shape scope g type named e known = subst (λ (t : BlockType). shape_of scope.contents.now t ≡ type) e (ap type_or_none known)
+
 pub low_block : (scope : Scope) (f g : ControlFrame) (fs : List ControlFrame) (type : FuncType) (named : BlockType) (h mid : Held) (body code : Code)
     → g.is_loop ≡ false → g.block_type ≡ named → Begun scope f g fs type type.params h mid
     → greatest_height (context_in scope (f ∷ fs)) (length h.below) (height_of h) (Block named body code) ≤ 256
     → LowParts scope f g fs type h mid body code None
 low_block scope f g fs type named h mid body code plain e b l =
-    let c = context_in scope (f ∷ fs) in
-    let shape : shape_of scope.contents.now named ≡ type = subst (λ (t : BlockType). shape_of scope.contents.now t ≡ type) e (ap type_or_none b.known) in
+    let shape = named_shape scope g type named e b.known in
     let label : type.results ≡ label_of scope.contents.now g = ap (λ (t : FuncType). t.results) (sym shape) ∙ sym (label_results scope g named plain e) in
-    let inner : max (length h.below) (height_of h - length type.params) ≡ length mid.own + length mid.below = omega (arith, b.takes.height, ap (λ (os : List Operand). length os) b.takes.below) in
-    let known : block_height c type.results type (length h.below) (height_of h) body code ≤ 256 =
-    subst (λ (t : FuncType). block_height c t.results t (length h.below) (height_of h) body code ≤ 256) shape l in
-    let both : max (height_of h) (max
-    (greatest_height (inside type.results c) (length mid.own + length mid.below) (length mid.own + length mid.below + length type.params) body)
-    (greatest_height c (length h.below) (length mid.own + length mid.below + length type.results) code)) ≤ 256 =
-    subst (λ (n : ℕ). max (height_of h)
-    (max (greatest_height (inside type.results c) n (n + length type.params) body) (greatest_height c (length h.below) (n + length type.results) code))
-    ≤ 256) inner known in
-    record {
-      body =
-          subst (λ (ls : List ValType). greatest_height (inside ls c) (length mid.own + length mid.below) (length mid.own + length mid.below + length type.params) body ≤ 256) label
-          (second_of_three (height_of h)
-          (greatest_height (inside type.results c) (length mid.own + length mid.below) (length mid.own + length mid.below + length type.params) body)
-          (greatest_height c (length h.below) (length mid.own + length mid.below + length type.results) code) both);
-      first = tt;
-      rest =
-          third_of_three (height_of h)
-          (greatest_height (inside type.results c) (length mid.own + length mid.below) (length mid.own + length mid.below + length type.params) body)
-          (greatest_height c (length h.below) (length mid.own + length mid.below + length type.results) code) both;
-    }
+    low_inside scope f g fs type type.results h mid body code label b
+    (subst (λ (t : FuncType). block_height (context_in scope (f ∷ fs)) t.results t (length h.below) (height_of h) body code ≤ 256) shape l)
 
 pub low_loop : (scope : Scope) (f g : ControlFrame) (fs : List ControlFrame) (type : FuncType) (named : BlockType) (h mid : Held) (body code : Code)
     → g.is_loop ≡ true → g.block_type ≡ named → Begun scope f g fs type type.params h mid
     → greatest_height (context_in scope (f ∷ fs)) (length h.below) (height_of h) (Loop named body code) ≤ 256
     → LowParts scope f g fs type h mid body code None
 low_loop scope f g fs type named h mid body code loops e b l =
-    let c = context_in scope (f ∷ fs) in
-    let shape : shape_of scope.contents.now named ≡ type = subst (λ (t : BlockType). shape_of scope.contents.now t ≡ type) e (ap type_or_none b.known) in
+    let shape = named_shape scope g type named e b.known in
     let label : type.params ≡ label_of scope.contents.now g = ap (λ (t : FuncType). t.params) (sym shape) ∙ sym (label_params scope g named loops e) in
-    let inner : max (length h.below) (height_of h - length type.params) ≡ length mid.own + length mid.below = omega (arith, b.takes.height, ap (λ (os : List Operand). length os) b.takes.below) in
-    let known : block_height c type.params type (length h.below) (height_of h) body code ≤ 256 =
-    subst (λ (t : FuncType). block_height c t.params t (length h.below) (height_of h) body code ≤ 256) shape l in
-    let both : max (height_of h) (max
-    (greatest_height (inside type.params c) (length mid.own + length mid.below) (length mid.own + length mid.below + length type.params) body)
-    (greatest_height c (length h.below) (length mid.own + length mid.below + length type.results) code)) ≤ 256 =
-    subst (λ (n : ℕ). max (height_of h)
-    (max (greatest_height (inside type.params c) n (n + length type.params) body) (greatest_height c (length h.below) (n + length type.results) code))
-    ≤ 256) inner known in
-    record {
-      body =
-          subst (λ (ls : List ValType). greatest_height (inside ls c) (length mid.own + length mid.below) (length mid.own + length mid.below + length type.params) body ≤ 256) label
-          (second_of_three (height_of h)
-          (greatest_height (inside type.params c) (length mid.own + length mid.below) (length mid.own + length mid.below + length type.params) body)
-          (greatest_height c (length h.below) (length mid.own + length mid.below + length type.results) code) both);
-      first = tt;
-      rest =
-          third_of_three (height_of h)
-          (greatest_height (inside type.params c) (length mid.own + length mid.below) (length mid.own + length mid.below + length type.params) body)
-          (greatest_height c (length h.below) (length mid.own + length mid.below + length type.results) code) both;
-    }
+    low_inside scope f g fs type type.params h mid body code label b
+    (subst (λ (t : FuncType). block_height (context_in scope (f ∷ fs)) t.params t (length h.below) (height_of h) body code ≤ 256) shape l)
 
 -- the parts of the height of an `if` whose branches begin over this many operands
 abbrev if_over : Context → FuncType → ℕ → ℕ → ℕ → Code → Code → Code → ℕ
@@ -265,7 +251,7 @@ low_if scope f g fs type named h mid first second code plain e b l =
     let c = context_in scope (f ∷ fs) in
     let base = length h.below in
     let over = length mid.own + length mid.below in
-    let shape : shape_of scope.contents.now named ≡ type = subst (λ (t : BlockType). shape_of scope.contents.now t ≡ type) e (ap type_or_none b.known) in
+    let shape = named_shape scope g type named e b.known in
     let label : type.results ≡ label_of scope.contents.now g = ap (λ (t : FuncType). t.results) (sym shape) ∙ sym (label_results scope g named plain e) in
     let inner : max (length h.below) (height_of h - (length type.params + 1)) ≡ length mid.own + length mid.below =
     omega (arith, b.takes.height, length_push type.params I32, ap (λ (os : List Operand). length os) b.takes.below) in

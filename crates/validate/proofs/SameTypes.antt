@@ -1,5 +1,6 @@
 -- Equal lists of types.
-use Rattle.std.proofs.Common.{◌≡◌, List, [], ◌∷◌, Bool, true, false, ◌&&◌, Some, refl, sym, ap, ◌∙◌, subst, ◌↔◌, IsTrue}
+use Rattle.std.proofs.Common.{◌≡◌, List, [], ◌∷◌, Bool, true, false, Some, refl, sym, ap, ◌∙◌, subst, ◌↔◌, IsTrue}
+use Rattle.std.proofs.lemmas.Bool.{and_parts}
 use Rattle.syntax.specs.declared.types.ValType.{ValType}
 use Rattle.syntax.specs.declared.types.ValType.TheVariants.{I32, I64}
 use Rattle.syntax.specs.declared.contents.FuncType.{FuncType}
@@ -15,17 +16,12 @@ same_valtype-is I32 I64 e = absurd (cc)
 same_valtype-is I64 I32 e = absurd (cc)
 same_valtype-is I64 I64 e = refl
 
-pub both : (a b : Bool) → (a && b) ≡ true → (a ≡ true) × (b ≡ true)
-both true true e = (refl, refl)
-both true false e = absurd (cc)
-both false b e = absurd (cc)
-
 pub same_valtypes-is : (ts us : List ValType) → same_valtypes ts us ≡ true → ts ≡ us
 same_valtypes-is [] [] e = refl
 same_valtypes-is [] (u ∷ us) e = absurd (cc)
 same_valtypes-is (t ∷ ts) [] e = absurd (cc)
 same_valtypes-is (t ∷ ts) (u ∷ us) e =
-    let b = both (same_valtype t u) (same_valtypes ts us) e in
+    let b = and_parts (same_valtype t u) (same_valtypes ts us) e in
     let h = same_valtype-is t u b.0 in let k = same_valtypes-is ts us b.1 in cc
 
 same_itself : (types : List ValType) → same_valtypes types types ≡ true

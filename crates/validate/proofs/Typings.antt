@@ -156,49 +156,43 @@ named_type : (scope : Scope) (g : ControlFrame) (named : BlockType) (s type : Fu
 named_type scope g named s type e p q =
     same_some s type (block_type scope.contents.now named) p (subst (λ (t : BlockType). block_type scope.contents.now t ≡ Some type) e q)
 
+-- the parts of a block or a loop, by its type and by what it takes and leaves
+typed_inside : (scope : Scope) (f g : ControlFrame) (fs : List ControlFrame) (type named : FuncType) (h mid : Held) (body code : Code) (from below : List ValType)
+    → named ≡ type → Begun scope f g fs type type.params h mid
+    → Fits h from → from ≡ pushed named.params below
+    → Typed (context_in scope (g ∷ f ∷ fs)) body (pushed named.params []) (pushed named.results [])
+    → Typed (context_in scope (f ∷ fs)) code (pushed named.results below) (pushed (shape_in scope f).results [])
+    → TypedParts scope f g fs type mid body code None
+typed_inside scope f g fs type named h mid body code from below same b fits is inner rest =
+    record {
+      body = subst (λ (s : FuncType). Typed (context_in scope (g ∷ f ∷ fs)) body (pushed s.params []) (pushed s.results [])) same inner;
+      first = tt;
+      below = below;
+      fits = (b.takes.fits below).0 (subst (λ (x : List ValType). Fits h x) (is ∙ ap (λ (s : FuncType). pushed s.params below) same) fits);
+      rest = subst (λ (s : FuncType). Typed (context_in scope (f ∷ fs)) code (pushed s.results below) (pushed (shape_in scope f).results [])) same rest;
+    }
+
 pub typed_block : (scope : Scope) (f g : ControlFrame) (fs : List ControlFrame) (type : FuncType) (named : BlockType) (h mid : Held) (body code : Code)
     → g.is_loop ≡ false → g.block_type ≡ named → Begun scope f g fs type type.params h mid
     → TypedFrom (context_in scope (f ∷ fs)) (shape_in scope f).results h (Block named body code)
     → TypedParts scope f g fs type mid body code None
 typed_block scope f g fs type named h mid body code plain e b p =
-    let c = context_in scope (f ∷ fs) in
     let t = p.typed in
-    let same : t.0 ≡ type = named_type scope g named t.0 type e t.1 b.known in
     let label : t.0.results ≡ label_of scope.contents.now g =
     ap (λ (s : FuncType). s.results) (sym (ap type_or_none t.1)) ∙ sym (label_results scope g named plain e) in
-    record {
-      body =
-          subst (λ (s : FuncType). Typed (inside (label_of scope.contents.now g) c) body (pushed s.params []) (pushed s.results [])) same
-          (subst (λ (l : List ValType). Typed (inside l c) body (pushed t.0.params []) (pushed t.0.results [])) label t.4);
-      first = tt;
-      below = t.2;
-      fits =
-          (b.takes.fits t.2).0
-          (subst (λ (x : List ValType). Fits h x) (t.3 ∙ ap (λ (s : FuncType). pushed s.params t.2) same) p.fits);
-      rest = subst (λ (s : FuncType). Typed c code (pushed s.results t.2) (pushed (shape_in scope f).results [])) same t.5;
-    }
+    typed_inside scope f g fs type t.0 h mid body code p.from t.2 (named_type scope g named t.0 type e t.1 b.known) b p.fits t.3
+    (subst (λ (l : List ValType). Typed (inside l (context_in scope (f ∷ fs))) body (pushed t.0.params []) (pushed t.0.results [])) label t.4) t.5
 
 pub typed_loop : (scope : Scope) (f g : ControlFrame) (fs : List ControlFrame) (type : FuncType) (named : BlockType) (h mid : Held) (body code : Code)
     → g.is_loop ≡ true → g.block_type ≡ named → Begun scope f g fs type type.params h mid
     → TypedFrom (context_in scope (f ∷ fs)) (shape_in scope f).results h (Loop named body code)
     → TypedParts scope f g fs type mid body code None
 typed_loop scope f g fs type named h mid body code loops e b p =
-    let c = context_in scope (f ∷ fs) in
     let t = p.typed in
-    let same : t.0 ≡ type = named_type scope g named t.0 type e t.1 b.known in
     let label : t.0.params ≡ label_of scope.contents.now g =
     ap (λ (s : FuncType). s.params) (sym (ap type_or_none t.1)) ∙ sym (label_params scope g named loops e) in
-    record {
-      body =
-          subst (λ (s : FuncType). Typed (inside (label_of scope.contents.now g) c) body (pushed s.params []) (pushed s.results [])) same
-          (subst (λ (l : List ValType). Typed (inside l c) body (pushed t.0.params []) (pushed t.0.results [])) label t.4);
-      first = tt;
-      below = t.2;
-      fits =
-          (b.takes.fits t.2).0
-          (subst (λ (x : List ValType). Fits h x) (t.3 ∙ ap (λ (s : FuncType). pushed s.params t.2) same) p.fits);
-      rest = subst (λ (s : FuncType). Typed c code (pushed s.results t.2) (pushed (shape_in scope f).results [])) same t.5;
-    }
+    typed_inside scope f g fs type t.0 h mid body code p.from t.2 (named_type scope g named t.0 type e t.1 b.known) b p.fits t.3
+    (subst (λ (l : List ValType). Typed (inside l (context_in scope (f ∷ fs))) body (pushed t.0.params []) (pushed t.0.results [])) label t.4) t.5
 
 pub typed_if : (scope : Scope) (f g : ControlFrame) (fs : List ControlFrame) (type : FuncType) (named : BlockType) (h mid : Held) (first second code : Code)
     → g.is_loop ≡ false → g.block_type ≡ named → Begun scope f g fs type (type.params ++ I32 ∷ []) h mid

@@ -1,10 +1,10 @@
 -- The law of a loop's histories, as it stands of the runs of a world.
 use Rattle.std.proofs.Common.{◌≡◌, ◌↔◌, ℕ, zero, suc, ◌≤◌, ◌==◌, Bool, true, false, cond, inl, inr, List, [], ◌∷◌, ◌++◌, map, length, Option, Some, None, refl}
-use Rattle.std.proofs.Common.{sym, ap, subst, ◌∙◌, arith, append-nil, append_assoc, ◌&&◌}
+use Rattle.std.proofs.Common.{sym, ap, subst, ◌∙◌, arith, append-nil, append_assoc}
 use Rattle.std.specs.Prelude.{slice_get}
 use Rattle.std.specs.List.{Contains, count_by}
 use Rattle.std.specs.Option.{is_some}
-use Rattle.std.proofs.lemmas.Bool.{eqb-true}
+use Rattle.std.proofs.lemmas.Bool.{and_parts, eqb-true}
 use Rattle.std.proofs.lemmas.List.Sums.{sum_by_push}
 use Rattle.limits.specs.declared.TheConstants.{MAX_JOBS}
 use Rattle.order.specs.Work.{WorkOrder}
@@ -36,10 +36,6 @@ use Rattle.world.proofs.LogsTellHistories.{history_join, step_callback, tells_ca
 pub opening_is : (g : Setting) → IsOpening desk_calls g (opening_loop g).loop
 opening_is g = record { state = refl; store = refl; shared = refl }
 
-pub both_true : (a b : Bool) → (a && b) ≡ true → (a ≡ true) × (b ≡ true)
-both_true true b h = (refl, h)
-both_true false b h = absurd (cc)
-
 pub some_of : {X : Type 0} (o : Option X) → is_some o ≡ true → (x : X) × (o ≡ Some x)
 some_of None h = absurd (cc)
 some_of (Some x) h = (x, refl)
@@ -47,7 +43,7 @@ some_of (Some x) h = (x, refl)
 -- only a step of a loop tells a callback
 module _ (j r : ℕ) where
   after_told : (n : ℕ) (told : StepDid) (emits : List ℕ) → is_after j r (told_of n told emits) ≡ true → n ≡ j
-  after_told n (did.Ran kind.After number ended) emits h = eqb-true n j (both_true (n == j) (number == r) h).0
+  after_told n (did.Ran kind.After number ended) emits h = eqb-true n j (and_parts (n == j) (number == r) h).0
   after_told n _ emits h = absurd (cc)
 
   abbrev Silent : LogEntry → Type 0

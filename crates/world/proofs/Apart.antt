@@ -4,7 +4,7 @@ use Rattle.std.proofs.Common.{replicate, find, Option, is_some, Some, None, refl
 use Rattle.std.specs.Prelude.{pos, slice_get, slice_set}
 use Rattle.std.specs.Int.{w32, cast_signed}
 use Rattle.std.specs.List.{count_by, filter}
-use Rattle.std.proofs.lemmas.Bool.{cases_eq, eqb-true, eq-eqb, ne_eqb}
+use Rattle.std.proofs.lemmas.Bool.{and_parts, cases_eq, eqb-true, eq-eqb, ne_eqb}
 use Rattle.std.proofs.lemmas.List.Elements.{Contains-push_cases}
 use Rattle.std.proofs.lemmas.List.Sums.{sum_by_push}
 use Rattle.limits.specs.declared.TheConstants.{MAX_JOBS}
@@ -40,7 +40,7 @@ use Rattle.world.specs.Guests.{step_calls, guest_calls}
 use Rattle.world.specs.Laws.{is_of_job, is_begun, is_finished, WasCancelled, AreInPlace}
 use Rattle.world.specs.World.{World, Worker, Idle, Taken, Started, Answer, Only, UnlessFailed, PostsOrder, TakesJob, StartsJob, FinishesJob, CollectsFrom}
 use Rattle.world.specs.World.{StepsLoop, WorldStep, WorldRun, HasLoop, opening_world, opening_loop, with_loop, with_worker, job_of, told_of, core}
-use Rattle.world.proofs.AfterOnce.{both_true, some_of}
+use Rattle.world.proofs.AfterOnce.{some_of}
 use Rattle.world.proofs.EndsAreLogged.{set_at}
 use Rattle.world.proofs.OneWay.{IsCounted, own_orders, step_counted, opening_counted, one_way_after}
 use Rattle.world.proofs.Runs.{set_there}
@@ -336,7 +336,7 @@ module _ (l r : ℕ) where
   is_order o = is_of_job l r (job_of o)
 
   order_is : (o : WorkOrder) → is_order o ≡ true → (o.loop_no ≡ l) × (o.request ≡ r)
-  order_is o is = let it = both_true (o.loop_no == l) (o.request == r) is in (eqb-true o.loop_no l it.0, eqb-true o.request r it.1)
+  order_is o is = let it = and_parts (o.loop_no == l) (o.request == r) is in (eqb-true o.loop_no l it.0, eqb-true o.request r it.1)
 
   -- the orders that wait, and that which a worker has not begun, have the slot that was handed out
   abbrev AreOut : Option ℕ → List WorkOrder → Type 0

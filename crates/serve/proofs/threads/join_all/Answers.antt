@@ -1,10 +1,11 @@
 use Rattle.std.proofs.Common.{length, sym, ap, subst, arith}
 use Rattle.std.specs.Arc.{arc_value}
+use Rattle.std.proofs.lemmas.Result.{on_ok_weaker}
 use Rattle.serve.specs.Answers.{IsServed}
 use Rattle.serve.specs.Histories.{setting_at}
 use Rattle.serve.specs.Inner.Places.{EachFrom}
 use Rattle.serve.specs.Inner.Promises.{IsThreadOf}
-use Rattle.serve.proofs.NumberedLists.{from_first, from_rest, push_at, longer_by, shorter_by, on_ok, on_both}
+use Rattle.serve.proofs.NumberedLists.{from_first, from_rest, push_at, longer_by, shorter_by, on_both}
 use Rattle.serve.proofs.Promised.{served_of}
 use Rattle.serve.proofs.threads.join_all.Goals as goal
 
@@ -37,8 +38,8 @@ loop-thread-preserved-in-Ok g c =
     let capacity = c.push_reserved.ensures.capacity in
     let room = kept.0 in (
       omega (arith, shorter, room, longer, capacity),
-      on_ok _ _ c.loop-thread.ending (λ all. omega (arith, all, shorter, longer)) kept.1,
-      on_ok _ _ c.loop-thread.ending (λ h. from_rest (λ k t. IsThreadOf c.args.plan.now k t.promise) (length served) (length now) rest thread more split longer h) kept.2,
+      on_ok_weaker c.loop-thread.ending (λ all. omega (arith, all, shorter, longer)) kept.1,
+      on_ok_weaker c.loop-thread.ending (λ h. from_rest (λ k t. IsThreadOf c.args.plan.now k t.promise) (length served) (length now) rest thread more split longer h) kept.2,
       on_both _ _ _ c.loop-thread.ending
           (λ h done.
           push_at (λ k s. IsServed (setting_at (arc_value c.args.plan.now.linked) c.args.plan.now.serving k) s) served c.in-Ok.one now pushed done

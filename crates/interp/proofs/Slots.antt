@@ -13,7 +13,7 @@ pub mod CallsEnter
 pub mod Callers
 pub mod Targets
 pub mod Following
-pub mod ArgumentCounts
+pub mod SlotCounts
 pub mod FollowingTests
 pub mod FollowingCalls
 pub mod OperandsInCalls

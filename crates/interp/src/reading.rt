@@ -22,7 +22,8 @@ pub fn number_of(value: Value) -> u64
 }
 
 /// The value of a type that a slot holds.
-fn value_in(value_type: ValType, slot: u64) -> Value
+#[inline]
+pub fn value_in(value_type: ValType, slot: u64) -> Value
     ensures { result ≡ value_of value_type (number value_type slot) }
 {
     match value_type {

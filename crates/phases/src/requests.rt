@@ -172,13 +172,18 @@ impl Requests {
         any_settled(self.items.as_slice())
     }
 
-    /// A slot that no request uses.
+    /// A slot that no request uses. Where requests end in the order of their numbers, it is the first that is tried.
     pub fn free_slot(&self) -> u32
         requires { length self.now.outstanding < MAX_REQUESTS }
         ensures below { result < MAX_REQUESTS }
         ensures free { is_free_slot self.now result ≡ true }
     {
-        free_slot(self.items.as_slice())
+        let items = self.items.as_slice();
+        let next = self.last % MAX_REQUESTS as u32;
+        if uses_slot(items, next) {
+            return free_slot(items);
+        }
+        next
     }
 
     /// Opens a request under the next number, with the copy of its order that will be handed out.

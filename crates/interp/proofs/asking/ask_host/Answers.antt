@@ -8,15 +8,15 @@ use Rattle.interp.specs.Inner.Slots.Resuming.{laid}
 use Rattle.interp.specs.Inner.Slots.ValuesRead.{typed_values}
 use Rattle.interp.specs.Inner.Slots.HostAsked.{arguments}
 use Rattle.interp.proofs.Slots.ValuesRead.{between, typed_types}
-use Rattle.interp.proofs.asking.ask_over.Goals as goal
+use Rattle.interp.proofs.asking.ask_host.Goals as goal
 
 pub call-answer-requires : goal.call-answer-requires
 call-answer-requires g c =
-    let found = sym c.requires.known in
+    let found = c.in-Some.ensures in
     let can = c.requires.can in
     let known = can.known in
-    let both : Some c.args.import_type.now ≡ Some can.type = found ∙ known in
-    let type : c.args.import_type.now ≡ can.type = cc in
+    let both : Some c.in-Some.import_type.now ≡ Some can.type = found ∙ known in
+    let type : c.in-Some.import_type.now ≡ can.type = cc in
     let params = c.as_slice-params.result.now in
     let is : params ≡ can.type.params = c.as_slice-params.ensures ∙ ap (λ (t : FuncType). t.params) type in
     let count : length params ≡ length can.type.params = ap (λ (ts : List ValType). length ts) is in
@@ -26,16 +26,16 @@ call-answer-requires g c =
     let within = can.within in
     let enough : length params ≤ length slots =
     omega (arith, length-take (c.args.height - place) (drop place c.args.slots.now), length-drop place c.args.slots.now, count, there, within) in
-    let typed : map type_of c.new-args.result ≡ params = ap (λ (vs : List Value). map type_of vs) (c.new-args.ensures ∙ c.read.ensures.read) ∙ typed_types params slots enough in
+    let typed : map type_of c.laid.result ≡ params = ap (λ (vs : List Value). map type_of vs) c.laid.ensures ∙ typed_types params slots enough in
     let named : slice_get (g.H.Host.types c.args.host.now) c.args.import ≡ Some can.type = c.requires.names c.args.import can.imported ∙ known in
-    subst (λ (o : Option FuncType). Takes o c.new-args.result) (sym named) (typed ∙ is)
+    subst (λ (o : Option FuncType). Takes o c.laid.result) (sym named) (typed ∙ is)
 
 pub returns-clause-asked : goal.returns-clause-asked
 returns-clause-asked g c = λ type known.
-    let found = sym c.requires.known in
+    let found = c.in-Some.ensures in
     let can = c.requires.can in
-    let both : Some c.args.import_type.now ≡ Some type = found ∙ known in
-    let same : c.args.import_type.now ≡ type = cc in
+    let both : Some c.in-Some.import_type.now ≡ Some type = found ∙ known in
+    let same : c.in-Some.import_type.now ≡ type = cc in
     let again : Some can.type ≡ Some type = sym can.known ∙ known in
     let one : can.type ≡ type = cc in
     let height = c.args.height in
@@ -45,8 +45,8 @@ returns-clause-asked g c = λ type known.
     let count : length params ≡ length type.params = ap (λ (ts : List ValType). length ts) is in
     let there : length type.params ≤ height = subst (λ (t : FuncType). length t.params ≤ height) one can.there in
     let named : slice_get (g.H.Host.types c.args.host.now) c.args.import ≡ Some type = c.requires.names c.args.import can.imported ∙ known in
-    let read : c.new-args.result ≡ arguments type height slots =
-    c.new-args.ensures ∙ c.read.ensures.read
+    let read : c.laid.result ≡ arguments type height slots =
+    c.laid.ensures
     ∙ ap (λ (ts : List ValType). typed_values ts (take (height - (height - length ts)) (drop (height - length ts) slots))) is
     ∙ ap (λ (xs : List ℕ). typed_values type.params xs) (between (height - length type.params) height slots (omega (arith, there))) in
     let before : c.memory_mut.result.now.bytes ≡ c.args.state.now.memory = ap (λ (m : MemoryInstance). m.bytes) c.memory_mut.ensures.value in
@@ -64,7 +64,7 @@ returns-clause-asked g c = λ type known.
           (record { function = c.args.import; args = vs; before = c.args.state.now.memory; answer = answer; after = c.call-answer.new.memory.bytes }) c.call-answer.new.self) read
           (subst
           (λ (xs : List ℕ). g.H.Host.moves c.args.host.now
-          (record { function = c.args.import; args = c.new-args.result; before = xs; answer = answer; after = c.call-answer.new.memory.bytes }) c.call-answer.new.self)
+          (record { function = c.args.import; args = c.laid.result; before = xs; answer = answer; after = c.call-answer.new.memory.bytes }) c.call-answer.new.self)
           before c.call-answer.ensures.moved);
       at_is = λ i. record { function = c.args.at.now.function; pc = c.args.at.now.pc + 1; sp = sp i; base = c.args.at.now.base; depth = c.args.at.now.depth };
       slots_are = c.lay_answer-results.ensures.laid ∙ ap (λ (n : ℕ). laid answer (height - n) slots) count;

@@ -51,7 +51,9 @@ impl LoopState {
         self.entries.pop();
     }
 
-    /// Where the list is used up: the loop is over, or enters the next phase.
+    /// Where the list is used up: the loop is over, or enters the next phase. Inlined as far as a step's caller, so that no did
+    /// is built there of which but a part is read.
+    #[inline(always)]
     pub fn turn(&mut self) -> BareDid
         ensures did { whole result ≡ (turn self.old).0 }
         ensures state { self.new ≡ (turn self.old).1 }
@@ -66,6 +68,7 @@ impl LoopState {
         self.enter(self.phase.next())
     }
 
+    #[inline(always)]
     fn enter(&mut self, phase: Phase) -> BareDid
         ensures did { whole result ≡ step_did.Entered phase (now_in self.old phase) }
         ensures state { self.new ≡ record (in_phase self.old phase) { list = phase_list (in_phase self.old phase) phase } }
@@ -82,6 +85,7 @@ impl LoopState {
     }
 
     /// Lists anew what is to come in the phase that the loop is in.
+    #[inline(always)]
     fn list(&mut self)
         ensures { self.new ≡ record self.old { list = phase_list self.old self.old.phase } }
     {

@@ -161,7 +161,7 @@ impl LoopState {
         requires { IsShort (option_map (λ v. v.items) reply) }
         ensures { self.new ≡ begun self.old (option_map (λ v. v.items) reply) }
     {
-        self.reply = reply;
+        put(&mut self.reply, reply);
         empty(&mut self.emits);
     }
 
@@ -169,10 +169,19 @@ impl LoopState {
     pub fn end_callback(&mut self, ended: BareEnded)
         ensures { self.new ≡ finished self.old (whole_ended ended) }
     {
-        self.reply = None;
+        put(&mut self.reply, None);
         if !returned(ended.ending) {
             self.status = Status::Failed;
         }
+    }
+}
+
+/// Puts a reply in a place. Where there is none and was none, as mostly, nothing is written.
+fn put(place: &mut Option<Vec<u8>>, reply: Option<Vec<u8>>)
+    ensures { place.new ≡ reply }
+{
+    if place.is_some() || reply.is_some() {
+        *place = reply;
     }
 }
 

@@ -24,3 +24,4 @@ pub mod OwnerCallsKeepListed
 pub mod ListedStaysReady
 pub mod RosterKeeps
 pub mod Runnable
+pub mod RewrittenLists

@@ -157,7 +157,8 @@ impl<B: Shared + Drop> LoopCore<B> {
         self.step_bare().whole()
     }
 
-    /// The same, with no room for results in its answer.
+    /// The same, with no room for results in its answer. Inlined, so that a phase with no entries costs no call.
+    #[inline(always)]
     pub fn step_bare(&mut self) -> BareDid
         ensures step { LoopStep B.calls self.old.setting self.old.loop (whole result) self.new.loop }
         ensures setting { self.new.setting ≡ self.old.setting }
@@ -169,6 +170,7 @@ impl<B: Shared + Drop> LoopCore<B> {
         }
     }
 
+    #[inline(always)]
     fn go_on(&mut self) -> BareDid
         ensures step { (made : List GuestCall) × ListStep B.calls self.old.setting self.old.loop self.old.loop.state.list (whole result) made self.new.loop }
         ensures setting { self.new.setting ≡ self.old.setting }
@@ -180,7 +182,7 @@ impl<B: Shared + Drop> LoopCore<B> {
         self.run(entry)
     }
 
-    /// Runs an entry that was taken off the list.
+    /// Runs an entry that was taken off the list. Here and below each arm returns by itself, as in `BareDid::whole`.
     fn run(&mut self, entry: Entry) -> BareDid
         requires ready { IsReady self.old.setting.loaded.contents self.old.loop.state entry }
         requires apart { All (Spares entry) self.old.loop.state.list }
@@ -188,18 +190,18 @@ impl<B: Shared + Drop> LoopCore<B> {
         ensures setting { self.new.setting ≡ self.old.setting }
     {
         match entry {
-            Entry::Start => self.run_start(),
-            Entry::Main => self.run_main(),
-            Entry::Timer { handle, start } => self.run_timer(handle, start),
+            Entry::Start => return self.run_start(),
+            Entry::Main => return self.run_main(),
+            Entry::Timer { handle, start } => return self.run_timer(handle, start),
             Entry::Idle { handle, start } => {
-                self.run_listed(Kind::Idle, EntryKind::Idle, handle, start)
+                return self.run_listed(Kind::Idle, EntryKind::Idle, handle, start);
             }
             Entry::Check { handle, start } => {
-                self.run_listed(Kind::Check, EntryKind::Check, handle, start)
+                return self.run_listed(Kind::Check, EntryKind::Check, handle, start);
             }
-            Entry::After { request } => self.run_after_work(request),
-            Entry::Async { async_no } => self.run_async(async_no),
-            Entry::Close { handle } => self.run_close(handle),
+            Entry::After { request } => return self.run_after_work(request),
+            Entry::Async { async_no } => return self.run_async(async_no),
+            Entry::Close { handle } => return self.run_close(handle),
         }
     }
 
@@ -231,11 +233,13 @@ impl<B: Shared + Drop> LoopCore<B> {
         ensures setting { self.new.setting ≡ self.old.setting }
     {
         match self.host.state.fire(handle, start) {
-            Some(function) => self.call_handle(EntryKind::Timer, handle, function),
-            None => BareDid::Skipped {
-                kind: EntryKind::Timer,
-                number: handle,
-            },
+            Some(function) => return self.call_handle(EntryKind::Timer, handle, function),
+            None => {
+                return BareDid::Skipped {
+                    kind: EntryKind::Timer,
+                    number: handle,
+                };
+            }
         }
     }
 
@@ -247,11 +251,13 @@ impl<B: Shared + Drop> LoopCore<B> {
         ensures setting { self.new.setting ≡ self.old.setting }
     {
         match self.host.state.listed_function(listed, handle, start) {
-            Some(function) => self.call_handle(kind, handle, function),
-            None => BareDid::Skipped {
-                kind,
-                number: handle,
-            },
+            Some(function) => return self.call_handle(kind, handle, function),
+            None => {
+                return BareDid::Skipped {
+                    kind,
+                    number: handle,
+                };
+            }
         }
     }
 

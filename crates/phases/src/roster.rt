@@ -261,8 +261,8 @@ impl Roster {
         };
         let function = self.duty_function(handle, &record);
         self.handles.remove(handle);
-        self.closing = others_of(self.closing.as_slice(), handle);
-        self.asyncs = without_async(self.asyncs.as_slice(), handle);
+        leave_out(&mut self.closing, handle);
+        forget(&mut self.asyncs, handle);
         function
     }
 
@@ -392,26 +392,30 @@ fn position_of(asyncs: &[Option<u32>], handle: u32) -> u32
     unreachable!()
 }
 
-fn others_of(closing: &[u32], handle: u32) -> ArrayVec<u32, MAX_HANDLES>
-    requires { length closing.now ≤ MAX_HANDLES }
-    ensures { result.items ≡ filter (λ other. not (other == handle)) closing.now }
+/// Takes the handle out of those that are closing.
+fn leave_out(closing: &mut ArrayVec<u32, MAX_HANDLES>, handle: u32)
+    ensures { closing.new.items ≡ filter (λ other. not (other == handle)) closing.old.items }
 {
-    let mut others = ArrayVec::new();
-    for other in closing {
-        if *other != handle {
-            others.push(*other);
-        }
-    }
-    others
+    closing.retain(|other| *other != handle);
 }
 
-fn without_async(asyncs: &[Option<u32>], handle: u32) -> ArrayVec<Option<u32>, MAX_ASYNCS>
-    requires { length asyncs.now ≤ MAX_ASYNCS }
-    ensures { result.items ≡ map (unless_handle handle) asyncs.now }
+/// Leaves the number of the handle's async without a handle.
+fn forget(asyncs: &mut ArrayVec<Option<u32>, MAX_ASYNCS>, handle: u32)
+    ensures { asyncs.new.items ≡ map (unless_handle handle) asyncs.old.items }
 {
-    let mut others = ArrayVec::new();
-    for other in asyncs {
-        others.push(if *other == Some(handle) { None } else { *other });
+    forget_each(asyncs.as_mut_slice(), handle);
+}
+
+fn forget_each(asyncs: &mut [Option<u32>], handle: u32)
+    ensures { asyncs.new ≡ map (unless_handle handle) asyncs.old }
+{
+    for number in 0..asyncs.len() {
+        asyncs[number] = other_than(asyncs[number], handle);
     }
-    others
+}
+
+fn other_than(other: Option<u32>, handle: u32) -> Option<u32>
+    ensures { result ≡ unless_handle handle other }
+{
+    if other == Some(handle) { None } else { other }
 }

@@ -51,7 +51,9 @@ impl LoopState {
         self.entries.pop();
     }
 
-    /// Where the list is used up: the loop is over, or enters the next phase.
+    /// Where the list is used up: the loop is over, or enters the next phase. Inlined as far as a step's caller, so that no did
+    /// is built there of which but a part is read.
+    #[inline(always)]
     pub fn turn(&mut self) -> BareDid
         ensures did { whole result ≡ (turn self.old).0 }
         ensures state { self.new ≡ (turn self.old).1 }
@@ -66,6 +68,7 @@ impl LoopState {
         self.enter(self.phase.next())
     }
 
+    #[inline(always)]
     fn enter(&mut self, phase: Phase) -> BareDid
         ensures did { whole result ≡ step_did.Entered phase (now_in self.old phase) }
         ensures state { self.new ≡ record (in_phase self.old phase) { list = phase_list (in_phase self.old phase) phase } }
@@ -82,6 +85,7 @@ impl LoopState {
     }
 
     /// Lists anew what is to come in the phase that the loop is in.
+    #[inline(always)]
     fn list(&mut self)
         ensures { self.new ≡ record self.old { list = phase_list self.old self.old.phase } }
     {
@@ -157,7 +161,7 @@ impl LoopState {
         requires { IsShort (option_map (λ v. v.items) reply) }
         ensures { self.new ≡ begun self.old (option_map (λ v. v.items) reply) }
     {
-        self.reply = reply;
+        put(&mut self.reply, reply);
         empty(&mut self.emits);
     }
 
@@ -165,10 +169,19 @@ impl LoopState {
     pub fn end_callback(&mut self, ended: BareEnded)
         ensures { self.new ≡ finished self.old (whole_ended ended) }
     {
-        self.reply = None;
+        put(&mut self.reply, None);
         if !returned(ended.ending) {
             self.status = Status::Failed;
         }
+    }
+}
+
+/// Puts a reply in a place. Where there is none and was none, as mostly, nothing is written.
+fn put(place: &mut Option<Vec<u8>>, reply: Option<Vec<u8>>)
+    ensures { place.new ≡ reply }
+{
+    if place.is_some() || reply.is_some() {
+        *place = reply;
     }
 }
 

@@ -4,5 +4,4 @@ use Rattle.phases.proofs.roster.Roster.finish_closing.Goals as goal
 
 pub invariant_of-self : goal.invariant_of-self
 invariant_of-self c =
-    rw (c.without_async-self-inside.ensures, c.others_of-self-inside.ensures, c.as_slice-2.ensures.value, c.as_slice.ensures.value, c.remove.ensures)
-    (kept_remove (the_view c.self.inside) c.args.handle c.self.invariant)
+    rw (c.forget.ensures, c.leave_out.ensures, c.remove.ensures) (kept_remove (the_view c.self.inside) c.args.handle c.self.invariant)

@@ -78,6 +78,7 @@ impl Account {
     }
 
     /// The loop took this step.
+    #[inline(always)]
     pub(crate) fn saw(&mut self, did: &BareDid) {
         match did {
             BareDid::Entered { phase, now } => self.enter(*phase, *now),

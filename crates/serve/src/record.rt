@@ -1,6 +1,6 @@
 // A loop, with how many of its callbacks ran and what they have put out.
 
-ghost use Rattle.std.specs.Prelude.{◌≡◌, ◌<◌, ◌≤◌, [], IfOk, IfSome};
+ghost use Rattle.std.specs.Prelude.{◌≡◌, ◌<◌, ◌≤◌, ◌+◌, ◌++◌, [], length, vec_len, vec_capacity, IfOk, IfSome};
 ghost use Rattle.std.specs.Bool.{OnFalse};
 ghost use Rattle.limits.specs.declared.TheConstants.{MAX_CALLBACKS, MAX_REQUESTS};
 ghost use Rattle.order.specs.Orders.{order_of};
@@ -48,6 +48,19 @@ fn enters_timers(did: &BareDid) -> bool {
 
 fn is_taken(accepted: &Accepted) -> bool {
     matches!(accepted, Accepted::Accepted)
+}
+
+/// Puts values behind others, for which there is room. Mostly there are none.
+fn append(emits: &mut Vec<u64>, more: &[u64])
+    requires { vec_len emits.old + length more.now ≤ vec_capacity emits.old }
+    ensures { emits.new.items ≡ emits.old.items ++ more.now }
+{
+    if more.is_empty() {
+        return;
+    }
+    let Ok(()) = emits.extend_from_slice(more) else {
+        unreachable!()
+    };
 }
 
 /// Where the last callback stopped, if it did not return.
@@ -121,7 +134,9 @@ impl<'a> Record<'a> {
         unreachable!()
     }
 
-    /// One step of the loop. Where memory for what a callback may put out is refused, it takes none.
+    /// One step of the loop. Where memory for what a callback may put out is refused, it takes none. Inlined, so that of its did
+    /// nothing is built but what is read.
+    #[inline(always)]
     fn step(&mut self) -> Result<BareDid, AllocError>
         requires room { self.old.ran < MAX_CALLBACKS }
         ensures setting { self.new.core.setting ≡ self.old.core.setting }
@@ -132,9 +147,7 @@ impl<'a> Record<'a> {
         self.account.saw(&did);
         if let BareDid::Ran { .. } = did {
             self.ran += 1;
-            let Ok(()) = self.emits.extend_from_slice(self.core.emits()) else {
-                unreachable!()
-            };
+            append(&mut self.emits, self.core.emits());
         }
         Ok(did)
     }

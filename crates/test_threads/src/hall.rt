@@ -55,7 +55,7 @@ pub struct Gear {
 }
 
 /// Claims for one loop and so many workers, with their seats.
-#[tactic(auto, using(serve::proofs::Seats::all_own))]
+#[tactic(auto, using(crate::proofs::Crew::all_own))]
 pub fn with_workers(
     alloc: Global,
     workers: u32,

@@ -1,6 +1,7 @@
 -- The contexts of a run stand in their bodies where its marks say, and so each caller at its call.
 use Rattle.std.proofs.Common.{◌≡◌, ℕ, zero, suc, ◌+◌, ◌-◌, ◌==◌, Bool, true, false, nat_le, List, [], ◌∷◌, ◌++◌, length, map, take, drop, Option, Some, None, refl, sym, ap, ◌∙◌, subst, arith}
 use Rattle.std.specs.Prelude.{slice_get, if◌then◌else◌, is_some}
+use Rattle.std.proofs.lemmas.Bool.{and_parts}
 use Rattle.syntax.specs.declared.types.ValType.{ValType}
 use Rattle.syntax.specs.declared.types.Value.{Value}
 use Rattle.syntax.specs.declared.types.Value.TheVariants.{I32, I64}
@@ -15,7 +16,7 @@ use Rattle.syntax.specs.Code.{Code, Done, Plain, Block, Loop, If, operations, op
 use Rattle.validate.specs.Targets.{size}
 use Rattle.validate.specs.Typing.{block_type, type_of_function}
 use Rattle.validate.specs.SameTypes.{same_valtypes, same_type}
-use Rattle.validate.proofs.SameTypes.{both, same_valtypes-is}
+use Rattle.validate.proofs.SameTypes.{same_valtypes-is}
 use Rattle.instance.specs.Store.{Store, value_of}
 use Rattle.instance.specs.declared.stack.Site.{Site}
 use Rattle.reduction.specs.Configuration.{Context, Label, Frame, entered, locals_of, with_locals, receiving, continuing, branched, returned}
@@ -103,7 +104,7 @@ types_same : (a b : Option FuncType) → same_type a b ≡ true → a ≡ b
 types_same None b e = absurd (cc)
 types_same (Some a) None e = absurd (cc)
 types_same (Some a) (Some b) e =
-    let parts = both (same_valtypes a.params b.params) (same_valtypes a.results b.results) e in
+    let parts = and_parts (same_valtypes a.params b.params) (same_valtypes a.results b.results) e in
     ap (λ (ts : List ValType). Some (record { params = ts; results = a.results })) (same_valtypes-is a.params b.params parts.0)
     ∙ ap (λ (ts : List ValType). Some (record { params = b.params; results = ts })) (same_valtypes-is a.results b.results parts.1)
 

@@ -6,6 +6,7 @@ use Rattle.reduction.proofs.Words.{Contents, FuncType, Code, Done, Plain, Block,
 use Rattle.reduction.proofs.Words.{Frame, locals_of, with_locals, going_on, receiving, continuing, types_of, Traps, PlainStep, Leaves, Fails, Lacks, next}
 use Rattle.reduction.proofs.Words.{code_of, operands_of, length-map, type_of}
 use Rattle.std.proofs.Common.{option_and_then, eq-eqb, ◌&&◌}
+use Rattle.std.proofs.lemmas.Bool.{and_parts}
 use Rattle.syntax.specs.declared.types.ValType.TheVariants as type
 use Rattle.syntax.specs.declared.instruction.Instr.TheVariants.{Return, Call, CallIndirect}
 use Rattle.validate.specs.Typing.{Context as Typing, inside, Typed, InstrTyped, function_types, block_type}
@@ -16,7 +17,7 @@ use Rattle.reduction.specs.Step.{plain_step, turned, plain, at_code, on_contexts
 use Rattle.validate.specs.SameTypes.{same_valtypes, same_type}
 use Rattle.reduction.specs.Inner.Typed.{call_typing, Under, in_label, in_call, outermost, Configured, Sound}
 use Rattle.reduction.proofs.Lists.{types_of-append, pushed-split, topmost_types, in_order, pushed-last, label_holds, length-pushed}
-use Rattle.validate.proofs.SameTypes.{both, same_valtypes-is, same_valtypes-of}
+use Rattle.validate.proofs.SameTypes.{same_valtypes-is, same_valtypes-of}
 use Rattle.reduction.proofs.PlainStepsSound.{PlainStepTyped, plain_step_typed, there}
 
 module _ (m : Contents) (answers : List ValType) where
@@ -202,7 +203,7 @@ module _ (m : Contents) (answers : List ValType) where
             → Sound m answers (if b then call_typed f (type_of_function m f) values rest contexts else Traps 7)
         by_test false other eb eo = tt
         by_test true other eb eo =
-            let q = both _ _ eb in
+            let q = and_parts _ _ eb in
             let p = same_valtypes-is other.params type.params q.0 in
             let r = same_valtypes-is other.results type.results q.1 in
             rw eo (call_sound c ends contexts s f other values rest below u (function_type_found f other (slice_get (function_types m) f) refl eo)

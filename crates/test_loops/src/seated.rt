@@ -7,7 +7,7 @@ ghost use Rattle.phases.specs.View.{new_view};
 
 use crate::guests::{DEPTH, FUEL, linked_of};
 use crate::sending::{CLOSES, FAILS, SENDS};
-use crate::telling::steps;
+use crate::telling::{check_told, steps};
 use claims::{Claims, LoopSeat, NewClaims};
 use imports::Linked;
 use marks::{Marks, SendSeat, TakeSeat};
@@ -17,7 +17,6 @@ use std::alloc::{AllocError, Global};
 use std::process::Abort;
 use std::sync::Arc;
 use std::test::Fail;
-use test_fixtures::check_told;
 
 /// The seats of a loop, with how many sends its takes answered, of which the first four are kept.
 #[derive(Drop)]

@@ -4,6 +4,12 @@ use events::did::StepDid;
 use events::ended::Ending;
 use phases::{LoopCore, Shared};
 use std::alloc::AllocError;
+use std::process::Abort;
+
+/// That this was told.
+pub fn check_told(rt: &impl Abort, told: &str, wanted: &str) {
+    assert_eq!(rt; told, wanted);
+}
 
 /// Sets the next event off from the one before.
 pub fn next(text: &mut String) -> Result<(), AllocError> {

@@ -1,7 +1,7 @@
 // A loop over a desk that is told turn by turn what to do.
 
 use crate::guests::{loop_at_desk, with_custom_section};
-use crate::telling::{next, steps};
+use crate::telling::{check_told, next, steps};
 use desk::Desk;
 use events::did::Hint;
 use imports::EntryPoint;
@@ -12,7 +12,6 @@ use std::alloc::{AllocError, Global};
 use std::process::Abort;
 use std::sync::Arc;
 use std::test::Fail;
-use test_fixtures::check_told;
 
 /// The number of the loop.
 const LOOP_NO: u32 = 3;

@@ -4,11 +4,11 @@ ghost use Rattle.std.specs.Prelude.{IsTrue};
 ghost use Rattle.handles.specs.Table.{IsOpen, IsTimer};
 
 use crate::handling::Turn::{Again, Due, Idle, Init, Nearest, Start, Stop};
+use crate::telling::check_told;
 use handles::{Handles, Kind, List};
 use std::alloc::{AllocError, Global};
 use std::process::Abort;
 use std::test::Fail;
-use test_fixtures::check_told;
 
 /// What is done with a table.
 #[derive(Clone, Copy)]

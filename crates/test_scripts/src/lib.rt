@@ -7,3 +7,5 @@ mod handling;
 mod printing;
 #[cfg(test)]
 mod reading;
+#[cfg(test)]
+mod telling;

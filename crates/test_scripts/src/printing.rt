@@ -1,5 +1,6 @@
 // Lines of a log that no run of a script reaches, and the words in them.
 
+use crate::telling::check_told;
 use events::ended::{Ended, Ending};
 use events::phase::EntryKind;
 use events::trap::TrapCode;
@@ -9,7 +10,6 @@ use std::alloc::{AllocError, Global};
 use std::process::Abort;
 use std::test::Fail;
 use syntax::items::Items;
-use test_fixtures::check_told;
 use world_log::{CollectOutcome, FinishOutcome, JobEnd, JobId, Log, LogEntry};
 
 fn line_of(alloc: Global, entry: LogEntry) -> Result<String, AllocError> {

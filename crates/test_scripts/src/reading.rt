@@ -1,9 +1,9 @@
 // What scripts are read as.
 
+use crate::telling::check_told;
 use script::{Plan, ScriptFault, read};
 use std::alloc::{AllocError, Global};
 use std::test::Fail;
-use test_fixtures::check_told;
 
 fn plan_told(alloc: Global, plan: &Plan) -> Result<String, AllocError> {
     format!(in alloc; "{plan:?}")

@@ -3,11 +3,11 @@
 ghost use Rattle.std.specs.Prelude.{◌≡◌};
 
 use crate::serving::{ample, served};
+use crate::showing::shows;
 use serve::LoopEnding;
 use std::sync::Wait;
 use std::test::Fail;
 use std::thread::Threads;
-use test_fixtures::shows;
 
 /// `uv_main` asks for work three times and starts a timer, whose callback emits what a cancel of the second request is
 /// answered, takes its time, and emits what a cancel of the third is answered. An after-work callback emits a hundred

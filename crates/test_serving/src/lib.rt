@@ -10,4 +10,6 @@ mod sending;
 #[cfg(test)]
 mod serving;
 #[cfg(test)]
+mod showing;
+#[cfg(test)]
 mod telling;

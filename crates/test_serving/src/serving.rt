@@ -4,6 +4,7 @@ ghost use Rattle.std.specs.Prelude.{◌≡◌, ◌≤◌};
 ghost use Rattle.board.specs.Jobs.{ticket_of};
 
 use crate::meeting::Meeting;
+use crate::showing::{check_told, shows};
 use board::JobBox;
 use events::settings::LoopSettings;
 use limits::{MAX_LOOPS, MAX_WORKERS};
@@ -15,7 +16,7 @@ use std::process::Abort;
 use std::sync::Wait;
 use std::test::Fail;
 use std::thread::Threads;
-use test_fixtures::{check_told, linked_of, shows};
+use test_fixtures::linked_of;
 
 /// Starts a timer of 50, whose callback emits the moment.
 const TIMER: &str = "0061736d 01000000

@@ -4,6 +4,7 @@ ghost use Rattle.std.specs.Prelude.{◌≡◌};
 ghost use Rattle.board.specs.Jobs.{ticket_of};
 
 use crate::serving::{CANCELS, ample};
+use crate::showing::shows;
 use board::JobBox;
 use events::did::StepDid;
 use events::phase::EntryKind;
@@ -14,7 +15,7 @@ use std::sync::atomic::{AtomicU64, Ordering};
 use std::sync::{Arc, Wait};
 use std::test::Fail;
 use std::thread::Threads;
-use test_fixtures::{comes, linked_of, shows};
+use test_fixtures::{comes, linked_of};
 
 /// Asks for three pieces of work, and a timer's callback in the turn behind their posts cancels the second. Each after-work
 /// emits its status.

@@ -7,6 +7,7 @@ use crate::gates::Open;
 use crate::hall::{End, LoopSide, Spares, WorkerSide, ticket};
 use crate::jobs::Jobs;
 use crate::scenes::{Scene, played};
+use crate::showing::shows;
 use claims::Ticket;
 use order::Reply;
 use pool::{Gate, Point};
@@ -15,7 +16,7 @@ use std::sync::atomic::{AtomicU64, Ordering};
 use std::test::Fail;
 use std::thread;
 use std::thread::Threads;
-use test_fixtures::{comes, shows};
+use test_fixtures::comes;
 
 /// Holds a worker at one point until it is let go.
 struct HoldAt {

@@ -4,6 +4,7 @@ ghost use Rattle.std.specs.Prelude.{◌≡◌, ◌+◌, ◌<◌, ◌≤◌, All,
 ghost use Rattle.limits.specs.declared.TheConstants.{MAX_REQUESTS, MAX_REQUEST_NUMBER};
 ghost use Rattle.claims.specs.Views.{new_loop_view, new_worker_view};
 
+use crate::showing::shows;
 use claims::{Claims, LoopSeat, NewClaims, Ticket, WorkerSeat};
 use limits::{MAX_LOOPS, MAX_WORKERS};
 use std::alloc::{AllocError, Global};
@@ -12,7 +13,6 @@ use std::sync::Wait;
 use std::test::Fail;
 use std::thread;
 use std::thread::{Promise, Threads};
-use test_fixtures::shows;
 
 const ROUNDS: u32 = 1_000;
 

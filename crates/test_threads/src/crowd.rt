@@ -5,13 +5,14 @@ ghost use Rattle.std.specs.Prelude.{◌≡◌};
 use crate::hall::{LoopSide, Spares, ticket};
 use crate::jobs::Jobs;
 use crate::scenes::{Scene, Watch, at_work, played};
+use crate::showing::shows;
 use limits::MAX_REPLIES;
 use std::alloc::AllocError;
 use std::sync::Wait;
 use std::test::Fail;
 use std::thread;
 use std::thread::Threads;
-use test_fixtures::{comes, shows};
+use test_fixtures::comes;
 
 const WORKERS: u32 = 3;
 

@@ -3,11 +3,11 @@
 use crate::hall::{LoopSide, Spares};
 use crate::jobs::Jobs;
 use crate::scenes::{Scene, Watch, at_work, played};
+use crate::showing::shows;
 use std::sync::Wait;
 use std::test::Fail;
 use std::thread;
 use std::thread::Threads;
-use test_fixtures::shows;
 
 /// The request whose reply is collected first, in at most 1,000,000 turns; none is 0.
 struct FirstCollected;

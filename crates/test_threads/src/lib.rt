@@ -28,4 +28,6 @@ mod scenes;
 #[cfg(test)]
 mod seating;
 #[cfg(test)]
+mod showing;
+#[cfg(test)]
 mod turns;

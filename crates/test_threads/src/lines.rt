@@ -6,6 +6,7 @@ ghost use Rattle.limits.specs.declared.TheConstants.{MAX_LOOPS};
 
 use crate::hands::{Hand, two_hands};
 use crate::jobs::Jobs;
+use crate::showing::shows;
 use board::{Board, JobBox};
 use claims::Ticket;
 use std::alloc::{AllocError, Global};
@@ -14,7 +15,6 @@ use std::sync::atomic::{AtomicU64, Ordering};
 use std::test::Fail;
 use std::thread;
 use std::thread::Threads;
-use test_fixtures::shows;
 
 /// How many jobs each of the two posts. Their tickets have its number for the loop's, and count from 0.
 const EACH: usize = 100;

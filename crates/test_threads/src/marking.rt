@@ -5,12 +5,12 @@ ghost use Rattle.std.specs.Thread.{IsSync};
 ghost use Rattle.tallies.specs.Counts.{none_counted};
 ghost use Rattle.marks.specs.Counts.{new_sender, new_taker};
 
+use crate::showing::{check_told, shows};
 use limits::{MAX_ASYNCS, MAX_SEND_SEATS, MAX_SENDS};
 use marks::{Marks, SendSeat, SendsUsedUp, TakeSeat};
 use std::alloc::{AllocError, Global};
 use std::test::Fail;
 use std::thread::{Threads, join, yield_now};
-use test_fixtures::{check_told, shows};
 
 /// The last async.
 const LAST: u32 = MAX_ASYNCS as u32 - 1;

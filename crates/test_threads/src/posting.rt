@@ -3,13 +3,13 @@
 use crate::hall::ticket;
 use crate::hands::{Hand, two_hands};
 use crate::jobs::Jobs;
+use crate::showing::shows;
 use board::{Board, Pass};
 use limits::{MAX_JOBS, MAX_LOOPS, MAX_REPLIES};
 use std::alloc::{AllocError, Global};
 use std::process::Abort;
 use std::sync::Wait;
 use std::test::Fail;
-use test_fixtures::shows;
 
 /// A job goes from one hand to the other, and its reply back.
 fn pass_on<R: Wait + Abort>(

@@ -4,12 +4,12 @@ ghost use Rattle.std.specs.Prelude.{◌≡◌};
 ghost use Rattle.phases.specs.View.{IsAbove};
 
 use crate::hall::with_workers;
+use crate::showing::shows;
 use marks::Marks;
 use phases::Shared;
 use pool::Seats;
 use std::alloc::{AllocError, Global};
 use std::test::Fail;
-use test_fixtures::shows;
 
 /// Opens and cancels request 1, and sends to async 0 and takes.
 fn shares<B: Shared>(shared: &mut B) -> (bool, bool, u64)

@@ -4,11 +4,11 @@ use crate::gates::Open;
 use crate::hall::{End, LoopSide, Spares, WorkerSide, ticket};
 use crate::jobs::Jobs;
 use crate::scenes::{Scene, played};
+use crate::showing::shows;
 use limits::MAX_JOBS;
 use std::sync::Wait;
 use std::test::Fail;
 use std::thread::Threads;
-use test_fixtures::shows;
 
 /// What was seen of two requests, where the second is cancelled before it is posted.
 #[derive(Clone, Copy, Debug, PartialEq)]

@@ -1,0 +1,47 @@
+#!/usr/bin/env python3
+"""count.py PROGRAM..: instructions of a callback and of a request, by valgrind's callgrind, which don't swing as times do.
+
+Each is the difference of two runs of `serve`, the second with more callbacks or requests, divided by them: a start of the
+process is in neither."""
+import re
+import subprocess
+import sys
+import tempfile
+
+import common
+import loop
+import work
+
+SCENES = [("IDLE", 1), ("IDLE", 60), ("IDLE_CHECK", 1), ("TIMER", 1), ("TIMER", 60), ("ASYNC", 1), ("CLOSE", 1)]
+CALLBACKS, REQUESTS = (1_000, 5_000), (500, 2_500)
+
+
+def counted(program, module, fuel):
+    """The instructions of a run of `serve`."""
+    command = [program, "serve", module, "--loops", "1", "--workers", "1", fuel, "1000000"]
+    done = subprocess.run(["valgrind", "--tool=callgrind", "--callgrind-out-file=/dev/null", *command], capture_output=True, text=True)
+    found = re.search(r"Collected : (\d+)", done.stderr)
+    if "loop 0 over" not in done.stdout or not found:
+        raise SystemExit(f"{command}: {done.stdout[:200]} {done.stderr[:200]}")
+    return int(found[1])
+
+
+def each(numbers, count):
+    few, many = map(count, numbers)
+    return (many - few) / (numbers[1] - numbers[0])
+
+
+def main(program, folder):
+    by_loop, by_work = loop.Bench(program, folder), work.Bench(program, folder)
+    for scene, handles in SCENES:
+        took = each(CALLBACKS, lambda it: counted(program, by_loop.guest(scene, it, it, handles), "--fuel"))
+        print(f"{scene.lower():12} {handles:3} {took:8.0f}", flush=True)
+    took = each(REQUESTS, lambda it: counted(program, by_work.guest(it, work.Request()), "--work-fuel"))
+    print(f"{'request':16} {took:8.0f}", flush=True)
+
+
+if __name__ == "__main__":
+    for name in sys.argv[1:]:
+        print(name)
+        with tempfile.TemporaryDirectory() as built:
+            main(name, built)

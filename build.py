@@ -30,20 +30,22 @@ TOP = os.path.dirname(os.path.realpath(__file__))
 JOB = 1_500_000_000
 # More jobs than these hardly shorten a check.
 MOST_JOBS = 4
-# What a crate is built with whose chain of crates up to the program takes less than this part of the longest that is left.
-BESIDE, NEARLY = ["nice", "-n", "10"], 0.9
+# With four jobs a check takes so many times the processors' time that it takes with one.
+SHARED = 7 / 6
+# A crate whose chain of crates up to the program takes this part of the longest that is left, or more, has all jobs, and one of the
+# second part has two; the shorter the chain, the nicer the crate's processes.
+NEARLY, NEXT, NICEST = 0.9, 0.7, 5
 # How long nothing is said, in seconds.
 QUIET = 30
-# What the crates took on 4 processors, in seconds, four side by side, those off the longest chain with one job; another one is guessed to
-# take as long as most.
+# What the crates take of a processor with one job, in seconds (`bench/gate.py`); another one is guessed to take as long as most.
 TAKES = {
-    "limits": 4, "tallies": 9, "handles": 29, "desk": 34, "leb": 34, "reduction": 42, "marks": 45, "numeric": 51, "world_log": 78, "order": 81,
-    "claims": 88, "events": 90, "syntax": 96, "wasmloop": 210, "interp": 126, "instance": 136, "pool": 138, "world": 161, "loader": 169,
-    "imports": 174, "commands": 259, "board": 262, "words": 269, "phases": 290, "engine": 291, "validate": 308, "places": 333, "script": 381,
-    "serve": 525, "sentences": 542, "decode": 610,
+    "limits": 6, "tallies": 7, "slot": 13, "reduction": 24, "world_log": 26, "events": 27, "marks": 27, "desk": 28, "leb": 32, "numeric": 34,
+    "claims": 40, "handles": 55, "pool": 61, "imports": 72, "syntax": 83, "order": 85, "interp": 96, "board": 102, "loader": 102,
+    "instance": 104, "wasmloop": 105, "places": 112, "words": 132, "world": 140, "script": 151, "wasmloop_c": 155, "engine": 195,
+    "decode": 209, "sentences": 229, "validate": 251, "phases": 280, "serve": 331, "commands": 340,
 }
 GUESSED = 100
-# How many of those seconds the pace that is seen needs before it counts as much as the one that was measured.
+# How many seconds the pace that is seen needs before it counts as much as the one that was measured.
 TRUSTED = 300
 sys.dont_write_bytecode = True
 program_name = "build.py"
@@ -79,44 +81,57 @@ def kit():
 class Plan:
     """The libraries below the program and the program, what each is likely to take, and what has been done."""
 
-    def __init__(self, program, at_once=1):
+    def __init__(self, program, at_once=1, jobs=1):
         self.crates = [*program.below(), program]
-        self.at_once = at_once
+        self.at_once, self.jobs = at_once, jobs
         self.work = {it: TAKES.get(it.name, GUESSED) for it in self.crates}
         # what the longest chain of crates from each one up to the program takes (each crate stands behind those that it uses)
         self.behind = {}
         for crate in reversed(self.crates):
             above = [self.behind[it] for it in self.behind if crate in it.deps]
-            self.behind[crate] = self.work[crate] + max(above, default=0)
+            self.behind[crate] = self.alone(crate) + max(above, default=0)
         self.done, self.running, self.began = [], {}, time.monotonic()
-        self.planned, self.taken = TRUSTED, TRUSTED
+        self.planned = self.unpaced()
+
+    def alone(self, crate):
+        """Returns what a crate takes that has the processors for itself. Of a program most is compiled by one."""
+        work = self.work[crate]
+        if crate is self.crates[-1]:
+            return work
+        at_one = min(work / 2, 10 + work / 20)
+        return at_one + (work - at_one) * SHARED / self.jobs
 
     def begins(self, crate):
         self.running[crate] = time.monotonic()
 
     def ended(self, crate, was_built):
+        before = self.unpaced()
         self.done.append(crate)
-        took = time.monotonic() - self.running.pop(crate)
-        if was_built:
-            self.planned += self.work[crate]
-            self.taken += took
+        del self.running[crate]
+        # (what was there already says nothing of the pace)
+        if not was_built:
+            self.planned -= before - self.unpaced()
 
     def elapsed(self):
         return time.monotonic() - self.began
 
+    def part_done(self, crate):
+        """Returns a guess of how much of a crate is done: beside others it takes twice what it would take of one processor."""
+        began = self.running.get(crate)
+        return 0 if began is None else min(0.9, (time.monotonic() - began) / (2 * self.work[crate] + 10))
+
+    def unpaced(self):
+        """Returns how many seconds would be left where this machine is as fast as the one that was measured: what all crates take that
+        are left, or the longest chain of them, where that is longer."""
+        left = {it: self.part_done(it) for it in self.crates if it not in self.done}
+        work = sum(self.work[it] * (1 - part) for it, part in left.items())
+        chain = max((self.behind[it] - part * self.alone(it) for it, part in left.items()), default=0)
+        return max(work * SHARED / self.at_once, chain)
+
     def left(self):
-        """Returns how many seconds are left, at the pace so far, where each crate is built once those below it are and a builder is free."""
-        pace, now = self.taken / self.planned, time.monotonic()
-        ends = {it: 0 for it in self.done}
-        for crate, began in self.running.items():
-            ends[crate] = max(pace * self.work[crate] - (now - began), 0)
-        free = sorted([ends[it] for it in self.running] + [0] * (self.at_once - len(self.running)))
-        # (what the longer chain stands on goes first, so each crate comes behind those below it)
-        for crate in sorted(set(self.crates) - set(ends), key=lambda it: -self.behind[it]):
-            begins = max([free.pop(0), *(ends[it] for it in crate.deps)])
-            ends[crate] = begins + pace * self.work[crate]
-            free = sorted([*free, ends[crate]])
-        return max(ends.values())
+        """Returns how many seconds are left, at the pace so far."""
+        unpaced = self.unpaced()
+        return unpaced * (TRUSTED + self.elapsed()) / (TRUSTED + self.planned - unpaced)
 
 
 def log_of(crate):
@@ -142,7 +157,7 @@ def text_of(file):
         return it.read()
 
 
-def build(rtlib, crate, jobs, is_first):
+def build(rtlib, crate, jobs, niceness):
     """Builds a crate, where it isn't built, and returns the status of what did it and whether there was anything to do."""
     crate = copy.copy(crate)
     if not crate.makes_rlib():
@@ -156,7 +171,7 @@ def build(rtlib, crate, jobs, is_first):
     os.makedirs(folder)
     words = crate.words(["--jobs", str(jobs)], keeps=False)
     with open(log_of(crate), "w", encoding="utf-8") as crate.out:
-        status = crate.call(*([] if is_first else BESIDE), rtlib.RATTLE, "build", *words, "--statements", "-o", crate.rlib)
+        status = crate.call("nice", "-n", str(niceness), rtlib.RATTLE, "build", *words, "--statements", "-o", crate.rlib)
     # (an edit while it was built leaves it to be built again)
     if status == 0 and sum_of(rtlib, crate, {}) == found:
         with open(f"{folder}/sum", "w", encoding="utf-8") as it:
@@ -201,8 +216,7 @@ def report(plan, crate):
 
 
 def shares(rtlib):
-    """Returns how many crates are built at a time, and with how many jobs one that the longest chain stands on. The others share what is
-    free: with four jobs, a check takes a sixth more of the processors' time."""
+    """Returns how many crates are built at a time, and with how many jobs one that the longest chain stands on."""
     processors = len(os.sched_getaffinity(0))
     jobs = min(MOST_JOBS, processors)
     at_once = processors
@@ -224,12 +238,11 @@ def build_all(rtlib, plan):
             free = at_once - len(running)
             for crate in ready[:free]:
                 waiting.remove(crate)
-                longest = max(plan.behind[it] for it in [*waiting, *running.values(), crate])
-                is_first = plan.behind[crate] >= NEARLY * longest
+                part = plan.behind[crate] / max(plan.behind[it] for it in [*waiting, *running.values(), crate])
                 # (where little else can be done, the processors that are free are for this one)
-                shared = jobs if is_first else min(jobs, max(1, free // len(ready)))
+                shared = jobs if part >= NEARLY else min(jobs, max(2 if part >= NEXT else 1, free // len(ready)))
                 plan.begins(crate)
-                running[pool.submit(build, rtlib, crate, shared, is_first)] = crate
+                running[pool.submit(build, rtlib, crate, shared, round(NICEST * (1 - part)))] = crate
             ended = wait(running, timeout=QUIET, return_when=FIRST_COMPLETED).done
             for it in ended:
                 crate = running.pop(it)
@@ -264,7 +277,7 @@ def main(name, over_gate=False):
     if over_gate:
         program.out = sys.stderr
         return link(rtlib, program, jobs)
-    plan = Plan(program, at_once)
+    plan = Plan(program, at_once, jobs)
     for it in plan.crates:
         it.rlib = f"{it.folder}/out/statements/{it.name}.rlib"
     held = rtlib.lock(plan.crates)

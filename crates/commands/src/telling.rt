@@ -72,6 +72,20 @@ fn tell_waiting<E: Write>(account: &Account, err: &mut E) -> io::Result<()> {
     err.write_all(b"\n")
 }
 
+fn write_most<E: Write>(
+    loop_no: u32,
+    what: &str,
+    most: u64,
+    fuel: u64,
+    err: &mut E,
+) -> io::Result<()> {
+    writeln!(
+        err,
+        "loop {loop_no}: {what} used {most} of {fuel} {} at most",
+        unit_of(fuel)
+    )
+}
+
 impl Teller<'_> {
     /// Tells it of all loops.
     pub fn tell_all<E: Write>(&self, served: Vec<Served>, err: &mut E) -> io::Result<()> {
@@ -111,22 +125,13 @@ impl Teller<'_> {
         if !self.service.is_traced {
             return Ok(());
         }
-        let (loop_no, most) = (served.loop_no, served.account.most_used());
-        let fuel = self.service.settings.fuel;
-        writeln!(
-            err,
-            "loop {loop_no}: a callback used {most} of {fuel} {} at most",
-            unit_of(fuel)
-        )?;
-        let Some(most) = served.account.most_work() else {
-            return Ok(());
-        };
-        let fuel = self.service.settings.work_fuel;
-        writeln!(
-            err,
-            "loop {loop_no}: a work function used {most} of {fuel} {} at most",
-            unit_of(fuel)
-        )
+        let (loop_no, settings) = (served.loop_no, self.service.settings);
+        let most = served.account.most_used();
+        write_most(loop_no, "a callback", most, settings.fuel, err)?;
+        match served.account.most_work() {
+            Some(most) => write_most(loop_no, "a work function", most, settings.work_fuel, err),
+            None => Ok(()),
+        }
     }
 
     /// Where the work of requests stopped that did not return.

@@ -21,17 +21,26 @@ pub struct Missing {
     pub counts: Counts,
 }
 
-fn write_step<W: fmt::Write>(f: &mut fmt::Formatter<W>, step: Step) -> fmt::Result {
+/// The name of a step, and its numbers.
+fn parts_of(step: Step) -> (&'static str, u32, Option<u64>) {
     match step {
-        Step::Loop(number) => write!(f, "[\"loop\",{number}]"),
-        Step::Post(number) => write!(f, "[\"post\",{number}]"),
-        Step::Take(number) => write!(f, "[\"take\",{number}]"),
-        Step::Start(number) => write!(f, "[\"start\",{number}]"),
-        Step::Finish(number) => write!(f, "[\"finish\",{number}]"),
-        Step::Collect(number) => write!(f, "[\"collect\",{number}]"),
-        Step::Send(loop_no, number) => write!(f, "[\"send\",{loop_no},{number}]"),
-        Step::Cancel(loop_no, number) => write!(f, "[\"cancel\",{loop_no},{number}]"),
-        Step::Clock(loop_no, clock) => write!(f, "[\"clock\",{loop_no},{clock}]"),
+        Step::Loop(number) => ("loop", number, None),
+        Step::Post(number) => ("post", number, None),
+        Step::Take(number) => ("take", number, None),
+        Step::Start(number) => ("start", number, None),
+        Step::Finish(number) => ("finish", number, None),
+        Step::Collect(number) => ("collect", number, None),
+        Step::Send(loop_no, number) => ("send", loop_no, Some(u64::from(number))),
+        Step::Cancel(loop_no, number) => ("cancel", loop_no, Some(u64::from(number))),
+        Step::Clock(loop_no, clock) => ("clock", loop_no, Some(clock)),
+    }
+}
+
+fn write_step<W: fmt::Write>(f: &mut fmt::Formatter<W>, step: Step) -> fmt::Result {
+    let (name, first, second) = parts_of(step);
+    match second {
+        Some(second) => write!(f, "[\"{name}\",{first},{second}]"),
+        None => write!(f, "[\"{name}\",{first}]"),
     }
 }
 

@@ -1,5 +1,6 @@
 pub mod AfterOnce
 pub mod Apart
+pub mod RequestsApart
 pub mod CollectsAgree
 pub mod EndsAreLogged
 pub mod OneWay

@@ -32,9 +32,9 @@ JOB = 1_500_000_000
 MOST_JOBS = 4
 # With four jobs a check takes so many times the processors' time that it takes with one.
 SHARED = 7 / 6
-# A crate whose chain of crates up to the program takes this part of the longest that is left, or more, has all jobs, and one of the
-# second part has two; the shorter the chain, the nicer the crate's processes.
-NEARLY, NEXT, NICEST = 0.9, 0.7, 5
+# A crate whose chain of crates up to the program takes this part of the longest that is left, or more, has all jobs; the shorter the
+# chain, the nicer the crate's processes.
+NEARLY, NICEST = 0.9, 5
 # How long nothing is said, in seconds.
 QUIET = 30
 # What the crates take of a processor with one job, in seconds (`bench/gate.py`); another one is guessed to take as long as most.
@@ -240,7 +240,7 @@ def build_all(rtlib, plan):
                 waiting.remove(crate)
                 part = plan.behind[crate] / max(plan.behind[it] for it in [*waiting, *running.values(), crate])
                 # (where little else can be done, the processors that are free are for this one)
-                shared = jobs if part >= NEARLY else min(jobs, max(2 if part >= NEXT else 1, free // len(ready)))
+                shared = jobs if part >= NEARLY else min(jobs, max(1, free // len(ready)))
                 plan.begins(crate)
                 running[pool.submit(build, rtlib, crate, shared, round(NICEST * (1 - part)))] = crate
             ended = wait(running, timeout=QUIET, return_when=FIRST_COMPLETED).done

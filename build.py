@@ -32,9 +32,8 @@ JOB = 1_500_000_000
 MOST_JOBS = 4
 # With four jobs a check takes so many times the processors' time that it takes with one.
 SHARED = 7 / 6
-# A crate whose chain of crates up to the program takes this part of the longest that is left, or more, has all jobs; the shorter the
-# chain, the nicer the crate's processes.
-NEARLY, NICEST = 0.9, 5
+# What a crate is built with whose chain of crates up to the program takes less than this part of the longest that is left.
+BESIDE, NEARLY = ["nice", "-n", "10"], 0.9
 # How long nothing is said, in seconds.
 QUIET = 30
 # What the crates take of a processor with one job, in seconds (`bench/gate.py`); another one is guessed to take as long as most.
@@ -157,7 +156,7 @@ def text_of(file):
         return it.read()
 
 
-def build(rtlib, crate, jobs, niceness):
+def build(rtlib, crate, jobs, is_first):
     """Builds a crate, where it isn't built, and returns the status of what did it and whether there was anything to do."""
     crate = copy.copy(crate)
     if not crate.makes_rlib():
@@ -171,7 +170,7 @@ def build(rtlib, crate, jobs, niceness):
     os.makedirs(folder)
     words = crate.words(["--jobs", str(jobs)], keeps=False)
     with open(log_of(crate), "w", encoding="utf-8") as crate.out:
-        status = crate.call("nice", "-n", str(niceness), rtlib.RATTLE, "build", *words, "--statements", "-o", crate.rlib)
+        status = crate.call(*([] if is_first else BESIDE), rtlib.RATTLE, "build", *words, "--statements", "-o", crate.rlib)
     # (an edit while it was built leaves it to be built again)
     if status == 0 and sum_of(rtlib, crate, {}) == found:
         with open(f"{folder}/sum", "w", encoding="utf-8") as it:
@@ -238,11 +237,12 @@ def build_all(rtlib, plan):
             free = at_once - len(running)
             for crate in ready[:free]:
                 waiting.remove(crate)
-                part = plan.behind[crate] / max(plan.behind[it] for it in [*waiting, *running.values(), crate])
+                longest = max(plan.behind[it] for it in [*waiting, *running.values(), crate])
+                is_first = plan.behind[crate] >= NEARLY * longest
                 # (where little else can be done, the processors that are free are for this one)
-                shared = jobs if part >= NEARLY else min(jobs, max(1, free // len(ready)))
+                shared = jobs if is_first else min(jobs, max(1, free // len(ready)))
                 plan.begins(crate)
-                running[pool.submit(build, rtlib, crate, shared, round(NICEST * (1 - part)))] = crate
+                running[pool.submit(build, rtlib, crate, shared, is_first)] = crate
             ended = wait(running, timeout=QUIET, return_when=FIRST_COMPLETED).done
             for it in ended:
                 crate = running.pop(it)

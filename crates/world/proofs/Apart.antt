@@ -42,7 +42,8 @@ use Rattle.world.proofs.AfterOnce.{some_of}
 use Rattle.world.proofs.EndsAreLogged.{set_at}
 use Rattle.world.proofs.OneWay.{IsCounted, own_orders, step_counted, opening_counted, one_way_after}
 use Rattle.world.proofs.Runs.{set_there}
-use Rattle.world.proofs.RequestsApart.{got_still, beside_still, in_found, IsApart, never_both, apart_less, apart_still, apart_staged, apart_removed, apart_opened, apart_cancelled, apart_handed, apart_started}
+use Rattle.world.proofs.RequestsApart.{got_still, beside_still, in_found, IsApart, never_both, apart_less, apart_still}
+use Rattle.world.proofs.RequestsApart.{apart_staged, apart_removed, apart_opened, apart_cancelled, apart_handed, apart_started}
 
 abbrev is_cancel_line : LogEntry → Bool
 is_cancel_line (line.Cancel n request answer) = true

@@ -64,6 +64,11 @@ def spawner(folder):
     return compiled(f"{folder}/spawn", HERE / "spawn.c")
 
 
+def serve(program, module, *flags, workers=1):
+    """The command that serves one loop of a module."""
+    return [program, "serve", module, "--loops", "1", "--workers", str(workers), *flags]
+
+
 def wall(command, good=None):
     """Seconds from start to end of a process."""
     begin = time.perf_counter()

@@ -1,5 +1,6 @@
 #!/usr/bin/env python3
-"""count.py PROGRAM..: instructions of a callback and of a request, by valgrind's callgrind, which don't swing as times do.
+"""count.py PROGRAM..: instructions of a callback and of a request, by valgrind's callgrind, which don't swing as times do
+(those of a request by a tenth, since two threads meet).
 
 Each is the difference of two runs of `serve`, the second with more callbacks or requests, divided by them: a start of the
 process is in neither."""
@@ -18,7 +19,7 @@ CALLBACKS, REQUESTS = (1_000, 5_000), (500, 2_500)
 
 def counted(program, module, fuel):
     """The instructions of a run of `serve`."""
-    command = [program, "serve", module, "--loops", "1", "--workers", "1", fuel, "1000000"]
+    command = common.serve(program, module, fuel, "1000000")
     done = subprocess.run(["valgrind", "--tool=callgrind", "--callgrind-out-file=/dev/null", *command], capture_output=True, text=True)
     found = re.search(r"Collected : (\d+)", done.stderr)
     if "loop 0 over" not in done.stdout or not found:

@@ -26,7 +26,7 @@ class Bench:
 
     def served(self, module, good="loop 0 over"):
         """The seconds of a run of `serve`, to be called."""
-        command = [self.program, "serve", module, "--loops", "1", "--workers", "1", "--fuel", "1000000"]
+        command = common.serve(self.program, module, "--fuel", "1000000")
         return lambda: common.wall(command, good)
 
     def both(self, scene, few, many, handles=1):

@@ -32,7 +32,7 @@ class Bench:
 
     def served(self, count, it, workers, fuel=1_000_000):
         """The seconds of a run of `serve`, to be called."""
-        command = [self.program, "serve", self.guest(count, it), "--loops", "1", "--workers", str(workers), "--work-fuel", str(fuel)]
+        command = common.serve(self.program, self.guest(count, it), "--work-fuel", str(fuel), workers=workers)
         return lambda: common.wall(command, "loop 0 over")
 
     def by_uv(self, count, it, workers):

@@ -183,9 +183,10 @@ def made_of(program):
 
 
 def link(rtlib, program, jobs):
-    """Proves the program over the libraries' statements, compiles and links it, and returns the status. A static library is not linked."""
+    """Proves the program over the libraries' statements, compiles and links it, and returns the status. A static library is not linked,
+    and is for each x86-64 processor: nothing but a program's `main` looks at what this one can do."""
     if program.is_static:
-        return program.compile(["--jobs", str(jobs)], made_of(program))
+        return program.compile(["--jobs", str(jobs), "--cpu", "x86-64"], made_of(program))
     made = made_of(program)
     status = program.compile(["--jobs", str(jobs)], f"{made}.o")
     if status:

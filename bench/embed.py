@@ -1,11 +1,11 @@
 #!/usr/bin/env python3
 """The library beside the program.
 
-    python3 bench/embed.py PROGRAM FOLDER        FOLDER: where capi/build.sh put libwasmloop.a and libwasmloop.so
+    python3 bench/embed.py PROGRAM FOLDER        FOLDER: the prefix of install.sh
 
 Two guests run under `serve`, with one loop and one worker, and by bench/embed/host.c over the library, in one thread: one asks for work
 again and again, the other restarts a timer. Each is run with few and with many rounds, and the difference is the time of a round: the
-program's start is no part of it. User time, processor time and wall time are told, since `serve` has two threads. The last line is the processor time of a Python process that loads the library, beside one that does not.
+program's start is no part of it. User time, processor time and wall time are printed, since `serve` has two threads. The last line is the processor time of a Python process that loads the library, beside one that does not.
 """
 import os
 import resource
@@ -56,7 +56,7 @@ def round_of(make):
 def main(program, folder):
     folder = Path(folder).resolve()
     host = folder / "bench_host"
-    subprocess.run(["cc", "-O2", f"-I{folder}", "-o", host, HERE / "embed" / "host.c", folder / "libwasmloop.a"], check=True)
+    subprocess.run(["cc", "-O2", f"-I{folder}/include", "-o", host, HERE / "embed" / "host.c", folder / "lib" / "libwasmloop.a"], check=True)
     for name, what in (("works", "a work request"), ("ticks", "a callback")):
         guests = {it: guest(folder, name, it) for it in (FEW, MANY)}
         served, wanted = round_of(lambda it: [program, "serve", guests[it], "--loops", "1", "--workers", "1"])
@@ -65,7 +65,7 @@ def main(program, folder):
             sys.exit(f"{name}: {got!r} is not {wanted!r}")
         for kind, ours, theirs in zip(("user", "processor", "wall"), here, served):
             print(f"{what}, {kind} time: the library {ours * 1e6:.2f} us, serve {theirs * 1e6:.2f} us, ratio {ours / theirs:.2f}")
-    env = dict(os.environ, PYTHONPATH=str(HERE.parent / "capi"), WASMLOOP_LIBRARY=str(folder / "libwasmloop.so"))
+    env = dict(os.environ, PYTHONPATH=str(HERE.parent / "capi"), WASMLOOP_LIBRARY=str(folder / "lib" / "libwasmloop.so.0"))
     (_, loads, _), _ = least([sys.executable, "-c", "import wasmloop"], env)
     (_, bare, _), _ = least([sys.executable, "-c", "import ctypes, functools, threading, typing"], env)
     print(f"a Python process that loads the library: {loads * 1e3:.1f} ms, one that does not: {bare * 1e3:.1f} ms, ratio {loads / bare:.2f}")

@@ -103,7 +103,7 @@ def locals_of(count):
 MODULES = [
     ("350,000 nested blocks", lambda: nested(b"\x02\x40", 349_000), "validate 11 Nesting"),
     ("174,000 nested ifs", lambda: nested(b"\x41\0\x04\x40"), "validate 11 Nesting"),
-    ("blocks 256 deep, one behind another", lambda: filled(b"\x02\x40" * 256 + b"\x0b" * 256), "accepted"),
+    ("blocks 256 deep, one after another", lambda: filled(b"\x02\x40" * 256 + b"\x0b" * 256), "accepted"),
     ("a million nops", lambda: filled(b"\1"), "accepted"),
     ("a million ends of nothing", lambda: filled(b"\x0b"), "decode"),
     ("half a million constants dropped", lambda: filled(b"\x41\0\x1a"), "accepted"),

@@ -4,7 +4,7 @@
     python3 bench/idle.py PROGRAM
 
 A guest asks for one piece of work that spends all its fuel, 300,000,000 units for all loops together. The processor
-time of `serve` is divided by that of `work` on the same pieces, one behind another. The status is 1 where a ratio is
+time of `serve` is divided by that of `work` on the same pieces, one after another. The status is 1 if a ratio is
 above 1.1.
 """
 import os

@@ -3,8 +3,8 @@
 
     python3 bench/long.py PROGRAM [--minutes N] [--loops 8] [--workers 16]
 
-Each round has to print `loop k over emits 400 0` for each loop: 400 requests were told, each once, and no answer was
-wrong. Every minute a line tells the rounds so far and the greatest resident memory of the minute's rounds. The status is
+Each round has to print `loop k over emits 400 0` for each loop: 400 requests were reported, each once, and no answer was
+wrong. Every minute a line has the rounds so far and the greatest resident memory of the minute's rounds. The status is
 1 where a line differs.
 """
 import argparse

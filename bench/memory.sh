@@ -1,7 +1,7 @@
 #!/usr/bin/env bash
 # Refuses the program each of its allocations in turn, and looks at how it ends: bash bench/memory.sh PROGRAM
 #
-# It needs cc and python3, and for the program that goes on behind a fault, which it builds, a copy of the repository with
+# It needs cc and python3, and for the program that goes on after a fault, which it builds, a copy of the repository with
 # what is proved of it, some gigabytes.
 set -euo pipefail
 if [ $# -ne 1 ]; then

@@ -1,13 +1,13 @@
 #!/usr/bin/env python3
-"""Runs `serve` with a guest whose callback cancels two requests apart, and looks at what was answered and told.
+"""Runs `serve` with a guest whose callback cancels two requests apart, and looks at what was answered and reported.
 
     python3 bench/schedules.py PROGRAM [--runs 2000]
 
 `uv_main` asks for work three times and starts a timer, whose callback emits what a cancel of request 2 is answered, takes
 its time, and emits what a cancel of request 3 is answered. Each after-work callback emits a hundred times its request and
 its kind. How long callback and work take, the fuel of work, loops and workers change from run to run. What a loop may do:
-a cancel is answered 0 or -16, and each request is told once, of a cancellation exactly where its cancel was answered 0,
-and else of the end that its work has with this fuel. What came is counted; the status is 1 where a loop did something
+a cancel is answered 0 or -16, and each request is reported once, of a cancellation exactly if its cancel was answered 0,
+and else of the end that its work has with this fuel. What came is counted; the status is 1 if a loop did something
 else. With one worker, 0 and then -16 is what threads show and no script: the worker drops request 2 and starts request 3
 within one callback.
 """

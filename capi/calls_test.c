@@ -72,6 +72,9 @@ static void loads(void) {
     IS(wasmloop_load(bytes, length, &module, NULL), WASMLOOP_NULL);
     IS(wasmloop_load(bytes, SIZE_MAX, &module, &fault), WASMLOOP_RANGE);
     IS(module.mark, 0);
+    /* of more bytes than a module may have those behind one too many are not looked at */
+    IS(wasmloop_load(bytes, PTRDIFF_MAX, &module, &fault), WASMLOOP_REFUSED);
+    IS(fault.stage == 1 && strcmp(wasmloop_fault_name(1, fault.code), "Limit") == 0, 1);
     /* each front of a module: what is no module is refused, and the handle stays empty */
     for (size_t n = 0; n < length; n++) {
         uint8_t *front = malloc(n ? n : 1); /* so that a read past the end is seen */
@@ -385,6 +388,7 @@ static void works(void) {
     IS(wasmloop_job_input(&job, NULL, 1, &count), WASMLOOP_NULL);
     IS(wasmloop_job_input(&job, room, SIZE_MAX, &count), WASMLOOP_RANGE);
     IS(wasmloop_job_reply(&job, room, 4, &count), WASMLOOP_NONE);
+    IS(wasmloop_job_view(&job, &(const uint8_t *){ NULL }, &count), WASMLOOP_NONE);
     IS(wasmloop_job_reply(&module, room, 4, &count), WASMLOOP_KIND);
     IS(wasmloop_job_reply(&none, room, 4, &count), WASMLOOP_EMPTY);
     IS(wasmloop_job_reply(NULL, room, 4, &count), WASMLOOP_NULL);
@@ -446,12 +450,21 @@ static void works(void) {
     IS(room[0] == 0xba && room[1] == 0x78 && room[2] == 0x55, 1);
     IS(wasmloop_job_reply(&job, room, sizeof room, &count), WASMLOOP_OK);
     IS(room[31] == 0xad && room[32] == 0x55, 1);
+    /* and where they are */
+    const uint8_t *at = word;
+    IS(wasmloop_job_view(&job, NULL, &count), WASMLOOP_NULL);
+    IS(wasmloop_job_view(&job, &at, NULL), WASMLOOP_NULL);
+    IS(wasmloop_job_view(&none, &at, &count), WASMLOOP_EMPTY);
+    IS(wasmloop_job_view(&module, &at, &count), WASMLOOP_KIND);
+    IS(at == word, 1);
+    IS(wasmloop_job_view(&job, &at, &count), WASMLOOP_OK);
+    IS(count == 32 && memcmp(at, room, 32) == 0, 1);
     IS(wasmloop_drop(&job), WASMLOOP_OK);
     IS(wasmloop_drop(&module), WASMLOOP_OK);
     module = module_of("countdown.wasm");
     IS(wasmloop_work(&module, &task, word, 1, &job), WASMLOOP_NO_WORK);
     IS(wasmloop_shape_of(&module, &shape), WASMLOOP_OK);
-    IS(shape.main == 1 && shape.work == 0 && shape.table == 1, 1);
+    IS(shape.main == 1 && shape.work == 0 && shape.table == 1 && shape.pages <= shape.most_pages && shape.most_pages <= 64, 1);
     IS(wasmloop_drop(&module), WASMLOOP_OK);
 }
 
@@ -467,6 +480,68 @@ static void warns(void) {
         IS(first != NULL, (bits & 25) == 17 || (bits & 7) == 0);
         IS(wasmloop_warning(&shape, 1) == NULL && wasmloop_warning(&shape, UINT32_MAX) == NULL, 1);
     }
+}
+
+/* turns: each ends where the timers phase is entered, or before it where a callback puts out values */
+static void turns(void) {
+    wasmloop_handle loop = loop_of("countdown.wasm"), none = WASMLOOP_HANDLE_INIT;
+    wasmloop_turned turned = { .wait = 9 };
+    uint32_t turns = 0, ran = 0;
+    uint64_t now = 0;
+    IS(wasmloop_turn(NULL, 1, &turned), WASMLOOP_NULL);
+    IS(wasmloop_turn(&loop, 1, NULL), WASMLOOP_NULL);
+    IS(wasmloop_turn(&loop, 0, &turned), WASMLOOP_RANGE);
+    IS(wasmloop_turn(&none, 0, &turned), WASMLOOP_RANGE);
+    IS(wasmloop_turn(&none, 1, &turned), WASMLOOP_EMPTY);
+    IS(turned.wait == 9 && turned.did.what == 0, 1);
+    for (int i = 0; i < 1000 && turned.did.what != WASMLOOP_OVER; i++) {
+        IS(wasmloop_turn(&loop, 100, &turned), WASMLOOP_OK);
+        ran += turned.did.what == WASMLOOP_RAN;
+        if (turned.did.what == WASMLOOP_RAN) IS(turned.did.emits > 0 && turned.wait == 0 && turned.callbacks > 0, 1);
+        if (turned.did.what != WASMLOOP_ENTERED) continue;
+        turns++;
+        IS(turned.did.phase, WASMLOOP_TIMERS);
+        IS(turned.callbacks == 0 || turned.wait == 0, 1);
+        if (turned.wait && turned.wait != WASMLOOP_FOREVER) IS(wasmloop_clock(&loop, now += turned.wait, &now), WASMLOOP_OK);
+    }
+    IS(turned.did.what, WASMLOOP_OVER);
+    IS(turns > 1 && ran > 1, 1);
+    IS(wasmloop_drop(&loop), WASMLOOP_OK);
+    /* one callback at a time */
+    loop = loop_of("digest.wasm");
+    memset(&turned, 0, sizeof turned);
+    IS(wasmloop_turn(&loop, 1, &turned), WASMLOOP_OK);
+    IS(turned.did.what == WASMLOOP_RAN && turned.callbacks == 1, 1);
+    IS(wasmloop_drop(&loop), WASMLOOP_OK);
+}
+
+/* where several statuses hold */
+static void orders(void) {
+    wasmloop_handle module = module_of("crc32.wasm"), none = WASMLOOP_HANDLE_INIT, loop = loop_of("digest.wasm");
+    wasmloop_limits no_depth = { 1, 1, 0, 0 };
+    wasmloop_call_limits no_calls = { 1, 0, 0 };
+    wasmloop_task task = { 1, 0, 0 };
+    wasmloop_ended ended;
+    wasmloop_handle copy = module;
+    IS(wasmloop_loop(&module, NULL, &module), WASMLOOP_NULL);
+    IS(wasmloop_job_new(&none, &task, bytes, SIZE_MAX, &none), WASMLOOP_KIND);
+    IS(wasmloop_job_new(&none, &task, bytes, SIZE_MAX, &loop), WASMLOOP_RANGE);
+    IS(wasmloop_async_send(&none, 16), WASMLOOP_RANGE);
+    IS(wasmloop_stop(&none, NULL, SIZE_MAX, NULL), WASMLOOP_NULL);
+    IS(wasmloop_loop(&none, &no_depth, &loop), WASMLOOP_KIND);
+    IS(wasmloop_job_new(&none, &task, bytes, 1, &loop), WASMLOOP_KIND);
+    IS(wasmloop_instance(&none, &no_calls, &loop, &ended), WASMLOOP_KIND);
+    wasmloop_handle into = WASMLOOP_HANDLE_INIT;
+    IS(wasmloop_loop(&none, &no_depth, &into), WASMLOOP_RANGE);
+    IS(wasmloop_job_new(&none, &task, bytes, 1, &into), WASMLOOP_RANGE);
+    IS(wasmloop_instance(&loop, &no_calls, &into, &ended), WASMLOOP_RANGE);
+    IS(wasmloop_call(&none, "uv_work", NULL, 0, &no_calls, &ended), WASMLOOP_RANGE);
+    IS(wasmloop_accept(&module, &none), WASMLOOP_EMPTY);
+    IS(wasmloop_accept(&none, &module), WASMLOOP_EMPTY);
+    IS(wasmloop_job_start(&module, &none), WASMLOOP_EMPTY);
+    IS(memcmp(&copy, &module, sizeof copy) == 0 && into.mark == 0 && none.mark == 0, 1);
+    IS(wasmloop_drop(&module), WASMLOOP_OK);
+    IS(wasmloop_drop(&loop), WASMLOOP_OK);
 }
 
 /* where a failed loop stopped */
@@ -514,6 +589,17 @@ static void tells(void) {
     IS(wasmloop_job_start(&loop, &loop), WASMLOOP_KIND);
     IS(wasmloop_job_start(&loop, &none), WASMLOOP_EMPTY);
     IS(wasmloop_job_start(&none, &job), WASMLOOP_EMPTY);
+    /* a loop of another number doesn't take the request's number for one of its own */
+    wasmloop_handle module = module_of("digest.wasm"), other = WASMLOOP_HANDLE_INIT;
+    wasmloop_limits second = usual;
+    second.number = 1;
+    IS(wasmloop_loop(&module, &second, &other), WASMLOOP_OK);
+    IS(wasmloop_drop(&module), WASMLOOP_OK);
+    run_to(&other, WASMLOOP_RUN_MAIN);
+    IS(wasmloop_job_start(&other, &job), WASMLOOP_STRANGER);
+    IS(wasmloop_cancel(&other, 1, &answer), WASMLOOP_OK);
+    IS(answer, 0);
+    IS(wasmloop_drop(&other), WASMLOOP_OK);
     IS(wasmloop_job_start(&loop, &job), WASMLOOP_OK);
     IS(wasmloop_job_start(&loop, &job), WASMLOOP_STRANGER);
     IS(wasmloop_job_about(&job, &about), WASMLOOP_OK);
@@ -538,7 +624,7 @@ static void tells(void) {
     IS(wasmloop_explain(NULL, 1, text, 2, &count), WASMLOOP_NULL);
     IS(wasmloop_explain(bytes, 1, text, SIZE_MAX, &count), WASMLOOP_RANGE);
     IS(strcmp(wasmloop_status_name(WASMLOOP_NO_WORK), "NO_WORK"), 0);
-    IS(wasmloop_status_name(11) == NULL && wasmloop_status_name(-1) == NULL, 1);
+    IS(wasmloop_status_name(13) == NULL && wasmloop_status_name(-1) == NULL, 1);
     IS(strcmp(wasmloop_trap_name(7), "a function of another type"), 0);
     IS(wasmloop_trap_name(8) == NULL && wasmloop_trap_name(0) == NULL, 1);
     IS(strcmp(wasmloop_fault_name(1, 12), "Limit"), 0);
@@ -560,6 +646,8 @@ int main(int argc, char **argv) {
     stops();
     tells();
     warns();
+    turns();
+    orders();
     if (failed) printf("%u of %u checks fail\n", failed, checks);
     else printf("all %u checks hold\n", checks);
     return failed != 0;

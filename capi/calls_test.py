@@ -88,6 +88,7 @@ def calls():
     same(module.warnings, [])
     (warning,) = wasmloop.Module(b"\0asm\1\0\0\0").warnings
     same(warning.startswith("it exports none of uv_main"), True)
+    same((module.shape().pages, module.shape().most_pages > 1), (2, True))
     refused(lambda: module.work(0, bytes(65_537)), wasmloop.RANGE)
     refused(lambda: module.work(0, b"", depth=129), wasmloop.RANGE)
     same(module.job(0, b"abc").input(), b"abc")
@@ -95,7 +96,7 @@ def calls():
     same((job.reply().outcome, job.reply().used, len(job.stop())), ("spent", 3, 1))
     job = module.job(0, b"abc").run()
     same((job.reply().outcome, job.reply().used > 3, job.stop()), ("done", True, []))
-    refused(lambda: module.job(0).about() and module.job(0)._bytes("job_reply", 0), wasmloop.NONE)
+    refused(lambda: module.job(0)._reply(), wasmloop.NONE)
     module.close()
     refused(lambda: module.work(0), wasmloop.EMPTY)
     with wasmloop.Module((EXAMPLES / "digest.wasm").read_bytes()) as asking, wasmloop.Loop(asking) as loop:
@@ -103,6 +104,13 @@ def calls():
             pass
         standing = loop.standing()
         same((standing.alive, standing.failed, standing.outstanding), (1, 0, 4))
+        with wasmloop.Loop(asking, number=1) as other:
+            job = loop.next_job()
+            same((other.start(job), loop.start(job), loop.start(job)), (False, True, False))
+        for wrong in (lambda: loop.send(16), lambda: loop.clock(-1), lambda: loop.cancel(2**32), lambda: loop.turn(0)):
+            refused(wrong, wasmloop.RANGE)
+        turned = loop.turn()
+        same((turned.did.what, turned.did.phase), (wasmloop.ENTERED, wasmloop.TIMERS))
 
 
 calls()

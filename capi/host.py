@@ -8,7 +8,7 @@ The clock jumps to the next timer, and the lines are those of `wasmloop serve`.
 import sys
 from concurrent.futures import ThreadPoolExecutor
 
-from wasmloop import ENTERED, FAILED, FOREVER, OVER, RAN, TIMERS, Loop, Module, Refused
+from wasmloop import ENTERED, FAILED, FOREVER, OVER, RAN, Loop, Module, Refused
 
 MOST = 100_000
 
@@ -31,32 +31,33 @@ class Guest:
         running.result()
         self.loop.accept(job)
 
-    def step(self):
-        did = self.loop.step()
-        if did.what == RAN:
-            self.ran += 1
-            self.emits += self.loop.emits()
-            if did.ending:
+    def steps(self):
+        """Goes up to the next timers phase, and says for how long there is nothing to do, or None where the loop has ended."""
+        while True:
+            turned = self.loop.turn(MOST - self.ran)
+            what = turned.did.what
+            if what == ENTERED:
+                self.ran += turned.callbacks
+                return turned.wait
+            if what == RAN:
+                self.emits += self.loop.emits()
+            if what == FAILED or what == RAN and turned.did.ending:
                 self.ending = "failed"
-        elif did.what in (OVER, FAILED):
-            self.ending = {OVER: "over", FAILED: "failed"}[did.what]
-        if not self.ending and self.ran == MOST:
-            self.ending = "limit"
-        return did
+            elif what == OVER:
+                self.ending = "over"
+            elif self.ran + turned.callbacks == MOST:
+                self.ending = "limit"
+            if self.ending:
+                return None
 
     def turn(self, pool):
         """One turn, up to the next timers phase or the loop's end."""
         self.hand_out(pool)
-        before = self.ran
-        while True:
-            did = self.step()
-            if self.ending:
-                return
-            if did.what == ENTERED and did.phase == TIMERS:
-                break
+        wait = self.steps()
+        if self.ending:
+            return
         self.hand_out(pool)
-        wait = self.loop.hint()
-        if self.ran > before or wait == 0:
+        if wait == 0:
             return
         if self.jobs:
             self.accept()

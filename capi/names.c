@@ -3,10 +3,11 @@
 
 #define NAME_OF(names, number) ((number) < sizeof(names) / sizeof *(names) ? (names)[number] : NULL)
 
-const char *wasmloop_version(void) { return "0.1.0"; }
+const char *wasmloop_version(void) { return WASMLOOP_VERSION; }
 
 const char *wasmloop_status_name(int status) {
-    static const char *const names[] = { "OK", "NONE", "EMPTY", "KIND", "MEMORY", "REFUSED", "RANGE", "STRANGER", "USED_UP", "NULL", "NO_WORK" };
+    static const char *const names[] = { "OK", "NONE", "EMPTY", "KIND", "MEMORY", "REFUSED", "RANGE", "STRANGER", "USED_UP", "NULL", "NO_WORK",
+        "NOT_STARTED", "ARGUMENTS" };
     return status < 0 ? NULL : NAME_OF(names, (unsigned)status);
 }
 
@@ -40,6 +41,6 @@ const char *wasmloop_warning(const wasmloop_shape *shape, uint32_t number) {
     if (shape->main && shape->imports && !shape->table)
         told[count++] = "it exports uv_main and has no table: a callback that it gives is refused with -22 (link it with --export-table)";
     if (!shape->main && !shape->work && !shape->after_work)
-        told[count++] = "it exports none of uv_main, uv_work and uv_after_work: nothing is called but its start function";
+        told[count++] = "it exports none of uv_main, uv_work and uv_after_work: a loop of it does nothing but its start function";
     return NAME_OF(told, number);
 }

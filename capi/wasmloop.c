@@ -1,4 +1,9 @@
-/* The public names: each tests its pointers for NULL and calls the proved function of the same name. */
+/* The public names: each tests its pointers for NULL and calls the proved function of the same name.
+ *
+ * The proofs have each call's handles to themselves. What takes a const wasmloop_handle gives the proved function a copy of the handle's two
+ * words, in which it takes out what the handle has and puts it back: so the handle itself is not written, and several threads may
+ * read one module at once. That what they share is only read, but for atomic counts, is how the functions are written and what
+ * threads_test.c shows under ThreadSanitizer and Helgrind; it is not proved. */
 #include "wasmloop.h"
 
 uint32_t wasmloop_rt_load(const uint8_t *, size_t, wasmloop_handle *, wasmloop_fault *);
@@ -13,6 +18,7 @@ uint32_t wasmloop_rt_cancel(wasmloop_handle *, uint32_t, int32_t *);
 uint32_t wasmloop_rt_standing(wasmloop_handle *, wasmloop_standing *);
 uint32_t wasmloop_rt_next_job(wasmloop_handle *, wasmloop_handle *);
 uint32_t wasmloop_rt_job_run(wasmloop_handle *);
+uint32_t wasmloop_rt_job_run_for(wasmloop_handle *, uint64_t, uint32_t *);
 uint32_t wasmloop_rt_job_about(wasmloop_handle *, wasmloop_about *);
 uint32_t wasmloop_rt_accept(wasmloop_handle *, wasmloop_handle *);
 
@@ -24,26 +30,73 @@ uint32_t wasmloop_rt_job_new(wasmloop_handle *, const wasmloop_task *, const uin
 uint32_t wasmloop_rt_job_start(wasmloop_handle *, wasmloop_handle *);
 uint32_t wasmloop_rt_job_input(wasmloop_handle *, uint8_t *, size_t, uint64_t *);
 uint32_t wasmloop_rt_job_reply(wasmloop_handle *, uint8_t *, size_t, uint64_t *);
+uint32_t wasmloop_rt_function(wasmloop_handle *, const uint8_t *, size_t, wasmloop_type *);
+uint32_t wasmloop_rt_instance(wasmloop_handle *, const wasmloop_call_limits *, wasmloop_handle *, wasmloop_ended *);
+uint32_t wasmloop_rt_call(wasmloop_handle *, const uint8_t *, size_t, const uint64_t *, size_t, const wasmloop_call_limits *, wasmloop_ended *);
+uint32_t wasmloop_rt_read(wasmloop_handle *, uint32_t, uint8_t *, size_t);
+uint32_t wasmloop_rt_write(wasmloop_handle *, uint32_t, const uint8_t *, size_t);
+uint32_t wasmloop_rt_size(wasmloop_handle *, uint64_t *);
+
+uint32_t wasmloop_rt_job_view(wasmloop_handle *, const uint8_t **, uint64_t *);
 
 /* a slice needs an address even where it has no elements */
 static uint64_t nothing;
 
+/* (volatile, so that no compiler makes a call of strlen of it: the library asks for malloc and the like alone) */
+static size_t length_of(const volatile char *name) {
+    size_t length = 0;
+    while (name[length]) length++;
+    return length;
+}
+
+/* A module has 2^20 bytes at most. Of more, one byte tells as much as all: they are refused, and not copied before. */
+static size_t looked_at(size_t length) { return length > ((size_t)1 << 20) ? ((size_t)1 << 20) + 1 : length; }
+
 int wasmloop_load(const uint8_t *bytes, size_t length, wasmloop_handle *module, wasmloop_fault *fault) {
     if (!module || !fault || (!bytes && length)) return WASMLOOP_NULL;
     if (length > PTRDIFF_MAX) return WASMLOOP_RANGE;
-    return (int)wasmloop_rt_load(length ? bytes : (const uint8_t *)&nothing, length, module, fault);
+    return (int)wasmloop_rt_load(length ? bytes : (const uint8_t *)&nothing, looked_at(length), module, fault);
 }
 
-int wasmloop_loop(wasmloop_handle *module, const wasmloop_limits *limits, wasmloop_handle *loop) {
+int wasmloop_loop(const wasmloop_handle *module, const wasmloop_limits *limits, wasmloop_handle *loop) {
     if (!module || !limits || !loop) return WASMLOOP_NULL;
     if (module == loop) return WASMLOOP_KIND;
-    return (int)wasmloop_rt_loop(module, limits, loop);
+    wasmloop_handle shared = *module;
+    return (int)wasmloop_rt_loop(&shared, limits, loop);
 }
 
 int wasmloop_drop(wasmloop_handle *handle) { return handle ? (int)wasmloop_rt_drop(handle) : WASMLOOP_NULL; }
 
 int wasmloop_step(wasmloop_handle *loop, wasmloop_did *did) {
     return loop && did ? (int)wasmloop_rt_step(loop, did) : WASMLOOP_NULL;
+}
+
+/* Whether a step ends a call of wasmloop_turn, of which so many callbacks ran before it. */
+static int ends_turn(const wasmloop_did *did, uint32_t ran, uint32_t most_callbacks) {
+    switch (did->what) {
+    case WASMLOOP_ENTERED: return did->phase == WASMLOOP_TIMERS;
+    case WASMLOOP_RAN: return did->emits || did->ending != WASMLOOP_RETURN || ran + 1 == most_callbacks;
+    case WASMLOOP_SKIPPED: return 0;
+    default: return 1;
+    }
+}
+
+int wasmloop_turn(wasmloop_handle *loop, uint32_t most_callbacks, wasmloop_turned *told) {
+    if (!loop || !told) return WASMLOOP_NULL;
+    if (!most_callbacks) return WASMLOOP_RANGE;
+    wasmloop_turned now = *told;
+    if (now.did.what == WASMLOOP_ENTERED && now.did.phase == WASMLOOP_TIMERS) now.callbacks = 0;
+    now.wait = 0;
+    for (uint32_t ran = 0;;) {
+        int status = (int)wasmloop_rt_step(loop, &now.did);
+        if (status != WASMLOOP_OK) return status;
+        int ends = ends_turn(&now.did, ran, most_callbacks);
+        if (now.did.what == WASMLOOP_RAN) ran++, now.callbacks++;
+        if (ends) break;
+    }
+    if (now.did.what == WASMLOOP_ENTERED && !now.callbacks) wasmloop_rt_hint(loop, &now.wait);
+    *told = now;
+    return WASMLOOP_OK;
 }
 
 int wasmloop_emits(wasmloop_handle *loop, int64_t *into, size_t room, uint32_t *count) {
@@ -79,6 +132,10 @@ int wasmloop_next_job(wasmloop_handle *loop, wasmloop_handle *job) {
 
 int wasmloop_job_run(wasmloop_handle *job) { return job ? (int)wasmloop_rt_job_run(job) : WASMLOOP_NULL; }
 
+int wasmloop_job_run_for(wasmloop_handle *job, uint64_t units, uint32_t *over) {
+    return job && over ? (int)wasmloop_rt_job_run_for(job, units, over) : WASMLOOP_NULL;
+}
+
 int wasmloop_job_about(wasmloop_handle *job, wasmloop_about *about) {
     return job && about ? (int)wasmloop_rt_job_about(job, about) : WASMLOOP_NULL;
 }
@@ -88,19 +145,23 @@ int wasmloop_accept(wasmloop_handle *loop, wasmloop_handle *job) {
     return loop == job ? WASMLOOP_KIND : (int)wasmloop_rt_accept(loop, job);
 }
 
-int wasmloop_share(wasmloop_handle *module, wasmloop_handle *other) {
+int wasmloop_share(const wasmloop_handle *module, wasmloop_handle *other) {
     if (!module || !other) return WASMLOOP_NULL;
-    return module == other ? WASMLOOP_KIND : (int)wasmloop_rt_share(module, other);
+    if (module == other) return WASMLOOP_KIND;
+    wasmloop_handle shared = *module;
+    return (int)wasmloop_rt_share(&shared, other);
 }
 
-int wasmloop_shape_of(wasmloop_handle *module, wasmloop_shape *shape) {
-    return module && shape ? (int)wasmloop_rt_shape(module, shape) : WASMLOOP_NULL;
+int wasmloop_shape_of(const wasmloop_handle *module, wasmloop_shape *shape) {
+    if (!module || !shape) return WASMLOOP_NULL;
+    wasmloop_handle shared = *module;
+    return (int)wasmloop_rt_shape(&shared, shape);
 }
 
 int wasmloop_explain(const uint8_t *bytes, size_t length, char *into, size_t room, uint64_t *count) {
     if (!count || (!bytes && length) || (!into && room)) return WASMLOOP_NULL;
     if (length > PTRDIFF_MAX || room > PTRDIFF_MAX) return WASMLOOP_RANGE;
-    return (int)wasmloop_rt_explain(length ? bytes : (const uint8_t *)&nothing, length, room ? into : (char *)&nothing, room, count);
+    return (int)wasmloop_rt_explain(length ? bytes : (const uint8_t *)&nothing, looked_at(length), room ? into : (char *)&nothing, room, count);
 }
 
 int wasmloop_stop(wasmloop_handle *handle, wasmloop_site *into, size_t room, uint64_t *count) {
@@ -109,14 +170,15 @@ int wasmloop_stop(wasmloop_handle *handle, wasmloop_site *into, size_t room, uin
     return (int)wasmloop_rt_stop(handle, room ? into : (wasmloop_site *)&nothing, room, count);
 }
 
-int wasmloop_job_new(wasmloop_handle *module, const wasmloop_task *task, const uint8_t *bytes, size_t length, wasmloop_handle *job) {
+int wasmloop_job_new(const wasmloop_handle *module, const wasmloop_task *task, const uint8_t *bytes, size_t length, wasmloop_handle *job) {
     if (!module || !task || !job || (!bytes && length)) return WASMLOOP_NULL;
     if (module == job) return WASMLOOP_KIND;
     if (length > PTRDIFF_MAX) return WASMLOOP_RANGE;
-    return (int)wasmloop_rt_job_new(module, task, length ? bytes : (const uint8_t *)&nothing, length, job);
+    wasmloop_handle shared = *module;
+    return (int)wasmloop_rt_job_new(&shared, task, length ? bytes : (const uint8_t *)&nothing, length, job);
 }
 
-int wasmloop_work(wasmloop_handle *module, const wasmloop_task *task, const uint8_t *bytes, size_t length, wasmloop_handle *job) {
+int wasmloop_work(const wasmloop_handle *module, const wasmloop_task *task, const uint8_t *bytes, size_t length, wasmloop_handle *job) {
     int told = wasmloop_job_new(module, task, bytes, length, job);
     return told == WASMLOOP_OK ? (int)wasmloop_rt_job_run(job) : told;
 }
@@ -136,4 +198,44 @@ int wasmloop_job_reply(wasmloop_handle *job, uint8_t *into, size_t room, uint64_
     if (!job || !count || (!into && room)) return WASMLOOP_NULL;
     if (room > PTRDIFF_MAX) return WASMLOOP_RANGE;
     return (int)wasmloop_rt_job_reply(job, room ? into : (uint8_t *)&nothing, room, count);
+}
+
+int wasmloop_job_view(wasmloop_handle *job, const uint8_t **bytes, uint64_t *count) {
+    return job && bytes && count ? (int)wasmloop_rt_job_view(job, bytes, count) : WASMLOOP_NULL;
+}
+
+int wasmloop_function(const wasmloop_handle *module, const char *name, wasmloop_type *type) {
+    if (!module || !name || !type) return WASMLOOP_NULL;
+    wasmloop_handle shared = *module;
+    return (int)wasmloop_rt_function(&shared, (const uint8_t *)name, length_of(name), type);
+}
+
+int wasmloop_instance(const wasmloop_handle *module, const wasmloop_call_limits *limits, wasmloop_handle *instance, wasmloop_ended *ended) {
+    if (!module || !limits || !instance || !ended) return WASMLOOP_NULL;
+    if (module == instance) return WASMLOOP_KIND;
+    wasmloop_handle shared = *module;
+    return (int)wasmloop_rt_instance(&shared, limits, instance, ended);
+}
+
+int wasmloop_call(wasmloop_handle *instance, const char *name, const uint64_t *arguments, size_t count, const wasmloop_call_limits *limits,
+    wasmloop_ended *ended) {
+    if (!instance || !name || !limits || !ended || (!arguments && count)) return WASMLOOP_NULL;
+    if (count > PTRDIFF_MAX / sizeof *arguments) return WASMLOOP_RANGE;
+    return (int)wasmloop_rt_call(instance, (const uint8_t *)name, length_of(name), count ? arguments : &nothing, count, limits, ended);
+}
+
+int wasmloop_size(wasmloop_handle *instance, uint64_t *bytes) {
+    return instance && bytes ? (int)wasmloop_rt_size(instance, bytes) : WASMLOOP_NULL;
+}
+
+int wasmloop_read(wasmloop_handle *instance, uint32_t at, uint8_t *into, size_t length) {
+    if (!instance || (!into && length)) return WASMLOOP_NULL;
+    if (length > PTRDIFF_MAX) return WASMLOOP_RANGE;
+    return (int)wasmloop_rt_read(instance, at, length ? into : (uint8_t *)&nothing, length);
+}
+
+int wasmloop_write(wasmloop_handle *instance, uint32_t at, const uint8_t *from, size_t length) {
+    if (!instance || (!from && length)) return WASMLOOP_NULL;
+    if (length > PTRDIFF_MAX) return WASMLOOP_RANGE;
+    return (int)wasmloop_rt_write(instance, at, length ? from : (const uint8_t *)&nothing, length);
 }

@@ -1,8 +1,8 @@
 /* wasmloop.h: the host of wasmloop in a program of your own.
  *
  * A guest is a WebAssembly module that imports "uv". A loop runs its callbacks, step by step, in the thread that calls; a job is
- * work that it asks for, which any thread may run. No call waits, sleeps, starts a thread or prints. Each call returns a status
- * and never ends the process.
+ * work that it asks for, which any thread may run; an instance keeps its memory from call to call. No call waits, sleeps, starts a
+ * thread or prints. Each call returns a status and never ends the process.
  *
  *     wasmloop_handle module = WASMLOOP_HANDLE_INIT, loop = WASMLOOP_HANDLE_INIT;
  *     wasmloop_limits limits = { 1000000, 1000000, 0, 64 };
@@ -11,25 +11,35 @@
  *         while (wasmloop_step(&loop, &did) == WASMLOOP_OK && did.what != WASMLOOP_OVER && did.what != WASMLOOP_FAILED)
  *             ;
  *
- * Handles. A handle is a struct in your own memory. Zeroed memory is an empty handle. What fills one (load, loop, next_job) needs
- * it empty; wasmloop_drop empties it. A call on an empty handle, or on one that was dropped or whose job was accepted, answers
- * WASMLOOP_EMPTY; on one of another kind WASMLOOP_KIND; where a pointer is NULL WASMLOOP_NULL. You owe the rest: don't write into
- * a handle, don't copy one and then use both copies (you may move one), drop each one that is not empty, and give each pointer
- * room for what is written there. Two handles of one call are two: the same address for both is not allowed.
+ * Handles. A handle is a struct in your own memory. Zeroed memory is an empty handle. What fills one (load, share, loop, next_job,
+ * job_new, work, instance) needs it empty; wasmloop_drop empties it. You owe this: don't write into a handle, don't copy one and then
+ * use both copies (you may move one), drop each one that is not empty, and give each pointer room for what is written there, apart from
+ * all else that the call is given.
+ *
+ * Statuses. Where several hold, a call answers the first of these: NULL, a pointer is NULL; KIND, two handles have the same address;
+ * RANGE, a length or a room is above PTRDIFF_MAX, or an async is not below 16; KIND, the handle that is to be filled is full; RANGE,
+ * another number is out of its range; EMPTY, another handle is empty: nothing was made in it, or it was dropped, or its job was
+ * accepted; KIND, a handle has another kind of thing; then the call's own. Where a call doesn't answer OK it has changed nothing and
+ * written nothing, but for what is said at wasmloop_load and wasmloop_instance.
  *
  * Threads. Handles have no locks. A handle may go to another thread, and each call needs its handles for itself: order the
- * threads by a mutex, a queue, a start or a join, as uv_queue_work does. A job shares a module with its loop by an atomic count,
- * so that a job runs beside its loop and beside other jobs. No call from a signal handler.
+ * threads by a mutex, a queue, a start or a join, as uv_queue_work does. A module is different: what takes a const wasmloop_handle may be
+ * called on one module by several threads at once, as long as none drops it meanwhile. A job shares a module with its loop by an atomic
+ * count, so that a job runs beside its loop and beside other jobs. No call from a signal handler, and no longjmp out of a call: what the
+ * handle has would be lost, and malloc's lock might stay held. Give a job less fuel where it must end sooner.
  *
  * Memory comes from malloc and free. Where it is refused, the status is WASMLOOP_MEMORY and nothing has changed.
  *
- * Stack: no call took more than 32 KiB here, whatever the guest's depth and nesting.
+ * Stack: wasmloop_loop took 61 KiB here, and each other call at most 18, whatever the guest's depth and nesting.
  */
 #ifndef WASMLOOP_H
 #define WASMLOOP_H
 
 #include <stddef.h>
 #include <stdint.h>
+
+/* The version of this header; wasmloop_version tells the library's. */
+#define WASMLOOP_VERSION "0.1.0"
 
 #ifdef __cplusplus
 extern "C" {
@@ -47,10 +57,12 @@ enum {
     WASMLOOP_STRANGER = 7, /* the loop doesn't wait for this reply: its request was cancelled, or is another loop's */
     WASMLOOP_USED_UP = 8,  /* 2^32 sends from outside were made */
     WASMLOOP_NULL = 9,     /* a pointer is NULL */
-    WASMLOOP_NO_WORK = 10  /* the module exports no uv_work */
+    WASMLOOP_NO_WORK = 10, /* the module exports no uv_work */
+    WASMLOOP_NOT_STARTED = 11, /* the start function did not return */
+    WASMLOOP_ARGUMENTS = 12    /* not as many arguments as the function takes, or one past its type */
 };
 
-/* A module, a loop or a job, or nothing. */
+/* A module, a loop, a job or an instance, or nothing. */
 typedef struct wasmloop_handle {
     uint64_t mark;
     void *at;
@@ -132,12 +144,15 @@ typedef struct wasmloop_shape {
     uint32_t work;       /* it exports uv_work */
     uint32_t after_work; /* it exports uv_after_work */
     uint32_t table;      /* it has a table: without one no callback can be called (link with --export-table) */
+    uint32_t pages;      /* how many pages of 65,536 bytes its memory has at first, at most 64; 0 where it has none */
+    uint32_t most_pages; /* how many it may grow to: what it declares, and at most 64 */
     uint64_t imports;    /* how many functions it imports */
 } wasmloop_shape;
 
 /* An operation of a function. */
 typedef struct wasmloop_site {
-    uint64_t function;  /* counted among the functions that the module defines, from 0 */
+    uint64_t function;  /* counted among the functions that the module defines, from 0: with wasmloop_shape's imports added it is the
+                           number that `wasmloop`, wasm-objdump and wasmloop_fault have */
     uint64_t operation; /* counted in its body, from 0 */
 } wasmloop_site;
 
@@ -147,6 +162,32 @@ typedef struct wasmloop_task {
     uint32_t op;    /* what uv_work is given */
     uint32_t depth; /* how many calls may stand open, 1 to 128 */
 } wasmloop_task;
+
+/* The type of a function: of each parameter and each result 1 for an i32, 2 for an i64; behind them 0. */
+typedef struct wasmloop_type {
+    uint64_t params;  /* how many parameters it has, at most 256 */
+    uint64_t results; /* how many results it has, at most 16 */
+    uint8_t param[256];
+    uint8_t result[16];
+} wasmloop_type;
+
+/* What a call of an instance may use. */
+typedef struct wasmloop_call_limits {
+    uint64_t fuel;  /* the units of fuel of the call */
+    uint32_t depth; /* how many calls may stand open, 1 to 128 */
+    uint32_t zero;
+} wasmloop_call_limits;
+
+#define WASMLOOP_RESULTS 16 /* as many results as a function may have */
+
+/* How a call ended. */
+typedef struct wasmloop_ended {
+    uint32_t ending;  /* WASMLOOP_RETURN, WASMLOOP_TRAP, WASMLOOP_DEPTH or WASMLOOP_SPENT */
+    uint32_t trap;    /* by a trap: its number, as in wasmloop_did; else 0 */
+    uint64_t results; /* how many results there are: 0 where it did not return */
+    uint64_t used;    /* the units of fuel that it used, at most the call's */
+    uint64_t result[WASMLOOP_RESULTS]; /* the results, an i32 in the lower half; behind them 0 */
+} wasmloop_ended;
 
 /* The version of the library, as "0.1.0". The text is never freed. */
 const char *wasmloop_version(void);
@@ -159,34 +200,65 @@ const char *wasmloop_fault_name(uint32_t stage, uint32_t code);
 const char *wasmloop_ending_name(uint32_t ending);
 const char *wasmloop_outcome_name(uint32_t outcome);
 
-/* Makes a module of `length` bytes (at most 2^20 are taken) at `bytes`, in an empty handle. REFUSED writes *fault, and nothing
- * else does. `bytes` may be NULL where `length` is 0. The bytes are copied. */
+/* Where a turn of a loop stands. Zero it before the loop's first turn, and let wasmloop_turn alone write it. */
+typedef struct wasmloop_turned {
+    wasmloop_did did;   /* the last step that was taken */
+    uint64_t wait;      /* for how many milliseconds the loop has nothing to do but for replies and sends, or WASMLOOP_FOREVER */
+    uint32_t callbacks; /* how many callbacks ran in the turn so far */
+    uint32_t zero;
+} wasmloop_turned;
+
+/* Makes a module of `length` bytes at `bytes`, in an empty handle. REFUSED writes *fault, and nothing else does; more than 2^20 bytes
+ * are refused. `bytes` may be NULL where `length` is 0. The bytes are copied. RANGE: `length` is above PTRDIFF_MAX. */
 int wasmloop_load(const uint8_t *bytes, size_t length, wasmloop_handle *module, wasmloop_fault *fault);
 
 /* Writes why bytes are refused, in the words that `wasmloop check` prints, as far as `room` goes, without a NUL, and how many bytes
- * the sentence has to *count. NONE: they are not refused. */
+ * the sentence has to *count. NONE: they are not refused. RANGE: `length` or `room` is above PTRDIFF_MAX. */
 int wasmloop_explain(const uint8_t *bytes, size_t length, char *into, size_t room, uint64_t *count);
 
 /* Makes a second handle of the same module, in an empty one, for another thread. The module is not copied. */
-int wasmloop_share(wasmloop_handle *module, wasmloop_handle *other);
+int wasmloop_share(const wasmloop_handle *module, wasmloop_handle *other);
 
-int wasmloop_shape_of(wasmloop_handle *module, wasmloop_shape *shape);
+int wasmloop_shape_of(const wasmloop_handle *module, wasmloop_shape *shape);
 
 /* What of a shape is probably not meant, as a sentence: number 0 is the first, and NULL is where there are no more (or `shape` is NULL).
  * The text is never freed. Such a module loads and runs all the same. There is a sentence for
  *     main and imports, and no table      a callback that it gives is refused with -22; a guest that gives none needs no table
- *     none of main, work and after_work   nothing is called but its start function */
+ *     none of main, work and after_work   a loop of it does nothing but its start function; an instance may be called all the same */
 const char *wasmloop_warning(const wasmloop_shape *shape, uint32_t number);
 
 /* Runs one operation of a module's uv_work with no loop, in this thread, and leaves the job, which was run, in an empty handle:
  * wasmloop_job_about and wasmloop_job_reply read it, wasmloop_drop ends it. It is wasmloop_job_new and then wasmloop_job_run, which
  * may be called by themselves where another thread is to run it. `length` is at most 65,536, and the bytes are copied; `bytes` may be NULL
  * where it is 0. RANGE: the length or the depth is out of its range. NO_WORK: the module exports no uv_work. */
-int wasmloop_work(wasmloop_handle *module, const wasmloop_task *task, const uint8_t *bytes, size_t length, wasmloop_handle *job);
-int wasmloop_job_new(wasmloop_handle *module, const wasmloop_task *task, const uint8_t *bytes, size_t length, wasmloop_handle *job);
+int wasmloop_work(const wasmloop_handle *module, const wasmloop_task *task, const uint8_t *bytes, size_t length, wasmloop_handle *job);
+int wasmloop_job_new(const wasmloop_handle *module, const wasmloop_task *task, const uint8_t *bytes, size_t length, wasmloop_handle *job);
+
+/* Writes the type of the function that a module exports as `name` to *type. NONE: no function is exported so. */
+int wasmloop_function(const wasmloop_handle *module, const char *name, wasmloop_type *type);
+
+/* Makes an instance of a module, in an empty handle, and runs its start function, where there is one. It keeps its memory, its globals and
+ * its table from call to call, until it is dropped; the module may be dropped before. Imports answer -1, as those of `wasmloop invoke`.
+ * OK writes to *ended how the start function returned. NOT_STARTED: it did not return, *ended says how it ended, and nothing is made.
+ * RANGE: the depth is not 1 to 128. Nothing else writes *ended. */
+int wasmloop_instance(const wasmloop_handle *module, const wasmloop_call_limits *limits, wasmloop_handle *instance, wasmloop_ended *ended);
+
+/* Calls the function that is exported as `name`, of `count` arguments, an i32 as a number below 2^32; `args` may be NULL where `count` is 0.
+ * OK: it was called, and *ended says how it ended. However that was, the instance stays as it is then: a trap, too many open calls or
+ * spent fuel take nothing back, and it may be called again. NONE: no function is exported so. ARGUMENTS: it takes another number of
+ * arguments, or one is past its type. RANGE: the depth is not 1 to 128. Where it is not OK nothing changes, and *ended is not written. */
+int wasmloop_call(wasmloop_handle *instance, const char *name, const uint64_t *args, size_t count, const wasmloop_call_limits *limits, wasmloop_ended *ended);
+
+/* Writes how many bytes the memory of an instance has to *bytes. A call may let it grow. */
+int wasmloop_size(wasmloop_handle *instance, uint64_t *bytes);
+
+/* Copies `length` bytes of the memory out or in, from address `at` on. RANGE: they are not all in the memory, and none is copied.
+ * `into` and `from` may be NULL where `length` is 0. */
+int wasmloop_read(wasmloop_handle *instance, uint32_t at, uint8_t *into, size_t length);
+int wasmloop_write(wasmloop_handle *instance, uint32_t at, const uint8_t *from, size_t length);
 
 /* Makes a loop of a module, in an empty handle. RANGE: the depth is not 1 to 128. The module stays as it is, and may be dropped. */
-int wasmloop_loop(wasmloop_handle *module, const wasmloop_limits *limits, wasmloop_handle *loop);
+int wasmloop_loop(const wasmloop_handle *module, const wasmloop_limits *limits, wasmloop_handle *loop);
 
 /* Drops what a handle has. EMPTY: it had nothing. Free or reuse the struct as you like afterwards. */
 int wasmloop_drop(wasmloop_handle *handle);
@@ -194,25 +266,40 @@ int wasmloop_drop(wasmloop_handle *handle);
 /* Takes one step: a callback runs, an entry is skipped, a phase is entered, or the loop is over or has failed. */
 int wasmloop_step(wasmloop_handle *loop, wasmloop_did *did);
 
-/* Writes what the last callback put out to `into`, as far as `room` goes, and how many values there were to *count. */
+/* Takes steps, the last of which told->did has, until
+ *     the timers phase is entered: the turn is over, and told->wait says how long to sleep, 0 where a callback ran in it;
+ *     a callback puts out values, for wasmloop_emits, or doesn't return;
+ *     `most_callbacks` callbacks have run in this call; or
+ *     the loop is over or has failed.
+ * Hand out requests, accept replies, send and raise the clock between two calls, and call again; sleep only where nothing was sent
+ * since the turn before. RANGE: `most_callbacks` is 0. */
+int wasmloop_turn(wasmloop_handle *loop, uint32_t most_callbacks, wasmloop_turned *told);
+
+/* Writes what the last callback put out to `into`, as far as `room` goes, and how many values there were to *count. RANGE: `room` is
+ * above PTRDIFF_MAX / 8. */
 int wasmloop_emits(wasmloop_handle *loop, int64_t *into, size_t room, uint32_t *count);
 
 /* Raises the clock to `ms` milliseconds, and writes the clock after it. A smaller `ms` leaves it. */
 int wasmloop_clock(wasmloop_handle *loop, uint64_t ms, uint64_t *now);
 
-/* Writes how long the loop has nothing to do by its cached now: 0 where there is something to do or it isn't alive,
- * milliseconds until a timer is due, or WASMLOOP_FOREVER. Replies and sends may come earlier. */
+/* Writes how long the loop has nothing to do by its cached now: 0 where it isn't alive, or an idle is active, a handle is closing, a
+ * request is answered or cancelled, or a timer is due; milliseconds until a timer is due; or WASMLOOP_FOREVER. It knows neither of
+ * entries that are still to come in a phase nor of sends, the guest's own among them. So ask it where a step has entered the timers
+ * phase, and sleep by it only where no callback ran since the timers phase before (wasmloop_turn does so); replies and sends end the
+ * sleep. */
 int wasmloop_hint(wasmloop_handle *loop, uint64_t *ms);
 
 /* Sends to the guest's async `number` (asyncs are counted from 0 as the guest makes them). RANGE: it is not below 16. */
 int wasmloop_async_send(wasmloop_handle *loop, uint32_t number);
 
-/* Cancels a request. *answer: 0, or -22 where it is not outstanding or cancelled, -16 where it is answered, -1 on a failed loop. */
+/* Cancels a request. *answer: 0, or -22 where it is not outstanding or cancelled, -16 where it is answered or its job was told to be
+ * started, -1 on a failed loop. */
 int wasmloop_cancel(wasmloop_handle *loop, uint32_t request, int32_t *answer);
 
-/* Writes the operation at which a loop's last callback stopped, or a job, and the calls around it outwards, to `into`, as far as `room`
- * goes, and how many calls were open to *count. Of a job the innermost 17 sites are kept, and no others are written. NONE: the
- * callback or the job returned, or none was run; or there was no memory for the job. */
+/* Writes the operation at which a loop's last callback stopped, or a job, or the last call of an instance, and the calls around it outwards,
+ * to `into`, as far as `room` goes, and how many calls were open to *count. Of a job the innermost 17 sites are kept, and no others are
+ * written. NONE: the callback, the job or the call returned, or none was run; or there was no memory for the job. RANGE: `room` is above
+ * PTRDIFF_MAX / 16. */
 int wasmloop_stop(wasmloop_handle *handle, wasmloop_site *into, size_t room, uint64_t *count);
 
 int wasmloop_standing_of(wasmloop_handle *loop, wasmloop_standing *standing);
@@ -222,23 +309,35 @@ int wasmloop_standing_of(wasmloop_handle *loop, wasmloop_standing *standing);
 int wasmloop_next_job(wasmloop_handle *loop, wasmloop_handle *job);
 
 /* Tells a loop that a job of its own is started, before it is run: a cancel of its request is then answered -16, not 0. STRANGER: the
- * request was cancelled, or was started before; the job need not be run. A job of another loop must not be given: its request's
- * number would be taken for one of this loop. A job that is never told so is run and accepted all the same. */
+ * request was cancelled, or was started before, and the job need not be run; or the job has another loop's number. KIND: the job was
+ * run. A job that is never told so is run and accepted all the same. */
 int wasmloop_job_start(wasmloop_handle *loop, wasmloop_handle *job);
 
 /* Runs a job, in any thread. KIND: it was run. No other handle is touched. */
 int wasmloop_job_run(wasmloop_handle *job);
 
+/* Runs a job, in any thread, for at most `units` units of fuel, at least 1, and writes to *over whether it is over: 1 where it is, and
+ * has its reply as if wasmloop_job_run had run it, with the same outcome, bytes and fuel; 0 where it has used all the units and
+ * some of its fuel is left, so that it may go on, in this thread or another. Between two slices it may be dropped at any time; every
+ * other call answers KIND of it. Memory is taken in the first slice alone: where it is refused there, the job is over with the outcome
+ * WASMLOOP_WORK_MEMORY. RANGE: `units` is 0. KIND: the job is over. */
+int wasmloop_job_run_for(wasmloop_handle *job, uint64_t units, uint32_t *over);
+
 /* Writes what a job is about, before or after its run. */
 int wasmloop_job_about(wasmloop_handle *job, wasmloop_about *about);
 
 /* Writes the bytes that a job may read, or those of its reply, to `into`, as far as `room` goes, and how many there are to *count.
- * wasmloop_job_reply answers NONE where the job was not run, or ended otherwise than by WASMLOOP_WORK_DONE. */
+ * wasmloop_job_reply answers NONE where the job was not run, or ended otherwise than by WASMLOOP_WORK_DONE. RANGE: `room` is above
+ * PTRDIFF_MAX. */
 int wasmloop_job_input(wasmloop_handle *job, uint8_t *into, size_t room, uint64_t *count);
 int wasmloop_job_reply(wasmloop_handle *job, uint8_t *into, size_t room, uint64_t *count);
 
-/* Brings a job that was run back to its loop, which empties the job's handle. STRANGER: the handle keeps it; drop it.
- * KIND: it was not run. */
+/* Writes where the bytes of a job's reply are, and how many, without a copy. They may be read, and stay there until the job is dropped or
+ * accepted; where there are none, *bytes may not be read. NONE: as of wasmloop_job_reply. */
+int wasmloop_job_view(wasmloop_handle *job, const uint8_t **bytes, uint64_t *count);
+
+/* Brings a job that was run back to its loop, which empties the job's handle. STRANGER: its request was cancelled, or is another
+ * loop's, or the loop has failed; the handle keeps it; drop it. KIND: it was not run. */
 int wasmloop_accept(wasmloop_handle *loop, wasmloop_handle *job);
 
 #ifdef __cplusplus

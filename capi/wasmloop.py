@@ -4,17 +4,16 @@
     with Module(open("crc32.wasm", "rb").read()) as module:
         print(module.work(0, b"abc").value)
 
-The library is the file that WASMLOOP_LIBRARY names, else libwasmloop.so as the system finds it. A Module may be used by several
-threads; a Loop by one at a time. A Job may be run in any thread.
+The library is the file that WASMLOOP_LIBRARY names, else libwasmloop.so.0 beside this file, as in a wheel, else as the system finds
+it. A Module may be used by several threads; a Loop by one at a time. A Job may be run in any thread.
 """
 
 import ctypes as c
 import functools
 import os
-import threading
 from typing import NamedTuple
 
-OK, NONE, EMPTY, KIND, MEMORY, REFUSED, RANGE, STRANGER, USED_UP, NULL, NO_WORK = range(11)
+OK, NONE, EMPTY, KIND, MEMORY, REFUSED, RANGE, STRANGER, USED_UP, NULL, NO_WORK, NOT_STARTED, ARGUMENTS = range(13)
 ENTERED, RAN, SKIPPED, OVER, FAILED = range(1, 6)
 BEGIN, TIMERS, IDLE, POLL, CHECK, CLOSING = range(6)
 FOREVER = 2**64 - 1
@@ -38,9 +37,13 @@ class About(c.Structure):
 
 
 Fault = _struct("Fault", u32="stage code place section", u64="byte function number")
-Shape = _struct("Shape", u32="main work after_work table", u64="imports")
+Shape = _struct("Shape", u32="main work after_work table pages most_pages", u64="imports")
 Site = _struct("Site", u64="function operation")
 Standing = _struct("Standing", u32="alive failed", u64="outstanding")
+
+
+class Turned(c.Structure):
+    _fields_ = [("did", Did), ("wait", c.c_uint64), ("callbacks", c.c_uint32), ("zero", c.c_uint32)]
 
 
 class Limits(c.Structure):
@@ -51,11 +54,32 @@ class Task(c.Structure):
     _fields_ = [("fuel", c.c_uint64), ("op", c.c_uint32), ("depth", c.c_uint32)]
 
 
+class CallLimits(c.Structure):
+    _fields_ = [("fuel", c.c_uint64), ("depth", c.c_uint32), ("zero", c.c_uint32)]
+
+
+class Ended(c.Structure):
+    _fields_ = [("ending", c.c_uint32), ("trap", c.c_uint32), ("results", c.c_uint64), ("used", c.c_uint64), ("result", c.c_uint64 * 16)]
+
+
+class Signature(c.Structure):
+    _fields_ = [("params", c.c_uint64), ("results", c.c_uint64), ("param", c.c_uint8 * 256), ("result", c.c_uint8 * 16)]
+
+
+_SAYS = {
+    EMPTY: "it was closed, or its job was accepted",
+    KIND: "the job was run already, or was not run yet",
+    MEMORY: "memory was refused",
+    USED_UP: "2^32 sends were made",
+    NO_WORK: "the module exports no uv_work",
+}
+
+
 class Error(Exception):
     """A call that was not done. `status` is its number."""
 
     def __init__(self, status, text=None):
-        super().__init__(text or _lib.wasmloop_status_name(status).decode())
+        super().__init__(text or _SAYS.get(status) or _lib.wasmloop_status_name(status).decode())
         self.status = status
 
 
@@ -67,7 +91,18 @@ class Refused(Error):
         self.fault = fault
 
 
-_lib = c.CDLL(os.environ.get("WASMLOOP_LIBRARY", "libwasmloop.so"))
+class Stopped(Error):
+    """A call that did not return. `ending` is "trap", "depth" or "spent", `trap` the trap's number or 0, and `used` the units of fuel."""
+
+    def __init__(self, what, ended):
+        self.ending = _lib.wasmloop_ending_name(ended.ending).decode()
+        self.trap, self.used = ended.trap, ended.used
+        name = _lib.wasmloop_trap_name(ended.trap)
+        super().__init__(OK, f"{what}: {self.ending}{f': {name.decode()}' if name else ''}, after {self.used} units")
+
+
+_beside = os.path.join(os.path.dirname(os.path.abspath(__file__)), "libwasmloop.so.0")
+_lib = c.CDLL(os.environ.get("WASMLOOP_LIBRARY") or (_beside if os.path.isfile(_beside) else "libwasmloop.so.0"))
 for _name in "version status_name trap_name fault_name ending_name outcome_name warning".split():
     getattr(_lib, f"wasmloop_{_name}").restype = c.c_char_p
 
@@ -78,17 +113,45 @@ def _call(name, *words):
         raise Error(status)
 
 
+def _data(given):
+    """The bytes of what is given: bytes, bytearray, memoryview, an array. A str has none until it is encoded."""
+    if isinstance(given, (str, int)):
+        raise TypeError(f"bytes are wanted, and {type(given).__name__} is there" + (": encode it" if isinstance(given, str) else ""))
+    return bytes(given)
+
+
+def _whole(name, value, least, most):
+    if not isinstance(value, int):
+        raise TypeError(f"{name}: a whole number is wanted, and {type(value).__name__} is there")
+    if not least <= value <= most:
+        raise Error(RANGE, f"{name} {value}: {least} to {most}")
+    return value
+
+
+def _bounds(fuel, depth):
+    return _whole("fuel", fuel, 0, 2**64 - 1), _whole("depth", depth, 1, 128)
+
+
 def version():
     return _lib.wasmloop_version().decode()
 
 
-def _explain(data):
-    size, count = c.c_size_t(len(data)), c.c_uint64()
-    if _lib.wasmloop_explain(data, size, None, c.c_size_t(0), c.byref(count)) != OK:
+def _text(name, *words):
+    """What a call writes that copies a text as far as there is room, or None where there is none."""
+    call, count = getattr(_lib, f"wasmloop_{name}"), c.c_uint64()
+    status = call(*words, None, c.c_size_t(0), c.byref(count))
+    if status == NONE:
         return None
-    room = c.create_string_buffer(count.value)
-    status = _lib.wasmloop_explain(data, size, room, c.c_size_t(len(room)), c.byref(count))
-    return room.raw.decode() if status == OK else None
+    if status == OK:
+        room = c.create_string_buffer(max(count.value, 1))
+        status = call(*words, room, c.c_size_t(count.value), c.byref(count))
+    if status != OK:
+        raise Error(status)
+    return room.raw[: count.value].decode(errors="replace")
+
+
+def _explain(data):
+    return _text("explain", data, c.c_size_t(len(data)))
 
 
 class _Held:
@@ -133,21 +196,30 @@ class Job(_Held):
         return about
 
     def input(self):
-        return self._bytes("job_input", self.about().bytes)
-
-    def _bytes(self, name, size):
-        room, count = c.create_string_buffer(max(size, 1)), c.c_uint64()
-        _call(name, self.handle, room, c.c_size_t(size), c.byref(count))
+        size, count = self.about().bytes, c.c_uint64()
+        room = c.create_string_buffer(max(size, 1))
+        _call("job_input", self.handle, room, c.c_size_t(size), c.byref(count))
         return room.raw[:size]
+
+    def _reply(self):
+        at, count = c.c_void_p(), c.c_uint64()
+        _call("job_view", self.handle, c.byref(at), c.byref(count))
+        return c.string_at(at, count.value) if count.value else b""
 
     def run(self):
         _call("job_run", self.handle)
         return self
 
+    def run_for(self, units):
+        """Runs it for at most so many units of fuel; True where it is over, as if run() had run it."""
+        over = c.c_uint32()
+        _call("job_run_for", self.handle, c.c_uint64(units), c.byref(over))
+        return bool(over.value)
+
     def reply(self):
         about = self.about()
         outcome = _lib.wasmloop_outcome_name(about.outcome).decode()
-        data = self._bytes("job_reply", about.reply) if outcome == "done" else b""
+        data = self._reply() if outcome == "done" else b""
         return Reply(outcome, c.c_int32(about.value).value, data, about.used)
 
     def stop(self):
@@ -160,7 +232,7 @@ class Module(_Held):
 
     def __init__(self, data):
         super().__init__()
-        self.lock, fault = threading.Lock(), Fault()
+        fault, data = Fault(), _data(data)
         status = _lib.wasmloop_load(data, c.c_size_t(len(data)), c.byref(self.handle), c.byref(fault))
         if status == REFUSED:
             raise Refused(fault, _explain(data))
@@ -169,8 +241,7 @@ class Module(_Held):
 
     def shape(self):
         shape = Shape()
-        with self.lock:
-            _call("shape_of", self.handle, shape)
+        _call("shape_of", self.handle, shape)
         return shape
 
     @property
@@ -181,10 +252,24 @@ class Module(_Held):
             told.append(text.decode())
         return told
 
+    def function(self, name):
+        """The bits of each parameter and of each result of the function that is exported as `name`."""
+        told = Signature()
+        status = _lib.wasmloop_function(c.byref(self.handle), name.encode(), c.byref(told))
+        if status != OK:
+            raise Error(status, f"no function is exported as {name!r}" if status == NONE else None)
+        return [32 * it for it in told.param[: told.params]], [32 * it for it in told.result[: told.results]]
+
+    def instance(self, fuel=1_000_000, depth=64):
+        """An instance that keeps its memory from call to call."""
+        return Instance(self, fuel, depth)
+
     def job(self, op, data=b"", fuel=1_000_000, depth=64):
-        job = Job()
-        with self.lock:
-            _call("job_new", self.handle, Task(fuel, op, depth), data, c.c_size_t(len(data)), job.handle)
+        """Work on `op`, from -2^31 to 2^32 - 1, and on at most 65,536 bytes."""
+        job, data, (fuel, depth) = Job(), _data(data), _bounds(fuel, depth)
+        _whole("length", len(data), 0, 65_536)
+        task = Task(fuel, _whole("op", op, -(2**31), 2**32 - 1) % 2**32, depth)
+        _call("job_new", self.handle, task, data, c.c_size_t(len(data)), job.handle)
         return job
 
     def work(self, op, data=b"", fuel=1_000_000, depth=64):
@@ -193,18 +278,109 @@ class Module(_Held):
             return job.run().reply()
 
 
+class Memory:
+    """The memory of an instance, as bytes: memory[at:at + n], memory[at:at + n] = data, len(memory)."""
+
+    def __init__(self, instance):
+        self._instance = instance
+
+    def __len__(self):
+        count = c.c_uint64()
+        _call("size", self._instance.handle, c.byref(count))
+        return count.value
+
+    def _range(self, index):
+        if not isinstance(index, slice) or index.step not in (None, 1):
+            raise TypeError("a memory is read and written by slices, memory[at:at + n]")
+        start = 0 if index.start is None else index.start
+        stop = len(self) if index.stop is None else index.stop
+        if not 0 <= start <= stop < 2**32:
+            raise Error(RANGE, f"no bytes {start} to {stop} of a memory")
+        return start, stop - start
+
+    def __getitem__(self, index):
+        at, count = self._range(index)
+        room = (c.c_uint8 * count)()
+        _call("read", self._instance.handle, c.c_uint32(at), room, c.c_size_t(count))
+        return bytes(room)
+
+    def __setitem__(self, index, data):
+        at, count = self._range(index)
+        data = bytes(memoryview(data))
+        if len(data) != count:
+            raise ValueError(f"{len(data)} bytes for a place of {count}")
+        _call("write", self._instance.handle, c.c_uint32(at), data, c.c_size_t(count))
+
+
+class Instance(_Held):
+    """An instance of a module that keeps its memory and globals from call to call. Its imports answer -1. One thread at a time."""
+
+    def __init__(self, module, fuel=1_000_000, depth=64):
+        super().__init__()
+        self.module, self.memory, self.used, self._types, ended = module, Memory(self), 0, {}, Ended()
+        status = _lib.wasmloop_instance(c.byref(module.handle), c.byref(_limits(fuel, depth)), c.byref(self.handle), c.byref(ended))
+        if status == NOT_STARTED:
+            raise Stopped("the start function", ended)
+        if status != OK:
+            raise Error(status)
+        self.used = ended.used
+
+    def call(self, name, *args, fuel=1_000_000, depth=64):
+        """Calls the function that is exported as `name`, with whole numbers, negative or not. Its results as signed numbers: nothing where it has
+        none, the one where it has one, else a tuple. A call that doesn't return raises Stopped, and the instance stays as it is then."""
+        kinds = self._types.get(name)
+        if kinds is None:
+            kinds = self._types[name] = self.module.function(name)
+        if len(args) != len(kinds[0]):
+            raise TypeError(f"{name} takes {len(kinds[0])} numbers, not {len(args)}")
+        numbers = (c.c_uint64 * len(args))(*(_number(it, bits) for it, bits in zip(args, kinds[0])))
+        ended = Ended()
+        status = _lib.wasmloop_call(c.byref(self.handle), name.encode(), numbers, c.c_size_t(len(args)), c.byref(_limits(fuel, depth)), c.byref(ended))
+        if status != OK:
+            raise Error(status)
+        self.used = ended.used
+        if ended.ending:
+            raise Stopped(name, ended)
+        told = tuple((it ^ 1 << bits - 1) - (1 << bits - 1) for it, bits in zip(ended.result[: ended.results], kinds[1]))
+        return told[0] if len(told) == 1 else told or None
+
+    def stop(self):
+        """Where the last call stopped and the calls around it, as (function, operation), or nothing where it returned."""
+        return self._stop(128)
+
+
+def _limits(fuel, depth):
+    if not (isinstance(fuel, int) and 0 <= fuel < 2**64 and isinstance(depth, int) and 1 <= depth <= 128):
+        raise Error(RANGE, f"fuel {fuel!r} of 0 to 2^64 - 1, depth {depth!r} of 1 to 128")
+    return CallLimits(fuel, depth, 0)
+
+
+def _number(value, bits):
+    if not isinstance(value, int) or not -(1 << bits - 1) <= value < 1 << bits:
+        raise Error(ARGUMENTS, f"{value!r} is no number of {bits} bits")
+    return value & (1 << bits) - 1
+
+
 class Loop(_Held):
     """A loop of a module."""
 
     def __init__(self, module, number=0, fuel=1_000_000, work_fuel=1_000_000, depth=64):
         super().__init__()
-        with module.lock:
-            _call("loop", module.handle, Limits(fuel, work_fuel, number, depth), self.handle)
+        fuel, depth = _bounds(fuel, depth)
+        work_fuel, number = _whole("work_fuel", work_fuel, 0, 2**64 - 1), _whole("number", number, 0, 2**32 - 1)
+        _call("loop", module.handle, Limits(fuel, work_fuel, number, depth), self.handle)
+        self.turned = Turned()
 
     def step(self):
         did = Did()
         _call("step", self.handle, did)
         return did
+
+    def turn(self, most=2**32 - 1):
+        """Takes steps until the timers phase is entered, a callback puts out values or doesn't return, so many have run, or the loop is over. The
+        last step is `did` of what it returns, and `wait` for how many milliseconds there is nothing to do but for replies and sends."""
+        _call("turn", self.handle, c.c_uint32(_whole("most", most, 1, 2**32 - 1)), self.turned)
+        return self.turned
 
     def emits(self):
         room, count = (c.c_int64 * 64)(), c.c_uint32()
@@ -213,7 +389,7 @@ class Loop(_Held):
 
     def clock(self, ms):
         now = c.c_uint64()
-        _call("clock", self.handle, c.c_uint64(ms), c.byref(now))
+        _call("clock", self.handle, c.c_uint64(_whole("ms", ms, 0, 2**64 - 1)), c.byref(now))
         return now.value
 
     def hint(self):
@@ -228,11 +404,11 @@ class Loop(_Held):
         return standing
 
     def send(self, number):
-        _call("async_send", self.handle, c.c_uint32(number))
+        _call("async_send", self.handle, c.c_uint32(_whole("number", number, 0, 15)))
 
     def cancel(self, request):
         answer = c.c_int32()
-        _call("cancel", self.handle, c.c_uint32(request), c.byref(answer))
+        _call("cancel", self.handle, c.c_uint32(_whole("request", request, 0, 2**32 - 1)), c.byref(answer))
         return answer.value
 
     def next_job(self):
@@ -245,7 +421,7 @@ class Loop(_Held):
         return job
 
     def start(self, job):
-        """Tells the loop that a job is started. False where its request was cancelled."""
+        """Tells the loop that a job is started. False where its request was cancelled, or is another loop's."""
         status = _lib.wasmloop_job_start(c.byref(self.handle), c.byref(job.handle))
         if status not in (OK, STRANGER):
             raise Error(status)

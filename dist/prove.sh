@@ -1,15 +1,29 @@
 #!/bin/sh
-# Proves all that the program stands on and builds it, from nothing, in a folder of its own, and says whether its bytes are those of
-# dist/wasmloop. It needs the kit and Python 3, and 2.5 GB of disk space.
+# Proves all that program and library stand on and builds them, from nothing, in a folder of its own, and says whether the bytes are those
+# of dist/. It needs the kit and Python 3, and 2.5 GB of disk space.
+#
+# usage: dist/prove.sh [program|library]
 set -eu
 top=$(cd "$(dirname "$0")/.." && pwd)
 folder=$(mktemp -d)
 trap 'rm -rf "$folder"' EXIT
-cp -r "$top/build.py" "$top/HANDLES" "$folder"
-(cd "$top" && dist/sums.sh | sed -n 's/^[0-9a-f]\{64\}  //p' | xargs cp --parents -t "$folder")
+cp -r "$top/build.py" "$top/HANDLES" "$top/capi" "$top/dist" "$folder"
+"$top/dist/sums.sh" | sed -n 's/^[0-9a-f]*  \([a-z_]*\)[^:]*:.*/\1/p' | while read -r crate; do
+    mkdir -p "$folder/crates/$crate"
+    for part in src specs proofs; do
+        [ ! -d "$top/crates/$crate/$part" ] || cp -r "$top/crates/$crate/$part" "$folder/crates/$crate"
+    done
+done
 # (the kit refuses a crate that is named and isn't there)
 while read -r line; do
-    [ ! -d "$folder/crates/${line%%:*}/src" ] || echo "$line"
+    [ ! -d "$folder/crates/${line%%[ :]*}/src" ] || echo "$line"
 done <"$top/crates.txt" >"$folder/crates.txt"
-python3 "$folder/build.py" wasmloop
-"$top/dist/same.sh" "$folder/crates/wasmloop/out/wasmloop"
+if [ "${1:-program}" = program ]; then
+    python3 "$folder/build.py" wasmloop
+    "$top/dist/same.sh" program "$folder/crates/wasmloop/out/wasmloop"
+fi
+if [ "${1:-library}" = library ]; then
+    python3 "$folder/build.py" wasmloop_c
+    "$folder/dist/link.sh" "$folder/linked"
+    "$top/dist/same.sh" library "$folder/linked"
+fi

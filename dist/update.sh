@@ -1,8 +1,20 @@
 #!/bin/sh
-# Brings the shipped program up to date: proves and builds what has changed, and writes dist/wasmloop, its sum and those of its sources.
+# Brings what is shipped up to date: proves and builds what has changed, and writes program and library, their sums, those of their sources,
+# the manual pages, and the statement of proof. With the outputs of runs of `rt ci` over these sources, the last one last, it takes what
+# that has proved and built.
+#
+# usage: dist/update.sh [LOG..]
 set -eu
-cd "$(dirname "$0")"
-python3 ../build.py wasmloop
-cp ../crates/wasmloop/out/wasmloop wasmloop
-sha256sum wasmloop >SHA256
-./sums.sh >SOURCES
+dist=$(cd "$(dirname "$0")" && pwd)
+if [ $# -eq 0 ]; then
+    python3 "$dist/../build.py" wasmloop
+    python3 "$dist/../build.py" wasmloop_c
+else
+    python3 "$dist/../build.py" wasmloop_c --over-gate
+fi
+cp "$dist/../crates/wasmloop/out/wasmloop" "$dist/wasmloop"
+"$dist/link.sh" "$dist"
+"$dist/../tools/pages.py" "$dist/wasmloop"
+(cd "$dist" && sha256sum wasmloop libwasmloop.a libwasmloop.so.0 >SHA256)
+"$dist/sums.sh" >"$dist/SOURCES"
+"$dist/../tools/statement.py" ${1:+--of "$@"}

@@ -1,6 +1,6 @@
 #!/bin/sh
 # `bucket.sh PROGRAM` runs bucket.c as a guest under `serve` and as a program of libuv (Debian: libuv1-dev), prints both
-# lines and ends with 1 where they differ. libuv's clock is the real one: refills and requests lie 50 ms apart, and where
+# lines and ends with 1 if they differ. libuv's clock is the real one: refills and requests lie 50 ms apart, and where
 # the machine is so busy that a timer came later still, it is run again, three times at most.
 set -eu
 here=$(cd "$(dirname "$0")" && pwd)

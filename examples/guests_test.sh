@@ -1,7 +1,7 @@
 #!/bin/sh
-# Follows docs/GUESTS.md in an empty folder: `guests_test.sh PROGRAM`. Files, commands and what they print are cut out of
-# the page, LOOP is this repository with PROGRAM as its `wasmloop`. It ends with 1 where something fails or is not what the
-# page says. What lacks a package is left out, and said; zlib's source comes by apt (APT_CONFIG may name other lists).
+# Follows docs/GUESTS.md, and what examples/kit says of a library, in an empty folder: `guests_test.sh PROGRAM`. Files, commands and what
+# they print are cut out of the pages, LOOP is this repository with PROGRAM as its `wasmloop`. It ends with 1 if something fails or is not
+# what the page says. What lacks a package is left out, and said; zlib's source comes by apt (APT_CONFIG may name other lists).
 set -u
 top=$(cd "$(dirname "$0")/.." && pwd)
 page=$top/docs/GUESTS.md
@@ -71,6 +71,7 @@ cargo_template() {
         "$(inline 'loop 0 over emits 10')"
 }
 library() {
+    page=$top/examples/kit/README.md
     if ! block 'apt-get source' | sh -e >told 2>problem; then
         left_out "a library: $(tail -n 1 problem)"
         return

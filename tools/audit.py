@@ -1,34 +1,49 @@
 #!/usr/bin/env python3
 """Which definitions must be read to believe the headline.
 
-    python3 tools/audit.py            compares docs/AUDIT.md with the sources; status 1 where they disagree
-    python3 tools/audit.py --renew    writes the page's numbers anew; a file in no row, or in one too many, is left to its reader
+    python3 tools/audit.py            compares docs/AUDIT.md and docs/AUDIT.sums with the sources; status 1 where they disagree
+    python3 tools/audit.py --renew    writes the page's numbers and the sums anew; a file in no row, or in one too many, and the
+                                      list of Inner are left to their reader
+    python3 tools/audit.py --mutate N [--seed S]    makes N small changes of believed lines, each in a copy, and says how many of
+                                      them were noticed there
     python3 tools/audit.py --files    prints each file that is reached, with how many of its lines
     python3 tools/audit.py --names    prints each definition that is reached, with its lines
     python3 tools/audit.py --rest     prints each file of definitions of which nothing is reached
+    python3 tools/audit.py --inner    prints what of specs/Inner a public clause reaches, and by which calls
     python3 tools/audit.py --kit      prints the words of the kit's crates that are reached
     python3 tools/audit.py --files --from interp::invoke ..     the same from these calls in place of the page's
 
 It starts from the calls that docs/AUDIT.md lists, takes their clauses and the types of their arguments, follows each name
 to its definition, and so on. Of a Rust type it takes the fields, and the ghost fields where they are public; where the
-type has a `Model`, its `Value` alone. It follows no invariant, no `view` and no private ghost field. A name is a token: a
-bound variable that is called as a definition counts as that. So it may ask for some lines too many, and leaves none out.
+type has a `Model`, its `Value` alone. Of an `impl` of a trait for it, the clauses, and the ghost items that a clause of the
+trait names (the others are proofs); of a trait of this repository only where that is reached. It follows no invariant, no
+`view`, no private ghost field, and no `impl From`, which says what a `?` makes. A name is a token: a bound variable that is
+called as a definition counts as that. So it may ask for some lines too many, and leaves none out.
 
-It also compares what is reached with where it stands: nothing of specs/Inner is reached by these calls, and a file of specs/
-outside Inner is reached by them, by a call that docs/PROOFS.md names, or by a public call of a public module.
+docs/AUDIT.sums has a sum (tools/sums.py) of each clause of a call that docs/AUDIT.md or docs/PROOFS.md names, or that is public in a
+public module, and of each definition that these reach: who changes a believed line has to renew it, and the difference shows
+which was changed.
+
+It also compares what is reached with where it stands: what these calls reach of specs/Inner is what the page lists, and a file
+of specs/ outside Inner is reached by one of them.
 """
 import re
 import sys
 from pathlib import Path
 
+import sums
+
 TOP = Path(__file__).resolve().parent.parent
 CRATES, PAGE, PROOFS = TOP / 'crates', TOP / 'docs' / 'AUDIT.md', TOP / 'docs' / 'PROOFS.md'
 WORD = r"[A-Za-z_][\w'-]*"
 NAMES = re.compile(rf"{WORD}(?:\.{WORD})*|[^\w\s]")
-ANTT = re.compile(rf"^(  )?(?:(?:abbrev|unfoldable) pub|pub (?:record|data)) (◌.◌|{WORD})|^()pub (?!mod )({WORD}) :")
+ANTT = re.compile(rf"^(  )?(?:(?:abbrev|unfoldable)(?: pub)?|(?:pub )?(?:record|data)) (◌.◌|{WORD})|^()(?:pub )?(?!mod )({WORD}) :")
+PUBLIC = re.compile(r"^ *(?:abbrev|unfoldable) pub |^ *pub (?:record|data) |^pub (?!mod )", re.M)
 ITEM = re.compile(rf"^(?:pub(?:\([a-z]+\))? )?(struct|enum|trait|const) ({WORD})")
 BLOCK = re.compile(rf"^(?:pub )?(impl|trait)(?:<.*?>(?= ))? (?:(\w+)(?:<.*>)? for )?({WORD})")
 DOC = r"\s*(///|#\[)"
+GHOST = re.compile(r"\s+ghost (\w+) = \{")
+STANDING = {'view', 'invariant', 'Value'}  # of an `impl Model`
 FN = re.compile(rf"^(\s*)(pub )?(?:const )?(?:extern .C. )?fn ({WORD})")
 
 
@@ -49,10 +64,20 @@ def plain(text, comment):
 
 
 class Node:
-    """A definition: the lines that it stands in, its text, and what the words of that stand for."""
+    """A definition: the lines that it stands in, its text, and what the words of that stand for. A call is of a type, or of ''."""
 
-    def __init__(self, file, name, lines, text, scope):
-        self.file, self.name, self.lines, self.text, self.scope = file, name, lines, text, scope
+    def __init__(self, file, name, lines, written, scope, of=None):
+        self.file, self.name, self.lines, self.written, self.scope, self.of = file, name, lines, written, scope, of
+        self.place, self.suffix = str(file.relative_to(CRATES).with_suffix('')), file.suffix
+        self.text, self.names = plain(written, '--' if self.suffix == '.antt' else '//'), None
+
+    @property
+    def words(self):
+        return set(NAMES.findall(self.text))
+
+    @property
+    def is_call(self):
+        return self.of is not None and not self.name.startswith('impl ')
 
 
 class Scope:
@@ -84,11 +109,18 @@ class Tree:
     """All definitions of the repository by file and name, and the public calls of each type."""
 
     def __init__(self):
-        self.nodes, self.calls, self.kit = {}, {}, set()
+        self.nodes, self.calls, self.kit, self.impls, self.types, self.kept = {}, {}, set(), [], {}, {}
         for file in sorted(CRATES.glob('*/specs/**/*.antt')):
             self.read_specs(file)
         for file in sorted(CRATES.glob('*/src/**/*.rt')):
             self.read_code(file)
+        for file, name in self.nodes:
+            if file.suffix == '.rt':
+                self.types.setdefault((file.relative_to(CRATES).parts[0], name), []).append(file)
+        self.impls_of = {}
+        for trait, node in self.impls:
+            of = self.resolve(node, node.of)
+            self.impls_of.setdefault(id(of), []).append((self.resolve(node, trait), node))
 
     def read_specs(self, file):
         lines, scope, around, starts = read(file).split('\n'), Scope(file), '', []
@@ -105,10 +137,10 @@ class Tree:
         for (begin, name, outer), (end, _, _) in zip(starts, starts[1:] + [(len(lines), None, '')]):
             if name:
                 kept = [at for at in range(begin, end) if lines[at].strip()]
-                text = plain('\n'.join([outer] + [lines[at] for at in kept]), '--')
-                node = self.nodes[file, name] = Node(file, name, kept, text, scope)
-                if re.search(rf"\bdata {name}\b", text):  # a constructor's name leads to its type
-                    for word in ' '.join(re.findall(rf"^\s+({WORD}(?: {WORD})*) :", text, re.M)).split():
+                node = Node(file, name, kept, '\n'.join([outer] + [lines[at] for at in kept]), scope)
+                self.nodes[file, name] = node
+                if re.search(rf"\bdata {name}\b", node.text):  # a constructor's name leads to its type
+                    for word in ' '.join(re.findall(rf"^\s+({WORD}(?: {WORD})*) :", node.text, re.M)).split():
                         self.nodes.setdefault((file, word), node)
 
     def read_code(self, file):
@@ -119,20 +151,20 @@ class Tree:
         for at, line in enumerate(lines):
             if BLOCK.match(line):
                 first, model, of = BLOCK.match(line).groups()
-                inside, header, kind = Scope(file, scope), line, model or first
+                inside, header, kind, begin = Scope(file, scope), line, model or first, at
             elif line == '}':
+                if header and kind not in ('impl', 'trait', 'Model', 'From'):
+                    self.add_impl(file, lines, begin, at, kind, of, inside)
                 inside, header, kind, of = scope, '', '', ''
             elif line.strip().startswith('ghost use '):
                 inside.specs(line)
             elif kind == 'Model' and line.strip().startswith('ghost Value ='):
-                self.nodes[file, of + ' Value'] = Node(file, of, [at], line, inside)
+                self.nodes[file, of + ' Value'] = Node(file, of + ' Value', [at], line, inside)
             found = FN.match(line)
             if found and found.group(2) and kind in ('', 'impl'):
-                end = at
-                while not re.match(rf"{found.group(1)}\{{|.*(\{{|\{{\}}|;)$", lines[end]):
-                    end += 1
-                body = plain('\n'.join([header] + lines[at:end + 1]), '//')
-                node = Node(file, found.group(3), range(above(lines, at, DOC), end + 1), body, inside)
+                end = self.end_of_contract(lines, at, found.group(1))
+                told = '\n'.join([header] + lines[at:end + 1])
+                node = Node(file, found.group(3), range(above(lines, at, DOC), end + 1), told, inside, of)
                 self.calls.setdefault((file, of), []).append(node)
             if ITEM.match(line):
                 end = at
@@ -140,18 +172,42 @@ class Tree:
                     end += 1
                 self.add_item(file, lines, at, end, inside)
 
+    @staticmethod
+    def end_of_contract(lines, at, indent):
+        while not re.match(rf"{indent}\{{|.*(\{{|\{{\}}|;)$", lines[at]):
+            at += 1
+        return at
+
+    def add_impl(self, file, lines, begin, end, trait, of, scope):
+        """The clauses and the ghost items of an `impl Trait for Type`."""
+        kept = []
+        for at in range(begin + 1, end):
+            function, item = FN.match(lines[at]), GHOST.match(lines[at])
+            if function:
+                last = self.end_of_contract(lines, at, function.group(1))
+                if any(re.match(r"\s+(requires|ensures)", line) for line in lines[at:last + 1]):
+                    kept += range(at, last + 1)
+            elif item and item.group(1) not in STANDING:
+                last = at
+                while not lines[last].endswith('};'):
+                    last += 1
+                kept += range(at, last + 1)
+        if kept:
+            told = '\n'.join([lines[begin]] + [lines[at] for at in kept])
+            self.impls.append((trait, Node(file, f"impl {trait} for {of}", [begin] + kept, told, scope, of)))
+
     def add_item(self, file, lines, at, end, scope):
         kind, name = ITEM.match(lines[at]).groups()
         for line in lines[at:end + 1]:
             if line.strip().startswith('ghost use '):
                 scope.specs(line)
         private = r"\s+ghost use " if kind == 'trait' else r"\s+ghost "
-        body = plain('\n'.join(line for line in lines[at:end + 1] if not re.match(private, line)), '//')
-        self.nodes[file, name] = Node(file, name, range(above(lines, at, DOC), end + 1), body, scope)
+        told = '\n'.join(line for line in lines[at:end + 1] if not re.match(private, line))
+        self.nodes[file, name] = Node(file, name, range(above(lines, at, DOC), end + 1), told, scope)
 
     def rust_type(self, crate, module, name):
         """A Rust type of a crate: the module's that is named, or else the first of this name."""
-        found = [file for file, named in self.nodes if named == name and file.is_relative_to(CRATES / crate / 'src')]
+        found = self.types.get((crate, name), [])
         for file in [file for file in found if file.stem == module] + found:
             return self.nodes.get((file, name + ' Value')) or self.nodes[file, name]
 
@@ -162,9 +218,15 @@ class Tree:
             return self.at_path(node.scope.aliases[first], rest.split('.')[0])
         if first in node.scope.names:
             return self.at_path(*node.scope.names[first])
-        if node.file.suffix == '.rt':
+        if node.suffix == '.rt':
             return self.rust_type(node.scope.crate, node.file.stem, first)
         return self.nodes.get((node.file, first))
+
+    def named_by(self, node):
+        """The definitions that its words stand for."""
+        if node.names is None:
+            node.names = list(filter(None, [self.resolve(node, word) for word in node.words]))
+        return node.names
 
     def at_path(self, path, name):
         if path.startswith('rust '):
@@ -180,12 +242,29 @@ class Tree:
         elif parts[3] != 'contracts':  # that is how a value is coded, which no clause speaks of
             return self.nodes.get((CRATES.joinpath(parts[1], 'specs', *parts[3:]).with_suffix('.antt'), name))
 
+    def of_trait(self, impl, trait):
+        """An impl with its clauses, and of its ghost items those that a clause of the trait names; the others are proofs."""
+        def is_named(item):
+            word = GHOST.match(item).group(1)
+            return len(re.findall(rf"\b{word}\b", trait.text)) > 1 if trait else True
+        items = re.findall(r"^ +ghost .*?\};$", impl.written, re.M | re.S)
+        unnamed = [item for item in items if not is_named(item)]
+        if not unnamed:
+            return impl
+        told = impl.written
+        for item in unnamed:
+            told = told.replace(item, '')
+        lines = [impl.lines[at] for at, line in enumerate(impl.written.split('\n')) if line in told]
+        return self.kept.setdefault(id(impl), Node(impl.file, impl.name, lines, told, impl.scope, impl.of))
+
     def roots(self, call):
-        """`crate::function`, `crate::module::function`, `crate::Type` (all its public calls) or `crate::Type::function`"""
+        """`crate::function`, `crate::module::function`, `crate::Type` (all its public calls), `crate::Type::function`, or a crate
+        with all calls that it exports to C"""
         crate, *path = call.split('::')
         found = [node for (file, of), nodes in self.calls.items() for node in nodes if node.scope.crate == crate
-                 and ([of, node.name] == path or [of] == path or not of and path in ([node.name], [file.stem, node.name]))]
-        item = self.rust_type(crate, '', path[-1])
+                 and ([of, node.name] == path or [of] == path or not of and path in ([node.name], [file.stem, node.name])
+                      or not path and 'extern' in node.text)]
+        item = self.rust_type(crate, '', path[-1]) if path else None
         return found + ([item] if item else []) or sys.exit(f"audit: there is no public call {call}")
 
     def public_calls(self):
@@ -202,30 +281,68 @@ class Tree:
         return self.reach_from([node for call in calls for node in self.roots(call)])
 
     def reach_from(self, nodes):
-        reached, waiting = {}, list(nodes)
+        reached, waiting, held = {}, list(nodes), []
         while waiting:
             node = waiting.pop()
             if node and id(node) not in reached:
                 reached[id(node)] = node
-                waiting += [self.resolve(node, word) for word in set(NAMES.findall(node.text))]
+                waiting += self.named_by(node)
+                held += self.impls_of.get(id(node), [])
+            if not waiting:  # the impls of the types that are reached, of the kit's traits and of those that are reached
+                waiting = [self.of_trait(impl, trait) for trait, impl in held if not trait or id(trait) in reached]
+                held = [(trait, impl) for trait, impl in held if trait and id(trait) not in reached]
         return reached.values()
 
 
 def named_in(page):
     """The calls that a page names."""
-    return sorted(set(re.findall(r"`([a-z_]+::[\w:]+)`", page)) - {'crate::call'})
+    return sorted(set(re.findall(r"`([a-z_]+::[\w:]+)`|^- `(\w+)`:", page, re.M)) - {('crate::call', '')})
 
 
-def misplaced(tree, reached):
-    """What stands in specs/Inner and is reached, and what stands outside and is not."""
-    yield from (f"{name} is reached, and stands in Inner" for name in sorted(reached) if '/specs/Inner' in name)
-    more = tree.reach_from([node for call in named_in(read(PROOFS)) for node in tree.roots(call)] + list(tree.public_calls()))
-    told = {str(node.file.relative_to(CRATES)) for node in more} | set(reached)
-    for name in sorted({str(file.relative_to(CRATES)) for file, _ in tree.nodes if file.suffix == '.antt'} - told):
-        if '/specs/Inner' not in name:
+def listed(page):
+    """The calls of the headline, which the page numbers."""
+    return re.findall(r"`([a-z_]+::[\w:]+)`", '\n'.join(re.findall(r"^\d+\. .*", page, re.M)))
+
+
+def calls_of(tree, headline):
+    """The calls of the headline, those that PROOFS names, and all other public ones."""
+    exporting = {node.scope.crate for nodes in tree.calls.values() for node in nodes if 'extern' in node.text}
+    named = {call or crate for call, crate in named_in(read(PROOFS)) if call or crate in exporting}
+    found = [node for call in sorted({*headline, *named}) for node in tree.roots(call)] + list(tree.public_calls())
+    return list({id(node): node for node in found if not node.scope.crate.startswith('test_')}.values())
+
+
+def inner_reached(tree, calls):
+    """What of specs/Inner these calls reach: for each file the definitions, and the calls."""
+    found = {}
+    for call in calls:
+        for node in tree.reach_from([call]):
+            if '/Inner' in node.place:
+                names, by = found.setdefault(node.place, (set(), set()))
+                names.add(node.name)
+                by.add('::'.join(filter(None, [call.scope.crate, call.of or '', call.name])))
+    return found
+
+
+def inner_lines(tree, calls):
+    """The lines of the page that say so."""
+    for place, (names, by) in sorted(inner_reached(tree, calls).items()):
+        names, first, more = ' '.join(sorted(names)), sorted(by)[0], len(by) - 1
+        yield f"- {place}: {names}; by `{first}`{f' and {more} more' if more else ''}"
+
+
+def misplaced(tree, page, reached, calls):
+    """What stands in specs/Inner and is reached, if the page doesn't say so; and what stands outside and is not."""
+    told, found = set(re.findall(r"^- \w+/specs/Inner.*", page, re.M)), set(inner_lines(tree, calls))
+    yield from (f"docs/AUDIT.md: it doesn't say: {line}" for line in sorted(found - told))
+    yield from (f"docs/AUDIT.md: this is not so: {line}" for line in sorted(told - found))
+    more = {node.place + node.suffix for node in tree.reach_from(calls)} | set(reached)
+    for name in sorted({str(file.relative_to(CRATES)) for file, _ in tree.nodes if file.suffix == '.antt'} - more):
+        if '/specs/Inner' not in name and PUBLIC.search(read(CRATES / name)):  # else it has lemmas alone
             yield f"{name}: no public clause reaches it, and it stands outside Inner"
 
 
+KINDS = 'definition', 'clause'
 ROW = re.compile(r"^\| ([a-z_]+/(?:specs|src)(?:/\w+)*: [^|]*) \| (\d+ of \d+) \|", re.M)
 
 
@@ -271,10 +388,13 @@ def totals(counts):
 
 
 def main():
+    if '--mutate' in sys.argv:
+        import mutate
+        return mutate.main(sys.argv)
     options, tree, page = sys.argv[1:], Tree(), read(PAGE) if PAGE.is_file() else ''
-    listed = re.findall(r"`([a-z_]+::[\w:]+)`", '\n'.join(re.findall(r"^\d+\. .*", page, re.M)))
+    headline = listed(page)
     by_file, counts = {}, {}
-    for node in tree.reach(options[options.index('--from') + 1:] if '--from' in options else listed):
+    for node in tree.reach(options[options.index('--from') + 1:] if '--from' in options else headline):
         by_file.setdefault(node.file, []).append(node)
     for file, nodes in sorted(by_file.items()):
         name = str(file.relative_to(CRATES))
@@ -289,10 +409,18 @@ def main():
         if option in options:
             print('\n'.join(sorted(names)))
     print('\n'.join(totals(counts)))
+    if '--from' in options:
+        return
+    calls = calls_of(tree, headline)
+    told = sums.sums(tree.reach_from(calls))
+    if '--inner' in options:
+        print('\n'.join(inner_lines(tree, calls)))
     if '--renew' in options:
         page = renew(PAGE.read_text(), counts)
         PAGE.write_text(page)
-    wrong = [] if '--from' in options else [f"docs/AUDIT.md: {line}" for line in compare(page, counts)] + list(misplaced(tree, counts))
+        sums.renew(told, KINDS)
+    wrong = [f"docs/AUDIT.md: {line}" for line in compare(page, counts)] + list(misplaced(tree, page, counts, calls))
+    wrong += [f"docs/AUDIT.sums: {line}" for line in sums.differences(told, KINDS)]
     for line in wrong:
         print(line, file=sys.stderr)
     sys.exit(1 if wrong else 0)

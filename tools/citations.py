@@ -1,35 +1,131 @@
 #!/usr/bin/env python3
 """Whether each call and clause that docs/PROOFS.md names is in the sources, and each file and heading that a page links to is there.
 
-    python3 tools/citations.py        status 1 where one isn't
+    python3 tools/citations.py            status 1 where one isn't
+    python3 tools/citations.py --renew    writes the facts of docs/AUDIT.sums anew
 
 A line of the page that begins with calls, as "- `crate::call` `clause`, `clause`: ..", is one fact; "- the same `clause`: .." is
-one of the calls above it. A call without a clause has a clause without a name, or is a type with a fact in its type.
+one of the calls above it. A call without a clause has a clause without a name, or is a type with a fact in its type: a ghost field
+of the name that the line gives, or else an invariant or a ghost field; or, by its `impl`, one of the traits that the line names. A
+crate alone is all that it exports to C.
+
+docs/AUDIT.sums has two sums of each fact: of the line, and of the clauses that it tells. Where one is another than it was, the two
+are to be read beside each other again, and the sums renewed.
 """
 import re
 import sys
 
+import sums
 from audit import TOP, Tree, read
 
-
-def clauses(node):
-    """The names of a call's clauses, '' for one without a name."""
-    return re.findall(r"\b(?:requires|ensures)\*?(?: (\w+))? \{", node.text)
+FACT = re.compile(r"- ((?:`[a-z_]+::[\w:]+`|`\w+`|the same)[^:]*(?:::[^:]+)*?):(?: |$)")
+PROOFS = TOP / 'docs' / 'PROOFS.md'
 
 
-def wrong(tree, call, named):
-    """What a line says of a call that is not so."""
-    crate, *path = call.split('::')
-    found = [node for (file, of), nodes in tree.calls.items() for node in nodes if node.scope.crate == crate
-             and ([of, node.name] == path or not of and path in ([node.name], [file.stem, node.name]))]
-    if not found:
-        if not tree.rust_type(crate, '', path[-1]):
-            yield f"there is no call or type {call}"
-        return
-    known = {name for node in found for name in clauses(node)}
-    for name in named or ['']:
-        if name not in known:
-            yield f"{call} has no clause {name or 'without a name'}; it has {', '.join(sorted(known))}"
+class Clauses:
+    """The clauses of the calls and types: for each its name, and its sum."""
+
+    def __init__(self, tree):
+        self.tree, self.exporting = tree, {}
+        for nodes in tree.calls.values():
+            for node in nodes:
+                if 'extern' in node.text:
+                    self.exporting.setdefault(node.scope.crate, []).append(node)
+
+    def of_calls(self, call):
+        crate, *path = call.split('::')
+        return [node for (file, of), nodes in self.tree.calls.items() for node in nodes if node.scope.crate == crate
+                and ([of, node.name] == path or not of and path in ([node.name], [file.stem, node.name]))]
+
+    def of_impls(self, call, traits):
+        """The impls of these traits for a type."""
+        crate, name = call.split('::')
+        return [(trait, sums.sum_of(node.scope, node.written, node.suffix)) for trait, node in self.tree.impls
+                if node.scope.crate == crate and node.of == name and trait in traits]
+
+    def in_type(self, call):
+        """The ghost fields of a type, and its invariant under no name."""
+        crate, name = call.split('::')
+        files = self.tree.types.get((crate, name)) or [file for file in self.tree.types.get((crate, name + ' Value'), [])]
+        for file in files:
+            node = self.tree.nodes.get((file, name))
+            lines = read(file).split('\n')
+            own = '\n'.join(lines[at] for at in node.lines) if node else ''
+            for field, text in re.findall(r"^\s+(?:pub )?ghost (\w+): \{(.*)\}", own, re.M):
+                yield field, sums.sum_of(node.scope, text, '.rt')
+            model = re.search(rf"^impl(?:<.*>)? Model for {name}\b.*?^\}}", read(file), re.M | re.S)
+            if model and 'ghost invariant' in model.group():
+                yield '', sums.sum_of(self.tree.nodes[file, name + ' Value'].scope, model.group(), '.rt')
+
+    def told(self, line, head, call):
+        """The clauses that a line can speak of: names and sums. None where there is no such call."""
+        if '::' not in call:
+            return [('', sums.sum_of(node.scope, node.written, '.rt')) for node in self.exporting[call]]
+        if ' by its `impl`' in line:
+            return self.of_impls(call, re.findall(r"`(\w+)`", head.split(' by its `impl`')[1]))
+        calls = self.of_calls(call)
+        found = [(name, sums.sum_of(node.scope, text, '.rt'))
+                 for node in calls for kind, name, text in sums.clauses_of(node) if kind != 'signature']
+        if not calls:
+            return list(self.in_type(call)) if self.tree.rust_type(call.split('::')[0], '', call.split('::')[-1]) else None
+        return found
+
+
+class Fact:
+    """A line of the page: where it stands, what it names, what is wrong with it, and the sums of its clauses."""
+
+    def __init__(self, clauses, number, line, head, calls):
+        self.number, self.line, self.calls, self.wrong, told = number, line, calls, [], []
+        self.names = [] if ' by its `impl`' in line else re.findall(r"`([a-z_]\w*)`", head.split(', of `')[0])
+        self.names = [name for name in self.names if name not in calls]
+        by_impl = re.findall(r"`(\w+)`", head.split(' by its `impl`')[1]) if ' by its `impl`' in line else []
+        for call in calls:
+            known = clauses.told(line, head, call)
+            if known is None:
+                self.wrong.append(f"there is no call or type {call}")
+                continue
+            wanted = by_impl or self.names or ['']
+            for name in wanted:
+                found = [one for one in known if one[0] == name]
+                if not found and not self.names and not by_impl and 'in its type' in line:
+                    found = known  # ghost fields, each with a name that the line doesn't give
+                told += found
+                if not found:
+                    has = ', '.join(sorted({one[0] or 'one without a name' for one in known})) or 'none'
+                    self.wrong.append(f"{call} has no clause {name or 'without a name'}; it has {has}")
+        self.key = f"fact {','.join(calls)} {','.join(self.names + by_impl) or '-'}"
+        self.key += ''.join(f":{word}" for word in re.findall(r", of `(\w+)`", head))
+        self.sums = f"{sums.short(line.split())} {sums.short(sum_ for _, sum_ in told)}"
+
+
+def facts(clauses):
+    calls, keys = [], set()
+    for number, line in enumerate(read(PROOFS).split('\n'), 1):
+        head = FACT.match(line)
+        crate = re.match(r"- `(\w+)`:", line)
+        if not head or crate and crate.group(1) not in clauses.exporting:
+            continue
+        calls = [crate.group(1)] if crate else re.findall(r"`([a-z_]+::[\w:]+)`", head.group(1)) or calls
+        fact = Fact(clauses, number, line, head.group(1), calls)
+        while fact.key in keys:
+            fact.key += '+'
+        keys.add(fact.key)
+        yield fact
+
+
+def changed(found):
+    """The facts whose line or clauses are others than those that were compared."""
+    old, there = {key: value for key, value in sums.kept().items() if key.startswith('fact ')}, {fact.key for fact in found}
+    for fact in found:
+        was, now = old.get(fact.key, ' ').split(' '), fact.sums.split(' ')
+        place = f"docs/PROOFS.md:{fact.number}: {', '.join(fact.calls)} {', '.join(fact.names)}"
+        if fact.key not in old:
+            yield f"{place}: docs/AUDIT.sums has no sums of it"
+        elif was[1] != now[1]:
+            yield f"{place}: its clauses are others than those that the line was compared with"
+        elif was[0] != now[0]:
+            yield f"{place}: the line is another than the one that was compared with its clauses"
+    yield from (f"docs/AUDIT.sums: {key} is no fact of docs/PROOFS.md" for key in sorted(old.keys() - there))
 
 
 def pages():
@@ -56,22 +152,14 @@ def broken_links():
 
 
 def main():
-    tree, calls, facts, faults = Tree(), [], 0, 0
-    for number, line in enumerate(read(TOP / 'docs' / 'PROOFS.md').split('\n'), 1):
-        head = re.match(r"- ((?:`[a-z_]+::[\w:]+`|the same)[^:]*(?:::[^:]+)*?):(?: |$)", line)
-        if not head:
-            continue
-        calls = re.findall(r"`([a-z_]+::[\w:]+)`", head.group(1)) or calls
-        named = [] if 'in its type' in line or ' by its `impl`' in line else re.findall(r"`([a-z_]\w*)`", head.group(1).split(', of `')[0])
-        facts += 1
-        for call in calls:
-            for text in wrong(tree, call, named):
-                faults += 1
-                print(f"docs/PROOFS.md:{number}: {text}", file=sys.stderr)
-    for text in broken_links():
-        faults += 1
+    found = list(facts(Clauses(Tree())))
+    if '--renew' in sys.argv:
+        sums.renew({fact.key: fact.sums for fact in found}, ['fact'])
+    faults = [f"docs/PROOFS.md:{fact.number}: {text}" for fact in found for text in fact.wrong]
+    faults += [*changed(found), *broken_links()]
+    for text in faults:
         print(text, file=sys.stderr)
-    print(f"{facts} facts, {faults} faults")
+    print(f"{len(found)} facts, {len(faults)} faults")
     sys.exit(1 if faults else 0)
 
 

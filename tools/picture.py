@@ -1,12 +1,15 @@
 #!/usr/bin/env python3
 """Whether docs/ARCHITECTURE.md draws the crates as crates.txt has them.
 
-    python3 tools/picture.py          status 1 where a crate or an arrow is missing or false, or stands in a wrong row
+    python3 tools/picture.py          status 1 if a crate or an arrow is missing or false, or stands in a wrong row
     python3 tools/picture.py --rows   prints the rows as they should be, without their headings
+    python3 tools/picture.py --mermaid   prints the picture in the words of Mermaid, with the groups of crates.txt
 
 The picture has one arrow for each pair of crates of which the upper stands on the lower, and not through a third one. A crate
-stands in the row above the highest that it stands on. Each crate has a line that begins with its name in bold.
+stands in the row above the highest that it stands on. Each crate has a line that begins with its name in bold; these lines have the groups
+and the order of crates.txt.
 """
+import itertools
 import re
 import sys
 from pathlib import Path
@@ -20,6 +23,21 @@ def stands_on():
     lines = [line.split('#')[0].strip() for line in (TOP / 'crates.txt').read_text().split('\n')]
     named = {line.split(':')[0].split()[0]: line.split(':')[1].split() for line in lines if line}
     return {crate: {other for other in others if other in named} for crate, others in named.items()}
+
+
+def groups(text, heading, crate):
+    """The groups of a text, in order: for each heading its crates, by a pattern for a heading and one for a crate."""
+    found = []
+    for line in text.split('\n'):
+        if re.match(heading, line):
+            found.append((re.match(heading, line).group(1), []))
+        elif re.match(crate, line) and found:
+            found[-1][1].append(re.match(crate, line).group(1))
+    return [(name, crates) for name, crates in found if crates]
+
+
+def groups_of_crates():
+    return groups((TOP / 'crates.txt').read_text(), r"# ([A-Z].*)", rf"({CRATE})[^:]*:")
 
 
 def all_below(below, crate):
@@ -67,6 +85,10 @@ def wrong(page):
         yield from (f"{crate} -> {other}: is false or follows from others" for other in sorted(told - others))
         if not re.search(rf"^- \*\*{crate}\*\*", page, re.M):
             yield f"{crate}: has no line"
+    told = groups(page.split('## The crates')[1].split('\n## ')[0], r"\*([^*,]+)\*", rf"- \*\*({CRATE})\*\*")
+    for mine, theirs in itertools.zip_longest(told, groups_of_crates(), fillvalue=('nothing', [])):
+        if mine != theirs:
+            yield f"the group {mine[0]} ({' '.join(mine[1])}); in crates.txt it is {theirs[0]} ({' '.join(theirs[1])})"
     for crate in sorted((set(arrows) | set(re.findall(rf"^- \*\*({CRATE})\*\*", page, re.M))) - below.keys()):
         yield f"{crate}: is no crate"
 
@@ -80,9 +102,19 @@ def print_rows():
     print(f"{sum(map(len, arrows.values()))} of {sum(map(len, below.values()))} arrows")
 
 
+def print_mermaid():
+    print("graph TD")
+    for number, (name, crates) in enumerate(groups_of_crates()):
+        print(f"  subgraph g{number}[{name}]", *(f"    {crate}" for crate in crates), "  end", sep="\n")
+    for crate, others in reduced(stands_on()).items():
+        print(*(f"  {crate} --> {other}" for other in sorted(others)), sep="\n", end="\n" if others else "")
+
+
 def main():
     if '--rows' in sys.argv[1:]:
         return print_rows()
+    if '--mermaid' in sys.argv[1:]:
+        return print_mermaid()
     faults = list(wrong((TOP / 'docs' / 'ARCHITECTURE.md').read_text()))
     for fault in faults:
         print(f"docs/ARCHITECTURE.md: {fault}", file=sys.stderr)

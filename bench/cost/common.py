@@ -1,4 +1,4 @@
-"""What the benches share: builds, and runs in turns on one processor under a real-time class, the least of many."""
+"""What the benches share: builds, and runs in turns on one processor under a real-time class, the minimum of many."""
 import math
 import os
 import pathlib
@@ -97,7 +97,7 @@ def told(command, free=False):
 
 
 def least(times, *calls, rotate=True):
-    """Calls in turns, so many times, and the least of each. Each turn goes to the next processor, or to all of them."""
+    """Calls in turns, so many times, and the minimum of each. Each turn goes to the next processor, or to all of them."""
     best = [math.inf] * len(calls)
     for turn in range(times):
         os.sched_setaffinity(0, {turn % os.cpu_count()} if rotate else range(os.cpu_count()))

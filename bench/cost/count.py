@@ -3,7 +3,8 @@
 (those of a request by a tenth, since two threads meet).
 
 Each is the difference of two runs of `serve`, the second with more callbacks or requests, divided by them: a start of the
-process is in neither."""
+process is in neither. The C library fills memory without `rep stosb`, of which valgrind counts each byte as an instruction."""
+import os
 import re
 import subprocess
 import sys
@@ -15,12 +16,14 @@ import work
 
 SCENES = [("IDLE", 1), ("IDLE", 60), ("IDLE_CHECK", 1), ("TIMER", 1), ("TIMER", 60), ("ASYNC", 1), ("CLOSE", 1)]
 CALLBACKS, REQUESTS = (1_000, 5_000), (500, 2_500)
+VALGRIND = ["valgrind", "--tool=callgrind", "--callgrind-out-file=/dev/null"]
+WITHOUT_REP = {**os.environ, "GLIBC_TUNABLES": "glibc.cpu.x86_rep_stosb_threshold=100000000"}
 
 
 def counted(program, module, fuel):
     """The instructions of a run of `serve`."""
     command = common.serve(program, module, fuel, "1000000")
-    done = subprocess.run(["valgrind", "--tool=callgrind", "--callgrind-out-file=/dev/null", *command], capture_output=True, text=True)
+    done = subprocess.run([*VALGRIND, *command], capture_output=True, text=True, env=WITHOUT_REP)
     found = re.search(r"Collected : (\d+)", done.stderr)
     if "loop 0 over" not in done.stdout or not found:
         raise SystemExit(f"{command}: {done.stdout[:200]} {done.stderr[:200]}")

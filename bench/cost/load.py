@@ -1,6 +1,6 @@
 #!/usr/bin/env python3
 """load.py PROGRAM [FOLDER]: check of modules of 1 KB, 100 KB and 1 MB beside wasm-validate and node, start of the program
-beside others', and the memory that each takes. One processor, in turns, the least of 8 to 15."""
+beside others', and the memory that each takes. One processor, in turns, the minimum of 8 to 15."""
 import os
 import pathlib
 import subprocess

@@ -2,7 +2,7 @@
 """loop.py PROGRAM [FOLDER [SCENE..]]: nanoseconds a callback, beside libuv in C and a loop by hand in node.
 
 PROGRAM's is the difference of two runs of `serve`, one with 80,000 callbacks more, divided by them: a start of the process
-is in neither. The peers measure themselves, around their loop. In turns, on one processor, the least of 7. With scenes only theirs."""
+is in neither. The peers measure themselves, around their loop. In turns, on one processor, the minimum of 7. With scenes only theirs."""
 import common
 
 MANY, FEW = 90_000, 10_000

@@ -2,7 +2,7 @@
 """work.py PROGRAM [FOLDER [size] [pages] [scale]]: requests a second, beside libuv's uv_queue_work in C and node's worker threads.
 
 PROGRAM's time is the difference of two runs of `serve`, the second with 10 times the requests; 32 are outstanding. The
-peers measure from the first request to the last. All processors, in turns, the least of 5."""
+peers measure from the first request to the last. All processors, in turns, the minimum of 5."""
 import dataclasses
 import common
 

@@ -7,7 +7,7 @@
 // wasm-validate and wasm-interp (0: none), where it has no imports, which wasm-interp answers by 0. ROWS is the built program
 // crates/test_program/out/test_program, which answers a whole list of modules in one process. Each difference is kept as a file in FOLDER, with both answers. What the program refuses by a rule of its own, a limit or its profile, is
 // counted by that rule, and so is, where wabt is asked, what V8 alone accepts: it gives no type to what a `br_if` leaves
-// in dead code (WebAssembly Core 2.0, 3.3.8). The status is 1 where anything else differs.
+// in dead code (WebAssembly Core 2.0, 3.3.8). The status is 1 if anything else differs.
 
 import { mkdirSync, writeFileSync } from "node:fs";
 import { parseArgs } from "node:util";

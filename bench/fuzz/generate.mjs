@@ -387,6 +387,16 @@ class Module {
         this.results = [...results, I64];
     }
 
+    /** The export "uv_work": it calls "g", sets its reply from the memory's front, and gives the lower half of the digest. */
+    work() {
+        const { index } = this.exports[0];
+        const room = this.memories.length > 0 && this.memories[0].min > 0 ? 1 + this.random.below(200) : 0;
+        const reply = [[0x41, 0], constant(I32, BigInt(room)), [0x10, ...unsigned(this.imports.length - 1)], [0x1a]];
+        const instructions = [[0x10, ...unsigned(index)], [0x21, 1], ...this.results.slice(1).map(() => [0x1a]), ...(room > 0 ? reply : []), [0x20, 1, 0xa7]];
+        this.exports.push({ name: "uv_work", kind: 0, index: this.imports.length + this.functions.length });
+        this.functions.push({ type: this.typeOf([I32], [I32]), locals: [I64], instructions });
+    }
+
     fill() {
         for (const f of this.functions) f.instructions = new Body(this, this.random, this.types[f.type], f.locals).whole();
         this.segments();
@@ -408,6 +418,15 @@ class Module {
 export function validModule(random) {
     const m = new Module(random).fill();
     return { bytes: m.bytes(), results: m.results, imports: m.imports.length };
+}
+
+/** The bytes of a valid module with a work function. */
+export function workModule(random) {
+    const m = new Module(random);
+    m.imports.push({ module: "uv", name: "out_set", type: m.typeOf([I32, I32], [I32]) });
+    m.callable += 1;
+    m.fill().work();
+    return m.bytes();
 }
 
 /** One that is nearly valid: some instruction is left out, doubled, exchanged with another or made anew. */

@@ -1,18 +1,21 @@
 #!/usr/bin/env python3
-"""Runs the kernels by the program, by wabt's wasm-interp, by V8 and natively, side by side.
+"""Runs the kernels by the program, by wabt's wasm-interp, by JavaScriptCore's interpreters, by V8 and natively, side by side.
 
     python3 bench/kernels/run.py PROGRAM [KERNEL..]
 
 Each KERNEL.c of this folder is compiled by clang, to WebAssembly and natively. A line a kernel: the milliseconds of each. Then the table of
-docs/PERFORMANCE.md: how many times as long wasm-interp takes as the program, and the program as V8 and as native code. The
-interpreters' times are user time of whole processes; V8 (node) and native code call the kernel in a loop in one process, so that the
-compiler is warm, and the least call counts. All take turns on one processor under a real-time class, and the least of five turns counts; node runs beside, on all
+docs/PERFORMANCE.md: how many times as long wasm-interp and JavaScriptCore's interpreters take as the program, and the program as V8 and as
+native code. JavaScriptCore (`jsc`, Debian's libjavascriptcoregtk-4.0-bin) has two: IPInt interprets a module's bytes in place, LLInt first
+translates them to its own register bytecode; its compilers are off, and where there is no `jsc` both are left out. Times of the program and
+of wasm-interp are user time of whole processes; the others call the kernel in a loop in one process, so that a compiler is warm, and the
+least call counts. All take turns on one processor under a real-time class, and the least of five turns counts; node runs beside, on all
 processors, for it compiles in threads of its own. What the program gives is compared with the others.
 """
 import math
 import os
 import pathlib
 import re
+import shutil
 import subprocess
 import sys
 import tempfile
@@ -23,7 +26,15 @@ WASM = ["--target=wasm32", "-mno-bulk-memory", "-ffreestanding", "-fno-builtin"]
 # The linker is called by itself: clang would run wasm-opt behind it where there is one.
 LINK = ["wasm-ld", "--no-entry", "--export=run", "--strip-all", "-z", "stack-size=16384"]
 ALL_FUEL = str(2**64 - 1)
-TURNS, CALLS = 5, "20"
+TURNS, CALLS, INTERPRETED_CALLS = 5, "20", "3"
+INTERPRETED = {"JSC_useBBQJIT": "0", "JSC_useOMGJIT": "0"}
+HEADS = {
+    "wabt": "times as fast as wasm-interp",
+    "ipint": "times as fast as IPInt",
+    "llint": "times as fast as LLInt",
+    "v8": "V8, times as fast",
+    "native": "native code, times as fast",
+}
 LABELS = {"fib": "fib (calls)", "queens": "queens (calls, loops)", "switch": "switch (`br_table`)"}
 
 
@@ -60,10 +71,23 @@ def user_time(command, pattern):
         return used.ru_utime * 1e3, int(found[1]) % 2**32 if found else None
 
 
-def told(command, free):
+def told(command, free=False, **options):
     """The milliseconds that a process prints, and the number before them."""
-    shown = subprocess.run(command, stdout=subprocess.PIPE, text=True, check=True, preexec_fn=as_others if free else None).stdout.split()
+    others = as_others if free else None
+    environment = {**os.environ, **options}
+    shown = subprocess.run(command, stdout=subprocess.PIPE, text=True, check=True, preexec_fn=others, env=environment).stdout.split()
     return int(shown[1]) / 1e6, int(shown[0])
+
+
+def interpreters(module):
+    """JavaScriptCore's two, where it is there."""
+    if not shutil.which("jsc"):
+        return {}
+    command = ["jsc", FOLDER / "jsc.js", "--", module, INTERPRETED_CALLS]
+    return {
+        "ipint": lambda: told(command, **INTERPRETED),
+        "llint": lambda: told(command, **INTERPRETED, JSC_useWasmIPInt="0"),
+    }
 
 
 def measure(program, kernel, folder):
@@ -72,8 +96,9 @@ def measure(program, kernel, folder):
     engines = {
         "ours": lambda: user_time([program, "invoke", module, "run", "--fuel", ALL_FUEL, "--depth", "128"], r"^return (-?\d+) "),
         "wabt": lambda: user_time(["wasm-interp", module, "--run-all-exports"], r"run\(\) => i32:(\d+)"),
-        "native": lambda: told([native, CALLS], False),
-        "v8": lambda: told(["node", FOLDER / "v8.mjs", module, CALLS], True),
+        **interpreters(module),
+        "v8": lambda: told(["node", FOLDER / "v8.mjs", module, CALLS], free=True),
+        "native": lambda: told([native, CALLS]),
     }
     least, given = dict.fromkeys(engines, math.inf), set()
     for turn in range(TURNS):
@@ -85,12 +110,21 @@ def measure(program, kernel, folder):
     return least, len(given) == 1
 
 
+def ratios_of(ms):
+    """How many times as fast the program is as the interpreters, and as the program V8 and native code are."""
+    slower = {"wabt", "ipint", "llint"} & ms.keys()
+    return {engine: ms[engine] / ms["ours"] if engine in slower else ms["ours"] / ms[engine] for engine in ms if engine != "ours"}
+
+
 def show(ratios):
     """The table of docs/PERFORMANCE.md."""
-    means = [math.exp(sum(map(math.log, column)) / len(column)) for column in zip(*ratios.values())]
-    print("\n| kernel | times as fast as wasm-interp | V8, times as fast | native code, times as fast |\n|---|---|---|---|")
+    engines = [engine for engine in HEADS if engine in next(iter(ratios.values()))]
+    means = {engine: math.exp(sum(math.log(row[engine]) for row in ratios.values()) / len(ratios)) for engine in engines}
+    print("\n| kernel | " + " | ".join(HEADS[engine] for engine in engines) + " |")
+    print("|---" * (len(engines) + 1) + "|")
     for kernel, row in {**ratios, "geometric mean": means}.items():
-        print("| %s | %.1f | %.1f | %.1f |" % (LABELS.get(kernel, kernel), *row))
+        cells = (("%.2f" if engine in ("ipint", "llint") else "%.1f") % row[engine] for engine in engines)
+        print(f"| {LABELS.get(kernel, kernel)} | " + " | ".join(cells) + " |")
 
 
 def main():
@@ -100,13 +134,12 @@ def main():
     kernels = sys.argv[2:] or sorted(path.stem for path in FOLDER.glob("*.c") if path.stem != "native")
     before_all_others()
     ratios, is_right = {}, True
-    print("ms           ours  wasm-interp        V8    native")
     with tempfile.TemporaryDirectory() as folder:
         for kernel in kernels:
             ms, is_one = measure(program, kernel, pathlib.Path(folder))
-            ratios[kernel] = ms["wabt"] / ms["ours"], ms["ours"] / ms["v8"], ms["ours"] / ms["native"]
-            times = "%8.2f %12.1f %9.3f %9.3f" % (ms["ours"], ms["wabt"], ms["v8"], ms["native"])
-            print("%-8s %s%s" % (kernel, times, "" if is_one else "  ANSWERS DIFFER"), flush=True)
+            ratios[kernel] = ratios_of(ms)
+            times = "  ".join(f"{engine} {took:.3f}" for engine, took in ms.items())
+            print("%-8s ms: %s%s" % (kernel, times, "" if is_one else "  ANSWERS DIFFER"), flush=True)
             is_right &= is_one
     show(ratios)
     return 0 if is_right else 1

@@ -5,7 +5,7 @@
 
 PROGRAM is the program, GOING_ON the same but that it goes on with a script's next steps where a step found no memory,
 and REFUSE the library of refuse.c. Each command is run with its first allocation refused, then with its second, until a
-run in which none is refused. Every run has to end as with memory or by a named want of memory. The status is 1 where
+run in which none is refused. Every run has to end as with memory or by a named want of memory. The status is 1 if
 one ends otherwise, or where a named end never came.
 """
 import collections

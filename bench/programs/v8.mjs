@@ -1,5 +1,5 @@
 // How calls of exports end in V8, each in a new instance: node v8.mjs MODULE CALL.. prints a line for each, `return 1 2`, `trap 4` or
-// `depth`. A CALL is an export's name with its values behind commas, an n behind each i64.
+// `depth`. A CALL is an export's name with its values after commas, an n after each i64.
 import fs from "node:fs";
 import { trapOf } from "../fuzz/judge.mjs";
 

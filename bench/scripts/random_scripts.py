@@ -6,7 +6,7 @@
 Each script has one to three loops and up to three workers, and its guests make random calls of every function of "uv"
 in random callbacks (guest.c, which wants clang and wasm-ld). Logs are compared line by line, but for the fuel that a
 callback used and for which free number a new handle gets, which is the host's choice. Each script that differs is kept
-in FOLDER with both logs. The status is 1 where one does.
+in FOLDER with both logs. The status is 1 if one does.
 """
 import argparse
 import json

@@ -5,7 +5,7 @@
 
 Each FOLDER is searched for the .json files that `wast2json` wrote, with their modules beside them. A line for
 each file, then what was skipped and why, then each difference; its modules are kept in the folder of --keep. The
-status is 1 where something differs.
+status is 1 if something differs.
 
 Every module is first given to `check` as it is. Modules with floats, with instructions of later versions or with imports of the suite's
 "spectest" have to be refused, and are then changed (wasm.py) so that the rest of their functions can be run: functions that use

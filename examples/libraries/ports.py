@@ -51,7 +51,7 @@ PORTS = {
                + [f"{XZ}check/{n}.c" for n in "check crc32_fast crc32_table crc64_fast crc64_table sha256".split()]
                + [XZ + "lz/lz_decoder.c", XZ + "lzma/lzma_decoder.c", XZ + "lzma/lzma2_decoder.c"],
                " ".join("-I@/xz-utils/src/" + f for f in XZ_FOLDERS) + " " + XZ_FLAGS,
-               wasm_flags="-Dsigset_t=int", lower=True),      # named in a declaration, never used
+               wasm_flags="-Dsigset_t=int -Wno-implicit-function-declaration", lower=True),   # declared, never used
     "zstd": Port("libzstd", ["libzstd/lib/common/*.c", "libzstd/lib/decompress/*.c"],
                  "-I@/libzstd/lib -DZSTD_DISABLE_ASM -DDYNAMIC_BMI2=0 -DXXH_NAMESPACE=ZSTD_",
                  without=("threading.c", "pool.c", "debug.c")),

@@ -7,7 +7,9 @@ Takes the sources from Debian's packages (`apt-get source`), compiles each libra
 for the host and once as a native program, compares the answers, and prints a table: the fuel and the depth of calls that
 suffice, and the processor time of `work` over that of the native program and of V8. It wants clang, lld, wasi-libc,
 libclang-rt-14-dev-wasm32, zstd and node. apt takes the sources by lists of their own, or those that APT_CONFIG names.
-WASMLOOP names the program. All is written to out/ beside this file.
+WASMLOOP names the program, CC and LD another clang and wasm-ld, and CPU what is told to that clang in the place of
+-mcpu=mvp: with CPU= in the environment it compiles as it does by itself, and lower.py rewrites each module. All is written to
+out/ beside this file.
 """
 import os
 import pathlib
@@ -25,17 +27,18 @@ SOURCES = OUT / "src"
 KIT = HERE.parent / "kit"
 HOST = os.environ.get("WASMLOOP", "wasmloop")
 CC, LD = os.environ.get("CC", "clang"), os.environ.get("LD", "wasm-ld")
+CPU = os.environ.get("CPU", "-mcpu=mvp").split()
 LIBC = pathlib.Path("/usr/lib/wasm32-wasi")
 BUILTINS = subprocess.run([CC, "--target=wasm32-wasi", "-print-libgcc-file-name"], stdout=subprocess.PIPE,
                           check=True).stdout.decode().strip()
-WASM = [CC, "--target=wasm32-wasi", "-mcpu=mvp", "-O2", "-w", "-isystem", KIT, f"-I{KIT}", f"-I{HERE.parent}",
+WASM = [CC, "--target=wasm32-wasi", *CPU, "-O2", "-w", "-isystem", KIT, f"-I{KIT}", f"-I{HERE.parent}",
         "-D_WASI_EMULATED_SIGNAL", "-D_WASI_EMULATED_PROCESS_CLOCKS", "-D_WASI_EMULATED_GETPID"]
 NATIVE = [CC, "-O2", "-w", f"-I{KIT}"]
 LINK = [LD, "--no-entry", "--export-table", "--stack-first", "--strip-all", "--compress-relocations",
         "-zstack-size=131072"]
 LIBRARIES = [LIBC / "libc.a", LIBC / "libm.a", BUILTINS] + [LIBC / f"libwasi-emulated-{n}.a" for n in
                                                   ("signal", "process-clocks", "getpid")]
-TIMES, PEERS_TIMES = 3, 15          # the least of so many runs counts
+TIMES, PEERS_TIMES = 3, 15          # the minimum of so many runs counts
 AMPLE = 1 << 40
 DEPTHS = (16, 32, 64, 128)
 
@@ -129,7 +132,7 @@ def module(name, port):
     objects = compile_all(WASM + port_flags(port) + port.wasm_flags.split() + jumps, sources, folder / "w")
     objects += compile_all(WASM + ["-ffreestanding"], kit, folder / "k")
     call(*LINK, *(["--import-undefined"] if port.jumps else []), "-o", wasm, *objects, *LIBRARIES)
-    if port.lower:
+    if port.lower or CPU != ["-mcpu=mvp"]:
         print(name, call(sys.executable, KIT / "lower.py", wasm, wasm, "--soft", soft()).decode().strip(), flush=True)
     return wasm
 

@@ -38,7 +38,7 @@ cp "$work/deflate/target/$target/release/deflate.wasm" "$work"
 native "$here/deflate/src/lib.rs" deflate
 
 /usr/bin/rustc --edition 2021 --target $target -C target-cpu=mvp -C linker=wasm-ld --crate-type cdylib -O \
-    -C panic=abort -C strip=symbols -C link-args="--export-table --stack-first -zstack-size=65536" \
+    -C panic=abort -C strip=debuginfo -C link-args="--export-table --stack-first -zstack-size=65536" \
     -o "$work/means.wasm" "$work/means.rs"
 clang --target=wasm32 -mcpu=mvp -O2 -ffreestanding -c -o "$work/soft.o" "$here/../kit/soft.c"
 wasm-ld --no-entry --strip-all -o "$work/soft.wasm" "$work/soft.o"

@@ -85,9 +85,87 @@ pub struct Site {
     pub operation: u64,
 }
 
+/// What a module has that a host looks for: 1 where it does, and its memory's pages.
+#[repr(C)]
+#[derive(Clone, Copy, Debug, Default)]
+pub struct Shape {
+    pub main: u32,
+    pub work: u32,
+    pub after_work: u32,
+    pub table: u32,
+    pub pages: u32,
+    pub most_pages: u32,
+    pub imports: u64,
+}
+
+#[repr(C)]
+#[derive(Clone, Copy, Debug, Default)]
+pub struct Standing {
+    pub alive: u32,
+    pub failed: u32,
+    pub outstanding: u64,
+}
+
+/// Where a turn stands: its last step, for how many milliseconds there is nothing to do, and how many callbacks ran in it so far.
+#[repr(C)]
+#[derive(Clone, Copy, Debug, Default)]
+pub struct Turned {
+    pub did: Did,
+    pub wait: u64,
+    pub callbacks: u32,
+    zero: u32,
+}
+
+#[repr(C)]
+#[derive(Clone, Copy, Debug)]
+struct CallLimits {
+    fuel: u64,
+    depth: u32,
+    zero: u32,
+}
+
+/// How a call of an instance ended: 0 return, 1 trap, 2 depth, 3 spent.
+#[repr(C)]
+#[derive(Clone, Copy, Debug, Default)]
+pub struct Ended {
+    pub ending: u32,
+    pub trap: u32,
+    results: u64,
+    pub used: u64,
+    result: [u64; 16],
+}
+
+impl Ended {
+    /// The results, an i32 in the lower half; none where it did not return.
+    pub fn results(&self) -> &[u64] {
+        &self.result[..self.results as usize]
+    }
+}
+
 extern "C" {
+    fn wasmloop_status_name(status: i32) -> *const std::ffi::c_char;
+    fn wasmloop_explain(bytes: *const u8, length: usize, into: *mut u8, room: usize, count: *mut u64) -> i32;
     fn wasmloop_load(bytes: *const u8, length: usize, module: *mut Handle, fault: *mut Fault) -> i32;
-    fn wasmloop_loop(module: *mut Handle, limits: *const Limits, made: *mut Handle) -> i32;
+    fn wasmloop_share(module: *const Handle, other: *mut Handle) -> i32;
+    fn wasmloop_shape_of(module: *const Handle, shape: *mut Shape) -> i32;
+    fn wasmloop_instance(module: *const Handle, limits: *const CallLimits, made: *mut Handle, ended: *mut Ended) -> i32;
+    fn wasmloop_call(
+        instance: *mut Handle,
+        name: *const std::ffi::c_char,
+        args: *const u64,
+        count: usize,
+        limits: *const CallLimits,
+        ended: *mut Ended,
+    ) -> i32;
+    fn wasmloop_size(instance: *mut Handle, bytes: *mut u64) -> i32;
+    fn wasmloop_read(instance: *mut Handle, at: u32, into: *mut u8, length: usize) -> i32;
+    fn wasmloop_write(instance: *mut Handle, at: u32, from: *const u8, length: usize) -> i32;
+    fn wasmloop_turn(handle: *mut Handle, most_callbacks: u32, told: *mut Turned) -> i32;
+    fn wasmloop_cancel(handle: *mut Handle, request: u32, answer: *mut i32) -> i32;
+    fn wasmloop_standing_of(handle: *mut Handle, standing: *mut Standing) -> i32;
+    fn wasmloop_job_input(job: *mut Handle, into: *mut u8, room: usize, count: *mut u64) -> i32;
+    fn wasmloop_job_view(job: *mut Handle, bytes: *mut *const u8, count: *mut u64) -> i32;
+    fn wasmloop_loop(module: *const Handle, limits: *const Limits, made: *mut Handle) -> i32;
     fn wasmloop_drop(handle: *mut Handle) -> i32;
     fn wasmloop_step(handle: *mut Handle, did: *mut Did) -> i32;
     fn wasmloop_emits(handle: *mut Handle, into: *mut i64, room: usize, count: *mut u32) -> i32;
@@ -95,20 +173,53 @@ extern "C" {
     fn wasmloop_hint(handle: *mut Handle, ms: *mut u64) -> i32;
     fn wasmloop_async_send(handle: *mut Handle, number: u32) -> i32;
     fn wasmloop_next_job(handle: *mut Handle, job: *mut Handle) -> i32;
-    fn wasmloop_job_new(module: *mut Handle, task: *const Task, bytes: *const u8, length: usize, job: *mut Handle) -> i32;
+    fn wasmloop_job_new(module: *const Handle, task: *const Task, bytes: *const u8, length: usize, job: *mut Handle) -> i32;
     fn wasmloop_job_start(handle: *mut Handle, job: *mut Handle) -> i32;
     fn wasmloop_job_run(job: *mut Handle) -> i32;
+    fn wasmloop_job_run_for(job: *mut Handle, units: u64, over: *mut u32) -> i32;
     fn wasmloop_job_about(job: *mut Handle, about: *mut About) -> i32;
-    fn wasmloop_job_reply(job: *mut Handle, into: *mut u8, room: usize, count: *mut u64) -> i32;
     fn wasmloop_stop(handle: *mut Handle, into: *mut Site, room: usize, count: *mut u64) -> i32;
     fn wasmloop_accept(handle: *mut Handle, job: *mut Handle) -> i32;
 }
 
-/// Why a call was not done: its number in wasmloop.h.
-#[derive(Clone, Copy, Debug)]
+/// Why a call was not done: the bytes are no guest, with the sentence that `wasmloop check` prints, or a number of wasmloop.h.
+#[derive(Clone, Debug)]
 pub enum Error {
-    Refused(Fault),
+    Refused { fault: Fault, why: String },
     Status(i32),
+}
+
+impl std::fmt::Display for Error {
+    fn fmt(&self, to: &mut std::fmt::Formatter) -> std::fmt::Result {
+        let name = |status| unsafe { std::ffi::CStr::from_ptr(wasmloop_status_name(status)) };
+        match self {
+            Error::Refused { why, .. } => to.write_str(why),
+            Error::Status(status) => write!(to, "{}", name(*status).to_string_lossy()),
+        }
+    }
+}
+
+impl std::error::Error for Error {}
+
+/// What a call writes that copies a text as far as there is room, or `None` where there is none.
+fn text(call: impl Fn(*mut u8, usize, &mut u64) -> i32) -> Result<Option<String>, Error> {
+    let (mut room, mut count) = (Vec::new(), 0);
+    loop {
+        match call(room.as_mut_ptr(), room.len(), &mut count) {
+            1 => return Ok(None),
+            status => done(status)?,
+        }
+        if count as usize <= room.len() {
+            room.truncate(count as usize);
+            return Ok(Some(String::from_utf8_lossy(&room).into_owned()));
+        }
+        room = vec![0; count as usize];
+    }
+}
+
+/// Why bytes are refused, in the words of `wasmloop check`.
+pub fn explain(bytes: &[u8]) -> Option<String> {
+    text(|into, room, count| unsafe { wasmloop_explain(bytes.as_ptr(), bytes.len(), into, room, count) }).ok()?
 }
 
 fn done(status: i32) -> Result<(), Error> {
@@ -131,9 +242,17 @@ fn stopped(handle: &mut Handle, most: usize) -> Result<Vec<Site>, Error> {
     Ok(sites)
 }
 
+/// A module, which several threads may use at once.
 pub struct Module(Handle);
 
-pub struct Loop(Handle);
+// The calls on a shared module only read it, but for atomic counts.
+unsafe impl Sync for Module {}
+
+/// A loop, with where its turn stands.
+pub struct Loop(Handle, Turned);
+
+/// An instance that keeps its memory from call to call.
+pub struct Instance(Handle);
 
 /// Work that any thread may run.
 pub struct Job(Handle);
@@ -143,15 +262,66 @@ impl Module {
         let (mut made, mut fault) = (EMPTY, Fault::default());
         match unsafe { wasmloop_load(bytes.as_ptr(), bytes.len(), &mut made, &mut fault) } {
             0 => Ok(Module(made)),
-            5 => Err(Error::Refused(fault)),
+            5 => Err(Error::Refused { fault, why: explain(bytes).unwrap_or_default() }),
             status => Err(Error::Status(status)),
         }
     }
 
-    pub fn job(&mut self, task: Task, bytes: &[u8]) -> Result<Job, Error> {
+    /// A second handle of the same module.
+    pub fn share(&self) -> Result<Module, Error> {
+        let mut other = EMPTY;
+        done(unsafe { wasmloop_share(&self.0, &mut other) })?;
+        Ok(Module(other))
+    }
+
+    pub fn shape(&self) -> Result<Shape, Error> {
+        let mut shape = Shape::default();
+        done(unsafe { wasmloop_shape_of(&self.0, &mut shape) })?;
+        Ok(shape)
+    }
+
+    pub fn job(&self, task: Task, bytes: &[u8]) -> Result<Job, Error> {
         let mut job = EMPTY;
-        done(unsafe { wasmloop_job_new(&mut self.0, &task, bytes.as_ptr(), bytes.len(), &mut job) })?;
+        done(unsafe { wasmloop_job_new(&self.0, &task, bytes.as_ptr(), bytes.len(), &mut job) })?;
         Ok(Job(job))
+    }
+}
+
+impl Instance {
+    /// An instance whose start function returned, or how that ended.
+    pub fn new(module: &Module, fuel: u64, depth: u32) -> Result<Result<Instance, Ended>, Error> {
+        let (mut made, mut ended) = (EMPTY, Ended::default());
+        match unsafe { wasmloop_instance(&module.0, &CallLimits { fuel, depth, zero: 0 }, &mut made, &mut ended) } {
+            11 => Ok(Err(ended)),
+            status => done(status).map(|()| Ok(Instance(made))),
+        }
+    }
+
+    /// Calls the function that is exported under a name. However it ends, the instance stays as it is then.
+    pub fn call(&mut self, name: &std::ffi::CStr, args: &[u64], fuel: u64, depth: u32) -> Result<Ended, Error> {
+        let (limits, mut ended) = (CallLimits { fuel, depth, zero: 0 }, Ended::default());
+        done(unsafe { wasmloop_call(&mut self.0, name.as_ptr(), args.as_ptr(), args.len(), &limits, &mut ended) })?;
+        Ok(ended)
+    }
+
+    /// How many bytes the memory has.
+    pub fn size(&mut self) -> Result<u64, Error> {
+        let mut bytes = 0;
+        done(unsafe { wasmloop_size(&mut self.0, &mut bytes) })?;
+        Ok(bytes)
+    }
+
+    pub fn read(&mut self, at: u32, into: &mut [u8]) -> Result<(), Error> {
+        done(unsafe { wasmloop_read(&mut self.0, at, into.as_mut_ptr(), into.len()) })
+    }
+
+    pub fn write(&mut self, at: u32, from: &[u8]) -> Result<(), Error> {
+        done(unsafe { wasmloop_write(&mut self.0, at, from.as_ptr(), from.len()) })
+    }
+
+    /// Where the last call stopped and the calls around it outwards; none where it returned.
+    pub fn stop(&mut self) -> Result<Vec<Site>, Error> {
+        stopped(&mut self.0, 128)
     }
 }
 
@@ -160,17 +330,32 @@ impl Job {
         done(unsafe { wasmloop_job_run(&mut self.0) })
     }
 
+    /// Runs the job for at most so many units of fuel, at least 1; true where it is over, as if `run` had run it.
+    pub fn run_for(&mut self, units: u64) -> Result<bool, Error> {
+        let mut over = 0;
+        done(unsafe { wasmloop_job_run_for(&mut self.0, units, &mut over) })?;
+        Ok(over == 1)
+    }
+
     pub fn about(&mut self) -> Result<About, Error> {
         let mut about = About::default();
         done(unsafe { wasmloop_job_about(&mut self.0, &mut about) })?;
         Ok(about)
     }
 
-    /// The bytes of the reply of a job that was run and is done.
-    pub fn reply(&mut self) -> Result<Vec<u8>, Error> {
-        let (mut bytes, mut count) = (vec![0; self.about()?.reply as usize], 0);
-        done(unsafe { wasmloop_job_reply(&mut self.0, bytes.as_mut_ptr(), bytes.len(), &mut count) })?;
+    /// The bytes that the job may read.
+    pub fn input(&mut self) -> Result<Vec<u8>, Error> {
+        let (mut bytes, mut count) = (vec![0; self.about()?.bytes as usize], 0);
+        done(unsafe { wasmloop_job_input(&mut self.0, bytes.as_mut_ptr(), bytes.len(), &mut count) })?;
         Ok(bytes)
+    }
+
+    /// The bytes of the reply of a job that was run and is done, where they are.
+    pub fn reply(&mut self) -> Result<&[u8], Error> {
+        let (mut bytes, mut count) = (std::ptr::null(), 0);
+        done(unsafe { wasmloop_job_view(&mut self.0, &mut bytes, &mut count) })?;
+        // (they stay there until the job is dropped, accepted or run, which takes it for itself)
+        Ok(if count == 0 { &[] } else { unsafe { std::slice::from_raw_parts(bytes, count as usize) } })
     }
 
     /// Where the job stopped and the calls around it outwards, at most 17 sites; none where it returned.
@@ -180,15 +365,35 @@ impl Job {
 }
 
 impl Loop {
+    pub fn new(module: &Module, limits: Limits) -> Result<Loop, Error> {
+        let mut made = EMPTY;
+        done(unsafe { wasmloop_loop(&module.0, &limits, &mut made) })?;
+        Ok(Loop(made, Turned::default()))
+    }
+
     /// Where the last callback stopped and the calls around it outwards; none where it returned.
     pub fn stop(&mut self) -> Result<Vec<Site>, Error> {
         stopped(&mut self.0, 128)
     }
 
-    pub fn new(module: &mut Module, limits: Limits) -> Result<Loop, Error> {
-        let mut made = EMPTY;
-        done(unsafe { wasmloop_loop(&mut module.0, &limits, &mut made) })?;
-        Ok(Loop(made))
+    /// Takes steps until the timers phase is entered, a callback puts out values or doesn't return, so many callbacks have run, or the loop
+    /// is over or has failed.
+    pub fn turn(&mut self, most_callbacks: u32) -> Result<Turned, Error> {
+        done(unsafe { wasmloop_turn(&mut self.0, most_callbacks, &mut self.1) })?;
+        Ok(self.1)
+    }
+
+    /// Cancels a request, and answers as the guest's own cancel.
+    pub fn cancel(&mut self, request: u32) -> Result<i32, Error> {
+        let mut answer = 0;
+        done(unsafe { wasmloop_cancel(&mut self.0, request, &mut answer) })?;
+        Ok(answer)
+    }
+
+    pub fn standing(&mut self) -> Result<Standing, Error> {
+        let mut standing = Standing::default();
+        done(unsafe { wasmloop_standing_of(&mut self.0, &mut standing) })?;
+        Ok(standing)
     }
 
     pub fn step(&mut self) -> Result<Did, Error> {
@@ -229,7 +434,7 @@ impl Loop {
         }
     }
 
-    /// Tells the loop that a job is started; false where its request was cancelled.
+    /// Tells the loop that a job is started; false where its request was cancelled, or is another loop's.
     pub fn start(&mut self, job: &mut Job) -> Result<bool, Error> {
         known(unsafe { wasmloop_job_start(&mut self.0, &mut job.0) })
     }

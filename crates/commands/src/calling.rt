@@ -61,12 +61,12 @@ fn run(
     fuel: u64,
     depth: u32,
 ) -> Ended
-    requires store { IsStoreOf valid.now.contents instance.old }
+    requires store { IsStoreOf valid.now.contents instance.old.state }
     requires typed { TakesArguments valid.now.contents function args.now }
     requires depth { (1 ≤ depth) × (depth ≤ MAX_DEPTH) }
-    ensures runs { Runs valid.now.contents depth fuel instance.old function args.now result instance.new }
+    ensures runs { Runs valid.now.contents depth fuel instance.old.state function args.now result instance.new.state }
     ensures within { result.used ≤ fuel }
-    ensures kept { IsStoreOf valid.now.contents instance.new }
+    ensures kept { IsStoreOf valid.now.contents instance.new.state }
 {
     let mut host = NoHost::new(valid);
     invoke(valid, instance, &mut host, function, args, fuel, depth)
@@ -74,12 +74,12 @@ fn run(
 
 /// Runs the start function, where there is one.
 fn start(valid: &Valid, instance: &mut Instance, fuel: u64, depth: u32) -> Ended
-    requires fresh { IsFresh valid.now.contents instance.old }
-    requires store { IsStoreOf valid.now.contents instance.old }
+    requires fresh { IsFresh valid.now.contents instance.old.state }
+    requires store { IsStoreOf valid.now.contents instance.old.state }
     requires depth { (1 ≤ depth) × (depth ≤ MAX_DEPTH) }
-    ensures starts { Starts valid.now.contents depth fuel valid.now.contents.start result instance.new }
+    ensures starts { Starts valid.now.contents depth fuel valid.now.contents.start result instance.new.state }
     ensures within { result.used ≤ fuel }
-    ensures kept { IsStoreOf valid.now.contents instance.new }
+    ensures kept { IsStoreOf valid.now.contents instance.new.state }
 {
     match valid.contents().start {
         Some(function) => run(valid, instance, function, &[], fuel, depth),

@@ -1,10 +1,10 @@
 -- The bytes of a memory of which a front is kept.
 use Rattle.std.proofs.Common.{◌≡◌, ℕ, zero, suc, ◌+◌, ◌-◌, ◌*◌, ◌≤◌, min, List, [], ◌∷◌, ◌++◌, length, take, drop, replicate, Some, true, nat_le, le-leb, refl}
 use Rattle.std.proofs.Common.{sym, ap, ◌∙◌, arith, append_assoc, length-append, length-drop}
-use Rattle.std.proofs.lemmas.List.{length-replicate, replicate-append-replicate, drop-replicate, take-replicate}
+use Rattle.std.proofs.lemmas.List.{length-replicate, replicate-append-replicate, drop-replicate, take-replicate, length-take, take_all}
 use Rattle.std.proofs.Math.Seq.{drop-nil}
 use Rattle.limits.specs.declared.TheConstants.{PAGE_SIZE}
-use Rattle.instance.specs.Store.{MemoryInstance, number_at, number_of, pages, grown}
+use Rattle.instance.specs.Store.{MemoryInstance, bytes_at, number_at, number_of, pages, grown}
 use Rattle.instance.specs.Reads.{with_bytes}
 use Rattle.instance.specs.Inner.Room.{all_bytes}
 
@@ -95,6 +95,35 @@ number_behind total at width count l₁ start l₂ there n front shown part with
     let whole : take count (part ++ drop there (replicate 8 0)) ≡ take width (take there (drop start front) ++ replicate (8 - there) 0) = rw (is, p, d) refl in
     let b = bytes_behind total front at width start there within fits few s u in
     rw t (ap (λ (m : ℕ). Some m) (spelled ∙ ap (λ (xs : List ℕ). number_of xs) (whole ∙ b)))
+
+-- bytes that are copied: those of them in the front, over zeros
+pub copied_behind : (total at count l₁ start l₂ there : ℕ) (front shown part filled : List ℕ)
+    → length front ≤ total → at + count ≤ total → l₁ ≡ length front → start ≡ min at l₁ → l₂ ≡ length front → there ≡ min count (l₂ - start)
+    → shown ≡ front → part ≡ take (start + there - start) (drop start shown) → filled ≡ replicate count 0
+    → bytes_at at count (all_bytes total front) ≡ Some (part ++ drop there filled)
+copied_behind total at count l₁ start l₂ there front shown part filled within fits e₁ begins e₂ ends same copied zeros =
+    let t : nat_le (at + count) (length (all_bytes total front)) ≡ true = le-leb _ _ (omega (arith, length-all_bytes total front within)) in
+    let b : start ≡ min at (length front) = omega (arith, e₁, begins) in
+    let k : start + there - start ≡ there = omega arith in
+    let xs = drop start front in
+    let z = total - length front - (at - length front) in
+    let l : length xs ≡ length front - start = length-drop start front in
+    let u : there ≡ min count (length xs) = omega (arith, e₂, ends, l) in
+    let p : part ≡ take there xs =
+    copied
+    ∙ (ap (λ (ys : List ℕ). take (start + there - start) (drop start ys)) same
+    ∙ ap (λ (j : ℕ). take j xs) k) in
+    let d : drop there filled ≡ replicate (count - there) 0 = ap (λ (ys : List ℕ). drop there ys) zeros ∙ drop-replicate {X = ℕ} there count 0 in
+    let s : drop at (all_bytes total front) ≡ xs ++ replicate z 0 =
+    drop-zeros front (total - length front) at ∙ ap (λ (j : ℕ). drop j front ++ replicate z 0) (sym b) in
+    let pieces : length (take there xs ++ replicate (count - there) 0) ≤ count =
+    omega (arith, length-append (take there xs) (replicate (count - there) 0), length-take there xs, length-replicate {A = ℕ} (count - there) 0, u) in
+    let cut : take count (take there xs ++ replicate (count - there) 0) ≡ take count (xs ++ replicate z 0) =
+    cut-zeros xs count there (count - there) z u (omega arith) (omega (arith, l, b, fits, within)) in
+    let whole : take count (drop at (all_bytes total front)) ≡ take there xs ++ replicate (count - there) 0 =
+    ap (λ (ys : List ℕ). take count ys) s ∙ sym cut ∙ take_all count (take there xs ++ replicate (count - there) 0) pieces in
+    let all : take count (drop at (all_bytes total front)) ≡ part ++ drop there filled = rw (p, d) whole in
+    rw t (ap (λ (ys : List ℕ). Some ys) all)
 
 pub length_is : (total : ℕ) (front bytes : List ℕ) → length front ≤ total → all_bytes total front ≡ bytes → length bytes ≡ total
 length_is total front bytes within is = ap (λ (xs : List ℕ). length xs) (sym is) ∙ length-all_bytes total front within

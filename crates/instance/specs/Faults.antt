@@ -10,8 +10,8 @@ number_of_fault ElementRange = 1
 number_of_fault DataRange = 2
 number_of_fault Memory = 3
 
--- An element segment doesn't fit; or all of them do, and a data segment doesn't; or all segments fit, and memory
--- was refused.
+-- An element segment doesn't fit; or all of them do, and a data segment doesn't; or all segments fit: then nothing but memory
+-- was wanting.
 abbrev pub Explains : Contents → InstFault → Type 0
 Explains m ElementRange = ¬ (All (ElementFits m) m.elements)
 Explains m DataRange = All (ElementFits m) m.elements × ¬ (All (DataFits m) m.«data»)

@@ -2,11 +2,12 @@
 use Rattle.std.specs.Prelude.{◌≡◌, ℕ, ◌+◌, ◌*◌, List, [], ◌∷◌, ◌++◌, length, map, take, drop, replicate, Option, Some, None}
 use Rattle.limits.specs.declared.TheConstants.{PAGE_SIZE}
 use Rattle.syntax.specs.declared.contents.Contents.{Contents}
+use Rattle.syntax.specs.declared.types.Limits.{Limits}
 use Rattle.syntax.specs.declared.types.Value.{Value}
 use Rattle.syntax.specs.declared.contents.Element.{Element}
 use Rattle.syntax.specs.declared.contents.Data.{Data}
 use Rattle.validate.specs.Segments.{SegmentsFit, constant_in, offset_in, minimum}
-use Rattle.instance.specs.Store.{Store, page_limit}
+use Rattle.instance.specs.Store.{Store, MemoryInstance, page_limit}
 
 -- the list with these in place of what stood from a place on
 abbrev pub overwritten : {X : Type 0} → ℕ → List X → List X → List X
@@ -28,6 +29,10 @@ fresh_globals m = map (λ g. constant_in g.init) m.globals
 
 abbrev pub fresh_table : Contents → List (Option ℕ)
 fresh_table m = all_written with_element (replicate (minimum m.table) None) m.elements
+
+-- a memory of its least size, all zero
+abbrev pub fresh_memory : Option Limits → MemoryInstance
+fresh_memory limits = record { bytes = replicate (minimum limits * PAGE_SIZE) 0; limit = page_limit limits }
 
 abbrev pub fresh_bytes : Contents → List ℕ
 fresh_bytes m = all_written with_data (replicate (minimum m.memory * PAGE_SIZE) 0) m.«data»

@@ -1,5 +1,2 @@
--- No public clause reaches these: what is lent of a store, and room for a run.
-pub mod Lending
-pub mod LendingStack
+-- No public clause reaches these: the room of a memory, and what of it is kept.
 pub mod Room
-pub mod Stops

@@ -4,4 +4,7 @@ pub mod Reads
 pub mod Faults
 pub mod Storing
 pub mod Fresh
+pub mod Stops
+pub mod Lending
 pub mod LendingMemory
+pub mod LendingStack

@@ -26,4 +26,6 @@ pub mod Viewed
 pub mod RunsGoOn
 pub mod ValuesRead
 pub mod Hosted
+pub mod Sliced
 pub mod CallsBegin
+pub mod Slicing

@@ -7,14 +7,15 @@ ghost use Rattle.validate.specs.Targets.{AreTables};
 ghost use Rattle.instance.specs.Storing.{IsStoreOf};
 ghost use Rattle.reduction.specs.Run.{as_operands};
 ghost use Rattle.reduction.specs.Hosting.{Names};
-ghost use Rattle.reduction.specs.Invoking.{TakesArguments, HasNoResults, Invoked, ReturnsTyped};
-ghost use Rattle.reduction.specs.Stopping.{Tells};
-ghost use Rattle.instance.specs.Inner.Stops.{stop_of};
+ghost use Rattle.reduction.specs.Invoking.{TakesArguments, HasNoResults, ReturnsTyped};
+ghost use Rattle.reduction.specs.Leading.{Leads, calling, scene};
+ghost use Rattle.instance.specs.Stops.{stop_of};
+ghost use Rattle.interp.specs.Inner.Calling.{CanCall, CallDoes};
 
 use crate::host::{Args, Host};
 use crate::opening::open;
 use crate::over_host::run_over_host;
-use engine::Program;
+use engine::{Flow, Program, Stopped};
 use events::ended::{BareEnded, BareEnding, Ended, Ending};
 use events::values::Values;
 use instance::stack::{Caller, Last, Slots, Stack};
@@ -46,16 +47,10 @@ fn invoke_import<H: Host>(
     fuel: u64,
     depth: u32,
 )
-    requires store { IsStoreOf contents.now state.old }
-    requires names { Names contents.now (H.types host.old) }
-    requires typed { TakesArguments contents.now import args.now }
+    requires can { CanCall contents.now state.old (H.types host.old) import args.now }
     requires imported { import < length contents.now.imports }
-    ensures runs { Invoked contents.now depth fuel H.moves state.old host.old import args.now ended.new state.new host.new }
-    ensures within { ended.new.used ≤ fuel }
-    ensures results { ReturnsTyped contents.now import ended.new.ending }
-    ensures kept { IsStoreOf contents.now state.new }
+    ensures does { CallDoes contents.now depth fuel H.moves state.old host.old import args.now ended.new state.new host.new None }
     ensures types { H.types host.new ≡ H.types host.old }
-    ensures stops { Tells contents.now depth H.moves state.old host.old import args.now ended.new state.new host.new None }
 {
     let answer = host.call(import, &Args::new(args), state.memory_mut());
     *ended = Ended {
@@ -81,24 +76,23 @@ fn invoke_defined<H: Host>(
 )
     requires valid { ValidModule contents.now }
     requires agree { AreTables contents.now tables.now }
-    requires store { IsStoreOf contents.now state.old }
-    requires names { Names contents.now (H.types host.old) }
-    requires typed { TakesArguments contents.now function args.now }
+    requires can { CanCall contents.now state.old (H.types host.old) function args.now }
     requires defined { length contents.now.imports ≤ function }
     requires deep { length frames.old + 1 ≤ MAX_DEPTH }
-    ensures runs { Invoked contents.now (length frames.old + 1) fuel H.moves state.old host.old function args.now ended.new state.new host.new }
-    ensures within { ended.new.used ≤ fuel }
-    ensures results { ReturnsTyped contents.now function ended.new.ending }
-    ensures kept { IsStoreOf contents.now state.new }
+    ensures does { CallDoes contents.now (length frames.old + 1) fuel H.moves state.old host.old function args.now ended.new state.new host.new (stop_of last.new frames.new) }
     ensures types { H.types host.new ≡ H.types host.old }
-    ensures stops { Tells contents.now (length frames.old + 1) H.moves state.old host.old function args.now ended.new state.new host.new (stop_of last.new frames.new) }
     ensures callers { IfSome last.new (λ l. l.depth ≤ length frames.new) }
 {
     let Some(func_type) = type_of_function(contents, function) else {
         unreachable!()
     };
     let program = Program::new(contents, tables);
-    let start = open(contents, slots, function, args);
+    let at = open(contents, slots, function, args);
+    let mut place = Stopped {
+        flow: Flow::Spent,
+        at,
+        fuel,
+    };
     run_over_host(
         contents,
         &program,
@@ -107,10 +101,9 @@ fn invoke_defined<H: Host>(
         frames,
         state,
         host,
-        start,
+        &mut place,
         last,
         ended,
-        fuel,
     );
 }
 
@@ -132,18 +125,12 @@ fn invoke_below<H: Host>(
 )
     requires valid { ValidModule contents.now }
     requires agree { AreTables contents.now tables.now }
-    requires store { IsStoreOf contents.now state.old }
-    requires names { Names contents.now (H.types host.old) }
-    requires typed { TakesArguments contents.now function args.now }
+    requires can { CanCall contents.now state.old (H.types host.old) function args.now }
     requires defined { length contents.now.imports ≤ function }
     requires depth { (1 ≤ depth) × (depth ≤ MAX_DEPTH) }
     requires room { MAX_DEPTH ≤ length frames.old }
-    ensures runs { Invoked contents.now depth fuel H.moves state.old host.old function args.now ended.new state.new host.new }
-    ensures within { ended.new.used ≤ fuel }
-    ensures results { ReturnsTyped contents.now function ended.new.ending }
-    ensures kept { IsStoreOf contents.now state.new }
+    ensures does { CallDoes contents.now depth fuel H.moves state.old host.old function args.now ended.new state.new host.new (stop_of last.new frames.new) }
     ensures types { H.types host.new ≡ H.types host.old }
-    ensures stops { Tells contents.now depth H.moves state.old host.old function args.now ended.new state.new host.new (stop_of last.new frames.new) }
     ensures callers { IfSome last.new (λ l. l.depth ≤ MAX_DEPTH) }
     ensures room { length frames.new ≡ length frames.old }
 {
@@ -153,48 +140,10 @@ fn invoke_below<H: Host>(
     );
 }
 
-/// The same, with room for the callers of calls so deep.
-#[inline(always)]
-fn invoke_within<H: Host>(
-    contents: &Contents,
-    tables: &[SideTable],
-    state: &mut State,
-    host: &mut H,
-    slots: &mut Slots,
-    frames: &mut Vec<Caller>,
-    last: &mut Option<Last>,
-    ended: &mut Ended,
-    function: u32,
-    args: &[Value],
-    fuel: u64,
-    depth: u32,
-)
-    requires valid { ValidModule contents.now }
-    requires agree { AreTables contents.now tables.now }
-    requires store { IsStoreOf contents.now state.old }
-    requires names { Names contents.now (H.types host.old) }
-    requires typed { TakesArguments contents.now function args.now }
-    requires defined { length contents.now.imports ≤ function }
-    requires depth { (1 ≤ depth) × (depth ≤ MAX_DEPTH) }
-    requires room { MAX_DEPTH ≤ length frames.old.items }
-    ensures runs { Invoked contents.now depth fuel H.moves state.old host.old function args.now ended.new state.new host.new }
-    ensures within { ended.new.used ≤ fuel }
-    ensures results { ReturnsTyped contents.now function ended.new.ending }
-    ensures kept { IsStoreOf contents.now state.new }
-    ensures types { H.types host.new ≡ H.types host.old }
-    ensures stops { Tells contents.now depth H.moves state.old host.old function args.now ended.new state.new host.new (stop_of last.new frames.new.items) }
-    ensures callers { IfSome last.new (λ l. l.depth ≤ MAX_DEPTH) }
-    ensures room { length frames.new.items ≡ length frames.old.items }
-{
-    let callers = frames.as_mut_slice();
-    invoke_below(
-        contents, tables, state, host, slots, callers, last, ended, function, args, fuel, depth,
-    );
-}
-
 /// Calls a function of a module on one of its instances, with these arguments and so much fuel. At most `depth`, 1 to `MAX_DEPTH`,
 /// calls stand open, this one among them; calls of the host are not counted. A call of an imported function is one
-/// call of the host, and uses no fuel. No memory is taken: the instance has room for the slots of all calls.
+/// call of the host, and uses no fuel. No memory is taken: the instance has room for the slots of all calls. `last_stop` of the
+/// instance then tells where the call stopped, if it was over but by return.
 pub fn invoke<H: Host>(
     valid: &Valid,
     instance: &mut Instance,
@@ -204,14 +153,14 @@ pub fn invoke<H: Host>(
     fuel: u64,
     depth: u32,
 ) -> Ended
-    requires store { IsStoreOf valid.now.contents instance.old }
+    requires store { IsStoreOf valid.now.contents instance.old.state }
     requires names { Names valid.now.contents (H.types host.old) }
     requires typed { TakesArguments valid.now.contents function args.now }
     requires depth { (1 ≤ depth) × (depth ≤ MAX_DEPTH) }
-    ensures runs { Invoked valid.now.contents depth fuel H.moves instance.old host.old function args.now result instance.new host.new }
+    ensures runs { Leads H.moves (calling valid.now.contents function args.now fuel depth) (scene instance.old.state host.old) result instance.new.stack (scene instance.new.state host.new) }
     ensures within { result.used ≤ fuel }
     ensures results { ReturnsTyped valid.now.contents function result.ending }
-    ensures kept { IsStoreOf valid.now.contents instance.new }
+    ensures kept { IsStoreOf valid.now.contents instance.new.state }
     ensures types { H.types host.new ≡ H.types host.old }
 {
     let Instance { state, stack } = instance;
@@ -234,12 +183,11 @@ pub fn invoke_on<H: Host>(
     requires names { Names valid.now.contents (H.types host.old) }
     requires typed { TakesArguments valid.now.contents function args.now }
     requires depth { (1 ≤ depth) × (depth ≤ MAX_DEPTH) }
-    ensures runs { Invoked valid.now.contents depth fuel H.moves state.old host.old function args.now result state.new host.new }
+    ensures runs { Leads H.moves (calling valid.now.contents function args.now fuel depth) (scene state.old host.old) result stack.new (scene state.new host.new) }
     ensures within { result.used ≤ fuel }
     ensures results { ReturnsTyped valid.now.contents function result.ending }
     ensures kept { IsStoreOf valid.now.contents state.new }
     ensures types { H.types host.new ≡ H.types host.old }
-    ensures stops { Tells valid.now.contents depth H.moves state.old host.old function args.now result state.new host.new stack.new }
 {
     let mut ended = unwritten();
     invoke_into(
@@ -266,11 +214,10 @@ pub fn invoke_bare<H: Host>(
     requires typed { TakesArguments valid.now.contents function args.now }
     requires bare { HasNoResults valid.now.contents function }
     requires depth { (1 ≤ depth) × (depth ≤ MAX_DEPTH) }
-    ensures runs { Invoked valid.now.contents depth fuel H.moves state.old host.old function args.now (whole result) state.new host.new }
+    ensures runs { Leads H.moves (calling valid.now.contents function args.now fuel depth) (scene state.old host.old) (whole result) stack.new (scene state.new host.new) }
     ensures within { result.used ≤ fuel }
     ensures kept { IsStoreOf valid.now.contents state.new }
     ensures types { H.types host.new ≡ H.types host.old }
-    ensures stops { Tells valid.now.contents depth H.moves state.old host.old function args.now (whole result) state.new host.new stack.new }
 {
     invoke_into(
         valid, state, stack, host, place, function, args, fuel, depth,
@@ -304,16 +251,10 @@ fn invoke_into<H: Host>(
     fuel: u64,
     depth: u32,
 )
-    requires store { IsStoreOf valid.now.contents state.old }
-    requires names { Names valid.now.contents (H.types host.old) }
-    requires typed { TakesArguments valid.now.contents function args.now }
+    requires can { CanCall valid.now.contents state.old (H.types host.old) function args.now }
     requires depth { (1 ≤ depth) × (depth ≤ MAX_DEPTH) }
-    ensures runs { Invoked valid.now.contents depth fuel H.moves state.old host.old function args.now ended.new state.new host.new }
-    ensures within { ended.new.used ≤ fuel }
-    ensures results { ReturnsTyped valid.now.contents function ended.new.ending }
-    ensures kept { IsStoreOf valid.now.contents state.new }
+    ensures does { CallDoes valid.now.contents depth fuel H.moves state.old host.old function args.now ended.new state.new host.new stack.new }
     ensures types { H.types host.new ≡ H.types host.old }
-    ensures stops { Tells valid.now.contents depth H.moves state.old host.old function args.now ended.new state.new host.new stack.new }
 {
     let contents = valid.contents();
     let Stack {
@@ -327,7 +268,8 @@ fn invoke_into<H: Host>(
         return;
     }
     let tables = valid.tables();
-    invoke_within(
-        contents, tables, state, host, slots, frames, last, ended, function, args, fuel, depth,
+    let callers = frames.as_mut_slice();
+    invoke_below(
+        contents, tables, state, host, slots, callers, last, ended, function, args, fuel, depth,
     );
 }

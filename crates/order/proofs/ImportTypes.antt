@@ -8,12 +8,12 @@ use Rattle.syntax.specs.declared.contents.FuncType.{FuncType}
 use Rattle.syntax.specs.declared.contents.Import.{Import}
 use Rattle.syntax.specs.declared.types.Value.{Value}
 use Rattle.syntax.specs.declared.types.ValType.{ValType}
-use Rattle.validate.specs.Typing.{function_types, type_of}
+use Rattle.validate.specs.Typing.{function_types, type_of_function, type_of}
 use Rattle.reduction.specs.Hosting.{Takes, Names}
 use Rattle.imports.specs.declared.call.Call.{Call}
 use Rattle.imports.specs.Uv.{type_of_call}
 use Rattle.imports.specs.Linking.{IsLinked, IsKnown, Imports}
-use Rattle.order.specs.Inner.Hosting.{import_type, import_types}
+use Rattle.order.specs.ImportTypes.{import_type, import_types}
 
 at_map : {X Y : Type 0} (f : X → Y) (xs : List X) (k : ℕ) (x : X) → slice_get xs k ≡ Some x → slice_get (map f xs) k ≡ Some (f x)
 at_map f xs k x h = slice_get-map f xs k ∙ ap (option_map f) h
@@ -63,6 +63,16 @@ names m linked function within =
     let at : slice_get (function_types m) function ≡ Some i.0.type_index =
     at_front (map (λ (j : Import). j.type_index) m.imports) (map (λ f. f.type_index) m.functions) function i.0.type_index (at_map (λ (j : Import). j.type_index) m.imports function i.0 i.1) in
     mine ∙ sym (rw at type)
+
+-- an import, among the functions of the module
+pub import_known : (m : Contents) → IsLinked m → (function : ℕ) → function < length m.imports → (c : Call) × (type_of_function m function ≡ Some (type_of_call c))
+import_known m linked function within =
+    let i = there m.imports function within in
+    let known : IsKnown m i.0 = subst (IsKnown m) (get_or_from_slice_get m.imports function i.0 i.0 i.1) (linked.imports function i.0 within) in
+    let type = known.1.typed in
+    let at : slice_get (function_types m) function ≡ Some i.0.type_index =
+    at_front (map (λ (j : Import). j.type_index) m.imports) (map (λ f. f.type_index) m.functions) function i.0.type_index (at_map (λ (j : Import). j.type_index) m.imports function i.0 i.1) in
+    (known.0, rw at type)
 
 -- arguments by their places
 pub one_of : (t : ValType) (args : List Value) (a : Value) → map type_of args ≡ t ∷ [] → slice_get args 0 ≡ Some a → args ≡ a ∷ []

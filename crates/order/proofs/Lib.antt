@@ -6,3 +6,4 @@ pub mod WhereOrdersStop
 pub mod Short
 pub mod OneEnd
 pub mod RepliesAgree
+pub mod InSlices

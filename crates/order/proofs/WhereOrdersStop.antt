@@ -1,36 +1,22 @@
 -- Where the run of an order stopped.
-use Rattle.std.proofs.Common.{◌≡◌, ◌≢◌, ℕ, ◌+◌, ◌-◌, List, [], ◌∷◌, Option, Some, None, reverse, codes, refl, subst}
+use Rattle.std.proofs.Common.{◌≡◌, ◌≢◌, ℕ, ◌+◌, ◌-◌, List, [], ◌∷◌, Option, Some, None, reverse, codes, refl, sym, subst}
 use Rattle.std.specs.Option.{option_map}
 use Rattle.syntax.specs.declared.types.Value.{Value}
 use Rattle.syntax.specs.declared.types.Value.TheVariants.{I32}
-use Rattle.syntax.specs.Loaded.{Loaded}
 use Rattle.instance.specs.Store.{Store}
 use Rattle.instance.specs.Fresh.{IsFresh}
 use Rattle.instance.specs.declared.stack.Site.{Site}
 use Rattle.reduction.specs.Run.{Returned}
 use Rattle.reduction.specs.Running.{end_of_run}
-use Rattle.reduction.specs.Stopping.{Tells, StopsAt}
 use Rattle.events.specs.declared.ended.Ended.{Ended}
 use Rattle.events.specs.declared.ended.Ending.{Ending}
 use Rattle.events.specs.declared.ended.Ending.TheVariants.{Return}
 use Rattle.imports.specs.Linking.{ExportsFunction}
-use Rattle.order.specs.declared.host.WorkHost.{WorkHost}
-use Rattle.order.specs.Inner.Serving.{Serves}
-use Rattle.order.specs.Stopping.{WorkStop, ComputesTo, Leaves, stops, works}
+use Rattle.order.specs.Stopping.{WorkStop, ComputesTo, Leaves, StoppedIsComputed, stops, works}
 use Rattle.order.specs.Trails.{Innermost, innermost}
-use Rattle.order.specs.Work.{WorkOrder, WorkEnd, Done, Trap, Depth, Spent, NoMemory, WorkCall, StartRun, EndsAs}
-use Rattle.order.specs.Inner.WorkHosting.{Answered}
-use Rattle.order.proofs.WorkHostAnswers.{served, not_returned}
-
--- a call of a function, as the order's
-pub work_tells : (o : WorkOrder) (v : Loaded) (is : v ≡ o.loaded) (s t : Store) (old new : WorkHost) (serves : Serves old o) (function : ℕ) (args : List Value) (ended : Ended)
-    (stop : Option (List Site)) → Tells v.contents o.depth Answered s old function args ended t new stop
-    → Tells o.loaded.contents o.depth (WorkCall o) s old.reply.items function args ended t new.reply.items stop
-work_tells o v is s t old new serves function args ended stop h = record {
-  trace = h.trace;
-  lawful = (served o h.trace old new serves h.lawful).answers;
-  stops = subst (λ (l : Loaded). StopsAt l.contents o.depth s function args h.trace ended.ending ended.used t stop) is h.stops;
-}
+use Rattle.order.specs.Work.{WorkOrder, WorkEnd, Done, Trap, Depth, Spent, NoMemory, StartRun, Computes, EndsAs}
+use Rattle.order.specs.Work as work
+use Rattle.order.proofs.WorkHostAnswers.{not_returned}
 
 -- the start function does not return
 pub stops_to : (o : WorkOrder) (s t : Store) (ended : Ended) (reply : List ℕ) (stop : Option (List Site)) (e : WorkEnd) → IsFresh o.loaded.contents s
@@ -51,6 +37,15 @@ works_to o s t u started ended values reply reply' stop e fresh returned run wor
     let first : StartRun o o.loaded.contents.start s (Returned (reverse values)) started.used t reply =
     subst (λ (x : Ending). StartRun o o.loaded.contents.start s (end_of_run x) started.used t reply) returned run in
     works s t u (reverse values) ended started.used reply reply' work.0 fresh first work.1 work.2 refl end
+
+-- that run computes the order's end
+pub is_computed : StoppedIsComputed
+is_computed o end used stop (stops s t ended reply function fresh is ran not all ends) =
+    subst (λ (n : ℕ). Computes o end n) (sym all)
+    (work.stops s t (end_of_run ended.ending) reply fresh
+    (subst (λ (f : Option ℕ). StartRun o f s (end_of_run ended.ending) ended.used t reply) (sym is) ran.run) not ends)
+is_computed o end used stop (works s t u results ended first reply reply' function fresh started exported ran all ends) =
+    work.works s t u results (end_of_run ended.ending) first ended.used reply reply' function fresh started exported ran.run all ends
 
 -- the trail is what is kept of that
 pub leaves : (o : WorkOrder) (e : WorkEnd) (used : ℕ) (stop : Option (List Site)) (trail : Option Innermost) → e ≢ NoMemory → ComputesTo o e used stop → trail ≡ option_map innermost stop

@@ -9,13 +9,16 @@ use Rattle.order.specs.declared.host.WorkHost.{WorkHost}
 use Rattle.order.specs.Work.{WorkOrder, WorkEnd, Done, Trap, Depth, Spent, NoMemory, WorkAnswers, WorkCall, Works, IsTheEnd, IsEndOf}
 use Rattle.order.specs.Inner.WorkHosting.{Answered}
 use Rattle.order.specs.Inner.Serving.{Serves}
-use Rattle.std.proofs.Common.{reverse, ◌+◌, ◌-◌, codes}
+use Rattle.std.proofs.Common.{reverse, ◌+◌, ◌-◌, Option, codes}
 use Rattle.syntax.specs.declared.types.Value.TheVariants.{I32}
 use Rattle.validate.specs.Valid.{ValidModule}
 use Rattle.instance.specs.Store.{Store}
 use Rattle.instance.specs.Fresh.{IsFresh}
+use Rattle.instance.specs.declared.stack.Site.{Site}
 use Rattle.reduction.specs.Hosting.{Names}
-use Rattle.reduction.specs.Invoking.{Invokes, Invoked}
+use Rattle.reduction.specs.Invoking.{Invokes}
+use Rattle.reduction.specs.Leading.{Leads, calling, scene}
+use Rattle.reduction.specs.Stopping.{StopsAt}
 use Rattle.reduction.specs.Running.{end_of_run}
 use Rattle.reduction.specs.Run.{Returned}
 use Rattle.events.specs.declared.ended.Ended.{Ended}
@@ -24,8 +27,9 @@ use Rattle.events.specs.declared.ended.Ending.TheVariants.{Return}
 use Rattle.events.specs.declared.ended.Ending.TheVariants as ending
 use Rattle.imports.specs.Linking.{IsLinked, ExportsFunction}
 use Rattle.imports.specs.Uv.{AreNamedApart}
-use Rattle.order.specs.Inner.Hosting.{import_types}
+use Rattle.order.specs.ImportTypes.{import_types}
 use Rattle.order.specs.Work.{WorkRun, StartRun, EndsAs, Computes, Uses, stops, works}
+use Rattle.order.specs.Stopping.{WorkStop}
 use Rattle.order.proofs.ImportTypes.{names}
 use Rattle.order.proofs.OneEnd.{one_end}
 
@@ -67,15 +71,19 @@ names_of v l h same linked other = rw (same, other) (names l.contents linked)
 
 -- a call of a function, as the order's
 module _ (o : WorkOrder) (fuel : ℕ) (v : Loaded) (is : v ≡ o.loaded) (s t : Store) (old new : WorkHost) (serves : Serves old o) (function : ℕ) (args : List Value) (ended : Ended) where
-  pub work_run : Invoked v.contents o.depth fuel Answered s old function args ended t new → WorkRun o fuel s old.reply.items function args (end_of_run ended.ending) ended.used t new.reply.items
-  work_run h = record {
-    trace = h.trace;
-    run = subst (λ (l : Loaded). Invokes l.contents o.depth fuel s function args h.trace (end_of_run ended.ending) ended.used t) is h.invokes;
-    answers = (served o h.trace old new serves h.lawful).answers;
+  pub work_stops : (stop : Option (List Site)) → Leads Answered (calling v.contents function args fuel o.depth) (scene s old) ended stop (scene t new)
+      → WorkStop o fuel s old.reply.items function args ended t new.reply.items stop
+  work_stops stop h = record {
+    run = record {
+      trace = h.asked;
+      run = subst (λ (l : Loaded). Invokes l.contents o.depth fuel s function args h.asked (end_of_run ended.ending) ended.used t) is h.ran;
+      answers = (served o h.asked old new serves h.answered).answers;
+    };
+    stops = subst (λ (l : Loaded). StopsAt l.contents o.depth s function args h.asked ended.ending ended.used t stop) is h.stopped;
   }
 
-  pub work_serves : Invoked v.contents o.depth fuel Answered s old function args ended t new → Serves new o
-  work_serves h = (served o h.trace old new serves h.lawful).serves
+  pub work_serves : (stop : Option (List Site)) → Leads Answered (calling v.contents function args fuel o.depth) (scene s old) ended stop (scene t new) → Serves new o
+  work_serves stop h = (served o h.asked old new serves h.answered).serves
 
 pub not_returned : (how : Ending) → ((values : List Value) → how ≡ Return values → ⊥) → (results : List Value) → end_of_run how ≢ Returned results
 not_returned (Return values) h results e = h values refl

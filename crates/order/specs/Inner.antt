@@ -1,4 +1,5 @@
 -- No public clause reaches these: the hosts of a run.
-pub mod Hosting
 pub mod Serving
 pub mod WorkHosting
+pub mod Ready
+pub mod Going

@@ -4,4 +4,7 @@ pub mod Stopping
 pub mod Trails
 pub mod Work
 pub mod Runnable
+pub mod Slices
+pub mod Underway
+pub mod ImportTypes
 pub mod Uv

@@ -8,22 +8,17 @@ use Rattle.instance.specs.Fresh.{IsFresh}
 use Rattle.instance.specs.declared.stack.Site.{Site}
 use Rattle.reduction.specs.Run.{Returned}
 use Rattle.reduction.specs.Running.{end_of_run}
-use Rattle.reduction.specs.Stopping.{Tells}
+use Rattle.reduction.specs.Stopping.{StopsAt}
 use Rattle.events.specs.declared.ended.Ended.{Ended}
 use Rattle.imports.specs.Linking.{ExportsFunction}
 use Rattle.order.specs.Trails.{Innermost, innermost}
-use Rattle.order.specs.Work.{WorkOrder, WorkEnd, NoMemory, WorkRun, WorkCall, StartRun, EndsAs}
+use Rattle.order.specs.Work.{WorkOrder, WorkEnd, NoMemory, WorkRun, StartRun, EndsAs, Computes}
 
--- a run of a function of the order's module tells this stop
-abbrev pub TellsWork : (o : WorkOrder) → Store → (reply : List ℕ) → (function : ℕ) → List Value → Ended → Store → (reply' : List ℕ)
-    → Option (List Site) → Type 0
-TellsWork o = Tells o.loaded.contents o.depth (WorkCall o)
-
--- a function of the order's module runs so, and stops there if it does not return
+-- a function of the order's module runs so, and that run stops there if it does not return
 pub record WorkStop (o : WorkOrder) (fuel : ℕ) (s : Store) (reply : List ℕ) (function : ℕ) (args : List Value) (ended : Ended) (t : Store)
     (reply' : List ℕ) (stop : Option (List Site)) : Type 0 where
   pub run : WorkRun o fuel s reply function args (end_of_run ended.ending) ended.used t reply'
-  pub tells : TellsWork o s reply function args ended t reply' stop
+  pub stops : StopsAt o.loaded.contents o.depth s function args run.trace ended.ending ended.used t stop
 
 -- One thread computes this end from the order and uses so much, as in `Computes`, and stops there: where the start function
 -- does not return, there, and else where `uv_work` does not.
@@ -41,6 +36,11 @@ pub data ComputesTo (o : WorkOrder) (end : WorkEnd) (used : ℕ) (stop : Option 
       → WorkStop o (o.fuel - first) t reply function (I32 o.op ∷ []) ended u reply' stop
       → used ≡ first + ended.used
       → EndsAs (end_of_run ended.ending) reply' end → ComputesTo o end used stop
+
+-- what an order's run stops at, the run stops at that computes its end
+abbrev pub StoppedIsComputed : Type 0
+StoppedIsComputed =
+    (o : WorkOrder) (end : WorkEnd) (used : ℕ) (stop : Option (List Site)) → ComputesTo o end used stop → Computes o end used
 
 -- the trail of a run of the order: what is kept of where it stopped; where there is no memory, nothing runs
 abbrev pub Leaves : WorkOrder → WorkEnd → (used : ℕ) → (trail : Option Innermost) → Type 0

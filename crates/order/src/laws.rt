@@ -1,10 +1,12 @@
 // Laws of orders and of linked modules.
 
 ghost use Rattle.reduction.specs.Hosting.{Names};
-ghost use Rattle.order.specs.Inner.Hosting.{import_types};
-ghost use Rattle.std.specs.Prelude.{◌≡◌, ◌≢◌};
+ghost use Rattle.std.specs.Prelude.{◌≡◌, ◌≢◌, ℕ};
+ghost use Rattle.order.specs.ImportTypes.{import_types};
 ghost use Rattle.validate.specs.Valid.{ValidModule};
-ghost use Rattle.order.specs.Work.{WorkOrder, WorkEnd, NoMemory, Works, IsEndOf, IsShortEnd};
+ghost use Rattle.order.specs.Stopping.{StoppedIsComputed};
+ghost use Rattle.order.specs.Uv.Numbers.{AreNumbers};
+ghost use Rattle.order.specs.Work.{WorkOrder, WorkEnd, NoMemory, Works, Computes, IsEndOf, IsShortEnd};
 
 use imports::Linked;
 use imports::laws::names_are_apart;
@@ -31,7 +33,24 @@ pub fn one_end()
     names_are_apart();
 }
 
+/// What it uses for that is one number of units, however its run is cut into slices.
+pub fn one_use()
+    ensures { (o : WorkOrder) (end other : WorkEnd) (used more : ℕ) → ValidModule o.loaded.contents → Computes o end used → Computes o other more → used ≡ more }
+{
+    names_are_apart();
+}
+
 /// Two replies to one order, each from an instance of its own, hold one end, unless there was no memory for one of them.
 pub fn replies_agree()
     ensures { (o : WorkOrder) (end other : WorkEnd) → ∥ IsEndOf o end ∥₁ → ∥ IsEndOf o other ∥₁ → end ≢ NoMemory → other ≢ NoMemory → end ≡ other }
+{}
+
+/// Where the trail of a run says that it stopped, there the run stopped that computes the order's end: one run has both.
+pub fn stopped_is_computed()
+    ensures { StoppedIsComputed }
+{}
+
+/// The numbers that a guest is answered are those of docs/UV.md.
+pub fn answers_are_numbers()
+    ensures { AreNumbers }
 {}

@@ -11,13 +11,17 @@
 
 mod host;
 pub mod laws;
+mod machine;
 mod order;
 mod reply;
 mod run;
+mod running;
+mod stage;
 mod trail;
 pub mod uv;
 
 pub use order::{Order, Outcome};
 pub use reply::Reply;
 pub use run::Told;
+pub use running::{Going, Running};
 pub use trail::{MAX_TRAIL, Trail};

@@ -1,6 +1,6 @@
 // What one thread computes from an order.
 
-ghost use Rattle.std.specs.Prelude.{◌≡◌, ◌≢◌, ◌≤◌, ℕ, [], ◌∷◌, Some, length, codes, IfOk};
+ghost use Rattle.std.specs.Prelude.{◌≡◌, ◌≢◌, ◌≤◌, ℕ, [], ◌∷◌, Some, length, vec_capacity, codes, IfOk, IfErr};
 ghost use Rattle.std.specs.Arc.{arc_value};
 ghost use Rattle.limits.specs.declared.TheConstants.{MAX_BYTES, MAX_DEPTH};
 ghost use Rattle.syntax.specs.declared.types.ValType.TheVariants as valtype;
@@ -11,10 +11,11 @@ ghost use Rattle.reduction.specs.Invoking.{TakesArguments, ReturnsTyped};
 ghost use Rattle.reduction.specs.Running.{end_of_run, AreResults};
 ghost use Rattle.imports.specs.Linking.{ExportsFunction};
 ghost use Rattle.order.specs.Orders.{order_of, end_of};
+ghost use Rattle.order.specs.Inner.Ready.{IsReady};
 ghost use Rattle.order.specs.Inner.Serving.{Serves};
 ghost use Rattle.order.specs.Runnable.{CanRun};
-ghost use Rattle.order.specs.Stopping.{TellsWork, WorkStop, ComputesTo, Leaves};
-ghost use Rattle.order.specs.Work.{WorkRun, WorkEnd, NoMemory, StartRun, Computes, Uses, IsEndOf, EndsAs};
+ghost use Rattle.order.specs.Stopping.{WorkStop, ComputesTo, Leaves};
+ghost use Rattle.order.specs.Work.{WorkEnd, NoMemory, StartRun, Computes, Uses, IsEndOf, EndsAs};
 
 use crate::host::WorkHost;
 use crate::order::{Order, Outcome};
@@ -22,17 +23,19 @@ use crate::reply::Reply;
 use crate::trail::Trail;
 use events::ended::{Ended, Ending};
 use events::values::Values;
-use imports::EntryPoint;
 use imports::laws::names_are_apart;
+use imports::{EntryPoint, Linked};
 use instance::fault::InstFault;
 use instance::stack::Stack;
 use instance::state::{Instance, State};
 use interp::invoke::invoke_on;
+use limits::MAX_BYTES;
 use std::alloc::{AllocError, Global};
+use std::sync::Arc;
 use syntax::types::Value;
 
 /// How `uv_work`, or the start function where that did not return, reads as an outcome.
-fn outcome_from(ending: Ending, reply: Vec<u8>) -> Outcome
+pub(crate) fn outcome_from(ending: Ending, reply: Vec<u8>) -> Outcome
     requires { AreResults ending (valtype.I32 ∷ []) }
     ensures end { EndsAs (end_of_run ending) reply.items (end_of result) }
     ensures told { end_of result ≢ NoMemory }
@@ -68,6 +71,50 @@ struct Computed {
     trail: Option<Trail>,
 }
 
+/// All memory that a run of an order takes: a new instance of its module, room for the bytes of its reply, and a share of the module
+/// and of the input each.
+struct Reserved<T> {
+    instance: Instance,
+    linked: Arc<Linked, Global>,
+    input: Arc<T, Global>,
+    reply: Vec<u8>,
+    ghost empty: { reply.items ≡ [] },
+    ghost room: { MAX_BYTES ≤ vec_capacity reply },
+}
+
+/// A new instance of a module.
+fn instance_of(alloc: Global, linked: &Linked) -> Result<Instance, AllocError>
+    ensures { IfOk result (λ i. IsReady linked.now.contents i.state) }
+{
+    let valid = linked.valid();
+    // for what its contract tells: the module is valid
+    let _contents = valid.contents();
+    match Instance::new(alloc, valid) {
+        Ok(instance) => Ok(instance),
+        Err(InstFault::Memory) => Err(AllocError),
+        Err(_) => unreachable!(),
+    }
+}
+
+/// Reserves what a run of a module takes. It sees neither the operation nor what is in the input, so whether memory is refused can't
+/// depend on these.
+fn reserve<T: Drop>(
+    alloc: Global,
+    linked: &Arc<Linked, Global>,
+    input: &Arc<T, Global>,
+) -> Result<Reserved<T>, AllocError>
+    ensures ready { IfOk result (λ r. IsReady (arc_value linked.now).contents r.instance.state) }
+    ensures linked { IfOk result (λ r. arc_value r.linked ≡ arc_value linked.now) }
+    ensures input { IfOk result (λ r. arc_value r.input ≡ arc_value input.now) }
+{
+    Ok(Reserved {
+        instance: instance_of(alloc, linked)?,
+        linked: Arc::try_clone(linked)?,
+        input: Arc::try_clone(input)?,
+        reply: Vec::with_capacity(alloc, MAX_BYTES)?,
+    })
+}
+
 impl Order {
     /// Runs the order: the start function and then `uv_work` on a new instance, with the fuel that is left. Its module
     /// exports `uv_work`, and its bytes and its depth are within their limits, as of each order that a loop hands out.
@@ -92,8 +139,25 @@ impl Order {
         ensures within { result.used ≤ self.fuel }
         ensures trail { Leaves (order_of self) (end_of result.reply.outcome) result.used result.trail }
     {
-        let computed = match self.compute(alloc) {
-            Ok(computed) => computed,
+        let reserved = reserve(alloc, &self.module, &self.bytes);
+        self.run_in(reserved)
+    }
+
+    /// Runs the order in what was reserved for it. There was no memory where that was refused, and nowhere else.
+    fn run_in(self, reserved: Result<Reserved<Vec<u8>>, AllocError>) -> Told
+        requires runs { CanRun (order_of self) }
+        requires ready { IfOk reserved (λ r. IsReady (arc_value self.module).contents r.instance.state) }
+        requires linked { IfOk reserved (λ r. arc_value r.linked ≡ arc_value self.module) }
+        requires input { IfOk reserved (λ r. arc_value r.input ≡ arc_value self.bytes) }
+        ensures order { result.reply.order ≡ self }
+        ensures memory { IfOk reserved (λ _. end_of result.reply.outcome ≢ NoMemory) }
+        ensures refused { IfErr reserved (λ _. end_of result.reply.outcome ≡ NoMemory) }
+        ensures used { Uses (order_of self) (end_of result.reply.outcome) result.used }
+        ensures within { result.used ≤ self.fuel }
+        ensures trail { Leaves (order_of self) (end_of result.reply.outcome) result.used result.trail }
+    {
+        let computed = match reserved {
+            Ok(reserved) => self.compute(reserved),
             Err(AllocError) => Computed {
                 outcome: Outcome::NoMemory,
                 used: 0,
@@ -110,26 +174,12 @@ impl Order {
         }
     }
 
-    fn compute(&self, alloc: Global) -> Result<Computed, AllocError>
-        requires runs { CanRun (order_of self.now) }
-        ensures end { IfOk result (λ computed. IsEndOf (order_of self.now) (end_of computed.outcome)) }
-        ensures used { IfOk result (λ computed. Uses (order_of self.now) (end_of computed.outcome) computed.used) }
-        ensures within { IfOk result (λ computed. computed.used ≤ self.now.fuel) }
-        ensures trail { IfOk result (λ computed. Leaves (order_of self.now) (end_of computed.outcome) computed.used computed.trail) }
-    {
-        let mut instance = self.new_instance(alloc)?;
-        let host = WorkHost::new(alloc, &self.module, &self.bytes)?;
-        Ok(self.compute_on(&mut instance, host))
-    }
-
     /// The same, on a new instance, for a host that has set no bytes. Nothing is reserved.
-    fn compute_on(&self, instance: &mut Instance, host: WorkHost) -> Computed
+    fn compute(&self, reserved: Reserved<Vec<u8>>) -> Computed
         requires runs { CanRun (order_of self.now) }
-        requires valid { ValidModule (arc_value self.now.module).contents }
-        requires fresh { IsFresh (arc_value self.now.module).contents instance.old }
-        requires store { IsStoreOf (arc_value self.now.module).contents instance.old }
-        requires serves { Serves host (order_of self.now) }
-        requires empty { host.reply.items ≡ [] }
+        requires ready { IsReady (arc_value self.now.module).contents reserved.instance.state }
+        requires linked { arc_value reserved.linked ≡ arc_value self.now.module }
+        requires input { arc_value reserved.input ≡ arc_value self.now.bytes }
         ensures end { IsEndOf (order_of self.now) (end_of result.outcome) }
         ensures told { end_of result.outcome ≢ NoMemory }
         ensures used { Uses (order_of self.now) (end_of result.outcome) result.used }
@@ -137,13 +187,23 @@ impl Order {
         ensures trail { Leaves (order_of self.now) (end_of result.outcome) result.used result.trail }
     {
         names_are_apart();
-        let Instance { state, stack } = instance;
-        let mut host = host;
-        let ended = self.start_and_work(state, stack, &mut host);
+        let Reserved {
+            instance,
+            linked,
+            input,
+            reply,
+        } = reserved;
+        let (mut state, mut stack) = instance.into_parts();
+        let mut host = WorkHost {
+            linked,
+            bytes: input,
+            reply,
+        };
+        let ended = self.start_and_work(&mut state, &mut stack, &mut host);
         Computed {
             outcome: outcome_from(ended.ending, host.into_reply()),
             used: ended.used,
-            trail: Trail::of_last(stack),
+            trail: Trail::of_last(&stack),
         }
     }
 
@@ -170,19 +230,12 @@ impl Order {
         }
     }
 
-    fn new_instance(&self, alloc: Global) -> Result<Instance, AllocError>
+    pub(crate) fn new_instance(&self, alloc: Global) -> Result<Instance, AllocError>
         ensures valid { IfOk result (λ _. ValidModule (arc_value self.now.module).contents) }
-        ensures fresh { IfOk result (λ i. IsFresh (arc_value self.now.module).contents i) }
-        ensures store { IfOk result (λ i. IsStoreOf (arc_value self.now.module).contents i) }
+        ensures fresh { IfOk result (λ i. IsFresh (arc_value self.now.module).contents i.state) }
+        ensures store { IfOk result (λ i. IsStoreOf (arc_value self.now.module).contents i.state) }
     {
-        let valid = self.module.valid();
-        // for what its contract tells: the module is valid
-        let _contents = valid.contents();
-        match Instance::new(alloc, valid) {
-            Ok(instance) => Ok(instance),
-            Err(InstFault::Memory) => Err(AllocError),
-            Err(_) => unreachable!(),
-        }
+        instance_of(alloc, &self.module)
     }
 
     /// The start function, where there is one.
@@ -225,7 +278,7 @@ impl Order {
     }
 
     /// A function of the order's module.
-    fn call(
+    pub(crate) fn call(
         &self,
         state: &mut State,
         stack: &mut Stack,
@@ -238,8 +291,7 @@ impl Order {
         requires store { IsStoreOf (arc_value self.now.module).contents state.old }
         requires serves { Serves host.old (order_of self.now) }
         requires runs { CanRun (order_of self.now) }
-        ensures run { WorkRun (order_of self.now) fuel state.old host.old.reply.items function args.now (end_of_run result.ending) result.used state.new host.new.reply.items }
-        ensures stops { TellsWork (order_of self.now) state.old host.old.reply.items function args.now result state.new host.new.reply.items stack.new }
+        ensures run { WorkStop (order_of self.now) fuel state.old host.old.reply.items function args.now result state.new host.new.reply.items stack.new }
         ensures within { result.used ≤ fuel }
         ensures results { ReturnsTyped (arc_value self.now.module).contents function result.ending }
         ensures store { IsStoreOf (arc_value self.now.module).contents state.new }

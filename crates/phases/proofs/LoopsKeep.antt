@@ -20,12 +20,14 @@ use Rattle.handles.specs.declared.handle.Record.{Record}
 use Rattle.instance.specs.Fresh.{fresh_store}
 use Rattle.instance.specs.Store.{Store}
 use Rattle.reduction.specs.Hosting.{Lawful, Names}
-use Rattle.reduction.specs.Invoking.{Invokes, Invoked, TakesArguments, HasNoResults}
+use Rattle.reduction.specs.Invoking.{Invokes, TakesArguments, HasNoResults}
+use Rattle.reduction.specs.Leading.{Leads, calling, scene}
+use Rattle.instance.specs.declared.stack.Site.{Site}
 use Rattle.reduction.specs.Running.{end_of_run}
 use Rattle.instance.specs.Storing.{IsStoreOf}
 use Rattle.events.specs.declared.ended.Ended.{Ended}
 use Rattle.imports.specs.Linking.{IsLinked, ExportsFunction, ExportsNothing}
-use Rattle.order.specs.Inner.Hosting.{import_types}
+use Rattle.order.specs.ImportTypes.{import_types}
 use Rattle.order.specs.Orders.{order_of}
 use Rattle.order.specs.declared.order.Order.{Order}
 use Rattle.order.proofs.FunctionTypes.{has_type}
@@ -180,26 +182,26 @@ module _ (m : Contents) (f n : ℕ) where
 module _ {G S : Type 0} (calls : Calls S) (setting : G → Setting) (standing : G → State × S) (l v : Loaded) (is : v ≡ l) (g : Setting) (old : Loop S)
     (keeps : Keeps l g old.state old.store) (before after : G) (made : setting before ≡ g) (reply : Option (List ℕ))
     (begins : standing before ≡ (begun old.state reply, old.shared)) (t : Store) (function : ℕ) (args : List Value) (ended : Ended)
-    (h : Invoked v.contents g.depth g.fuel (Answered calls setting standing) old.store before function args ended t after) where
-  answered : Lawful (HostStep calls g) h.trace (begun old.state reply, old.shared) (standing after)
+    (stop : Option (List Site)) (h : Leads (Answered calls setting standing) (calling v.contents function args g.fuel g.depth) (scene old.store before) ended stop (scene t after)) where
+  answered : Lawful (HostStep calls g) h.asked (begun old.state reply, old.shared) (standing after)
   answered =
-      let it = served calls setting standing h.trace before after h.lawful in
-      subst (λ (p : State × S). Lawful (HostStep calls g) h.trace p (standing after)) begins
-      (subst (λ (x : Setting). Lawful (HostStep calls x) h.trace (standing before) (standing after)) made it.answers)
+      let it = served calls setting standing h.asked before after h.answered in
+      subst (λ (p : State × S). Lawful (HostStep calls g) h.asked p (standing after)) begins
+      (subst (λ (x : Setting). Lawful (HostStep calls x) h.asked (standing before) (standing after)) made it.answers)
 
   pub same_setting : setting after ≡ g
-  same_setting = (served calls setting standing h.trace before after h.lawful).same ∙ made
+  same_setting = (served calls setting standing h.asked before after h.answered).same ∙ made
 
   pub runs_from : (kind : EntryKind) (number : ℕ) (last : State) → last ≡ finished (standing after).0 ended
       → (made : List GuestCall) × RunsFrom calls g old kind number function args reply (Ran kind number ended) made (record { state = last; store = t; shared = (standing after).1 })
   runs_from kind number last e =
-      let it = named calls g h.trace (begun old.state reply, old.shared) (standing after) answered in (
+      let it = named calls g h.asked (begun old.state reply, old.shared) (standing after) answered in (
         it.0,
         record {
           ended = ended;
           state = (standing after).0;
           run = subst (λ xs. Invokes g.loaded.contents g.depth g.fuel old.store function args xs (end_of_run ended.ending) ended.used t) (sym it.1)
-              (subst (λ (x : Loaded). Invokes x.contents g.depth g.fuel old.store function args h.trace (end_of_run ended.ending) ended.used t) (is ∙ keeps.same) h.invokes);
+              (subst (λ (x : Loaded). Invokes x.contents g.depth g.fuel old.store function args h.asked (end_of_run ended.ending) ended.used t) (is ∙ keeps.same) h.ran);
           answers = it.2;
           told = refl;
           finished = e;
@@ -210,9 +212,9 @@ module _ {G S : Type 0} (calls : Calls S) (setting : G → Setting) (standing : 
   kept_after linked fits last e =
       let u : State = (standing after).0 in
       let grows : Grows old.state (finished u ended) = grows_on old.state (begun old.state reply) (finished u ended) (grows_begun old.state reply)
-      (grows_on (begun old.state reply) u (finished u ended) (trace_grows calls g h.trace (begun old.state reply, old.shared) (standing after) answered) (grows_finished u ended)) in
+      (grows_on (begun old.state reply) u (finished u ended) (trace_grows calls g h.asked (begun old.state reply, old.shared) (standing after) answered) (grows_finished u ended)) in
       let orders : AreOrdersOf g u.requests =
-      orders_run g (subst (λ (x : Loaded). IsLinked x.contents) (is ∙ keeps.same) linked) keeps.depth calls h.trace (begun old.state reply, old.shared) (standing after) answered keeps.orders in
+      orders_run g (subst (λ (x : Loaded). IsLinked x.contents) (is ∙ keeps.same) linked) keeps.depth calls h.asked (begun old.state reply, old.shared) (standing after) answered keeps.orders in
       let there : Keeps l g (finished u ended) old.store = kept_on l g old.state (finished u ended) old.store keeps grows orders in
       subst (λ (s : State). Keeps l g s t) (sym e) (record {
         same = there.same;

@@ -6,7 +6,7 @@ use Rattle.instance.specs.Store.{Store}
 use Rattle.instance.specs.declared.stack.Site.{Site}
 use Rattle.events.specs.declared.ended.Ended.{Ended}
 use Rattle.reduction.specs.Hosting.{Lawful}
-use Rattle.reduction.specs.Stopping.{Tells}
+use Rattle.reduction.specs.Leading.{Leads, calling, scene}
 use Rattle.phases.specs.Calls.{Calls}
 use Rattle.phases.specs.Host.{HostStep}
 use Rattle.phases.specs.Inner.Hosting.{Answered}
@@ -17,11 +17,11 @@ use Rattle.phases.proofs.GuestCallsKeep.{served}
 -- where a call on the host of a loop stopped, if it did
 pub stops_at : {G S : Type 0} (calls : Calls S) (setting : G → Setting) (standing : G → State × S) (v : Loaded) (g : Setting) → v ≡ g.loaded
     → (before after : G) → setting before ≡ g → (s t : Store) (function : ℕ) (args : List Value) (ended : Ended) (stop : Option (List Site))
-    → Tells v.contents g.depth (Answered calls setting standing) s before function args ended t after stop
+    → Leads (Answered calls setting standing) (calling v.contents function args g.fuel g.depth) (scene s before) ended stop (scene t after)
     → IfSome stop (λ sites. ∥ StopsAt calls (setting after) t sites ∥₁)
 stops_at calls setting standing v g is before after made s t function args ended None w = tt
 stops_at calls setting standing v g is before after made s t function args ended (Some sites) w =
-    let it = served calls setting standing w.trace before after w.lawful in
+    let it = served calls setting standing w.asked before after w.answered in
     subst (λ (x : Setting). ∥ StopsAt calls x t sites ∥₁) (sym (it.same ∙ made))
     ∣ record {
       function = function;
@@ -30,9 +30,10 @@ stops_at calls setting standing v g is before after made s t function args ended
       before = s;
       begun = standing before;
       over = standing after;
-      tells = subst (λ (x : Loaded). Tells x.contents g.depth (HostStep calls g) s (standing before) function args ended t (standing after) (Some sites)) is (record {
-        trace = w.trace;
-        lawful = subst (λ (x : Setting). Lawful (HostStep calls x) w.trace (standing before) (standing after)) made it.answers;
-        stops = w.stops;
+      leads = subst (λ (x : Loaded). Leads (HostStep calls g) (calling x.contents function args g.fuel g.depth) (scene s (standing before)) ended (Some sites) (scene t (standing after))) is (record {
+        asked = w.asked;
+        ran = w.ran;
+        answered = subst (λ (x : Setting). Lawful (HostStep calls x) w.asked (standing before) (standing after)) made it.answers;
+        stopped = w.stopped;
       });
     } ∣₁

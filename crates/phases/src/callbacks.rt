@@ -31,7 +31,7 @@ pub fn callbacks_of(
     contents: &Contents,
     instance: &Instance,
 ) -> Result<Vec<Option<u32>>, AllocError>
-    requires { IsFresh contents.now instance.now }
+    requires { IsFresh contents.now instance.now.state }
     ensures { IfOk result (λ callbacks. callbacks.items ≡ callbacks_of contents.now) }
 {
     let table = instance.state.table();

@@ -129,7 +129,7 @@ fn answer<B: Shared>(
 impl<B: Shared + Drop> Host for LoopHost<B> {
     ghost use Rattle.phases.specs.Inner.Hosting.{Answered};
     ghost use Rattle.phases.specs.Inner.Setting.{setting_of};
-    ghost use Rattle.order.specs.Inner.Hosting.{import_types};
+    ghost use Rattle.order.specs.ImportTypes.{import_types};
 
     ghost types = { λ g. import_types (setting_of g.setting).loaded.contents };
 

@@ -16,8 +16,8 @@ use std::alloc::{AllocError, Global};
 
 /// A new instance of a module, and the state of a loop over it that has done nothing.
 pub fn opened(alloc: Global, linked: &Linked) -> Result<(Instance, LoopState), AllocError>
-    ensures fresh { IfOk result (λ made. IsFresh linked.now.contents made.0) }
-    ensures store { IfOk result (λ made. IsStoreOf linked.now.contents made.0) }
+    ensures fresh { IfOk result (λ made. IsFresh linked.now.contents made.0.state) }
+    ensures store { IfOk result (λ made. IsStoreOf linked.now.contents made.0.state) }
     ensures state { IfOk result (λ made. made.1 ≡ opening (opening_roster linked.now.contents) (begin_list linked.now.contents)) }
 {
     let instance = instance_of(alloc, linked)?;
@@ -26,8 +26,8 @@ pub fn opened(alloc: Global, linked: &Linked) -> Result<(Instance, LoopState), A
 }
 
 fn instance_of(alloc: Global, linked: &Linked) -> Result<Instance, AllocError>
-    ensures fresh { IfOk result (λ instance. IsFresh linked.now.contents instance) }
-    ensures store { IfOk result (λ instance. IsStoreOf linked.now.contents instance) }
+    ensures fresh { IfOk result (λ instance. IsFresh linked.now.contents instance.state) }
+    ensures store { IfOk result (λ instance. IsStoreOf linked.now.contents instance.state) }
 {
     match Instance::new(alloc, linked.valid()) {
         Ok(instance) => Ok(instance),
@@ -37,7 +37,7 @@ fn instance_of(alloc: Global, linked: &Linked) -> Result<Instance, AllocError>
 }
 
 fn machine_of(alloc: Global, linked: &Linked, instance: &Instance) -> Result<LoopState, AllocError>
-    requires { IsFresh linked.now.contents instance.now }
+    requires { IsFresh linked.now.contents instance.now.state }
     ensures { IfOk result (λ made. made ≡ opening (opening_roster linked.now.contents) (begin_list linked.now.contents)) }
 {
     let contents = linked.valid().contents();

@@ -1,6 +1,9 @@
 // The operations of a body that was decoded: their names, and by their lengths alone their places (WebAssembly Core 1.0,
 // 5.4, 5.5.13 and appendix, index of instructions; the sign extensions are those of WebAssembly Core 2.0).
 
+ghost use Rattle.std.specs.Prelude.{◌≤◌, ◌<◌, IfSome};
+ghost use Rattle.places.specs.Places.{IsPlaceOfOperation};
+
 use crate::place::Place;
 use crate::spans::{CODE, Span, body_at, body_with, find, function_of};
 use leb::read_u32;
@@ -41,7 +44,7 @@ const NAMES: &str = "unreachable nop block loop if else - - \
 
 /// The extension of WebAssembly 1.0 to which the operations belong that begin with this byte, if it is known. The byte behind it
 /// decides where an opcode stands for operations of several.
-pub fn extension_at(bytes: &[u8], at: usize) -> Option<&'static str> {
+pub(crate) fn extension_at(bytes: &[u8], at: usize) -> Option<&'static str> {
     let behind = bytes.get(at.checked_add(1)?);
     Some(match (*bytes.get(at)?, behind) {
         (0x06..=0x0a | 0x18 | 0x19 | 0x1f, _) => "exceptions",
@@ -58,7 +61,9 @@ pub fn extension_at(bytes: &[u8], at: usize) -> Option<&'static str> {
 }
 
 /// The byte behind an integer.
-fn behind_integer(bytes: &[u8], at: usize) -> Option<usize> {
+fn behind_integer(bytes: &[u8], at: usize) -> Option<usize>
+    ensures { IfSome result (λ next. at < next) }
+{
     for next in at..bytes.len() {
         if bytes[next] < 0x80 {
             return Some(next + 1);
@@ -68,7 +73,9 @@ fn behind_integer(bytes: &[u8], at: usize) -> Option<usize> {
 }
 
 /// The byte behind so many integers.
-fn behind_integers(bytes: &[u8], at: usize, count: u32) -> Option<usize> {
+fn behind_integers(bytes: &[u8], at: usize, count: u32) -> Option<usize>
+    ensures { IfSome result (λ next. at ≤ next) }
+{
     let mut next = at;
     for _ in 0..count {
         next = behind_integer(bytes, next)?;
@@ -86,7 +93,9 @@ fn immediates(opcode: u8) -> u32 {
 }
 
 /// The byte behind the operation that begins at this byte.
-fn behind_operation(bytes: &[u8], at: usize) -> Option<usize> {
+fn behind_operation(bytes: &[u8], at: usize) -> Option<usize>
+    ensures { IfSome result (λ next. at < next) }
+{
     let opcode = *bytes.get(at)?;
     let next = at.checked_add(1)?;
     if opcode == BR_TABLE {
@@ -97,13 +106,15 @@ fn behind_operation(bytes: &[u8], at: usize) -> Option<usize> {
 }
 
 /// Where a body's first operation begins, behind its locals.
-fn first_operation(bytes: &[u8], body: Span) -> Option<usize> {
+fn first_operation(bytes: &[u8], body: Span) -> Option<usize>
+    ensures { IfSome result (λ first. body.from ≤ first) }
+{
     let (groups, first) = read_u32(bytes, body.from).ok()?;
     behind_integers(bytes, first, groups.checked_mul(2)?)
 }
 
 /// Whether this byte of a body is one of its locals.
-pub fn is_in_locals(bytes: &[u8], byte: usize) -> Option<bool> {
+pub(crate) fn is_in_locals(bytes: &[u8], byte: usize) -> Option<bool> {
     let (_, body) = body_with(bytes, find(bytes, CODE)?, byte)?;
     Some(byte < first_operation(bytes, body)?)
 }
@@ -137,7 +148,9 @@ impl Open {
     }
 
     /// Goes past an operation. The answer is how many it is once decoded: the `end` of an `if` without an `else` is both.
-    fn pass(&mut self, opcode: u8) -> usize {
+    fn pass(&mut self, opcode: u8) -> usize
+        ensures { 1 ≤ result }
+    {
         match opcode {
             0x02 | 0x03 => self.begin(false),
             0x04 => self.begin(true),
@@ -153,7 +166,10 @@ impl Open {
 }
 
 /// Where the decoded operation of this number begins in a body, and its number among those that are spelled there.
-fn spot_of(bytes: &[u8], body: Span, operation: usize) -> Option<(usize, usize)> {
+fn spot_of(bytes: &[u8], body: Span, operation: usize) -> Option<(usize, usize)>
+    ensures within { IfSome result (λ spot. (body.from ≤ spot.0) × (spot.0 < body.to)) }
+    ensures few { IfSome result (λ spot. spot.1 ≤ operation) }
+{
     let mut at = first_operation(bytes, body)?;
     let mut passed = 0usize;
     let mut open = Open {
@@ -174,13 +190,15 @@ fn spot_of(bytes: &[u8], body: Span, operation: usize) -> Option<(usize, usize)>
 }
 
 /// The name of the operation that begins with this byte.
-pub fn name_of(opcode: u8) -> Option<&'static str> {
+pub(crate) fn name_of(opcode: u8) -> Option<&'static str> {
     NAMES.split_whitespace().nth(usize::from(opcode))
 }
 
 /// The place of an operation of a function, by the function's number among those with bodies and the operation's in its body as it was
 /// decoded, where each `if` has an `else`. In the place the number is that among the operations that are spelled.
-pub fn place_of_operation(bytes: &[u8], function: usize, operation: usize) -> Option<Place> {
+pub fn place_of_operation(bytes: &[u8], function: usize, operation: usize) -> Option<Place>
+    ensures { IfSome result (IsPlaceOfOperation bytes.now function operation) }
+{
     let body = body_at(bytes, find(bytes, CODE)?, function)?;
     let (at, number) = spot_of(bytes, body, operation)?;
     Some(Place::Operation {

@@ -1,5 +1,8 @@
 // Where in its bytes a module is refused.
 
+ghost use Rattle.std.specs.Prelude.{◌≡◌, IfSome, string_bytes};
+ghost use Rattle.places.specs.Places.{IsPlaceOfImport, IsPlaceOfExport};
+
 use crate::shown::Shown;
 use crate::spans::CODE;
 use std::alloc::Global;
@@ -52,13 +55,17 @@ pub enum Place {
     },
 }
 
-fn text_of(alloc: Global, name: &[u8]) -> Option<String> {
+fn text_of(alloc: Global, name: &[u8]) -> Option<String>
+    ensures { IfSome result (λ text. string_bytes text ≡ name.now) }
+{
     String::from_str(alloc, str::from_utf8(name).ok()?).ok()
 }
 
 impl Place {
     /// The place of the import with this number and these two names.
-    pub fn import(alloc: Global, number: usize, module: &[u8], name: &[u8]) -> Option<Place> {
+    pub fn import(alloc: Global, number: usize, module: &[u8], name: &[u8]) -> Option<Place>
+        ensures { IfSome result (IsPlaceOfImport number «module».now name.now) }
+    {
         Some(Place::Import {
             number,
             module: text_of(alloc, module)?,
@@ -67,7 +74,9 @@ impl Place {
     }
 
     /// The place of the export with this name.
-    pub fn export(alloc: Global, name: &[u8]) -> Option<Place> {
+    pub fn export(alloc: Global, name: &[u8]) -> Option<Place>
+        ensures { IfSome result (IsPlaceOfExport name.now) }
+    {
         let name = text_of(alloc, name)?;
         Some(Place::Export { name })
     }

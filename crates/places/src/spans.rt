@@ -1,35 +1,41 @@
 // The sections and bodies of a module, by their sizes alone (WebAssembly Core 1.0, 5.5.2 and 5.5.13).
 
+ghost use Rattle.std.specs.Prelude.{◌≡◌, ◌≤◌, ◌<◌, ℕ, List, slice_range, IfSome};
+ghost use Rattle.syntax.specs.Language.{counted};
+ghost use Rattle.syntax.specs.Binary.{Section, section};
+ghost use Rattle.places.specs.Spans.{Stands, SectionAt, FirstSectionAt, BodyAt};
+ghost use Rattle.places.specs.Places.{IsPlaceOfSection, IsPlaceOfFunction, IsPartWith};
+
 use crate::place::{Part, Place};
 use leb::read_u32;
 
 /// The id of the section of types.
-pub const TYPES: u8 = 1;
+pub(crate) const TYPES: u8 = 1;
 
 /// The id of the section of imports.
-pub const IMPORTS: u8 = 2;
+pub(crate) const IMPORTS: u8 = 2;
 
 /// The id of the section of tables.
-pub const TABLES: u8 = 4;
+pub(crate) const TABLES: u8 = 4;
 
 /// The id of the section of memories.
-pub const MEMORIES: u8 = 5;
+pub(crate) const MEMORIES: u8 = 5;
 
 /// The id of the section of element segments.
 pub const ELEMENTS: u8 = 9;
 
 /// The id of the section of bodies.
-pub const CODE: u8 = 10;
+pub(crate) const CODE: u8 = 10;
 
 /// The id of the section of data segments.
 pub const DATA: u8 = 11;
 
 /// How many bytes a module begins with, of the magic number and the version.
-pub const OPENING: usize = 8;
+pub(crate) const OPENING: usize = 8;
 
 /// Where something lies that has its size in front.
 #[derive(Clone, Copy)]
-pub struct Span {
+pub(crate) struct Span {
     /// Where it begins.
     pub at: usize,
     /// Where what it holds begins.
@@ -39,24 +45,42 @@ pub struct Span {
 }
 
 /// The span whose size stands at this byte, and which begins so many bytes before.
-fn sized(bytes: &[u8], at: usize, size_at: usize) -> Option<Span> {
-    let (size, from) = read_u32(bytes, size_at).ok()?;
-    let to = from.checked_add(size as usize)?;
-    bytes.get(from..to)?;
+pub(crate) fn sized(bytes: &[u8], at: usize, size_at: usize) -> Option<Span>
+    ensures at { IfSome result (λ s. s.at ≡ at) }
+    ensures here { IfSome result (λ s. Stands (counted (slice_range bytes.now s.from s.to)) bytes.now size_at s.to) }
+    ensures holds { IfSome result (λ s. s.from ≤ s.to) }
+{
+    let Ok((size, from)) = read_u32(bytes, size_at) else {
+        return None;
+    };
+    if size as usize > bytes.len() - from {
+        return None;
+    }
+    let to = from + size as usize;
     Some(Span { at, from, to })
 }
 
-/// The section that begins at this byte.
-pub fn section_at(bytes: &[u8], at: usize) -> Option<Span> {
-    sized(bytes, at, at.checked_add(1)?)
+/// The section that begins at this byte, and its id.
+pub(crate) fn section_at(bytes: &[u8], at: usize) -> Option<(u8, Span)>
+    ensures at { IfSome result (λ s. s.1.at ≡ at) }
+    ensures here { IfSome result (λ s. Stands (section (record { id = s.0; contents = slice_range bytes.now s.1.from s.1.to })) bytes.now at s.1.to) }
+    ensures holds { IfSome result (λ s. s.1.from ≤ s.1.to) }
+{
+    if at >= bytes.len() {
+        return None;
+    }
+    let span = sized(bytes, at, at + 1)?;
+    Some((bytes[at], span))
 }
 
-/// The section with this id.
-pub fn find(bytes: &[u8], id: u8) -> Option<Span> {
+/// The first section with this id.
+pub(crate) fn find(bytes: &[u8], id: u8) -> Option<Span>
+    ensures { IfSome result (λ s. FirstSectionAt bytes.now id s.at s.from s.to) }
+{
     let mut at = OPENING;
     for _ in 0..bytes.len() {
-        let section = section_at(bytes, at)?;
-        if bytes.get(section.at) == Some(&id) {
+        let (found, section) = section_at(bytes, at)?;
+        if found == id {
             return Some(section);
         }
         at = section.to;
@@ -65,8 +89,12 @@ pub fn find(bytes: &[u8], id: u8) -> Option<Span> {
 }
 
 /// The body of this number in a code section.
-pub fn body_at(bytes: &[u8], code: Span, number: usize) -> Option<Span> {
-    let (count, mut at) = read_u32(bytes, code.from).ok()?;
+pub(crate) fn body_at(bytes: &[u8], code: Span, number: usize) -> Option<Span>
+    ensures { IfSome result (λ s. BodyAt bytes.now code.from number s.at s.from s.to) }
+{
+    let Ok((count, mut at)) = read_u32(bytes, code.from) else {
+        return None;
+    };
     for index in 0..count {
         let span = sized(bytes, at, at)?;
         if index as usize == number {
@@ -86,13 +114,18 @@ fn imported(bytes: &[u8]) -> u32 {
 }
 
 /// The number of the function with this body. The imported functions are counted first.
-pub fn function_of(bytes: &[u8], body: usize) -> u64 {
+pub(crate) fn function_of(bytes: &[u8], body: usize) -> u64 {
     u64::from(imported(bytes)).saturating_add(body as u64)
 }
 
 /// The body of a code section that has this byte, and its number.
-pub fn body_with(bytes: &[u8], code: Span, byte: usize) -> Option<(usize, Span)> {
-    let (count, mut at) = read_u32(bytes, code.from).ok()?;
+pub(crate) fn body_with(bytes: &[u8], code: Span, byte: usize) -> Option<(usize, Span)>
+    ensures body { IfSome result (λ found. BodyAt bytes.now code.from found.0 found.1.at found.1.from found.1.to) }
+    ensures has { IfSome result (λ found. (found.1.at ≤ byte) × (byte < found.1.to)) }
+{
+    let Ok((count, mut at)) = read_u32(bytes, code.from) else {
+        return None;
+    };
     for number in 0..count {
         let span = sized(bytes, at, at)?;
         if byte >= span.at && byte < span.to {
@@ -104,19 +137,23 @@ pub fn body_with(bytes: &[u8], code: Span, byte: usize) -> Option<(usize, Span)>
 }
 
 /// The place of the section with this id.
-pub fn place_of_section(bytes: &[u8], id: u8) -> Option<Place> {
+pub fn place_of_section(bytes: &[u8], id: u8) -> Option<Place>
+    ensures { IfSome result (IsPlaceOfSection bytes.now id) }
+{
     let section = find(bytes, id)?;
     Some(Place::Section { id, at: section.at })
 }
 
 /// Whether this byte of the section with this id is one of the number of things that it holds.
-pub fn is_in_count(bytes: &[u8], id: u8, byte: usize) -> Option<bool> {
+pub(crate) fn is_in_count(bytes: &[u8], id: u8, byte: usize) -> Option<bool> {
     let (_, behind) = read_u32(bytes, find(bytes, id)?.from).ok()?;
     Some(byte < behind)
 }
 
 /// The place of a function, by its number among those with bodies.
-pub fn place_of_function(bytes: &[u8], function: usize) -> Option<Place> {
+pub fn place_of_function(bytes: &[u8], function: usize) -> Option<Place>
+    ensures { IfSome result (IsPlaceOfFunction bytes.now function) }
+{
     let body = body_at(bytes, find(bytes, CODE)?, function)?;
     Some(Place::Function {
         number: function_of(bytes, function),
@@ -124,13 +161,16 @@ pub fn place_of_function(bytes: &[u8], function: usize) -> Option<Place> {
     })
 }
 
-/// The section that has this byte behind its id.
-fn section_with(bytes: &[u8], byte: usize) -> Option<Span> {
+/// The section that has this byte behind its id, and its id.
+fn section_with(bytes: &[u8], byte: usize) -> Option<(u8, Span)>
+    ensures here { IfSome result (λ s. (before : List Section) × SectionAt bytes.now before s.0 s.1.at s.1.from s.1.to) }
+    ensures has { IfSome result (λ s. (s.1.at < byte) × (byte < s.1.to)) }
+{
     let mut at = OPENING;
     for _ in 0..bytes.len() {
-        let section = section_at(bytes, at)?;
+        let (id, section) = section_at(bytes, at)?;
         if byte > section.at && byte < section.to {
-            return Some(section);
+            return Some((id, section));
         }
         at = section.to;
     }
@@ -138,9 +178,10 @@ fn section_with(bytes: &[u8], byte: usize) -> Option<Span> {
 }
 
 /// The section that has this byte behind its id, or the function where it is in a body.
-pub fn part_with(bytes: &[u8], byte: usize) -> Option<Part> {
-    let section = section_with(bytes, byte)?;
-    let id = *bytes.get(section.at)?;
+pub fn part_with(bytes: &[u8], byte: usize) -> Option<Part>
+    ensures { IfSome result (IsPartWith bytes.now byte) }
+{
+    let (id, section) = section_with(bytes, byte)?;
     if id == CODE
         && let Some((body, _)) = body_with(bytes, section, byte)
     {

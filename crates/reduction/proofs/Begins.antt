@@ -3,7 +3,7 @@ use Rattle.reduction.proofs.Words.{◌≡◌, ℕ, List, ◌∷◌, Option, Some
 use Rattle.reduction.proofs.Words.{Block, Loop, If, Context, Label, Frame, Body, Place, IsPlaced, Token}
 use Rattle.syntax.specs.declared.instruction.Token.TheVariants as op
 use Rattle.syntax.specs.declared.types.BlockType.{BlockType}
-use Rattle.reduction.specs.Inner.Places.{ClosesTo}
+use Rattle.reduction.specs.Places.{ClosesTo}
 
 -- contexts at this operation, or behind the last one
 pub data Begins : Option Token → List Context → Type 0 where

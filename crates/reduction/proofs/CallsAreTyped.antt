@@ -7,7 +7,7 @@ use Rattle.std.specs.Option.{option_map}
 use Rattle.syntax.specs.declared.contents.Import.{Import}
 use Rattle.validate.specs.Typing.{inside, Typed, function_types}
 use Rattle.validate.specs.Valid.{ValidFunc, body_context}
-use Rattle.reduction.specs.Inner.Typed.{call_typing, in_label, in_call, outermost, Awaits, Configured}
+use Rattle.reduction.specs.Typed.{call_typing, in_label, in_call, outermost, Awaits, Configured}
 use Rattle.reduction.proofs.Lists.{types_of-append, type_of-value_of, pushed-split}
 use Rattle.reduction.proofs.Soundness.{receives}
 

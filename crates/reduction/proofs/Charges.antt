@@ -5,7 +5,7 @@ use Rattle.reduction.specs.Step.{Ends}
 use Rattle.reduction.proofs.Rules.{StepRule, next_rule}
 use Rattle.reduction.proofs.Rules as rule
 use Rattle.reduction.specs.Run.{IsCharged}
-use Rattle.reduction.specs.Inner.HeightsTyped.{SoundWithin}
+use Rattle.reduction.specs.HeightsTyped.{SoundWithin}
 
 abbrev pub OrStuck : Move → Type 0
 OrStuck (Goes zero s contexts) = ⊥

@@ -2,8 +2,8 @@
 use Rattle.reduction.proofs.Words.{◌≡◌, ℕ, suc, ◌+◌, List, [], ◌∷◌, ◌++◌, length, refl, ap, arith, Value, Code, Done, Context, Label, Frame, locals_of}
 use Rattle.reduction.proofs.Words.{with_locals, going_on, receiving, continuing, operands_of, code_of, height_of}
 use Rattle.reduction.specs.Configuration.{frames}
-use Rattle.reduction.specs.Inner.Heights.{labels_of, base_of}
-use Rattle.reduction.specs.Inner.Places.{call_of}
+use Rattle.reduction.specs.Heights.{labels_of, base_of}
+use Rattle.reduction.specs.Places.{call_of}
 use Rattle.reduction.proofs.Rules.{Reaches, InCall}
 use Rattle.reduction.proofs.Rules as rule
 

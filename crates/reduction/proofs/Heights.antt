@@ -15,7 +15,7 @@ use Rattle.syntax.specs.declared.instruction.Instr.TheVariants.{Unary, Binary, C
 use Rattle.validate.specs.Typing.{Context, inside, TakesLeaves, ConversionTurns, InstrTyped, Typed}
 use Rattle.validate.specs.Height.{Effect, Changes, Ends, effect_of, after_effect, greatest_height, nesting}
 use Rattle.validate.proofs.Checks.{all_there}
-use Rattle.reduction.specs.Inner.Heights.{Fits, counts, Follows, Counted}
+use Rattle.reduction.specs.Heights.{Fits, counts, Follows, Counted}
 use Rattle.reduction.proofs.Lists.{length-pushed}
 
 -- by how many operands a branch to each label takes along

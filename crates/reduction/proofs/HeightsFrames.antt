@@ -6,7 +6,7 @@ use Rattle.instance.specs.Store.{Store as Memory_and_globals}
 use Rattle.reduction.specs.Configuration.{frames}
 use Rattle.reduction.proofs.Rules.{Reaches, InCall, StepRule, next_rule}
 use Rattle.reduction.proofs.Rules as rule
-use Rattle.reduction.specs.Inner.HeightsOfRuns.{Arrives, here, goes, calls, asks, IsReached}
+use Rattle.reduction.specs.HeightsOfRuns.{Arrives, here, goes, calls, asks, IsReached}
 
 -- a step leads to so many calls at most
 abbrev pub Opens : (most : ℕ) → Move → Type 0

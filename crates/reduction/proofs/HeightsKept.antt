@@ -8,7 +8,7 @@ use Rattle.std.proofs.Common.{length-drop}
 use Rattle.std.proofs.lemmas.List.{length-take-le}
 use Rattle.validate.specs.Height.{Effect, named, calls}
 use Rattle.instance.specs.Store.{Store as Memory_and_globals}
-use Rattle.reduction.specs.Inner.Heights.{GoesOn, Fits, tests, counts, Follows, Counted, labels_of, base_of, Beneath, IsWithin}
+use Rattle.reduction.specs.Heights.{GoesOn, Fits, tests, counts, Follows, Counted, labels_of, base_of, Beneath, IsWithin}
 use Rattle.reduction.proofs.PlainStepHeights.{as_many}
 use Rattle.reduction.proofs.Rules.{Reaches, InCall, Calling, Opening, StepRule, next_rule}
 use Rattle.reduction.proofs.Rules as rule

@@ -8,8 +8,8 @@ use Rattle.std.proofs.lemmas.Option.{get_or_from_slice_get}
 use Rattle.validate.specs.Typing.{function_types}
 use Rattle.validate.specs.Valid.{ValidFunc, body_context}
 use Rattle.reduction.specs.Hosting.{Answers}
-use Rattle.reduction.specs.Inner.Heights.{Counted, Beneath, IsWithin}
-use Rattle.reduction.specs.Inner.HeightsOfRuns.{Arrives, here, goes, calls, asks, IsReached}
+use Rattle.reduction.specs.Heights.{Counted, Beneath, IsWithin}
+use Rattle.reduction.specs.HeightsOfRuns.{Arrives, here, goes, calls, asks, IsReached}
 use Rattle.reduction.proofs.Lists.{length-pushed}
 use Rattle.reduction.proofs.CallsAreTyped.{valid_function, defined_type}
 use Rattle.reduction.proofs.Heights.{counted}

@@ -6,9 +6,9 @@ use Rattle.reduction.proofs.Words.{types_of, Move, Goes, Traps, Calls, Stuck, ne
 use Rattle.instance.specs.Storing.{HaveGlobalTypes}
 use Rattle.reduction.specs.Configuration.{frames}
 use Rattle.reduction.specs.Step.{Ends}
-use Rattle.reduction.specs.Inner.Typed.{Sound}
-use Rattle.reduction.specs.Inner.Heights.{IsWithin}
-use Rattle.reduction.specs.Inner.HeightsTyped.{AwaitsWithin, SoundWithin}
+use Rattle.reduction.specs.Typed.{Sound}
+use Rattle.reduction.specs.Heights.{IsWithin}
+use Rattle.reduction.specs.HeightsTyped.{AwaitsWithin, SoundWithin}
 use Rattle.reduction.proofs.Lists.{length-pushed}
 use Rattle.reduction.proofs.Soundness.{sound, type_of_function-is}
 use Rattle.reduction.proofs.CallsAreTyped.{enters_call, starts_call, answers_call}

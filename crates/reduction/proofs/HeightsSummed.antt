@@ -4,8 +4,8 @@ use Rattle.reduction.proofs.Words.{ℕ, suc, ◌+◌, ◌≤◌, List, [], ◌�
 use Rattle.reduction.proofs.Words.{Label, Frame, code_of, operands_of, height_of}
 use Rattle.std.proofs.Common.{◌*◌}
 use Rattle.reduction.specs.Configuration.{frames}
-use Rattle.reduction.specs.Inner.Heights.{Fits, Counted, labels_of, base_of, GoesOn, Beneath, IsWithin}
-use Rattle.reduction.specs.Inner.HeightsOfRuns.{all_operands, all_locals}
+use Rattle.reduction.specs.Heights.{Fits, Counted, labels_of, base_of, GoesOn, Beneath, IsWithin}
+use Rattle.reduction.specs.HeightsOfRuns.{all_operands, all_locals}
 
 fits_of : (m : Contents) (labels : List ℕ) (base before after : ℕ) (code : Code) → Counted m labels base before after code → Fits labels base before
 fits_of m labels base before after Done k = k.0

@@ -1,11 +1,13 @@
 -- Two calls of a function from outside, from one start.
 use Rattle.reduction.proofs.Words.{◌≡◌, ℕ, List, [], ◌∷◌, reverse, refl, sym, ap, ◌∙◌, subst, Value, Contents, Store, Context, entered, as_operands}
-use Rattle.std.proofs.Common.{get_or}
+use Rattle.std.proofs.Common.{Option, get_or}
+use Rattle.instance.specs.declared.stack.Site.{Site}
 use Rattle.std.proofs.lemmas.List.{reverse-reverse}
 use Rattle.instance.specs.Store.{with_memory}
 use Rattle.reduction.specs.Run.{HostCall, RunEnd, Returned, Trapped, TooDeep, OutOfFuel, RunsWithin}
 use Rattle.reduction.specs.Hosting.{Lawful, IsDetermined}
-use Rattle.reduction.specs.Invoking.{Invokes, defined, imported, Invoked}
+use Rattle.reduction.specs.Invoking.{Invokes, defined, imported}
+use Rattle.reduction.specs.Leading.{Call, Leads, scene}
 use Rattle.reduction.specs.Running.{end_of_run}
 use Rattle.events.specs.Traps.{trap_number}
 use Rattle.events.specs.declared.trap.TrapCode.{TrapCode}
@@ -13,6 +15,7 @@ use Rattle.events.specs.declared.trap.TrapCode.TheVariants as trap
 use Rattle.events.specs.declared.ended.Ended.{Ended}
 use Rattle.events.specs.declared.ended.Ending.{Ending}
 use Rattle.events.specs.declared.ended.Ending.TheVariants.{Return, Trap, Depth, Spent}
+use Rattle.reduction.proofs.OneStop.{stops_one}
 use Rattle.reduction.proofs.OneRun.{one_function, not_both, one_run, says, says_one, says_all}
 
 module _ (m : Contents) (depth : ℕ) {H V : Type 0} (see : H → V) (moves : H → HostCall → H → Type 0) (determined : IsDetermined see moves) where
@@ -81,11 +84,16 @@ same_ended e e' ending used =
     λ i. record { ending = same i; used = used i }
 
 pub one_invocation : {H V : Type 0} (see : H → V) (moves : H → HostCall → H → Type 0) → IsDetermined see moves
-    → (m : Contents) (depth fuel : ℕ) (s : Store) (function : ℕ) (args : List Value) (ended ended' : Ended) (t t' : Store) (old old' new new' : H) → see old ≡ see old'
-    → Invoked m depth fuel moves s old function args ended t new → Invoked m depth fuel moves s old' function args ended' t' new'
-    → (ended ≡ ended') × (t ≡ t') × (see new ≡ see new')
-one_invocation see moves determined m depth fuel s function args ended ended' t t' old old' new new' seen r r' =
+    → (call : Call) (s : Store) (ended ended' : Ended) (stop stop' : Option (List Site)) (t t' : Store) (old old' new new' : H) → see old ≡ see old'
+    → Leads moves call (scene s old) ended stop (scene t new) → Leads moves call (scene s old') ended' stop' (scene t' new')
+    → (ended ≡ ended') × (stop ≡ stop') × (t ≡ t') × (see new ≡ see new')
+one_invocation see moves determined call s ended ended' stop stop' t t' old old' new new' seen r r' =
+    let m = call.contents in
     let one =
-    one_call m depth see moves determined fuel s function args r.trace r'.trace (end_of_run ended.ending) (end_of_run ended'.ending) ended.used ended'.used
-    t t' old old' new new' seen r.invokes r.lawful r'.invokes r'.lawful in
-    (same_ended ended ended' one.1 one.2, one.3, one.4)
+    one_call m call.depth see moves determined call.fuel s call.function call.args r.asked r'.asked (end_of_run ended.ending) (end_of_run ended'.ending) ended.used ended'.used
+    t t' old old' new new' seen r.ran r.answered r'.ran r'.answered in
+    let same = same_ended ended ended' one.1 one.2 in
+    let stopped =
+    stops_one m call.depth s call.function call.args r.asked r'.asked ended.ending ended'.ending ended.used ended'.used t t' stop stop'
+    (sym one.0) (ap (λ (e : Ended). e.ending) (sym same)) (sym one.2) r.stopped r'.stopped in
+    (same, stopped, one.3, one.4)

@@ -1,5 +1,5 @@
 -- From one start a run with the same calls of the host, the same ending and the same use stops at one place.
-use Rattle.std.proofs.Common.{◌≡◌, ℕ, ◌+◌, ◌<◌, ◌≤◌, List, [], ◌∷◌, refl, sym, ◌∙◌, subst, arith}
+use Rattle.std.proofs.Common.{◌≡◌, ℕ, ◌+◌, ◌<◌, ◌≤◌, List, [], ◌∷◌, Option, Some, refl, sym, ap, ◌∙◌, subst, arith}
 use Rattle.syntax.specs.declared.types.Value.{Value}
 use Rattle.syntax.specs.declared.contents.Contents.{Contents}
 use Rattle.syntax.specs.declared.contents.FuncType.{FuncType}
@@ -10,6 +10,10 @@ use Rattle.reduction.specs.Step.{Move, Goes, Traps, Calls, Ends, next}
 use Rattle.reduction.specs.Run as run
 use Rattle.reduction.specs.Run.{HostCall, RunEnd, Run, Returned, Trapped, TooDeep, OutOfFuel, IsCharged, IsDefined, IsImported, as_operands}
 use Rattle.reduction.specs.Stopping.{Mark, Moment, RunsTo, ends, traps, spent, too_deep, goes, calls, asks, marks_after, marks_entered}
+use Rattle.reduction.specs.Stopping.{Stopped, StopsAt, stopped_at}
+use Rattle.instance.specs.declared.stack.Site.{Site}
+use Rattle.events.specs.declared.ended.Ending.{Ending}
+use Rattle.events.specs.declared.ended.Ending.TheVariants as how
 use Rattle.reduction.proofs.OneRun.{not_both, one_function, some_charge}
 
 module _ (m : Contents) (depth : ℕ) (last : Moment) where
@@ -119,6 +123,29 @@ module _ (m : Contents) (depth : ℕ) where
   pub one_stop : (s : Store) (contexts : List Context) (marks : List Mark) (trace : List HostCall) (outcome : RunEnd) (used : ℕ) (t t' : Store) (last last' : Moment)
       → RunsTo m depth last s contexts marks trace outcome used t → RunsTo m depth last' s contexts marks trace outcome used t' → last ≡ last'
   one_stop s contexts marks trace outcome used t t' last last' first second = alike first last' trace outcome used t' second refl refl refl
+
+  -- so does a call from outside
+  stopped_one : (s : Store) (function : ℕ) (args : List Value) (trace trace' : List HostCall) (o o' : RunEnd) (u u' : ℕ) (t t' : Store) (stop stop' : Option (List Site))
+      → trace' ≡ trace → o' ≡ o → u' ≡ u → Stopped m depth s function args trace o u t stop → Stopped m depth s function args trace' o' u' t' stop' → stop ≡ stop'
+  stopped_one s function args trace trace' o o' u u' t t' stop stop' p q w a b =
+      let one = one_function m function b.type a.type b.f a.f b.defined a.defined in
+      let same : b.defined.0 ≡ a.defined.0 = omega (arith, b.defined.1, a.defined.1) in
+      let run : RunsTo m depth b.last s (entered a.type a.f args []) (marks_entered a.f a.defined.0 []) trace' o' u' t' =
+      subst (λ (k : ℕ). RunsTo m depth b.last s (entered a.type a.f args []) (marks_entered a.f k []) trace' o' u' t') same
+      (subst (λ (g : Func). RunsTo m depth b.last s (entered a.type g args []) (marks_entered g b.defined.0 []) trace' o' u' t') one.1
+      (subst (λ (ty : FuncType). RunsTo m depth b.last s (entered ty b.f args []) (marks_entered b.f b.defined.0 []) trace' o' u' t') one.0 b.runs)) in
+      let last = alike a.runs b.last trace' o' u' t' run p q w in
+      a.told ∙ ap (λ (x : Moment). Some (stopped_at x.marks)) last ∙ sym b.told
+
+  pub stops_one : (s : Store) (function : ℕ) (args : List Value) (trace trace' : List HostCall) (e e' : Ending) (u u' : ℕ) (t t' : Store) (stop stop' : Option (List Site))
+      → trace' ≡ trace → e' ≡ e → u' ≡ u → StopsAt m depth s function args trace e u t stop → StopsAt m depth s function args trace' e' u' t' stop' → stop ≡ stop'
+  stops_one s function args trace trace' e e' u u' t t' stop stop' p q w a b =
+      by_ending e a (subst (λ (x : Ending). StopsAt m depth s function args trace' x u' t' stop') q b) where
+        by_ending : (e : Ending) → StopsAt m depth s function args trace e u t stop → StopsAt m depth s function args trace' e u' t' stop' → stop ≡ stop'
+        by_ending (how.Return values) a b = a ∙ sym b
+        by_ending (how.Trap trap) a b = stopped_one s function args trace trace' _ _ u u' t t' stop stop' p refl w a b
+        by_ending how.Depth a b = stopped_one s function args trace trace' _ _ u u' t t' stop stop' p refl w a b
+        by_ending how.Spent a b = stopped_one s function args trace trace' _ _ u u' t t' stop stop' p refl w a b
 
 -- a run that has marks is a run
 pub is_run : (m : Contents) (depth : ℕ) (s : Store) (contexts : List Context) (marks : List Mark) (trace : List HostCall) (outcome : RunEnd) (used : ℕ) (t : Store) (last : Moment)

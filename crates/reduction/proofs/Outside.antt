@@ -6,7 +6,8 @@ use Rattle.instance.specs.Store.{with_memory_instance, MemoryInstance}
 use Rattle.events.specs.declared.ended.Ending.TheVariants.{Return}
 use Rattle.reduction.specs.Run.{HostCall, IsImported}
 use Rattle.reduction.specs.Hosting.{Names, Answers}
-use Rattle.reduction.specs.Invoking.{imported, TakesArguments, Invoked}
+use Rattle.reduction.specs.Invoking.{imported, TakesArguments}
+use Rattle.reduction.specs.Leading.{Leads, calling, scene}
 use Rattle.reduction.proofs.Lists.{in_order}
 use Rattle.reduction.proofs.Stores.{with_memory_of}
 
@@ -33,11 +34,11 @@ module _ (m : Contents) (function : ℕ) (args : List Value) (takes : TakesArgum
     pub invoked_import : {H : Type 0} (depth fuel : ℕ) (moves : H → HostCall → H → Type 0) (s : Store) (before after : H) (memory : MemoryInstance) (values : List Value)
         → values ≡ as_operands answer → memory.limit ≡ s.limit
         → moves before (record { function = function; args = args; before = s.memory; answer = answer; after = memory.bytes }) after
-        → Invoked m depth fuel moves s before function args (record { ending = Return values; used = 0 }) (with_memory_instance memory s) after
+        → Leads moves (calling m function args fuel depth) (scene s before) (record { ending = Return values; used = 0 }) None (scene (with_memory_instance memory s) after)
     invoked_import depth fuel moves s before after memory values e el k =
         let call : HostCall = record { function = function; args = args; before = s.memory; answer = answer; after = memory.bytes } in
         let r : reverse values ≡ as_operands answer = ap (λ (vs : List Value). reverse vs) e ∙ one_or_none answer in
-        record { trace = call ∷ []; invokes = rw (r, el) (imported call i refl refl refl); lawful = (after, k, refl) }
+        record { asked = call ∷ []; ran = rw (r, el) (imported call i refl refl refl); answered = (after, k, refl); stopped = refl }
 
     pub memory_kept : (s : Store) (memory : MemoryInstance) → memory.limit ≡ s.limit → length memory.bytes ≡ length s.memory → IsStoreOf m s → IsStoreOf m (with_memory_instance memory s)
     memory_kept s memory el en fit = rw el (with_memory_of m s memory.bytes en fit)

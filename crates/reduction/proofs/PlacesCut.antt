@@ -14,8 +14,8 @@ use Rattle.syntax.specs.declared.instruction.Token.TheVariants as op
 use Rattle.validate.specs.Targets.{Tells}
 use Rattle.reduction.specs.Configuration.{branched}
 use Rattle.reduction.specs.Step.{plain, on_contexts, label_for}
-use Rattle.reduction.specs.Inner.HeightsOfRuns.{all_operands}
-use Rattle.reduction.specs.Inner.Places.{Cuts, BranchesTo}
+use Rattle.reduction.specs.HeightsOfRuns.{all_operands}
+use Rattle.reduction.specs.Places.{Cuts, BranchesTo}
 use Rattle.reduction.proofs.PlacesKept.{listed, continues}
 use Rattle.reduction.proofs.Rules.{Reaches, Lands, lands_at}
 use Rattle.reduction.proofs.Rules as rule

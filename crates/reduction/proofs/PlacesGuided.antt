@@ -8,8 +8,8 @@ use Rattle.validate.specs.Typing.{Context, inside, Typed}
 use Rattle.validate.specs.Height.{Effect, Changes, Ends, effect_of, after_effect}
 use Rattle.validate.specs.Targets.{size, Agrees}
 use Rattle.validate.specs.Inner.Writing.{target}
-use Rattle.reduction.specs.Inner.Heights.{counts, Follows}
-use Rattle.reduction.specs.Inner.Places.{keeps, ClosesTo, Guided}
+use Rattle.reduction.specs.Heights.{counts, Follows}
+use Rattle.reduction.specs.Places.{keeps, ClosesTo, Guided}
 use Rattle.reduction.proofs.Lists.{length-pushed}
 use Rattle.reduction.proofs.Heights.{Agrees as SameEffect, agrees, arities}
 

@@ -12,8 +12,8 @@ use Rattle.validate.specs.Height.{Effect}
 use Rattle.validate.specs.Targets.{pc_of, size, Lists, Tells}
 use Rattle.instance.specs.Store.{Store as Memory_and_globals}
 use Rattle.reduction.specs.Step.{at_code, label_for, left_with, chosen}
-use Rattle.reduction.specs.Inner.Heights.{Follows}
-use Rattle.reduction.specs.Inner.Places.{keeps, ClosesTo, Guided, GoesOn, jumped, stepped, Leads}
+use Rattle.reduction.specs.Heights.{Follows}
+use Rattle.reduction.specs.Places.{keeps, ClosesTo, Guided, GoesOn, jumped, stepped, LeadsOn}
 use Rattle.reduction.proofs.HeightsKept.{tested, called, found}
 use Rattle.reduction.proofs.Rules.{Reaches, InCall, Jumps, Calling, Opening, StepRule, next_rule}
 use Rattle.reduction.proofs.Rules as rule
@@ -203,14 +203,14 @@ module _ (m : Contents) (body : ℕ → Body) (function : ℕ) (callers : List P
 
     -- the end of the sequence
     closing : (s : Memory_and_globals) (at : ℕ) (values : List Value) (o : Option Token) → ClosesTo (body function) (height_of below) after at behind o → length values ≡ after
-        → Leads m body (stepped (body function) (here at) values callers o) (Goes 0 s (receiving values below))
+        → LeadsOn m body (stepped (body function) (here at) values callers o) (Goes 0 s (receiving values below))
     closing s at values o c e = by o c where
       beneath : (labels : List Target) → Over m body function callers labels after behind contexts → IsPlaced m body (here behind) callers (receiving values below) 0
       beneath [] h = absurd h
       beneath (t ∷ labels) (keep, height, later, end, h, k, n) =
           received m body (here behind) callers after below values (record { labels = labels; after = later; behind = end; over = h; code = k }) e
 
-      by : (o : Option Token) → ClosesTo (body function) (height_of below) after at behind o → Leads m body (stepped (body function) (here at) values callers o) (Goes 0 s (receiving values below))
+      by : (o : Option Token) → ClosesTo (body function) (height_of below) after at behind o → LeadsOn m body (stepped (body function) (here at) values callers o) (Goes 0 s (receiving values below))
       by None c = absurd c
       by (Some op.End) c = subst (λ (to : ℕ). IsPlaced m body (here to) callers (receiving values below) 0) c (beneath labels h)
       by (Some op.Else) c = rw c.1 (beneath labels h)
@@ -219,7 +219,7 @@ module _ (m : Contents) (body : ℕ → Body) (function : ℕ) (callers : List P
     -- what begins in the innermost context
     lead_by : {s : Memory_and_globals} {inside : Code} {values : List Value} {move : Move} → StepRule m s (Label arity back own code ∷ below) values inside move
         → (at : ℕ) → Guided m (body function) labels (height_of below) (length values) after at behind inside
-        → Leads m body (stepped (body function) (here at) values callers (slice_get (body function).operations at)) move
+        → LeadsOn m body (stepped (body function) (here at) values callers (slice_get (body function).operations at)) move
     lead_by (rule.leaves {i} {values} {ls} {vs} {rest} still t) at (o, tells, k) =
         let f = subst (λ (e : Effect). Follows e (length values) (λ mid. Guided m (body function) labels (height_of below) mid after (at + 1) behind rest)) (t.counted (keeps labels)) k in
         let before = ap (λ (xs : List Value). length xs) t.before ∙ length-append t.popped t.rest in
@@ -276,27 +276,27 @@ module _ (m : Contents) (body : ℕ → Body) where
   leaves : (s : Memory_and_globals) (place : Place) (callers : List Place) (labels : List Target) (locals : List Value) (arity : ℕ) (values : List Value)
       (code : Code) (below : List Context) (after behind : ℕ)
       → Over m body place.function callers labels after behind (Frame locals arity values code ∷ below) → place.pc ≡ length (body place.function).operations → length values ≡ after
-      → Leads m body (stepped (body place.function) place values callers (slice_get (body place.function).operations place.pc))
+      → LeadsOn m body (stepped (body place.function) place values callers (slice_get (body place.function).operations place.pc))
       (at_code m s values Done (Frame locals arity values code ∷ below))
   leaves s place callers (t ∷ labels) locals arity values code below after behind h e n = absurd h
   leaves s place callers [] locals arity values code [] after behind h e n = ended (length values == arity) where
-    ended : (b : Bool) → Leads m body (stepped (body place.function) place values callers (slice_get (body place.function).operations place.pc)) (if b then left_with s values [] else Stuck)
+    ended : (b : Bool) → LeadsOn m body (stepped (body place.function) place values callers (slice_get (body place.function).operations place.pc)) (if b then left_with s values [] else Stuck)
     ended true = tt
     ended false = tt
   leaves s place callers [] locals arity values code (top ∷ below) after behind (same, caller, others, is, outer, later, end, h, k) e n =
       rw (slice_get_past (body place.function).operations place.pc (omega (arith, e)), is) (ended (length values == arity)) where
-        ended : (b : Bool) → Leads m body (caller ∷ others) (if b then left_with s values (top ∷ below) else Stuck)
+        ended : (b : Bool) → LeadsOn m body (caller ∷ others) (if b then left_with s values (top ∷ below) else Stuck)
         ended true = received m body caller others after (top ∷ below) values (record { labels = outer; after = later; behind = end; over = h; code = k }) n
         ended false = tt
 
   -- whatever step comes next, the calls then stand where the operation and the table tell
   pub leads : (s : Memory_and_globals) (place : Place) (callers : List Place) (contexts : List Context) → IsPlaced m body place callers contexts 0
-      → Leads m body (stepped (body place.function) place (operands_of contexts) callers (slice_get (body place.function).operations place.pc)) (next m s contexts)
+      → LeadsOn m body (stepped (body place.function) place (operands_of contexts) callers (slice_get (body place.function).operations place.pc)) (next m s contexts)
   leads s place callers [] w = tt
   leads s place callers (Label arity back values code ∷ below) w =
       lead_by m body place.function callers w.labels w.after w.behind arity back values code below w.over (next_rule m s (Label arity back values code ∷ below)) place.pc
       (reguided m (body place.function) w.labels (height_of below) _ (0 + length values) _ w.after place.pc w.behind code w.code refl (omega arith))
   leads s place callers (Frame locals arity values code ∷ below) w =
-      subst (λ (c : Code). Leads m body (stepped (body place.function) place values callers (slice_get (body place.function).operations place.pc))
+      subst (λ (c : Code). LeadsOn m body (stepped (body place.function) place values callers (slice_get (body place.function).operations place.pc))
       (at_code m s values c (Frame locals arity values code ∷ below))) (sym w.code.0)
       (leaves s place callers w.labels locals arity values code below w.after w.behind w.over w.code.1 (omega (arith, w.code.2)))

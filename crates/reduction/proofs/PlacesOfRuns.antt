@@ -7,8 +7,8 @@ use Rattle.syntax.specs.declared.instruction.Token.TheVariants as op
 use Rattle.validate.specs.Valid.{body_context}
 use Rattle.validate.specs.Targets.{size}
 use Rattle.validate.proofs.Tables.{length-operations}
-use Rattle.reduction.specs.Inner.HeightsOfRuns.{Arrives, here, goes, calls, asks, IsReached}
-use Rattle.reduction.specs.Inner.Places.{Guided, stepped, ArePlaced, Leads}
+use Rattle.reduction.specs.HeightsOfRuns.{Arrives, here, goes, calls, asks, IsReached}
+use Rattle.reduction.specs.Places.{Guided, stepped, ArePlaced, LeadsOn}
 use Rattle.reduction.proofs.Lists.{length-pushed}
 use Rattle.reduction.proofs.CallsAreTyped.{valid_function, body_typed}
 use Rattle.reduction.proofs.HeightsOfRuns.{same_type}
@@ -67,11 +67,11 @@ module _ (m : Contents) (body : ℕ → Body) (valid : ValidModule m) (bodies : 
   abbrev pub Somewhere : List Context → Type 0
   Somewhere contexts = (places : List Place) × ArePlaced m body places contexts 0
 
-  led : (s : Store) (contexts : List Context) (move : Move) → next m s contexts ≡ move → Somewhere contexts → (places : List Place) × Leads m body places move
+  led : (s : Store) (contexts : List Context) (move : Move) → next m s contexts ≡ move → Somewhere contexts → (places : List Place) × LeadsOn m body places move
   led s contexts move e ([], w) = absurd w
   led s contexts move e (place ∷ callers, w) =
       let places = stepped (body place.function) place (operands_of contexts) callers (slice_get (body place.function).operations place.pc) in
-      (places, subst (λ (o : Move). Leads m body places o) e (leads m body s place callers contexts w))
+      (places, subst (λ (o : Move). LeadsOn m body places o) e (leads m body s place callers contexts w))
 
   awaiting : (type found : FuncType) (places : List Place) (below : List Context) → type ≡ found → ArePlaced m body places below (length found.results)
       → Awaiting places below (length type.results)

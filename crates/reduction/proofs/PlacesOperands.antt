@@ -6,9 +6,9 @@ use Rattle.reduction.proofs.Words.{next, Target, operands_of, height_of}
 use Rattle.std.proofs.lemmas.List.{take-append-le}
 use Rattle.std.proofs.Math.Seq.{drop-append_seam, drop-append-add}
 use Rattle.instance.specs.Store.{Store as Memory_and_globals}
-use Rattle.reduction.specs.Inner.Heights.{base_of}
-use Rattle.reduction.specs.Inner.HeightsOfRuns.{all_operands}
-use Rattle.reduction.specs.Inner.Places.{Cuts, call_of, StaysIn, cut}
+use Rattle.reduction.specs.Heights.{base_of}
+use Rattle.reduction.specs.HeightsOfRuns.{all_operands}
+use Rattle.reduction.specs.Places.{Cuts, call_of, StaysIn, cut}
 use Rattle.reduction.proofs.Rules.{StepRule, next_rule}
 use Rattle.reduction.proofs.Rules as rule
 

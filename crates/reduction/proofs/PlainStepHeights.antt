@@ -4,7 +4,7 @@ use Rattle.std.proofs.lemmas.List.{length-set}
 use Rattle.validate.specs.Height.{Effect, Changes, Ends}
 use Rattle.instance.specs.Store.{Store as Memory_and_globals}
 use Rattle.reduction.specs.Step.{plain_step}
-use Rattle.reduction.specs.Inner.Heights.{counts}
+use Rattle.reduction.specs.Heights.{counts}
 use Rattle.reduction.proofs.PlainStepView.{LocalsLeft, same_locals, local_set, PlainStepView, plain_step_view}
 
 -- the operands behind an effect

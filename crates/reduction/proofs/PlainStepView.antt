@@ -14,7 +14,7 @@ use Rattle.validate.specs.Height.{Changes}
 use Rattle.instance.specs.Store.{Store as Memory_and_globals, with_memory, with_globals, bytes_of, bytes_at, written_at, grown}
 use Rattle.reduction.specs.Operators.{Computed, Number, TrapOf, binary, converted}
 use Rattle.reduction.specs.Step.{plain_step, giving, loaded, stored, computed, is_of, alike, replaces}
-use Rattle.reduction.specs.Inner.Heights.{counts}
+use Rattle.reduction.specs.Heights.{counts}
 
 -- the store is as it was, or has one other global, other bytes in its memory, or more memory
 pub data StoreLeft (s : Memory_and_globals) : Memory_and_globals → Type 0 where

@@ -9,7 +9,7 @@ use Rattle.limits.specs.declared.TheConstants.{PAGE_SIZE}
 use Rattle.validate.specs.Segments.{minimum}
 use Rattle.instance.specs.Store.{Store as Stored, page_limit, pages, grown, with_memory, written_at}
 use Rattle.reduction.specs.Step.{Ends}
-use Rattle.reduction.specs.Inner.HeightsTyped.{AwaitsWithin, SoundWithin}
+use Rattle.reduction.specs.HeightsTyped.{AwaitsWithin, SoundWithin}
 use Rattle.instance.specs.Storing.{NamesFunction, HasPages}
 use Rattle.reduction.proofs.Lists.{at_least}
 use Rattle.reduction.proofs.HeightsSound.{sound_within}

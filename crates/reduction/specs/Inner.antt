@@ -1,9 +1,4 @@
--- What holds at every moment of a run, of types, heights and places. It serves the proofs, and is no part of what a run means.
-pub mod Typed
-pub mod Heights
-pub mod HeightsOfRuns
-pub mod HeightsTyped
-pub mod Places
+-- Beside what runs mean, for the proofs: the bodies of functions, plain steps, and runs by the places of their calls.
 pub mod Plainly
 pub mod Bodies
 pub mod Walks

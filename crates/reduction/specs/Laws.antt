@@ -1,5 +1,5 @@
 -- Laws of runs.
-use Rattle.std.specs.Prelude.{◌≡◌, ℕ, suc, ◌+◌, ◌*◌, ◌<◌, ◌≤◌, List, [], ◌∷◌, ◌++◌, length, drop, min, Some, slice_get}
+use Rattle.std.specs.Prelude.{◌≡◌, ℕ, suc, ◌+◌, ◌*◌, ◌<◌, ◌≤◌, List, [], ◌∷◌, ◌++◌, length, drop, min, Option, Some, slice_get}
 use Rattle.limits.specs.declared.TheConstants.{MAX_HEIGHT, MAX_LOCALS, MAX_NESTING}
 use Rattle.syntax.specs.declared.types.Value.{Value}
 use Rattle.syntax.specs.declared.types.Value.TheVariants.{I32}
@@ -23,13 +23,14 @@ use Rattle.reduction.specs.Step.{Goes, next}
 use Rattle.reduction.specs.Run.{HostCall, RunEnd, IsDefined, Run, RunsWithin}
 use Rattle.reduction.specs.Stopping.{Mark, Moment, RunsTo, Stopped}
 use Rattle.reduction.specs.Hosting.{Lawful, IsDetermined}
-use Rattle.reduction.specs.Invoking.{Invokes, Invoked}
+use Rattle.reduction.specs.Invoking.{Invokes}
+use Rattle.reduction.specs.Leading.{Call, Leads, scene}
 use Rattle.events.specs.declared.ended.Ended.{Ended}
-use Rattle.reduction.specs.Inner.Typed.{operands_of}
-use Rattle.reduction.specs.Inner.HeightsTyped.{Bounded, AwaitsWithin, SoundWithin}
-use Rattle.reduction.specs.Inner.HeightsOfRuns.{IsReached, all_operands, all_locals}
-use Rattle.reduction.specs.Inner.Places.{Body, Place, AreBodies, IsPlaced, stepped, ArePlaced, Leads, Cuts, BranchesTo, call_of}
-use Rattle.reduction.specs.Inner.Places.{StaysIn, cut}
+use Rattle.reduction.specs.Typed.{operands_of}
+use Rattle.reduction.specs.HeightsTyped.{Bounded, AwaitsWithin, SoundWithin}
+use Rattle.reduction.specs.HeightsOfRuns.{IsReached, all_operands, all_locals}
+use Rattle.reduction.specs.Places.{Body, Place, AreBodies, IsPlaced, stepped, ArePlaced, LeadsOn, Cuts, BranchesTo, call_of}
+use Rattle.reduction.specs.Places.{StaysIn, cut}
 
 -- ---- how much stands open at once
 
@@ -189,16 +190,15 @@ CallsAreDetermined {H} V moves =
     → Invokes m depth fuel s function args trace' outcome' used' t' → Lawful moves trace' host' new'
     → (trace ≡ trace') × (outcome ≡ outcome') × (used ≡ used') × (t ≡ t') × (see new ≡ see new')
 
--- and `invoke` then has one answer
+-- and a call from outside ends, stops and leads so in one way at most
 abbrev pub AnswersAreDetermined : {H : Type 0} → (V : Type 0) → (H → HostCall → H → Type 0) → Type 0
 AnswersAreDetermined {H} V moves =
     (see : H → V) → IsDetermined see moves
-    → (m : Contents) (depth fuel : ℕ) (s : Store) (function : ℕ) (args : List Value) (ended ended' : Ended) (t t' : Store)
-    (host host' new new' : H)
+    → (call : Call) (s : Store) (ended ended' : Ended) (stop stop' : Option (List Site)) (t t' : Store) (host host' new new' : H)
     → see host ≡ see host'
-    → Invoked m depth fuel moves s host function args ended t new
-    → Invoked m depth fuel moves s host' function args ended' t' new'
-    → (ended ≡ ended') × (t ≡ t') × (see new ≡ see new')
+    → Leads moves call (scene s host) ended stop (scene t new)
+    → Leads moves call (scene s host') ended' stop' (scene t' new')
+    → (ended ≡ ended') × (stop ≡ stop') × (t ≡ t') × (see new ≡ see new')
 
 -- ---- where runs stand, by the side tables
 
@@ -213,7 +213,7 @@ abbrev pub StepsLeadOn : Type 0
 StepsLeadOn =
     (m : Contents) (body : ℕ → Body) (s : Store) (place : Place) (callers : List Place) (contexts : List Context)
     → IsPlaced m body place callers contexts 0
-    → Leads m body
+    → LeadsOn m body
     (stepped (body place.function) place (operands_of contexts) callers (slice_get (body place.function).operations place.pc))
     (next m s contexts)
 

@@ -6,5 +6,11 @@ pub mod Running
 pub mod Hosting
 pub mod Invoking
 pub mod Stopping
+pub mod Leading
+pub mod Typed
+pub mod Heights
+pub mod HeightsTyped
+pub mod HeightsOfRuns
+pub mod Places
 pub mod Laws
 pub mod Inner

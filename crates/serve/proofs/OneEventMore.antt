@@ -23,7 +23,7 @@ use Rattle.phases.specs.declared.loop_core.Accepted.{Accepted}
 use Rattle.phases.specs.declared.loop_core.Accepted.TheVariants as accepted
 use Rattle.phases.specs.Accepting.{Accepts}
 use Rattle.phases.specs.Guests.{GuestCall}
-use Rattle.phases.specs.History.{Event, Stepped, OrderAsked, EndOffered, ClockRaised, EventStep, History, IsOpening, emits_in, emitted}
+use Rattle.phases.specs.History.{Event, Stepped, OrderAsked, EndOffered, ClockRaised, EventStep, IsOpening, emits_in, emitted}
 use Rattle.phases.specs.Outside.{next_order_of, clock_in, after_clock}
 use Rattle.phases.specs.PhaseList.{begin_list, hint_of}
 use Rattle.phases.specs.Roster.{opening_roster}
@@ -32,18 +32,13 @@ use Rattle.phases.specs.Step.{LoopStep}
 use Rattle.phases.specs.View.{new_view}
 use Rattle.pool.specs.declared.seats.Seats.{Seats}
 use Rattle.serve.specs.declared.served.LoopEnding.{LoopEnding}
-use Rattle.serve.specs.Histories.{HasDone, HasEnded, HasServed, EndsBy, thread_calls, is_callback, callbacks_in, IsByThread, AreByThread}
+use Rattle.serve.specs.Histories.{HasDone, HasEnded, HasServed, EndsBy, ThreadHistory, thread_calls, is_callback, callbacks_in, IsByThread}
+use Rattle.serve.specs.Inner.Alone.{IsAlone}
 
-module _ (g : Setting) (old new : Loop Seats) (e : Event) (step : EventStep thread_calls g e old new) where
-  push : (events : List Event) (start : Loop Seats) → History thread_calls g start events old → History thread_calls g start (events ++ e ∷ []) new
-  push [] start h = (new, subst (λ l. EventStep thread_calls g e l new) h step, refl)
-  push (x ∷ events) start h = (h.0, h.1, push events h.0 h.2)
-
-  push_own : (events : List Event) (start : Loop Seats) (h : History thread_calls g start events old) → AreByThread thread_calls g start events old h
-      → IsByThread e old.state → AreByThread thread_calls g start (events ++ e ∷ []) new (push events start h)
-  unfolding push
-  push_own [] start h all own = (subst (λ l. IsByThread e l.state) h own, tt)
-  push_own (x ∷ events) start h all own = (all.0, push_own events h.0 h.2 all.1 own)
+module _ (g : Setting) (old new : Loop Seats) (e : Event) (step : EventStep thread_calls g e old new) (own : IsByThread e old.state) where
+  push : (events : List Event) (start : Loop Seats) → ThreadHistory thread_calls g start events old → ThreadHistory thread_calls g start (events ++ e ∷ []) new
+  push [] start h = (new, subst (λ l. EventStep thread_calls g e l new) h step, subst (λ l. IsByThread e l.state) h own, refl)
+  push (x ∷ events) start h = (h.0, h.1, h.2, push events h.0 h.3)
 
 emitted_push : (events : List Event) (e : Event) → emitted (events ++ e ∷ []) ≡ emitted events ++ emits_in e
 emitted_push [] e = append-nil (emits_in e)
@@ -55,8 +50,8 @@ callbacks_push events e = sum_by_push (λ x. cond (is_callback x) 1 0) events e
 abbrev pub Does : Setting → Loop Seats → ℕ → List ℕ → Type 0
 Does g l ran emits = ∥ HasDone thread_calls g l ran emits ∥₁
 
-pub does_nothing : (g : Setting) (l : Loop Seats) (emits : List ℕ) → emits ≡ [] → IsOpening thread_calls g l → Does g l 0 emits
-does_nothing g l emits none opens = ∣ record { start = l; opens = opens; events = []; history = refl; own = tt; counted = refl; told = none } ∣₁
+pub does_nothing : (g : Setting) (l : Loop Seats) (emits : List ℕ) → emits ≡ [] → IsOpening thread_calls g l → IsAlone l.shared.taker → Does g l 0 emits
+does_nothing g l emits none opens alone = ∣ record { start = l; opens = opens; events = []; history = refl; alone = alone.3; counted = refl; told = none } ∣₁
 
 -- a step that runs no callback
 abbrev pub RunsNone : StepDid → Type 0
@@ -71,7 +66,7 @@ tells_other bare.Over not kind number ended is = absurd (cc)
 tells_other bare.Failed not kind number ended is = absurd (cc)
 
 -- what was done, and one event more, of a loop whose setting stays
-module _ {g g' : Setting} {l m : Loop Seats} {ran : ℕ} {emits : List ℕ} (same : g' ≡ g) (was : Does g l ran emits) where
+module _ {g g' : Setting} {l m : Loop Seats} {ran : ℕ} {emits : List ℕ} (same : g' ≡ g) (was : Does g l ran emits) (alone : IsAlone m.shared.taker) where
   does_more : (ran' : ℕ) (emits' : List ℕ) (e : Event) → EventStep thread_calls g e l m → IsByThread e l.state
       → ran' ≡ ran + cond (is_callback e) 1 0 → emits' ≡ emits ++ emits_in e → Does g' m ran' emits'
   does_more ran' emits' e step own count more = subst (λ x. Does x m ran' emits') (sym same) (∥∥₁_map was one) where
@@ -80,8 +75,8 @@ module _ {g g' : Setting} {l m : Loop Seats} {ran : ℕ} {emits : List ℕ} (sam
       start = h.start;
       opens = h.opens;
       events = h.events ++ e ∷ [];
-      history = push g l m e step h.events h.start h.history;
-      own = push_own g l m e step h.events h.start h.history h.own own;
+      history = push g l m e step own h.events h.start h.history;
+      alone = alone.3;
       counted = count ∙ ap (λ n. n + cond (is_callback e) 1 0) h.counted ∙ sym (callbacks_push h.events e);
       told = more ∙ ap (λ xs. xs ++ emits_in e) h.told ∙ sym (emitted_push h.events e);
     }
@@ -122,6 +117,14 @@ module _ {g g' : Setting} {l m : Loop Seats} {ran : ℕ} {emits : List ℕ} (sam
   does_accept reply (accepted.Stranger other) h =
       does_quiet emits (EndOffered (order_of reply.order) (end_of reply.outcome) false) refl refl (reply.computed, (h.2, h.1)) tt refl
 
+-- a reply that is offered leaves what the loop shares, its handles and its phase
+pub accepted_leaves : (reply : Reply) (old : Loop Seats) (a : Accepted) (new : Loop Seats) → Accepts reply old a new
+    → (new.shared ≡ old.shared) × (new.state.roster ≡ old.state.roster) × (new.state.phase ≡ old.state.phase)
+accepted_leaves reply old accepted.Accepted new h =
+    (ap (λ (l : Loop Seats). l.shared) h.1, ap (λ (l : Loop Seats). l.state.roster) h.1, ap (λ (l : Loop Seats). l.state.phase) h.1)
+accepted_leaves reply old (accepted.Stranger other) new h =
+    (ap (λ (l : Loop Seats). l.shared) h.1, ap (λ (l : Loop Seats). l.state.roster) h.1, ap (λ (l : Loop Seats). l.state.phase) h.1)
+
 -- to raise the clock to 0 is to read it
 clock_read : (s : Status) (n : ℕ) → clock_in s n 0 ≡ n
 clock_read status.Failed n = refl
@@ -129,14 +132,14 @@ clock_read status.Running n = omega arith
 clock_read status.Over n = omega arith
 
 -- the clock is read, and raised by how long the loop has nothing to do
-module _ {g g' : Setting} {l mid m : Loop Seats} {ran : ℕ} {emits : List ℕ} (same : g' ≡ g) (was : Does g l ran emits) (d clock ms : ℕ) where
+module _ {g g' : Setting} {l mid m : Loop Seats} {ran : ℕ} {emits : List ℕ} (same : g' ≡ g) (was : Does g l ran emits) (alone : IsAlone m.shared.taker) (d clock ms : ℕ) where
   pub does_wait : mid ≡ record l { state = after_clock l.state 0 } → clock ≡ mid.state.clock → ms ≡ saturated (clock + d)
-      → m ≡ record mid { state = after_clock mid.state ms } → l.state.requests.outstanding ≡ [] → hint_of l.state ≡ For d → Does g' m ran emits
-  does_wait read is_clock is_ms raised none hint =
-      let still : mid ≡ l = read ∙ ap (λ (n : ℕ). record l { state = record l.state { clock = n } }) (clock_read l.state.status l.state.clock) in
-      let moment = is_ms ∙ ap (λ (n : ℕ). saturated (n + d)) (is_clock ∙ ap (λ (x : Loop Seats). x.state.clock) still) in
-      let from_l = raised ∙ ap (λ (x : Loop Seats). record x { state = after_clock x.state ms }) still in
-      does_quiet same was emits (ClockRaised ms) refl refl from_l (none, (d, hint, moment)) refl
+      → m ≡ record mid { state = after_clock mid.state ms } → l.state.requests.outstanding ≡ [] → l.state.clock ≡ l.state.now → hint_of l.state ≡ For d → Does g' m ran emits
+  does_wait read is_clock is_ms raised none still hint =
+      let same_loop : mid ≡ l = read ∙ ap (λ (n : ℕ). record l { state = record l.state { clock = n } }) (clock_read l.state.status l.state.clock) in
+      let moment = is_ms ∙ ap (λ (n : ℕ). saturated (n + d)) (is_clock ∙ ap (λ (x : Loop Seats). x.state.clock) same_loop ∙ still) in
+      let from_l = raised ∙ ap (λ (x : Loop Seats). record x { state = after_clock x.state ms }) same_loop in
+      does_quiet same was alone emits (ClockRaised ms) refl refl from_l (none, still, (d, hint, moment)) refl
 
 -- a new loop opens so
 pub opens_new : (g : Setting) (l : Loop Seats) (loaded : Loaded) (loop_no fuel work_fuel depth : ℕ) (seats : Seats)
@@ -147,7 +150,7 @@ opens_new g l loaded loop_no fuel work_fuel depth seats is state store shared vi
     subst (λ x. IsOpening thread_calls x l) (sym is) (record { state = state; store = store.store; shared = ap thread_calls.view shared ∙ view })
 
 -- what is done is ended
-pub ended_by : {g : Setting} {l : Loop Seats} {ran : ℕ} {emits : List ℕ} (ending : LoopEnding) → ran ≤ MAX_CALLBACKS → EndsBy ending l ran → Does g l ran emits
+pub ended_by : {g : Setting} {l : Loop Seats} {ran : ℕ} {emits : List ℕ} (ending : LoopEnding) → ran ≤ MAX_CALLBACKS → EndsBy thread_calls ending l ran → Does g l ran emits
     → ∥ HasEnded thread_calls g ending emits ∥₁
 ended_by {l = l} {ran = ran} ending few ends was = ∥∥₁_map was (λ done. record { now = l; ran = ran; few = few; done = done; ends = ends })
 

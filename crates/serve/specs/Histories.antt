@@ -1,14 +1,16 @@
 -- What a thread has done with its loop: a history over the loop's seats, and how it ended.
-use Rattle.std.specs.Prelude.{◌≡◌, ℕ, ◌+◌, ◌<◌, ◌≤◌, Bool, true, false, List, [], ◌∷◌, count_by, Option, Some, None}
+use Rattle.std.specs.Prelude.{◌≡◌, ℕ, ◌+◌, ◌<◌, ◌≤◌, Bool, true, false, List, [], ◌∷◌, count_by, slice_index}
 use Rattle.limits.specs.declared.TheConstants.{MAX_CALLBACKS}
 use Rattle.syntax.specs.Loaded.{Loaded}
 use Rattle.events.specs.declared.did.StepDid.TheVariants.{Ran}
+use Rattle.events.specs.declared.phase.Phase.TheVariants.{Timers}
 use Rattle.handles.specs.Table.{saturated}
 use Rattle.events.specs.declared.did.Hint.TheVariants.{For, Forever}
 use Rattle.phases.specs.declared.entry.Status.TheVariants as status
 use Rattle.phases.specs.Calls.{Calls}
-use Rattle.phases.specs.History.{Event, Stepped, OrderAsked, EndOffered, CancelAnswered, ClockRaised, MovedBeside, History, IsOpening, emitted}
-use Rattle.phases.specs.PhaseList.{hint_of}
+use Rattle.phases.specs.History.{Event, Stepped, OrderAsked, EndOffered, CancelAnswered, ClockRaised, MovedBeside, EventStep, IsOpening, emitted}
+use Rattle.phases.specs.PhaseList.{hint_of, is_active_handle}
+use Rattle.phases.specs.Roster.{async_handle}
 use Rattle.phases.specs.State.{Setting, Loop, State}
 use Rattle.pool.specs.declared.seats.Seats.{Seats}
 use Rattle.pool.specs.Share.{seats_calls}
@@ -38,10 +40,10 @@ is_callback _ = false
 abbrev pub callbacks_in : List Event → ℕ
 callbacks_in events = count_by is_callback events
 
--- The clock is raised to this moment only where no request is outstanding and the loop has nothing to do for so long,
--- and then by that.
+-- The clock is raised only where it stands at the loop's cached now, no request is outstanding, and the loop has nothing to do
+-- for so long; and then to the moment of that.
 abbrev pub WaitsUntil : (ms : ℕ) → State → Type 0
-WaitsUntil ms s = (s.requests.outstanding ≡ []) × ((d : ℕ) × (hint_of s ≡ For d) × (ms ≡ saturated (s.clock + d)))
+WaitsUntil ms s = (s.requests.outstanding ≡ []) × (s.clock ≡ s.now) × ((d : ℕ) × (hint_of s ≡ For d) × (ms ≡ saturated (s.now + d)))
 
 -- What a thread does of its own with a loop that stands so: it cancels no request, and leaves what the loop shares.
 abbrev pub IsByThread : Event → State → Type 0
@@ -53,33 +55,52 @@ IsByThread (ClockRaised ms) s = WaitsUntil ms s
 IsByThread MovedBeside s = ⊥
 
 module _ {S : Type 0} (calls : Calls S) (g : Setting) where
-  -- each event of a history is one that a thread does
-  abbrev pub AreByThread : (old : Loop S) (events : List Event) (new : Loop S) → History calls g old events new → Type 0
-  AreByThread old [] new history = Unit {0}
-  AreByThread old (e ∷ events) new history = IsByThread e old.state × AreByThread history.0 events new history.2
+  -- what a thread does with its loop, one event after another
+  abbrev pub ThreadHistory : (old : Loop S) → List Event → (new : Loop S) → Type 0
+  ThreadHistory old [] new = new ≡ old
+  ThreadHistory old (e ∷ events) new =
+      (mid : Loop S) × EventStep calls g e old mid × IsByThread e old.state × ThreadHistory mid events new
 
-  -- a history of a loop of this setting from its opening, in which so many callbacks ran and put out these values, in order
+  -- Of each async all that was taken is the loop's own sends, but for those that it has not taken yet: nobody else has sent.
+  abbrev pub IsSentAlone : (now : Loop S) → Type 0
+  IsSentAlone now =
+      (a : ℕ) → slice_index (calls.view now.shared).taken a + slice_index (calls.view now.shared).untaken a ≡ slice_index (calls.view now.shared).own a
+
+  -- A history of a loop of this setting from its opening, in which so many callbacks ran and put out these values, in order, and
+  -- nobody else sent to the loop.
   pub record HasDone (now : Loop S) (ran : ℕ) (emits : List ℕ) : Type 0 where
     pub start : Loop S
     pub opens : IsOpening calls g start
     pub events : List Event
-    pub history : History calls g start events now
-    pub own : AreByThread start events now history
+    pub history : ThreadHistory start events now
+    pub alone : IsSentAlone now
     pub counted : ran ≡ callbacks_in events
     pub told : emits ≡ emitted events
 
--- Why a loop has ended: it is over; it has failed; it has no request outstanding and nothing to do for ever; or it ran
--- as many callbacks as it may.
-abbrev pub EndsBy : {S : Type 0} → LoopEnding → (now : Loop S) → (ran : ℕ) → Type 0
-EndsBy ending.Over now ran = now.state.status ≡ status.Over
-EndsBy ending.Failed now ran = now.state.status ≡ status.Failed
-EndsBy ending.Waiting now ran = (now.state.requests.outstanding ≡ []) × (hint_of now.state ≡ Forever)
-EndsBy ending.Limit now ran = ran ≡ MAX_CALLBACKS
+-- the async's handle is there and active
+abbrev pub IsActiveAsync : State → (async_no : ℕ) → Type 0
+IsActiveAsync s async_no = is_active_handle s.roster.handles (async_handle s.roster async_no) ≡ true
 
--- the loop has ended so, or may run callbacks yet
-abbrev pub ComesTo : {S : Type 0} → Option LoopEnding → (now : Loop S) → (ran : ℕ) → Type 0
-ComesTo None now ran = ran < MAX_CALLBACKS
-ComesTo (Some ending) now ran = EndsBy ending now ran
+module _ {S : Type 0} (calls : Calls S) where
+  -- none of the loop's own sends waits at an active async
+  abbrev pub IsDrained : Loop S → Type 0
+  IsDrained now = (async_no : ℕ) → IsActiveAsync now.state async_no → slice_index (calls.view now.shared).untaken async_no ≡ 0
+
+  -- The loop waits for what nobody does: it stands where the timers phase was entered, and no timer is due; no request is
+  -- outstanding; nothing is to do for ever; and no own send waits.
+  pub record IsWaiting (now : Loop S) : Type 0 where
+    pub phase : now.state.phase ≡ Timers
+    pub none_due : now.state.list ≡ []
+    pub none_outstanding : now.state.requests.outstanding ≡ []
+    pub for_ever : hint_of now.state ≡ Forever
+    pub drained : IsDrained now
+
+  -- why a loop has ended: it is over; it has failed; it waits; or it ran as many callbacks as it may
+  abbrev pub EndsBy : LoopEnding → (now : Loop S) → (ran : ℕ) → Type 0
+  EndsBy ending.Over now ran = now.state.status ≡ status.Over
+  EndsBy ending.Failed now ran = now.state.status ≡ status.Failed
+  EndsBy ending.Waiting now ran = IsWaiting now
+  EndsBy ending.Limit now ran = ran ≡ MAX_CALLBACKS
 
 -- A history of a loop of this setting from its opening, in which its callbacks put out these values, in order, and at
 -- whose end the loop has ended so.
@@ -88,7 +109,7 @@ pub record HasEnded {S : Type 0} (calls : Calls S) (g : Setting) (ending : LoopE
   pub ran : ℕ
   pub few : ran ≤ MAX_CALLBACKS
   pub done : HasDone calls g now ran emits
-  pub ends : EndsBy ending now ran
+  pub ends : EndsBy calls ending now ran
 
 -- the same of some loop of this number, over its seats
 pub record HasServed (loop_no : ℕ) (ending : LoopEnding) (emits : List ℕ) : Type 0 where

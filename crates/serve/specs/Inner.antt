@@ -1,3 +1,5 @@
--- No public clause reaches these: what a thread has promised.
+-- No public clause reaches these: what a thread has promised, and what its loop's seats are.
+pub mod Alone
 pub mod Places
 pub mod Promises
+pub mod Turns

@@ -1,3 +1,4 @@
+pub mod AfterOnce
 pub mod Answers
 pub mod AtDesk
 pub mod Histories

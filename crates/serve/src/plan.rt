@@ -1,11 +1,11 @@
 // What all loops are made of, and the run of one.
 
-ghost use Rattle.std.specs.Prelude.{◌≡◌, ◌<◌, IfOk};
+ghost use Rattle.std.specs.Prelude.{◌≡◌, IfOk};
 ghost use Rattle.std.specs.Arc.{arc_value};
-ghost use Rattle.limits.specs.declared.TheConstants.{MAX_CALLBACKS};
 ghost use Rattle.marks.specs.Counts.{new_taker};
 ghost use Rattle.serve.specs.Answers.{IsServed};
-ghost use Rattle.serve.specs.Histories.{setting_at};
+ghost use Rattle.serve.specs.Histories.{setting_at, thread_calls};
+ghost use Rattle.serve.specs.Inner.Turns.{GoesOn};
 
 use crate::place::LoopPlace;
 use crate::served::Served;
@@ -105,7 +105,7 @@ impl LoopPlan {
     ) -> Result<Turns<'a, J>, AllocError>
         requires { taker ≡ new_taker marks.now 0 }
         ensures setting { IfOk result (λ t. t.told.core.setting ≡ setting_at (arc_value self.now.linked) self.now.serving place.entry.seat.loop_no) }
-        ensures room { IfOk result (λ t. t.told.ran < MAX_CALLBACKS) }
+        ensures goes { IfOk result (λ t. GoesOn thread_calls t.told.core.loop t.told.ran) }
     {
         let linked = Arc::try_clone(&self.linked)?;
         Turns::new(

@@ -1,6 +1,6 @@
 // A loop, with how many of its callbacks ran and what they have put out.
 
-ghost use Rattle.std.specs.Prelude.{◌≡◌, ◌<◌, ◌≤◌, ◌+◌, ◌++◌, [], length, vec_len, vec_capacity, IfOk, IfSome};
+ghost use Rattle.std.specs.Prelude.{◌≡◌, ◌<◌, ◌≤◌, ◌+◌, ◌++◌, [], true, false, None, length, vec_len, vec_capacity, IfOk, IfSome};
 ghost use Rattle.std.specs.Bool.{OnFalse};
 ghost use Rattle.limits.specs.declared.TheConstants.{MAX_CALLBACKS, MAX_REQUESTS};
 ghost use Rattle.order.specs.Orders.{order_of};
@@ -9,7 +9,11 @@ ghost use Rattle.order.specs.Runnable.{CanRun};
 ghost use Rattle.phases.specs.PhaseList.{hint_of};
 ghost use Rattle.phases.specs.declared.entry.Status.TheVariants as status;
 ghost use Rattle.serve.specs.Answers.{IsServed};
-ghost use Rattle.serve.specs.Histories.{HasDone, EndsBy, ComesTo, thread_calls};
+ghost use Rattle.phases.specs.Bare.{whole};
+ghost use Rattle.phases.specs.Step.{LoopStep};
+ghost use Rattle.serve.specs.Histories.{HasDone, EndsBy, IsDrained, thread_calls};
+ghost use Rattle.serve.specs.Inner.Alone.{IsAlone};
+ghost use Rattle.serve.specs.Inner.Turns.{enters_timers, runs, IsAtTurn, Drains, GoesOn, StepsTo, ComesTo};
 
 use crate::account::Account;
 use crate::meter::Meter;
@@ -33,10 +37,13 @@ pub struct Record<'a> {
     emits: Vec<u64>,
     account: Account,
     ghost few: { ran ≤ MAX_CALLBACKS },
+    ghost alone: { IsAlone core.loop.shared.taker },
     ghost told: { ∥ HasDone thread_calls core.setting core.loop ran emits.items ∥₁ },
 }
 
-fn enters_timers(did: &BareDid) -> bool {
+fn enters_timers(did: &BareDid) -> bool
+    ensures { result ≡ enters_timers did.now }
+{
     matches!(
         did,
         BareDid::Entered {
@@ -71,9 +78,10 @@ fn last_trail(core: &LoopCore<Seats<'_>>) -> Option<Trail> {
 impl<'a> Record<'a> {
     /// Of a loop that has done nothing.
     pub fn new(alloc: Global, core: LoopCore<Seats<'a>>, account: Account) -> Record<'a>
-        requires { IsOpening thread_calls core.setting core.loop }
+        requires opens { IsOpening thread_calls core.setting core.loop }
+        requires alone { IsAlone core.loop.shared.taker }
         ensures setting { result.core.setting ≡ core.entry.setting }
-        ensures none { result.ran ≡ 0 }
+        ensures goes { GoesOn thread_calls result.core.loop result.ran }
     {
         Record {
             core,
@@ -86,7 +94,7 @@ impl<'a> Record<'a> {
     /// Offers a reply to the loop, which drops it where it is not the loop's. Whether the loop takes it.
     pub fn accept(&mut self, reply: Reply) -> bool
         ensures setting { self.new.core.setting ≡ self.old.core.setting }
-        ensures ran { self.new.ran ≡ self.old.ran }
+        ensures goes { GoesOn thread_calls self.old.core.loop self.old.ran → GoesOn thread_calls self.new.core.loop self.new.ran }
     {
         self.account.heard(&reply);
         let accepted = self.core.accept(reply);
@@ -99,7 +107,7 @@ impl<'a> Record<'a> {
         ensures own { IfSome result (λ o. o.loop_no ≡ self.old.core.setting.loop_no) }
         ensures slot { IfSome result (λ o. o.slot < MAX_REQUESTS) }
         ensures setting { self.new.core.setting ≡ self.old.core.setting }
-        ensures ran { self.new.ran ≡ self.old.ran }
+        ensures goes { GoesOn thread_calls self.old.core.loop self.old.ran → GoesOn thread_calls self.new.core.loop self.new.ran }
     {
         self.core.next_order()
     }
@@ -116,9 +124,11 @@ impl<'a> Record<'a> {
         loop_no: u32,
         watch: &W,
     ) -> Result<Option<LoopEnding>, AllocError>
-        requires room { self.old.ran < MAX_CALLBACKS }
+        requires goes { GoesOn thread_calls self.old.core.loop self.old.ran }
         ensures setting { self.new.core.setting ≡ self.old.core.setting }
-        ensures comes { IfOk result (λ ended. ComesTo ended self.new.core.loop self.new.ran) }
+        ensures comes { IfOk result (λ ended. ComesTo thread_calls ended self.new.core.loop self.new.ran) }
+        ensures at_turn { IfOk result (λ ended. ended ≡ None → IsAtTurn self.new.core.loop.state) }
+        ensures drained { IfOk result (λ ended. ended ≡ None → self.new.ran ≤ self.old.ran → IsDrained thread_calls self.new.core.loop) }
     {
         for _ in rt.forever() {
             let did = self.step()?;
@@ -141,6 +151,10 @@ impl<'a> Record<'a> {
         requires room { self.old.ran < MAX_CALLBACKS }
         ensures setting { self.new.core.setting ≡ self.old.core.setting }
         ensures over { IfOk result (λ did. did ≡ BareDid.Over → self.new.core.loop.state.status ≡ status.Over) }
+        ensures more { IfOk result (λ did. self.old.ran ≤ self.new.ran) }
+        ensures drains { IfOk result (λ did. self.new.ran ≤ self.old.ran → Drains thread_calls self.old.core.loop → Drains thread_calls self.new.core.loop) }
+        ensures at_turn { IfOk result (λ did. enters_timers did ≡ true → IsAtTurn self.new.core.loop.state) }
+        ensures drained { IfOk result (λ did. enters_timers did ≡ true → Drains thread_calls self.old.core.loop → IsDrained thread_calls self.new.core.loop) }
     {
         self.emits.reserve(MAX_EMITS)?;
         let did = self.core.step_bare();
@@ -156,7 +170,7 @@ impl<'a> Record<'a> {
     /// may run.
     fn ended(&self, did: &BareDid) -> Option<LoopEnding>
         requires { did.now ≡ BareDid.Over → self.now.core.loop.state.status ≡ status.Over }
-        ensures { ComesTo result self.now.core.loop self.now.ran }
+        ensures { StepsTo thread_calls result self.now.core.loop self.now.ran }
     {
         match did {
             BareDid::Over => Some(LoopEnding::Over),
@@ -173,10 +187,12 @@ impl<'a> Record<'a> {
 
     /// Raises the clock to the next timer, and tells it. Without one the loop waits for ever.
     pub fn wait<R: Wait, W: Watch>(&mut self, rt: &R, loop_no: u32, watch: &W) -> Option<LoopEnding>
-        requires room { self.old.ran < MAX_CALLBACKS }
+        requires goes { GoesOn thread_calls self.old.core.loop self.old.ran }
+        requires at_turn { IsAtTurn self.old.core.loop.state }
         requires none { self.old.core.loop.state.requests.outstanding ≡ [] }
+        requires drained { IsDrained thread_calls self.old.core.loop }
         ensures setting { self.new.core.setting ≡ self.old.core.setting }
-        ensures comes { ComesTo result self.new.core.loop self.new.ran }
+        ensures comes { ComesTo thread_calls result self.new.core.loop self.new.ran }
     {
         match self.core.hint() {
             Hint::Now => None,
@@ -192,9 +208,10 @@ impl<'a> Record<'a> {
     /// Raises the clock by so many milliseconds, for which the loop has nothing to do. To which moment.
     fn pass(&mut self, ms: u64) -> u64
         requires none { self.old.core.loop.state.requests.outstanding ≡ [] }
+        requires still { self.old.core.loop.state.clock ≡ self.old.core.loop.state.now }
         requires hint { hint_of self.old.core.loop.state ≡ Hint.For ms }
         ensures setting { self.new.core.setting ≡ self.old.core.setting }
-        ensures ran { self.new.ran ≡ self.old.ran }
+        ensures goes { GoesOn thread_calls self.old.core.loop self.old.ran → GoesOn thread_calls self.new.core.loop self.new.ran }
     {
         let clock = self.core.clock(0);
         let moment = clock.saturating_add(ms);
@@ -212,7 +229,7 @@ impl<'a> Record<'a> {
     /// What the loop has done, and how it ended.
     pub fn into_served(self, loop_no: u32, ending: LoopEnding) -> Served
         requires loop_no { loop_no ≡ self.core.setting.loop_no }
-        requires ends { EndsBy ending self.core.loop self.ran }
+        requires ends { EndsBy thread_calls ending self.core.loop self.ran }
         ensures { IsServed self.entry.core.setting result }
     {
         let trail = last_trail(&self.core);

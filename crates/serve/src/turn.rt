@@ -1,12 +1,13 @@
 // The turns of one loop.
 
-ghost use Rattle.std.specs.Prelude.{◌≡◌, ◌<◌, ◌≤◌, length, IfOk, IfSome};
+ghost use Rattle.std.specs.Prelude.{◌≡◌, ◌<◌, length, IfOk, IfSome};
 ghost use Rattle.std.specs.Arc.{arc_value};
-ghost use Rattle.limits.specs.declared.TheConstants.{MAX_CALLBACKS, MAX_LOOPS};
+ghost use Rattle.limits.specs.declared.TheConstants.{MAX_LOOPS};
 ghost use Rattle.board.specs.Boards.{IsPassOf, IsEventOf};
 ghost use Rattle.marks.specs.Counts.{new_taker};
 ghost use Rattle.serve.specs.Answers.{IsServed};
-ghost use Rattle.serve.specs.Histories.{ComesTo, EndsBy, setting_at};
+ghost use Rattle.serve.specs.Histories.{EndsBy, IsDrained, setting_at, thread_calls};
+ghost use Rattle.serve.specs.Inner.Turns.{IsAtTurn, GoesOn, ComesTo};
 
 use crate::account::Account;
 use crate::place::LoopPlace;
@@ -52,7 +53,7 @@ impl<'a, J: Drop> Turns<'a, J> {
     ) -> Result<Turns<'a, J>, AllocError>
         requires { taker ≡ new_taker marks.now 0 }
         ensures setting { IfOk result (λ t. t.told.core.setting ≡ setting_at (arc_value linked) serving place.entry.seat.loop_no) }
-        ensures room { IfOk result (λ t. t.told.ran < MAX_CALLBACKS) }
+        ensures goes { IfOk result (λ t. GoesOn thread_calls t.told.core.loop t.told.ran) }
     {
         let LoopPlace {
             board,
@@ -89,7 +90,7 @@ impl<'a, J: Drop> Turns<'a, J> {
         watch: &W,
     ) -> Result<Served, AllocError>
         requires make { M.IsAlwaysCallable make.now }
-        requires room { self.told.ran < MAX_CALLBACKS }
+        requires goes { GoesOn thread_calls self.told.core.loop self.told.ran }
         ensures { IfOk result (λ served. IsServed self.entry.told.core.setting served) }
     {
         let ending = self.until_ended(rt, make, watch)?;
@@ -98,7 +99,7 @@ impl<'a, J: Drop> Turns<'a, J> {
 
     /// What the loop has done, and how it ended.
     fn into_served(self, ending: LoopEnding) -> Served
-        requires { EndsBy ending self.told.core.loop self.told.ran }
+        requires { EndsBy thread_calls ending self.told.core.loop self.told.ran }
         ensures { IsServed self.entry.told.core.setting result }
     {
         self.told.into_served(self.loop_no, ending)
@@ -111,9 +112,9 @@ impl<'a, J: Drop> Turns<'a, J> {
         watch: &W,
     ) -> Result<LoopEnding, AllocError>
         requires make { M.IsAlwaysCallable make.now }
-        requires room { self.old.told.ran < MAX_CALLBACKS }
+        requires goes { GoesOn thread_calls self.old.told.core.loop self.old.told.ran }
         ensures setting { self.new.told.core.setting ≡ self.old.told.core.setting }
-        ensures ends { IfOk result (λ ending. EndsBy ending self.new.told.core.loop self.new.told.ran) }
+        ensures ends { IfOk result (λ ending. EndsBy thread_calls ending self.new.told.core.loop self.new.told.ran) }
     {
         for _ in rt.forever() {
             if let Some(ending) = self.turn(rt, make, watch)? {
@@ -131,9 +132,9 @@ impl<'a, J: Drop> Turns<'a, J> {
         watch: &W,
     ) -> Result<Option<LoopEnding>, AllocError>
         requires make { M.IsAlwaysCallable make.now }
-        requires room { self.old.told.ran < MAX_CALLBACKS }
+        requires goes { GoesOn thread_calls self.old.told.core.loop self.old.told.ran }
         ensures setting { self.new.told.core.setting ≡ self.old.told.core.setting }
-        ensures comes { IfOk result (λ ended. ComesTo ended self.new.told.core.loop self.new.told.ran) }
+        ensures comes { IfOk result (λ ended. ComesTo thread_calls ended self.new.told.core.loop self.new.told.ran) }
     {
         let board = self.board;
         let heard = self.exchange_if_any(rt, make, watch)?;
@@ -149,7 +150,7 @@ impl<'a, J: Drop> Turns<'a, J> {
     ) -> Result<Option<Heard>, AllocError>
         requires make { M.IsAlwaysCallable make.now }
         ensures setting { self.new.told.core.setting ≡ self.old.told.core.setting }
-        ensures ran { self.new.told.ran ≡ self.old.told.ran }
+        ensures goes { GoesOn thread_calls self.old.told.core.loop self.old.told.ran → GoesOn thread_calls self.new.told.core.loop self.new.told.ran }
         ensures heard { IfOk result (λ heard. IfSome heard (λ h. IsEventOf self.old.board.now h.event)) }
     {
         if !self.told.has_requests() && self.kept.is_none() {
@@ -167,7 +168,7 @@ impl<'a, J: Drop> Turns<'a, J> {
     ) -> Result<Heard, AllocError>
         requires make { M.IsAlwaysCallable make.now }
         ensures setting { self.new.told.core.setting ≡ self.old.told.core.setting }
-        ensures ran { self.new.told.ran ≡ self.old.told.ran }
+        ensures goes { GoesOn thread_calls self.old.told.core.loop self.old.told.ran → GoesOn thread_calls self.new.told.core.loop self.new.told.ran }
         ensures heard { IfOk result (λ heard. IsEventOf self.old.board.now heard.event) }
     {
         let reply = self.board.listen(Event::Put(self.loop_no));
@@ -185,10 +186,10 @@ impl<'a, J: Drop> Turns<'a, J> {
         heard: Option<Heard>,
         watch: &W,
     ) -> Result<Option<LoopEnding>, AllocError>
-        requires room { self.old.told.ran < MAX_CALLBACKS }
+        requires goes { GoesOn thread_calls self.old.told.core.loop self.old.told.ran }
         requires heard { IfSome heard (λ h. IsEventOf board.now h.event) }
         ensures setting { self.new.told.core.setting ≡ self.old.told.core.setting }
-        ensures comes { IfOk result (λ ended. ComesTo ended self.new.told.core.loop self.new.told.ran) }
+        ensures comes { IfOk result (λ ended. ComesTo thread_calls ended self.new.told.core.loop self.new.told.ran) }
     {
         let ran = self.told.ran;
         let ended = self.told.step_through(rt, self.loop_no, watch)?;
@@ -208,10 +209,12 @@ impl<'a, J: Drop> Turns<'a, J> {
         heard: Option<Heard>,
         watch: &W,
     ) -> Option<LoopEnding>
-        requires room { self.old.told.ran < MAX_CALLBACKS }
+        requires goes { GoesOn thread_calls self.old.told.core.loop self.old.told.ran }
+        requires at_turn { IsAtTurn self.old.told.core.loop.state }
+        requires drained { IsDrained thread_calls self.old.told.core.loop }
         requires heard { IfSome heard (λ h. IsEventOf board.now h.event) }
         ensures setting { self.new.told.core.setting ≡ self.old.told.core.setting }
-        ensures comes { ComesTo result self.new.told.core.loop self.new.told.ran }
+        ensures comes { ComesTo thread_calls result self.new.told.core.loop self.new.told.ran }
     {
         if self.told.has_requests() {
             if let Some(heard) = heard {
@@ -225,7 +228,7 @@ impl<'a, J: Drop> Turns<'a, J> {
     /// Accepts all replies that are there.
     fn accept_all<R: Wait, W: Watch>(&mut self, rt: &R, watch: &W)
         ensures setting { self.new.told.core.setting ≡ self.old.told.core.setting }
-        ensures ran { self.new.told.ran ≡ self.old.told.ran }
+        ensures goes { GoesOn thread_calls self.old.told.core.loop self.old.told.ran → GoesOn thread_calls self.new.told.core.loop self.new.told.ran }
     {
         for _ in rt.forever() {
             let Some(reply) = self.board.collect(rt, &mut self.pass, self.loop_no) else {
@@ -246,7 +249,7 @@ impl<'a, J: Drop> Turns<'a, J> {
     ) -> Result<(), AllocError>
         requires make { M.IsAlwaysCallable make.now }
         ensures setting { self.new.told.core.setting ≡ self.old.told.core.setting }
-        ensures ran { self.new.told.ran ≡ self.old.told.ran }
+        ensures goes { GoesOn thread_calls self.old.told.core.loop self.old.told.ran → GoesOn thread_calls self.new.told.core.loop self.new.told.ran }
     {
         for _ in rt.forever() {
             let Some(job) = self.next_job(rt, make, watch)? else {
@@ -269,7 +272,7 @@ impl<'a, J: Drop> Turns<'a, J> {
     ) -> Result<Option<J>, AllocError>
         requires make { M.IsAlwaysCallable make.now }
         ensures setting { self.new.told.core.setting ≡ self.old.told.core.setting }
-        ensures ran { self.new.told.ran ≡ self.old.told.ran }
+        ensures goes { GoesOn thread_calls self.old.told.core.loop self.old.told.ran → GoesOn thread_calls self.new.told.core.loop self.new.told.ran }
     {
         if let Some(job) = self.kept.take() {
             return Ok(Some(job));

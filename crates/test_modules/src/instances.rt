@@ -1,6 +1,6 @@
 // Instances that are told turn by turn what to do: their memories, tables, globals and segments.
 
-use crate::instances::Turn::{Element, Get, Grow, Length, Load, Read, Set, Store, Write};
+use crate::instances::Turn::{Copy, Element, Get, Grow, Length, Load, Read, Set, Store, Write};
 use crate::rows::{check_rows, check_told_of};
 use instance::access::AccessSize::{self, Eight, Four, One, Two};
 use instance::fault::InstFault;
@@ -26,6 +26,8 @@ enum Turn {
     Length,
     /// So many bytes of the memory are read.
     Read(usize, usize),
+    /// The same, copied over what is in the room, 16 bytes at most.
+    Copy(usize, usize),
     /// Bytes are written to the memory. Whether they were is told.
     Write(usize, &'static [u8]),
     /// An element of the table is looked up.
@@ -54,6 +56,12 @@ fn take(text: &mut String, state: &mut State, turn: Turn) -> Result<(), AllocErr
         }
         Length => write!(text, "{}; ", state.memory().len()),
         Read(at, length) => write!(text, "{:?}; ", state.memory_mut().read(at, length)),
+        Copy(at, length) => {
+            let mut room = [9; 16];
+            let into = &mut room[..length.min(16)];
+            let there = state.memory().read_into(at, into);
+            write!(text, "{:?}; ", there.then_some(&*into))
+        }
         Write(at, bytes) => write!(text, "{}; ", state.memory_mut().write(at, bytes)),
         Element(index) => write!(text, "{:?}; ", state.element(index)),
         Get(index) => write!(text, "{:?}; ", state.global(index)),
@@ -77,7 +85,7 @@ fn told_by(alloc: Global, state: &mut State, turns: &[Turn]) -> Result<String, A
 /// What an instance of this module answers in these turns.
 fn told_of(alloc: Global, valid: &Valid, turns: &[Turn]) -> Result<String, Fail> {
     let mut instance = Instance::new(alloc, valid)?;
-    Ok(told_by(alloc, &mut instance, turns)?)
+    Ok(told_by(alloc, &mut instance.state, turns)?)
 }
 
 /// The valid module that has these sections.
@@ -241,6 +249,20 @@ fn is_zero_where_nothing_was_written(rt: HostRuntime) -> Result<(), Fail> {
         true; Some(197121); 1 of 2; Some(0); true; Some([0, 0, 17, 34, 51, 68, 0, 0]); \
         Some(0); Some([0]); ";
     check(&rt, rt.alloc(), BOUNDED, &ACROSS, wanted)
+}
+
+#[test]
+fn copies_what_is_there(rt: HostRuntime) -> Result<(), Fail> {
+    let turns = [
+        Write(4_090, &[7]),
+        Copy(4_089, 4),
+        Copy(65_534, 2),
+        Copy(65_534, 3),
+        Copy(65_536, 0),
+        Copy(65_537, 0),
+    ];
+    let wanted = "true; Some([0, 7, 0, 0]); Some([0, 0]); None; Some([]); None; ";
+    check(&rt, rt.alloc(), BOUNDED, &turns, wanted)
 }
 
 #[test]

@@ -1,8 +1,10 @@
-// What is told of a run of an order: what becomes of it, the units that it used, and where it stopped.
+// What is told of a run of an order, at once and in slices: what becomes of it, the units that it used, and where it stopped.
+
+ghost use Rattle.std.specs.Prelude.{◌≤◌};
 
 use crate::rows::check_rows;
 use imports::{EntryPoint, Linked};
-use order::{Order, Outcome, Told, Trail};
+use order::{Going, Order, Outcome, Running, Told, Trail};
 use std::alloc::{AllocError, Global};
 use std::sync::Arc;
 use std::test::Fail;
@@ -17,6 +19,9 @@ const MODULES: &str = "
     # it returns, by itself and behind a start function of two units
     03020100 070b010775765f776f726b0000 0a090107002000 41016a0b = done 6 used 3
     0303020001 070b010775765f776f726b0000 080101 0a0f0207002000 41016a0b 050041051a0b = done 6 used 5
+    # it is an import, which answers -1, by itself and behind a start function of two units
+    021001 027576 0969735f616374697665 0000 070b010775765f776f726b0000 = done 4294967295 used 0
+    021001 027576 0969735f616374697665 0000 03020101 070b010775765f776f726b0000 080101 0a0701050041051a0b = done 4294967295 used 2
     # it divides by zero within two calls
     030403000000 070b010775765f776f726b0002 0a180307002000 41006d0b 0700012000 10000b 0600200010010b = trap 2 used 8 in 0:2 1:2 2:1
     # the start function traps behind a nop
@@ -28,7 +33,22 @@ const MODULES: &str = "
     0303020001 070b010775765f776f726b0000 080101 0a110208000340 0c000b000b 06000141051a0b = spent used 200 in 0:1
 ";
 
-fn run(alloc: Global, linked: Arc<Linked>) -> Result<Told, Fail> {
+/// Goes on in slices of so many units, at most 1,000 of them.
+fn finish(running: Running, units: u64) -> Result<Told, Fail>
+    requires { 1 ≤ units }
+{
+    let mut running = running;
+    for _ in 0..1000 {
+        match running.go_on(units) {
+            Going::Over(told) => return Ok(told),
+            Going::Paused(paused) => running = paused,
+        }
+    }
+    Err(Fail::from("it is not over"))
+}
+
+/// A run at once, or in slices of so many units.
+fn run(alloc: Global, linked: Arc<Linked>, units: u64) -> Result<Told, Fail> {
     let Some(_work) = linked.entry(EntryPoint::Work) else {
         return Err(Fail::from("no `uv_work`"));
     };
@@ -42,7 +62,13 @@ fn run(alloc: Global, linked: Arc<Linked>) -> Result<Told, Fail> {
         fuel: 200,
         depth: 64,
     };
-    Ok(order.run_told(alloc))
+    if units == 0 {
+        return Ok(order.run_told(alloc));
+    }
+    match order.begin(alloc) {
+        Ok(running) => finish(running, units),
+        Err(_) => Err(Fail::from("no memory")),
+    }
 }
 
 fn tell_outcome(text: &mut String, outcome: &Outcome) -> Result<(), AllocError> {
@@ -75,15 +101,23 @@ fn tell(text: &mut String, told: &Told) -> Result<(), AllocError> {
     }
 }
 
-/// What is told of a run of the guest with these sections.
-fn told(alloc: Global, sections: &str) -> Result<String, Fail> {
+/// What is told of a run of the guest with these sections, at once or in slices of so many units.
+fn told(alloc: Global, sections: &str, units: u64) -> Result<String, Fail> {
     let guest = guest_of(alloc, joined(alloc, FRONT, sections)?)?;
     let mut text = String::new(alloc);
-    tell(&mut text, &run(alloc, guest)?)?;
+    tell(&mut text, &run(alloc, guest, units)?)?;
     Ok(text)
 }
 
 #[test]
 fn a_run_tells_what_it_used_and_where_it_stopped(rt: HostRuntime) -> Result<(), Fail> {
-    check_rows(&rt, MODULES, |sections| told(rt.alloc(), sections))
+    check_rows(&rt, MODULES, |sections| told(rt.alloc(), sections, 0))
+}
+
+#[test]
+fn in_slices_it_tells_the_same(rt: HostRuntime) -> Result<(), Fail> {
+    for units in [1, 2, 3, 7, 199, 200, 201] {
+        check_rows(&rt, MODULES, |sections| told(rt.alloc(), sections, units))?;
+    }
+    Ok(())
 }

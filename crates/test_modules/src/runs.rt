@@ -32,6 +32,8 @@ const BODIES: &str = "
     # a return takes the topmost operand, and a branch drops the operands between
     4101 4107 0f 0b = return 7 used 3
     027f 4103 4104 0c00 0b 0b = return 4 used 4
+    # and what stood under the block stays, with nothing over it but what the branch keeps
+    4101 027f 4102 4103 0c00 0b 6a 0b = return 4 used 6
     027f 4101 0240 4102 0240 4103 4109 0c02 0b 1a 0b 0b 0b = return 9 used 8
     # sign extensions, and an i32 that is widened
     418001 c0 0b = return -128 used 2
@@ -188,8 +190,13 @@ fn calls_itself_up_to_the_limit(rt: HostRuntime) -> Result<(), Fail> {
 const COUNTS_DOWN: &str = "010f 03 6000017f 6000027f7f 60017f017f 03020100
     0a140112 01017f 4105 0302 41016b 2200 2000 0d00 0b 0b";
 
+/// The same over 100, to which it adds what is left.
+const COUNTS_OVER: &str = "010f 03 6000017f 6000027f7f 60017f017f 03020100
+    0a180116 01017f 41e400 4105 0302 41016b 2200 2000 0d00 0b 6a 0b";
+
 #[test]
 fn a_loop_counts_down_with_its_parameter(rt: HostRuntime) -> Result<(), Fail> {
     check_end(&rt, rt.alloc(), COUNTS_DOWN, 31, 8, "return 0 used 31")?;
-    check_end(&rt, rt.alloc(), COUNTS_DOWN, 30, 8, "spent used 30")
+    check_end(&rt, rt.alloc(), COUNTS_DOWN, 30, 8, "spent used 30")?;
+    check_end(&rt, rt.alloc(), COUNTS_OVER, 1000, 8, "return 100 used 33")
 }

@@ -20,6 +20,11 @@ use Rattle.validate.specs.Rules.{Rule, Indexes, Labels, Alignments, Mutabilities
 use Rattle.validate.specs.Valid.{ValidFunc, ValidImport, ValidModule, body_context}
 use Rattle.validate.specs.Stack.{pushed}
 use Rattle.validate.specs.Refusals.{HasFew, IsNamed, IsTyped, KeptIn, IsLow, Refutes}
+use Rattle.validate.specs.Sites.{BreaksAt}
+use Rattle.validate.specs.declared.site.RefusedAt.{RefusedAt}
+use Rattle.validate.proofs.Refused.{refutes_at}
+use Rattle.std.specs.Prelude.{Result, Ok, Err, OnOk, IfErr, MatchOption}
+use Rattle.std.specs.Result.{result_err}
 use Rattle.validate.proofs.Items.{same_some}
 
 names_all : (c : Context) (i : Instr) (before after : List ValType) → InstrTyped c i before after → NamesAll c i
@@ -138,3 +143,14 @@ refuted m fault.Start r = inr (λ v. r v.start)
 refuted m fault.Constant r = inr (λ v. r (v.globals, λ i d lt. (v.elements i d lt).offset, λ i d lt. (v.data_segments i d lt).offset))
 refuted m fault.Height r = inr (λ v. r (λ i d lt. is_low m _ (v.functions i d lt)))
 refuted m fault.Nesting r = inr (λ v. r (λ i d lt. (v.functions i d lt).nested))
+
+-- what is told of a module, or of one that is valid
+pub told_err : {X : Type 0} (m : Contents) (checked : Result X RefusedAt) → OnOk checked (ValidModule m) → IfErr checked (λ (r : RefusedAt). BreaksAt m r.fault r.site)
+    → MatchOption (result_err checked) (ValidModule m) (λ (r : RefusedAt). Refutes m r.fault)
+told_err m (Ok x) valid broken = valid
+told_err m (Err r) valid broken = refutes_at m r.fault r.site broken
+
+pub invalid_err : {X : Type 0} (m : Contents) (checked : Result X RefusedAt) → IfErr checked (λ (r : RefusedAt). BreaksAt m r.fault r.site)
+    → IfSome (result_err checked) (λ (r : RefusedAt). (r.fault ≡ fault.Memory) ⊎ (ValidModule m → ⊥))
+invalid_err m (Ok x) broken = tt
+invalid_err m (Err r) broken = refuted m r.fault (refutes_at m r.fault r.site broken)

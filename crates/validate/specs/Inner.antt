@@ -4,6 +4,7 @@ pub mod Checking
 pub mod Faults
 pub mod Frames
 pub mod Operands
+pub mod Placing
 pub mod Rejecting
 pub mod Room
 pub mod Steps

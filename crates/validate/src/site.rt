@@ -2,7 +2,9 @@
 
 ghost use Rattle.std.specs.Prelude.{◌≡◌, None};
 ghost use Rattle.validate.specs.declared.fault.ValidFault.TheVariants.{Memory};
+ghost use Rattle.validate.specs.declared.site.Site.TheVariants as site;
 ghost use Rattle.validate.specs.Inner.Faults.{fault_of};
+ghost use Rattle.validate.specs.Inner.Placing.{site_in};
 
 use crate::fault::{BodyFault, ValidFault};
 use std::alloc::AllocFailed;
@@ -48,7 +50,7 @@ impl From<RefusedAt> for ValidFault {
 }
 
 impl<T: Drop> From<AllocFailed<T>> for RefusedAt {
-    ghost from_gives = { λ _ refused. refused.fault ≡ Memory };
+    ghost from_gives = { λ _ refused. (refused.fault ≡ Memory) × (refused.site ≡ site.Section 10) };
 
     fn from(_e: AllocFailed<T>) -> RefusedAt {
         RefusedAt {
@@ -69,7 +71,8 @@ pub struct BodyRefused {
 impl BodyRefused {
     /// The same of the function with this number.
     pub fn in_function(self, function: usize) -> RefusedAt
-        ensures { result.fault ≡ fault_of self.fault }
+        ensures same { result.fault ≡ fault_of self.fault }
+        ensures placed { result.site ≡ site_in function self }
     {
         let site = match self.operation {
             Some(number) => Site::Operation {

@@ -1,7 +1,12 @@
 -- What each call does to what its handles have.
-use Rattle.std.specs.Prelude.{◌≡◌, ◌≢◌, ◌⊎◌, ◌++◌, ℕ, Bool, ℤ, List, [], length, take, drop, codes, is_some, Option, Some, None, MatchOption, IfSome, IsSomeAnd, if◌then◌else◌}
+use Rattle.std.specs.Prelude.{◌≡◌, ◌≢◌, ◌≤◌, ◌⊎◌, ◌++◌, ℕ, Bool, ℤ, List, [], length, take, drop, codes, is_some, Option, Some, None, MatchOption, IfSome, IsSomeAnd, if◌then◌else◌}
 use Rattle.std.specs.Arc.{arc_value}
+use Rattle.std.specs.Vec.{vec_ptr}
+use denote.RawPtr.{Ptr}
+use Rattle.limits.specs.declared.TheConstants.{MAX_DEPTH}
 use Rattle.instance.specs.Fresh.{IsFresh}
+use Rattle.instance.specs.Store.{page_limit}
+use Rattle.validate.specs.Segments.{minimum}
 use Rattle.order.specs.Orders.{order_of, end_of}
 use Rattle.order.specs.declared.order.Order.{Order}
 use Rattle.order.specs.declared.order.Outcome.{Outcome}
@@ -32,13 +37,13 @@ use Rattle.wasmloop_c.specs.declared.loops.Limits.{Limits}
 use Rattle.wasmloop_c.specs.declared.loops.Standing.{Standing}
 use Rattle.wasmloop_c.specs.declared.lone.Task.{Task}
 use Rattle.wasmloop_c.specs.declared.shape.Shape.{Shape}
-use Rattle.wasmloop_c.specs.declared.status.TheConstants.{OK, NONE, EMPTY, KIND, MEMORY, STRANGER, USED_UP}
+use Rattle.wasmloop_c.specs.declared.status.TheConstants.{OK, NONE, EMPTY, KIND, MEMORY, RANGE, STRANGER, USED_UP, NO_WORK}
 use Rattle.wasmloop_c.specs.declared.thing.Thing.{Thing}
 use Rattle.wasmloop_c.specs.declared.thing.Thing.TheVariants as thing
 
 -- the loop that a handle has
 abbrev pub loop_of : Thing → Option (Core Desk)
-loop_of (thing.Loop core) = Some core.value
+loop_of (thing.Loop held) = Some held.core.value
 loop_of _ = None
 
 -- a call on a handle: an empty one stays, and C is told so, and `Same` holds
@@ -123,10 +128,12 @@ abbrev pub Runs : (old new : Thing) → (status : ℕ) → Type 0
 Runs (thing.Asked order) new status = (status ≡ OK) × Answers order new
 Runs other new status = (status ≡ KIND) × (new ≡ other)
 
--- a job's start, told to its loop
+-- a job's start, told to its loop; a job of another loop is a stranger, and nothing changes
 abbrev pub Starts : Core Desk → Core Desk → (job : Thing) → (status : ℕ) → Type 0
 Starts c d (thing.Asked order) status =
-    (started : Bool) × StartsBeside desk_others c.loop order.slot order.request started d.loop × (status ≡ (if started then OK else STRANGER))
+    ((order.loop_no ≢ c.setting.loop_no) × (status ≡ STRANGER) × (d ≡ c))
+    ⊎ ((order.loop_no ≡ c.setting.loop_no)
+    × ((started : Bool) × StartsBeside desk_others c.loop order.slot order.request started d.loop × (status ≡ (if started then OK else STRANGER))))
 Starts c d _ status = (status ≡ KIND) × (d ≡ c)
 
 -- a reply that a loop is offered is taken, and the thing that is left is none; or it is left as it is
@@ -197,6 +204,38 @@ ReadsReply (thing.Asked order) old new before count status = (status ≡ NONE) �
 ReadsReply (thing.Answered told) old new before count status = ReadsOutcome told.reply.outcome old new before count status
 ReadsReply other old new before count status = (status ≡ KIND) × CopiesNothing old new before count
 
+-- where the bytes of an outcome are
+abbrev pub ViewsOutcome : Outcome → (old new : Ptr) → (before count status : ℕ) → Type 0
+ViewsOutcome (outcome.Done value bytes) old new before count status = (status ≡ OK) × (new ≡ vec_ptr bytes) × (count ≡ length bytes.items)
+ViewsOutcome other old new before count status = (status ≡ NONE) × (new ≡ old) × (count ≡ before)
+
+-- where the bytes of a job's reply are, if it was run and is done
+abbrev pub ViewsReply : Thing → (old new : Ptr) → (before count status : ℕ) → Type 0
+ViewsReply (thing.Asked order) old new before count status = (status ≡ NONE) × (new ≡ old) × (count ≡ before)
+ViewsReply (thing.Answered told) old new before count status = ViewsOutcome told.reply.outcome old new before count status
+ViewsReply other old new before count status = (status ≡ KIND) × (new ≡ old) × (count ≡ before)
+
+-- how many calls may stand open
+abbrev pub IsDepth : ℕ → Type 0
+IsDepth depth = (1 ≤ depth) × (depth ≤ MAX_DEPTH)
+
+-- what a call answers that only reads a module: EMPTY and KIND where there is none, and else what `Of` says of it
+abbrev pub AnswersOf : (held : Option Thing) → (status : ℕ) → (Of : Loaded → Type 0) → Type 0
+AnswersOf None status Of = status ≡ EMPTY
+AnswersOf (Some t) status Of = MatchOption (module_of t) (status ≡ KIND) Of
+
+-- What a call answers that makes something of a module in a handle, whose numbers are in their ranges where `Inside` is so: KIND where the
+-- handle is full, then RANGE, then what is answered of the module.
+abbrev pub AnswersIn : (handle held : Option Thing) → (status : ℕ) → (Inside : Type 0) → (Of : Loaded → Type 0) → Type 0
+AnswersIn (Some t) held status Inside Of = status ≡ KIND
+AnswersIn None held status Inside Of = (¬ Inside × (status ≡ RANGE)) ⊎ (Inside × AnswersOf held status Of)
+
+-- what a call answers that makes a job of a module's uv_work: NO_WORK exactly where there is none
+abbrev pub AnswersWork : Contents → (status : ℕ) → Type 0
+AnswersWork m status =
+    (ExportsNothing m (codes "uv_work") × (status ≡ NO_WORK))
+    ⊎ (((f : ℕ) × ExportsFunction m (codes "uv_work") f) × ((status ≡ OK) ⊎ (status ≡ MEMORY)))
+
 -- what only reads a module
 abbrev pub ReadsModule : Thing → (status : ℕ) → (Same : Type 0) → (Does : Loaded → Type 0) → Type 0
 ReadsModule t status Same Does = MatchOption (module_of t) ((status ≡ KIND) × Same) (λ m. (status ≡ OK) × Does m)
@@ -210,4 +249,6 @@ pub record IsShapeOf (m : Contents) (shape : Shape) : Type 0 where
   pub work : TellsEntry m (codes "uv_work") shape.work
   pub after_work : TellsEntry m (codes "uv_after_work") shape.after_work
   pub table : shape.table ≡ one_if (is_some m.table)
+  pub pages : shape.pages ≡ minimum m.memory
+  pub most_pages : shape.most_pages ≡ page_limit m.memory
   pub imports : shape.imports ≡ length m.imports

@@ -1,5 +1,6 @@
--- What is told of where a loop's last callback stopped, or a job.
+-- What is told of where a loop's last callback stopped, or a job, or an instance's last call.
 use Rattle.std.specs.Prelude.{◌≡◌, ℕ, List, length, map, Option, Some, None}
+use Rattle.std.specs.Option.{option_map}
 use Rattle.instance.specs.declared.stack.Site.{Site as Operation}
 use Rattle.instance.specs.Store.{Store}
 use Rattle.order.specs.Trails.{Innermost}
@@ -36,10 +37,11 @@ abbrev pub TellsStop : Option Innermost → (old new : List Site) → (before co
 TellsStop None old new before count status = (status ≡ NONE) × (new ≡ old) × (count ≡ before)
 TellsStop (Some stop) old new before count status = (status ≡ OK) × (new ≡ copied (map site_of stop.sites) old) × (count ≡ stop.calls)
 
--- where a loop's last callback stopped, all of it, or where a job did that was run, as far as that is kept
+-- where a loop's last callback or an instance's last call stopped, all of it, or where a job did that was run, as far as that is kept
 abbrev pub ReadsStop : Thing → (old new : List Site) → (before count status : ℕ) → Type 0
-ReadsStop (thing.Loop core) old new before count status =
-    (stop : Option Innermost) × IsStopOf core.value.setting core.value.loop.store stop × TellsStop stop old new before count status
+ReadsStop (thing.Loop held) old new before count status =
+    (stop : Option Innermost) × IsStopOf held.core.value.setting held.core.value.loop.store stop × TellsStop stop old new before count status
 ReadsStop (thing.Answered told) old new before count status = TellsStop told.trail old new before count status
+ReadsStop (thing.Resident resident) old new before count status = TellsStop (option_map whole resident.value.stop) old new before count status
 ReadsStop (thing.Asked order) old new before count status = TellsStop None old new before count status
 ReadsStop other old new before count status = (status ≡ KIND) × (new ≡ old) × (count ≡ before)

@@ -2,11 +2,11 @@
 
 ghost use Rattle.std.specs.Prelude.{◌≡◌};
 ghost use Rattle.wasmloop_c.specs.declared.thing.Thing.TheVariants as thing;
-ghost use Rattle.wasmloop_c.specs.Calls.{ReadsHandle, ReadsInput, ReadsReply};
+ghost use Rattle.wasmloop_c.specs.Calls.{ReadsHandle, ReadsInput, ReadsReply, ViewsReply};
 
 use crate::copying::copy_bytes;
-use crate::handle::Handle;
-use crate::status::{EMPTY, KIND, NONE};
+use crate::handle::{Handle, on};
+use crate::status::{KIND, NONE, OK};
 use crate::thing::Thing;
 use order::{Outcome, Told};
 use std::alloc::Global;
@@ -32,12 +32,7 @@ pub extern "C" fn wasmloop_rt_job_input(
 ) -> u32
     ensures { ReadsHandle job.old.raw.value job.new.raw.value result ((into.new ≡ into.old) × (count.new ≡ count.old)) (λ t. ReadsInput t into.old into.new count.old count.new result) }
 {
-    let Some(held) = job.take(alloc) else {
-        return EMPTY;
-    };
-    let status = input(&held, into, count);
-    job.put(held);
-    status
+    on!(job, alloc, held => input(&held, into, count))
 }
 
 fn reply_of(told: &Told, into: &mut [u8], count: &mut u64) -> u32
@@ -69,10 +64,39 @@ pub extern "C" fn wasmloop_rt_job_reply(
 ) -> u32
     ensures { ReadsHandle job.old.raw.value job.new.raw.value result ((into.new ≡ into.old) × (count.new ≡ count.old)) (λ t. ReadsReply t into.old into.new count.old count.new result) }
 {
-    let Some(held) = job.take(alloc) else {
-        return EMPTY;
+    on!(job, alloc, held => reply(&held, into, count))
+}
+
+fn view_of(told: &Told, at: &mut *const u8, count: &mut u64) -> u32
+    ensures { ViewsReply (thing.Answered told.now) at.old at.new count.old count.new result }
+{
+    let Outcome::Done(_, bytes) = &told.reply.outcome else {
+        return NONE;
     };
-    let status = reply(&held, into, count);
-    job.put(held);
-    status
+    *at = bytes.as_ptr();
+    *count = bytes.len() as u64;
+    OK
+}
+
+fn view(thing: &Thing, at: &mut *const u8, count: &mut u64) -> u32
+    ensures { ViewsReply thing.now at.old at.new count.old count.new result }
+{
+    match thing {
+        Thing::Asked(_) => NONE,
+        Thing::Answered(told) => view_of(told, at, count),
+        _ => KIND,
+    }
+}
+
+/// Tells where the bytes of a job's reply are. They stay there until the job is dropped or accepted.
+#[unsafe(no_mangle)]
+pub extern "C" fn wasmloop_rt_job_view(
+    alloc: Global,
+    job: &mut Handle,
+    at: &mut *const u8,
+    count: &mut u64,
+) -> u32
+    ensures { ReadsHandle job.old.raw.value job.new.raw.value result ((at.new ≡ at.old) × (count.new ≡ count.old)) (λ t. ViewsReply t at.old at.new count.old count.new result) }
+{
+    on!(job, alloc, held => view(&held, at, count))
 }

@@ -1,12 +1,12 @@
 // An order that can be run.
 
-ghost use Rattle.std.specs.Prelude.{◌≡◌, ◌<◌};
+ghost use Rattle.std.specs.Prelude.{◌≡◌, ◌<◌, IfOk, IfErr};
 ghost use Rattle.limits.specs.declared.TheConstants.{MAX_REQUESTS};
 ghost use Rattle.order.specs.Orders.{order_of, end_of};
-ghost use Rattle.order.specs.Work.{Uses};
+ghost use Rattle.order.specs.Work.{NoMemory, Uses};
 ghost use Rattle.order.specs.Runnable.{CanRun};
 
-use order::{Order, Told};
+use order::{Order, Reply, Running, Told};
 use std::alloc::Global;
 use std::marker::Model;
 
@@ -64,5 +64,14 @@ impl Job {
     {
         let Job { order } = self;
         order.run_told(alloc)
+    }
+
+    /// Begins the order, to be run in slices.
+    pub fn begin(self, alloc: Global) -> Result<Running, Reply>
+        ensures begun { IfOk result (λ r. (r.order ≡ order_of self) × (r.used ≡ 0)) }
+        ensures refused { IfErr result (λ reply. (reply.order ≡ self) × (end_of reply.outcome ≡ NoMemory)) }
+    {
+        let Job { order } = self;
+        order.begin(alloc)
     }
 }

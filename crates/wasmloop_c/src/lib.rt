@@ -1,4 +1,4 @@
-//! The host for programs in C: modules, loops and jobs in handles that stand in C's own memory.
+//! The host for programs in C: modules, loops, jobs and instances in handles that stand in C's own memory.
 //!
 //! Each exported call answers a status of `status`, waits for nothing, and leaves a handle that it can't use as it was. By its contract
 //! it does to what the handle has what `load`, `LoopCore` and `Order::run` do. A handle may go to another thread
@@ -11,8 +11,11 @@
 mod contents;
 mod copying;
 mod did;
+mod ended;
 mod fault;
 mod handle;
+mod held;
+mod instances;
 mod job;
 mod lone;
 mod loops;
@@ -20,6 +23,8 @@ mod modules;
 mod raw;
 mod sentence;
 mod shape;
+mod signature;
+mod slices;
 mod status;
 mod stops;
 mod thing;

@@ -1,16 +1,16 @@
 // Jobs that no loop asks for.
 
-ghost use Rattle.std.specs.Prelude.{◌≡◌, ◌≤◌, ◌<◌, ℕ, None, length, codes, IfOk, IsSomeAnd};
+ghost use Rattle.std.specs.Prelude.{◌≡◌, ◌≤◌, ◌<◌, ◌⊎◌, ℕ, None, length, codes, IfOk, IsSomeAnd, MatchOption};
 ghost use Rattle.std.specs.Arc.{arc_value};
 ghost use Rattle.limits.specs.declared.TheConstants.{MAX_BYTES, MAX_DEPTH, MAX_REQUESTS};
 ghost use Rattle.imports.specs.Linking.{ExportsFunction};
 ghost use Rattle.order.specs.Orders.{order_of};
 ghost use Rattle.order.specs.Runnable.{CanRun};
-ghost use Rattle.wasmloop_c.specs.Calls.{IsLoneJob, lone_order, module_of};
+ghost use Rattle.wasmloop_c.specs.Calls.{AnswersIn, AnswersWork, IsDepth, IsLoneJob, lone_order, module_of};
 
-use crate::handle::Handle;
+use crate::handle::{Handle, on};
 use crate::job::Job;
-use crate::status::{EMPTY, KIND, MEMORY, NO_WORK, OK, RANGE};
+use crate::status::{KIND, MEMORY, NO_WORK, OK, RANGE};
 use crate::thing::Thing;
 use imports::{EntryPoint, Linked};
 use limits::{MAX_BYTES, MAX_DEPTH};
@@ -66,12 +66,37 @@ fn boxed(
     Ok(Box::new(alloc, Thing::Asked(Job::new(order)))?)
 }
 
+fn put_job(
+    alloc: Global,
+    linked: &Arc<Linked, Global>,
+    task: Task,
+    bytes: &[u8],
+    job: &mut Handle,
+) -> u32
+    requires work { (f : ℕ) × ExportsFunction (arc_value linked.now).contents (codes "uv_work") f }
+    requires bytes { length bytes.now ≤ MAX_BYTES }
+    requires depth { (1 ≤ task.depth) × (task.depth ≤ MAX_DEPTH) }
+    requires empty { job.old.raw.value ≡ None }
+    ensures makes { result ≡ OK → IsSomeAnd job.new.raw.value (IsLoneJob (arc_value linked.now) task bytes.now) }
+    ensures refuses { (result ≡ OK → ⊥) → job.new.raw.value ≡ None }
+    ensures known { (result ≡ OK) ⊎ (result ≡ MEMORY) }
+{
+    match boxed(alloc, linked, task, bytes) {
+        Ok(made) => {
+            job.put(alloc, made);
+            OK
+        }
+        Err(AllocError) => MEMORY,
+    }
+}
+
 fn make(alloc: Global, module: &Thing, task: Task, bytes: &[u8], job: &mut Handle) -> u32
     requires bytes { length bytes.now ≤ MAX_BYTES }
     requires depth { (1 ≤ task.depth) × (task.depth ≤ MAX_DEPTH) }
     requires empty { job.old.raw.value ≡ None }
     ensures makes { result ≡ OK → IsSomeAnd (module_of module.now) (λ m. IsSomeAnd job.new.raw.value (IsLoneJob m task bytes.now)) }
     ensures refuses { (result ≡ OK → ⊥) → job.new.raw.value ≡ None }
+    ensures known { MatchOption (module_of module.now) (result ≡ KIND) (λ m. AnswersWork m.contents result) }
 {
     let Thing::Module(linked) = module else {
         return KIND;
@@ -79,13 +104,7 @@ fn make(alloc: Global, module: &Thing, task: Task, bytes: &[u8], job: &mut Handl
     let Some(_) = linked.entry(EntryPoint::Work) else {
         return NO_WORK;
     };
-    match boxed(alloc, linked, task, bytes) {
-        Ok(made) => {
-            job.put(made);
-            OK
-        }
-        Err(AllocError) => MEMORY,
-    }
+    put_job(alloc, linked, task, bytes, job)
 }
 
 /// Makes a job of a module's `uv_work`, in an empty handle, that no loop waits for.
@@ -100,6 +119,7 @@ pub extern "C" fn wasmloop_rt_job_new(
     ensures makes { result ≡ OK → IsSomeAnd module.old.raw.value (λ t. IsSomeAnd (module_of t) (λ m. IsSomeAnd job.new.raw.value (IsLoneJob m task.now bytes.now))) }
     ensures refuses { (result ≡ OK → ⊥) → job.new.raw.value ≡ job.old.raw.value }
     ensures kept { module.new.raw.value ≡ module.old.raw.value }
+    ensures known { AnswersIn job.old.raw.value module.old.raw.value result (IsDepth task.now.depth × (length bytes.now ≤ MAX_BYTES)) (λ m. AnswersWork m.contents result) }
 {
     if job.is_full() {
         return KIND;
@@ -108,10 +128,5 @@ pub extern "C" fn wasmloop_rt_job_new(
     if task.depth < 1 || task.depth > MAX_DEPTH || bytes.len() > MAX_BYTES {
         return RANGE;
     }
-    let Some(held) = module.take(alloc) else {
-        return EMPTY;
-    };
-    let status = make(alloc, &held, task, bytes, job);
-    module.put(held);
-    status
+    on!(module, alloc, held => make(alloc, &held, task, bytes, job))
 }

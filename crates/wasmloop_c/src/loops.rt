@@ -1,16 +1,17 @@
 // Loops.
 
-ghost use Rattle.std.specs.Prelude.{◌≡◌, ◌≤◌, ◌<◌, ◌↔◌, ◌⊎◌, None, length, IfOk, IsNone, IsSome, IsSomeAnd};
+ghost use Rattle.std.specs.Prelude.{◌≡◌, ◌≤◌, ◌<◌, ◌↔◌, ◌⊎◌, None, IfOk, IsSomeAnd};
 ghost use Rattle.std.specs.Arc.{arc_value};
 ghost use Rattle.limits.specs.declared.TheConstants.{MAX_ASYNCS, MAX_DEPTH};
-ghost use Rattle.wasmloop_c.specs.Calls.{OnLoop, OnHeldLoop, ReadsLoop, ReadsHeldLoop, Steps, Clocks, Sends, Cancels, IsNewLoop, CopiesEmits, loop_of, module_of, standing_of};
+ghost use Rattle.wasmloop_c.specs.Calls.{AnswersIn, IsDepth, OnLoop, OnHeldLoop, ReadsLoop, ReadsHeldLoop, Steps, Clocks, Sends, Cancels, IsNewLoop, CopiesEmits, loop_of, module_of, standing_of};
 ghost use Rattle.wasmloop_c.specs.Numbers.{hint_number};
 ghost use Rattle.phases.specs.PhaseList.{hint_of};
 
 use crate::copying::copy_front;
 use crate::did::Did;
-use crate::handle::Handle;
-use crate::status::{EMPTY, KIND, MEMORY, OK, RANGE, USED_UP};
+use crate::handle::{Handle, on};
+use crate::held::HeldLoop;
+use crate::status::{KIND, MEMORY, OK, RANGE, USED_UP};
 use crate::thing::Thing;
 use desk::Desk;
 use events::did::Hint;
@@ -65,7 +66,11 @@ fn opened(
         limits.depth,
     )?;
     let core = Box::new(alloc, core)?;
-    Ok(Box::new(alloc, Thing::Loop(core))?)
+    let held = HeldLoop {
+        core,
+        number: limits.loop_no,
+    };
+    Ok(Box::new(alloc, Thing::Loop(held))?)
 }
 
 fn open(alloc: Global, module: &Thing, limits: Limits, handle: &mut Handle) -> u32
@@ -81,7 +86,7 @@ fn open(alloc: Global, module: &Thing, limits: Limits, handle: &mut Handle) -> u
     };
     match opened(alloc, linked, limits) {
         Ok(core) => {
-            handle.put(core);
+            handle.put(alloc, core);
             OK
         }
         Err(AllocError) => MEMORY,
@@ -99,10 +104,7 @@ pub extern "C" fn wasmloop_rt_loop(
     ensures opens { result ≡ OK → IsSomeAnd module.old.raw.value (λ m. IsSomeAnd (module_of m) (λ l. IsSomeAnd handle.new.raw.value (λ t. IsSomeAnd (loop_of t) (IsNewLoop l limits.now)))) }
     ensures refuses { (result ≡ OK → ⊥) → handle.new.raw.value ≡ handle.old.raw.value }
     ensures kept { module.new.raw.value ≡ module.old.raw.value }
-    ensures full { IsSome handle.old.raw.value → result ≡ KIND }
-    ensures kind { result ≡ KIND → IsSome handle.old.raw.value ⊎ IsSomeAnd module.old.raw.value (λ t. module_of t ≡ None) }
-    ensures empty { result ≡ EMPTY → IsNone module.old.raw.value }
-    ensures range { result ≡ RANGE → (limits.now.depth < 1) ⊎ (MAX_DEPTH < limits.now.depth) }
+    ensures known { AnswersIn handle.old.raw.value module.old.raw.value result (IsDepth limits.now.depth) (λ _. (result ≡ OK) ⊎ (result ≡ MEMORY)) }
 {
     if handle.is_full() {
         return KIND;
@@ -111,22 +113,17 @@ pub extern "C" fn wasmloop_rt_loop(
     if limits.depth < 1 || limits.depth > MAX_DEPTH {
         return RANGE;
     }
-    let Some(held) = module.take(alloc) else {
-        return EMPTY;
-    };
-    let status = open(alloc, &held, limits, handle);
-    module.put(held);
-    status
+    on!(module, alloc, held => open(alloc, &held, limits, handle))
 }
 
 fn step(thing: &mut Thing, did: &mut Did) -> u32
     ensures { OnLoop thing.old thing.new result (did.new ≡ did.old) (λ c d. (result ≡ OK) × Steps c d did.new) }
 {
-    let Thing::Loop(core) = thing else {
+    let Thing::Loop(held) = thing else {
         return KIND;
     };
-    let told = core.step();
-    let emits = core.emits().len() as u32;
+    let told = held.core.step();
+    let emits = held.core.emits().len() as u32;
     *did = Did::of(&told, emits);
     OK
 }
@@ -136,21 +133,16 @@ fn step(thing: &mut Thing, did: &mut Did) -> u32
 pub extern "C" fn wasmloop_rt_step(alloc: Global, handle: &mut Handle, did: &mut Did) -> u32
     ensures { OnHeldLoop handle.old.raw.value handle.new.raw.value result (did.new ≡ did.old) (λ c d. (result ≡ OK) × Steps c d did.new) }
 {
-    let Some(mut held) = handle.take(alloc) else {
-        return EMPTY;
-    };
-    let status = step(&mut held, did);
-    handle.put(held);
-    status
+    on!(handle, alloc, held => step(&mut held, did))
 }
 
 fn emits(thing: &Thing, into: &mut [u64], count: &mut u32) -> u32
     ensures { ReadsLoop thing.now result ((into.new ≡ into.old) × (count.new ≡ count.old)) (λ c. CopiesEmits c into.old into.new count.new) }
 {
-    let Thing::Loop(core) = thing else {
+    let Thing::Loop(held) = thing else {
         return KIND;
     };
-    let emits = core.emits();
+    let emits = held.core.emits();
     copy_front(emits, into);
     *count = emits.len() as u32;
     OK
@@ -166,22 +158,21 @@ pub extern "C" fn wasmloop_rt_emits(
 ) -> u32
     ensures { ReadsHeldLoop handle.old.raw.value handle.new.raw.value result ((into.new ≡ into.old) × (count.new ≡ count.old)) (λ c. CopiesEmits c into.old into.new count.new) }
 {
-    let Some(held) = handle.take(alloc) else {
-        return EMPTY;
-    };
-    let status = emits(&held, into, count);
-    handle.put(held);
-    status
+    on!(handle, alloc, held => emits(&held, into, count))
 }
 
 fn send(thing: &mut Thing, async_no: u32) -> u32
     requires { async_no < MAX_ASYNCS }
     ensures { OnLoop thing.old thing.new result (Unit {0}) (λ c d. Sends c d async_no result) }
 {
-    let Thing::Loop(core) = thing else {
+    let Thing::Loop(held) = thing else {
         return KIND;
     };
-    if core.sent(async_no) { OK } else { USED_UP }
+    if held.core.sent(async_no) {
+        OK
+    } else {
+        USED_UP
+    }
 }
 
 /// A send to an async from outside.
@@ -193,21 +184,16 @@ pub extern "C" fn wasmloop_rt_async_send(alloc: Global, handle: &mut Handle, asy
     if async_no as usize >= MAX_ASYNCS {
         return RANGE;
     }
-    let Some(mut held) = handle.take(alloc) else {
-        return EMPTY;
-    };
-    let status = send(&mut held, async_no);
-    handle.put(held);
-    status
+    on!(handle, alloc, held => send(&mut held, async_no))
 }
 
 fn clock(thing: &mut Thing, ms: u64, now: &mut u64) -> u32
     ensures { OnLoop thing.old thing.new result (now.new ≡ now.old) (λ c d. (result ≡ OK) × Clocks c d ms now.new) }
 {
-    let Thing::Loop(core) = thing else {
+    let Thing::Loop(held) = thing else {
         return KIND;
     };
-    *now = core.clock(ms);
+    *now = held.core.clock(ms);
     OK
 }
 
@@ -221,21 +207,16 @@ pub extern "C" fn wasmloop_rt_clock(
 ) -> u32
     ensures { OnHeldLoop handle.old.raw.value handle.new.raw.value result (now.new ≡ now.old) (λ c d. (result ≡ OK) × Clocks c d ms now.new) }
 {
-    let Some(mut held) = handle.take(alloc) else {
-        return EMPTY;
-    };
-    let status = clock(&mut held, ms, now);
-    handle.put(held);
-    status
+    on!(handle, alloc, held => clock(&mut held, ms, now))
 }
 
 fn hint(thing: &Thing, ms: &mut u64) -> u32
     ensures { ReadsLoop thing.now result (ms.new ≡ ms.old) (λ c. ms.new ≡ hint_number (hint_of c.loop.state)) }
 {
-    let Thing::Loop(core) = thing else {
+    let Thing::Loop(held) = thing else {
         return KIND;
     };
-    *ms = match core.hint() {
+    *ms = match held.core.hint() {
         Hint::Now => 0,
         Hint::For(wait) => wait,
         Hint::Forever => u64::MAX,
@@ -248,21 +229,16 @@ fn hint(thing: &Thing, ms: &mut u64) -> u32
 pub extern "C" fn wasmloop_rt_hint(alloc: Global, handle: &mut Handle, ms: &mut u64) -> u32
     ensures { ReadsHeldLoop handle.old.raw.value handle.new.raw.value result (ms.new ≡ ms.old) (λ c. ms.new ≡ hint_number (hint_of c.loop.state)) }
 {
-    let Some(held) = handle.take(alloc) else {
-        return EMPTY;
-    };
-    let status = hint(&held, ms);
-    handle.put(held);
-    status
+    on!(handle, alloc, held => hint(&held, ms))
 }
 
 fn cancel(thing: &mut Thing, request: u32, answer: &mut i32) -> u32
     ensures { OnLoop thing.old thing.new result (answer.new ≡ answer.old) (λ c d. (result ≡ OK) × Cancels c d request answer.new) }
 {
-    let Thing::Loop(core) = thing else {
+    let Thing::Loop(held) = thing else {
         return KIND;
     };
-    *answer = core.cancel(request);
+    *answer = held.core.cancel(request);
     OK
 }
 
@@ -276,24 +252,19 @@ pub extern "C" fn wasmloop_rt_cancel(
 ) -> u32
     ensures { OnHeldLoop handle.old.raw.value handle.new.raw.value result (answer.new ≡ answer.old) (λ c d. (result ≡ OK) × Cancels c d request answer.new) }
 {
-    let Some(mut held) = handle.take(alloc) else {
-        return EMPTY;
-    };
-    let status = cancel(&mut held, request, answer);
-    handle.put(held);
-    status
+    on!(handle, alloc, held => cancel(&mut held, request, answer))
 }
 
 fn tell_standing(thing: &Thing, standing: &mut Standing) -> u32
     ensures { ReadsLoop thing.now result (standing.new ≡ standing.old) (λ c. standing.new ≡ standing_of c) }
 {
-    let Thing::Loop(core) = thing else {
+    let Thing::Loop(held) = thing else {
         return KIND;
     };
     *standing = Standing {
-        alive: core.alive() as u32,
-        failed: core.failed() as u32,
-        outstanding: core.outstanding() as u64,
+        alive: held.core.alive() as u32,
+        failed: held.core.failed() as u32,
+        outstanding: held.core.outstanding() as u64,
     };
     OK
 }
@@ -307,10 +278,5 @@ pub extern "C" fn wasmloop_rt_standing(
 ) -> u32
     ensures { ReadsHeldLoop handle.old.raw.value handle.new.raw.value result (told.new ≡ told.old) (λ c. told.new ≡ standing_of c) }
 {
-    let Some(held) = handle.take(alloc) else {
-        return EMPTY;
-    };
-    let status = tell_standing(&held, told);
-    handle.put(held);
-    status
+    on!(handle, alloc, held => tell_standing(&held, told))
 }

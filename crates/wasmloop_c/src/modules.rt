@@ -3,10 +3,10 @@
 ghost use Rattle.std.specs.Prelude.{◌≡◌, ◌↔◌, ◌⊎◌, Some, None, IfOk, IsNone, IsSome, IsSomeAnd};
 ghost use Rattle.std.specs.Arc.{arc_value};
 ghost use Rattle.loader.specs.Loading.{IsAccepted};
-ghost use Rattle.wasmloop_c.specs.Calls.{Loads, Refuses, module_of};
+ghost use Rattle.wasmloop_c.specs.Calls.{AnswersIn, Loads, Refuses, module_of};
 
 use crate::fault::Fault;
-use crate::handle::Handle;
+use crate::handle::{Handle, on};
 use crate::status::{EMPTY, KIND, MEMORY, OK, REFUSED};
 use crate::thing::Thing;
 use imports::Linked;
@@ -36,6 +36,7 @@ pub extern "C" fn wasmloop_rt_load(
     ensures loads { result ≡ OK → IsSomeAnd module.new.raw.value (Loads bytes.now) }
     ensures refuses { result ≡ REFUSED → Refuses bytes.now fault.new }
     ensures full { (result ≡ KIND) ↔ IsSome module.old.raw.value }
+    ensures known { (result ≡ OK) ⊎ (result ≡ REFUSED) ⊎ (result ≡ KIND) ⊎ (result ≡ MEMORY) }
     ensures kept { (result ≡ OK → ⊥) → module.new.raw.value ≡ module.old.raw.value }
     ensures fault { (result ≡ REFUSED → ⊥) → fault.new ≡ fault.old }
 {
@@ -47,7 +48,7 @@ pub extern "C" fn wasmloop_rt_load(
             let Ok(held) = boxed(alloc, linked) else {
                 return MEMORY;
             };
-            module.put(held);
+            module.put(alloc, held);
             OK
         }
         Err(Refusal::Memory) => MEMORY,
@@ -77,7 +78,7 @@ fn share(alloc: Global, module: &Thing, other: &mut Handle) -> u32
     };
     match doubled(alloc, linked) {
         Ok(second) => {
-            other.put(second);
+            other.put(alloc, second);
             OK
         }
         Err(AllocError) => MEMORY,
@@ -90,19 +91,12 @@ pub extern "C" fn wasmloop_rt_share(alloc: Global, module: &mut Handle, other: &
     ensures shares { result ≡ OK → IsSomeAnd module.old.raw.value (λ t. IsSomeAnd (module_of t) (λ m. IsSomeAnd other.new.raw.value (λ u. module_of u ≡ Some m))) }
     ensures refuses { (result ≡ OK → ⊥) → other.new.raw.value ≡ other.old.raw.value }
     ensures kept { module.new.raw.value ≡ module.old.raw.value }
-    ensures full { IsSome other.old.raw.value → result ≡ KIND }
-    ensures kind { result ≡ KIND → IsSome other.old.raw.value ⊎ IsSomeAnd module.old.raw.value (λ t. module_of t ≡ None) }
-    ensures empty { result ≡ EMPTY → IsNone module.old.raw.value }
+    ensures known { AnswersIn other.old.raw.value module.old.raw.value result (Unit {0}) (λ _. (result ≡ OK) ⊎ (result ≡ MEMORY)) }
 {
     if other.is_full() {
         return KIND;
     }
-    let Some(held) = module.take(alloc) else {
-        return EMPTY;
-    };
-    let status = share(alloc, &held, other);
-    module.put(held);
-    status
+    on!(module, alloc, held => share(alloc, &held, other))
 }
 
 /// Drops what a handle has, and leaves it empty.

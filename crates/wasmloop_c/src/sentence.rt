@@ -1,6 +1,6 @@
 // Why bytes are no guest, in a sentence.
 
-ghost use Rattle.std.specs.Prelude.{◌≡◌};
+ghost use Rattle.std.specs.Prelude.{◌≡◌, ◌⊎◌};
 ghost use Rattle.syntax.specs.declared.contents.Contents.{Contents};
 ghost use Rattle.loader.specs.Loading.{IsAccepted};
 ghost use Rattle.wasmloop_c.specs.Calls.{Explains};
@@ -26,6 +26,7 @@ pub extern "C" fn wasmloop_rt_explain(
     into: &mut [u8],
     count: &mut u64,
 ) -> u32
+    ensures known { (result ≡ OK) ⊎ (result ≡ NONE) ⊎ (result ≡ MEMORY) }
     ensures explains { result ≡ OK → Explains bytes.now into.old into.new count.new }
     ensures accepted { result ≡ NONE → (contents : Contents) × IsAccepted bytes.now contents }
     ensures untold { (result ≡ OK → ⊥) → (into.new ≡ into.old) × (count.new ≡ count.old) }

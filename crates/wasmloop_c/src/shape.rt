@@ -2,13 +2,17 @@
 
 ghost use Rattle.std.specs.Prelude.{◌≡◌, length, is_some};
 ghost use Rattle.imports.specs.Uv.{name_of_entry};
+ghost use Rattle.instance.specs.Store.{page_limit};
+ghost use Rattle.validate.specs.Segments.{minimum};
 ghost use Rattle.wasmloop_c.specs.Calls.{ReadsHandle, ReadsModule, IsShapeOf, TellsEntry, one_if};
 
-use crate::handle::Handle;
-use crate::status::{EMPTY, KIND, OK};
+use crate::handle::{Handle, on};
+use crate::status::{KIND, OK};
 use crate::thing::Thing;
 use imports::{EntryPoint, Linked};
+use limits::MAX_PAGES;
 use std::alloc::Global;
+use syntax::types::Limits;
 
 /// What a module has that a host looks for: 1 where it does.
 #[repr(C)]
@@ -22,8 +26,30 @@ pub struct Shape {
     pub after_work: u32,
     /// It has a table, from which callbacks are called.
     pub table: u32,
+    /// How many pages its memory has at first; 0 where it has none.
+    pub pages: u32,
+    /// How many pages it may grow to, `MAX_PAGES` at most; a memory that begins with more is refused.
+    pub most_pages: u32,
     /// How many functions it imports.
     pub imports: u64,
+}
+
+fn first_pages(memory: Option<Limits>) -> u32
+    ensures { result ≡ minimum memory }
+{
+    match memory {
+        Some(limits) => limits.min,
+        None => 0,
+    }
+}
+
+fn most_pages(memory: Option<Limits>) -> u32
+    ensures { result ≡ page_limit memory }
+{
+    match memory {
+        Some(limits) => MAX_PAGES.min(limits.max.unwrap_or(MAX_PAGES)),
+        None => 0,
+    }
 }
 
 fn has(linked: &Linked, entry: EntryPoint) -> u32
@@ -44,6 +70,8 @@ fn shape_of(linked: &Linked) -> Shape
         work: has(linked, EntryPoint::Work),
         after_work: has(linked, EntryPoint::AfterWork),
         table: contents.table.is_some() as u32,
+        pages: first_pages(contents.memory),
+        most_pages: most_pages(contents.memory),
         imports: contents.imports.len() as u64,
     }
 }
@@ -63,10 +91,5 @@ fn tell_shape(thing: &Thing, shape: &mut Shape) -> u32
 pub extern "C" fn wasmloop_rt_shape(alloc: Global, module: &mut Handle, told: &mut Shape) -> u32
     ensures { ReadsHandle module.old.raw.value module.new.raw.value result (told.new ≡ told.old) (λ t. ReadsModule t result (told.new ≡ told.old) (λ m. IsShapeOf m.contents told.new)) }
 {
-    let Some(held) = module.take(alloc) else {
-        return EMPTY;
-    };
-    let status = tell_shape(&held, told);
-    module.put(held);
-    status
+    on!(module, alloc, held => tell_shape(&held, told))
 }

@@ -29,3 +29,9 @@ pub const USED_UP: u32 = 8;
 
 /// The module exports no `uv_work`.
 pub const NO_WORK: u32 = 10;
+
+/// The start function did not return.
+pub const NOT_STARTED: u32 = 11;
+
+/// The arguments are not as many as the function takes, or one is past its type.
+pub const ARGUMENTS: u32 = 12;

@@ -1,16 +1,17 @@
-// Where a loop's last callback stopped, or a job.
+// Where a loop's last callback stopped, or a job, or an instance's last call.
 
 ghost use Rattle.std.specs.Prelude.{◌≡◌, length, map, slice_get, option_map};
 ghost use Rattle.wasmloop_c.specs.Calls.{ReadsHandle, copied};
-ghost use Rattle.wasmloop_c.specs.Sites.{site_of, told_of, IsStopOf, TellsStop, ReadsStop};
+ghost use Rattle.wasmloop_c.specs.Sites.{site_of, told_of, whole, IsStopOf, TellsStop, ReadsStop};
 
-use crate::handle::Handle;
-use crate::status::{EMPTY, KIND, NONE, OK};
+use crate::handle::{Handle, on};
+use crate::status::{KIND, NONE, OK};
 use crate::thing::Thing;
 use desk::Desk;
 use instance::stack::Stop;
 use order::{Told, Trail};
 use phases::LoopCore;
+use resident::Resident;
 use std::alloc::Global;
 
 /// An operation of a function.
@@ -94,18 +95,25 @@ fn place_of_job(told: &Told) -> Option<Place<'_>>
     }
 }
 
+fn place_of_call(resident: &Resident) -> Option<Place<'_>>
+    ensures { option_map told_of result ≡ option_map whole resident.now.stop }
+{
+    Some(Place::Callback(resident.last_stop()?))
+}
+
 fn tell_stop(thing: &Thing, into: &mut [Site], count: &mut u64) -> u32
     ensures { ReadsStop thing.now into.old into.new count.old count.new result }
 {
     match thing {
-        Thing::Loop(core) => tell_place(place_of_loop(core), into, count),
+        Thing::Loop(held) => tell_place(place_of_loop(&held.core), into, count),
         Thing::Answered(told) => tell_place(place_of_job(told), into, count),
+        Thing::Resident(resident) => tell_place(place_of_call(resident), into, count),
         Thing::Asked(_) => NONE,
         _ => KIND,
     }
 }
 
-/// Copies the operation at which the last callback of a loop stopped, or a job, and the calls around it outwards, as far as there is room
+/// Copies the operation at which the last callback of a loop stopped, or a job, or the last call of an instance, and the calls around it outwards, as far as there is room
 /// and they are known: of a job the first `MAX_TRAIL`. The count is how many calls were open.
 #[unsafe(no_mangle)]
 pub extern "C" fn wasmloop_rt_stop(
@@ -116,10 +124,5 @@ pub extern "C" fn wasmloop_rt_stop(
 ) -> u32
     ensures { ReadsHandle handle.old.raw.value handle.new.raw.value result ((into.new ≡ into.old) × (count.new ≡ count.old)) (λ t. ReadsStop t into.old into.new count.old count.new result) }
 {
-    let Some(held) = handle.take(alloc) else {
-        return EMPTY;
-    };
-    let status = tell_stop(&held, into, count);
-    handle.put(held);
-    status
+    on!(handle, alloc, held => tell_stop(&held, into, count))
 }

@@ -1,10 +1,10 @@
 // What a handle has.
 
+use crate::held::HeldLoop;
 use crate::job::Job;
-use desk::Desk;
 use imports::Linked;
-use order::Told;
-use phases::LoopCore;
+use order::{Running, Told};
+use resident::Resident;
 use std::alloc::Global;
 use std::sync::Arc;
 
@@ -14,11 +14,15 @@ pub enum Thing {
     /// A module.
     Module(Arc<Linked, Global>),
     /// A loop.
-    Loop(Box<LoopCore<Desk>, Global>),
+    Loop(HeldLoop),
     /// What a loop asks for.
     Asked(Job),
+    /// The same, between two slices of its run.
+    Running(Running),
     /// The same, with the reply, what its run used and where it stopped.
     Answered(Told),
+    /// An instance that is kept from call to call.
+    Resident(Box<Resident, Global>),
     /// Nothing, while a call is at work.
     Gone,
 }

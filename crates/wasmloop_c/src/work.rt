@@ -2,9 +2,10 @@
 
 ghost use Rattle.std.specs.Prelude.{◌≡◌, ◌⊎◌, None, IsNone, IsSomeAnd, IfSome};
 ghost use Rattle.wasmloop_c.specs.Calls.{OnHandle, OnLoop, OnHeldLoop, ReadsHandle, HandsOut, Runs, Starts, Offers, OffersHeld, Tells, left_in};
+ghost use Rattle.wasmloop_c.specs.declared.thing.Thing.TheVariants.{Gone};
 ghost use Rattle.wasmloop_c.specs.Numbers.{about_order, about_told, outcome_numbers};
 
-use crate::handle::Handle;
+use crate::handle::{Handle, on};
 use crate::job::Job;
 use crate::status::{EMPTY, KIND, MEMORY, NONE, OK, STRANGER};
 use crate::thing::Thing;
@@ -82,20 +83,20 @@ fn next_job(alloc: Global, thing: &mut Thing, job: &mut Handle) -> u32
     requires { job.old.raw.value ≡ None }
     ensures { OnLoop thing.old thing.new result (job.new.raw.value ≡ None) (λ c d. HandsOut c d job.new.raw.value result) }
 {
-    let Thing::Loop(core) = thing else {
+    let Thing::Loop(held) = thing else {
         return KIND;
     };
-    if core.outstanding() == 0 {
+    if held.core.outstanding() == 0 {
         return NONE;
     }
     let Ok(mut room) = Box::new(alloc, Thing::Gone) else {
         return MEMORY;
     };
-    let Some(order) = core.next_order() else {
+    let Some(order) = held.core.next_order() else {
         return NONE;
     };
     *room = Thing::Asked(Job::new(order));
-    job.put(room);
+    job.put(alloc, room);
     OK
 }
 
@@ -108,12 +109,7 @@ pub extern "C" fn wasmloop_rt_next_job(alloc: Global, handle: &mut Handle, job: 
     if job.is_full() {
         return KIND;
     }
-    let Some(mut held) = handle.take(alloc) else {
-        return EMPTY;
-    };
-    let status = next_job(alloc, &mut held, job);
-    handle.put(held);
-    status
+    on!(handle, alloc, held => next_job(alloc, &mut held, job))
 }
 
 fn run(alloc: Global, thing: Thing) -> (Thing, u32)
@@ -125,18 +121,20 @@ fn run(alloc: Global, thing: Thing) -> (Thing, u32)
     }
 }
 
+fn run_in_place(alloc: Global, thing: &mut Thing) -> u32
+    ensures { Runs thing.old thing.new result }
+{
+    let (left, status) = run(alloc, replace(thing, Thing::Gone));
+    *thing = left;
+    status
+}
+
 /// Runs a job.
 #[unsafe(no_mangle)]
 pub extern "C" fn wasmloop_rt_job_run(alloc: Global, job: &mut Handle) -> u32
     ensures { OnHandle job.old.raw.value job.new.raw.value result (Unit {0}) (λ t u. Runs t u result) }
 {
-    let Some(mut held) = job.take(alloc) else {
-        return EMPTY;
-    };
-    let (thing, status) = run(alloc, replace(&mut *held, Thing::Gone));
-    *held = thing;
-    job.put(held);
-    status
+    on!(job, alloc, held => run_in_place(alloc, &mut held))
 }
 
 fn tell_about(thing: &Thing, about: &mut About) -> u32
@@ -160,32 +158,30 @@ fn tell_about(thing: &Thing, about: &mut About) -> u32
 pub extern "C" fn wasmloop_rt_job_about(alloc: Global, job: &mut Handle, told: &mut About) -> u32
     ensures { ReadsHandle job.old.raw.value job.new.raw.value result (told.new ≡ told.old) (λ t. Tells t told.old told.new result) }
 {
-    let Some(held) = job.take(alloc) else {
-        return EMPTY;
-    };
-    let status = tell_about(&held, told);
-    job.put(held);
-    status
+    on!(job, alloc, held => tell_about(&held, told))
 }
 
 fn start(thing: &mut Thing, job: &Thing) -> u32
     ensures { OnLoop thing.old thing.new result (Unit {0}) (λ c d. Starts c d job.now result) }
 {
-    let Thing::Loop(core) = thing else {
+    let Thing::Loop(held) = thing else {
         return KIND;
     };
     let Thing::Asked(job) = job else {
         return KIND;
     };
     let order = job.order();
-    if core.start(order.slot, order.request) {
+    if order.loop_no != held.number {
+        return STRANGER;
+    }
+    if held.core.start(order.slot, order.request) {
         OK
     } else {
         STRANGER
     }
 }
 
-/// Tells a loop that a job of its own is started.
+/// Tells a loop that a job of its own is started. A job that carries another loop's number is a stranger.
 #[unsafe(no_mangle)]
 pub extern "C" fn wasmloop_rt_job_start(alloc: Global, handle: &mut Handle, job: &mut Handle) -> u32
     ensures job { job.new.raw.value ≡ job.old.raw.value }
@@ -196,25 +192,26 @@ pub extern "C" fn wasmloop_rt_job_start(alloc: Global, handle: &mut Handle, job:
         return EMPTY;
     };
     let Some(mut held) = handle.take(alloc) else {
-        job.put(asked);
+        job.put(alloc, asked);
         return EMPTY;
     };
     let status = start(&mut held, &asked);
-    handle.put(held);
-    job.put(asked);
+    handle.put(alloc, held);
+    job.put(alloc, asked);
     status
 }
 
 fn accept(thing: &mut Thing, answered: Thing) -> (Thing, u32)
-    ensures { OnLoop thing.old thing.new result.1 (result.0 ≡ answered) (λ c d. Offers c d answered result.0 result.1) }
+    ensures offers { OnLoop thing.old thing.new result.1 (result.0 ≡ answered) (λ c d. Offers c d answered result.0 result.1) }
+    ensures taken { result.1 ≡ OK → result.0 ≡ Gone }
 {
-    let Thing::Loop(core) = thing else {
+    let Thing::Loop(held) = thing else {
         return (answered, KIND);
     };
     let Thing::Answered(Told { reply, used, trail }) = answered else {
         return (answered, KIND);
     };
-    match core.accept(reply) {
+    match held.core.accept(reply) {
         Accepted::Accepted => (Thing::Gone, OK),
         Accepted::Stranger(reply) => (Thing::Answered(Told { reply, used, trail }), STRANGER),
     }
@@ -231,14 +228,14 @@ pub extern "C" fn wasmloop_rt_accept(alloc: Global, handle: &mut Handle, job: &m
         return EMPTY;
     };
     let Some(mut held) = handle.take(alloc) else {
-        job.put(answered);
+        job.put(alloc, answered);
         return EMPTY;
     };
     let (left, status) = accept(&mut held, replace(&mut *answered, Thing::Gone));
-    handle.put(held);
+    handle.put(alloc, held);
     if status != OK {
         *answered = left;
-        job.put(answered);
+        job.put(alloc, answered);
     }
     status
 }

@@ -48,10 +48,35 @@ jump() {
     echo "jump: $(wc -c <"$work/told") letters as native"
 }
 
+# bytes that fill.py lays into a guest
+fill() {
+    for source in "$here/schedule.c" "$kit/../mem.c"; do
+        clang --target=wasm32 -mcpu=mvp -O2 -Wall -Wextra -ffreestanding -I "$kit/.." -c -o "$work/fill_$(basename "$source" .c).o" "$source"
+    done
+    wasm-ld --no-entry --export-table --stack-first --strip-debug -z stack-size=16384 --export=config --export=config_length \
+        --export=config_room -o "$work/schedule.wasm" "$work"/fill_*.o
+    printf '30 10 20' | python3 "$kit/fill.py" "$work/schedule.wasm" config "$work/filled.wasm"
+    told=$("$program" serve "$work/filled.wasm" --loops 1 --workers 1)
+    [ "$told" = "loop 0 over emits 1 10 2 20 0 30" ] || { echo "fill: FAILED: $told" && exit 1; }
+    for bytes in 64 65; do
+        head -c $bytes /dev/zero | python3 "$kit/fill.py" "$work/schedule.wasm" config "$work/filled.wasm" 2>"$work/problem" || echo refused
+    done >"$work/told"
+    [ "$(cat "$work/told")" = refused ] && grep -q 'config has room for 64 bytes; given: 65' "$work/problem" || { echo "fill: FAILED" && exit 1; }
+    if python3 "$kit/fill.py" "$work/schedule.wasm" nothing "$work/filled.wasm" </dev/null 2>"$work/problem"; then echo "fill: FAILED" && exit 1; fi
+    grep -q 'it exports no data nothing: link it with --export=nothing; it exports config, config_length, config_room' "$work/problem" ||
+        { echo "fill: FAILED" && cat "$work/problem" && exit 1; }
+    echo "fill: $told"
+}
+
 if has "soft and mem" clang; then native; fi
+if has "fill" clang wasm-ld "${program:-PROGRAM}"; then fill; fi
 if has "lower" clang wasm-ld wat2wasm; then
     soft_module
     python3 "$here/lower_test.py" "$work/soft.wasm"
+fi
+if has "random modules" clang wasm-ld node "${program:-PROGRAM}"; then
+    soft_module
+    python3 "$here/fuzz.py" "$program" "$work/soft.wasm" "${MODULES:-100}"
 fi
 if has "jump" clang wasm-ld "${program:-PROGRAM}"; then
     builtins=$(clang --target=wasm32-wasi -print-libgcc-file-name)

@@ -1,13 +1,14 @@
 #!/usr/bin/env python3
-"""Runs the floating-point files of WebAssembly's official test suite through lower.py and then by the program.
+"""Runs files of WebAssembly's official test suite through lower.py and then by the program.
 
     suite.py PROGRAM SOFT.wasm FILE.json..
 
-Each FILE.json is what `wast2json` made of f32.wast, conversions.wast and the like, with its modules beside it. Each
+Each FILE.json is what `wast2json` made of f32.wast, memory_copy.wast and the like, with its modules beside it. Each
 module is rewritten; an f32 or f64 among arguments and results is the number of its bits. A result has to be the
 suite's: bit for bit, and of a NaN the class that the suite names. Calls that the suite makes before on the same module
-are made again only where the module has a memory or a global that is written. The status is 1 where something differs
+are made again only where the module has a memory or a global that is written. The status is 1 if something differs
 or a module that the suite calls can't be run.
+A module that the suite calls invalid has to be refused, by lower.py or by the program; with floats it may become valid.
 """
 import collections
 import json
@@ -18,6 +19,11 @@ import tempfile
 
 sys.path.insert(0, str(pathlib.Path(__file__).resolve().parent.parent))
 import lower  # noqa: E402
+from lowering.binary import (COPY, DROP, F32_CONST, F64_CONST, FILL, GLOBAL_SET, I32, I64, INIT, PREFIX,  # noqa: E402
+                             SATURATING, Refused, constant, operations, u)
+from lowering.floats import FLOAT_ACCESS, SOFT  # noqa: E402
+from lowering.module import Module  # noqa: E402
+from lowering.rewriting import Lowering  # noqa: E402
 
 BITS = {"i32": 32, "f32": 32, "i64": 64, "f64": 64}
 QUIET = {"f32": 0x7FC00000, "f64": 0x7FF8000000000000}
@@ -40,17 +46,27 @@ def is_wanted(got, wanted):
     return got == signed(value, BITS[kind])
 
 
+def is_write(op, behind):
+    return op in range(0x36, 0x3F) or op in (GLOBAL_SET, 0x40) or op == PREFIX and behind[0] in (INIT, DROP, COPY, FILL)
+
+
+def has_floats(module):
+    return any(op in (F32_CONST, F64_CONST) or op in SOFT or op in FLOAT_ACCESS or op == PREFIX and behind[0] in SATURATING
+               for _, body in module.bodies for op, _, behind in operations(body))
+
+
 class Runner:
     def __init__(self, program, soft, folder):
         self.program, self.soft, self.folder = program, soft, folder
         self.counts, self.wrong, self.module, self.why, self.before = collections.Counter(), [], None, "no module", []
+        self.name = None
 
-    def load(self, path):
-        data, self.before = path.read_bytes(), []
+    def load(self, path, name=None):
+        data, self.before, self.name = path.read_bytes(), [], name
         try:
             lowered, _ = lower.lower(data, self.soft)
-        except lower.Refused as why:
-            self.why = str(why)
+        except Refused as why:
+            self.why = f"lower.py refuses the module: {why}"
             return "module refused by lower.py"
         self.module, self.why = self.folder / "module.wasm", None
         self.module.write_bytes(lowered)
@@ -58,9 +74,23 @@ class Runner:
         if told != "accepted":
             self.why = told
             return "module refused by the program"
-        self.writes = any(op in range(0x36, 0x3F) or op in (0x24, 0x40) for _, body in lower.Module(data).bodies
-                          for op, _, _ in lower.operations(body))
+        self.writes = any(is_write(op, behind) for _, body in Module(data).bodies for op, _, behind in operations(body))
         return "module rewritten and accepted"
+
+    def invalid(self, command, path):
+        try:
+            data = (path.parent / command["filename"]).read_bytes()
+            lowered, _ = lower.lower(data, self.soft)
+        except Refused:
+            return "invalid, refused by lower.py"
+        target = self.folder / "invalid.wasm"
+        target.write_bytes(lowered)
+        if self.tell("check", target) != "accepted":
+            return "invalid, refused by the program"
+        if has_floats(Module(data)):
+            return "invalid by its floats, and made valid"
+        self.wrong.append(f"line {command['line']}: an invalid module is accepted")
+        return "differs"
 
     def tell(self, *words):
         done = subprocess.run([self.program, *map(str, words)], stdout=subprocess.PIPE, stderr=subprocess.PIPE)
@@ -68,7 +98,7 @@ class Runner:
 
     def act(self, command):
         action = command["action"]
-        if self.why or action["type"] != "invoke" or "module" in action:
+        if self.why or action["type"] != "invoke" or action.get("module", self.name) != self.name:
             return f"not run: {self.why or 'a read of a global or a named module'}"
         if self.writes and self.before:
             self.call_in_a_row(action)
@@ -83,16 +113,16 @@ class Runner:
 
     def call_in_a_row(self, action):
         """A module whose "row" makes the earlier calls and then this one: an instance lives as long as one call."""
-        module = lower.Module(self.module.read_bytes())
+        module = Module(self.module.read_bytes())
         exports = {n.decode(): i for n, kind, i in module.exports if kind == 0}
         code = b""
         for call in (*self.before, action):
             index = exports[call["field"]]
             results = module.types[module.functions[index]][1]
-            code += b"".join(lower.constant(lower.I32 if BITS[a["type"]] == 32 else lower.I64,
-                                            signed(a["value"], BITS[a["type"]])) for a in call["args"])
-            code += b"\x10" + lower.u(index) + (b"\x1a" * len(results) if call is not action else b"")
-        again = lower.Lowering(module, None)
+            code += b"".join(constant(I32 if BITS[a["type"]] == 32 else I64,
+                                      signed(a["value"], BITS[a["type"]])) for a in call["args"])
+            code += b"\x10" + u(index) + (b"\x1a" * len(results) if call is not action else b"")
+        again = Lowering(module, None)
         kind = again.type_number((b"", results))
         module.exports.append((b"row", 0, len(module.functions)))
         module.functions.append(kind)
@@ -122,7 +152,9 @@ class Runner:
         counts = collections.Counter()
         for command in json.loads(path.read_text())["commands"]:
             if command["type"] == "module":
-                counts[self.load(path.parent / command["filename"])] += 1
+                counts[self.load(path.parent / command["filename"], command.get("name"))] += 1
+            elif command["type"] == "assert_invalid" and command["module_type"] == "binary":
+                counts[self.invalid(command, path)] += 1
             elif command["type"] in ("assert_return", "assert_trap", "action"):
                 counts[self.act(command)] += 1
         print(f"{path.stem}: " + ", ".join(f"{n} {what}" for what, n in sorted(counts.items())), flush=True)

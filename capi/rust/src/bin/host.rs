@@ -6,36 +6,40 @@ use std::thread::{spawn, JoinHandle};
 use std::{env, fs, process};
 use wasmloop::{Error, Job, Limits, Loop, Module};
 
-const TIMERS: u32 = 1;
+const ENTERED: u32 = 1;
+const RAN: u32 = 2;
+const OVER: u32 = 4;
 const MOST: u32 = 100_000;
 
 struct Guest {
     core: Loop,
     emits: Vec<i64>,
+    /// How many callbacks ran before this turn.
     ran: u32,
     jobs: Vec<JoinHandle<Job>>,
 }
 
 impl Guest {
-    /// Steps up to the next timers phase, and says how the loop ended, if it did.
-    fn steps(&mut self) -> Result<Option<&'static str>, Error> {
+    /// Goes up to the next timers phase, and says for how many milliseconds there is nothing to do, or how the loop ended.
+    fn steps(&mut self) -> Result<Result<u64, &'static str>, Error> {
         loop {
-            let did = self.core.step()?;
-            match did.what {
-                1 if did.phase == TIMERS => return Ok(None),
-                2 => {
-                    self.ran += 1;
+            let turned = self.core.turn(MOST - self.ran)?;
+            match turned.did.what {
+                ENTERED => {
+                    self.ran += turned.callbacks;
+                    return Ok(Ok(turned.wait));
+                }
+                RAN => {
                     self.emits.extend(self.core.emits()?);
-                    if did.ending != 0 {
-                        return Ok(Some("failed"));
+                    if turned.did.ending != 0 {
+                        return Ok(Err("failed"));
                     }
-                    if self.ran == MOST {
-                        return Ok(Some("limit"));
+                    if self.ran + turned.callbacks == MOST {
+                        return Ok(Err("limit"));
                     }
                 }
-                4 => return Ok(Some("over")),
-                5 => return Ok(Some("failed")),
-                _ => {}
+                OVER => return Ok(Err("over")),
+                _ => return Ok(Err("failed")),
             }
         }
     }
@@ -53,23 +57,20 @@ impl Guest {
     }
 
     fn turn(&mut self) -> Result<Option<&'static str>, Error> {
-        let before = self.ran;
-        if let Some(ending) = self.steps()? {
-            return Ok(Some(ending));
-        }
+        let wait = match self.steps()? {
+            Ok(wait) => wait,
+            Err(ending) => return Ok(Some(ending)),
+        };
         self.hand_out()?;
-        let wait = self.core.hint()?;
-        if self.ran > before || wait == Some(0) {
-            return Ok(None);
-        }
-        if !self.jobs.is_empty() {
-            let job = self.jobs.remove(0).join().expect("the job's thread ends");
-            self.core.accept(job)?;
-            return Ok(None);
-        }
         match wait {
-            None => Ok(Some("waiting")),
-            Some(wait) => {
+            0 => Ok(None),
+            _ if !self.jobs.is_empty() => {
+                let job = self.jobs.remove(0).join().expect("the job's thread ends");
+                self.core.accept(job)?;
+                Ok(None)
+            }
+            u64::MAX => Ok(Some("waiting")),
+            wait => {
                 let now = self.core.clock(0)?;
                 self.core.clock(now + wait)?;
                 Ok(None)
@@ -81,7 +82,7 @@ impl Guest {
 fn run(file: &str) -> Result<&'static str, Error> {
     let bytes = fs::read(file).expect("the file can be read");
     let limits = Limits { fuel: 1_000_000, work_fuel: 1_000_000, number: 0, depth: 64 };
-    let core = Loop::new(&mut Module::new(&bytes)?, limits)?;
+    let core = Loop::new(&Module::new(&bytes)?, limits)?;
     let mut guest = Guest { core, emits: Vec::new(), ran: 0, jobs: Vec::new() };
     let ending = loop {
         if let Some(ending) = guest.turn()? {
@@ -101,12 +102,12 @@ fn main() {
     process::exit(match run(&file) {
         Ok("failed") => 4,
         Ok(_) => 0,
-        Err(Error::Refused(fault)) => {
-            eprintln!("host: {fault:?}");
+        Err(Error::Refused { why, .. }) => {
+            eprintln!("host: {why}");
             3
         }
         Err(error) => {
-            eprintln!("host: {error:?}");
+            eprintln!("host: {error}");
             1
         }
     });

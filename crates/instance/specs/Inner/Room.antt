@@ -1,15 +1,8 @@
 -- The room of a memory, and what of it is kept.
-use Rattle.std.specs.Prelude.{ℕ, ◌-◌, ◌*◌, ◌≤◌, List, ◌++◌, length, replicate, Option}
+use Rattle.std.specs.Prelude.{ℕ, ◌-◌, ◌*◌, ◌≤◌, List, ◌++◌, length, replicate}
 use Rattle.std.specs.Int.{next_multiple_of}
 use Rattle.limits.specs.declared.TheConstants.{PAGE_SIZE}
-use Rattle.syntax.specs.declared.types.Limits.{Limits}
-use Rattle.validate.specs.Segments.{minimum}
 use Rattle.instance.specs.declared.front.TheConstants.{STEP}
-use Rattle.instance.specs.Store.{MemoryInstance, page_limit}
-
--- a memory of its least size, all zero
-abbrev pub fresh_memory : Option Limits → MemoryInstance
-fresh_memory limits = record { bytes = replicate (minimum limits * PAGE_SIZE) 0; limit = page_limit limits }
 
 -- so many bytes, of which a front is kept: behind it all are zero
 abbrev pub all_bytes : (total : ℕ) → (front : List ℕ) → List ℕ

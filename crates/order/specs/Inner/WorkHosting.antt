@@ -6,7 +6,7 @@ use Rattle.reduction.specs.Run.{HostCall}
 use Rattle.imports.specs.declared.call.Call.{Call}
 use Rattle.imports.specs.Linking.{Imports}
 use Rattle.order.specs.declared.host.WorkHost.{WorkHost}
-use Rattle.order.specs.Inner.Hosting.{import_types}
+use Rattle.order.specs.ImportTypes.{import_types}
 use Rattle.order.specs.Work.{WorkAnswers}
 
 abbrev pub types_of_host : WorkHost → List FuncType

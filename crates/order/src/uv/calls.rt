@@ -9,7 +9,7 @@ ghost use Rattle.imports.specs.Linking.{Imports};
 ghost use Rattle.imports.specs.Uv.{type_of_call};
 ghost use Rattle.instance.specs.Reads.{with_bytes};
 ghost use Rattle.order.specs.Uv.Bytes.{copied_in};
-ghost use Rattle.order.specs.Inner.Hosting.{import_types};
+ghost use Rattle.order.specs.ImportTypes.{import_types};
 
 use crate::uv::answers::{INVALID, OUTSIDE_MEMORY};
 use imports::{Call, Linked};

@@ -17,4 +17,4 @@ pub of-requires : goal.of-requires
 of-requires g c =
     let type = c.requires.typed.type in
     let known = c.requires.typed.known in
-    bare_of c.invoke_into.new.ended.ending type.results (c.invoke_into.ensures.results type known) (c.requires.bare.none type known)
+    bare_of c.invoke_into.new.ended.ending type.results (c.invoke_into.ensures.does.results type known) (c.requires.bare.none type known)

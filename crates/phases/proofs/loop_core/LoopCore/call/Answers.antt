@@ -27,7 +27,7 @@ invariant_of-self-inside-2 g c =
     let stopped =
     stops_at g.B.Shared.calls (λ h. setting_of h.setting) (λ h. (h.state, h.shared)) c.valid-valid.result.now (setting_of c.self.inside.host.setting) is
     _ c.invoke_bare-ended.new.host refl c.self.inside.store c.invoke_bare-ended.new.state c.args.function c.args.args.now
-    (whole c.invoke_bare-ended.result) c.invoke_bare-ended.new.stack c.invoke_bare-ended.ensures.stops in
+    (whole c.invoke_bare-ended.result) c.invoke_bare-ended.new.stack c.invoke_bare-ended.ensures.runs in
     let upto = still_upto g.B.Shared.calls c.invoke_bare-ended.new.host.shared _ _ c.end_callback.ensures c.invoke_bare-ended.new.host.opened in
     ((upto, tt), (stopped, tt))
 
@@ -41,12 +41,12 @@ invariant_of-self g c =
     let kept =
     kept_after g.B.Shared.calls (λ h. setting_of h.setting) (λ h. (h.state, h.shared)) (arc_value c.self.inside.linked) c.valid-valid.result.now is set old
     c.self.invariant _ c.invoke_bare-ended.new.host refl reply begins c.invoke_bare-ended.new.state c.args.function c.args.args.now
-    (whole c.invoke_bare-ended.result) c.invoke_bare-ended.ensures.runs
+    (whole c.invoke_bare-ended.result) c.invoke_bare-ended.new.stack c.invoke_bare-ended.ensures.runs
     (subst (λ (x : Loaded). IsLinked x.contents) (sym c.valid-valid.ensures.same) c.valid-valid.ensures.linked) c.invoke_bare-ended.ensures.kept c.end_callback.new.self c.end_callback.ensures in
     let same =
     same_setting g.B.Shared.calls (λ h. setting_of h.setting) (λ h. (h.state, h.shared)) (arc_value c.self.inside.linked) c.valid-valid.result.now is set old
     c.self.invariant _ c.invoke_bare-ended.new.host refl reply begins c.invoke_bare-ended.new.state c.args.function c.args.args.now
-    (whole c.invoke_bare-ended.result) c.invoke_bare-ended.ensures.runs in
+    (whole c.invoke_bare-ended.result) c.invoke_bare-ended.new.stack c.invoke_bare-ended.ensures.runs in
     subst (λ (x : Setting). Keeps (arc_value c.self.inside.linked) x c.end_callback.new.self c.invoke_bare-ended.new.state) (sym same) kept
 
 pub returns-clause-run : goal.returns-clause-run
@@ -59,7 +59,7 @@ returns-clause-run g c =
     rw (← c.self.view_is)
     (runs_from g.B.Shared.calls (λ h. setting_of h.setting) (λ h. (h.state, h.shared)) (arc_value c.self.inside.linked) c.valid-valid.result.now is set old
     c.self.invariant _ c.invoke_bare-ended.new.host refl reply begins c.invoke_bare-ended.new.state c.args.function c.args.args.now
-    (whole c.invoke_bare-ended.result) c.invoke_bare-ended.ensures.runs c.args.kind c.args.number c.end_callback.new.self c.end_callback.ensures)
+    (whole c.invoke_bare-ended.result) c.invoke_bare-ended.new.stack c.invoke_bare-ended.ensures.runs c.args.kind c.args.number c.end_callback.new.self c.end_callback.ensures)
 
 pub returns-clause-setting : goal.returns-clause-setting
 returns-clause-setting g c =
@@ -71,4 +71,4 @@ returns-clause-setting g c =
     rw (← c.self.view_is)
     (same_setting g.B.Shared.calls (λ h. setting_of h.setting) (λ h. (h.state, h.shared)) (arc_value c.self.inside.linked) c.valid-valid.result.now is set old
     c.self.invariant _ c.invoke_bare-ended.new.host refl reply begins c.invoke_bare-ended.new.state c.args.function c.args.args.now
-    (whole c.invoke_bare-ended.result) c.invoke_bare-ended.ensures.runs)
+    (whole c.invoke_bare-ended.result) c.invoke_bare-ended.new.stack c.invoke_bare-ended.ensures.runs)

@@ -1,10 +1,27 @@
-use Rattle.serve.proofs.OneEventMore.{does_accept}
+use Rattle.std.proofs.Common.{sym, ap, subst}
+use Rattle.marks.specs.Counts.{Taker}
+use Rattle.pool.specs.declared.seats.Seats.{Seats}
+use Rattle.phases.specs.State.{Loop}
+use Rattle.serve.specs.Histories.{thread_calls}
+use Rattle.serve.specs.Inner.Alone.{IsAlone}
+use Rattle.serve.proofs.OneEventMore.{does_accept, accepted_leaves}
+use Rattle.serve.proofs.Turning.{goes_still}
 use Rattle.serve.proofs.record.Record.accept.Goals as goal
 
 pub invariant_of-self : goal.invariant_of-self
 invariant_of-self c =
     let r = c.args.self.now in
+    let told = c.accept-accepted.ensures.told in
+    let left = accepted_leaves c.args.reply r.core.loop c.accept-accepted.result c.accept-accepted.new.self.loop told in
+    let alone : IsAlone c.accept-accepted.new.self.loop.shared.taker = subst (λ (s : Seats). IsAlone s.taker) (sym left.0) r.alone in
     record {
       few = r.few;
-      told = does_accept c.accept-accepted.ensures.setting r.told c.args.reply c.accept-accepted.result c.accept-accepted.ensures.told;
+      alone = alone;
+      told = does_accept c.accept-accepted.ensures.setting r.told alone c.args.reply c.accept-accepted.result told;
     }
+
+pub returns-clause-goes : goal.returns-clause-goes
+returns-clause-goes c =
+    let r = c.args.self.now in
+    let left = accepted_leaves c.args.reply r.core.loop c.accept-accepted.result c.accept-accepted.new.self.loop c.accept-accepted.ensures.told in
+    goes_still thread_calls r.core.loop c.accept-accepted.new.self.loop r.ran left.1 left.2

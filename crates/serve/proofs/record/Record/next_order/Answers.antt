@@ -1,10 +1,26 @@
+use Rattle.std.proofs.Common.{sym, ap, subst, ◌∙◌}
+use Rattle.pool.specs.declared.seats.Seats.{Seats}
+use Rattle.phases.specs.State.{Loop}
+use Rattle.serve.specs.Histories.{thread_calls}
+use Rattle.serve.specs.Inner.Alone.{IsAlone}
 use Rattle.serve.proofs.OneEventMore.{does_order}
+use Rattle.serve.proofs.Turning.{goes_still, handed_roster, handed_phase}
 use Rattle.serve.proofs.record.Record.next_order.Goals as goal
 
 pub invariant_of-self : goal.invariant_of-self
 invariant_of-self c =
     let r = c.args.self.now in
+    let alone : IsAlone c.next_order.new.self.loop.shared.taker = subst (λ (l : Loop Seats). IsAlone l.shared.taker) (sym c.next_order.ensures.core) r.alone in
     record {
       few = r.few;
-      told = does_order c.next_order.ensures.setting r.told c.next_order.ensures.core;
+      alone = alone;
+      told = does_order c.next_order.ensures.setting r.told alone c.next_order.ensures.core;
     }
+
+pub returns-clause-goes : goal.returns-clause-goes
+returns-clause-goes c =
+    let r = c.args.self.now in
+    let state = ap (λ (l : Loop Seats). l.state) c.next_order.ensures.core in
+    goes_still thread_calls r.core.loop c.next_order.new.self.loop r.ran
+    (ap (λ s. s.roster) state ∙ handed_roster r.core.loop.state.status r.core.loop.state)
+    (ap (λ s. s.phase) state ∙ handed_phase r.core.loop.state.status r.core.loop.state)

@@ -1,5 +1,10 @@
-use Rattle.std.proofs.Common.{◌∙◌, arith}
+use Rattle.std.proofs.Common.{ap, sym, subst, ◌∙◌, arith}
+use Rattle.pool.specs.declared.seats.Seats.{Seats}
+use Rattle.phases.specs.State.{Loop}
+use Rattle.serve.specs.Histories.{thread_calls}
+use Rattle.serve.specs.Inner.Alone.{IsAlone}
 use Rattle.serve.proofs.OneEventMore.{does_wait}
+use Rattle.serve.proofs.Turning.{goes_still}
 use Rattle.serve.proofs.record.Record.pass.Goals as goal
 
 pub invariant_of-self : goal.invariant_of-self
@@ -7,8 +12,19 @@ invariant_of-self c =
     let r = c.args.self.now in
     let read = c.clock-clock in
     let sum = c.saturating_add-moment.ensures in
+    let shared = ap (λ (l : Loop Seats). l.shared) c.clock.ensures.core ∙ ap (λ (l : Loop Seats). l.shared) read.ensures.core in
+    let alone : IsAlone c.clock.new.self.loop.shared.taker = subst (λ (s : Seats). IsAlone s.taker) (sym shared) r.alone in
     record {
       few = r.few;
-      told = does_wait (c.clock.ensures.setting ∙ read.ensures.setting) r.told c.args.ms read.result c.saturating_add-moment.result
-          read.ensures.core read.ensures.clock (omega arith) c.clock.ensures.core c.requires.none c.requires.hint;
+      alone = alone;
+      told = does_wait (c.clock.ensures.setting ∙ read.ensures.setting) r.told alone c.args.ms read.result c.saturating_add-moment.result
+          read.ensures.core read.ensures.clock (omega arith) c.clock.ensures.core c.requires.none c.requires.still c.requires.hint;
     }
+
+pub returns-clause-goes : goal.returns-clause-goes
+returns-clause-goes c =
+    let r = c.args.self.now in
+    let read = c.clock-clock in
+    goes_still thread_calls r.core.loop c.clock.new.self.loop r.ran
+    (ap (λ (l : Loop Seats). l.state.roster) c.clock.ensures.core ∙ ap (λ (l : Loop Seats). l.state.roster) read.ensures.core)
+    (ap (λ (l : Loop Seats). l.state.phase) c.clock.ensures.core ∙ ap (λ (l : Loop Seats). l.state.phase) read.ensures.core)

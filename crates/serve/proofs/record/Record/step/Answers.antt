@@ -1,6 +1,8 @@
 use Rattle.std.proofs.Common.{◌++◌, ap, ◌∙◌, arith}
 use Rattle.phases.specs.Bare.{whole}
 use Rattle.serve.proofs.OneEventMore.{does_run, does_other, tells_other}
+use Rattle.serve.proofs.SentAlone.{step_alone}
+use Rattle.serve.proofs.Turning.{step_drains, step_at_turn, step_drained}
 use Rattle.serve.proofs.record.Record.step.Goals as goal
 
 pub append-requires : goal.append-requires
@@ -13,9 +15,11 @@ pub invariant_of-self-in-Ran : goal.invariant_of-self-in-Ran
 invariant_of-self-in-Ran c =
     let r = c.args.self.now in
     let step = c.step_bare-did in
+    let alone = step_alone r.core.setting r.core.loop (whole step.result) step.new.self.loop step.ensures.step r.alone in
     record {
       few = omega arith;
-      told = does_run step.ensures.setting r.told c.append.new.emits.items _ _ _ (whole step.result) (ap whole c.in-Ran.is) step.ensures.step
+      alone = alone;
+      told = does_run step.ensures.setting r.told alone c.append.new.emits.items _ _ _ (whole step.result) (ap whole c.in-Ran.is) step.ensures.step
           (c.append.ensures ∙ ap (λ xs. xs ++ c.emits.result.now) c.reserve.ensures.items ∙ ap (λ xs. r.emits.items ++ xs) c.emits.ensures.emits);
     }
 
@@ -23,8 +27,43 @@ pub invariant_of-self-in_default : goal.invariant_of-self-in_default
 invariant_of-self-in_default c =
     let r = c.args.self.now in
     let step = c.step_bare-did in
+    let alone = step_alone r.core.setting r.core.loop (whole step.result) step.new.self.loop step.ensures.step r.alone in
     record {
       few = r.few;
-      told = does_other step.ensures.setting r.told c.reserve.new.self.items (whole step.result) step.ensures.step c.reserve.ensures.items
+      alone = alone;
+      told = does_other step.ensures.setting r.told alone c.reserve.new.self.items (whole step.result) step.ensures.step c.reserve.ensures.items
           (tells_other step.result c.in_default.not-Ran);
     }
+
+pub returns-in-Ran-clause-at_turn : goal.returns-in-Ran-clause-at_turn
+returns-in-Ran-clause-at_turn c =
+    let r = c.args.self.now in
+    let step = c.step_bare-did in
+    step_at_turn r.core.setting r.core.loop step.result step.new.self.loop step.ensures.step
+
+pub returns-in-Ran-clause-drained : goal.returns-in-Ran-clause-drained
+returns-in-Ran-clause-drained c =
+    let r = c.args.self.now in
+    let step = c.step_bare-did in
+    step_drained r.core.setting r.core.loop step.result step.new.self.loop step.ensures.step
+
+pub returns-in_default-clause-at_turn : goal.returns-in_default-clause-at_turn
+returns-in_default-clause-at_turn c =
+    let r = c.args.self.now in
+    let step = c.step_bare-did in
+    step_at_turn r.core.setting r.core.loop step.result step.new.self.loop step.ensures.step
+
+pub returns-in_default-clause-drained : goal.returns-in_default-clause-drained
+returns-in_default-clause-drained c =
+    let r = c.args.self.now in
+    let step = c.step_bare-did in
+    step_drained r.core.setting r.core.loop step.result step.new.self.loop step.ensures.step
+
+pub returns-in-Ran-clause-drains : goal.returns-in-Ran-clause-drains
+returns-in-Ran-clause-drains c = λ few. absurd (omega (arith, few))
+
+pub returns-in_default-clause-drains : goal.returns-in_default-clause-drains
+returns-in_default-clause-drains c =
+    let r = c.args.self.now in
+    let step = c.step_bare-did in
+    λ few. step_drains r.core.setting r.core.loop step.result step.new.self.loop step.ensures.step (tells_other step.result c.in_default.not-Ran)

@@ -1,5 +1,7 @@
-use Rattle.std.proofs.Common.{◌≡◌, ◌<◌}
+use Rattle.std.proofs.Common.{◌≡◌, ◌<◌, ◌≤◌}
 use Rattle.limits.specs.declared.TheConstants.{MAX_CALLBACKS}
+use Rattle.serve.specs.Histories.{thread_calls}
+use Rattle.serve.specs.Inner.Turns.{Drains}
 use Rattle.serve.proofs.record.Record.step_through.Given as goal
 
 abbrev pub invariant-loop : goal.invariant-loop
@@ -8,3 +10,5 @@ invariant-loop g l =
     × (goal.iterator-loop g).is_finite l.iterator'
     × (l.self.core.setting ≡ l.fn.self.core.setting)
     × (l.self.ran < MAX_CALLBACKS)
+    × (l.fn.self.ran ≤ l.self.ran)
+    × (l.self.ran ≤ l.fn.self.ran → Drains thread_calls l.self.core.loop)

@@ -1,15 +1,24 @@
-use Rattle.std.proofs.Common.{◌≡◌, sym, ap, ◌∙◌}
+use Rattle.std.proofs.Common.{◌≡◌, refl, sym, ap, subst, ◌∙◌}
+use Rattle.marks.specs.Counts.{Taker}
 use Rattle.phases.specs.View.{new_view}
 use Rattle.pool.specs.Share.{view_by}
+use Rattle.pool.specs.declared.seats.Seats.{Seats}
 use Rattle.serve.specs.Histories.{thread_calls}
+use Rattle.serve.specs.Inner.Alone.{IsAlone}
 use Rattle.serve.proofs.OneEventMore.{opens_new}
+use Rattle.serve.proofs.SentAlone.{none_sent}
 use Rattle.serve.proofs.turn.Turns.new.Goals as goal
 
-pub new-requires-2 : goal.new-requires-2
-new-requires-2 g c =
+pub new-requires-2-clause-opens : goal.new-requires-2-clause-opens
+new-requires-2-clause-opens g c =
     let seat = c.new-seats.ensures.loop_seat ∙ c.args.place.of_claims in
     let taker = c.new-seats.ensures.taker ∙ c.requires in
     let view : thread_calls.view c.new-seats.result ≡ new_view c.args.place.seat.loop_no = (λ i. view_by (seat i) (taker i)) in
     let new = c.in_ok-core in
     opens_new new.core.setting new.core.loop _ _ _ _ _ c.new-seats.result new.ensures.setting new.ensures.state new.ensures.store new.ensures.shared
     (view ∙ ap new_view (sym c.loop_no-loop_no.ensures.number))
+
+pub new-requires-2-clause-alone : goal.new-requires-2-clause-alone
+new-requires-2-clause-alone g c =
+    let taker = ap (λ (s : Seats). s.taker) c.in_ok-core.ensures.shared ∙ c.new-seats.ensures.taker ∙ c.requires in
+    subst IsAlone (sym taker) (refl, refl, refl, none_sent)

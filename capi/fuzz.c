@@ -1,0 +1,487 @@
+/* Random sequences of all calls of wasmloop.h on ten handles, beside a model of what each handle has, which foretells each status. What
+ * is handed to a call is checked behind its end; a call that doesn't answer OK must leave handles and results as they were. Of every eighth
+ * call some allocations may be refused (malloc and realloc are wrapped by the linker), and MEMORY is answered only then.
+ *
+ * usage: fuzz SEED SEQUENCES FILE..      FILE: modules. Ends with 1 where something is not as foretold. */
+#include <stdio.h>
+#include <stdlib.h>
+#include <string.h>
+#include "wasmloop.h"
+
+enum { SLOTS = 10, STEPS = 200, FILES = 64, GUARD = 0xa5, NAMES = 12 };
+enum { NOTHING, MODULE, LOOP, JOB, INSTANCE };
+
+typedef struct slot {
+    wasmloop_handle handle;
+    int kind, has_run;
+    unsigned long loop, id; /* a job's loop, by the slot's id, or 0 */
+    uint32_t number;        /* the number of a loop, or of a job's loop */
+    int file;
+} slot;
+
+typedef struct file {
+    uint8_t *bytes;
+    size_t length;
+    int is_module;
+    wasmloop_shape shape;
+} file;
+
+static slot slots[SLOTS];
+static file files[FILES];
+static int file_count;
+static unsigned long ids, calls, answered[16], wrong;
+static uint64_t state;
+static const char *const names[NAMES] = { "uv_work", "uv_main", "uv_after_work", "memory", "add", "put", "get", "divide", "spin", "deep", "grow", "" };
+
+static uint32_t draw(void) {
+    state ^= state << 13, state ^= state >> 7, state ^= state << 17;
+    return (uint32_t)(state >> 16);
+}
+static uint32_t below(uint32_t n) { return draw() % n; }
+
+/* Refused memory. */
+
+void *__real_malloc(size_t size);
+void *__real_realloc(void *block, size_t size);
+static long left = -1;
+static int refused;
+
+static int is_out(void) {
+    if (left < 0) return 0;
+    if (left > 0) { left--; return 0; }
+    return refused = 1;
+}
+void *__wrap_malloc(size_t size) { return is_out() ? NULL : __real_malloc(size); }
+void *__wrap_realloc(void *block, size_t size) { return is_out() ? NULL : __real_realloc(block, size); }
+
+static void begin(void) {
+    refused = 0;
+    left = below(8) ? -1 : (long)below(16);
+}
+static int ended(int status) {
+    left = -1;
+    calls++;
+    if (status >= 0 && status < 16) answered[status]++;
+    return status;
+}
+#define CALL(call) (begin(), ended(call))
+
+/* What is wrong. */
+
+static void fail(const char *what, long got, long wanted) {
+    if (wrong++ < 20) printf("fuzz: %s: %ld, not %ld (call %lu)\n", what, got, wanted, calls);
+}
+static void is(const char *what, long got, long wanted) {
+    if (got != wanted) fail(what, got, wanted);
+}
+/* MEMORY is right where memory was refused. */
+static int told(const char *what, int got, int wanted) {
+    if (got != wanted && !(got == WASMLOOP_MEMORY && refused)) fail(what, got, wanted);
+    return got == WASMLOOP_OK;
+}
+static int told_one(const char *what, int got, int wanted, int other) { return told(what, got, got == other ? other : wanted); }
+static void untouched(const char *what, const void *from, size_t length) {
+    for (size_t i = 0; i < length; i++)
+        if (((const uint8_t *)from)[i] != GUARD) { fail(what, ((const uint8_t *)from)[i], GUARD); return; }
+}
+static void *room_for(size_t length) {
+    uint8_t *room = malloc(length + 16);
+    if (!room) exit(2);
+    return memset(room, GUARD, length + 16);
+}
+static void done_with(const char *what, void *room, size_t length, size_t written) {
+    size_t from = written < length ? written : length;
+    untouched(what, (uint8_t *)room + from, length + 16 - from);
+    free(room);
+}
+
+/* The statuses that stand in the header's head. */
+
+static int of_kind(const slot *it, int kind) {
+    return it->kind == NOTHING ? WASMLOOP_EMPTY : it->kind == kind ? WASMLOOP_OK : WASMLOOP_KIND;
+}
+static int in_empty(const slot *into, const slot *from, int is_in_range, int kind) {
+    return into == from ? WASMLOOP_KIND : into->kind ? WASMLOOP_KIND : !is_in_range ? WASMLOOP_RANGE : of_kind(from, kind);
+}
+static void fill(slot *it, int kind) {
+    wasmloop_handle handle = it->handle;
+    memset(it, 0, sizeof *it);
+    it->handle = handle, it->kind = kind, it->id = ++ids;
+}
+static void empty(slot *it) { memset(it, 0, sizeof *it); }
+static int is_depth(uint32_t depth) { return depth >= 1 && depth <= 128; }
+static uint32_t depth(void) { return below(16) ? 1 + below(128) : below(200); }
+
+/* Modules. */
+
+static void explains(const uint8_t *bytes, size_t length, int is_refused) {
+    size_t room = below(300);
+    uint64_t count = GUARD;
+    char *into = room_for(room);
+    int status = CALL(wasmloop_explain(bytes, length, into, room, &count));
+    if (told("explain", status, is_refused ? WASMLOOP_OK : WASMLOOP_NONE)) is("explain says something", count > 0 && count < 4000, 1);
+    done_with("explain", into, room, status == WASMLOOP_OK ? count : 0);
+}
+
+static void load(slot *it) {
+    int number = below(file_count);
+    const file *from = &files[number];
+    size_t length = below(8) ? from->length : below((uint32_t)from->length + 1);
+    uint8_t *bytes = malloc(length ? length : 1);
+    memcpy(bytes, from->bytes, length);
+    int changes = below(4) ? 0 : below(4);
+    for (int i = 0; i < changes && length; i++) bytes[below((uint32_t)length)] ^= (uint8_t)draw();
+    int is_same = length == from->length && !memcmp(bytes, from->bytes, length);
+    wasmloop_fault fault;
+    memset(&fault, GUARD, sizeof fault);
+    int status = CALL(wasmloop_load(length ? bytes : NULL, length, &it->handle, &fault));
+    if (it->kind) told("load", status, WASMLOOP_KIND);
+    else if (is_same) told("load", status, from->is_module ? WASMLOOP_OK : WASMLOOP_REFUSED);
+    else told_one("load", status, WASMLOOP_OK, WASMLOOP_REFUSED);
+    if (status == WASMLOOP_REFUSED) {
+        is("a fault's stage", fault.stage >= 1 && fault.stage <= 3, 1);
+        is("a fault's byte", fault.byte <= length, 1);
+        is("a fault's name", wasmloop_fault_name(fault.stage, fault.code) != NULL, 1);
+    } else untouched("load's fault", &fault, sizeof fault);
+    if (status == WASMLOOP_OK) fill(it, MODULE), it->file = is_same ? number : -1;
+    if (status == WASMLOOP_OK || status == WASMLOOP_REFUSED) explains(bytes, length, status == WASMLOOP_REFUSED);
+    free(bytes);
+}
+
+static void share(slot *from, slot *into) {
+    int status = CALL(wasmloop_share(&from->handle, &into->handle));
+    if (!told("share", status, in_empty(into, from, 1, MODULE))) return;
+    fill(into, MODULE), into->file = from->file;
+}
+
+static void shape(slot *it) {
+    wasmloop_shape shape;
+    memset(&shape, GUARD, sizeof shape);
+    int status = CALL(wasmloop_shape_of(&it->handle, &shape));
+    if (!told("shape_of", status, of_kind(it, MODULE))) { untouched("shape", &shape, sizeof shape); return; }
+    is("pages", shape.pages <= shape.most_pages && shape.most_pages <= 64, 1);
+    if (it->file >= 0) is("shape", memcmp(&shape, &files[it->file].shape, sizeof shape), 0);
+}
+
+static void function(slot *it) {
+    wasmloop_type type;
+    memset(&type, GUARD, sizeof type);
+    int status = CALL(wasmloop_function(&it->handle, names[below(NAMES)], &type));
+    if (it->kind == MODULE) told_one("function", status, WASMLOOP_OK, WASMLOOP_NONE);
+    else told("function", status, of_kind(it, MODULE));
+    if (status != WASMLOOP_OK) { untouched("type", &type, sizeof type); return; }
+    is("a type's counts", type.params <= 256 && type.results <= 16, 1);
+    for (int i = 0; i < 16; i++) is("a type's result", type.result[i] >= 1 && type.result[i] <= 2, i < (int)type.results);
+}
+
+/* Loops. */
+
+static void make_loop(slot *from, slot *into) {
+    wasmloop_limits limits = { below(100000), below(300000), below(3), depth() };
+    int status = CALL(wasmloop_loop(&from->handle, &limits, &into->handle));
+    if (!told("loop", status, in_empty(into, from, is_depth(limits.depth), MODULE))) return;
+    fill(into, LOOP), into->number = limits.number;
+}
+
+static void reads_stop(slot *it, int status, int stopped) {
+    if (stopped >= 0) told("stop", status, stopped ? WASMLOOP_OK : WASMLOOP_NONE);
+    else if (it->kind == LOOP || it->kind == JOB || it->kind == INSTANCE) told_one("stop", status, WASMLOOP_OK, WASMLOOP_NONE);
+    else told("stop", status, of_kind(it, LOOP));
+}
+
+/* `stopped`: whether the last run is known to have stopped, or -1 */
+static void stop(slot *it, int stopped) {
+    size_t room = below(140), length = room * sizeof(wasmloop_site);
+    uint64_t count = GUARD;
+    wasmloop_site *into = room_for(length);
+    int status = CALL(wasmloop_stop(&it->handle, into, room, &count));
+    reads_stop(it, status, stopped);
+    if (status == WASMLOOP_OK) is("a stop's count", count >= 1 && count <= 128, 1);
+    uint64_t kept = status != WASMLOOP_OK ? 0 : it->kind == JOB && count > 17 ? 17 : count;
+    done_with("stop", into, length, kept * sizeof(wasmloop_site));
+}
+
+static void emits(slot *it, uint32_t wanted) {
+    size_t room = below(70), length = room * 8;
+    uint32_t count = GUARD;
+    int64_t *into = room_for(length);
+    int status = CALL(wasmloop_emits(&it->handle, into, room, &count));
+    if (told("emits", status, of_kind(it, LOOP)) && wanted <= 64) is("emits", count, wanted);
+    done_with("emits", into, length, status == WASMLOOP_OK ? count * 8 : 0);
+}
+
+static void standing(slot *it, const wasmloop_did *did) {
+    wasmloop_standing told_of;
+    memset(&told_of, GUARD, sizeof told_of);
+    int status = CALL(wasmloop_standing_of(&it->handle, &told_of));
+    if (!told("standing_of", status, of_kind(it, LOOP))) { untouched("standing", &told_of, sizeof told_of); return; }
+    is("outstanding", told_of.outstanding <= 32, 1);
+    if (!did) return;
+    if (did->what == WASMLOOP_OVER) is("over, and not alive", told_of.alive | told_of.failed, 0);
+    if (did->what == WASMLOOP_FAILED) is("failed", told_of.failed, 1);
+    if (did->what == WASMLOOP_RAN) is("failed by a callback", told_of.failed, did->ending != WASMLOOP_RETURN);
+}
+
+static void did_right(slot *it, const wasmloop_did *did) {
+    is("did.what", did->what >= WASMLOOP_ENTERED && did->what <= WASMLOOP_FAILED && !did->zero, 1);
+    standing(it, did);
+    if (did->what != WASMLOOP_RAN) return;
+    is("did.emits", did->emits <= 64 && did->ending <= WASMLOOP_SPENT, 1);
+    emits(it, did->emits);
+    stop(it, did->ending != WASMLOOP_RETURN);
+}
+
+static void step(slot *it) {
+    for (uint32_t more = below(20); more < 20; more++) {
+        wasmloop_did did;
+        memset(&did, GUARD, sizeof did);
+        int status = CALL(wasmloop_step(&it->handle, &did));
+        if (!told("step", status, of_kind(it, LOOP))) { untouched("did", &did, sizeof did); return; }
+        did_right(it, &did);
+        if (did.what >= WASMLOOP_OVER) return;
+    }
+}
+
+static void turn(slot *it) {
+    wasmloop_turned turned = { 0 }, before = turned;
+    uint32_t most = below(5);
+    int status = CALL(wasmloop_turn(&it->handle, most, &turned));
+    if (!told("turn", status, most ? of_kind(it, LOOP) : WASMLOOP_RANGE)) { is("turned", memcmp(&turned, &before, sizeof turned), 0); return; }
+    is("a turn's callbacks", turned.callbacks <= most, 1);
+    is("a turn's wait", turned.wait == 0 || !turned.callbacks, 1);
+    did_right(it, &turned.did);
+}
+
+static void clock_and_hint(slot *it) {
+    uint64_t now = 1, later = 1, ms = 1;
+    int wanted = of_kind(it, LOOP);
+    if (told("clock", CALL(wasmloop_clock(&it->handle, 0, &now)), wanted) && told("clock", CALL(wasmloop_clock(&it->handle, now + below(1000), &later)), wanted))
+        is("the clock goes on", later >= now, 1);
+    told("hint", CALL(wasmloop_hint(&it->handle, &ms)), wanted);
+}
+
+static void sends(slot *it) {
+    uint32_t number = below(20);
+    told("async_send", CALL(wasmloop_async_send(&it->handle, number)), number >= 16 ? WASMLOOP_RANGE : of_kind(it, LOOP));
+}
+
+static void cancels(slot *it) {
+    int32_t answer = 7;
+    int status = CALL(wasmloop_cancel(&it->handle, below(40), &answer));
+    if (told("cancel", status, of_kind(it, LOOP))) is("a cancel's answer", answer == 0 || answer == -22 || answer == -16 || answer == -1, 1);
+    else is("a cancel that is not done", answer, 7);
+}
+
+/* Jobs. */
+
+static void next_job(slot *from, slot *into) {
+    int wanted = in_empty(into, from, 1, LOOP);
+    int status = CALL(wasmloop_next_job(&from->handle, &into->handle));
+    if (!told_one("next_job", status, wanted, wanted == WASMLOOP_OK ? WASMLOOP_NONE : wanted)) return;
+    fill(into, JOB), into->loop = from->id, into->number = from->number;
+    wasmloop_about about;
+    is("about", wasmloop_job_about(&into->handle, &about), WASMLOOP_OK);
+    is("a new job", about.request >= 1 && about.slot < 32 && !about.outcome && !about.used && about.loop == from->number, 1);
+}
+
+static void make_job(slot *from, slot *into) {
+    wasmloop_task task = { below(300000), draw(), depth() };
+    size_t length = below(20) ? below(300) : 65530 + below(12);
+    uint8_t *bytes = calloc(1, length + 1);
+    int runs = below(2), is_in_range = is_depth(task.depth) && length <= 65536;
+    int wanted = in_empty(into, from, is_in_range, MODULE), no_work = wanted == WASMLOOP_OK ? WASMLOOP_NO_WORK : wanted;
+    if (wanted == WASMLOOP_OK && from->file >= 0) wanted = no_work = files[from->file].shape.work ? WASMLOOP_OK : WASMLOOP_NO_WORK;
+    int status = CALL(runs ? wasmloop_work(&from->handle, &task, length ? bytes : NULL, length, &into->handle)
+                           : wasmloop_job_new(&from->handle, &task, length ? bytes : NULL, length, &into->handle));
+    free(bytes);
+    if (!told_one("job_new", status, wanted, no_work)) return;
+    fill(into, JOB), into->has_run = runs;
+    wasmloop_about about;
+    is("about", wasmloop_job_about(&into->handle, &about), WASMLOOP_OK);
+    is("a lone job", !about.request && about.bytes == length && about.op == task.op && about.used <= task.fuel && !about.outcome == !runs, 1);
+}
+
+static void start(slot *loop, slot *job) {
+    int wanted = loop == job ? WASMLOOP_KIND : of_kind(job, JOB) == WASMLOOP_EMPTY ? WASMLOOP_EMPTY : of_kind(loop, LOOP);
+    if (wanted == WASMLOOP_OK && (job->kind != JOB || job->has_run)) wanted = WASMLOOP_KIND;
+    int status = CALL(wasmloop_job_start(&loop->handle, &job->handle));
+    if (wanted != WASMLOOP_OK) { told("job_start", status, wanted); return; }
+    if (job->loop != loop->id && (!job->loop || job->number != loop->number)) told("job_start of another loop's", status, WASMLOOP_STRANGER);
+    else told_one("job_start", status, WASMLOOP_OK, WASMLOOP_STRANGER);
+}
+
+static void accept(slot *loop, slot *job) {
+    int wanted = loop == job ? WASMLOOP_KIND : of_kind(job, JOB) == WASMLOOP_EMPTY ? WASMLOOP_EMPTY : of_kind(loop, LOOP);
+    if (wanted == WASMLOOP_OK && (job->kind != JOB || !job->has_run)) wanted = WASMLOOP_KIND;
+    int status = CALL(wasmloop_accept(&loop->handle, &job->handle));
+    if (wanted != WASMLOOP_OK) { told("accept", status, wanted); return; }
+    if (job->loop == loop->id) { if (told_one("accept", status, WASMLOOP_OK, WASMLOOP_STRANGER)) empty(job); return; }
+    if (job->loop && job->number == loop->number) { if (told_one("accept", status, WASMLOOP_STRANGER, WASMLOOP_OK)) empty(job); return; }
+    told("accept of another loop's", status, WASMLOOP_STRANGER);
+}
+
+static void run(slot *it) {
+    int wanted = of_kind(it, JOB);
+    if (wanted == WASMLOOP_OK && it->has_run) wanted = WASMLOOP_KIND;
+    int status = CALL(wasmloop_job_run(&it->handle)), was_refused = refused;
+    if (!told("job_run", status, wanted)) return;
+    it->has_run = 1;
+    wasmloop_about about;
+    is("about", wasmloop_job_about(&it->handle, &about), WASMLOOP_OK);
+    is("an outcome", about.outcome >= WASMLOOP_WORK_DONE && about.outcome <= WASMLOOP_WORK_MEMORY, 1);
+    if (about.outcome == WASMLOOP_WORK_MEMORY) is("no memory", was_refused, 1);
+    stop(it, about.outcome >= WASMLOOP_WORK_TRAP && about.outcome <= WASMLOOP_WORK_SPENT);
+}
+
+static void reads(slot *it) {
+    wasmloop_about about;
+    memset(&about, GUARD, sizeof about);
+    int wanted = of_kind(it, JOB), is_job = wanted == WASMLOOP_OK;
+    if (!told("job_about", CALL(wasmloop_job_about(&it->handle, &about)), wanted)) untouched("about", &about, sizeof about);
+    if (is_job) is("has run", about.outcome != WASMLOOP_NOT_RUN, it->has_run);
+    int replied = is_job && about.outcome != WASMLOOP_WORK_DONE ? WASMLOOP_NONE : wanted;
+    size_t room = below(8) ? below(400) : 66000;
+    uint64_t count = GUARD, seen = GUARD;
+    const uint8_t *at = (const uint8_t *)&count;
+    uint8_t *into = room_for(room), *again = room_for(room);
+    if (told("job_input", CALL(wasmloop_job_input(&it->handle, into, room, &count)), wanted)) is("input", (long)count, (long)about.bytes);
+    done_with("job_input", into, room, is_job ? count : 0);
+    int status = CALL(wasmloop_job_reply(&it->handle, again, room, &count));
+    if (told("job_reply", status, replied)) is("reply", (long)count, (long)about.reply);
+    if (told("job_view", CALL(wasmloop_job_view(&it->handle, &at, &seen)), replied)) {
+        is("view", (long)seen, (long)about.reply);
+        is("the bytes seen", memcmp(at, again, seen < room ? seen : room), 0);
+    } else is("a view that is not had", at == (const uint8_t *)&count && seen == GUARD, 1);
+    done_with("job_reply", again, room, status == WASMLOOP_OK ? count : 0);
+}
+
+/* Instances. */
+
+static void ended_right(const wasmloop_ended *it, uint64_t fuel) {
+    is("an ending", it->ending <= WASMLOOP_SPENT && it->used <= fuel && it->results <= 16, 1);
+    if (it->ending != WASMLOOP_RETURN) is("no results", (long)it->results, 0);
+}
+
+static void make_instance(slot *from, slot *into) {
+    wasmloop_call_limits limits = { below(100000), depth(), 0 };
+    wasmloop_ended told_of;
+    memset(&told_of, GUARD, sizeof told_of);
+    int wanted = in_empty(into, from, is_depth(limits.depth), MODULE), other = wanted == WASMLOOP_OK ? WASMLOOP_NOT_STARTED : wanted;
+    int status = CALL(wasmloop_instance(&from->handle, &limits, &into->handle, &told_of));
+    int is_made = told_one("instance", status, wanted, other);
+    if (!is_made && status != WASMLOOP_NOT_STARTED) { untouched("ended", &told_of, sizeof told_of); return; }
+    ended_right(&told_of, limits.fuel);
+    is("started", told_of.ending == WASMLOOP_RETURN, is_made);
+    if (is_made) fill(into, INSTANCE);
+}
+
+static void call(slot *it) {
+    wasmloop_call_limits limits = { below(100000), depth(), 0 };
+    wasmloop_ended told_of;
+    memset(&told_of, GUARD, sizeof told_of);
+    uint64_t args[4] = { draw(), draw(), draw(), (uint64_t)draw() << 20 };
+    int wanted = is_depth(limits.depth) ? of_kind(it, INSTANCE) : WASMLOOP_RANGE;
+    int status = CALL(wasmloop_call(&it->handle, names[below(NAMES)], args, below(5), &limits, &told_of));
+    if (wanted == WASMLOOP_OK && (status == WASMLOOP_NONE || status == WASMLOOP_ARGUMENTS)) wanted = status;
+    if (!told("call", status, wanted)) { untouched("ended", &told_of, sizeof told_of); return; }
+    ended_right(&told_of, limits.fuel);
+    stop(it, told_of.ending != WASMLOOP_RETURN);
+}
+
+static void memory(slot *it) {
+    uint64_t bytes = 0;
+    uint8_t written[64], *into = room_for(64);
+    uint32_t length = below(64);
+    int wanted = of_kind(it, INSTANCE);
+    for (uint32_t i = 0; i < length; i++) written[i] = (uint8_t)draw();
+    told("size", CALL(wasmloop_size(&it->handle, &bytes)), wanted);
+    uint32_t at = below(4) && bytes ? below((uint32_t)bytes) : draw();
+    if (wanted == WASMLOOP_OK && (uint64_t)at + length > bytes) wanted = WASMLOOP_RANGE;
+    int wrote = told("write", CALL(wasmloop_write(&it->handle, at, written, length)), wanted);
+    if (told("read", CALL(wasmloop_read(&it->handle, at, into, length)), wanted) && wrote) is("what was written", memcmp(into, written, length), 0);
+    done_with("read", into, 64, wanted == WASMLOOP_OK ? length : 0);
+}
+
+/* Sequences. */
+
+static void drop(slot *it) {
+    told("drop", CALL(wasmloop_drop(&it->handle)), it->kind ? WASMLOOP_OK : WASMLOOP_EMPTY);
+    empty(it);
+}
+
+static void load_into(slot *a, slot *b) { (void)a, load(b); }
+static void drops(slot *a, slot *b) { (void)b, drop(a); }
+static void shapes(slot *a, slot *b) { (void)b, shape(a); }
+static void functions(slot *a, slot *b) { (void)b, function(a); }
+static void steps(slot *a, slot *b) { (void)b, step(a); }
+static void turns(slot *a, slot *b) { (void)b, turn(a); }
+static void owns(slot *a, slot *b) { (void)b, clock_and_hint(a), sends(a), cancels(a); }
+static void looks(slot *a, slot *b) { (void)b, emits(a, GUARD), standing(a, NULL), stop(a, -1); }
+static void runs(slot *a, slot *b) { (void)b, run(a); }
+static void reads_job(slot *a, slot *b) { (void)b, reads(a); }
+static void call_of(slot *a, slot *b) { (void)b, call(a); }
+static void memories(slot *a, slot *b) { (void)b, memory(a); }
+
+/* The calls, and of what kind the two handles are mostly given. */
+static const struct { void (*call)(slot *, slot *); int first, second; } all[] = {
+    { load_into, MODULE, NOTHING }, { load_into, MODULE, NOTHING }, { drops, JOB, NOTHING }, { drops, LOOP, NOTHING },
+    { drops, INSTANCE, NOTHING }, { drops, MODULE, NOTHING }, { share, MODULE, NOTHING }, { shapes, MODULE, NOTHING },
+    { functions, MODULE, NOTHING }, { make_loop, MODULE, NOTHING }, { make_loop, MODULE, NOTHING }, { steps, LOOP, NOTHING },
+    { steps, LOOP, NOTHING }, { steps, LOOP, NOTHING }, { turns, LOOP, NOTHING }, { turns, LOOP, NOTHING },
+    { owns, LOOP, NOTHING }, { looks, LOOP, NOTHING }, { next_job, LOOP, NOTHING }, { next_job, LOOP, NOTHING },
+    { next_job, LOOP, NOTHING }, { make_job, MODULE, NOTHING }, { start, LOOP, JOB }, { start, LOOP, JOB },
+    { runs, JOB, NOTHING }, { runs, JOB, NOTHING }, { reads_job, JOB, NOTHING }, { accept, LOOP, JOB },
+    { accept, LOOP, JOB }, { make_instance, MODULE, NOTHING }, { call_of, INSTANCE, NOTHING }, { call_of, INSTANCE, NOTHING },
+    { memories, INSTANCE, NOTHING },
+};
+
+/* A handle's words change only where the model's kind does. */
+static void kept(const slot *it, const slot *before) {
+    if (it->kind == before->kind && it->id == before->id) is("a handle's words", memcmp(&it->handle, &before->handle, sizeof it->handle), 0);
+    is("a handle's mark", it->handle.mark != 0, it->kind != NOTHING);
+}
+
+static slot *some(int kind) {
+    for (int tries = 0; tries < 20; tries++) {
+        slot *it = &slots[below(SLOTS)];
+        if (it->kind == kind) return it;
+    }
+    return &slots[below(SLOTS)];
+}
+
+static void sequence(void) {
+    for (int i = 0; i < STEPS; i++) {
+        uint32_t which = below(sizeof all / sizeof *all);
+        slot *a = below(8) ? some(all[which].first) : &slots[below(SLOTS)];
+        slot *b = below(8) ? some(all[which].second) : &slots[below(SLOTS)];
+        slot a_before = *a, b_before = *b;
+        all[which].call(a, b);
+        kept(a, &a_before), kept(b, &b_before);
+    }
+    for (int i = 0; i < SLOTS; i++) drop(&slots[i]);
+}
+
+static void read_file(const char *path) {
+    FILE *from = fopen(path, "rb");
+    file *it = &files[file_count++];
+    if (!from) { perror(path); exit(2); }
+    it->bytes = malloc(1 << 20);
+    it->length = fread(it->bytes, 1, 1 << 20, from);
+    fclose(from);
+    wasmloop_handle module = WASMLOOP_HANDLE_INIT;
+    wasmloop_fault fault;
+    it->is_module = wasmloop_load(it->bytes, it->length, &module, &fault) == WASMLOOP_OK;
+    if (it->is_module) wasmloop_shape_of(&module, &it->shape);
+    wasmloop_drop(&module);
+}
+
+int main(int count, char **words) {
+    if (count < 4 || count > 3 + FILES) { fputs("usage: fuzz SEED SEQUENCES FILE..\n", stderr); return 2; }
+    state = strtoull(words[1], NULL, 10) * 0x9e3779b97f4a7c15u + 1;
+    for (int i = 3; i < count; i++) read_file(words[i]);
+    for (unsigned long more = strtoul(words[2], NULL, 10); more; more--) sequence();
+    printf("fuzz: %lu calls, %lu not as foretold;", calls, wrong);
+    for (int i = 0; i < 13; i++) printf(" %s %lu", wasmloop_status_name(i), answered[i]);
+    puts("");
+    return wrong != 0;
+}

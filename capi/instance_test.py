@@ -1,0 +1,62 @@
+"""An instance from Python. usage: instance_test.py FOLDER, with WASMLOOP_LIBRARY"""
+import sys, os
+sys.path.insert(0, os.environ["WASMLOOP_PY"])
+import wasmloop as w
+
+def fails(kind, do, **has):
+    try:
+        do()
+    except kind as error:
+        for name, value in has.items():
+            assert getattr(error, name) == value, (name, getattr(error, name), value, str(error))
+        return str(error)
+    raise AssertionError("nothing was raised")
+
+folder = sys.argv[1]
+module = w.Module(open(f"{folder}/kv.wasm", "rb").read())
+it = module.instance()
+two = module.instance()
+assert [it.call("add", k) for k in (5, 7, -20)] == [5, 12, -8]
+assert two.call("add", 1) == 1
+at, room = it.call("buffer"), it.call("room")
+
+def put(key, value):
+    it.memory[at:at + len(key) + len(value)] = key + value
+    return it.call("put", len(key), len(value))
+
+def get(key):
+    it.memory[at:at + len(key)] = key
+    size = it.call("get", len(key))
+    return None if size < 0 else it.memory[at:at + size]
+
+for k in range(60):
+    assert put(b"key%d" % k, b"value of %d" % k) == 1
+assert all(get(b"key%d" % k) == b"value of %d" % k for k in range(60)) and get(b"none") is None
+assert it.call("count") == 60 and two.call("count") == 0
+print(fails(w.Stopped, lambda: it.call("divide", 1, 0), ending="trap", trap=2))
+assert it.stop() and it.call("add", 0) == 992 and not it.stop()
+assert it.call("divide", -7, 2) == -3 and it.call("divide", 2**32 - 7, 2) == -3
+print(fails(w.Stopped, lambda: it.call("spin", fuel=1000), ending="spent"))
+print(fails(w.Stopped, lambda: it.call("deep", 200), ending="depth"))
+print(fails(w.Error, lambda: it.call("absent"), status=w.NONE))
+print(fails(TypeError, lambda: it.call("add")))
+print(fails(w.Error, lambda: it.call("deep", 2**32), status=w.ARGUMENTS))
+print(fails(w.Error, lambda: it.call("deep", -2**31 - 1), status=w.ARGUMENTS))
+print(fails(w.Error, lambda: it.call("deep", "abc"), status=w.ARGUMENTS))
+print(fails(w.Error, lambda: it.call("add", 1, fuel=-1), status=w.RANGE))
+print(fails(w.Error, lambda: it.call("add", 1, depth=129), status=w.RANGE))
+print(fails(w.Error, lambda: it.memory[len(it.memory):len(it.memory) + 1], status=w.RANGE))
+print(fails(ValueError, lambda: it.memory.__setitem__(slice(0, 4), b"abc")))
+print(fails(TypeError, lambda: it.memory[0]))
+before = len(it.memory)
+assert it.call("grow", 1) == before // 65536 and len(it.memory) == before + 65536
+start = w.Module(open(f"{folder}/start.wasm", "rb").read())
+with start.instance() as its:
+    assert its.call("global") == 7 and its.call("bump", 100) is None and its.call("global") == 107 and its.call("asks") == -1
+    assert its.call("pair", -3, 2**40) == (2**40, -3) and start.function("pair") == ([32, 64], [64, 32])
+print(fails(w.Stopped, lambda: w.Module(open(f"{folder}/fails.wasm", "rb").read()).instance(), ending="trap", trap=4))
+module.close()
+assert it.call("count") == 60
+it.close()
+print(fails(w.Error, lambda: it.call("count"), status=w.EMPTY))
+print("instance_test.py: all is as it should be")

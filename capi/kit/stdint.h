@@ -1,0 +1,8 @@
+/* What wasmloop.h and the files beside it take of <stdint.h>. */
+typedef __INT32_TYPE__ int32_t;
+typedef __INT64_TYPE__ int64_t;
+typedef __UINT8_TYPE__ uint8_t;
+typedef __UINT32_TYPE__ uint32_t;
+typedef __UINT64_TYPE__ uint64_t;
+#define UINT64_MAX __UINT64_MAX__
+#define PTRDIFF_MAX __PTRDIFF_MAX__

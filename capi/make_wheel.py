@@ -1,0 +1,58 @@
+"""Makes the wheel of Python's wasmloop: capi/wasmloop.py and dist/libwasmloop.so.0, with the same bytes wherever it is made.
+
+It is what pip calls for `pip install ./capi` (PEP 517), and a program: make_wheel.py FOLDER
+"""
+
+import base64
+import hashlib
+import os
+import re
+import sys
+import zipfile
+
+CAPI = os.path.dirname(os.path.realpath(__file__))
+TOP = os.path.dirname(CAPI)
+# The library takes malloc, realloc, free and three functions on bytes of glibc, the youngest since 2.14; no older one has a tag than 2.17.
+TAG = "py3-none-manylinux_2_17_x86_64.manylinux2014_x86_64"
+
+
+def read(path):
+    with open(path, "rb") as file:
+        return file.read()
+
+
+def version():
+    return re.search(r'#define WASMLOOP_VERSION "(.*)"', read(f"{CAPI}/wasmloop.h").decode())[1]
+
+
+def build_wheel(folder, config_settings=None, metadata_directory=None):
+    name, tags = f"wasmloop-{version()}", "".join(f"Tag: py3-none-{it}\n" for it in TAG.split("-")[2].split("."))
+    info = f"{name}.dist-info"
+    files = {
+        "wasmloop/__init__.py": read(f"{CAPI}/wasmloop.py"),
+        "wasmloop/libwasmloop.so.0": read(f"{TOP}/dist/libwasmloop.so.0"),
+        f"{info}/PROOF.json": read(f"{TOP}/dist/PROOF.json"),
+        f"{info}/METADATA": (
+            f"Metadata-Version: 2.1\nName: wasmloop\nVersion: {version()}\n"
+            "Summary: A host for WebAssembly modules on event loops\nRequires-Python: >=3.8\n"
+        ).encode(),
+        f"{info}/WHEEL": f"Wheel-Version: 1.0\nGenerator: make_wheel\nRoot-Is-Purelib: false\n{tags}".encode(),
+    }
+    sums = {path: base64.urlsafe_b64encode(hashlib.sha256(text).digest()).rstrip(b"=").decode() for path, text in files.items()}
+    record = [f"{path},sha256={sums[path]},{len(text)}" for path, text in files.items()] + [f"{info}/RECORD,,", ""]
+    files[f"{info}/RECORD"] = "\n".join(record).encode()
+    made = f"{name}-{TAG}.whl"
+    with zipfile.ZipFile(f"{folder}/{made}", "w", zipfile.ZIP_DEFLATED) as wheel:
+        for path, text in files.items():
+            entry = zipfile.ZipInfo(path, (1980, 1, 1, 0, 0, 0))
+            entry.external_attr, entry.compress_type = 0o100644 << 16, zipfile.ZIP_DEFLATED
+            wheel.writestr(entry, text)
+    return made
+
+
+def build_sdist(folder, config_settings=None):
+    raise NotImplementedError("the wheel is made of the repository, and needs no other archive")
+
+
+if __name__ == "__main__":
+    print(f"{sys.argv[1]}/{build_wheel(sys.argv[1])}")

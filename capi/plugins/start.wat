@@ -1,0 +1,13 @@
+(module
+  (type $emit (func (param i64) (result i32)))
+  (import "uv" "emit" (func $emit (type $emit)))
+  (global $g (mut i32) (i32.const 5))
+  (memory (export "memory") 1)
+  (func $start (global.set $g (i32.add (global.get $g) (i32.const 2))))
+  (start $start)
+  (func (export "global") (result i32) (global.get $g))
+  (func (export "bump") (param i32) (global.set $g (i32.add (global.get $g) (local.get 0))))
+  (func (export "asks") (result i32) (call $emit (i64.const 7)))
+  (func (export "pair") (param i32 i64) (result i64 i32) (local.get 1) (local.get 0))
+  (export "imported" (func $emit))
+)

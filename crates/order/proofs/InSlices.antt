@@ -1,0 +1,188 @@
+-- An order that ran in slices.
+use Rattle.std.proofs.Common.{◌≡◌, ℕ, ◌+◌, ◌-◌, ◌<◌, ◌≤◌, List, [], ◌∷◌, length, take, ◌++◌, reverse, Option, Some, None, codes, refl, sym, ap, ◌∙◌, subst, arith, inl, inr}
+use Rattle.std.proofs.lemmas.Bool.{cases_lt}
+use Rattle.std.proofs.Math.Seq.{take-append_seam}
+use Rattle.syntax.specs.declared.types.Value.{Value}
+use Rattle.syntax.specs.declared.types.Value.TheVariants.{I32}
+use Rattle.instance.specs.Store.{Store}
+use Rattle.instance.specs.Fresh.{IsFresh}
+use Rattle.instance.specs.declared.stack.Site.{Site}
+use Rattle.syntax.specs.declared.contents.Contents.{Contents}
+use Rattle.syntax.specs.declared.contents.FuncType.{FuncType}
+use Rattle.validate.specs.Typing.{HasFunctionType, type_of_function}
+use Rattle.reduction.specs.Run.{Returned, HostCall, RunEnd}
+use Rattle.reduction.specs.Invoking.{Invokes, defined, imported, TakesArguments}
+use Rattle.reduction.proofs.OneRun.{not_both}
+use Rattle.reduction.specs.Running.{end_of_run}
+use Rattle.events.specs.declared.ended.Ended.{Ended}
+use Rattle.events.specs.declared.ended.Ending.{Ending}
+use Rattle.events.specs.declared.ended.Ending.TheVariants.{Return}
+use Rattle.events.specs.declared.ended.Ending.TheVariants as ending
+use Rattle.reduction.specs.Running.{AreResults}
+use Rattle.syntax.specs.declared.types.ValType.{ValType}
+use Rattle.imports.specs.Linking.{IsLinked, ExportsFunction}
+use Rattle.imports.specs.Uv.{type_of_call, type_of_entry}
+use Rattle.imports.specs.declared.entry_point.EntryPoint.TheVariants.{Work}
+use Rattle.imports.specs.declared.call.Call.{Call}
+use Rattle.imports.specs.declared.call.Call.TheVariants.{Now, TimerInit, IdleInit, CheckInit, TimerStart, TimerStop, IdleStop, CheckStop}
+use Rattle.imports.specs.declared.call.Call.TheVariants.{TimerAgain, IdleStart, CheckStart, AsyncInit, AsyncSend, IsActive, Close}
+use Rattle.imports.specs.declared.call.Call.TheVariants.{QueueWork, Cancel, InLen, InCopy, OutSet, Emit}
+use Rattle.interp.specs.Slices.{IsOver}
+use Rattle.validate.specs.Valid.{ValidModule}
+use Rattle.validate.specs.Targets.{AreTables}
+use Rattle.validate.specs.declared.side_table.SideTable.{SideTable}
+use Rattle.instance.specs.declared.stack.Caller.{Caller}
+use Rattle.engine.specs.declared.at.At.{At}
+use Rattle.engine.specs.Programs.{program_of}
+use Rattle.engine.specs.Stepping.{standing}
+use Rattle.interp.specs.Inner.Slots.Hosted.{IsUnderWay}
+use Rattle.interp.specs.Slices.{IsPaused}
+use Rattle.interp.proofs.Slots.CallsBegin.{under_way}
+use Rattle.order.specs.declared.host.WorkHost.{WorkHost}
+use Rattle.order.specs.Inner.Serving.{Serves}
+use Rattle.order.specs.Inner.WorkHosting.{Answered}
+use Rattle.order.specs.Stopping.{WorkStop, ComputesTo}
+use Rattle.order.specs.Work.{WorkOrder, WorkEnd, Computes, WorkRun, StartRun, EndsAs}
+use Rattle.order.specs.Work as work
+use Rattle.order.specs.Stopping as stopping
+use Rattle.order.specs.Inner.Going.{IsStarted}
+use Rattle.order.proofs.ImportTypes.{import_known}
+use Rattle.order.proofs.FunctionTypes.{has_type, known_as}
+use Rattle.order.proofs.WorkHostAnswers.{work_stops, work_serves, not_returned, served}
+
+module _ (o : WorkOrder) (fuel : ℕ) (s t : Store) (old new : WorkHost) (serves : Serves old o) (function : ℕ) (args : List Value) (ended : Ended) (stop : Option (List Site))
+    (over : IsOver o.loaded.contents o.depth Answered function s old args fuel ended t new stop) where
+  -- a call in slices is a call of the order's
+  pub over_stops : WorkStop o fuel s old.reply.items function args ended t new.reply.items stop
+  over_stops = work_stops o fuel o.loaded refl s t old new serves function args ended stop over.leads
+
+  pub over_serves : Serves new o
+  over_serves = work_serves o fuel o.loaded refl s t old new serves function args ended stop over.leads
+
+-- the front of a list of two parts
+pub take_seam : {A : Type 0} (n : ℕ) (xs ys : List A) → length xs ≡ n → take n (xs ++ ys) ≡ xs
+take_seam n xs ys e = subst (λ (k : ℕ). take k (xs ++ ys) ≡ xs) e (take-append_seam xs ys)
+
+-- the start function, in slices, is over
+module _ (o : WorkOrder) (s t : Store) (old reply : List ℕ) (function : ℕ) (ended : Ended) (stop : Option (List Site))
+    (fresh : IsFresh o.loaded.contents s) (is_start : o.loaded.contents.start ≡ Some function) (empty : old ≡ [])
+    (ran : WorkStop o o.fuel s old function [] ended t reply stop) where
+  start_stops : WorkStop o o.fuel s [] function [] ended t reply stop
+  start_stops = subst (λ (bytes : List ℕ). WorkStop o o.fuel s bytes function [] ended t reply stop) empty ran
+
+  -- it has run as the start function does
+  start_ran : StartRun o o.loaded.contents.start s (end_of_run ended.ending) ended.used t reply
+  start_ran = subst (λ (f : Option ℕ). StartRun o f s (end_of_run ended.ending) ended.used t reply) (sym is_start) start_stops.run
+
+  -- it doesn't return: so the order is computed
+  pub start_computes : (e : WorkEnd) → ((values : List Value) → ended.ending ≡ Return values → ⊥) → EndsAs (end_of_run ended.ending) reply e
+      → Computes o e ended.used × ComputesTo o e ended.used stop
+  start_computes e not end = (
+    work.stops s t (end_of_run ended.ending) reply fresh start_ran (not_returned ended.ending not) end,
+    stopping.stops s t ended reply function fresh is_start start_stops (not_returned ended.ending not) refl end,
+  )
+
+  -- it returns
+  pub start_returns : (values : List Value) → ended.ending ≡ Return values → ended.used ≤ o.fuel → IsStarted o ended.used t reply
+  start_returns values returned within = record {
+    s = s;
+    results = reverse values;
+    fresh = fresh;
+    run = subst (λ (x : Ending). StartRun o o.loaded.contents.start s (end_of_run x) ended.used t reply) returned start_ran;
+    within = within;
+  }
+
+-- there is none
+pub no_start : (o : WorkOrder) (s : Store) (reply : List ℕ) → IsFresh o.loaded.contents s → o.loaded.contents.start ≡ None → reply ≡ [] → IsStarted o 0 s reply
+no_start o s reply fresh none empty = record {
+  s = s;
+  results = [];
+  fresh = fresh;
+  run = subst (λ (f : Option ℕ). StartRun o f s (Returned []) 0 s reply) (sym none) (refl, refl, refl, empty);
+  within = omega arith;
+}
+
+-- `uv_work`, in slices, is over: so the order is computed
+pub work_computes : (o : WorkOrder) (mid t : Store) (old reply : List ℕ) (first function : ℕ) (ended : Ended) (stop : Option (List Site)) → IsStarted o first mid old
+    → ExportsFunction o.loaded.contents (codes "uv_work") function
+    → WorkStop o (o.fuel - first) mid old function (I32 o.op ∷ []) ended t reply stop
+    → (e : WorkEnd) → EndsAs (end_of_run ended.ending) reply e
+    → Computes o e (first + ended.used) × ComputesTo o e (first + ended.used) stop
+work_computes o mid t old reply first function ended stop started exported ran e end = (
+  work.works started.s mid t started.results (end_of_run ended.ending) first ended.used old reply function started.fresh started.run exported ran.run refl end,
+  stopping.works started.s mid t started.results ended first old reply function started.fresh started.run exported ran refl end,
+)
+
+-- an import is asked for nothing
+pub asks_for_nothing : (m : Contents) (depth fuel : ℕ) (s t : Store) (function : ℕ) (args : List Value) (trace : List HostCall) (outcome : RunEnd) (used : ℕ) → function < length m.imports
+    → Invokes m depth fuel s function args trace outcome used t → used ≡ 0
+asks_for_nothing m depth fuel s t function args trace outcome used within (defined type f is run) = absurd (not_both m function type f is within)
+asks_for_nothing m depth fuel s _ function args _ _ _ within (imported call is named given from) = refl
+
+-- each function of the host has a result, so none is a start function
+one_result : (c : Call) → length (type_of_call c).results ≡ 1
+one_result Now = refl
+one_result TimerInit = refl
+one_result IdleInit = refl
+one_result CheckInit = refl
+one_result TimerStart = refl
+one_result TimerStop = refl
+one_result IdleStop = refl
+one_result CheckStop = refl
+one_result TimerAgain = refl
+one_result IdleStart = refl
+one_result CheckStart = refl
+one_result AsyncInit = refl
+one_result AsyncSend = refl
+one_result IsActive = refl
+one_result Close = refl
+one_result QueueWork = refl
+one_result Cancel = refl
+one_result InLen = refl
+one_result InCopy = refl
+one_result OutSet = refl
+one_result Emit = refl
+
+import_has_result : (m : Contents) → IsLinked m → (function : ℕ) → function < length m.imports → (type : FuncType) → HasFunctionType m function type → length type.results ≡ 1
+import_has_result m linked function within type has =
+    let it = import_known m linked function within in
+    let known : type_of_function m function ≡ Some (type_of_call it.0) = it.1 in
+    let same : Some type ≡ Some (type_of_call it.0) = sym (known_as m function type has) ∙ known in
+    let type_is : type ≡ type_of_call it.0 = cc in
+    ap (λ (t : FuncType). length t.results) type_is ∙ one_result it.0
+
+pub start_is_defined : (m : Contents) → ValidModule m → IsLinked m → (function : ℕ) → m.start ≡ Some function → length m.imports ≤ function
+start_is_defined m valid linked function is = elim (cases_lt function (length m.imports)) [
+  | inl within ↦ absurd (let one = import_has_result m linked function within (record { params = []; results = [] }) (rw is at valid.start) in omega arith)
+  | inr behind ↦ behind
+]
+
+-- a function of that type takes the operation
+pub work_takes : (m : Contents) (function op : ℕ) → type_of_function m function ≡ Some (type_of_entry Work) → TakesArguments m function (I32 op ∷ [])
+work_takes m function op typed = record { type = type_of_entry Work; known = has_type m function (type_of_entry Work) typed; fit = refl }
+
+-- the start function takes nothing
+pub start_takes : (m : Contents) → ValidModule m → (function : ℕ) → m.start ≡ Some function → TakesArguments m function []
+start_takes m valid function is = record { type = record { params = []; results = [] }; known = rw is at valid.start; fit = refl }
+
+-- what doesn't return has results of any types
+pub no_results : (how : Ending) → ((values : List Value) → how ≡ Return values → ⊥) → (types : List ValType) → AreResults how types
+no_results (Return values) not types = absurd (not values refl)
+no_results (ending.Trap trap) not types = tt
+no_results ending.Depth not types = tt
+no_results ending.Spent not types = tt
+
+-- a call that is under way has come to its host by a lawful trace
+pub came_to : (o : WorkOrder) → ValidModule o.loaded.contents → (tables : List SideTable) → AreTables o.loaded.contents tables → (function : ℕ) (s t : Store) (old new : WorkHost)
+    (args : List Value) (fuel : ℕ) (at : At) (used left : ℕ) (slots : List ℕ) (callers : List Caller) → Serves old o
+    → IsPaused o.loaded.contents tables o.depth Answered function s old args fuel at used left slots callers t new → Serves new o
+came_to o valid tables agree function s t old new args fuel at used left slots callers serves c =
+    let m = o.loaded.contents in
+    let p = program_of m tables in
+    let types = c.takes.type.results in
+    let first = standing c.start c.first_slots c.first_frames s fuel in
+    let u : IsUnderWay m p o.depth types first =
+    subst (λ (k : ℕ). IsUnderWay m p k types first) c.deep
+    (under_way m function args c.takes valid c.defined tables agree p refl c.start c.first_slots c.opened c.small c.first_frames s fuel c.fit types refl) in
+    let come = c.comes u.body u.contexts u.places u.bodies u.program u.represents in
+    (served o come.trace old new serves come.lawful).serves

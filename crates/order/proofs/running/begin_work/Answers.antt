@@ -1,0 +1,28 @@
+use Rattle.std.proofs.Common.{◌≡◌, subst, codes}
+use Rattle.std.specs.Arc.{arc_value}
+use Rattle.syntax.specs.Loaded.{Loaded}
+use Rattle.imports.specs.Linking.{ExportsFunction}
+use Rattle.std.proofs.Common.{Some}
+use Rattle.validate.specs.Typing.{type_of_function}
+use Rattle.imports.specs.declared.entry_point.EntryPoint.TheVariants.{Work}
+use Rattle.imports.specs.Uv.{type_of_entry}
+use Rattle.order.proofs.InSlices.{work_takes}
+use Rattle.order.proofs.running.begin_work.Goals as goal
+
+pub ask-requires-clause-exported : goal.ask-requires-clause-exported
+ask-requires-clause-exported c = subst (λ (l : Loaded). ExportsFunction l.contents (codes "uv_work") c.in-Some.function) c.deref.ensures c.in-Some.ensures.found
+
+pub begin-paused-requires-clause-typed : goal.begin-paused-requires-clause-typed
+begin-paused-requires-clause-typed c =
+    work_takes (arc_value c.args.order.module).contents c.in-Some.function c.args.order.op
+    (subst (λ (l : Loaded). type_of_function l.contents c.in-Some.function ≡ Some (type_of_entry Work)) c.deref.ensures c.in-Some.ensures.typed)
+
+pub work_on-requires-clause-working : goal.work_on-requires-clause-working
+work_on-requires-clause-working c = record {
+  t = c.args.machine.state;
+  old = c.args.machine.host;
+  started = c.requires.started;
+  exported = subst (λ (l : Loaded). ExportsFunction l.contents (codes "uv_work") c.in-Some.function) c.deref.ensures c.in-Some.ensures.found;
+  typed = subst (λ (l : Loaded). type_of_function l.contents c.in-Some.function ≡ Some (type_of_entry Work)) c.deref.ensures c.in-Some.ensures.typed;
+  calling = c.begin-paused.ensures.calling;
+}

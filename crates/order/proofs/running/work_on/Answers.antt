@@ -1,0 +1,38 @@
+use Rattle.std.proofs.Common.{◌-◌, [], ◌∷◌}
+use Rattle.std.specs.Arc.{arc_value}
+use Rattle.syntax.specs.declared.types.Value.TheVariants.{I32}
+use Rattle.imports.specs.declared.entry_point.EntryPoint.TheVariants.{Work}
+use Rattle.imports.specs.Uv.{type_of_entry}
+use Rattle.instance.specs.Stops.{stop_of}
+use Rattle.order.specs.Orders.{order_of}
+use Rattle.order.proofs.FunctionTypes.{has_type}
+use Rattle.order.proofs.InSlices.{work_computes}
+use Rattle.order.proofs.running.work_on.Goals as goal
+
+pub invariant_of-result : goal.invariant_of-result
+invariant_of-result c =
+    let w = c.requires.working in
+    record {
+      runs = c.go_on.ensures.runs;
+      at = record {
+        t = w.t;
+        old = w.old;
+        started = w.started;
+        exported = w.exported;
+        typed = w.typed;
+        calling = c.go_on.ensures.paused c.if-not-go_on.true w.t w.old (I32 c.args.order.op ∷ []) (c.args.order.fuel - c.args.first) w.calling;
+      };
+    }
+
+pub over-requires-clause-computes : goal.over-requires-clause-computes
+over-requires-clause-computes c end reads =
+    let w = c.requires.working in
+    let n = c.go_on.new in
+    let done = c.go_on.ensures.over c.if-not-go_on.false w.t w.old (I32 c.args.order.op ∷ []) (c.args.order.fuel - c.args.first) w.calling in
+    work_computes (order_of c.args.order) w.t n.self.state w.old.reply.items n.self.host.reply.items c.args.first c.args.function n.ended
+    (stop_of n.self.last n.self.frames.items) w.started w.exported done.0 end reads
+
+pub over-requires-clause-results : goal.over-requires-clause-results
+over-requires-clause-results c =
+    let w = c.requires.working in
+    c.go_on.ensures.results c.if-not-go_on.false (type_of_entry Work) (has_type (arc_value c.args.order.module).contents c.args.function (type_of_entry Work) w.typed)

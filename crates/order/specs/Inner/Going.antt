@@ -1,0 +1,103 @@
+-- An order under way, between two slices.
+use Rattle.std.specs.Prelude.{◌≡◌, ℕ, ◌+◌, ◌-◌, ◌≤◌, List, [], ◌∷◌, length, take, Some, codes, IfSome}
+use Rattle.std.specs.Arc.{arc_value}
+use Rattle.limits.specs.declared.TheConstants.{MAX_DEPTH}
+use Rattle.syntax.specs.declared.types.Value.{Value}
+use Rattle.syntax.specs.declared.types.Value.TheVariants.{I32}
+use Rattle.validate.specs.Valid.{ValidModule}
+use Rattle.validate.specs.Targets.{AreTables}
+use Rattle.validate.specs.declared.side_table.SideTable.{SideTable}
+use Rattle.instance.specs.Store.{Store}
+use Rattle.instance.specs.Fresh.{IsFresh}
+use Rattle.instance.specs.Storing.{IsStoreOf}
+use Rattle.instance.specs.declared.stack.Caller.{Caller}
+use Rattle.reduction.specs.Run.{Returned}
+use Rattle.validate.specs.Typing.{type_of_function}
+use Rattle.imports.specs.Linking.{ExportsFunction}
+use Rattle.imports.specs.Uv.{type_of_entry}
+use Rattle.imports.specs.declared.entry_point.EntryPoint.TheVariants.{Work}
+use Rattle.interp.specs.declared.slices.Paused.{Paused}
+use Rattle.interp.specs.Slices.{IsPaused}
+use Rattle.order.specs.declared.host.WorkHost.{WorkHost}
+use Rattle.order.specs.declared.machine.Machine.{Machine}
+use Rattle.order.specs.declared.stage.Stage.{Stage}
+use Rattle.order.specs.declared.stage.Stage.TheVariants.{Fresh, Starting, Working}
+use Rattle.order.specs.Inner.Serving.{Serves}
+use Rattle.order.specs.Inner.WorkHosting.{Answered}
+use Rattle.order.specs.Runnable.{CanRun}
+use Rattle.order.specs.Work.{WorkOrder, StartRun}
+
+-- A call of a function of the order's module is under way, which began with this store and these bytes of the reply.
+pub record IsCalling (o : WorkOrder) (tables : List SideTable) (function : ℕ) (s : Store) (old : WorkHost) (paused : Paused) (slots : List ℕ) (callers : List Caller)
+    (t : Store) (host : WorkHost) (fuel : ℕ) (args : List Value) : Type 0 where
+  pub serves : Serves old o
+  pub under_way : IsPaused o.loaded.contents tables o.depth Answered function s old args fuel paused.at paused.used paused.left slots callers t host
+
+-- some call is
+abbrev pub IsSomeCalling : WorkOrder → (tables : List SideTable) → (function : ℕ) → Paused → (slots : List ℕ) → List Caller → Store → WorkHost → Type 0
+IsSomeCalling o tables function paused slots callers t host =
+    (s : Store) × (old : WorkHost) × (args : List Value) × (fuel : ℕ) × IsCalling o tables function s old paused slots callers t host fuel args
+
+-- the callers for which the order has room
+abbrev pub callers : WorkOrder → Machine → List Caller
+callers o m = take (o.depth - 1) m.frames.items
+
+-- the same on a machine
+abbrev pub IsCallingOn : WorkOrder → Machine → (function : ℕ) → Store → WorkHost → Paused → (fuel : ℕ) → List Value → Type 0
+IsCallingOn o m function s old paused fuel args = IsCalling o (arc_value m.tables) function s old paused m.slots (callers o m) m.state m.host fuel args
+
+-- a machine that runs the order: its module is valid, and has these tables; there is room for all callers
+pub record Runs (o : WorkOrder) (m : Machine) : Type 0 where
+  pub can : CanRun o
+  pub valid : ValidModule o.loaded.contents
+  pub agree : AreTables o.loaded.contents (arc_value m.tables)
+  pub room : MAX_DEPTH ≤ length m.frames.items
+  pub shallow : IfSome m.last (λ l. l.depth ≤ MAX_DEPTH)
+
+-- nothing has run
+pub record IsUnbegun (o : WorkOrder) (m : Machine) : Type 0 where
+  pub fresh : IsFresh o.loaded.contents m.state
+  pub store : IsStoreOf o.loaded.contents m.state
+  pub serves : Serves m.host o
+  pub empty : m.host.reply.items ≡ []
+
+-- the start function is under way
+pub record IsStarting (o : WorkOrder) (m : Machine) (function : ℕ) (paused : Paused) : Type 0 where
+  pub s : Store
+  pub old : WorkHost
+  pub fresh : IsFresh o.loaded.contents s
+  pub is_start : o.loaded.contents.start ≡ Some function
+  pub empty : old.reply.items ≡ []
+  pub calling : IsCallingOn o m function s old paused o.fuel []
+
+-- the start function is over, or there is none, and so much fuel is used
+pub record IsStarted (o : WorkOrder) (first : ℕ) (t : Store) (reply : List ℕ) : Type 0 where
+  pub s : Store
+  pub results : List Value
+  pub fresh : IsFresh o.loaded.contents s
+  pub run : StartRun o o.loaded.contents.start s (Returned results) first t reply
+  pub within : first ≤ o.fuel
+
+-- then `uv_work` is under way, with the fuel that was left
+pub record IsWorking (o : WorkOrder) (m : Machine) (function first : ℕ) (paused : Paused) : Type 0 where
+  pub t : Store
+  pub old : WorkHost
+  pub started : IsStarted o first t old.reply.items
+  pub exported : ExportsFunction o.loaded.contents (codes "uv_work") function
+  pub typed : type_of_function o.loaded.contents function ≡ Some (type_of_entry Work)
+  pub calling : IsCallingOn o m function t old paused (o.fuel - first) (I32 o.op ∷ [])
+
+abbrev pub IsAt : WorkOrder → Machine → Stage → Type 0
+IsAt o m Fresh = IsUnbegun o m
+IsAt o m (Starting function paused) = IsStarting o m function paused
+IsAt o m (Working function first paused) = IsWorking o m function first paused
+
+pub record IsGoing (o : WorkOrder) (m : Machine) (stage : Stage) : Type 0 where
+  pub runs : Runs o m
+  pub at : IsAt o m stage
+
+-- the fuel that is used
+abbrev pub used_at : Stage → ℕ
+used_at Fresh = 0
+used_at (Starting function paused) = paused.used
+used_at (Working function first paused) = first + paused.used

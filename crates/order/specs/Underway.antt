@@ -1,0 +1,8 @@
+-- What is seen of an order under way.
+use Rattle.std.specs.Prelude.{ℕ}
+use Rattle.order.specs.Work.{WorkOrder}
+
+-- the order, and the units of fuel that it has used so far
+pub record Underway : Type 0 where
+  pub order : WorkOrder
+  pub used : ℕ

@@ -1,0 +1,267 @@
+// An order in slices.
+
+ghost use Rattle.std.specs.Prelude.{◌≡◌, ◌≢◌, ◌+◌, ◌-◌, ◌<◌, ◌≤◌, ℕ, [], ◌∷◌, Some, length, codes, IfOk, IfErr};
+ghost use Rattle.std.specs.Arc.{arc_value};
+ghost use Rattle.limits.specs.declared.TheConstants.{MAX_BYTES, MAX_DEPTH};
+ghost use Rattle.syntax.specs.declared.types.ValType.TheVariants as valtype;
+ghost use Rattle.validate.specs.Valid.{ValidModule};
+ghost use Rattle.instance.specs.Storing.{IsStoreOf};
+ghost use Rattle.instance.specs.Stops.{stop_of};
+ghost use Rattle.reduction.specs.Running.{end_of_run, AreResults};
+ghost use Rattle.validate.specs.Typing.{type_of_function};
+ghost use Rattle.imports.specs.Linking.{ExportsFunction};
+ghost use Rattle.imports.specs.Uv.{type_of_entry};
+ghost use Rattle.imports.specs.declared.entry_point.EntryPoint.TheVariants.{Work};
+ghost use Rattle.order.specs.Orders.{order_of, end_of};
+ghost use Rattle.order.specs.Work.{WorkEnd, NoMemory, EndsAs, Computes, Uses};
+ghost use Rattle.order.specs.Stopping.{ComputesTo, Leaves};
+ghost use Rattle.order.specs.Slices.{Goes};
+ghost use Rattle.order.specs.Inner.Serving.{Serves};
+ghost use Rattle.order.specs.Inner.Going.{Runs, IsUnbegun, IsStarting, IsStarted, IsWorking};
+
+use crate::host::WorkHost;
+use crate::machine::Machine;
+use crate::order::{Order, Outcome};
+use crate::reply::Reply;
+use crate::run::{Told, outcome_from};
+use crate::stage::Stage;
+use crate::trail::Trail;
+use events::ended::{Ended, Ending};
+use imports::EntryPoint;
+use imports::laws::names_are_apart;
+use instance::stack::Stack;
+use interp::invoke::unwritten;
+use interp::slices::Paused;
+use std::alloc::{AllocError, Global};
+use std::marker::Model;
+use syntax::types::Value;
+
+/// An order under way, between two slices. It may be kept, given to another thread, or dropped at any time. Contracts see the order, and
+/// how many units of fuel it has used so far.
+pub struct Running {
+    order: Order,
+    machine: Machine,
+    stage: Stage,
+}
+
+impl Drop for Running {
+    fn drop(self) {
+        let Running {
+            order: _,
+            machine: _,
+            stage: _,
+        } = self;
+    }
+}
+
+impl Model for Running {
+    ghost use Rattle.std.specs.Coded.{codes};
+    ghost use Rattle.syntax.specs.Loaded.{loaded_coded};
+    ghost use Rattle.order.specs.Orders.{order_of};
+    ghost use Rattle.order.specs.Underway.{Underway};
+    ghost use Rattle.order.specs.Inner.Going.{IsGoing, used_at};
+
+    ghost Value = { Underway };
+
+    ghost coded = { Prim.hlevel (codes, loaded_coded) };
+
+    ghost view = { λ r. record { order = order_of r.order; used = used_at r.stage } };
+
+    ghost invariant = { λ r. IsGoing (order_of r.order) r.machine r.stage };
+}
+
+/// What a slice leaves of an order.
+#[derive(Drop)]
+pub enum Going {
+    /// It is over: the order with what became of it, as `Order::run_told` tells it.
+    Over(Told),
+    /// It goes on from here.
+    Paused(Running),
+}
+
+impl Order {
+    /// Begins the order: reserves its instance and the bytes of its reply, and runs nothing yet. Where memory is refused, the reply says
+    /// so. Its module exports `uv_work`, and its bytes and its depth are within their limits, as at `run`.
+    pub fn begin(self, alloc: Global) -> Result<Running, Reply>
+        requires work { (f : ℕ) × ExportsFunction (arc_value self.module).contents (codes "uv_work") f }
+        requires bytes { length (arc_value self.bytes).items ≤ MAX_BYTES }
+        requires depth { (1 ≤ self.depth) × (self.depth ≤ MAX_DEPTH) }
+        ensures begun { IfOk result (λ r. (r.order ≡ order_of self) × (r.used ≡ 0)) }
+        ensures refused { IfErr result (λ reply. (reply.order ≡ self) × (end_of reply.outcome ≡ NoMemory)) }
+    {
+        match self.machine(alloc) {
+            Ok(machine) => Ok(Running {
+                order: self,
+                machine,
+                stage: Stage::Fresh,
+            }),
+            Err(AllocError) => Err(Reply {
+                order: self,
+                outcome: Outcome::NoMemory,
+            }),
+        }
+    }
+}
+
+impl Running {
+    /// Goes on for at most so many units of fuel, at least one. Where the order is over then, the reply is that of `Order::run`, beside
+    /// all fuel that it has used; else it has used exactly so many units more, and some are left. No memory is taken.
+    pub fn go_on(self, units: u64) -> Going
+        requires { 1 ≤ units }
+        ensures { Goes self units result }
+    {
+        let Running {
+            order,
+            machine,
+            stage,
+        } = self;
+        match stage {
+            Stage::Fresh => begin_start(order, machine, units),
+            Stage::Starting(function, paused) => start_on(order, machine, function, paused, units),
+            Stage::Working(function, first, paused) => {
+                work_on(order, machine, function, first, paused, units)
+            }
+        }
+    }
+}
+
+/// What is told of an order that is over.
+fn tell(order: Order, host: WorkHost, stack: Stack, ending: Ending, used: u64) -> Told
+    requires valid { ValidModule (arc_value order.module).contents }
+    requires computes { (end : WorkEnd) → EndsAs (end_of_run ending) host.reply.items end → Computes (order_of order) end used }
+    requires stops { (end : WorkEnd) → EndsAs (end_of_run ending) host.reply.items end → ComputesTo (order_of order) end used stack }
+    requires results { AreResults ending (valtype.I32 ∷ []) }
+    ensures order { order_of result.reply.order ≡ order_of order }
+    ensures memory { end_of result.reply.outcome ≢ NoMemory }
+    ensures uses { Uses (order_of order) (end_of result.reply.outcome) result.used }
+    ensures leaves { Leaves (order_of order) (end_of result.reply.outcome) result.used result.trail }
+    ensures used { result.used ≡ used }
+{
+    names_are_apart();
+    let trail = Trail::of_last(&stack);
+    let outcome = outcome_from(ending, host.into_reply());
+    Told {
+        reply: Reply { order, outcome },
+        used,
+        trail,
+    }
+}
+
+/// The same of an order whose machine is at its end.
+fn over(order: Order, machine: Machine, ending: Ending, used: u64) -> Told
+    requires runs { Runs (order_of order) machine }
+    requires computes { (end : WorkEnd) → EndsAs (end_of_run ending) machine.host.reply.items end → Computes (order_of order) end used × ComputesTo (order_of order) end used (stop_of machine.last machine.frames.items) }
+    requires results { AreResults ending (valtype.I32 ∷ []) }
+    ensures order { order_of result.reply.order ≡ order_of order }
+    ensures memory { end_of result.reply.outcome ≢ NoMemory }
+    ensures uses { Uses (order_of order) (end_of result.reply.outcome) result.used }
+    ensures leaves { Leaves (order_of order) (end_of result.reply.outcome) result.used result.trail }
+    ensures used { result.used ≡ used }
+{
+    let (stack, host) = machine.into_parts();
+    tell(order, host, stack, ending, used)
+}
+
+/// Begins the start function, where there is one, and goes on.
+fn begin_start(order: Order, machine: Machine, units: u64) -> Going
+    requires runs { Runs (order_of order) machine }
+    requires unbegun { IsUnbegun (order_of order) machine }
+    ensures { Goes (record { order = order_of order; used = 0 }) units result }
+{
+    let Some(function) = order.module.valid().contents().start else {
+        return begin_work(order, machine, 0, units);
+    };
+    let mut machine = machine;
+    let paused = machine.begin(&order, function, &[], order.fuel);
+    start_on(order, machine, function, paused, units)
+}
+
+/// Goes on with the start function, and with `uv_work`, where that returns within the slice.
+fn start_on(order: Order, machine: Machine, function: u32, paused: Paused, units: u64) -> Going
+    requires runs { Runs (order_of order) machine }
+    requires starting { IsStarting (order_of order) machine function paused }
+    ensures { Goes (record { order = order_of order; used = paused.used }) units result }
+{
+    let mut machine = machine;
+    let mut next = paused;
+    let mut ended = unwritten();
+    if !machine.go_on(&order, &mut ended, function, &mut next, units) {
+        return Going::Paused(Running {
+            order,
+            machine,
+            stage: Stage::Starting(function, next),
+        });
+    }
+    let Ending::Return(_) = ended.ending else {
+        return Going::Over(over(order, machine, ended.ending, ended.used));
+    };
+    let rest = units - (ended.used - paused.used());
+    begin_work(order, machine, ended.used, rest)
+}
+
+/// Begins `uv_work`, after a start function that used so much, or none, and goes on.
+fn begin_work(order: Order, machine: Machine, first: u64, units: u64) -> Going
+    requires runs { Runs (order_of order) machine }
+    requires store { IsStoreOf (arc_value order.module).contents machine.state }
+    requires serves { Serves machine.host (order_of order) }
+    requires started { IsStarted (order_of order) first machine.state machine.host.reply.items }
+    ensures { Goes (record { order = order_of order; used = first }) units result }
+{
+    let Some(function) = order.module.entry(EntryPoint::Work) else {
+        unreachable!();
+    };
+    if (function as usize) < order.module.valid().contents().imports.len() {
+        return Going::Over(ask(order, machine, function, first));
+    }
+    let mut machine = machine;
+    let args = [Value::I32(order.op)];
+    let paused = machine.begin(&order, function, &args, order.fuel - first);
+    work_on(order, machine, function, first, paused, units)
+}
+
+/// Goes on with `uv_work`, after a start function that used so much, or none.
+fn work_on(
+    order: Order,
+    machine: Machine,
+    function: u32,
+    first: u64,
+    paused: Paused,
+    units: u64,
+) -> Going
+    requires runs { Runs (order_of order) machine }
+    requires working { IsWorking (order_of order) machine function first paused }
+    ensures { Goes (record { order = order_of order; used = first + paused.used }) units result }
+{
+    let mut machine = machine;
+    let mut next = paused;
+    let mut ended = unwritten();
+    if !machine.go_on(&order, &mut ended, function, &mut next, units) {
+        return Going::Paused(Running {
+            order,
+            machine,
+            stage: Stage::Working(function, first, next),
+        });
+    }
+    let used = first + ended.used;
+    Going::Over(over(order, machine, ended.ending, used))
+}
+
+/// Asks the host for a `uv_work` that is an import, after a start function that used so much, or none.
+fn ask(order: Order, machine: Machine, function: u32, first: u64) -> Told
+    requires runs { Runs (order_of order) machine }
+    requires store { IsStoreOf (arc_value order.module).contents machine.state }
+    requires serves { Serves machine.host (order_of order) }
+    requires started { IsStarted (order_of order) first machine.state machine.host.reply.items }
+    requires exported { ExportsFunction (arc_value order.module).contents (codes "uv_work") function }
+    requires typed { type_of_function (arc_value order.module).contents function ≡ Some (type_of_entry Work) }
+    requires imported { function < length (arc_value order.module).contents.imports }
+    ensures order { order_of result.reply.order ≡ order_of order }
+    ensures memory { end_of result.reply.outcome ≢ NoMemory }
+    ensures uses { Uses (order_of order) (end_of result.reply.outcome) result.used }
+    ensures leaves { Leaves (order_of order) (end_of result.reply.outcome) result.used result.trail }
+    ensures used { result.used ≡ first }
+{
+    let args = [Value::I32(order.op)];
+    let (ended, stack, host) = machine.ask(&order, function, &args, order.fuel - first);
+    tell(order, host, stack, ended.ending, first)
+}

@@ -1,0 +1,181 @@
+-- What stands where it was read.
+use Rattle.std.proofs.Common.{◌≡◌, ℕ, ◌+◌, ◌-◌, ◌<◌, ◌≤◌, List, [], ◌∷◌, ◌++◌, length, take, drop, All, Option, Some, None, IfSome, slice_get, refl, ap, sym, subst, ◌∙◌, append_assoc, arith}
+use Rattle.std.specs.Prelude.{slice_range}
+use Rattle.std.proofs.lemmas.List.{drop_more, length-drop, length-take-le, length-append, take-append-drop}
+use Rattle.std.proofs.lemmas.List.Elements.{All-push}
+use Rattle.std.proofs.lemmas.List.Folds.{drop_split}
+use Rattle.std.proofs.lemmas.Option.{slice_get_within, get_or_from_slice_get}
+use Rattle.leb.specs.Spelling.{SpellsUnsigned, StandsAt}
+use Rattle.syntax.specs.Language.{Language, Leaves, exactly, byte, u32, items, counted, ◌⨾◌}
+use Rattle.syntax.specs.Binary.{Section, section}
+use Rattle.syntax.proofs.Joins.{joined, apart, no_items, items_none}
+use Rattle.places.specs.Spans.{Stands, Somewhere, SectionAt, BodyAt}
+
+pub stands_joined : {P Q : Language} {bytes : List ℕ} {at mid to : ℕ} → Stands P bytes at mid → Stands Q bytes mid to → Stands (P ⨾ Q) bytes at to
+stands_joined {P} {Q} {bytes} {at} {mid} {to} p q = record {
+  forth = (let a : at ≤ mid = p.forth in let b : mid ≤ to = q.forth in omega arith);
+  within = q.within;
+  spelled = joined p.spelled q.spelled;
+}
+
+pub u32_stands : {bytes : List ℕ} {at n next : ℕ} → StandsAt SpellsUnsigned 32 bytes at n next → Stands (u32 n) bytes at next
+u32_stands {bytes} {at} {n} {next} s =
+    let order : at ≤ next = (let a : at < next = s.after in omega arith) in
+    record { forth = order; within = s.within; spelled = record { front = slice_range bytes at next; spelled = s.spelled; split = drop_split bytes at next order } }
+
+-- the text itself
+text_stands : (bytes : List ℕ) (from to : ℕ) → from ≤ to → to ≤ length bytes → Stands (exactly (slice_range bytes from to)) bytes from to
+text_stands bytes from to order within =
+    record { forth = order; within = within; spelled = record { front = slice_range bytes from to; spelled = refl; split = drop_split bytes from to order } }
+
+length_between : (bytes : List ℕ) (from to : ℕ) → from ≤ to → to ≤ length bytes → length (slice_range bytes from to) ≡ to - from
+length_between bytes from to order within = length-take-le (to - from) (drop from bytes) (omega (arith, length-drop from bytes))
+
+-- so many bytes behind their number
+pub counted_stands : {bytes : List ℕ} {at size from to : ℕ} → StandsAt SpellsUnsigned 32 bytes at size from → from + size ≡ to → to ≤ length bytes
+    → Stands (counted (slice_range bytes from to)) bytes at to
+counted_stands {bytes} {at} {size} {from} {to} s ends within =
+    let order : from ≤ to = omega arith in
+    let many : size ≡ length (slice_range bytes from to) = omega (arith, length_between bytes from to order within) in
+    stands_joined (subst (λ (n : ℕ). Stands (u32 n) bytes at from) many (u32_stands s)) (text_stands bytes from to order within)
+
+byte_stands : {bytes : List ℕ} {at b : ℕ} → slice_get bytes at ≡ Some b → Stands (byte b) bytes at (at + 1)
+byte_stands {bytes} {at} {b} found =
+    let within : at < length bytes = slice_get_within bytes at b found in
+    record {
+      forth = omega arith;
+      within = omega arith;
+      spelled = record {
+        front = b ∷ [];
+        spelled = refl;
+        split = drop_more bytes at b within ∙ ap (λ (x : ℕ). x ∷ drop (at + 1) bytes) (get_or_from_slice_get bytes at b b found);
+      };
+    }
+
+pub section_stands : {bytes text : List ℕ} {at id to : ℕ} → slice_get bytes at ≡ Some id → Stands (counted text) bytes (at + 1) to
+    → Stands (section (record { id = id; contents = text })) bytes at to
+section_stands found c = stands_joined (byte_stands found) c
+
+items_push : {V : Type 0} (G : V → Language) (vs : List V) (v : V) (bytes mid rest : List ℕ) → Leaves (items G vs) bytes mid → Leaves (G v) mid rest → Leaves (items G (vs ++ v ∷ [])) bytes rest
+items_push G [] v bytes mid rest h k = joined (subst (λ (t : List ℕ). Leaves (G v) t rest) (sym (items_none h)) k) (no_items G rest)
+items_push G (u ∷ vs) v bytes mid rest h k = let a = apart h in joined a.first (items_push G vs v a.mid mid rest a.second k)
+
+-- ---- one behind the other
+
+-- these sections stand up to this byte
+pub record Past (bytes : List ℕ) (before : List Section) (at : ℕ) : Type 0 where
+  pub order : 8 ≤ at
+  pub stand : Leaves (items section before) (drop 8 bytes) (drop at bytes)
+
+pub past_none : (bytes : List ℕ) → Past bytes [] 8
+past_none bytes = record { order = omega arith; stand = no_items section (drop 8 bytes) }
+
+pub past_more : {bytes : List ℕ} {before : List Section} {at to : ℕ} (s : Section) → Past bytes before at → Stands (section s) bytes at to → Past bytes (before ++ s ∷ []) to
+past_more {bytes} {before} {at} {to} s p h = record {
+  order = (let a : 8 ≤ at = p.order in let b : at ≤ to = h.forth in omega arith);
+  stand = items_push section before s (drop 8 bytes) (drop at bytes) (drop to bytes) p.stand h.spelled;
+}
+
+pub section_there : {bytes : List ℕ} {before : List Section} {id at from to : ℕ} → Past bytes before at
+    → Stands (section (record { id = id; contents = slice_range bytes from to })) bytes at to → from ≤ to → SectionAt bytes before id at from to
+section_there {bytes} {before} {id} {at} {from} {to} p h holds = record {
+  in_front = record {
+    forth = p.order;
+    within = (let a : at ≤ to = h.forth in let b : to ≤ length bytes = h.within in omega arith);
+    spelled = p.stand;
+  };
+  here = h;
+  holds = holds;
+}
+
+-- sections of other ids stand up to this byte
+abbrev pub PastOthers : List ℕ → ℕ → ℕ → Type 0
+PastOthers bytes id at = (before : List Section) × Past bytes before at × All (λ (s : Section). s.id ≡ id → ⊥) before
+
+pub others_none : (bytes : List ℕ) (id : ℕ) → PastOthers bytes id 8
+others_none bytes id = ([], past_none bytes, λ i d lt. absurd (omega arith))
+
+pub others_more : {bytes : List ℕ} {id at to : ℕ} (s : Section) → PastOthers bytes id at → Stands (section s) bytes at to → (s.id ≡ id → ⊥) → PastOthers bytes id to
+others_more {bytes} {id} {at} {to} s p h other = (p.0 ++ s ∷ [], past_more s p.1 h, All-push (λ (x : Section). x.id ≡ id → ⊥) p.0 s p.2 other)
+
+-- bodies stand up to this byte
+pub record PastBodies (bytes : List ℕ) (first number at : ℕ) : Type 0 where
+  pub before : List (List ℕ)
+  pub as_many : length before ≡ number
+  pub order : first ≤ at
+  pub stand : Leaves (items counted before) (drop first bytes) (drop at bytes)
+
+pub bodies_none : (bytes : List ℕ) (first : ℕ) → PastBodies bytes first 0 first
+bodies_none bytes first = record { before = []; as_many = refl; order = omega arith; stand = no_items counted (drop first bytes) }
+
+pub bodies_more : {bytes : List ℕ} {first number at to : ℕ} (text : List ℕ) → PastBodies bytes first number at → Stands (counted text) bytes at to
+    → PastBodies bytes first (number + 1) to
+bodies_more {bytes} {first} {number} {at} {to} text p h = record {
+  before = p.before ++ text ∷ [];
+  as_many = (let e : length p.before ≡ number = p.as_many in omega (arith, length-append p.before (text ∷ []), e));
+  order = (let a : first ≤ at = p.order in let b : at ≤ to = h.forth in omega arith);
+  stand = items_push counted p.before text (drop first bytes) (drop at bytes) (drop to bytes) p.stand h.spelled;
+}
+
+pub body_there : {bytes : List ℕ} {held count first number at from to : ℕ} → StandsAt SpellsUnsigned 32 bytes held count first → number < count
+    → PastBodies bytes first number at → Stands (counted (slice_range bytes from to)) bytes at to → from ≤ to → BodyAt bytes held number at from to
+body_there {bytes} {held} {count} {first} {number} {at} {from} {to} s few p h holds = record {
+  count = count;
+  first = first;
+  counted_first = u32_stands s;
+  few = few;
+  before = p.before;
+  as_many = p.as_many;
+  in_front = record {
+    forth = p.order;
+    within = (let a : at ≤ to = h.forth in let b : to ≤ length bytes = h.within in omega arith);
+    spelled = p.stand;
+  };
+  here = h;
+  holds = holds;
+}
+
+-- ---- somewhere
+
+pub stands_somewhere : {L : Language} {bytes : List ℕ} {at to : ℕ} → Stands L bytes at to → Somewhere L bytes
+stands_somewhere {L} {bytes} {at} {to} h = record {
+  front = take at bytes;
+  text = h.spelled.front;
+  behind = drop to bytes;
+  split = sym (take-append-drop at bytes) ∙ ap (λ (t : List ℕ). take at bytes ++ t) h.spelled.split;
+  spelled = h.spelled.spelled;
+}
+
+pub somewhere_behind : {L : Language} {bytes : List ℕ} (front rest : List ℕ) → bytes ≡ front ++ rest → Somewhere L rest → Somewhere L bytes
+somewhere_behind {L} {bytes} front rest is s = record {
+  front = front ++ s.front;
+  text = s.text;
+  behind = s.behind;
+  split = is ∙ ap (λ (t : List ℕ). front ++ t) s.split ∙ sym (append_assoc front s.front (s.text ++ s.behind));
+  spelled = s.spelled;
+}
+
+somewhere_before : {L : Language} {bytes : List ℕ} (front rest : List ℕ) → bytes ≡ front ++ rest → Somewhere L front → Somewhere L bytes
+somewhere_before {L} {bytes} front rest is s = record {
+  front = s.front;
+  text = s.text;
+  behind = s.behind ++ rest;
+  split =
+      is ∙ ap (λ (t : List ℕ). t ++ rest) s.split ∙ append_assoc s.front (s.text ++ s.behind) rest
+      ∙ ap (λ (t : List ℕ). s.front ++ t) (append_assoc s.text s.behind rest);
+  spelled = s.spelled;
+}
+
+-- in bytes that stand behind their number
+pub somewhere_inside : {L : Language} {bytes list : List ℕ} {at to : ℕ} → Stands (counted list) bytes at to → Somewhere L list → Somewhere L bytes
+somewhere_inside {L} {bytes} {list} {at} {to} h s =
+    let text = h.spelled.front in
+    let c = h.spelled.spelled in
+    let held : text ≡ c.front ++ list = c.split ∙ ap (λ (t : List ℕ). c.front ++ t) c.second in
+    somewhere_behind (take at bytes) (drop at bytes) (sym (take-append-drop at bytes))
+    (somewhere_before text (drop to bytes) h.spelled.split (somewhere_behind c.front list held s))
+
+-- what is there is as the one says, and so as the other
+pub if_some : {A : Type 0} (P Q : A → Type 0) (o : Option A) → IfSome o P → ((a : A) → P a → Q a) → IfSome o Q
+if_some P Q None h f = tt
+if_some P Q (Some a) h f = f a h

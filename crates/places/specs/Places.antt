@@ -1,0 +1,53 @@
+-- What a place says of a module's bytes.
+use Rattle.std.specs.Prelude.{◌≡◌, ℕ, ◌<◌, ◌≤◌, List, [], ◌∷◌, slice_range, string_bytes}
+use Rattle.syntax.specs.Language.{Language, ◌⨾◌, anything, counted, u32}
+use Rattle.syntax.specs.Binary.{Section}
+use Rattle.places.specs.declared.place.Part.{Part}
+use Rattle.places.specs.declared.place.Part.TheVariants as part
+use Rattle.places.specs.declared.place.Place.{Place}
+use Rattle.places.specs.declared.place.Place.TheVariants as place
+use Rattle.places.specs.Spans.{SectionAt, FirstSectionAt, BodyAt, CodeAt, Somewhere}
+
+-- the first section with this id begins there
+abbrev pub IsPlaceOfSection : List ℕ → ℕ → Place → Type 0
+IsPlaceOfSection bytes id (place.Section told at) = (told ≡ id) × (from : ℕ) × (to : ℕ) × FirstSectionAt bytes id at from to
+IsPlaceOfSection bytes id _ = ⊥
+
+-- the body of this number begins there
+abbrev pub IsPlaceOfFunction : List ℕ → ℕ → Place → Type 0
+IsPlaceOfFunction bytes body (place.Function number at) = (from : ℕ) × (to : ℕ) × CodeAt bytes body at from to
+IsPlaceOfFunction bytes body _ = ⊥
+
+-- the byte lies in the body of this number, and no more operations stand in front of it there than are decoded
+abbrev pub IsPlaceOfOperation : List ℕ → ℕ → ℕ → Place → Type 0
+IsPlaceOfOperation bytes body operation (place.Operation function number name at) =
+    (begin : ℕ) × (from : ℕ) × (to : ℕ) × CodeAt bytes body begin from to × (from ≤ at) × (at < to) × (number ≤ operation)
+IsPlaceOfOperation bytes body operation _ = ⊥
+
+-- the byte lies behind the id of a section, or in a body
+abbrev pub IsPartWith : List ℕ → ℕ → Part → Type 0
+IsPartWith bytes byte (part.Section id) =
+    (before : List Section) × (at : ℕ) × (from : ℕ) × (to : ℕ) × SectionAt bytes before id at from to × (at < byte) × (byte < to)
+IsPartWith bytes byte (part.Function function) =
+    (before : List Section) × (code : ℕ) × (held : ℕ) × (end : ℕ) × SectionAt bytes before 10 code held end
+    × (number : ℕ) × (at : ℕ) × (from : ℕ) × (to : ℕ) × BodyAt bytes held number at from to × (at ≤ byte) × (byte < to)
+
+-- the import of this number and with these two names
+abbrev pub IsPlaceOfImport : ℕ → List ℕ → List ℕ → Place → Type 0
+IsPlaceOfImport number module_name name (place.Import told from what) = (told ≡ number) × (string_bytes from ≡ module_name) × (string_bytes what ≡ name)
+IsPlaceOfImport number module_name name _ = ⊥
+
+-- the export with this name
+abbrev pub IsPlaceOfExport : List ℕ → Place → Type 0
+IsPlaceOfExport name (place.Export what) = string_bytes what ≡ name
+IsPlaceOfExport name _ = ⊥
+
+-- what a custom section with the name "name" holds (WebAssembly Core 1.0, appendix, custom sections)
+abbrev pub name_section : Language
+name_section = counted (0x6e ∷ 0x61 ∷ 0x6d ∷ 0x65 ∷ []) ⨾ anything
+
+-- in such a section this name stands behind the function's number
+abbrev pub GivesName : List ℕ → ℕ → List ℕ → Type 0
+GivesName bytes function name =
+    (before : List Section) × (at : ℕ) × (from : ℕ) × (to : ℕ) × SectionAt bytes before 0 at from to
+    × name_section (slice_range bytes from to) × Somewhere (u32 function ⨾ counted name) (slice_range bytes from to)

@@ -1,0 +1,3 @@
+mod NoHostNames
+mod Refused
+mod Written

@@ -1,0 +1,47 @@
+-- What the host that refuses every import, and a module's start function, bring to a call.
+use Rattle.std.proofs.Common.{◌≡◌, ℕ, List, [], ◌∷◌, Some, None, refl}
+use Rattle.syntax.specs.declared.contents.FuncType.{FuncType}
+use Rattle.validate.specs.Typing.{HasFunctionType, type_of_function}
+use Rattle.events.specs.declared.ended.Ended.{Ended}
+use Rattle.reduction.specs.Invoking.{ReturnsTyped}
+use Rattle.reduction.specs.Leading.{Leads, calling, scene}
+use Rattle.std.specs.Prelude.{◌≤◌}
+use Rattle.syntax.specs.declared.contents.Contents.{Contents}
+use Rattle.syntax.specs.declared.types.Value.{Value}
+use Rattle.validate.specs.Valid.{ValidModule}
+use Rattle.reduction.specs.Run.{HostCall}
+use Rattle.reduction.specs.Hosting.{Lawful}
+use Rattle.reduction.specs.Invoking.{TakesArguments}
+use Rattle.resident.specs.NoHost.{Refuses}
+use Rattle.resident.specs.Calls.{AllRefused, Kept, Calls, Runs}
+
+pub start_takes_nothing : (m : Contents) (function : ℕ) → ValidModule m → m.start ≡ Some function → TakesArguments m function []
+start_takes_nothing m function valid is = record {
+  type = record { params = []; results = [] };
+  known = rw is at valid.start;
+  fit = refl;
+}
+
+pub all_refused : {H : Type 0} (trace : List HostCall) (old new : H) → Lawful (λ (a : H) (call : HostCall) (b : H). Refuses call × (b ≡ a)) trace old new → AllRefused trace
+all_refused [] old new lawful = tt
+all_refused (call ∷ trace) old new (mid, moved, lawful) = (moved.0, all_refused trace mid new lawful)
+
+pub untyped : (m : Contents) (function : ℕ) (type : FuncType) → type_of_function m function ≡ None → HasFunctionType m function type → ⊥
+untyped m function type none has =
+    let some : type_of_function m function ≡ Some type = rw has.1 has.2 in
+    absurd (cc)
+
+-- a host that has no state but its module, and answers -1
+module _ {H : Type 0} where
+  abbrev refuses : H → HostCall → H → Type 0
+  refuses a call b = Refuses call × (b ≡ a)
+
+  pub called : (a : Kept) (depth fuel function : ℕ) (args : List Value) (old new : H) (ended : Ended) (b : Kept)
+      → b.loaded ≡ a.loaded → Leads refuses (calling a.loaded.contents function args fuel depth) (scene a.store old) ended b.stop (scene b.store new)
+      → ended.used ≤ fuel → ReturnsTyped a.loaded.contents function ended.ending → Calls a depth fuel function args ended b
+  called a depth fuel function args old new ended b same led within typed = record {
+    same = same;
+    runs = record { asked = led.asked; refused = all_refused led.asked old new led.answered; ran = led.ran; stopped = led.stopped };
+    within = within;
+    typed = typed;
+  }

@@ -1,0 +1,38 @@
+// The function of a module that is exported under a name.
+
+ghost use Rattle.std.specs.Prelude.{IfSome, MatchOption};
+ghost use Rattle.syntax.specs.Exporting.{IsFirst};
+ghost use Rattle.validate.specs.Typing.{HasFunctionType};
+ghost use Rattle.resident.specs.Calls.{ExportsFirst, ExportsNoFunction};
+
+use syntax::contents::{ExternKind, FuncType};
+use syntax::export::Export;
+use syntax::module::Module;
+use validate::{Valid, type_of_function};
+
+/// The first export with this name.
+fn export(module: &Module, name: &[u8]) -> Option<Export>
+    ensures { IsFirst «module».now.contents.exports name.now result }
+{
+    let export = module.contents().exports.get(module.export_place(name)?)?;
+    Some(Export {
+        kind: export.kind,
+        index: export.index,
+    })
+}
+
+/// The function that is exported under a name, with its type, where there is one.
+#[tactic(auto, using(crate::proofs::Refused::untyped))]
+pub fn exported_function<'a>(valid: &'a Valid, name: &[u8]) -> Option<(u32, &'a FuncType)>
+    ensures named { MatchOption result (ExportsNoFunction valid.now.contents name.now) (λ found. ExportsFirst valid.now.contents name.now found.0) }
+    ensures typed { IfSome result (λ found. HasFunctionType valid.now.contents found.0 found.1.now) }
+{
+    let export = export(valid.module(), name)?;
+    match export.kind {
+        ExternKind::Func => {
+            let func_type = type_of_function(valid.contents(), export.index)?;
+            Some((export.index, func_type))
+        }
+        _ => None,
+    }
+}

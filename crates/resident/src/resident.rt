@@ -1,0 +1,165 @@
+// An instance of a module that is kept from call to call.
+
+ghost use Rattle.std.specs.Prelude.{◌≡◌, ◌≤◌, ◌↔◌, length, true, false, Some, None, IfOk, IfSome, IsTrue, MatchOption};
+ghost use Rattle.std.specs.Arc.{arc_value};
+ghost use Rattle.limits.specs.declared.TheConstants.{MAX_DEPTH};
+ghost use Rattle.validate.specs.Typing.{HasFunctionType};
+ghost use Rattle.instance.specs.Store.{bytes_at, memory_of, with_memory_instance};
+ghost use Rattle.instance.specs.Reads.{WritesAt};
+ghost use Rattle.instance.specs.Fresh.{IsFresh};
+ghost use Rattle.instance.specs.Storing.{IsStoreOf};
+ghost use Rattle.reduction.specs.Invoking.{TakesArguments};
+ghost use Rattle.resident.specs.Calls.{Calls, IsNew, Starts, ExportsFirst, ExportsNoFunction};
+
+use crate::exported::exported_function;
+use crate::no_host::NoHost;
+use events::ended::{Ended, Ending};
+use events::values::Values;
+use imports::Linked;
+use instance::fault::InstFault;
+use instance::stack::{Stack, Stop};
+use instance::state::{Instance, State};
+use interp::invoke::invoke_on;
+use std::alloc::{AllocError, Global};
+use std::marker::Model;
+use std::sync::Arc;
+use syntax::contents::FuncType;
+use syntax::types::Value;
+
+/// An instance of a module that is kept from call to call, with its module. Every import answers -1.
+pub struct Resident {
+    linked: Arc<Linked, Global>,
+    state: State,
+    stack: Stack,
+}
+
+impl Drop for Resident {
+    fn drop(self) {
+        let Resident {
+            linked: _,
+            state: _,
+            stack: _,
+        } = self;
+    }
+}
+
+impl Model for Resident {
+    ghost use Rattle.std.specs.Coded.{codes};
+    ghost use Rattle.std.specs.Arc.{arc_value};
+    ghost use Rattle.syntax.specs.Loaded.{loaded_coded};
+    ghost use Rattle.instance.specs.Storing.{IsStoreOf};
+    ghost use Rattle.resident.specs.Calls.{Kept};
+
+    ghost Value = { Kept };
+
+    ghost coded = { Prim.hlevel (codes, loaded_coded) };
+
+    ghost view = { λ r. record { loaded = arc_value r.linked; store = r.state; stop = r.stack } };
+
+    ghost invariant = { λ r. IsStoreOf (arc_value r.linked).contents r.state };
+}
+
+/// A new instance.
+fn new_instance(alloc: Global, linked: &Linked) -> Result<Instance, AllocError>
+    ensures fresh { IfOk result (λ i. IsFresh linked.now.contents i.state) }
+    ensures store { IfOk result (λ i. IsStoreOf linked.now.contents i.state) }
+    ensures stop { IfOk result (λ i. i.stack ≡ None) }
+{
+    match Instance::new(alloc, linked.valid()) {
+        Ok(instance) => Ok(instance),
+        Err(InstFault::Memory) => Err(AllocError),
+        Err(_) => unreachable!(),
+    }
+}
+
+impl Resident {
+    /// A new instance of a module, before its start function. All memory that it ever takes is taken here.
+    pub fn new(alloc: Global, linked: Arc<Linked, Global>) -> Result<Resident, AllocError>
+        ensures { IfOk result (IsNew (arc_value linked)) }
+    {
+        let (state, stack) = new_instance(alloc, &linked)?.into_parts();
+        Ok(Resident {
+            linked,
+            state,
+            stack,
+        })
+    }
+
+    /// The function that is exported under a name, with its type, where there is one.
+    pub fn function(&self, name: &[u8]) -> Option<(u32, &FuncType)>
+        ensures named { MatchOption result (ExportsNoFunction self.now.loaded.contents name.now) (λ found. ExportsFirst self.now.loaded.contents name.now found.0) }
+        ensures typed { IfSome result (λ found. HasFunctionType self.now.loaded.contents found.0 found.1.now) }
+    {
+        exported_function(self.linked.valid(), name)
+    }
+
+    /// Calls a function with these arguments and so much fuel, while at most so many calls stand open. However it ends, the instance
+    /// stays as it is then, and may be called again.
+    pub fn call(&mut self, function: u32, args: &[Value], fuel: u64, depth: u32) -> Ended
+        requires typed { TakesArguments self.old.loaded.contents function args.now }
+        requires depth { (1 ≤ depth) × (depth ≤ MAX_DEPTH) }
+        ensures { Calls self.old depth fuel function args.now result self.new }
+    {
+        let valid = self.linked.valid();
+        let mut host = NoHost::new(valid);
+        invoke_on(
+            valid,
+            &mut self.state,
+            &mut self.stack,
+            &mut host,
+            function,
+            args,
+            fuel,
+            depth,
+        )
+    }
+
+    /// Runs the start function, where there is one.
+    pub fn start(&mut self, fuel: u64, depth: u32) -> Ended
+        requires { (1 ≤ depth) × (depth ≤ MAX_DEPTH) }
+        ensures { Starts self.old depth fuel result self.new }
+    {
+        match self.linked.valid().contents().start {
+            Some(function) => self.call(function, &[], fuel, depth),
+            None => Ended {
+                ending: Ending::Return(Values::empty()),
+                used: 0,
+            },
+        }
+    }
+
+    /// How many bytes the memory has.
+    pub fn size(&self) -> usize
+        ensures { result ≡ length self.now.store.memory }
+    {
+        self.state.memory().len()
+    }
+
+    /// Copies the bytes of the memory from an address on, as many as there is room for. False, and nothing is copied, where they are
+    /// not all there.
+    pub fn read(&mut self, at: usize, into: &mut [u8]) -> bool
+        ensures kept { self.new ≡ self.old }
+        ensures found { result ≡ true → bytes_at at (length into.old) self.old.store.memory ≡ Some into.new }
+        ensures missing { result ≡ false → bytes_at at (length into.old) self.old.store.memory ≡ None }
+        ensures same { result ≡ false → into.new ≡ into.old }
+    {
+        self.state.memory().read_into(at, into)
+    }
+
+    /// Writes bytes to the memory from an address on. False, and nothing is changed, where they don't all fit.
+    pub fn write(&mut self, at: usize, bytes: &[u8]) -> bool
+        ensures wrote { WritesAt at bytes.now result (memory_of self.old.store) (memory_of self.new.store) }
+        ensures rest { self.new.store ≡ with_memory_instance (memory_of self.new.store) self.old.store }
+        ensures module { self.new.loaded ≡ self.old.loaded }
+        ensures stop { self.new.stop ≡ self.old.stop }
+    {
+        self.state.memory_mut().write(at, bytes)
+    }
+
+    /// Where the last call stopped, if it was over but by return.
+    pub fn last_stop(&self) -> Option<Stop<'_>>
+        ensures { result ≡ self.now.stop }
+    {
+        self.stack.last_stop()
+    }
+}

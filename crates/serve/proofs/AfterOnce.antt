@@ -1,0 +1,53 @@
+-- The after-work callbacks of a loop that was served.
+use Rattle.std.proofs.Common.{◌≡◌, ℕ, List, [], ◌∷◌, ◌++◌, refl, subst}
+use Rattle.std.proofs.Math.Logic.{∥∥₁_map}
+use Rattle.phases.specs.History.{Event, EventStep, History}
+use Rattle.phases.specs.Laws.{IsAfterOnce, IsAfterOwn, IsAfterLast}
+use Rattle.phases.specs.State.{Setting, Loop}
+use Rattle.pool.specs.declared.seats.Seats.{Seats}
+use Rattle.serve.specs.declared.served.LoopEnding.{LoopEnding}
+use Rattle.serve.specs.declared.served.Served.{Served}
+use Rattle.serve.specs.AfterOnce.{EndsAfterOnce}
+use Rattle.serve.specs.Answers.{IsServed}
+use Rattle.serve.specs.Histories.{HasEnded, ThreadHistory, thread_calls}
+
+module _ (g : Setting) where
+  history_of : (events : List Event) (old now : Loop Seats) → ThreadHistory thread_calls g old events now → History thread_calls g old events now
+  history_of [] old now h = h
+  history_of (e ∷ events) old now h = (h.0, h.1, history_of events h.0 now h.3)
+
+  -- a history up to one of its events
+  pub record IsLed (start : Loop Seats) (before : List Event) (e : Event) : Type 0 where
+    pub old : Loop Seats
+    pub new : Loop Seats
+    pub led : ThreadHistory thread_calls g start before old
+    pub step : EventStep thread_calls g e old new
+
+  led_to : (before behind : List Event) (e : Event) (start now : Loop Seats) → ThreadHistory thread_calls g start (before ++ e ∷ behind) now → IsLed start before e
+  led_to [] behind e start now h = record { old = start; new = h.0; led = refl; step = h.1 }
+  led_to (x ∷ before) behind e start now h =
+      let rest = led_to before behind e h.0 now h.3 in
+      record { old = rest.old; new = rest.new; led = (h.0, h.1, h.2, rest.led); step = rest.step }
+
+module _ (once : IsAfterOnce thread_calls) (own : IsAfterOwn thread_calls) (last : IsAfterLast thread_calls) where
+  ends_once : (g : Setting) (how : LoopEnding) (emits : List ℕ) → HasEnded thread_calls g how emits → EndsAfterOnce g how emits
+  ends_once g how emits h =
+      let done = h.done in
+      record {
+        ended = h;
+        once = once g done.start h.now done.events done.opens (history_of g done.events done.start h.now done.history);
+        own = λ request before behind did out made is after.
+            let it = led_to g before behind _ done.start h.now (subst (λ events. ThreadHistory thread_calls g done.start events h.now) is done.history) in
+            record {
+              old = it.old;
+              new = it.new;
+              led = it.led;
+              own = own g done.start it.old it.new before did out made done.opens (history_of g before done.start it.old it.led) it.step request after;
+            };
+        last = λ request before behind e is after.
+            last g done.start h.now before behind e done.opens
+            (history_of g (before ++ e ∷ behind) done.start h.now (subst (λ events. ThreadHistory thread_calls g done.start events h.now) is done.history)) request after;
+      }
+
+  pub served_once : (g : Setting) (served : Served) → IsServed g served → ∥ EndsAfterOnce g served.ending served.emits.items ∥₁
+  served_once g served h = ∥∥₁_map h.ended (ends_once g served.ending served.emits.items)

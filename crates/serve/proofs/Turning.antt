@@ -1,0 +1,398 @@
+-- What the steps of a turn that runs no callback leave: each active async is taken from, and at its end no own send waits.
+use Rattle.std.proofs.Common.{◌≡◌, ◌≢◌, ◌⊎◌, inl, inr, ℕ, suc, zero, ◌+◌, ◌-◌, ◌<◌, ◌==◌, ◌&&◌, Bool, true, false, cond, not, List, [], ◌∷◌, ◌++◌, map, Option, Some, None}
+use Rattle.std.proofs.Common.{refl, sym, ap, subst, ◌∙◌, arith, slice_get, MatchBool, MatchOption}
+use Rattle.std.specs.Prelude.{slice_index, slice_set, filter, nat_le, option_map}
+use Rattle.std.proofs.lemmas.List.{get_or-set_other}
+use native.Mathlib.Decide.{ℕ_discrete}
+use Rattle.limits.specs.declared.TheConstants.{MAX_CALLBACKS}
+use Rattle.syntax.specs.declared.contents.Contents.{Contents}
+use Rattle.syntax.specs.declared.types.Value.{Value}
+use Rattle.syntax.specs.declared.types.Value.TheVariants.{I32}
+use Rattle.handles.specs.declared.handle.Kind.TheVariants as handle_kind
+use Rattle.handles.specs.declared.sorted.Place.{Place}
+use Rattle.handles.specs.Table.{Table, after_again, in_order, due_list, nearest_due, entry as place_entry}
+use Rattle.events.specs.declared.did.Hint.{Hint}
+use Rattle.events.specs.declared.did.Hint.TheVariants.{Now, For, Forever}
+use Rattle.events.specs.declared.did.StepDid.{StepDid}
+use Rattle.events.specs.declared.did.StepDid.TheVariants.{Entered, Ran, Skipped}
+use Rattle.events.specs.declared.did.StepDid.TheVariants as step
+use Rattle.events.specs.declared.ended.Ended.{Ended}
+use Rattle.events.specs.declared.ended.BareEnded.{BareEnded}
+use Rattle.events.specs.declared.phase.EntryKind.{EntryKind}
+use Rattle.events.specs.declared.phase.EntryKind.TheVariants as kind
+use Rattle.events.specs.declared.phase.Phase.{Phase}
+use Rattle.events.specs.declared.phase.Phase.TheVariants.{Begin, Timers, Idle, Poll, Check, Closing}
+use Rattle.events.specs.Phases.{may_end, next_phase}
+use Rattle.phases.specs.Bare.{whole}
+use Rattle.phases.specs.Calls.{Calls, IsLawful}
+use Rattle.phases.specs.Guests.{GuestCall}
+use Rattle.phases.specs.Host.{with_roster, with_requests}
+use Rattle.phases.specs.Outside.{next_in, next_order_of, after_clock}
+use Rattle.phases.specs.PhaseList.{is_active_handle, active_from, active_asyncs, poll_list, timers_list, phase_list, handle_entry, until_due, hint_of, is_alive}
+use Rattle.phases.specs.Requests.{Request, Completion, request_of, without_request, completion_of, settled}
+use Rattle.phases.specs.Roster.{Roster, in_table, async_handle, with_handles, without_handle, opening_roster}
+use Rattle.phases.specs.State.{Setting, State, Loop, opening}
+use Rattle.phases.specs.Step.{LoopStep, StepIn, ListStep, EntryStep, NextPhase, CallsBack, CallsHandle, RunsFrom, Skips, TakesFirst, AfterWork}
+use Rattle.phases.specs.Step.{in_state, sharing, in_phase, entered, now_in, turn, is_as_listed, handle_function}
+use Rattle.phases.specs.View.{View}
+use Rattle.phases.specs.declared.did.BareDid.{BareDid}
+use Rattle.phases.specs.declared.did.BareDid.TheVariants as bare
+use Rattle.phases.specs.declared.entry.Entry.{Entry}
+use Rattle.phases.specs.declared.entry.Entry.TheVariants as entry
+use Rattle.phases.specs.declared.entry.Status.{Status}
+use Rattle.phases.specs.declared.entry.Status.TheVariants.{Running, Over, Failed}
+use Rattle.pool.specs.declared.seats.Seats.{Seats}
+use Rattle.pool.specs.SeatsLaw.{seats_lawful}
+use Rattle.serve.specs.Histories.{IsActiveAsync, IsDrained, IsWaiting, thread_calls}
+use Rattle.serve.specs.Inner.Turns.{enters_timers, runs, IsAtTurn, IsListed, IsToCome, Drains, GoesOn}
+use Rattle.serve.proofs.SentAlone.{emptied}
+
+-- a step that tells no callback
+abbrev pub IsQuiet : StepDid → Type 0
+IsQuiet d = (kind : EntryKind) (number : ℕ) (ended : Ended) → d ≢ Ran kind number ended
+
+-- the asyncs that are listed behind others
+listed_behind : (async_no : ℕ) (xs ys : List Entry) → IsListed async_no ys → IsListed async_no (xs ++ ys)
+listed_behind async_no [] ys h = h
+listed_behind async_no (x ∷ xs) ys h = inr (listed_behind async_no xs ys h)
+
+-- each active async stands in the list of the poll phase
+listed_here : (b : Bool) (n : ℕ) (ys : List ℕ) → b ≡ true → IsListed n (map (λ a. entry.Async a) (cond b (n ∷ []) [] ++ ys))
+listed_here true n ys is = inl refl
+listed_here false n ys is = absurd (cc)
+
+listed_later : (b : Bool) (n m : ℕ) (ys : List ℕ) → IsListed m (map (λ a. entry.Async a) ys) → IsListed m (map (λ a. entry.Async a) (cond b (n ∷ []) [] ++ ys))
+listed_later true n m ys h = inr h
+listed_later false n m ys h = h
+
+active_listed : (t : Table) (n k : ℕ) (xs : List (Option ℕ)) → is_active_handle t (in_table (slice_get xs k)) ≡ true → IsListed (n + k) (map (λ a. entry.Async a) (active_from t n xs))
+active_listed t n k [] h = absurd (cc)
+active_listed t n zero (x ∷ xs) h =
+    let same : n ≡ n + 0 = omega arith in
+    subst (λ m. IsListed m (map (λ a. entry.Async a) (active_from t n (x ∷ xs)))) same (listed_here (is_active_handle t x) n (active_from t (n + 1) xs) h)
+active_listed t n (suc k) (x ∷ xs) h =
+    let same : n + 1 + k ≡ n + suc k = omega arith in
+    listed_later (is_active_handle t x) n (n + suc k) (active_from t (n + 1) xs)
+    (subst (λ m. IsListed m (map (λ a. entry.Async a) (active_from t (n + 1) xs))) same (active_listed t (n + 1) k xs h))
+
+polled : (s : State) (async_no : ℕ) → IsActiveAsync s async_no → IsListed async_no (poll_list s)
+polled s async_no h =
+    let same : 0 + async_no ≡ async_no = omega arith in
+    listed_behind async_no (map (λ r. entry.After r.order.request) (settled s.requests)) (map (λ a. entry.Async a) (active_asyncs s.roster))
+    (subst (λ n. IsListed n (map (λ a. entry.Async a) (active_asyncs s.roster))) same (active_listed s.roster.handles 0 async_no s.roster.asyncs h))
+
+module _ {S : Type 0} (calls : Calls S) (lawful : IsLawful calls) (g : Setting) where
+  abbrev untaken : Loop S → ℕ → ℕ
+  untaken l async_no = slice_index (calls.view l.shared).untaken async_no
+
+  -- An entry that is skipped leaves the loop, but that an active async is taken from.
+  pub record IsPassed (old : Loop S) (e : Entry) (new : Loop S) : Type 0 where
+    pub state : new.state ≡ old.state
+    pub here : (a : ℕ) → e ≡ entry.Async a → IsActiveAsync old.state a → untaken new a ≡ 0
+    pub still : (a : ℕ) → untaken old a ≡ 0 → untaken new a ≡ 0
+
+  -- An entry runs a callback, or is skipped.
+  abbrev Goes : (old : Loop S) (e : Entry) (did : StepDid) (new : Loop S) → Type 0
+  Goes old e did new = ((k : EntryKind) × (number : ℕ) × (ended : Ended) × (did ≡ Ran k number ended)) ⊎ (((k : EntryKind) × (number : ℕ) × (did ≡ Skipped k number)) × IsPassed old e new)
+
+  module _ (did : StepDid) (made : List GuestCall) (new : Loop S) where
+    runs_so : (old at : Loop S) (e : Entry) (k : EntryKind) (number f : ℕ) (args : List Value) (reply : Option (List ℕ)) → RunsFrom calls g at k number f args reply did made new → Goes old e did new
+    runs_so old at e k number f args reply h = inl (k, number, h.ended, h.told)
+
+    calls_so : (old at : Loop S) (e : Entry) (k : EntryKind) (number : ℕ) (f : Option ℕ) (args : List Value) → CallsBack calls g at k number f args did made new → Goes old e did new
+    calls_so old at e k number None args h = absurd h
+    calls_so old at e k number (Some f) args h = runs_so old at e k number f args None h
+
+    -- one that is no async's
+    plain : (old : Loop S) (e : Entry) (k : EntryKind) (number : ℕ) → ((a : ℕ) → e ≡ entry.Async a → ⊥) → Skips calls g old k number did made new → Goes old e did new
+    plain old e k number other h = inr (
+      (k, number, h.0),
+      record {
+        state = ap (λ (l : Loop S). l.state) h.1;
+        here = λ a is active. absurd (other a is);
+        still = λ a none. ap (λ (l : Loop S). untaken l a) h.1 ∙ none;
+      },
+    )
+
+    listed_so : (old fired : Loop S) (r : Roster) (e : Entry) (b : Bool) (k : EntryKind) (handle : ℕ) → ((a : ℕ) → e ≡ entry.Async a → ⊥)
+        → MatchBool b (CallsHandle calls g fired r k handle did made new) (Skips calls g old k handle did made new) → Goes old e did new
+    listed_so old fired r e true k handle other h = calls_so old fired e k handle (handle_function r handle) (I32 handle ∷ []) h
+    listed_so old fired r e false k handle other h = plain old e k handle other h
+
+    -- what waits at an async is taken
+    counted_so : (old : Loop S) (async_no handle count : ℕ) (shared : S) (b : Bool) → calls.takes old.shared async_no count shared
+        → MatchBool b (Skips calls g (sharing old shared) kind.Async handle did made new) (CallsHandle calls g (sharing old shared) old.state.roster kind.Async handle did made new)
+        → Goes old (entry.Async async_no) did new
+    counted_so old async_no handle count shared false took h = calls_so old (sharing old shared) (entry.Async async_no) kind.Async handle (handle_function old.state.roster handle) (I32 handle ∷ []) h
+    counted_so old async_no handle count shared true took h = inr (
+      (kind.Async, handle, h.0),
+      record {
+        state = ap (λ (l : Loop S). l.state) h.1;
+        here = λ a is active. all a ∙ (let same : a ≡ async_no = cc in subst (λ m. slice_index (slice_set (calls.view old.shared).untaken async_no 0) m ≡ 0) (sym same) (emptied (calls.view old.shared).untaken async_no));
+        still = λ a none. all a ∙ kept a none;
+      },
+    ) where
+      all : (a : ℕ) → untaken new a ≡ slice_index (slice_set (calls.view old.shared).untaken async_no 0) a
+      all a = ap (λ (l : Loop S). untaken l a) h.1 ∙ ap (λ (v : View). slice_index v.untaken a) (lawful.takes old.shared shared async_no count took).0
+
+      kept : (a : ℕ) → untaken old a ≡ 0 → slice_index (slice_set (calls.view old.shared).untaken async_no 0) a ≡ 0
+      kept a none = elim (ℕ_discrete a async_no) [
+        | yes same ↦ subst (λ m. slice_index (slice_set (calls.view old.shared).untaken async_no 0) m ≡ 0) (sym same) (emptied (calls.view old.shared).untaken async_no)
+        | no other ↦ get_or-set_other (calls.view old.shared).untaken async_no a 0 0 other ∙ none
+      ]
+
+    taking_so : (old : Loop S) (async_no handle : ℕ) (b : Bool) → async_handle old.state.roster async_no ≡ Some handle → is_active_handle old.state.roster.handles (Some handle) ≡ b
+        → MatchBool b (TakesFirst calls g old async_no handle did made new) (Skips calls g old kind.Async handle did made new) → Goes old (entry.Async async_no) did new
+    taking_so old async_no handle true is active h = counted_so old async_no handle h.0 h.1 (h.0 == 0) h.2 h.3
+    taking_so old async_no handle false is active h = inr (
+      (kind.Async, handle, h.0),
+      record {
+        state = ap (λ (l : Loop S). l.state) h.1;
+        here = λ a same on.
+            let one : a ≡ async_no = cc in
+            let off : is_active_handle old.state.roster.handles (async_handle old.state.roster a) ≡ false = ap (λ m. is_active_handle old.state.roster.handles (async_handle old.state.roster m)) one ∙ ap (is_active_handle old.state.roster.handles) is ∙ active in
+            absurd (cc);
+        still = λ a none. ap (λ (l : Loop S). untaken l a) h.1 ∙ none;
+      },
+    )
+
+    async_so : (old : Loop S) (async_no : ℕ) (handle : Option ℕ) → async_handle old.state.roster async_no ≡ handle
+        → MatchOption handle ⊥ (λ handle. MatchBool (is_active_handle old.state.roster.handles (Some handle)) (TakesFirst calls g old async_no handle did made new)
+        (Skips calls g old kind.Async handle did made new)) → Goes old (entry.Async async_no) did new
+    async_so old async_no None is h = absurd h
+    async_so old async_no (Some handle) is h = taking_so old async_no handle (is_active_handle old.state.roster.handles (Some handle)) is refl h
+
+    work_so : (old : Loop S) (e : Entry) (number : ℕ) (completion : Option Completion) → AfterWork calls g old number completion did made new → Goes old e did new
+    work_so old e number None h = absurd h
+    work_so old e number (Some told) h =
+        runs_so old (in_state old (with_requests old.state (without_request old.state.requests number))) e kind.After number h.0
+        (I32 number ∷ I32 told.kind ∷ I32 told.code ∷ []) (Some told.bytes) h.2
+
+    after_so : (old : Loop S) (e : Entry) (number : ℕ) (request : Option Request) → MatchOption request ⊥ (λ r. AfterWork calls g old number (completion_of r.stage) did made new) → Goes old e did new
+    after_so old e number None h = absurd h
+    after_so old e number (Some r) h = work_so old e number (completion_of r.stage) h
+
+    entry_so : (old : Loop S) (e : Entry) → EntryStep calls g old e did made new → Goes old e did new
+    entry_so old entry.Start h = calls_so old old entry.Start kind.Start 0 g.loaded.contents.start [] h
+    entry_so old entry.Main h = runs_so old old entry.Main kind.Main 0 h.0 [] None h.2
+    entry_so old (entry.Timer handle start) h =
+        listed_so old (in_state old (with_roster old.state (with_handles old.state.roster (after_again old.state.roster.handles handle old.state.now)))) old.state.roster
+        (entry.Timer handle start) (is_as_listed handle_kind.Timer old.state.roster handle start) kind.Timer handle (λ a is. absurd (cc)) h
+    entry_so old (entry.Idle handle start) h =
+        listed_so old old old.state.roster (entry.Idle handle start) (is_as_listed handle_kind.Idle old.state.roster handle start) kind.Idle handle (λ a is. absurd (cc)) h
+    entry_so old (entry.Check handle start) h =
+        listed_so old old old.state.roster (entry.Check handle start) (is_as_listed handle_kind.Check old.state.roster handle start) kind.Check handle (λ a is. absurd (cc)) h
+    entry_so old (entry.After number) h = after_so old (entry.After number) number (request_of old.state.requests number) h
+    entry_so old (entry.Async async_no) h = async_so old async_no (async_handle old.state.roster async_no) refl h
+    entry_so old (entry.Close handle) h =
+        calls_so old (in_state old (with_roster old.state (without_handle old.state.roster handle))) (entry.Close handle) kind.Close handle
+        (handle_function old.state.roster handle) (I32 handle ∷ []) h
+
+  -- an entry that is skipped, of this phase and this list
+  comes_yet : (old new : Loop S) (e : Entry) (rest : List Entry) (a : ℕ) (p : Phase) → IsPassed (in_state old (record old.state { list = rest })) e new → IsActiveAsync old.state a
+      → IsToCome p (e ∷ rest) a → IsToCome p rest a ⊎ (untaken new a ≡ 0)
+  comes_yet old new e rest a Timers it active h = inl tt
+  comes_yet old new e rest a Idle it active h = inl tt
+  comes_yet old new e rest a Poll it active (inl is) = inr (it.here a is active)
+  comes_yet old new e rest a Poll it active (inr more) = inl more
+  comes_yet old new e rest a Begin it active h = absurd h
+  comes_yet old new e rest a Check it active h = absurd h
+  comes_yet old new e rest a Closing it active h = absurd h
+
+  passed_drains : (old new : Loop S) (e : Entry) (rest : List Entry) → old.state.list ≡ e ∷ rest → IsPassed (in_state old (record old.state { list = rest })) e new → Drains calls old → Drains calls new
+  passed_drains old new e rest is it drains a active =
+      let there : IsActiveAsync old.state a = subst (λ (s : State). IsActiveAsync s a) it.state active in
+      elim (drains a there) [
+        | inl come ↦ moved (comes_yet old new e rest a old.state.phase it there (subst (λ list. IsToCome old.state.phase list a) is come))
+        | inr none ↦ inr (it.still a none)
+      ]
+    where
+      moved : IsToCome old.state.phase rest a ⊎ (untaken new a ≡ 0) → IsToCome new.state.phase new.state.list a ⊎ (untaken new a ≡ 0)
+      moved (inl h) = inl (subst (λ (s : State). IsToCome s.phase s.list a) (sym it.state) h)
+      moved (inr h) = inr h
+
+  -- a phase whose list is used up
+  enters : (s : State) (p : Phase) (a : ℕ) (none : Type 0) → IsActiveAsync s a → IsToCome p [] a ⊎ none → IsToCome (next_phase p) (phase_list (in_phase s (next_phase p)) (next_phase p)) a ⊎ none
+  enters s Begin a none active h = inl tt
+  enters s Closing a none active h = inl tt
+  enters s Timers a none active h = inl tt
+  enters s Idle a none active h = inl (polled (in_phase s Poll) a active)
+  enters s Poll a none active (inl h) = absurd h
+  enters s Poll a none active (inr h) = inr h
+  enters s Check a none active (inl h) = absurd h
+  enters s Check a none active (inr h) = inr h
+
+  -- before the timers phase all is taken
+  ends_drained : (p : Phase) (a : ℕ) (none : Type 0) → next_phase p ≡ Timers → IsToCome p [] a ⊎ none → none
+  ends_drained Begin a none is (inl h) = absurd h
+  ends_drained Begin a none is (inr h) = h
+  ends_drained Closing a none is (inl h) = absurd h
+  ends_drained Closing a none is (inr h) = h
+  ends_drained Timers a none is h = absurd (cc)
+  ends_drained Idle a none is h = absurd (cc)
+  ends_drained Poll a none is h = absurd (cc)
+  ends_drained Check a none is h = absurd (cc)
+
+  -- What a quiet step leaves; and where it enters the timers phase, that, with all taken.
+  pub record IsQuietStep (old : Loop S) (did : StepDid) (new : Loop S) : Type 0 where
+    pub drains : Drains calls old → Drains calls new
+    pub at_turn : (now : ℕ) → did ≡ Entered Timers now → IsAtTurn new.state
+    pub drained : (now : ℕ) → did ≡ Entered Timers now → Drains calls old → IsDrained calls new
+
+  same_step : (old new : Loop S) (did : StepDid) → new ≡ old → ((now : ℕ) → did ≡ Entered Timers now → ⊥) → IsQuietStep old did new
+  same_step old new did same never = record {
+    drains = λ h. subst (Drains calls) (sym same) h;
+    at_turn = λ now is. absurd (never now is);
+    drained = λ now is. absurd (never now is);
+  }
+
+  -- the next phase is entered
+  module _ (old new : Loop S) (empty : old.state.list ≡ []) where
+    entered_step : (did : StepDid) → did ≡ Entered (next_phase old.state.phase) (now_in old.state (next_phase old.state.phase)) → new ≡ in_state old (entered old.state (next_phase old.state.phase)) → IsQuietStep old did new
+    entered_step did told is = record {
+      drains = λ h. subst (Drains calls) (sym is) (λ a active. enters old.state old.state.phase a (untaken old a ≡ 0) active (left h a active));
+      at_turn = λ now said. subst (λ (l : Loop S). IsAtTurn l.state) (sym is) (subst (λ p. IsAtTurn (entered old.state p)) (sym (timers now said)) (refl, refl, refl));
+      drained = λ now said h. subst (IsDrained calls) (sym is) (λ a active. ends_drained old.state.phase a (untaken old a ≡ 0) (timers now said) (left h a active));
+    } where
+      timers : (now : ℕ) → did ≡ Entered Timers now → next_phase old.state.phase ≡ Timers
+      timers now said = (let both = sym told ∙ said in cc)
+
+      left : Drains calls old → (a : ℕ) → IsActiveAsync old.state a → IsToCome old.state.phase [] a ⊎ (untaken old a ≡ 0)
+      left h a active = subst (λ list. IsToCome old.state.phase list a ⊎ (untaken old a ≡ 0)) empty (h a active)
+
+    -- or the loop is over
+    over_step : (did : StepDid) → did ≡ step.Over → new ≡ in_state old (record old.state { status = Over }) → IsQuietStep old did new
+    over_step did told is = record {
+      drains = λ h. subst (Drains calls) (sym is) h;
+      at_turn = λ now said. absurd (let both = sym told ∙ said in cc);
+      drained = λ now said. absurd (let both = sym told ∙ said in cc);
+    }
+
+    turn_step : (b : Bool) (did : StepDid) (turned : StepDid × State)
+        → turned ≡ cond b (step.Over, record old.state { status = Over }) (Entered (next_phase old.state.phase) (now_in old.state (next_phase old.state.phase)), entered old.state (next_phase old.state.phase))
+        → did ≡ turned.0 → new ≡ in_state old turned.1 → IsQuietStep old did new
+    turn_step true did turned is told so = over_step did (told ∙ ap (λ (p : StepDid × State). p.0) is) (so ∙ ap (λ (p : StepDid × State). in_state old p.1) is)
+    turn_step false did turned is told so = entered_step did (told ∙ ap (λ (p : StepDid × State). p.0) is) (so ∙ ap (λ (p : StepDid × State). in_state old p.1) is)
+
+  list_step : (old : Loop S) (list : List Entry) (did : StepDid) (made : List GuestCall) (new : Loop S) → old.state.list ≡ list → IsQuiet did
+      → ListStep calls g old list did made new → IsQuietStep old did new
+  list_step old [] did made new is quiet h = turn_step old new is (may_end old.state.phase && not (is_alive old.state)) did (turn old.state) refl h.0 h.1
+  list_step old (e ∷ rest) did made new is quiet h = elim (entry_so did made new (in_state old (record old.state { list = rest })) e h) [
+    | inl ran ↦ absurd (quiet ran.0 ran.1 ran.2 ran.3)
+    | inr passed ↦ skipped passed
+  ] where
+    skipped : ((k : EntryKind) × (number : ℕ) × (did ≡ Skipped k number)) × IsPassed (in_state old (record old.state { list = rest })) e new → IsQuietStep old did new
+    skipped p =
+        let told = p.0.2 in
+        record {
+          drains = passed_drains old new e rest is p.1;
+          at_turn = λ now said. absurd (let both = sym told ∙ said in cc);
+          drained = λ now said. absurd (let both = sym told ∙ said in cc);
+        }
+
+  status_step : (status : Status) (old : Loop S) (did : StepDid) (made : List GuestCall) (new : Loop S) → IsQuiet did → StepIn calls g status old did made new → IsQuietStep old did new
+  status_step Running old did made new quiet h = list_step old old.state.list did made new refl quiet h
+  status_step Over old did made new quiet h = same_step old new did h.1 (λ now said. let both = sym h.0 ∙ said in cc)
+  status_step Failed old did made new quiet h = same_step old new did h.1 (λ now said. let both = sym h.0 ∙ said in cc)
+
+  pub quiet_step : (old : Loop S) (did : StepDid) (new : Loop S) → IsQuiet did → LoopStep calls g old did new → IsQuietStep old did new
+  quiet_step old did new quiet step = status_step old.state.status old did step.0 new quiet step.1
+
+-- the same, as it is told
+pub turn_told : (d : BareDid) → enters_timers d ≡ true → (now : ℕ) × (whole d ≡ Entered Timers now)
+turn_told (bare.Entered Timers now) is = (now, refl)
+turn_told (bare.Entered Begin now) is = absurd (cc)
+turn_told (bare.Entered Idle now) is = absurd (cc)
+turn_told (bare.Entered Poll now) is = absurd (cc)
+turn_told (bare.Entered Check now) is = absurd (cc)
+turn_told (bare.Entered Closing now) is = absurd (cc)
+turn_told (bare.Ran of at end) is = absurd (cc)
+turn_told (bare.Skipped of other) is = absurd (cc)
+turn_told bare.Over is = absurd (cc)
+turn_told bare.Failed is = absurd (cc)
+
+pub quiet_told : (d : BareDid) → runs d ≡ false → IsQuiet (whole d)
+quiet_told (bare.Ran of at end) not kind number ended is = absurd (cc)
+quiet_told (bare.Entered phase now) not kind number ended is = absurd (cc)
+quiet_told (bare.Skipped of other) not kind number ended is = absurd (cc)
+quiet_told bare.Over not kind number ended is = absurd (cc)
+quiet_told bare.Failed not kind number ended is = absurd (cc)
+
+-- a step that enters the timers phase runs nothing
+pub turn_quiet : (d : BareDid) → enters_timers d ≡ true → runs d ≡ false
+turn_quiet (bare.Ran of at end) is = absurd (cc)
+turn_quiet (bare.Entered phase now) is = refl
+turn_quiet (bare.Skipped of other) is = refl
+turn_quiet bare.Over is = refl
+turn_quiet bare.Failed is = refl
+
+-- where nothing is to do for ever, no timer is due
+none_near : (due : Option ℕ) (now : ℕ) → until_due due now ≡ Forever → due ≡ None
+none_near None now is = refl
+none_near (Some due) now is = by (nat_le due now) is where
+  by : (b : Bool) → cond b Now (For (due - now)) ≡ Forever → Some due ≡ None
+  by true h = absurd (cc)
+  by false h = absurd (cc)
+
+none_first : (xs : List Place) → option_map (λ place. place.due) (slice_get xs 0) ≡ None → xs ≡ []
+none_first [] is = refl
+none_first (x ∷ xs) is = absurd (cc)
+
+forever_near : (s : State) → hint_of s ≡ Forever → nearest_due s.roster.handles ≡ None
+unfolding hint_of
+forever_near s is = by _ is where
+  by : (b : Bool) → cond b Now (until_due (nearest_due s.roster.handles) s.now) ≡ Forever → nearest_due s.roster.handles ≡ None
+  by true h = absurd (cc)
+  by false h = none_near (nearest_due s.roster.handles) s.now h
+
+pub none_due : (s : State) → hint_of s ≡ Forever → timers_list s ≡ []
+none_due s is =
+    ap (λ places. map (handle_entry handle_kind.Timer) (map place_entry (filter (λ place. nat_le place.due s.now) places)))
+    (none_first (in_order handle_kind.Timer s.roster.handles) (forever_near s is))
+
+-- what leaves handles and phase leaves that the loop goes on
+pub goes_still : {S : Type 0} (calls : Calls S) (l m : Loop S) (ran : ℕ) → m.state.roster ≡ l.state.roster → m.state.phase ≡ l.state.phase → GoesOn calls l ran → GoesOn calls m ran
+goes_still calls l m ran roster phase h = (h.0, λ a active. phase ∙ h.1 a (subst (λ (r : Roster). is_active_handle r.handles (async_handle r a) ≡ true) roster active))
+
+pub handed_roster : (status : Status) (s : State) → (next_in status s).1.roster ≡ s.roster
+handed_roster Failed s = refl
+handed_roster Running s = refl
+handed_roster Over s = refl
+
+pub handed_phase : (status : Status) (s : State) → (next_in status s).1.phase ≡ s.phase
+handed_phase Failed s = refl
+handed_phase Running s = refl
+handed_phase Over s = refl
+
+-- a loop that opens goes on
+pub opening_goes : {S : Type 0} (calls : Calls S) (l : Loop S) (m : Contents) (list : List Entry) → l.state ≡ opening (opening_roster m) list → GoesOn calls l 0
+opening_goes calls l m list is = (omega arith, λ a active. absurd (let it = subst (λ (s : State). IsActiveAsync s a) is active in cc))
+
+-- a loop whose turn begins comes to each async yet
+pub drains_first : {S : Type 0} (calls : Calls S) (l : Loop S) (ran : ℕ) → GoesOn calls l ran → Drains calls l
+drains_first calls l ran h a active = inl (subst (λ p. IsToCome p l.state.list a) (sym (h.1 a active)) tt)
+
+-- and goes on where it may run callbacks yet
+pub goes_at_turn : {S : Type 0} (calls : Calls S) (l : Loop S) (ran : ℕ) → ran < MAX_CALLBACKS → IsAtTurn l.state → GoesOn calls l ran
+goes_at_turn calls l ran few at = (few, λ a active. at.1)
+
+-- so does it wait for ever
+pub waits : {S : Type 0} (calls : Calls S) (l : Loop S) → IsAtTurn l.state → l.state.requests.outstanding ≡ [] → hint_of l.state ≡ Forever → IsDrained calls l → IsWaiting calls l
+waits calls l at none forever drained = record { phase = at.1; none_due = at.2 ∙ none_due l.state forever; none_outstanding = none; for_ever = forever; drained = drained }
+
+-- a step of a loop over its seats, as it is told
+module _ (g : Setting) (old : Loop Seats) (d : BareDid) (new : Loop Seats) (step : LoopStep thread_calls g old (whole d) new) where
+  abbrev Quietly : Type 0
+  Quietly = IsQuietStep thread_calls (seats_lawful (λ s. s.loop_seat) (λ s. s.taker)) g old (whole d) new
+
+  quietly : IsQuiet (whole d) → Quietly
+  quietly quiet = quiet_step thread_calls (seats_lawful (λ s. s.loop_seat) (λ s. s.taker)) g old (whole d) new quiet step
+
+  pub step_drains : IsQuiet (whole d) → Drains thread_calls old → Drains thread_calls new
+  step_drains quiet = (quietly quiet).drains
+
+  pub step_at_turn : enters_timers d ≡ true → IsAtTurn new.state
+  step_at_turn is = let told = turn_told d is in (quietly (quiet_told d (turn_quiet d is))).at_turn told.0 told.1
+
+  pub step_drained : enters_timers d ≡ true → Drains thread_calls old → IsDrained thread_calls new
+  step_drained is = let told = turn_told d is in (quietly (quiet_told d (turn_quiet d is))).drained told.0 told.1

@@ -1,0 +1,88 @@
+-- What each call does to the instance that its handle has.
+use Rattle.std.specs.Prelude.{◌≡◌, ◌⊎◌, ℕ, Bool, List, length, Option, Some, None, MatchOption, IsSomeAnd, if◌then◌else◌}
+use Rattle.syntax.specs.Loaded.{Loaded}
+use Rattle.syntax.specs.declared.contents.FuncType.{FuncType}
+use Rattle.syntax.specs.declared.types.Value.{Value}
+use Rattle.validate.specs.Typing.{HasFunctionType}
+use Rattle.instance.specs.Store.{bytes_at, memory_of, with_memory_instance}
+use Rattle.instance.specs.Reads.{WritesAt}
+use Rattle.events.specs.declared.ended.Ended.{Ended}
+use Rattle.resident.specs.Calls.{Kept, Calls, IsNew, Starts, HasReturned, ExportsFirst, ExportsNoFunction}
+use Rattle.wasmloop_c.specs.Calls.{OnHandle}
+use Rattle.wasmloop_c.specs.Values.{values_of, call_numbers}
+use Rattle.wasmloop_c.specs.declared.ended.CallEnded.{CallEnded}
+use Rattle.wasmloop_c.specs.declared.instances.CallLimits.{CallLimits}
+use Rattle.wasmloop_c.specs.declared.status.TheConstants.{OK, NONE, KIND, MEMORY, RANGE, ARGUMENTS}
+use Rattle.wasmloop_c.specs.declared.thing.Thing.{Thing}
+use Rattle.wasmloop_c.specs.declared.thing.Thing.TheVariants as thing
+
+-- the instance that a thing is
+abbrev pub resident_of : Thing → Option Kept
+resident_of (thing.Resident resident) = Some resident.value
+resident_of _ = None
+
+-- a call on what a handle has: where that is no instance it stays, and C is told so, and `Same` holds
+abbrev pub OnResident : (old new : Thing) → (status : ℕ) → (Same : Type 0) → (Does : Kept → Kept → Type 0) → Type 0
+OnResident old new status Same Does =
+    MatchOption (resident_of old) ((status ≡ KIND) × (new ≡ old) × Same) (λ a. IsSomeAnd (resident_of new) (λ b. Does a b))
+
+-- a call on the instance that a handle has
+abbrev pub OnHeldResident : (old new : Option Thing) → (status : ℕ) → (Same : Type 0) → (Does : Kept → Kept → Type 0) → Type 0
+OnHeldResident old new status Same Does = OnHandle old new status Same (λ t u. OnResident t u status Same Does)
+
+-- a new instance whose start function, where there is one, ran so
+pub record Opens (m : Loaded) (limits : CallLimits) (told : CallEnded) (ended : Ended) (b : Kept) : Type 0 where
+  pub before : Kept
+  pub new : IsNew m before
+  pub starts : Starts before limits.depth limits.fuel ended b
+  pub numbers : told ≡ call_numbers ended
+
+-- and returned
+abbrev pub OpensOver : Loaded → CallLimits → CallEnded → Kept → Type 0
+OpensOver m limits told b = (ended : Ended) × Opens m limits told ended b × HasReturned ended.ending
+
+-- or did not return
+abbrev pub OpensNone : Loaded → CallLimits → CallEnded → Type 0
+OpensNone m limits told = (ended : Ended) × (b : Kept) × Opens m limits told ended b × ¬ HasReturned ended.ending
+
+-- the function of this name, which takes these numbers, is called
+pub record CallsNamed (a : Kept) (name numbers : List ℕ) (limits : CallLimits) (ended : Ended) (b : Kept) : Type 0 where
+  pub function : ℕ
+  pub type : FuncType
+  pub args : List Value
+  pub named : ExportsFirst a.loaded.contents name function
+  pub typed : HasFunctionType a.loaded.contents function type
+  pub given : values_of type.params numbers ≡ Some args
+  pub calls : Calls a limits.depth limits.fuel function args ended b
+
+-- the function of this name takes other numbers
+pub record TakesOthers (a : Kept) (name numbers : List ℕ) : Type 0 where
+  pub function : ℕ
+  pub type : FuncType
+  pub named : ExportsFirst a.loaded.contents name function
+  pub typed : HasFunctionType a.loaded.contents function type
+  pub others : values_of type.params numbers ≡ None
+
+-- A call by name. Where it is not made, nothing changes.
+abbrev pub CallsBy : Kept → (name numbers : List ℕ) → CallLimits → (old told : CallEnded) → (status : ℕ) → Kept → Type 0
+CallsBy a name numbers limits old told status b =
+    ((status ≡ OK) × ((ended : Ended) × CallsNamed a name numbers limits ended b × (told ≡ call_numbers ended)))
+    ⊎ ((status ≡ NONE) × ExportsNoFunction a.loaded.contents name × (b ≡ a) × (told ≡ old))
+    ⊎ ((status ≡ ARGUMENTS) × TakesOthers a name numbers × (b ≡ a) × (told ≡ old))
+    ⊎ ((status ≡ MEMORY) × (b ≡ a) × (told ≡ old))
+
+-- bytes of its memory, as many as there is room for, where they are all there
+abbrev pub ReadsMemory : Kept → (at : ℕ) → (old new : List ℕ) → (status : ℕ) → Kept → Type 0
+ReadsMemory a at old new status b =
+    (b ≡ a)
+    × (((status ≡ OK) × (bytes_at at (length old) a.store.memory ≡ Some new))
+    ⊎ ((status ≡ RANGE) × (bytes_at at (length old) a.store.memory ≡ None) × (new ≡ old)))
+
+-- bytes that are written to its memory, where they all fit
+pub record WritesMemory (a : Kept) (at : ℕ) (bytes : List ℕ) (status : ℕ) (b : Kept) : Type 0 where
+  pub all : Bool
+  pub answer : status ≡ (if all then OK else RANGE)
+  pub written : WritesAt at bytes all (memory_of a.store) (memory_of b.store)
+  pub rest : b.store ≡ with_memory_instance (memory_of b.store) a.store
+  pub same : b.loaded ≡ a.loaded
+  pub stop : b.stop ≡ a.stop

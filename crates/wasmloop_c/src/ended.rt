@@ -1,0 +1,118 @@
+// How a call of an instance ended, and its arguments, in numbers.
+
+ghost use Rattle.std.specs.Prelude.{◌≡◌, map, slice_get, option_map, IfOk};
+ghost use Rattle.wasmloop_c.specs.Calls.{copied};
+ghost use Rattle.wasmloop_c.specs.Values.{typed, values_of, number_of, results_of, call_numbers};
+
+use crate::did::numbers_of_ending;
+use events::ended::{Ended, Ending};
+use limits::MAX_RESULTS;
+use std::alloc::{AllocError, Global};
+use syntax::types::{ValType, Value};
+
+/// How a call ended.
+#[repr(C)]
+#[derive(Clone, Copy)]
+pub struct CallEnded {
+    /// 0 return, 1 trap, 2 depth, 3 spent.
+    pub ending: u32,
+    /// The trap's number, 1 to 7, or 0.
+    pub trap: u32,
+    /// How many results there are.
+    pub results: u64,
+    /// The fuel that it used.
+    pub used: u64,
+    /// The results, the first first, an i32 in the lower half; behind them 0.
+    pub result: [u64; MAX_RESULTS],
+}
+
+fn typed(value_type: ValType, number: u64) -> Option<Value>
+    ensures { result ≡ typed value_type number }
+{
+    match value_type {
+        ValType::I32 => {
+            if number > u32::MAX as u64 {
+                return None;
+            }
+            Some(Value::I32(number as u32))
+        }
+        ValType::I64 => Some(Value::I64(number)),
+    }
+}
+
+/// The values of these types that the numbers are, where each is one of its type.
+pub fn values(
+    alloc: Global,
+    types: &[ValType],
+    numbers: &[u64],
+) -> Result<Option<Vec<Value>>, AllocError>
+    ensures { IfOk result (λ made. option_map (λ v. v.items) made ≡ values_of types.now numbers.now) }
+{
+    if types.len() != numbers.len() {
+        return Ok(None);
+    }
+    let mut values = Vec::with_capacity(alloc, types.len())?;
+    for index in 0..types.len() {
+        let value_type = types[index];
+        let number = numbers[index];
+        match typed(value_type, number) {
+            Some(value) => values.push(value)?,
+            None => return Ok(None),
+        }
+    }
+    Ok(Some(values))
+}
+
+fn number(value: Value) -> u64
+    ensures { result ≡ number_of value }
+{
+    match value {
+        Value::I32(number) => number as u64,
+        Value::I64(number) => number,
+    }
+}
+
+fn number_at(values: &[Value], index: usize) -> Option<u64>
+    ensures { result ≡ option_map number_of (slice_get values.now index) }
+{
+    Some(number(*values.get(index)?))
+}
+
+fn copy_numbers(values: &[Value], into: &mut [u64])
+    ensures { into.new ≡ copied (map number_of values.now) into.old }
+{
+    for index in 0..into.len() {
+        let Some(number) = number_at(values, index) else {
+            return;
+        };
+        into[index] = number;
+    }
+}
+
+fn results_of(ending: &Ending) -> &[Value]
+    ensures { result.now ≡ results_of ending.now }
+{
+    match ending {
+        Ending::Return(values) => values.as_slice(),
+        _ => &[],
+    }
+}
+
+impl CallEnded {
+    /// The same in numbers.
+    pub fn of(ended: &Ended) -> CallEnded
+        ensures { result ≡ call_numbers ended.now }
+    {
+        let (ending, trap) = numbers_of_ending(&ended.ending);
+        let values = results_of(&ended.ending);
+        let mut result = [0; MAX_RESULTS];
+        copy_numbers(values, &mut result);
+        CallEnded {
+            ending,
+            trap,
+            results: values.len() as u64,
+            used: ended.used,
+            result,
+        }
+    }
+}

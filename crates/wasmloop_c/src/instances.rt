@@ -1,0 +1,233 @@
+// Instances that are kept from call to call.
+
+ghost use Rattle.std.specs.Prelude.{◌≡◌, ◌≤◌, ◌<◌, ◌↔◌, ◌⊎◌, Some, None, length, IfOk, IsSomeAnd, MatchOption};
+ghost use Rattle.std.specs.Arc.{arc_value};
+ghost use Rattle.limits.specs.declared.TheConstants.{MAX_DEPTH};
+ghost use Rattle.resident.specs.Calls.{IsNew};
+ghost use Rattle.wasmloop_c.specs.Calls.{AnswersIn, IsDepth, ReadsHandle, module_of};
+ghost use Rattle.wasmloop_c.specs.Instances.{OnResident, OnHeldResident, OpensOver, OpensNone, CallsBy, ReadsMemory, WritesMemory, resident_of};
+
+use crate::ended::{CallEnded, values};
+use crate::handle::{Handle, on};
+use crate::status::{ARGUMENTS, KIND, MEMORY, NONE, NOT_STARTED, OK, RANGE};
+use crate::thing::Thing;
+use events::ended::Ending;
+use imports::Linked;
+use limits::MAX_DEPTH;
+use resident::Resident;
+use std::alloc::{AllocError, Global};
+use std::sync::Arc;
+
+/// What a call may use.
+#[repr(C)]
+#[derive(Clone, Copy)]
+pub struct CallLimits {
+    /// The fuel of the call.
+    pub fuel: u64,
+    /// How many calls may stand open, 1 to 128.
+    pub depth: u32,
+    /// 0.
+    pub zero: u32,
+}
+
+/// A new instance, and the room for what a handle has.
+fn opened(
+    alloc: Global,
+    linked: &Arc<Linked, Global>,
+) -> Result<(Box<Thing, Global>, Box<Resident, Global>), AllocError>
+    ensures { IfOk result (λ made. IsNew (arc_value linked.now) made.1.value) }
+{
+    let room = Box::new(alloc, Thing::Gone)?;
+    let resident = Resident::new(alloc, Arc::try_clone(linked)?)?;
+    Ok((room, Box::new(alloc, resident)?))
+}
+
+fn open(
+    alloc: Global,
+    module: &Thing,
+    limits: CallLimits,
+    handle: &mut Handle,
+    told: &mut CallEnded,
+) -> u32
+    requires depth { (1 ≤ limits.depth) × (limits.depth ≤ MAX_DEPTH) }
+    requires empty { handle.old.raw.value ≡ None }
+    ensures opens { result ≡ OK → IsSomeAnd (module_of module.now) (λ m. IsSomeAnd handle.new.raw.value (λ t. IsSomeAnd (resident_of t) (OpensOver m limits told.new))) }
+    ensures unstarted { result ≡ NOT_STARTED → IsSomeAnd (module_of module.now) (λ m. OpensNone m limits told.new) }
+    ensures refuses { (result ≡ OK → ⊥) → handle.new.raw.value ≡ None }
+    ensures untold { (result ≡ OK → ⊥) → (result ≡ NOT_STARTED → ⊥) → told.new ≡ told.old }
+    ensures kind { (result ≡ KIND) ↔ (module_of module.now ≡ None) }
+    ensures known { (result ≡ OK) ⊎ (result ≡ NOT_STARTED) ⊎ (result ≡ KIND) ⊎ (result ≡ MEMORY) }
+{
+    let Thing::Module(linked) = module else {
+        return KIND;
+    };
+    let Ok((mut room, mut resident)) = opened(alloc, linked) else {
+        return MEMORY;
+    };
+    let ended = resident.start(limits.fuel, limits.depth);
+    *told = CallEnded::of(&ended);
+    let Ending::Return(_) = ended.ending else {
+        return NOT_STARTED;
+    };
+    *room = Thing::Resident(resident);
+    handle.put(alloc, room);
+    OK
+}
+
+/// Makes an instance of a module, in an empty handle, and runs its start function. Where that doesn't return, nothing is made.
+#[unsafe(no_mangle)]
+pub extern "C" fn wasmloop_rt_instance(
+    alloc: Global,
+    module: &mut Handle,
+    limits: &CallLimits,
+    handle: &mut Handle,
+    told: &mut CallEnded,
+) -> u32
+    ensures opens { result ≡ OK → IsSomeAnd module.old.raw.value (λ t. IsSomeAnd (module_of t) (λ m. IsSomeAnd handle.new.raw.value (λ u. IsSomeAnd (resident_of u) (OpensOver m limits.now told.new)))) }
+    ensures unstarted { result ≡ NOT_STARTED → IsSomeAnd module.old.raw.value (λ t. IsSomeAnd (module_of t) (λ m. OpensNone m limits.now told.new)) }
+    ensures refuses { (result ≡ OK → ⊥) → handle.new.raw.value ≡ handle.old.raw.value }
+    ensures untold { (result ≡ OK → ⊥) → (result ≡ NOT_STARTED → ⊥) → told.new ≡ told.old }
+    ensures kept { module.new.raw.value ≡ module.old.raw.value }
+    ensures known { AnswersIn handle.old.raw.value module.old.raw.value result (IsDepth limits.now.depth) (λ _. (result ≡ OK) ⊎ (result ≡ NOT_STARTED) ⊎ (result ≡ MEMORY)) }
+{
+    if handle.is_full() {
+        return KIND;
+    }
+    let limits = *limits;
+    if limits.depth < 1 || limits.depth > MAX_DEPTH {
+        return RANGE;
+    }
+    on!(module, alloc, held => open(alloc, &held, limits, handle, told))
+}
+
+fn call_on(
+    alloc: Global,
+    resident: &mut Resident,
+    name: &[u8],
+    numbers: &[u64],
+    limits: CallLimits,
+    told: &mut CallEnded,
+) -> u32
+    requires { (1 ≤ limits.depth) × (limits.depth ≤ MAX_DEPTH) }
+    ensures { CallsBy resident.old name.now numbers.now limits told.old told.new result resident.new }
+{
+    let Some((function, func_type)) = resident.function(name) else {
+        return NONE;
+    };
+    let Ok(made) = values(alloc, func_type.params.as_slice(), numbers) else {
+        return MEMORY;
+    };
+    let Some(args) = made else {
+        return ARGUMENTS;
+    };
+    let ended = resident.call(function, args.as_slice(), limits.fuel, limits.depth);
+    *told = CallEnded::of(&ended);
+    OK
+}
+
+fn call(
+    alloc: Global,
+    thing: &mut Thing,
+    name: &[u8],
+    numbers: &[u64],
+    limits: CallLimits,
+    told: &mut CallEnded,
+) -> u32
+    requires { (1 ≤ limits.depth) × (limits.depth ≤ MAX_DEPTH) }
+    ensures { OnResident thing.old thing.new result (told.new ≡ told.old) (λ a b. CallsBy a name.now numbers.now limits told.old told.new result b) }
+{
+    let Thing::Resident(resident) = thing else {
+        return KIND;
+    };
+    call_on(alloc, resident, name, numbers, limits, told)
+}
+
+/// Calls the function that the module of an instance exports under a name. However it ends, the instance stays as it is then.
+#[unsafe(no_mangle)]
+pub extern "C" fn wasmloop_rt_call(
+    alloc: Global,
+    handle: &mut Handle,
+    name: &[u8],
+    numbers: &[u64],
+    limits: &CallLimits,
+    told: &mut CallEnded,
+) -> u32
+    ensures calls { (1 ≤ limits.now.depth) × (limits.now.depth ≤ MAX_DEPTH) → OnHeldResident handle.old.raw.value handle.new.raw.value result (told.new ≡ told.old) (λ a b. CallsBy a name.now numbers.now limits.now told.old told.new result b) }
+    ensures range { (limits.now.depth < 1) ⊎ (MAX_DEPTH < limits.now.depth) → (result ≡ RANGE) × (handle.new ≡ handle.old) × (told.new ≡ told.old) }
+{
+    let limits = *limits;
+    if limits.depth < 1 || limits.depth > MAX_DEPTH {
+        return RANGE;
+    }
+    on!(handle, alloc, held => call(alloc, &mut held, name, numbers, limits, told))
+}
+
+fn read(thing: &mut Thing, at: u32, into: &mut [u8]) -> u32
+    ensures { OnResident thing.old thing.new result (into.new ≡ into.old) (λ a b. ReadsMemory a at into.old into.new result b) }
+{
+    let Thing::Resident(resident) = thing else {
+        return KIND;
+    };
+    if resident.read(at as usize, into) {
+        OK
+    } else {
+        RANGE
+    }
+}
+
+/// Copies bytes of an instance's memory, as many as there is room for.
+#[unsafe(no_mangle)]
+pub extern "C" fn wasmloop_rt_read(
+    alloc: Global,
+    handle: &mut Handle,
+    at: u32,
+    into: &mut [u8],
+) -> u32
+    ensures { OnHeldResident handle.old.raw.value handle.new.raw.value result (into.new ≡ into.old) (λ a b. ReadsMemory a at into.old into.new result b) }
+{
+    on!(handle, alloc, held => read(&mut held, at, into))
+}
+
+fn write(thing: &mut Thing, at: u32, bytes: &[u8]) -> u32
+    ensures { OnResident thing.old thing.new result (Unit {0}) (λ a b. WritesMemory a at bytes.now result b) }
+{
+    let Thing::Resident(resident) = thing else {
+        return KIND;
+    };
+    if resident.write(at as usize, bytes) {
+        OK
+    } else {
+        RANGE
+    }
+}
+
+/// Writes bytes to an instance's memory.
+#[unsafe(no_mangle)]
+pub extern "C" fn wasmloop_rt_write(
+    alloc: Global,
+    handle: &mut Handle,
+    at: u32,
+    bytes: &[u8],
+) -> u32
+    ensures { OnHeldResident handle.old.raw.value handle.new.raw.value result (Unit {0}) (λ a b. WritesMemory a at bytes.now result b) }
+{
+    on!(handle, alloc, held => write(&mut held, at, bytes))
+}
+
+fn size(thing: &Thing, count: &mut u64) -> u32
+    ensures { MatchOption (resident_of thing.now) ((result ≡ KIND) × (count.new ≡ count.old)) (λ a. (result ≡ OK) × (count.new ≡ length a.store.memory)) }
+{
+    let Thing::Resident(resident) = thing else {
+        return KIND;
+    };
+    *count = resident.size() as u64;
+    OK
+}
+
+/// How many bytes an instance's memory has.
+#[unsafe(no_mangle)]
+pub extern "C" fn wasmloop_rt_size(alloc: Global, handle: &mut Handle, count: &mut u64) -> u32
+    ensures { ReadsHandle handle.old.raw.value handle.new.raw.value result (count.new ≡ count.old) (λ t. MatchOption (resident_of t) ((result ≡ KIND) × (count.new ≡ count.old)) (λ a. (result ≡ OK) × (count.new ≡ length a.store.memory))) }
+{
+    on!(handle, alloc, held => size(&held, count))
+}

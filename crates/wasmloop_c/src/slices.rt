@@ -1,0 +1,76 @@
+// Jobs in slices.
+
+ghost use Rattle.std.specs.Prelude.{◌≡◌, ◌≤◌, ◌<◌};
+ghost use Rattle.order.specs.Slices.{Goes};
+ghost use Rattle.wasmloop_c.specs.Calls.{OnHandle};
+ghost use Rattle.wasmloop_c.specs.Slices.{Begins, LeftBy, RunsFor};
+
+use crate::handle::Handle;
+use crate::job::Job;
+use crate::status::{EMPTY, KIND, OK, RANGE};
+use crate::thing::Thing;
+use order::{Going, Told};
+use std::alloc::Global;
+use std::mem::replace;
+
+/// The first slice of a job.
+fn begin(alloc: Global, job: Job, units: u64) -> Going
+    requires { 1 ≤ units }
+    ensures { Begins job units result }
+{
+    match job.begin(alloc) {
+        Ok(running) => running.go_on(units),
+        Err(reply) => Going::Over(Told {
+            reply,
+            used: 0,
+            trail: None,
+        }),
+    }
+}
+
+/// What a slice leaves of a job, and whether the job is over.
+fn left_by(going: Going) -> (Thing, u32)
+    ensures { LeftBy going result.0 result.1 }
+{
+    match going {
+        Going::Over(told) => (Thing::Answered(told), 1),
+        Going::Paused(running) => (Thing::Running(running), 0),
+    }
+}
+
+fn run_for(alloc: Global, thing: Thing, units: u64, over: &mut u32) -> (Thing, u32)
+    requires { 1 ≤ units }
+    ensures { RunsFor thing result.0 units over.old over.new result.1 }
+{
+    let going = match thing {
+        Thing::Asked(job) => begin(alloc, job, units),
+        Thing::Running(running) => running.go_on(units),
+        other => return (other, KIND),
+    };
+    let (left, is_over) = left_by(going);
+    *over = is_over;
+    (left, OK)
+}
+
+/// Runs a job for at most so many units of fuel, at least one, and tells whether it is over.
+#[unsafe(no_mangle)]
+pub extern "C" fn wasmloop_rt_job_run_for(
+    alloc: Global,
+    job: &mut Handle,
+    units: u64,
+    over: &mut u32,
+) -> u32
+    ensures runs { 1 ≤ units → OnHandle job.old.raw.value job.new.raw.value result (over.new ≡ over.old) (λ t u. RunsFor t u units over.old over.new result) }
+    ensures range { units < 1 → (result ≡ RANGE) × (job.new ≡ job.old) × (over.new ≡ over.old) }
+{
+    if units < 1 {
+        return RANGE;
+    }
+    let Some(mut held) = job.take(alloc) else {
+        return EMPTY;
+    };
+    let (thing, status) = run_for(alloc, replace(&mut *held, Thing::Gone), units, over);
+    *held = thing;
+    job.put(alloc, held);
+    status
+}

@@ -1,0 +1,50 @@
+#!/bin/sh
+# Tries the server: what it does, its end, its page, the lines of README.md, edge.py, and clients of the worst sort, as it is built by the
+# compiler, and under the sanitizers for addresses, undefined behaviour and threads. What needs a package that isn't there is left out, and said.
+#
+# usage: test.sh [LIBRARY [PART..]]     LIBRARY: a folder with libwasmloop.a, and maybe wasmloop.h and libwasmloop.so.0 (else dist/ at the top);
+#                                       PART: plain, addresses, threads (else all)
+set -u
+here=$(cd "$(dirname "$0")" && pwd) top=$(cd "$(dirname "$0")/../.." && pwd)
+library=$(readlink -f "${1:-$top/dist}") out=$(mktemp -d) failed=0
+trap 'rm -rf "$out"' EXIT
+[ $# = 0 ] || shift
+[ $# -gt 0 ] || set -- plain addresses threads
+
+say() { printf 'edge: %s\n' "$*"; }
+left_out() { say "left out: $*"; }
+has() { command -v "$1" > /dev/null 2>&1; }
+part() {
+    began=$(date +%s)
+    python3 "$here/test/test.py" "$@" || { say "FAILED: $*"; failed=1; return; }
+    say "$(basename "$1"): $(shift 2; echo "$*") passed in $(($(date +%s) - began)) s"
+}
+
+if [ ! -f "$library/libwasmloop.a" ]; then left_out "all: there is no $library/libwasmloop.a"; exit 0; fi
+if ! pkg-config --exists libuv; then left_out "all: there is no libuv"; exit 0; fi
+if ! pkg-config --exists libllhttp && ! echo '#include <http_parser.h>' | cc -E - > /dev/null 2>&1; then left_out "all: there is no HTTP parser"; exit 0; fi
+if ! has clang || ! has wasm-ld; then left_out "all: there is no clang with wasm-ld for the guests"; exit 0; fi
+mkdir "$out/guests"
+"$here/guests/build.sh" "$out/guests" && cp "$here/../crc32.wasm" "$here/../sha256.wasm" "$out/guests" || exit 1
+
+for how; do
+    case $how in
+    plain)
+        CFLAGS=-Werror "$here/build.sh" "$out/plain" "$library" || exit 1
+        part "$out/plain" "$out/guests" functions end clients
+        if has chromium; then part "$out/plain" "$out/guests" page; else left_out 'the page: there is no chromium'; fi
+        if has curl; then "$here/test/lines.sh" "$out/plain" "$out/guests" || failed=1; else left_out 'the lines of README.md: there is no curl'; fi
+        if [ ! -f "$library/libwasmloop.so.0" ]; then left_out 'edge.py: there is no libwasmloop.so.0'
+        elif ! /usr/bin/python3 -c 'import aiohttp' 2> /dev/null; then left_out 'edge.py: there is no aiohttp'
+        else WASMLOOP_LIBRARY=$library/libwasmloop.so.0 PYTHONPATH=$top/capi part "$out/plain" "$out/guests" python
+        fi ;;
+    addresses)
+        CC=clang CFLAGS='-g -O1 -fsanitize=address,undefined -fno-sanitize-recover=undefined' "$here/build.sh" "$out/addresses" "$library" || exit 1
+        part "$out/addresses" "$out/guests" functions end clients ;;
+    threads)
+        CC=clang CFLAGS='-g -O1 -fsanitize=thread' "$here/build.sh" "$out/threads" "$library" || exit 1
+        part "$out/threads" "$out/guests" functions end ;;
+    *) say "no part: $how"; exit 2 ;;
+    esac
+done
+exit $failed

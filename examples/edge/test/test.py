@@ -1,0 +1,491 @@
+"""Tries the server: its answers and limits, hostile tenants, a loop, modules that change, its end, and clients of the worst sort.
+
+usage: test.py EDGE GUESTS PART..     EDGE: the program; GUESTS: a folder of modules; PART: functions, end, page (by chromium), python, clients, or a number, which
+is the same with that many connections that only stand (else 1,000)
+"""
+import concurrent.futures
+import contextlib
+import http.client
+import os
+import pathlib
+import random
+import re
+import shutil
+import signal
+import socket
+import subprocess
+import sys
+import tempfile
+import threading
+import time
+import zlib
+
+HERE = pathlib.Path(__file__).resolve().parent
+EDGE, GUESTS = sys.argv[1], pathlib.Path(sys.argv[2])
+bad = []
+
+
+def check(good, what, *got):
+    if not good:
+        bad.append(what)
+        print(f"test: {what}: {' '.join(str(it)[:300] for it in got)}", file=sys.stderr, flush=True)
+
+
+class Server:
+    """The program over a folder of its own, on a port that is free."""
+
+    def __init__(self, *options, python=False, **confs):
+        self.folder = pathlib.Path(tempfile.mkdtemp())
+        for it in GUESTS.glob("*.wasm"):
+            shutil.copy(it, self.folder)
+        for name, text in confs.items():
+            (self.folder / f"{name}.conf").write_text(text)
+        shutil.copy(HERE.parent / "dashboard.html", self.folder)
+        with socket.socket() as s:
+            s.bind(("127.0.0.1", 0))
+            self.port = s.getsockname()[1]
+        self.log = open(self.folder / "access", "w+")
+        edge = [EDGE, "-p", str(self.port), "-w", "3", *options, str(self.folder)]
+        if python:
+            edge = ["/usr/bin/python3", HERE.parent / "edge.py", str(self.folder), str(self.port), "3"]
+        self.process = subprocess.Popen(edge, stdout=self.log, stderr=subprocess.PIPE, text=True)
+        for _ in range(1200):
+            with contextlib.suppress(OSError):
+                self.connect().close()
+                return
+            time.sleep(0.05)
+
+    def connect(self):
+        return socket.create_connection(("127.0.0.1", self.port), timeout=30)
+
+    def ask(self, path, body=b"x", method="POST", **headers):
+        link = http.client.HTTPConnection("127.0.0.1", self.port, timeout=60)
+        with contextlib.closing(link):
+            link.request(method, path, body, headers)
+            answer = link.getresponse()
+            return answer.status, answer.read(), answer.headers
+
+    def wants(self, what, status, text, path, body=b"x", **more):
+        got = self.ask(path, body, **more)
+        check(got[0] == status and re.search(text.encode() if isinstance(text, str) else text, got[1], re.S), what, got[0], got[1])
+        return got
+
+    def raw(self, data):
+        """All that comes back, until the server ends the connection or is silent; it is read while data is sent."""
+        def send():
+            with contextlib.suppress(OSError):
+                s.sendall(data)
+
+        with self.connect() as s:
+            sender = threading.Thread(target=send)
+            sender.start()
+            got = read_all(s)
+        sender.join()
+        return got
+
+    def resident(self):
+        return int(re.search(r"VmRSS:\s+(\d+)", pathlib.Path(f"/proc/{self.process.pid}/status").read_text())[1])
+
+    def metrics(self):
+        return parse_metrics(self.ask("/-/metrics", None, "GET")[1].decode())
+
+    def end(self):
+        """By SIGTERM: it must leave with 0, and a sanitizer must have said nothing."""
+        self.process.send_signal(signal.SIGTERM)
+        said = self.process.communicate(timeout=60)[1]
+        check(self.process.returncode == 0, "its end", self.process.returncode, said[-2000:])
+        check("anitizer" not in said and "runtime error" not in said, "a sanitizer", said[:3000])
+        if "edge.py" in str(self.process.args):
+            shutil.rmtree(self.folder)
+            return
+        self.log.seek(0)
+        lines = self.log.read().splitlines()
+        form = r'at=\d{4}-\d\d-\d\dT\d\d:\d\d:\d\dZ request=\d+ method=[A-Z-]+ path="[!#-~]*" status=\d{3} in=\d+ out=\d+ us=\d+ fuel=\d+'
+        odd = [it for it in lines if not re.fullmatch(form, it)]
+        check(lines and not odd, "the access log", odd[:1])
+        shutil.rmtree(self.folder)
+
+
+def read_all(s, wait=20):
+    s.settimeout(wait)
+    parts = []
+    with contextlib.suppress(OSError):
+        while part := s.recv(65536):
+            parts.append(part)
+    return b"".join(parts)
+
+
+def parse_metrics(text):
+    """The values by name and labels; each family must be declared once, and stand together."""
+    values, kind, name, closed = {}, None, None, set()
+    for line in text.splitlines():
+        if line.startswith("# HELP "):
+            closed.add(name)
+            name = line.split()[2]
+            check(name not in closed, "a family of metrics stands twice", name)
+        elif line.startswith("# TYPE "):
+            kind = line.split()[3]
+            check(line.split()[2] == name and kind in ("counter", "gauge", "summary"), "a type", line)
+        else:
+            m = re.fullmatch(r'([a-z_]+)(?:\{((?:[a-z]+="[a-z0-9_.-]*",?)*)\})? (\d+(?:\.\d+)?(?:e[+-]?\d+)?)', line)
+            check(m and (not kind or re.sub("_(sum|count)$" if kind == "summary" else "^$", "", m[1]) == name), "a line of metrics", line)
+            check(m and (kind != "counter" or name.endswith("_total")), "a counter's name", line)
+            if m:
+                check((m[1], m[2]) not in values, "a value stands twice", line)
+                values[m[1], m[2]] = float(m[3])
+    return values
+
+
+# ---- what it does ----
+
+
+def statuses(s):
+    s.wants("greeting", 200, "^hello, you$", "/hello", b"you")
+    s.wants("no bytes", 200, "^hello, $", "/hello", b"")
+    got = s.wants("an operation", 200, "^hello, you$", "/hello/7?x=1", b"you")
+    check(got[2]["Wasmloop-Outcome"] == "done" and got[2]["Content-Type"] == "text/plain", "heads", got[2])
+    s.wants("no tenant", 404, "no such tenant", "/nobody")
+    s.wants("a name with dots", 404, "no such tenant", "/../hello")
+    s.wants("no name", 404, "no such tenant", "/")
+    s.wants("an operation that is none", 400, "an operation", "/hello/x")
+    s.wants("an operation too great", 400, "an operation", "/hello/4294967296")
+    s.wants("division", 500, "trap, division by zero.* in function 0|division by zero", "/trap/0")
+    s.wants("memory", 500, "an access outside the memory", "/trap/1")
+    s.wants("unreachable", 500, "unreachable", "/trap/2")
+    s.wants("depth", 500, "deep", "/deep")
+    got = s.wants("fuel", 504, "spin: ", "/spin")
+    check(got[2]["Wasmloop-Fuel"] == "1000000" and got[2]["Wasmloop-Outcome"] == "spent", "fuel is exact", got[2])
+    s.wants("bomb", 504, "bomb: ", "/bomb")
+    s.wants("no module", 500, "broken: ", "/broken")
+    s.wants("no work", 404, "it exports no uv_work", "/limiter")
+    s.wants("no loop", 404, "it has no loop", "/hello/ask/1")
+    s.wants("no async", 400, "an async", "/limiter/ask/16")
+    s.wants("the longest body", 200, "", "/crc32", bytes(65536))
+    s.wants("a longer body", 413, "too long", "/crc32", bytes(65537))
+    s.wants("a long path", 414, "too long", "/" + "a" * 300)
+    check(s.ask("/crc32", b"abc")[1] == zlib.crc32(b"abc").to_bytes(4, "big"), "crc32")
+    check(s.ask("/sha256", b"abc")[1].hex() == "ba7816bf8f01cfea414140de5dae2223b00361a396177a9cb410ff61f20015ad", "sha256")
+
+
+def queues(s):
+    """Past a tenant's queue: 429, and none of its neighbours is refused."""
+    with concurrent.futures.ThreadPoolExecutor(12) as pool:
+        spins = [pool.submit(s.ask, "/slow") for _ in range(10)]
+        time.sleep(0.2)
+        s.wants("beside one that is refused", 200, "hello, you", "/hello", b"you")
+        got = {it.result()[0] for it in spins}
+    check(got == {429, 504}, "refusals", got)
+
+
+def deadlines(s):
+    """A request that waits too long is answered 504, and so is an ask that the loop doesn't answer."""
+    with concurrent.futures.ThreadPoolExecutor(4) as pool:
+        late = [pool.submit(s.ask, "/late") for _ in range(3)]
+        texts = [it.result() for it in late]
+    check(all(it[0] == 504 for it in texts) and any(b"deadline" in it[1] for it in texts), "a deadline", [it[:2] for it in texts])
+    s.wants("an ask that nobody answers", 504, "deadline", "/serial/ask/3")
+
+
+def loops(s):
+    got = [s.ask("/limiter/ask/3")[1] for _ in range(10)]
+    check(got == [b"1\n"] * 10, "ten tokens", got)
+    with concurrent.futures.ThreadPoolExecutor(16) as pool:
+        got = [it[0] for it in pool.map(lambda _: s.ask("/limiter/ask/4"), range(64))]
+    check(set(got) <= {200, 429}, "asks at once", set(got))
+    time.sleep(0.5)
+    s.wants("a token of later", 200, "^1\n$", "/limiter/ask/3")
+    got = s.wants("a loop's log", 200, "run async", "/-/log/limiter", None, method="GET")
+    (s.folder / "log").write_bytes(got[1])
+    picture = HERE.parents[1] / "picture.py"
+    check(subprocess.run([sys.executable, picture, s.folder / "log", s.folder / "svg"], check=False).returncode == 0, "picture.py draws the log")
+    got = s.ask("/flood/ask/1")
+    check(got[0] in (500, 504), "a loop of the worst sort", got[:2])
+    s.wants("beside a flood", 200, "hello, you", "/hello", b"you")
+    s.wants("its failure", 200, "flood\t[a-z]+\t1\t\ta callback of its loop: ", "/-/tenants", None, method="GET")
+
+
+def put(s, name, data):
+    (s.folder / "new").write_bytes(data)
+    os.rename(s.folder / "new", s.folder / name)
+
+
+def until(what, done, seconds=20):
+    end = time.time() + seconds
+    while not done():
+        if time.time() > end:
+            check(False, what)
+            return
+        time.sleep(0.05)
+
+
+def changes(s):
+    """A module that changes under load: nothing is lost, the new one comes, and the old one goes on where the new is refused."""
+    hello, crc = (GUESTS / "hello.wasm").read_bytes(), (GUESTS / "crc32.wasm").read_bytes()
+    put(s, "mine.wasm", hello)
+    stop, got = threading.Event(), []
+
+    def load():
+        while not stop.is_set():
+            got.append(s.ask("/mine", b"abc")[:2])
+
+    threads = [threading.Thread(target=load) for _ in range(3)]
+    for it in threads:
+        it.start()
+    for n in range(10):
+        put(s, "mine.wasm", (crc, hello)[n % 2])
+        time.sleep(0.1)
+    stop.set()
+    for it in threads:
+        it.join()
+    check(got and set(got) <= {(200, b"hello, abc"), (200, b"\x35\x24\x41\xc2")}, "answers under changes", set(got))
+    put(s, "mine.wasm", crc)
+    until("a new module", lambda: s.ask("/mine", b"abc")[1] == b"\x35\x24\x41\xc2")
+    put(s, "mine.wasm", b"no module")
+    until("its state", lambda: re.search(rb"mine\told\t0\t[^\t]+\t", s.ask("/-/tenants", None, "GET")[1]))
+    s.wants("a bad module", 200, re.escape(b"\x35\x24\x41\xc2"), "/mine", b"abc")
+    put(s, "mine.conf", b"type text/html")
+    until("a new limit", lambda: s.ask("/mine", b"abc")[2]["Content-Type"] == "text/html")
+    before = s.metrics()["edge_tenants", None]
+    (s.folder / "mine.wasm").unlink()
+    until("a tenant that is gone", lambda: s.ask("/mine")[0] == 404)
+    until("and no more counted", lambda: s.metrics()["edge_tenants", None] == before - 1)
+    put(s, "mine.wasm", hello)
+    s.wants("and back", 200, "hello, abc", "/mine", b"abc")
+
+
+def many(s, count=200):
+    for n in range(count):
+        os.link(GUESTS / "crc32.wasm", s.folder / f"t{n}.wasm") if os.stat(GUESTS).st_dev == os.stat(s.folder).st_dev else shutil.copy(GUESTS / "crc32.wasm", s.folder / f"t{n}.wasm")
+    got = {s.ask(f"/t{n}", b"abc")[:2] for n in range(count)}
+    check(got == {(200, b"\x35\x24\x41\xc2")}, "many tenants", got)
+
+
+def numbers(s):
+    values = s.metrics()
+    check(values.get(("edge_requests_total", 'tenant="spin",outcome="spent"'), 0) >= 1, "outcomes are counted", values)
+    for (name, labels), value in values.items():
+        if name == "edge_latency_seconds":
+            tenant = re.match('tenant="[^"]*"', labels)[0]
+            check(value <= values["edge_latency_worst_seconds", tenant] + 1e-6, "a quantile above the worst", labels, value)
+    s.wants("the page", 200, "<title>edge", "/-/", None, method="GET")
+    s.wants("no page", 404, "no such page", "/-/nothing", None, method="GET")
+    s.wants("its last failure", 200, "trap\tready\t0\t\t.*unreachable", "/-/tenants", None, method="GET")
+
+
+def broken_too():
+    (GUESTS / "broken.wasm").write_text("no module")
+    for name in "slow", "late":
+        shutil.copy(GUESTS / "spin.wasm", GUESTS / f"{name}.wasm")
+
+
+def functions():
+    broken_too()
+    s = Server("-t", "30", spin="fuel 1000000\n", slow="fuel 20000000\nqueue 2\nrun 1\ndeadline 60000\n", flood="fuel 1000000\ncallback 200000\n",
+               late="fuel 100000000\nrun 1\ndeadline 50\n", hello="type text/plain\n", serial="deadline 300\n", limiter="queue 4\n", deep="depth 32\n",
+               bomb="deadline 60000\n", mine="deadline 60000\n")
+    for part in statuses, queues, deadlines, loops, changes, many, numbers:
+        began = time.time()
+        part(s)
+        if time.time() - began > 10:
+            print(f"test: {part.__name__} took {time.time() - began:.0f} s")
+    s.end()
+
+
+def end():
+    """A signal ends it in order: what runs is finished, what waits is answered 503, and a connection that only stands is closed."""
+    s = Server("-t", "30", spin="fuel 200000000\nrun 1\ndeadline 60000\n", serial="deadline 60000\n")
+    with concurrent.futures.ThreadPoolExecutor(8) as pool:
+        stands = s.connect()
+        first = pool.submit(s.ask, "/spin")
+        time.sleep(0.3)
+        rest = [pool.submit(s.ask, path) for path in ("/spin", "/spin", "/serial/ask/1")]
+        time.sleep(0.3)
+        s.end()
+        got = first.result()[0], [it.result()[0] for it in rest]
+        check(got == (504, [503, 503, 503]), "the end", got)
+        check(read_all(stands) == b"", "a connection that stands")
+
+
+def page():
+    """The page in a browser: a row for each tenant, no p99 above the worst, the last failure, and a timeline."""
+    s = Server(hello="type text/plain\n")
+    for path in ("/hello",) * 20 + ("/trap", "/limiter/ask/1"):
+        s.ask(path)
+    with tempfile.TemporaryDirectory() as home:
+        got = subprocess.run(["chromium", "--headless", "--no-sandbox", "--disable-gpu", "--disable-dev-shm-usage", f"--user-data-dir={home}", "--virtual-time-budget=3000",
+                              "--dump-dom", f"http://127.0.0.1:{s.port}/-/"], capture_output=True, text=True, check=False, timeout=120).stdout
+    rows = re.findall(r"<tr>(.*?)</tr>", got.split("<tbody", 1)[-1].split("</tbody", 1)[0], re.S)
+    cells = {re.sub("<.*?>", "", (it := re.findall(r"<td[^>]*>(.*?)</td>", row, re.S))[0]): it for row in rows}
+    check(set(cells) == {"hello", "trap", "limiter"}, "rows of the page", got[-2000:])
+
+    def seconds(text):
+        number, unit = text.split()
+        return float(number) * {"ms": 1e-3}.get(unit, 1e-6)
+
+    for name, it in cells.items():
+        check(it[1] == "ready" and seconds(it[5]) <= seconds(it[6]), "p99 above the worst", name, it)
+    check("division by zero" in cells.get("trap", [""])[-1], "the last failure in the page", cells)
+    check("<svg" in got and "loop 0 run timer" in got, "the timeline in the page", got[-500:])
+    s.end()
+
+
+def python():
+    """What edge.py does, which WASMLOOP_LIBRARY and PYTHONPATH must lead to the library."""
+    broken_too()
+    s = Server(python=True, spin="fuel 1000000\n", slow="fuel 20000000\nqueue 2\nrun 1\ndeadline 60000\n", hello="type text/plain\n", bomb="deadline 60000\n")
+    s.wants("greeting", 200, "^hello, you$", "/hello", b"you")
+    s.wants("no tenant", 404, "no such tenant", "/nobody")
+    s.wants("division", 500, "trap, after .* in function 0", "/trap/0")
+    s.wants("depth", 500, "depth", "/deep")
+    s.wants("fuel", 504, "spent, after 1000000 units", "/spin")
+    s.wants("no module", 500, "broken: ", "/broken")
+    s.wants("no work", 404, "exports no uv_work", "/limiter")
+    s.wants("an operation too great", 400, "an operation", "/hello/4294967296")
+    s.wants("the longest body", 200, "", "/crc32", bytes(65536))
+    s.wants("a longer body", 413, "", "/crc32", bytes(65537))
+    queues(s)
+    put(s, "hello.wasm", (GUESTS / "crc32.wasm").read_bytes())
+    until("a new module", lambda: s.ask("/hello", b"abc")[1] == b"\x35\x24\x41\xc2")
+    put(s, "hello.wasm", b"no module")
+    s.wants("a bad module", 200, re.escape(b"\x35\x24\x41\xc2"), "/hello", b"abc")
+    check(s.metrics()["edge_requests_total", 'tenant="spin",outcome="spent"'] == 1, "numbers")
+    with concurrent.futures.ThreadPoolExecutor(3) as pool:
+        asked = [pool.submit(s.ask, "/slow") for _ in range(2)]
+        time.sleep(0.1)
+        s.end()
+        check({it.result()[0] for it in asked} <= {504, 503}, "the end", [it.result()[0] for it in asked])
+
+
+# ---- clients of the worst sort ----
+
+
+def head(answer):
+    return int(answer[9:12]) if answer.startswith(b"HTTP/1.1 ") else answer[:40]
+
+
+def slow(s):
+    """A request must come whole within two seconds; what comes of it is answered, and the connection ends."""
+    def drip(data, every):
+        with s.connect() as c:
+            with contextlib.suppress(OSError):
+                for it in data:
+                    c.sendall(bytes([it]))
+                    time.sleep(every)
+            return read_all(c)
+
+    with concurrent.futures.ThreadPoolExecutor(8) as pool:
+        tried = {"slow heads": pool.submit(drip, b"POST /hello HTTP/1.1\r\nHost: x\r\n" + b"x: y\r\n" * 4, 0.1),
+                 "half a body": pool.submit(s.raw, b"POST /hello HTTP/1.1\r\nContent-Length: 100\r\n\r\nhalf"),
+                 "half a chunk": pool.submit(s.raw, b"POST /hello HTTP/1.1\r\nTransfer-Encoding: chunked\r\n\r\n10\r\nhalf")}
+        for what, it in tried.items():
+            check(head(it.result()) == 408, what, it.result())
+        check(pool.submit(s.raw, b"").result() == b"", "a client that says nothing")
+
+
+def broken(s):
+    post = b"POST /hello HTTP/1.1\r\n"
+    many_heads = b"".join(b"h%d: %s\r\n" % (n, b"v" * 20) for n in range(1000))
+    tried = [("no method", b"\x16\x03\x01\x02\x00\x01\x00", 400), ("no protocol", b"POST /hello FTP/1.1\r\n\r\n", 400),
+             ("a chunk that is none", post + b"Transfer-Encoding: chunked\r\n\r\nzz\r\n", 400),
+             ("a chunk too great", post + b"Transfer-Encoding: chunked\r\n\r\nffffffffffffffffff\r\n", 400),
+             ("chunks too long", post + b"Transfer-Encoding: chunked\r\n\r\n11000\r\n" + bytes(0x11000), 413),
+             ("two lengths", post + b"Content-Length: 1\r\nContent-Length: 2\r\n\r\nx", 400),
+             ("length and chunks", post + b"Content-Length: 4\r\nTransfer-Encoding: chunked\r\n\r\n0\r\n\r\n", 400),
+             ("a length below 0", post + b"Content-Length: -1\r\n\r\n", 400),
+             ("a length beyond all", post + b"Content-Length: " + b"9" * 30 + b"\r\n\r\n", 400),
+             ("a length too long, no body yet", post + b"Content-Length: 65537\r\n\r\n", 413),
+             ("a head too long", post + b"x: " + b"y" * 20000 + b"\r\n\r\n", 431), ("too many heads", post + many_heads + b"\r\n", 431),
+             ("trailers too long", post + b"Transfer-Encoding: chunked\r\n\r\n0\r\n" + many_heads + b"\r\n", 431),
+             ("a path too long", b"POST /" + b"a" * 70000 + b" HTTP/1.1\r\n\r\n", 414)]
+    for what, data, status in tried:
+        got = s.raw(data)
+        check(head(got) == status and b"Connection: close" in got, what, got)
+    got = s.raw(b"POST /hello HTTP/1.0\r\nContent-Length: 2\r\n\r\nme")
+    check(got.endswith(b"hello, me") and b"Connection: close" in got, "HTTP/1.0", got)
+
+
+def pipelines(s):
+    """Requests that are sent ahead are answered in their order, however many."""
+    data = b"".join(b"POST /hello HTTP/1.1\r\nContent-Length: %d\r\n\r\n%d" % (len(str(n)), n) for n in range(300))
+    got = s.raw(data + b"no request\r\n\r\n")
+    check([int(it) for it in re.findall(rb"hello, (\d+)", got)] == list(range(300)) and got.count(b"HTTP/1.1 400") == 1, "sent ahead", got[-300:])
+    got = s.raw(b"GET / HTTP/1.1\r\n\r\n" * 20000 + b"GET / HTTP/1.0\r\n\r\n")
+    check(got.count(b"HTTP/1.1 404") == 20001, "20,001 sent ahead", got.count(b"HTTP/1.1 404"))
+
+
+def idle(s, count):
+    """Connections that only stand, beside which another is served; they are ended, and their memory comes back."""
+    before, links = s.resident(), []
+    for _ in range(count):
+        links.append(s.connect())
+        links[-1].sendall(b"POST /hel")
+    s.wants("beside those that stand", 200, "hello, you", "/hello", b"you")
+    more = s.resident() - before
+    check(more < 16 * count / 10 + 8192, f"{count} that stand take {more} KiB more")
+    until("they are ended", lambda: s.metrics()["edge_clients", None] < 10, 30)
+    for it in links:
+        it.close()
+
+
+def takers(s):
+    """Clients that don't take their answers, or go before."""
+    before = s.resident()
+    links = [s.connect() for _ in range(20)]
+    for it in links:
+        it.setblocking(False)
+        with contextlib.suppress(OSError):
+            it.send(b"GET /-/ HTTP/1.1\r\n\r\n" * 3000)
+    time.sleep(1)
+    more = s.resident() - before
+    check(more < 65536, f"20 that don't take their answers take {more} KiB more")
+    until("they are ended", lambda: s.metrics()["edge_clients", None] < 10, 30)
+    for it in links:
+        it.close()
+    for _ in range(50):
+        with s.connect() as it:
+            it.sendall(b"POST /spin HTTP/1.1\r\nContent-Length: 0\r\n\r\n")
+    until("those that went are forgotten", lambda: s.metrics()["edge_tasks_waiting", None] == 0, 30)
+    until("bytes are held that nobody waits for", lambda: s.metrics()["edge_held_bytes", None] == 0)
+
+
+def noise(s):
+    """Requests with bytes that are changed, cut and doubled."""
+    chance = random.Random(43)
+    seeds = [b"POST /hello/1 HTTP/1.1\r\nHost: a\r\nContent-Length: 5\r\n\r\nworld", b"GET /-/metrics HTTP/1.1\r\nConnection: keep-alive\r\n\r\n",
+             b"POST /crc32 HTTP/1.1\r\nTransfer-Encoding: chunked\r\n\r\n5\r\nhello\r\n3;x=y\r\nabc\r\n0\r\nT: x\r\n\r\n", b"POST /limiter/ask/2 HTTP/1.1\r\n\r\n"]
+    for _ in range(400):
+        data = bytearray(chance.choice(seeds) + chance.choice(seeds))
+        for _ in range(chance.randrange(6)):
+            at = chance.randrange(len(data))
+            data[at:at + chance.randrange(3)] = bytes(chance.choice(b"\r\n:0 9aZ\x00\xff") for _ in range(chance.randrange(4)))
+        with s.connect() as c, contextlib.suppress(OSError):
+            c.sendall(data[:chance.randrange(len(data)) + 1])
+    s.wants("after noise", 200, "hello, you", "/hello", b"you")
+
+
+def most(count):
+    s = Server("-c", str(count))
+    time.sleep(0.3)
+    links = [s.connect() for _ in range(count)]
+    time.sleep(0.2)
+    check(head(s.raw(b"")) == 503, "one client too many")
+    for it in links:
+        it.close()
+    until("room again", lambda: head(s.raw(b"GET / HTTP/1.0\r\n\r\n")) == 404)
+    s.end()
+
+
+def clients(count=1000):
+    s = Server("-t", "2", spin="fuel 3000000\nrun 1\n")
+    s.wants("greeting", 200, "hello, you", "/hello", b"you")
+    for part in broken, pipelines, slow, takers, noise:
+        part(s)
+    idle(s, count)
+    s.end()
+    most(20)
+
+
+if __name__ == "__main__":
+    for word in sys.argv[3:]:
+        {"functions": functions, "clients": clients, "end": end, "page": page, "python": python}[word]() if not word.isdigit() else clients(int(word))
+    sys.exit(1 if bad else 0)

@@ -1,0 +1,61 @@
+#!/bin/sh
+# Installs the shipped program, the library for C with its header, what pkg-config and CMake read, the guests' headers, manual pages and
+# completions; or removes them. It needs no kit, no Python and no compiler.
+#
+# usage: [PREFIX=/usr/local] [LIBDIR=PREFIX/lib] [DESTDIR=] ./install.sh [--uninstall]
+set -eu
+top=$(cd "$(dirname "$0")" && pwd)
+prefix=${PREFIX:-/usr/local}
+case $prefix in /*) ;; *) prefix=$PWD/$prefix ;; esac
+libdir=${LIBDIR:-$prefix/lib}
+root=${DESTDIR:-}
+share=$prefix/share
+version=$(sed -n 's/^#define WASMLOOP_VERSION "\(.*\)"$/\1/p' "$top/capi/wasmloop.h")
+room=$(mktemp -d)
+trap 'rm -rf "$room"' EXIT
+
+# what is installed, a line each: its rights, the file, and where it goes
+files() {
+    cat <<LIST
+755 dist/wasmloop $prefix/bin/wasmloop
+644 capi/wasmloop.h $prefix/include/wasmloop.h
+644 dist/libwasmloop.a $libdir/libwasmloop.a
+644 dist/libwasmloop.so.0 $libdir/libwasmloop.so.0
+644 $room/wasmloop.pc $libdir/pkgconfig/wasmloop.pc
+644 $room/wasmloop-config.cmake $libdir/cmake/wasmloop/wasmloop-config.cmake
+644 $room/wasmloop-config-version.cmake $libdir/cmake/wasmloop/wasmloop-config-version.cmake
+644 examples/uv.h $share/wasmloop/guest/uv.h
+644 examples/uv.rs $share/wasmloop/guest/uv.rs
+644 examples/mem.c $share/wasmloop/guest/mem.c
+644 dist/PROOF.json $share/wasmloop/PROOF.json
+644 dist/wasmloop.1 $share/man/man1/wasmloop.1
+644 dist/wasmloop.h.3 $share/man/man3/wasmloop.h.3
+644 dist/wasmloop.bash $share/bash-completion/completions/wasmloop
+644 dist/_wasmloop $share/zsh/site-functions/_wasmloop
+LIST
+}
+
+if [ "${1:-}" = --uninstall ]; then
+    { files | cut -d ' ' -f 3-; echo "$libdir/libwasmloop.so"; } | while read -r to; do rm -f "$root$to"; done
+    for folder in "$libdir/cmake/wasmloop" "$share/wasmloop/guest" "$share/wasmloop"; do
+        rmdir "$root$folder" 2>/dev/null || true
+    done
+    exit
+fi
+for what in program library; do "$top/dist/same.sh" "$what" >/dev/null; done
+
+# (CMake finds the prefix from the file's own place, so that a tree which is moved still works)
+case $libdir in
+"$prefix"/*) up=$(echo "${libdir#"$prefix"/}/cmake/wasmloop" | sed 's|[^/][^/]*|..|g') up="\${CMAKE_CURRENT_LIST_DIR}/$up" ;;
+*) up=$prefix ;;
+esac
+for file in wasmloop.pc wasmloop-config.cmake wasmloop-config-version.cmake; do
+    sed "s|@prefix@|$prefix|; s|@libdir@|$libdir|; s|@up@|$up|; s|@version@|$version|" "$top/capi/$file.in" > "$room/$file"
+done
+cd "$top"
+files | while read -r rights from to; do
+    mkdir -p "$root${to%/*}"
+    install -m "$rights" "$from" "$root$to"
+done
+ln -sf libwasmloop.so.0 "$root$libdir/libwasmloop.so"
+echo "wasmloop $version is in $root$prefix; ./install.sh --uninstall with the same words removes it"

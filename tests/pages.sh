@@ -1,0 +1,141 @@
+#!/usr/bin/env bash
+# Runs the commands of the pages, as they stand there, in a copy of what they need.
+#
+# A command is an indented line of README, of docs and of examples that begins with one of the words below. PROGRAM is its `wasmloop`. What
+# follows a command behind `#`, or below a line that begins with `$`, is what it prints, or its first line begins so. Left out, and said, are
+# those that need Rattle's kit, a network, a package that isn't there, or a file of the reader's. The commands of docs/GUESTS.md, which build
+# on one another, are run by examples/guests_test.sh, which it calls. Ends with 1 if a command fails or prints something else.
+#
+# usage: tests/pages.sh PROGRAM [--tell]        with --tell each command that is run is printed
+set -u
+[ $# -ge 1 ] || { sed -n 's/^# \(usage: .*\)/\1/p' "$0" >&2; exit 2; }
+tell=${2:-}
+top=$(cd "$(dirname "$0")/.." && pwd)
+program=$(readlink -f "$1")
+room=$(mktemp -d)
+trap 'rm -rf "$room"' EXIT
+cp -r "$top/examples" "$top/capi" "$top/dist" "$top/install.sh" "$top/README.md" "$room"
+ln -s "$top/crates" "$top/crates.txt" "$room"
+ln -s "$program" "$room/wasmloop"
+cd "$room" || exit 1
+export PATH="$room:$PATH" PIP_TARGET="$room/python" PIP_NO_INDEX=1 PIP_DISABLE_PIP_VERSION_CHECK=1 PYTHONPATH="$room/python" WASMLOOP="$room/wasmloop"
+export CARGO_TARGET_DIR="$room/target" WASMLOOP_FOLDER="$room/dist" LD_LIBRARY_PATH="$room/prefix/lib"
+count=0 wrong=0 left=0
+
+has() { command -v "$1" > /dev/null; }
+fail() { echo "FAILED: $1"; wrong=$((wrong + 1)); }
+leave() { echo "left out: $1: $2"; left=$((left + 1)); }
+
+# the commands of a page, each with what it prints behind a tab
+commands() {
+    awk '
+        function flush() { if (command != "") print command "\t" told; command = told = ""; dollar = 0 }
+        /^```/ { inside = !inside }
+        inside || !/^    [^ ]/ { if (!joined) flush(); if (!/^    /) next }
+        {
+            line = substr($0, 5)
+            if (joined) { sub(/^ */, "", line); command = command " " line }
+            else if (dollar && line !~ /^\$ /) { if (told == "") told = line; next }
+            else { flush(); command = line }
+            joined = sub(/ *\\$/, "", command)
+            dollar = sub(/^\$ /, "", command)
+            if (!joined && match(command, /  +# /)) { told = substr(command, RSTART + RLENGTH); sub(/  +# .*/, "", command) }
+        }
+        END { flush() }' "$top/$1"
+}
+
+# writes the files of a page: each block below a line that is a name, as `first.c`:
+files() {
+    awk '
+        /^```/ { if (!inside && name) { file = name; printf "" > file } inside = !inside; if (!inside) file = ""; name = ""; next }
+        inside { if (file) print > file; next }
+        /^`[a-z_]+\.[a-z]+`:$/ { name = substr($0, 2, length - 3); next }
+        NF { name = "" }' "$top/$1"
+}
+
+# a file that a command reads and that isn't there
+missing() {
+    local word before=
+    for word in $1; do
+        case $word in
+        *.c | *.o | *.rs | *.py | *.steps | *.json | *.wasm) [ -e "$word" ] || [ "$before" = -o ] || [ "$before" = '>' ] || { echo "there is no $word"; return; } ;;
+        esac
+        before=$word
+    done
+}
+
+# what a command needs that isn't there; nothing if all is
+lacks() {
+    case $1 in
+    *build.py* | rt\ * | dist/prove.sh* | dist/update.sh* | .ci/* | export\ PATH*) echo "it needs the kit" ;;
+    *apt-get* | rustup*) echo "it needs a network" ;;
+    *FILE* | *PROGRAM* | *OUT* | *' NAME'* | *' OP'* | *myhost*) echo "it names the reader's own" ;;
+    *LOOP/*) echo "a step of GUESTS or of its kit" ;;
+    pip\ * | *first.py*) has pip && [ -f dist/libwasmloop.so.0 ] || echo "there is no pip, or no library in dist/" ;;
+    PREFIX=* | *first* | *libwasmloop*) has cc && [ -f dist/libwasmloop.a ] || echo "there is no cc, or no library in dist/" ;;
+    *cargo*) has cargo && [ -f dist/libwasmloop.a ] || echo "there is no cargo, or no library in dist/" ;;
+    *clang* | *wasm-ld* | examples/build.sh*) { has clang && has wasm-ld; } || echo "there is no clang or no wasm-ld" ;;
+    esac
+}
+
+# why a command is not run; nothing if it is
+why_not() {
+    local why
+    why=$(lacks "$1")
+    if [ -n "$why" ]; then echo "$why"; elif [[ $1 != cd\ * ]]; then missing "$1"; fi
+}
+
+run() {
+    local page=$1 command=$2 told=$3 why printed
+    why=$(why_not "$command")
+    if [ -n "$why" ]; then leave "$page: $command" "$why"; return; fi
+    count=$((count + 1))
+    [ -z "$tell" ] || echo "run: $page: $command${told:+: $told}"
+    printed=$(eval "( ${command//\/my\/prefix/$room/prefix} )" 2> problem)
+    case $? in
+    0 | 3 | 4) ;;
+    *) fail "$page: $command"; cat problem; return ;;
+    esac
+    case $told in
+    done\ * | accepted | loop\ * | return\ *) [[ $printed == "${told%..}"* || $told == "$printed"* ]] || fail "$page: $command: it prints $printed" ;;
+    esac
+}
+
+# the first block of a language in a page
+block() { awk -v fence="\`\`\`$2" '$0 == fence { inside = 1; next } /^```/ { if (inside) exit } inside' "$top/$1"; }
+
+block README.md c > tick.c
+if has clang && has wasm-ld; then
+    clang --target=wasm32 -mcpu=mvp -O2 -ffreestanding -Iexamples -c tick.c examples/mem.c || fail "README.md: tick.c"
+    wasm-ld --no-entry --export-table --stack-first -z stack-size=16384 -o tick.wasm tick.o mem.o || fail "README.md: tick.c"
+fi
+for page in README.md docs/COMMANDS.md docs/EMBEDDING.md docs/PLUGINS.md examples/README.md examples/libraries/README.md; do
+    [ -f "$top/$page" ] || continue
+    files "$page"
+    # (its files stand in a folder of their own)
+    if [ "$page" = docs/PLUGINS.md ]; then cp examples/plugins/*.c . 2> /dev/null; fi
+    while IFS=$'\t' read -r command told; do
+        case $command in
+        ./* | wasmloop\ * | cc\ * | PREFIX=* | pip\ * | python3\ * | examples/* | cd\ * | dist/* | sh\ * | clang\ * | wasm-ld\ *) run "$page" "$command" "$told" ;;
+        esac
+    done < <(commands "$page")
+done
+
+# the example of each command's help
+for name in $("$program" help | sed -n '/^Commands:/,/^$/s/^  \([a-z]*\) .*/\1/p' | grep -v help); do
+    run "help $name" "$("$program" help "$name" | sed -n '/^Example:/{n;s/^ *//;p;}')" ""
+done
+
+# the lines in a page's text that a command prints
+says() {
+    count=$((count + 1))
+    [[ $(eval "$2" 2>&1) == *"$3"* ]] && grep -qF "$3" "$top/$1" || fail "$1: $2 does not print $3"
+}
+says README.md './wasmloop work examples/sha256.wasm 0 616263' 'done 3 bytes 32 ba7816bf8f01cfea'
+says docs/COMMANDS.md './wasmloop check examples/seven.wasm' 'accepted'
+number=$(./wasmloop work examples/crc32.wasm 0 616263 | cut -d ' ' -f 2)
+[ ! -x first ] || [ "$(./first examples/crc32.wasm)" = "$number" ] || fail "docs/EMBEDDING.md: first.c"
+[ ! -d python ] || [ "$(python3 first.py)" = "$number" ] || fail "docs/EMBEDDING.md: first.py"
+"$top/examples/guests_test.sh" "$program" || wrong=$((wrong + 1))
+echo "pages: $count commands, $left left out, $wrong wrong"
+[ $wrong = 0 ]

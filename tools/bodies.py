@@ -1,0 +1,258 @@
+#!/usr/bin/env python3
+"""Puts the wrong bodies of tests/bodies into copies of the tree, and says which test meets each. Nothing is proved.
+
+    python3 tools/bodies.py                   all of them; status 1 if one is not met by the test that it names
+    python3 tools/bodies.py NAME ..           these
+    python3 tools/bodies.py --once [NAME ..]  all of a crate of tests in one run: what passes here is not met, for sure; what fails may
+                                              fail by another body of the run
+    python3 tools/bodies.py --list            which would be run together
+
+tests/bodies/NAME.edit is one wrong body:
+
+    says: what is wrong, as docs/TESTING.md says it
+    met: CRATE TEST             the test that must fail, as `test_modules runs::bodies_end_as_they_must`; of test_program, how the
+                                command begins whose row must differ; `wasmloop run`, the program on its stored arguments
+    alone                       (if it is so) it breaks too much to stand beside others
+    file: CRATE/src/FILE.rt     then lines `old: TEXT` and `new: TEXT`, as in must-fail edits: each TEXT is one line, and `old` stands in
+                                the file once
+
+Runs cost more than tests, so bodies of one crate of tests share runs: of k runs each body stands in half, no two in the same ones.
+A test meets a body if it fails in each run with it, and in no other: a test that fails by another body alone fails in a run
+without this one too. Of a body that stands alone in a run, a test meets it that fails there and passes in another run, if need be
+one without any body. Bodies that name one test, or that edit one text, are not put together. What is undecided is run alone.
+"""
+import re
+import shutil
+import subprocess
+import sys
+import tempfile
+import time
+from itertools import combinations
+from pathlib import Path
+
+TOP = Path(__file__).resolve().parent.parent
+BODIES = TOP / 'tests' / 'bodies'
+LONGEST = 1500  # seconds of one run
+
+
+class Body:
+    """One wrong body: its changes, and the test that is to meet it."""
+
+    def __init__(self, file):
+        self.name, self.says, self.alone, self.changes, at, old = file.stem, '', False, [], None, None
+        for line in filter(str.strip, file.read_text().split('\n')):
+            word, _, rest = line.partition(': ')
+            if word == 'says':
+                self.says = rest
+            elif word == 'met':
+                self.crate, _, self.test = rest.partition(' ')
+            elif word == 'file':
+                at = rest
+            elif word == 'old':
+                old = rest
+            elif word == 'new':
+                self.changes.append((at, old, rest))
+            elif line == 'alone':
+                self.alone = True
+            else:
+                sys.exit(f"bodies: {file.name}: {line}")
+
+    def put_into(self, texts):
+        """The texts of the files with this body, or None where it can't be put there."""
+        changed = dict(texts)
+        for file, old, new in self.changes:
+            text = changed.get(file) or (TOP / 'crates' / file).read_text()
+            if text.count(old) != 1:
+                return None
+            changed[file] = text.replace(old, new)
+        return changed
+
+
+def groups(bodies):
+    """Bodies that can stand in one tree, each naming a test of its own."""
+    found = []
+    for body in bodies:
+        if body.put_into({}) is None:
+            sys.exit(f"bodies: {body.name} can't be put into the tree")
+        for group in found:
+            if body.alone or group[0].alone or body.test in [one.test for one in group]:
+                continue
+            if together(group + [body]) is not None:
+                group.append(body)
+                break
+        else:
+            found.append([body])
+    return found
+
+
+def together(bodies):
+    texts = {}
+    for body in bodies:
+        texts = None if texts is None else body.put_into(texts)
+    return texts
+
+
+def marks(count):
+    """For each of so many bodies the runs in which it stands: of as few runs as serve, half, and no two the same."""
+    runs = 1
+    while len(list(combinations(range(runs), max(runs // 2, 1)))) < count:
+        runs += 1
+    return runs, [set(one) for one in list(combinations(range(runs), max(runs // 2, 1)))[:count]]
+
+
+class Room:
+    """A copy of the tree, in which one crate of tests is run at a time."""
+
+    def __init__(self, folder):
+        self.top, self.passed = Path(folder) / 'tree', {}
+        shutil.copytree(TOP / 'crates', self.top / 'crates', ignore=shutil.ignore_patterns('out', 'must-fail'))
+        for file in ('crates.txt', 'HANDLES'):
+            shutil.copy(TOP / file, self.top)
+
+    def run(self, crate, bodies):
+        """Which tests fail with these bodies; None where the run came to no end."""
+        texts, began = together(bodies), time.time()
+        for file, text in texts.items():
+            (self.top / 'crates' / file).write_text(text)
+        try:
+            found = self.outcome(crate)
+        finally:
+            for file in texts:
+                shutil.copy(TOP / 'crates' / file, self.top / 'crates' / file)
+        told = 'no end' if found is None else f"{len(found[0])} of {len(found[0]) + len(found[1])} fail"
+        names = ' '.join(body.name for body in bodies) or 'none'
+        print(f"  {crate} with {names}: {told}, {time.time() - began:.0f} s", flush=True)
+        self.passed.setdefault(crate, set()).update(found[1] if found else [])
+        return found[0] if found else None
+
+    def by_these(self, crate, failed):
+        """Those of the tests that failed that pass in another run."""
+        if not self.passed.get(crate, set()).issuperset(failed):
+            self.run(crate, [])
+        return [test for test in failed if test in self.passed[crate]]
+
+    def outcome(self, crate):
+        folder = self.top / 'crates' / crate
+        if crate == 'test_program':
+            return rows_that_differ(self.told(folder, [], (folder / 'stdin').read_bytes()), (folder / 'stdout').read_text())
+        if not crate.startswith('test_'):
+            return program_that_differs(folder, self)
+        told = self.told(folder, ['--test']).stdout
+        failed = re.findall(r"^test (\S+) \.\.\. FAILED(?!\n    checked: no-answer)", told, re.M)
+        passed = re.findall(r"^test (\S+) \.\.\. ok$", told, re.M)
+        return (failed, passed) if re.search(r"^test result: ", told, re.M) else self.keep(told)
+
+    @staticmethod
+    def told(folder, words, given=b''):
+        done = subprocess.run(['timeout', '--foreground', str(LONGEST), 'rt', 'try', *words], cwd=folder, input=given, capture_output=True)
+        done.stdout, done.stderr = done.stdout.decode(), done.stderr.decode()
+        return done
+
+    @staticmethod
+    def keep(told):
+        print('    ' + '\n    '.join(told.strip().split('\n')[-6:]), flush=True)
+
+
+def rows(text):
+    """Each command of a list with what it printed and its status, by the command and how often it stood there before."""
+    found, at = {}, None
+    for line in text.split('\n'):
+        if line.startswith('$ '):
+            at = next((line[2:], n) for n in range(10000) if (line[2:], n) not in found)
+            found[at] = []
+        elif at:
+            found[at].append(line)
+            at = None if line.startswith('= ') else at
+    return found
+
+
+def rows_that_differ(done, wanted):
+    told, right = rows(done.stdout), rows(wanted)
+    if not told or 'run=ended' not in done.stderr:
+        return Room.keep(done.stdout[-300:] + done.stderr)
+    parts = [], []
+    for at, lines in right.items():
+        parts[told.get(at) == lines].append(at[0])
+    return parts
+
+
+def program_that_differs(folder, room):
+    """The program on its stored arguments: whether it prints and ends as it must."""
+    words = [word for file in sorted((folder / 'data').glob('*')) for word in ('--data', f"{file.name}=data/{file.name}")]
+    done = room.told(folder, words + ['--', *(folder / 'args').read_text().split()])
+    status = folder / 'status'
+    wanted = (folder / 'stdout').read_text(), int(status.read_text()) if status.is_file() else 0
+    if 'run=ended' not in done.stderr:
+        return room.keep(done.stderr)
+    return ([], ['run']) if (done.stdout, done.returncode) == wanted else (['run'], [])
+
+
+def meets(body, failed):
+    """Those of the tests that failed that are the one which the body names."""
+    return [test for test in failed if (test.startswith(body.test) if body.crate == 'test_program' else test == body.test)]
+
+
+def told_of(body, failed):
+    """What is told of a body with the tests that meet it; whether the one that it names is there."""
+    named = meets(body, failed)
+    others = [test for test in failed if test not in named]
+    if not failed:
+        print(f"{body.name}: NOT MET; {body.crate} {body.test} is to meet it", flush=True)
+    elif not named:
+        print(f"{body.name}: met by {body.crate} {others[0]:.60}, NOT by {body.test}", flush=True)
+    else:
+        more = f", and {len(failed) - 1} more" if len(failed) > 1 else ''
+        print(f"{body.name}: met by {body.crate} {named[0]:.60}{more}", flush=True)
+    return bool(named)
+
+
+def try_alone(room, body):
+    return told_of(body, room.by_these(body.crate, room.run(body.crate, [body]) or []))
+
+
+def try_group(room, group, once):
+    """How many of the bodies are met as they say."""
+    crate = group[0].crate
+    count, stand = marks(1 if once else len(group))
+    stand = stand * len(group) if once else stand
+    runs = [room.run(crate, [body for body, at in zip(group, stand) if run in at]) for run in range(count)]
+    if None in runs:
+        return sum(try_alone(room, body) for body in group) if len(group) > 1 else told_of(group[0], [])
+    met = 0
+    for body, at in zip(group, stand):
+        failed = set.intersection(*(set(runs[run]) for run in at))
+        elsewhere = {test for run in range(count) if run not in at for test in runs[run]}
+        if once:
+            met += told_of(body, meets(body, failed))
+        elif any(sum(run in other for other in stand) == 1 for run in at):
+            met += told_of(body, room.by_these(crate, sorted(failed)))
+        elif failed - elsewhere or not failed:
+            met += told_of(body, sorted(failed - elsewhere))
+        else:
+            met += try_alone(room, body)
+    return met
+
+
+def main():
+    words = sys.argv[1:]
+    once, names = '--once' in words, [word for word in words if not word.startswith('--')]
+    bodies = [Body(file) for file in sorted(BODIES.glob('*.edit')) if not names or file.stem in names]
+    by_crate = {}
+    for body in bodies:
+        by_crate.setdefault(body.crate, []).append(body)
+    parts = [group for crate in sorted(by_crate) for group in groups(by_crate[crate])]
+    if '--list' in words:
+        for group in parts:
+            print(f"{group[0].crate}, {1 if once else marks(len(group))[0]} runs: {' '.join(body.name for body in group)}")
+        return
+    began, met = time.time(), 0
+    with tempfile.TemporaryDirectory() as folder:
+        room = Room(folder)
+        for group in parts:
+            met += try_group(room, group, once)
+    print(f"{met} of {len(bodies)} wrong bodies are met as they say, {time.time() - began:.0f} s")
+    sys.exit(met != len(bodies))
+
+
+if __name__ == '__main__':
+    main()

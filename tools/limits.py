@@ -1,0 +1,128 @@
+#!/usr/bin/env python3
+"""Whether docs/LIMITS.md and the sentences of the program say the numbers that the code has.
+
+    python3 tools/limits.py               status 1 if a row or a sentence has another number than its constant, or a constant has no row
+    python3 tools/limits.py --self-test   plants faults in copies of the texts; status 1 if one isn't found
+
+A row of LIMITS.md names its constants in the column *Constant*, those of crates/limits/src/lib.rt by name alone, others as `crate::NAME`,
+and has the number of each in the column *Most*. Each constant of `limits` stands in a row. A string of the code that says `more than N
+THINGS` or `N THINGS at most` has the number of a limit: of one that is called after the things, where there is one.
+"""
+import re
+import sys
+from pathlib import Path
+
+from sources import Sources as Texts
+
+TOP = Path(__file__).resolve().parent.parent
+PAGE, LIMITS = "docs/LIMITS.md", "crates/limits/src/lib.rt"
+CONSTANT = re.compile(r"\bconst ([A-Z][A-Z_0-9]*): \w+ = ([\d_]+);")
+SENTENCE = re.compile(r"(?:[Mm]ore than|at most|deeper than) (\d[\d,]*)(?: ([a-z]+))?")
+
+
+class Sources(Texts):
+    """Those that this tool reads."""
+
+    def crate(self, crate):
+        return "\n".join(self.text(str(file.relative_to(TOP))) for file in sorted((TOP / "crates" / crate / "src").rglob("*.rt")))
+
+    def strings(self):
+        """Each string of the program's sources, with its file."""
+        for file in sorted(TOP.glob("crates/*/src/**/*.rt")):
+            name = str(file.relative_to(TOP))
+            if "/test_" not in name and "/example_" not in name:
+                yield from ((name, string) for string in re.findall(r'"((?:[^"\\]|\\.)*)"', re.sub(r"(?m)//[^\n]*", "", self.text(name))))
+
+
+def constants(sources):
+    return {name: int(value.replace("_", "")) for name, value in CONSTANT.findall(sources.text(LIMITS))}
+
+
+def value_of(sources, word):
+    """The number of a constant; None where there is no such one."""
+    crate, _, name = word.rpartition("::")
+    found = dict(CONSTANT.findall(sources.crate(crate or "limits")))
+    return int(found[name].replace("_", "")) if name in found else None
+
+
+def rows(sources):
+    """The rows that name constants: what they are of, their numbers, and the constants."""
+    for line in sources.text(PAGE).split("\n"):
+        cells = [cell.strip() for cell in line.strip("|").split("|")] if line.startswith("|") else []
+        if len(cells) == 4:
+            named = re.findall(r"`((?:\w+::)?[A-Z][A-Z_0-9]+)`", cells[3])
+            yield from ([(cells[0], numbers_of(cells[1]), named)] if named else [])
+
+
+def numbers_of(cell):
+    """The numbers that a text has, a power of two too."""
+    powers = [2 ** int(power) for power in re.findall(r"\b2\^(\d+)", cell)]
+    return [int(number.replace(",", "")) for number in re.findall(r"\d[\d,]*\d|\d", re.sub(r"2\^\d+", "", cell))] + powers
+
+
+def wrong_rows(sources):
+    told = set()
+    for thing, numbers, named in rows(sources):
+        told.update(named)
+        for word in named:
+            value = value_of(sources, word)
+            if value is None:
+                yield f"{PAGE}: {thing}: there is no constant {word}"
+            elif value not in numbers:
+                yield f"{PAGE}: {thing}: {word} is {value:,}, and {numbers} stand there"
+    for name in constants(sources).keys() - told:
+        yield f"{PAGE}: has no row of {name}"
+
+
+def wrong_sentences(sources):
+    known = constants(sources)
+    for file, string in sources.strings():
+        for number, thing in SENTENCE.findall(string):
+            value = int(number.rstrip(",").replace(",", ""))
+            named = {name: known[name] for name in known if thing and thing.upper() in name.split("_")}
+            if value not in (named or known).values():
+                yield f"{file}: \"{string[:60]}\": {value:,} is no limit{f': {named}' if named else ''}"
+
+
+def faults(sources):
+    return [*wrong_rows(sources), *wrong_sentences(sources)]
+
+
+PLANTED = [
+    ("a constant", LIMITS, r"(MAX_EMITS: usize = )\d+", r"\g<1>63"),
+    ("a constant without a row", LIMITS, r"(?m)^(pub const MAX_EMITS)", r"pub const MAX_NEW: u32 = 7;\n\n\1"),
+    ("a row's number", PAGE, r"\| 4,096 \|", "| 4,095 |"),
+    ("a row's name", PAGE, r"`MAX_TYPES`", "`MAX_TYPE`"),
+    ("a sentence's number", None, r"(more than )1,024( types)", r"\g<1>1,023\2"),
+    ("a sentence's number, of another limit", None, r"(more than )64( imports)", r"\g<1>256\2"),
+]
+
+
+def self_test():
+    missed, whole = 0, Sources()
+    before = faults(whole)
+    for what, file, old, new in PLANTED:
+        file = file or next((name for name, string in whole.strings() if re.search(old, string)), None)
+        changed, count = re.subn(old, new, whole.text(file), count=1) if file else ("", 0)
+        found = [fault for fault in faults(Sources({file: changed})) if fault not in before] if count else []
+        printed = "there is no such text" if not count and what.startswith("a sentence") else None
+        missed += not found and not printed
+        print(f"{printed or ('found' if found else 'MISSED')}: {what}{': ' + found[0] if found else ''}")
+    print(f"{len(PLANTED)} faults planted, {missed} missed")
+    return missed
+
+
+def main():
+    if "--self-test" in sys.argv[1:]:
+        sys.exit(1 if self_test() else 0)
+    sources = Sources()
+    found = faults(sources)
+    for fault in found:
+        print(fault, file=sys.stderr)
+    sentences = sum(len(SENTENCE.findall(string)) for _, string in sources.strings())
+    print(f"{len(constants(sources))} limits, {len(list(rows(sources)))} rows, {sentences} numbers in sentences, {len(found)} faults")
+    sys.exit(1 if found else 0)
+
+
+if __name__ == "__main__":
+    main()

@@ -1,0 +1,161 @@
+#!/usr/bin/env python3
+"""Writes the manual pages and the completions, of what the program says by `help` and of the comments in capi/wasmloop.h, to dist/.
+
+usage: pages.py PROGRAM [--check]
+
+With --check nothing is written; a file that is not what these sources give is named, and the status is 1.
+"""
+
+import os
+import re
+import subprocess
+import sys
+
+TOP = os.path.dirname(os.path.dirname(os.path.realpath(__file__)))
+BLANK = ""
+
+
+def said(program, *words):
+    return subprocess.run([program, *words], stdout=subprocess.PIPE, check=True, text=True).stdout
+
+
+def roff(text):
+    """A text as roff, in which no word is a request and quoted words are bold."""
+    lines = text.replace("\\", "\\e").replace("-", "\\-").split("\n")
+    lines = [re.sub(r"`([^`]*)`", r"\\fB\1\\fR", it) for it in lines]
+    return "\n".join(f"\\&{it}" if it.startswith((".", "'")) else it for it in lines)
+
+
+def plain(text):
+    """Lines that are kept as they are."""
+    return [".nf", roff(text), ".fi"]
+
+
+class Help:
+    """What `help` says of the program or of a command."""
+
+    def __init__(self, text):
+        self.text = text
+        self.about, _, rest = text.partition("\n\nUsage: ")
+        self.usage, _, rest = rest.partition("\n\n")
+        self.tables, self.prose, self.example = {}, [], BLANK
+        for part in rest.rstrip().split("\n\n"):
+            head, _, body = part.partition(":\n")
+            if head in ("Commands", "Arguments", "Options"):
+                self.tables[head] = re.findall(r"(?m)^ {2,6}(\S.*?)(?: {2,}(.*))?$", body)
+            elif head == "Example":
+                self.example = body
+            else:
+                self.prose.append(part)
+
+    def options(self):
+        """The long options, each with whether it takes a value and what it does."""
+        for words, about in self.tables.get("Options", []):
+            long = re.search(r"--[a-z-]+", words)[0]
+            yield long, "<" in words, about
+
+
+def table(rows):
+    for words, about in rows:
+        yield from (".TP", f"\\fB{roff(words)}\\fR", roff(about))
+
+
+def program_page(version, whole, commands):
+    page = [f'.TH WASMLOOP 1 "" "wasmloop {version}" "User Commands"', ".SH NAME", f"wasmloop \\- {whole.about[0].lower()}{roff(whole.about[1:])}"]
+    page += [".SH SYNOPSIS", ".nf", *(f"\\fB{roff(it.usage)}\\fR" for it in commands.values()), ".fi", ".SH COMMANDS"]
+    for name, it in commands.items():
+        page += [f".SS {name}", roff(it.about) + "."]
+        for rows in it.tables.values():
+            page += table(row for row in rows if not row[0].startswith("-h"))
+        for part in it.prose:
+            page += [".PP", roff(part)]
+        page += [".PP", "Example:", ".RS", *plain(it.example.strip()), ".RE"]
+    page += [".SH OPTIONS", *table(whole.tables["Options"]), ".SH EXIT STATUS", roff(whole.prose[-1].removeprefix("Status: "))]
+    return page + [".SH SEE ALSO", "\\fBwasmloop.h\\fR(3)"]
+
+
+def header_page(version, text):
+    """The header's first comment, and its declarations, each behind what is said of it."""
+    words = lambda it: re.sub(r"(?m)^ ?\*? ?", "", it.strip()).strip()
+    first = words(re.match(r"/\*(.*?)\*/", text, re.S)[1])
+    about, _, first = first.partition("\n\n")
+    body = re.search(r'extern "C" \{\n#endif\n(.*)\n#ifdef __cplusplus', text, re.S)[1]
+    page = [f'.TH WASMLOOP.H 3 "" "wasmloop {version}" "Library Functions Manual"', ".SH NAME", "wasmloop.h \\- " + roff(about.partition(": ")[2].rstrip("."))]
+    page += [".SH SYNOPSIS", *plain("#include <wasmloop.h>\n\ncc .. $(pkg-config --cflags --libs wasmloop)"), ".SH DESCRIPTION"]
+    for part in first.split("\n\n"):
+        page += [".PP", *(plain(part) if part.startswith(" ") else [roff(part)])]
+    page.append(".SH DECLARATIONS")
+    for part in re.split(r"\n\n+", body.strip()):
+        comment = re.match(r"/\*(.*?)\*/\n(?=\S)", part + "\n", re.S)
+        if comment:
+            page += [".PP", roff(words(comment[1])), ".PP", ".RS", *plain(part[comment.end():].rstrip()), ".RE"]
+        else:
+            page += [".PP", ".RS", *plain(part), ".RE"]
+    return page + [".SH SEE ALSO", "\\fBwasmloop\\fR(1)"]
+
+
+def bash(commands):
+    cases = "\n".join(f"    {name}) options='{' '.join(it[0] for it in help.options())}' ;;" for name, help in commands.items())
+    return f"""# bash completion of wasmloop
+_wasmloop() {{
+    local word=${{COMP_WORDS[COMP_CWORD]}} options
+    if [ "$COMP_CWORD" = 1 ]; then
+        mapfile -t COMPREPLY < <(compgen -W '{" ".join(commands)} help --help --version' -- "$word")
+        return
+    fi
+    case ${{COMP_WORDS[1]}} in
+{cases}
+    help) mapfile -t COMPREPLY < <(compgen -W '{" ".join(commands)}' -- "$word"); return ;;
+    esac
+    case $word in
+    -*) mapfile -t COMPREPLY < <(compgen -W "$options" -- "$word") ;;
+    *) mapfile -t COMPREPLY < <(compgen -f -- "$word") ;;
+    esac
+}}
+complete -o filenames -F _wasmloop wasmloop""".split("\n")
+
+
+def zsh(whole, commands):
+    quoted = lambda it: it.replace("'", "").replace("[", "(").replace("]", ")").replace(":", ",")
+    lines = ["#compdef wasmloop", "", "local -a commands", "commands=("]
+    lines += [f"    '{name}:{quoted(it.about)}'" for name, it in commands.items()]
+    lines += [")", "if (( CURRENT == 2 )); then", "    _describe command commands -- '(--help --version)'", "    return", "fi"]
+    lines.append("case $words[2] in")
+    for name, it in commands.items():
+        options = " ".join(f"'{long}[{quoted(about)}]{':number' if takes else BLANK}'" for long, takes, about in it.options())
+        lines.append(f"{name}) _arguments {options} '*:file:_files' ;;")
+    return [*lines, "help) _describe command commands ;;", "esac"]
+
+
+def main(program, check):
+    program = os.path.abspath(program)
+    version = said(program, "--version").split()[1]
+    whole = Help(said(program, "help"))
+    commands = {name: Help(said(program, "help", name)) for name, _ in whole.tables["Commands"] if name != "help"}
+    told = {f"{TOP}/capi/wasmloop.h": f'#define WASMLOOP_VERSION "{version}"', f"{TOP}/capi/rust/Cargo.toml": f'version = "{version}"'}
+    for path, line in told.items():
+        with open(path) as file:
+            if line not in file.read().split("\n"):
+                sys.exit(f"the program says {version}, and {os.path.relpath(path, TOP)} does not")
+    with open(f"{TOP}/capi/wasmloop.h") as file:
+        header = file.read()
+    made = {
+        "wasmloop.1": program_page(version, whole, commands),
+        "wasmloop.h.3": header_page(version, header),
+        "wasmloop.bash": bash(commands),
+        "_wasmloop": zsh(whole, commands),
+    }
+    wrong = 0
+    for name, lines in made.items():
+        path, text = f"{TOP}/dist/{name}", "\n".join(lines) + "\n"
+        if not check:
+            with open(path, "w") as file:
+                file.write(text)
+        elif not os.path.isfile(path) or open(path).read() != text:
+            print(f"dist/{name} is not what program and header say: tools/pages.py writes it")
+            wrong = 1
+    return wrong
+
+
+if __name__ == "__main__":
+    sys.exit(main(sys.argv[1], "--check" in sys.argv[2:]))

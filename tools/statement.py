@@ -1,0 +1,133 @@
+#!/usr/bin/env python3
+"""Says in dist/PROOF.json what was proved of the files in dist/: an in-toto statement, without a date, that the gate compares.
+
+usage: statement.py                 writes it, of what build.py has proved (dist/update.sh calls this)
+       statement.py --of LOG..      writes it, of what runs of `rt ci` have proved, whose outputs these are, the last one last
+       statement.py --check LOG     whether it says what LOG, the output of `rt ci`, says; of a crate that this run kept from an earlier
+                                    one on the same machine it compares the sums of the sources alone, and says how many these are
+"""
+
+import glob
+import hashlib
+import json
+import os
+import re
+import subprocess
+import sys
+
+TOP = os.path.dirname(os.path.dirname(os.path.realpath(__file__)))
+MADE = f"{TOP}/dist/PROOF.json"
+# What of a verdict is said of a crate, by the words that stand there. Axioms are C functions whose contracts are taken as written.
+TOLD = {"functions": int, "axioms": int, "may-wait": int, "may-abort": int}
+
+
+def text_of(path):
+    with open(path, encoding="utf-8", errors="replace") as file:
+        return file.read()
+
+
+def sums(path):
+    return [line.split("  ", 1) for line in text_of(path).splitlines()]
+
+
+def edits_of(crate):
+    return len(glob.glob(f"{TOP}/crates/{crate}/must-fail/*.edit"))
+
+
+def verdict(text):
+    """The words of the last verdict in what rattle printed, which must be that the crate is proved."""
+    return dict(re.findall(r"\b([a-z-]+)=(\S+)", re.findall(r"^logic=proved .*", text, re.M)[-1]))
+
+
+def built(crate):
+    """What build.py kept of the proof of a crate."""
+    return verdict(text_of(f"{TOP}/crates/{crate}/out/build.log"))
+
+
+def statement(proof_of):
+    """The statement. `proof_of` tells the verdict on a crate."""
+    crates, used, logics = [], set(), set()
+    for digest, line in sums(f"{TOP}/dist/SOURCES"):
+        if "/" not in line:
+            name = re.match(r"\w+", line)[0]
+            used.update(line.partition(":")[2].split())
+            words = proof_of(name)
+            logics.add(words["sum"])
+            told = {word: kind(words[word]) for word, kind in TOLD.items() if word in words}
+            crates.append({"name": name, "sources": {"sha256": digest}, **told})
+    (logic,) = logics
+    c_files = [{"name": name, "sources": {"sha256": digest}} for digest, name in sums(f"{TOP}/dist/SOURCES") if "/" in name]
+    every = re.findall(r"(?m)^(\w+)[^:\n]*:", text_of(f"{TOP}/crates.txt"))
+    return {
+        "_type": "https://in-toto.io/Statement/v1",
+        "subject": [{"name": name, "digest": {"sha256": digest}} for digest, name in sums(f"{TOP}/dist/SHA256")],
+        "predicateType": "tag:wasmloop,2026:proof/1",
+        "predicate": {
+            "version": re.search(r'#define WASMLOOP_VERSION "(.*)"', text_of(f"{TOP}/capi/wasmloop.h"))[1],
+            "sources": {"sha256": hashlib.sha256(text_of(f"{TOP}/dist/SOURCES").encode()).hexdigest()},
+            "prover": {"name": "rattle", "logic": logic},
+            "functions": sum(it["functions"] for it in crates),
+            "editsRefused": sum(map(edits_of, every)),
+            "promise": "README.md: What it promises",
+            "trusted": "docs/PROOFS.md: What is only tested, What is neither, What is trusted",
+            "crates": crates,
+            "librariesOfTheKit": sorted(used - {it["name"] for it in crates}),
+            "notProved": c_files,
+        },
+    }
+
+
+def parts_of(log):
+    return {name: part for name, part in re.findall(r"^== (\w+)\n(.*?)(?=^== |\Z)", log, re.M | re.S) if "\nlogic=proved " in part}
+
+
+def kept_in(log):
+    return re.findall(r"^rt: (\w+) is kept: ", log, re.M)
+
+
+def as_stated():
+    """The verdicts that the statement has."""
+    made = json.loads(text_of(MADE))["predicate"]
+    return {it["name"]: {"sum": made["prover"]["logic"], **{word: str(it[word]) for word in TOLD if word in it}} for it in made["crates"]}
+
+
+def gate(paths, known):
+    """What outputs of `rt ci` tell of a crate's proof; `known` are the verdicts on crates that the last one kept. Ends where not every edit was
+    refused in the last one, or something failed."""
+    logs = [text_of(it) for it in paths]
+    refused = len(re.findall(r"^(?:rt: )?must-fail \S+: refused, as it must be", logs[-1], re.M))
+    every = sum(map(edits_of, re.findall(r"(?m)^(\w+)[^:\n]*:", text_of(f"{TOP}/crates.txt"))))
+    if refused != every or not re.search(r"^[1-9]\d* passed, 0 failed$", logs[-1], re.M):
+        sys.exit(f"{paths[-1]}: {refused} of {every} edits refused, and no last line that says that nothing failed")
+    found = {name: verdict(part) for log in logs for name, part in parts_of(log).items()}
+    return lambda crate: found[crate] if crate in found else known[crate]
+
+
+def write(made):
+    with open(MADE, "w", encoding="utf-8") as file:
+        file.write(made)
+    return 0
+
+
+def text(proof_of):
+    return json.dumps(statement(proof_of), indent=1) + "\n"
+
+
+def check(path):
+    kept = kept_in(text_of(path))
+    made = text(gate([path], {name: words for name, words in as_stated().items() if name in kept}))
+    if text_of(MADE) != made:
+        sys.stdout.write(subprocess.run(["diff", MADE, "-"], input=made, text=True, stdout=subprocess.PIPE, check=False).stdout)
+        return "dist/PROOF.json does not say what this run has proved"
+    print("dist/PROOF.json says what this run has proved" + (f"; {len(kept)} crates were proved by an earlier run on this machine" if kept else ""))
+    return 0
+
+
+def main(words):
+    if words[:1] == ["--check"]:
+        return check(words[1])
+    return write(text(gate(words[1:], {}) if words[:1] == ["--of"] else built))
+
+
+if __name__ == "__main__":
+    sys.exit(main(sys.argv[1:]))

@@ -1,0 +1,196 @@
+#!/usr/bin/env python3
+"""Makes docs/UV.md of examples/uv.h, and compares what stands there with the host and with examples/uv.rs.
+
+    python3 tools/uv.py               status 1 if the page is not what the header gives, or a name, a type or a number differs
+    python3 tools/uv.py --write       writes the page
+    python3 tools/uv.py --self-test   plants faults in copies of the texts; status 1 if one isn't found
+"""
+import re
+import sys
+from pathlib import Path
+
+from sources import Sources
+
+TOP = Path(__file__).resolve().parent.parent
+HEADER, RUST, PAGE = "examples/uv.h", "examples/uv.rs", "docs/UV.md"
+CALLS, ENTRIES, ANSWERS = "crates/imports/src/call.rt", "crates/imports/src/entry_point.rt", "crates/order/src/uv/answers.rt"
+HEAD = """# The calls of module "uv"
+
+<!-- Made of examples/uv.h by `python3 tools/uv.py --write`: change it there. -->
+
+These are all the functions that a module may import; [examples/uv.h](../examples/uv.h) declares them for C,
+[examples/uv.rs](../examples/uv.rs) for Rust. This page is made of the header, whose words are those of C: in a module the names stand
+without `uv_`, and a callback is an index of the table, of a function of type [i32] to [].
+
+"""
+
+
+def wasm(kind):
+    """The type of a word in WebAssembly; none for nothing."""
+    kind = re.sub(r"\bconst\b", "", kind).strip()
+    if kind in ("void", "()", ""):
+        return []
+    return ["i64" if kind in ("uint64_t", "int64_t", "u64", "i64") else "i32"]
+
+
+def type_of(words, answer):
+    return f"[{' '.join(word for kind in words for word in wasm(kind))}] to [{' '.join(wasm(answer))}]"
+
+
+def one_line(comment):
+    return re.sub(r"\s+", " ", comment.strip().removeprefix("/*").removesuffix("*/")).strip()
+
+
+def marked(text):
+    """Names of C as code."""
+    return re.sub(r"(?<![`\w])(UV_[A-Z_]+(?:\(\w*\))?|uv_[a-z_]+(?:\(\))?|__\w+\(\)|INT_MIN|-Wl,[a-z-]+)", r"`\1`", text)
+
+
+class Header:
+    """What examples/uv.h declares."""
+
+    def __init__(self, text):
+        self.text = text
+        self.numbers = {name: int(value) for name, value in re.findall(r"^    UV_(\w+) = (-?\d+)", text, re.M)}
+
+    def calls(self):
+        """Each import: its name, its words and answer in C."""
+        for name, answer, words in re.findall(r"^UV_IMPORT\((\w+)\) (\w+) uv_\w+\((.*?)\);", self.text, re.M):
+            words = [] if words == "void" else [re.match(r"(.*?)(\w+)$", word.strip()).groups() for word in words.split(",")]
+            yield name, [(kind.strip() + ("*" if "*" in kind and "*" not in kind.strip() else ""), word) for kind, word in words], answer
+
+    def types(self):
+        return {name: type_of([kind for kind, _ in words], answer) for name, words, answer in self.calls()}
+
+    def enums(self):
+        """The comment above each list of numbers, and its rows."""
+        for comment, body in re.findall(r"/\*((?:(?!\*/).)*)\*/\nenum \{\n(.*?)\n\};", self.text, re.S):
+            rows = re.findall(r"UV_(\w+) = (-?\d+),? */\*(.*?)\*/", body, re.S)
+            yield one_line(comment), [(name, value, one_line(about)) for name, value, about in rows]
+
+    def sections(self):
+        """The parts behind the numbers: heading, further words, and for each comment the calls that it is of."""
+        for part in re.split(r"\n\n\n/\* ", self.text)[1:]:
+            head, _, rest = part.partition("*/")
+            title, _, about = head.strip().partition("\n\n")
+            declared = re.findall(r"/\*((?:(?!\*/).)*)\*/\n((?:UV_IMPORT[^\n]*\n)+)", rest + "\n", re.S)
+            yield one_line(title), one_line(about), [(one_line(comment), re.findall(r"UV_IMPORT\((\w+)\)", lines)) for comment, lines in declared]
+
+
+def page_of(text):
+    header, lines = Header(text), [HEAD]
+    words = {name: ", ".join(word for _, word in words) for name, words, _ in header.calls()}
+    types = header.types()
+    first = re.match(r"/\*(.*?)\*/", text, re.S).group(1)
+    for paragraph in re.split(r"\n\n", first)[1:]:
+        code = paragraph.startswith("       ")
+        lines.append(re.sub(r"(?m)^       ", "    ", paragraph) + "\n\n" if code else wrapped(marked(one_line(paragraph))) + "\n\n")
+    lines.append("| Export | Type |\n|---|---|\n" + "".join(f"| `{name}` | {told} |\n" for name, told in entries_of(text).items()) + "\n")
+    for comment, rows in header.enums():
+        lines.append(wrapped(marked(comment)) + "\n\n| Name | Number | |\n|---|---|---|\n")
+        lines += [f"| `UV_{name}` | {value} | {marked(about)} |\n" for name, value, about in rows]
+        lines.append("\n")
+    for title, about, calls in header.sections():
+        heading, _, rest = title.partition(":")
+        lines.append(f"## {heading.capitalize()}\n\n")
+        lines += [wrapped(marked(it.strip()[:1].upper() + it.strip()[1:])) + "\n\n" for it in (rest, about) if it]
+        lines.append("| Call | Type | |\n|---|---|---|\n")
+        for comment, names in calls:
+            told = ", ".join(f"`{name}` ({words[name]})" if words[name] else f"`{name}`" for name in names)
+            lines.append(f"| {told} | {types[names[0]]} | {marked(comment)} |\n")
+        lines.append("\n")
+    return "".join(lines).rstrip("\n") + "\n"
+
+
+def wrapped(text, width=130):
+    lines = [""]
+    for word in text.split(" "):
+        lines.append(word) if len(lines[-1]) + 1 + len(word) > width else lines.append(f"{lines.pop()} {word}".strip())
+    return "\n".join(lines)
+
+
+def host_types(sources):
+    """The names and types of the host: of its calls, and of what a guest exports."""
+    found = {}
+    for file, kind in ((CALLS, "Call"), (ENTRIES, "EntryPoint")):
+        text = sources.text(file)
+        names = dict(re.findall(rf'{kind}::(\w+) => "(\w+)"', text))
+        for variants, words, results in re.findall(rf"((?:\|? *{kind}::\w+\s*)+)=> Signature::new\(\s*&\[([^\]]*)\],\s*&\[([^\]]*)\]", text):
+            told = f"[{' '.join(words.lower().replace(',', ' ').split())}] to [{results.strip().lower()}]"
+            found.update({names[variant]: told for variant in re.findall(rf"{kind}::(\w+)", variants)})
+    return found
+
+
+def rust_types(sources):
+    found = {}
+    for name, words, answer in re.findall(r"^        pub fn (\w+)\((.*?)\)(?: -> (\w+))?;", sources.text(RUST), re.M):
+        found[name] = type_of([word.partition(":")[2] for word in words.split(",") if word], answer)
+    return found
+
+
+def entries_of(text):
+    found = re.findall(r"UV_EXPORT\((uv_\w+), (\w+), \((.*?)\)\)", text)
+    return {name: type_of([word.strip().rpartition(" ")[0] for word in words.split(",") if word != "void"], answer) for name, answer, words in found}
+
+
+def faults(sources):
+    text = sources.text(HEADER)
+    header = Header(text)
+    mine = header.types()
+    for place, theirs in ((CALLS, host_types(sources)), (RUST, rust_types(sources))):
+        wanted = {**mine, **(entries_of(text) if place == CALLS else {})}
+        for name in sorted(wanted.keys() | theirs.keys()):
+            if wanted.get(name) != theirs.get(name):
+                yield f"{place}: {name} is {theirs.get(name, 'not there')}, in {HEADER} {wanted.get(name, 'not there')}"
+    rust = {name: int(value) for name, value in re.findall(r"^pub const (\w+): i32 = (-?\d+);", sources.text(RUST), re.M)}
+    for name in sorted(header.numbers.keys() | rust.keys()):
+        if header.numbers.get(name) != rust.get(name):
+            yield f"{RUST}: {name} is {rust.get(name)}, in {HEADER} {header.numbers.get(name)}"
+    answers = {int(value) for value in re.findall(r"-(\d+);", sources.text(ANSWERS))}
+    told = {-value for value in header.numbers.values() if value < 0}
+    if not answers <= told:
+        yield f"{ANSWERS}: {HEADER} doesn't name {sorted(answers - told)}"
+    if sources.text(PAGE) != page_of(text):
+        yield f"{PAGE}: is not what {HEADER} gives (--write)"
+
+
+PLANTED = [
+    ("the name of a call", HEADER, r"UV_IMPORT\(is_active\)", "UV_IMPORT(active)"),
+    ("the width of a word", HEADER, r"uint64_t timeout", "uint32_t timeout"),
+    ("a number", HEADER, r"UV_EBUSY = -16", "UV_EBUSY = -17"),
+    ("a comment", HEADER, r"with 64 handles\. In a callback", "with 65 handles. In a callback"),
+    ("a word in Rust", RUST, r"(pub fn emit\(value: )i64", r"\1i32"),
+    ("a number in Rust", RUST, r"(ENOSPC: i32 = -)28", r"\g<1>29"),
+    ("a type of the host", CALLS, r"(Call::Emit => Signature::new\(&\[)I64", r"\1I32"),
+    ("an export", HEADER, r"\(int32_t request, int32_t kind, int32_t code\)", "(int32_t request, int32_t kind)"),
+]
+
+
+def self_test():
+    missed, whole = 0, Sources()
+    before = list(faults(whole))
+    for what, file, old, new in PLANTED:
+        changed, count = re.subn(old, new, whole.text(file), count=1)
+        found = [fault for fault in faults(Sources({file: changed})) if fault not in before] if count else []
+        print(f"{'found' if found else 'MISSED' if count else 'NOT PLANTED'}: {what}{': ' + found[0] if found else ''}")
+        missed += not found
+    print(f"{len(PLANTED)} faults planted, {missed} missed")
+    return missed
+
+
+def main():
+    sources = Sources()
+    if "--self-test" in sys.argv[1:]:
+        sys.exit(1 if self_test() else 0)
+    if "--write" in sys.argv[1:]:
+        (TOP / PAGE).write_text(page_of(sources.text(HEADER)))
+    found = list(faults(sources))
+    for fault in found:
+        print(fault, file=sys.stderr)
+    header = Header(sources.text(HEADER))
+    print(f"{len(header.types())} calls, {len(header.numbers)} numbers, {len(found)} faults")
+    sys.exit(1 if found else 0)
+
+
+if __name__ == "__main__":
+    main()

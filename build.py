@@ -36,7 +36,7 @@ SHARED = 7 / 6
 BESIDE, NEARLY = ["nice", "-n", "10"], 0.9
 # How long nothing is said, in seconds.
 QUIET = 30
-# What the crates take of a processor with one job, in seconds (`bench/gate.py`); another one is guessed to take as long as most.
+# What the crates take of a processor with one job, in seconds (`tools/gate.py`); another one is guessed to take as long as most.
 TAKES = {
     "limits": 6, "tallies": 7, "slot": 13, "reduction": 24, "world_log": 26, "events": 27, "marks": 27, "desk": 28, "leb": 32, "numeric": 34,
     "claims": 40, "handles": 55, "pool": 61, "imports": 72, "syntax": 83, "order": 85, "interp": 96, "board": 102, "loader": 102,

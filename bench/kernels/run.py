@@ -1,7 +1,7 @@
 #!/usr/bin/env python3
 """Runs the kernels by the program, by wabt's wasm-interp, by JavaScriptCore's interpreters, by V8 and natively, side by side.
 
-    python3 bench/kernels/run.py PROGRAM [KERNEL..]
+    bench/kernels/run.py PROGRAM [KERNEL..]
 
 Each KERNEL.c of this folder is compiled by clang, to WebAssembly and natively. A line a kernel: the milliseconds of each. Then the table of
 docs/PERFORMANCE.md: how many times as long wasm-interp and JavaScriptCore's interpreters take as the program, and the program as V8 and as

@@ -3,6 +3,7 @@
 usage: calls_test.py EXAMPLES PROGRAM [COUNT]
 """
 
+import pickle
 import random
 import subprocess
 import sys
@@ -113,5 +114,62 @@ def calls():
         same((turned.did.what, turned.did.phase), (wasmloop.ENTERED, wasmloop.TIMERS))
 
 
+def said(call):
+    """The class of what is raised, and its text."""
+    try:
+        call()
+    except Exception as error:
+        told = pickle.loads(pickle.dumps(error))
+        same((type(told), str(told)), (type(error), str(error)))
+        return f"{type(error).__name__}: {error}"
+    sys.exit("nothing was raised")
+
+
+def wrong_words():
+    """Each word of a wrong type and each number out of its range is told, with the range."""
+    module = wasmloop.Module((EXAMPLES / "crc32.wasm").read_bytes())
+    loop, job, plugin = wasmloop.Loop(module), module.job(0, b"abc"), module.instance()
+    most = 2**64 - 1
+    wanted = [
+        (lambda: module.work(0, "abc"), "TypeError: bytes are wanted, and str is there: encode it"),
+        (lambda: module.work(0, 5), "TypeError: bytes are wanted, and int is there"),
+        (lambda: module.work(0, [1, 2]), "TypeError: bytes are wanted, and list is there"),
+        (lambda: module.work(0.5), "TypeError: op: a whole number is wanted, and float is there"),
+        (lambda: module.work(2**32), f"OutOfRange: op {2**32}: from -2147483648 to 4294967295"),
+        (lambda: module.work(0, fuel=-1), f"OutOfRange: fuel -1: from 0 to {most}"),
+        (lambda: module.work(0, fuel=2**64 + 5), f"OutOfRange: fuel {2**64 + 5}: from 0 to {most}"),
+        (lambda: module.work(0, depth=0), "OutOfRange: depth 0: from 1 to 128"),
+        (lambda: module.work(0, bytes(65_537)), "OutOfRange: length 65537: from 0 to 65536"),
+        (lambda: wasmloop.Module("x"), "TypeError: bytes are wanted, and str is there: encode it"),
+        (lambda: wasmloop.Module(b"x"), "Refused: byte 0: the bytes don't begin with 00 61 73 6d"),
+        (lambda: wasmloop.Loop(3), "TypeError: a Module is wanted, and int is there"),
+        (lambda: wasmloop.Loop(module, number=-1), "OutOfRange: number -1: from 0 to 4294967295"),
+        (lambda: loop.accept(None), "TypeError: a Job is wanted, and NoneType is there"),
+        (lambda: loop.send("1"), "TypeError: number: a whole number is wanted, and str is there"),
+        (lambda: loop.turn(0), "OutOfRange: most 0: from 1 to 4294967295"),
+        (lambda: job.run_for(0), f"OutOfRange: units 0: from 1 to {most}"),
+        (job.reply, "Error: the job was run already, or was not run yet"),
+        (lambda: job.reply_into(b"abc"), "TypeError: a buffer that can be written is wanted, and bytes is there"),
+        (lambda: plugin.call("nothing"), "Error: no function is exported as 'nothing'"),
+        (lambda: plugin.call("uv_work\0", 0), r"Error: no function is exported as 'uv_work\x00'"),
+        (lambda: plugin.call(3), "TypeError: the name of a function, a str, is wanted, and int is there"),
+        (lambda: plugin.call("uv_work"), "TypeError: uv_work takes 1 numbers, not 0"),
+        (lambda: plugin.call("uv_work", 2**32), f"OutOfRange: argument 1 (i32) {2**32}: from -2147483648 to 4294967295"),
+        (lambda: plugin.memory[-1:3], "OutOfRange: start -1: from 0 to 131072"),
+        (lambda: plugin.memory[3], "TypeError: a memory is read and written by slices, memory[at:at + n]"),
+    ]
+    for call, words in wanted:
+        same(said(call), words)
+    same(repr([module, loop, job, plugin]), "[<Module: uv_work, 3 imports, 2 pages>, <Loop: nothing to do, 0 requests outstanding>, "
+         "<Job: op 0, not run>, <Instance: 131072 bytes of memory>]")
+    room, other = bytearray(6), module.share()
+    same((job.run().reply_into(room), bytes(room)), (4, b"\x35\x24\x41\xc2\0\0"))
+    module.close()
+    same((repr(module), other.work(0, bytearray(b"abc")).value), ("<Module: closed>", 891568578))
+    same(said(module.shape), "Error: it was closed, or its job was accepted")
+    return len(wanted)
+
+
 calls()
+print(f"{wrong_words()} wrong words are refused, each with its sentence")
 print(f"{COUNT} random modules answer as the program: {compare(COUNT)}")

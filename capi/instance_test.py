@@ -1,7 +1,9 @@
-"""An instance from Python. usage: instance_test.py FOLDER, with WASMLOOP_LIBRARY"""
-import sys, os
-sys.path.insert(0, os.environ["WASMLOOP_PY"])
+"""An instance from Python. usage: PYTHONPATH=capi WASMLOOP_LIBRARY=LIBRARY instance_test.py FOLDER"""
+
+import sys
+
 import wasmloop as w
+
 
 def fails(kind, do, **has):
     try:
@@ -12,6 +14,7 @@ def fails(kind, do, **has):
         return str(error)
     raise AssertionError("nothing was raised")
 
+
 folder = sys.argv[1]
 module = w.Module(open(f"{folder}/kv.wasm", "rb").read())
 it = module.instance()
@@ -20,14 +23,17 @@ assert [it.call("add", k) for k in (5, 7, -20)] == [5, 12, -8]
 assert two.call("add", 1) == 1
 at, room = it.call("buffer"), it.call("room")
 
+
 def put(key, value):
     it.memory[at:at + len(key) + len(value)] = key + value
     return it.call("put", len(key), len(value))
+
 
 def get(key):
     it.memory[at:at + len(key)] = key
     size = it.call("get", len(key))
     return None if size < 0 else it.memory[at:at + size]
+
 
 for k in range(60):
     assert put(b"key%d" % k, b"value of %d" % k) == 1
@@ -42,7 +48,8 @@ print(fails(w.Error, lambda: it.call("absent"), status=w.NONE))
 print(fails(TypeError, lambda: it.call("add")))
 print(fails(w.Error, lambda: it.call("deep", 2**32), status=w.ARGUMENTS))
 print(fails(w.Error, lambda: it.call("deep", -2**31 - 1), status=w.ARGUMENTS))
-print(fails(w.Error, lambda: it.call("deep", "abc"), status=w.ARGUMENTS))
+print(fails(TypeError, lambda: it.call("deep", "abc")))
+print(fails(w.Error, lambda: it.call("count\0x"), status=w.NONE))
 print(fails(w.Error, lambda: it.call("add", 1, fuel=-1), status=w.RANGE))
 print(fails(w.Error, lambda: it.call("add", 1, depth=129), status=w.RANGE))
 print(fails(w.Error, lambda: it.memory[len(it.memory):len(it.memory) + 1], status=w.RANGE))

@@ -30,6 +30,7 @@ def build_wheel(folder, config_settings=None, metadata_directory=None):
     info = f"{name}.dist-info"
     files = {
         "wasmloop/__init__.py": read(f"{CAPI}/wasmloop.py"),
+        "wasmloop/py.typed": b"",
         "wasmloop/libwasmloop.so.0": read(f"{TOP}/dist/libwasmloop.so.0"),
         f"{info}/PROOF.json": read(f"{TOP}/dist/PROOF.json"),
         f"{info}/METADATA": (

@@ -5,68 +5,174 @@
         print(module.work(0, b"abc").value)
 
 The library is the file that WASMLOOP_LIBRARY names, else libwasmloop.so.0 beside this file, as in a wheel, else as the system finds
-it. A Module may be used by several threads; a Loop by one at a time. A Job may be run in any thread.
+it. A Module may be used by several threads; a Loop and an Instance by one at a time. A Job may be run in any thread.
+
+A call that is not done raises Error, whose text says why. A number out of its range raises OutOfRange, which is an Error and a
+ValueError, and a word of a wrong type TypeError. capi/wasmloop.h says what each number means.
 """
+
+from __future__ import annotations
 
 import ctypes as c
 import functools
+import operator
 import os
-from typing import NamedTuple
+from typing import Any, List, NamedTuple, Optional, Tuple, TypeVar, Union
 
 OK, NONE, EMPTY, KIND, MEMORY, REFUSED, RANGE, STRANGER, USED_UP, NULL, NO_WORK, NOT_STARTED, ARGUMENTS = range(13)
 ENTERED, RAN, SKIPPED, OVER, FAILED = range(1, 6)
 BEGIN, TIMERS, IDLE, POLL, CHECK, CLOSING = range(6)
+RUN_START, RUN_MAIN, RUN_TIMER, RUN_IDLE, RUN_AFTER, RUN_ASYNC, RUN_CHECK, RUN_CLOSE = range(8)
+RETURN, TRAP, DEPTH, SPENT = range(4)
+NOT_RUN, WORK_DONE, WORK_TRAP, WORK_DEPTH, WORK_SPENT, WORK_MEMORY = range(6)
 FOREVER = 2**64 - 1
 
+# Types of a struct's fields, by their names: a number for who reads this, and a width for ctypes.
+U32 = int
+U64 = int
+_WIDTHS = {"U32": c.c_uint32, "U64": c.c_uint64}
 
-def _struct(name, **fields):
-    kinds = {"u32": c.c_uint32, "u64": c.c_uint64, "ptr": c.c_void_p}
-    return type(name, (c.Structure,), {"_fields_": [(n, kinds[k]) for k, names in fields.items() for n in names.split()]})
+# What is called on bytes; and an operation of a module: its function, counted among those that the module defines, and the operation there.
+Buffer = Union[bytes, bytearray, memoryview]
+Site = Tuple[int, int]
+_Kind = TypeVar("_Kind")
 
 
-class Handle(c.Structure):
+def _fields(kind: Any) -> Any:
+    """Gives a struct the fields that its annotations name."""
+    kind._fields_ = [(name, _WIDTHS.get(told) or globals()[told]) for name, told in kind.__annotations__.items()]
+    return kind
+
+
+class _Struct(c.Structure):
+    def __repr__(self) -> str:
+        told = ", ".join(f"{name}={getattr(self, name)!r}" for name, *_ in self._fields_ if name != "zero")
+        return f"{type(self).__name__}({told})"
+
+
+class _Handle(c.Structure):
     _fields_ = [("mark", c.c_uint64), ("at", c.c_void_p)]
 
 
-class Did(c.Structure):
-    _fields_ = [(n, c.c_uint32) for n in "what phase kind number ending trap emits zero".split()] + [("now", c.c_uint64), ("used", c.c_uint64)]
+@_fields
+class Did(_Struct):
+    """What one step of a loop did."""
+
+    what: U32
+    phase: U32
+    kind: U32
+    number: U32
+    ending: U32
+    trap: U32
+    emits: U32
+    zero: U32
+    now: U64
+    used: U64
 
 
-class About(c.Structure):
-    _fields_ = [(n, c.c_uint32) for n in "loop request slot op outcome value".split()] + [(n, c.c_uint64) for n in "bytes reply used".split()]
+@_fields
+class About(_Struct):
+    """What a job is about."""
+
+    loop: U32
+    request: U32
+    slot: U32
+    op: U32
+    outcome: U32
+    value: U32
+    bytes: U64
+    reply: U64
+    used: U64
 
 
-Fault = _struct("Fault", u32="stage code place section", u64="byte function number")
-Shape = _struct("Shape", u32="main work after_work table pages most_pages", u64="imports")
-Site = _struct("Site", u64="function operation")
-Standing = _struct("Standing", u32="alive failed", u64="outstanding")
+@_fields
+class Fault(_Struct):
+    """Why bytes are no module, and where."""
+
+    stage: U32
+    code: U32
+    place: U32
+    section: U32
+    byte: U64
+    function: U64
+    number: U64
+
+    @property
+    def name(self) -> Optional[str]:
+        """The fault's name, as "Opcode"."""
+        return _name_of(_lib.wasmloop_fault_name(c.c_uint32(self.stage), c.c_uint32(self.code)))
 
 
-class Turned(c.Structure):
-    _fields_ = [("did", Did), ("wait", c.c_uint64), ("callbacks", c.c_uint32), ("zero", c.c_uint32)]
+@_fields
+class Shape(_Struct):
+    """What a module has that a host looks for: 1 where it does."""
+
+    main: U32
+    work: U32
+    after_work: U32
+    table: U32
+    pages: U32
+    most_pages: U32
+    imports: U64
 
 
-class Limits(c.Structure):
-    _fields_ = [("fuel", c.c_uint64), ("work_fuel", c.c_uint64), ("number", c.c_uint32), ("depth", c.c_uint32)]
+@_fields
+class _Site(_Struct):
+    function: U64
+    operation: U64
 
 
-class Task(c.Structure):
-    _fields_ = [("fuel", c.c_uint64), ("op", c.c_uint32), ("depth", c.c_uint32)]
+@_fields
+class Standing(_Struct):
+    """Whether a loop is alive, whether it has failed, and how many requests are outstanding."""
+
+    alive: U32
+    failed: U32
+    outstanding: U64
 
 
-class CallLimits(c.Structure):
-    _fields_ = [("fuel", c.c_uint64), ("depth", c.c_uint32), ("zero", c.c_uint32)]
+@_fields
+class Turned(_Struct):
+    """Where a turn of a loop stands: its last step, for how long there is nothing to do, and how many callbacks ran in it so far."""
+
+    did: Did
+    wait: U64
+    callbacks: U32
+    zero: U32
 
 
-class Ended(c.Structure):
+@_fields
+class _Limits(_Struct):
+    fuel: U64
+    work_fuel: U64
+    number: U32
+    depth: U32
+
+
+@_fields
+class _Task(_Struct):
+    fuel: U64
+    op: U32
+    depth: U32
+
+
+@_fields
+class _CallLimits(_Struct):
+    fuel: U64
+    depth: U32
+    zero: U32
+
+
+class _Ended(_Struct):
     _fields_ = [("ending", c.c_uint32), ("trap", c.c_uint32), ("results", c.c_uint64), ("used", c.c_uint64), ("result", c.c_uint64 * 16)]
 
 
-class Signature(c.Structure):
+class _Signature(_Struct):
     _fields_ = [("params", c.c_uint64), ("results", c.c_uint64), ("param", c.c_uint8 * 256), ("result", c.c_uint8 * 16)]
 
 
 _SAYS = {
+    NONE: "there is none",
     EMPTY: "it was closed, or its job was accepted",
     KIND: "the job was run already, or was not run yet",
     MEMORY: "memory was refused",
@@ -78,27 +184,41 @@ _SAYS = {
 class Error(Exception):
     """A call that was not done. `status` is its number."""
 
-    def __init__(self, status, text=None):
-        super().__init__(text or _SAYS.get(status) or _lib.wasmloop_status_name(status).decode())
+    def __init__(self, status: int, text: Optional[str] = None):
+        super().__init__(text or _SAYS.get(status) or _name_of(_lib.wasmloop_status_name(status)) or f"status {status}")
         self.status = status
+
+    def __reduce__(self) -> Any:
+        return type(self), (self.status, str(self))
+
+
+class OutOfRange(Error, ValueError):
+    """A number that is out of its range, which the text names."""
 
 
 class Refused(Error):
     """Bytes that are no module for this host. `fault` says where, and the text why."""
 
-    def __init__(self, fault, text):
+    def __init__(self, fault: Fault, text: Optional[str]):
         super().__init__(REFUSED, text)
         self.fault = fault
+
+    def __reduce__(self) -> Any:
+        return type(self), (self.fault, str(self))
 
 
 class Stopped(Error):
     """A call that did not return. `ending` is "trap", "depth" or "spent", `trap` the trap's number or 0, and `used` the units of fuel."""
 
-    def __init__(self, what, ended):
-        self.ending = _lib.wasmloop_ending_name(ended.ending).decode()
+    def __init__(self, what: str, ended: _Ended):
+        self._what, self._ended = what, ended
+        self.ending = _name_of(_lib.wasmloop_ending_name(c.c_uint32(ended.ending)))
         self.trap, self.used = ended.trap, ended.used
-        name = _lib.wasmloop_trap_name(ended.trap)
-        super().__init__(OK, f"{what}: {self.ending}{f': {name.decode()}' if name else ''}, after {self.used} units")
+        name = _name_of(_lib.wasmloop_trap_name(c.c_uint32(ended.trap)))
+        super().__init__(OK, f"{what}: {self.ending}{f': {name}' if name else ''}, after {self.used} units")
+
+    def __reduce__(self) -> Any:
+        return type(self), (self._what, self._ended)
 
 
 _beside = os.path.join(os.path.dirname(os.path.abspath(__file__)), "libwasmloop.so.0")
@@ -107,36 +227,74 @@ for _name in "version status_name trap_name fault_name ending_name outcome_name 
     getattr(_lib, f"wasmloop_{_name}").restype = c.c_char_p
 
 
-def _call(name, *words):
+def _name_of(text: Optional[bytes]) -> Optional[str]:
+    return None if text is None else text.decode()
+
+
+def _call(name: str, *words: Any) -> None:
     status = getattr(_lib, f"wasmloop_{name}")(*(c.byref(it) if isinstance(it, c.Structure) else it for it in words))
     if status != OK:
         raise Error(status)
 
 
-def _data(given):
+def _is_wanted(what: str, given: object) -> TypeError:
+    return TypeError(f"{what} wanted, and {type(given).__name__} is there")
+
+
+def _data(given: Buffer) -> bytes:
     """The bytes of what is given: bytes, bytearray, memoryview, an array. A str has none until it is encoded."""
-    if isinstance(given, (str, int)):
-        raise TypeError(f"bytes are wanted, and {type(given).__name__} is there" + (": encode it" if isinstance(given, str) else ""))
-    return bytes(given)
+    if isinstance(given, bytes):
+        return given
+    try:
+        return bytes(memoryview(given))
+    except TypeError:
+        raise TypeError(f"{_is_wanted('bytes are', given)}{': encode it' if isinstance(given, str) else ''}") from None
 
 
-def _whole(name, value, least, most):
-    if not isinstance(value, int):
-        raise TypeError(f"{name}: a whole number is wanted, and {type(value).__name__} is there")
+def _whole(name: str, value: int, least: int, most: int, status: int = RANGE) -> int:
+    try:
+        value = operator.index(value)
+    except TypeError:
+        raise _is_wanted(f"{name}: a whole number is", value) from None
     if not least <= value <= most:
-        raise Error(RANGE, f"{name} {value}: {least} to {most}")
+        raise OutOfRange(status, f"{name} {value}: from {least} to {most}")
     return value
 
 
-def _bounds(fuel, depth):
-    return _whole("fuel", fuel, 0, 2**64 - 1), _whole("depth", depth, 1, 128)
+def _fuel(name: str, value: int) -> int:
+    return _whole(name, value, 0, 2**64 - 1)
 
 
-def version():
-    return _lib.wasmloop_version().decode()
+def _depth(value: int) -> int:
+    return _whole("depth", value, 1, 128)
 
 
-def _text(name, *words):
+def _held(kind: Any, given: Any) -> Any:
+    """The handle of what is given, which must be of that class."""
+    if not isinstance(given, kind):
+        raise _is_wanted(f"a {kind.__name__} is", given)
+    return given.handle
+
+
+def _no_function(name: str) -> Error:
+    return Error(NONE, f"no function is exported as {name!r}")
+
+
+def _export(name: str) -> bytes:
+    """The name of an export as C has it."""
+    if not isinstance(name, str):
+        raise _is_wanted("the name of a function, a str, is", name)
+    if "\0" in name:
+        raise _no_function(name)
+    return name.encode(errors="surrogatepass")
+
+
+def version() -> str:
+    """The version of the library."""
+    return str(_name_of(_lib.wasmloop_version()))
+
+
+def _text(name: str, *words: Any) -> Optional[str]:
     """What a call writes that copies a text as far as there is room, or None where there is none."""
     call, count = getattr(_lib, f"wasmloop_{name}"), c.c_uint64()
     status = call(*words, None, c.c_size_t(0), c.byref(count))
@@ -150,31 +308,48 @@ def _text(name, *words):
     return room.raw[: count.value].decode(errors="replace")
 
 
-def _explain(data):
+def explain(data: Buffer) -> Optional[str]:
+    """Why these bytes are no module, in the words of `wasmloop check`; None where they are one."""
+    data = _data(data)
     return _text("explain", data, c.c_size_t(len(data)))
 
 
 class _Held:
-    def __init__(self):
-        self.handle = Handle()
+    """What a handle has. It is dropped at the end of a `with`, by close(), or when nothing refers to it."""
 
-    def close(self):
+    def __init__(self) -> None:
+        self.handle = _Handle()
+
+    def close(self) -> None:
+        """Drops it. Every other call answers then that it was closed."""
         _lib.wasmloop_drop(c.byref(self.handle))
 
-    def _stop(self, most):
-        room, count = (Site * most)(), c.c_uint64()
+    def _stop(self, most: int) -> List[Site]:
+        room, count = (_Site * most)(), c.c_uint64()
         status = _lib.wasmloop_stop(c.byref(self.handle), room, c.c_size_t(most), c.byref(count))
+        if status not in (OK, NONE):
+            raise Error(status)
         return [(it.function, it.operation) for it in room[: min(count.value, most)]] if status == OK else []
 
-    def __enter__(self):
+    def __enter__(self: _Kind) -> _Kind:
         return self
 
-    def __exit__(self, *_):
+    def __exit__(self, *_: object) -> None:
         self.close()
 
-    def __del__(self):
+    def __del__(self) -> None:
         if hasattr(self, "handle"):
             self.close()
+
+    def _about(self) -> str:
+        return ""
+
+    def __repr__(self) -> str:
+        try:
+            told = self._about()
+        except Error as error:
+            told = "closed" if error.status == EMPTY else str(error)
+        return f"<{type(self).__name__}: {told}>"
 
 
 class Reply(NamedTuple):
@@ -190,89 +365,130 @@ class Reply(NamedTuple):
 class Job(_Held):
     """Work that any thread may run."""
 
-    def about(self):
+    def _about(self) -> str:
+        about = self.about()
+        return f"op {about.op}, {_outcome(about)}"
+
+    def about(self) -> About:
+        """What it is about, before or after its run."""
         about = About()
         _call("job_about", self.handle, about)
         return about
 
-    def input(self):
+    def input(self) -> bytes:
+        """The bytes that it may read."""
         size, count = self.about().bytes, c.c_uint64()
         room = c.create_string_buffer(max(size, 1))
         _call("job_input", self.handle, room, c.c_size_t(size), c.byref(count))
         return room.raw[:size]
 
-    def _reply(self):
+    def _reply(self) -> bytes:
         at, count = c.c_void_p(), c.c_uint64()
         _call("job_view", self.handle, c.byref(at), c.byref(count))
         return c.string_at(at, count.value) if count.value else b""
 
-    def run(self):
+    def run(self) -> Job:
+        """Runs it, in this thread. Other threads of Python run meanwhile."""
         _call("job_run", self.handle)
         return self
 
-    def run_for(self, units):
+    def run_for(self, units: int) -> bool:
         """Runs it for at most so many units of fuel; True where it is over, as if run() had run it."""
         over = c.c_uint32()
-        _call("job_run_for", self.handle, c.c_uint64(units), c.byref(over))
+        _call("job_run_for", self.handle, c.c_uint64(_whole("units", units, 1, 2**64 - 1)), c.byref(over))
         return bool(over.value)
 
-    def reply(self):
+    def reply(self) -> Reply:
+        """What became of it, once it was run."""
         about = self.about()
-        outcome = _lib.wasmloop_outcome_name(about.outcome).decode()
-        data = self._reply() if outcome == "done" else b""
-        return Reply(outcome, c.c_int32(about.value).value, data, about.used)
+        if about.outcome == NOT_RUN:
+            raise Error(KIND)
+        data = self._reply() if about.outcome == WORK_DONE else b""
+        return Reply(_outcome(about), c.c_int32(about.value).value, data, about.used)
 
-    def stop(self):
+    def reply_into(self, room: Union[bytearray, memoryview]) -> int:
+        """Copies the bytes of the reply into a buffer as far as they fit, and answers how many there are."""
+        with memoryview(room) as view:
+            if view.readonly:
+                raise _is_wanted("a buffer that can be written is", room)
+            count, into = c.c_uint64(), (c.c_char * view.nbytes).from_buffer(view)
+            try:
+                _call("job_reply", self.handle, into, c.c_size_t(view.nbytes), c.byref(count))
+            finally:
+                del into
+        return count.value
+
+    def stop(self) -> List[Site]:
         """Where it stopped and the calls around it, as (function, operation), at most 17 in all, or nothing where it returned."""
         return self._stop(17)
+
+
+def _outcome(about: About) -> str:
+    return str(_name_of(_lib.wasmloop_outcome_name(c.c_uint32(about.outcome))))
 
 
 class Module(_Held):
     """A module of these bytes, or Refused."""
 
-    def __init__(self, data):
+    def __init__(self, data: Buffer):
         super().__init__()
         fault, data = Fault(), _data(data)
         status = _lib.wasmloop_load(data, c.c_size_t(len(data)), c.byref(self.handle), c.byref(fault))
         if status == REFUSED:
-            raise Refused(fault, _explain(data))
+            raise Refused(fault, explain(data))
         if status != OK:
             raise Error(status)
 
-    def shape(self):
+    def _about(self) -> str:
+        shape = self.shape()
+        exports = [f"uv_{it}" for it in ("main", "work", "after_work") if getattr(shape, it)]
+        return f"{', '.join(exports) or 'no function of a guest'}, {shape.imports} imports, {shape.pages} pages"
+
+    def share(self) -> Module:
+        """A second handle of the same module, which is not copied: each may be closed apart from the other."""
+        other = Module.__new__(Module)
+        _Held.__init__(other)
+        _call("share", self.handle, other.handle)
+        return other
+
+    def shape(self) -> Shape:
+        """What it has that a host looks for."""
         shape = Shape()
         _call("shape_of", self.handle, shape)
         return shape
 
     @property
-    def warnings(self):
+    def warnings(self) -> List[str]:
         """Sentences on what the module has or lacks that is probably not meant."""
-        shape, told = self.shape(), []
+        shape = self.shape()
+        told: List[str] = []
         while text := _lib.wasmloop_warning(c.byref(shape), c.c_uint32(len(told))):
             told.append(text.decode())
         return told
 
-    def function(self, name):
+    def function(self, name: str) -> Tuple[List[int], List[int]]:
         """The bits of each parameter and of each result of the function that is exported as `name`."""
-        told = Signature()
-        status = _lib.wasmloop_function(c.byref(self.handle), name.encode(), c.byref(told))
+        told, called = _Signature(), _export(name)
+        status = _lib.wasmloop_function(c.byref(self.handle), called, c.byref(told))
+        if status == NONE:
+            raise _no_function(name)
         if status != OK:
-            raise Error(status, f"no function is exported as {name!r}" if status == NONE else None)
+            raise Error(status)
         return [32 * it for it in told.param[: told.params]], [32 * it for it in told.result[: told.results]]
 
-    def instance(self, fuel=1_000_000, depth=64):
+    def instance(self, fuel: int = 1_000_000, depth: int = 64) -> Instance:
         """An instance that keeps its memory from call to call."""
         return Instance(self, fuel, depth)
 
-    def job(self, op, data=b"", fuel=1_000_000, depth=64):
+    def job(self, op: int, data: Buffer = b"", fuel: int = 1_000_000, depth: int = 64) -> Job:
         """Work on `op`, from -2^31 to 2^32 - 1, and on at most 65,536 bytes."""
-        job, data, (fuel, depth) = Job(), _data(data), _bounds(fuel, depth)
+        job, data = Job(), _data(data)
         _whole("length", len(data), 0, 65_536)
-        task = Task(fuel, _whole("op", op, -(2**31), 2**32 - 1) % 2**32, depth)
+        task = _Task(_fuel("fuel", fuel), _whole("op", op, -(2**31), 2**32 - 1) % 2**32, _depth(depth))
         _call("job_new", self.handle, task, data, c.c_size_t(len(data)), job.handle)
         return job
 
-    def work(self, op, data=b"", fuel=1_000_000, depth=64):
+    def work(self, op: int, data: Buffer = b"", fuel: int = 1_000_000, depth: int = 64) -> Reply:
         """Runs one operation of the module's uv_work. Other threads run meanwhile."""
         with self.job(op, data, fuel, depth) as job:
             return job.run().reply()
@@ -281,51 +497,58 @@ class Module(_Held):
 class Memory:
     """The memory of an instance, as bytes: memory[at:at + n], memory[at:at + n] = data, len(memory)."""
 
-    def __init__(self, instance):
+    def __init__(self, instance: Instance):
         self._instance = instance
 
-    def __len__(self):
+    def __len__(self) -> int:
         count = c.c_uint64()
         _call("size", self._instance.handle, c.byref(count))
         return count.value
 
-    def _range(self, index):
+    def __repr__(self) -> str:
+        return f"<Memory of {self._instance!r}>"
+
+    def _range(self, index: slice) -> Tuple[int, int]:
         if not isinstance(index, slice) or index.step not in (None, 1):
             raise TypeError("a memory is read and written by slices, memory[at:at + n]")
-        start = 0 if index.start is None else index.start
-        stop = len(self) if index.stop is None else index.stop
-        if not 0 <= start <= stop < 2**32:
-            raise Error(RANGE, f"no bytes {start} to {stop} of a memory")
+        size = len(self)
+        start = 0 if index.start is None else _whole("start", index.start, 0, size)
+        stop = size if index.stop is None else _whole("stop", index.stop, start, size)
         return start, stop - start
 
-    def __getitem__(self, index):
+    def __getitem__(self, index: slice) -> bytes:
         at, count = self._range(index)
         room = (c.c_uint8 * count)()
-        _call("read", self._instance.handle, c.c_uint32(at), room, c.c_size_t(count))
+        if count:
+            _call("read", self._instance.handle, c.c_uint32(at), room, c.c_size_t(count))
         return bytes(room)
 
-    def __setitem__(self, index, data):
-        at, count = self._range(index)
-        data = bytes(memoryview(data))
+    def __setitem__(self, index: slice, data: Buffer) -> None:
+        (at, count), data = self._range(index), _data(data)
         if len(data) != count:
             raise ValueError(f"{len(data)} bytes for a place of {count}")
-        _call("write", self._instance.handle, c.c_uint32(at), data, c.c_size_t(count))
+        if count:
+            _call("write", self._instance.handle, c.c_uint32(at), data, c.c_size_t(count))
 
 
 class Instance(_Held):
     """An instance of a module that keeps its memory and globals from call to call. Its imports answer -1. One thread at a time."""
 
-    def __init__(self, module, fuel=1_000_000, depth=64):
+    def __init__(self, module: Module, fuel: int = 1_000_000, depth: int = 64):
         super().__init__()
-        self.module, self.memory, self.used, self._types, ended = module, Memory(self), 0, {}, Ended()
-        status = _lib.wasmloop_instance(c.byref(module.handle), c.byref(_limits(fuel, depth)), c.byref(self.handle), c.byref(ended))
+        of, limits, ended = _held(Module, module), _call_limits(fuel, depth), _Ended()
+        self.module, self.memory, self.used, self._types = module, Memory(self), 0, {}  # type: ignore[var-annotated]
+        status = _lib.wasmloop_instance(c.byref(of), c.byref(limits), c.byref(self.handle), c.byref(ended))
         if status == NOT_STARTED:
             raise Stopped("the start function", ended)
         if status != OK:
             raise Error(status)
         self.used = ended.used
 
-    def call(self, name, *args, fuel=1_000_000, depth=64):
+    def _about(self) -> str:
+        return f"{len(self.memory)} bytes of memory"
+
+    def call(self, name: str, *args: int, fuel: int = 1_000_000, depth: int = 64) -> Union[None, int, Tuple[int, ...]]:
         """Calls the function that is exported as `name`, with whole numbers, negative or not. Its results as signed numbers: nothing where it has
         none, the one where it has one, else a tuple. A call that doesn't return raises Stopped, and the instance stays as it is then."""
         kinds = self._types.get(name)
@@ -333,9 +556,10 @@ class Instance(_Held):
             kinds = self._types[name] = self.module.function(name)
         if len(args) != len(kinds[0]):
             raise TypeError(f"{name} takes {len(kinds[0])} numbers, not {len(args)}")
-        numbers = (c.c_uint64 * len(args))(*(_number(it, bits) for it, bits in zip(args, kinds[0])))
-        ended = Ended()
-        status = _lib.wasmloop_call(c.byref(self.handle), name.encode(), numbers, c.c_size_t(len(args)), c.byref(_limits(fuel, depth)), c.byref(ended))
+        words = [_number(number + 1, it, bits) for number, (it, bits) in enumerate(zip(args, kinds[0]))]
+        numbers, ended, called = (c.c_uint64 * len(args))(*words), _Ended(), _export(name)
+        limits = _call_limits(fuel, depth)
+        status = _lib.wasmloop_call(c.byref(self.handle), called, numbers, c.c_size_t(len(args)), c.byref(limits), c.byref(ended))
         if status != OK:
             raise Error(status)
         self.used = ended.used
@@ -344,74 +568,82 @@ class Instance(_Held):
         told = tuple((it ^ 1 << bits - 1) - (1 << bits - 1) for it, bits in zip(ended.result[: ended.results], kinds[1]))
         return told[0] if len(told) == 1 else told or None
 
-    def stop(self):
+    def stop(self) -> List[Site]:
         """Where the last call stopped and the calls around it, as (function, operation), or nothing where it returned."""
         return self._stop(128)
 
 
-def _limits(fuel, depth):
-    if not (isinstance(fuel, int) and 0 <= fuel < 2**64 and isinstance(depth, int) and 1 <= depth <= 128):
-        raise Error(RANGE, f"fuel {fuel!r} of 0 to 2^64 - 1, depth {depth!r} of 1 to 128")
-    return CallLimits(fuel, depth, 0)
+def _call_limits(fuel: int, depth: int) -> _CallLimits:
+    return _CallLimits(_fuel("fuel", fuel), _depth(depth), 0)
 
 
-def _number(value, bits):
-    if not isinstance(value, int) or not -(1 << bits - 1) <= value < 1 << bits:
-        raise Error(ARGUMENTS, f"{value!r} is no number of {bits} bits")
-    return value & (1 << bits) - 1
+def _number(place: int, value: int, bits: int) -> int:
+    """An argument as its bits."""
+    return _whole(f"argument {place} (i{bits})", value, -(1 << bits - 1), (1 << bits) - 1, ARGUMENTS) & (1 << bits) - 1
 
 
 class Loop(_Held):
-    """A loop of a module."""
+    """A loop of a module. One thread at a time."""
 
-    def __init__(self, module, number=0, fuel=1_000_000, work_fuel=1_000_000, depth=64):
+    def __init__(self, module: Module, number: int = 0, fuel: int = 1_000_000, work_fuel: int = 1_000_000, depth: int = 64):
         super().__init__()
-        fuel, depth = _bounds(fuel, depth)
-        work_fuel, number = _whole("work_fuel", work_fuel, 0, 2**64 - 1), _whole("number", number, 0, 2**32 - 1)
-        _call("loop", module.handle, Limits(fuel, work_fuel, number, depth), self.handle)
+        bounds = _fuel("fuel", fuel), _fuel("work_fuel", work_fuel), _whole("number", number, 0, 2**32 - 1), _depth(depth)
+        _call("loop", _held(Module, module), _Limits(*bounds), self.handle)
         self.turned = Turned()
 
-    def step(self):
+    def _about(self) -> str:
+        standing = self.standing()
+        ended = "failed" if standing.failed else "alive" if standing.alive else "nothing to do"
+        return f"{ended}, {standing.outstanding} requests outstanding"
+
+    def step(self) -> Did:
+        """Takes one step: a callback runs, an entry is skipped, a phase is entered, or the loop is over or has failed."""
         did = Did()
         _call("step", self.handle, did)
         return did
 
-    def turn(self, most=2**32 - 1):
+    def turn(self, most: int = 2**32 - 1) -> Turned:
         """Takes steps until the timers phase is entered, a callback puts out values or doesn't return, so many have run, or the loop is over. The
         last step is `did` of what it returns, and `wait` for how many milliseconds there is nothing to do but for replies and sends."""
         _call("turn", self.handle, c.c_uint32(_whole("most", most, 1, 2**32 - 1)), self.turned)
         return self.turned
 
-    def emits(self):
+    def emits(self) -> List[int]:
+        """The values that the last callback put out."""
         room, count = (c.c_int64 * 64)(), c.c_uint32()
         _call("emits", self.handle, room, c.c_size_t(64), c.byref(count))
         return room[: count.value]
 
-    def clock(self, ms):
+    def clock(self, ms: int) -> int:
+        """Raises the clock to `ms` milliseconds, and answers the clock; a smaller `ms` leaves it."""
         now = c.c_uint64()
         _call("clock", self.handle, c.c_uint64(_whole("ms", ms, 0, 2**64 - 1)), c.byref(now))
         return now.value
 
-    def hint(self):
+    def hint(self) -> int:
+        """For how many milliseconds there is nothing to do, or FOREVER; asked where a step has entered the timers phase."""
         ms = c.c_uint64()
         _call("hint", self.handle, c.byref(ms))
         return ms.value
 
-    def standing(self):
+    def standing(self) -> Standing:
         """Whether it is alive, whether it has failed, and how many requests are outstanding."""
         standing = Standing()
         _call("standing_of", self.handle, standing)
         return standing
 
-    def send(self, number):
+    def send(self, number: int) -> None:
+        """Sends to the guest's async of that number, from 0 on as the guest makes them."""
         _call("async_send", self.handle, c.c_uint32(_whole("number", number, 0, 15)))
 
-    def cancel(self, request):
+    def cancel(self, request: int) -> int:
+        """Cancels a request, and answers as the guest's own cancel: 0, -22, -16, or -1 on a failed loop."""
         answer = c.c_int32()
         _call("cancel", self.handle, c.c_uint32(_whole("request", request, 0, 2**32 - 1)), c.byref(answer))
         return answer.value
 
-    def next_job(self):
+    def next_job(self) -> Optional[Job]:
+        """The lowest request that is not handed out, as a job, or None."""
         job = Job()
         status = _lib.wasmloop_next_job(c.byref(self.handle), c.byref(job.handle))
         if status == NONE:
@@ -420,30 +652,29 @@ class Loop(_Held):
             raise Error(status)
         return job
 
-    def start(self, job):
+    def _known(self, status: int) -> bool:
+        if status not in (OK, STRANGER):
+            raise Error(status)
+        return status == OK
+
+    def start(self, job: Job) -> bool:
         """Tells the loop that a job is started. False where its request was cancelled, or is another loop's."""
-        status = _lib.wasmloop_job_start(c.byref(self.handle), c.byref(job.handle))
-        if status not in (OK, STRANGER):
-            raise Error(status)
-        return status == OK
+        return self._known(_lib.wasmloop_job_start(c.byref(self.handle), c.byref(_held(Job, job))))
 
-    def accept(self, job):
+    def accept(self, job: Job) -> bool:
         """Brings a job back that was run. False where the loop doesn't wait for it."""
-        status = _lib.wasmloop_accept(c.byref(self.handle), c.byref(job.handle))
-        if status not in (OK, STRANGER):
-            raise Error(status)
-        return status == OK
+        return self._known(_lib.wasmloop_accept(c.byref(self.handle), c.byref(_held(Job, job))))
 
-    def stop(self):
+    def stop(self) -> List[Site]:
         """Where the last callback stopped and the calls around it, as (function, operation), or nothing where it returned."""
         return self._stop(128)
 
 
 @functools.lru_cache(maxsize=8)
-def _kept(data):
+def _kept(data: bytes) -> Module:
     return Module(data)
 
 
-def work(data, op, word=b"", fuel=1_000_000, depth=64):
+def work(data: bytes, op: int, word: Buffer = b"", fuel: int = 1_000_000, depth: int = 64) -> Reply:
     """Runs one operation of the module of these bytes, which the process keeps for the next call."""
-    return _kept(data).work(op, word, fuel, depth)
+    return _kept(_data(data)).work(op, word, fuel, depth)

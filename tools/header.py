@@ -7,8 +7,8 @@
 
 What capi/wasmloop.h declares stands five times: there, in crates/wasmloop_c, in capi/wasmloop.c, in capi/wasmloop.py and in capi/rust.
 A struct has fields of the same widths in the same order, with the same names but for RENAMED; a number has one value; a call takes the
-same words; a fault, a trap, a status has one name. The version is WASMLOOP_VERSION, and each copy of it is compared. No call, struct or
-number is named here: all are read out of the header.
+same words, and Python and Rust make each; a fault, a trap, a status has one name. The version is WASMLOOP_VERSION, and each copy of it is
+compared. No call, struct or number is named here but in INSTEAD: all are read out of the header.
 """
 import ast
 import ctypes
@@ -24,6 +24,8 @@ CRATE = "crates/wasmloop_c"
 # Fields and structs that a language calls otherwise, since the header's name is one of its words, or taken.
 RENAMED = {"moment": "now", "loop_no": "number loop", "at": "byte", "of_loop": "loop"}
 STRUCTS = {"call_ended": "ended", "signature": "type"}
+# Calls that a language makes by two others.
+INSTEAD = {("capi/wasmloop.py", "work"): "job_new and job_run"}
 # The prefix of the header's number for a variant of a type of the crate.
 VARIANTS = {"Phase": "", "EntryKind": "RUN_", "Ending": "", "Outcome": "WORK_"}
 WIDTHS = {"char": 1, "size_t": 8, "usize": 8, "int": 4, "f64": 8}
@@ -54,7 +56,7 @@ def uncommented(text):
 
 
 def snake(name):
-    name = re.sub(r"(?<=[a-z0-9])(?=[A-Z])", "_", name).lower()
+    name = re.sub(r"(?<=[a-z0-9])(?=[A-Z])", "_", name).lower().lstrip("_")
     return STRUCTS.get(name, name)
 
 
@@ -115,7 +117,7 @@ def python_width(kind):
 
 def python_structs(sources):
     for it in python_module(sources)[0].values():
-        if isinstance(it, type) and issubclass(it, ctypes.Structure) and it is not ctypes.Structure:
+        if isinstance(it, type) and issubclass(it, ctypes.Structure) and hasattr(it, "_fields_"):
             fields = [(name, kind._type_, kind._length_) if hasattr(kind, "_length_") else (name, kind, 1) for name, kind in it._fields_]
             yield snake(it.__name__), [(name, python_width(kind), count) for name, kind, count in fields]
 
@@ -268,15 +270,15 @@ def wrong_calls(sources):
     yield from wrong_proved_calls(sources)
     yield from wrong_rust_calls(sources, public)
     yield from wrong_python_calls(sources, public)
+    yield from (f"{file}: it doesn't call wasmloop_{name}" for file in (PYTHON, RUST) for name in left_out(sources, public, file))
 
 
-def left_out(sources, file):
-    """The calls of the header that a language doesn't have."""
-    text = sources.text(file)
-    named = set(re.findall(r"wasmloop_(\w+)", text))
-    if file == PYTHON:
-        named |= {word for node in ast.walk(ast.parse(text)) if isinstance(node, ast.Constant) and isinstance(node.value, str) for word in node.value.split()}
-    return [name for name in public_calls(sources) if name not in named]
+def left_out(sources, public, file):
+    """The calls of the header that a language doesn't make: Rust by their names, Python by _call, _text or the library's attribute."""
+    text = sources.plain(RUST) if file == RUST else sources.text(PYTHON)
+    made = set(re.findall(r"(?<!fn )\bwasmloop_(\w+)" if file == RUST else r"\b_lib\.wasmloop_(\w+)\(|\b_(?:call|text)\(\"(\w+)\"", text))
+    made = {name for it in made for name in ([it] if isinstance(it, str) else it)}
+    return [name for name in public if name not in made and (file, name) not in INSTEAD]
 
 
 # names
@@ -365,7 +367,10 @@ PLANTED = [
     ("the name of a trap", NAMES, r'"division by zero"', '"division"'),
     ("a prototype", CALLS, r"(wasmloop_rt_hint\(wasmloop_handle \*, uint)64", r"\g<1>32"),
     ("a call that the crate lacks", CALLS, r"(uint32_t wasmloop_rt_)hint\(", r"\1hints("),
-    ("the order of fields in Python", PYTHON, r"loop request slot", "request loop slot"),
+    ("the order of fields in Python", PYTHON, r"(    loop: U32\n)(    request: U32\n)", r"\2\1"),
+    ("a width in Python", PYTHON, r"(    most_pages: )U32", r"\1U64"),
+    ("a call that Python lacks", PYTHON, r'_call\("share", [^\n]*', "pass"),
+    ("a call that Rust lacks", RUST, r"unsafe \{ wasmloop_share\([^\n]*\}", "0"),
     ("the length of an array in Python", PYTHON, r"c_uint64 \* 16", "c_uint64 * 15"),
     ("the width of a word in Python", PYTHON, r'(_call\("clock", self\.handle, c\.c_uint)64', r"\g<1>32"),
     ("a word too few in Python", PYTHON, r'(_call\("emits", self\.handle), room', r"\1"),
@@ -401,8 +406,6 @@ def main():
     found = faults(sources)
     for fault in found:
         print(fault, file=sys.stderr)
-    for file in PYTHON, RUST:
-        print(f"{file} doesn't have {' '.join(left_out(sources, file)) or 'nothing: it has all'}")
     print(f"{len(dict(c_structs(sources)))} structs, {len(c_numbers(sources))} numbers, {len(public_calls(sources))} calls, "
           f"version {version_of(sources)}, {len(found)} faults")
     sys.exit(1 if found else 0)

@@ -1,7 +1,7 @@
 //! The calls on the examples of this repository, and on the plug-in that WASMLOOP_PLUGIN names (capi/plugins/kv.c), where it does.
 
 use std::{env, fs, thread};
-use wasmloop::{Error, Instance, Limits, Loop, Module, Task};
+use wasmloop::{Error, Instance, Job, Limits, Loop, Module, Task};
 
 const LIMITS: Limits = Limits { fuel: 1_000_000, work_fuel: 1_000_000, number: 0, depth: 64 };
 
@@ -12,6 +12,21 @@ fn module(name: &str) -> Module {
 
 fn task(fuel: u64) -> Task {
     Task { fuel, op: 0, depth: 64 }
+}
+
+/// What is said of a call that is not done.
+fn said<T>(result: Result<T, Error>) -> String {
+    let error: Box<dyn std::error::Error> = result.err().expect("nothing was refused").into();
+    error.to_string()
+}
+
+fn goes_to_threads<T: Send>() {}
+fn is_shared_by_threads<T: Sync>() {}
+
+#[test]
+fn what_threads_may_do() {
+    goes_to_threads::<(Module, Loop, Instance, Job, Error)>();
+    is_shared_by_threads::<(Module, Error)>();
 }
 
 #[test]
@@ -31,15 +46,54 @@ fn a_module_is_shared_by_threads() {
     drop(digests);
     let shape = other.shape().unwrap();
     assert!(shape.work == 1 && shape.pages >= 1 && shape.most_pages >= shape.pages);
+    assert!(other.warnings().unwrap().is_empty());
+    assert!(Module::new(b"\0asm\x01\0\0\0").unwrap().warnings().unwrap()[0].starts_with("it exports none of uv_main"));
+}
+
+#[test]
+fn work_is_told_in_words() {
+    let crc = module("crc32");
+    let mut job = crc.work(task(1_000_000), b"abc").unwrap();
+    assert_eq!(job.about().unwrap().value, 891568578);
+    let mut reply = [0; 8];
+    assert_eq!(job.reply_into(&mut reply).unwrap(), 4);
+    assert_eq!(reply, [0x35, 0x24, 0x41, 0xc2, 0, 0, 0, 0]);
+    assert_eq!(wasmloop::outcome_name(job.about().unwrap().outcome), Some("done"));
+    let signature = crc.function("uv_work").unwrap();
+    assert_eq!((signature.params(), signature.results()), (&[1][..], &[1][..]));
+    assert_eq!(wasmloop::version(), env!("CARGO_PKG_VERSION"));
+    assert_eq!((wasmloop::trap_name(2), wasmloop::trap_name(99)), (Some("division by zero"), None));
+    assert_eq!((wasmloop::status_name(4), wasmloop::ending_name(3)), (Some("MEMORY"), Some("spent")));
 }
 
 #[test]
 fn it_is_told_where_work_stopped() {
     let mut job = module("crc32").job(task(3), b"abc").unwrap();
-    job.run().unwrap();
-    assert!(matches!(job.reply(), Err(Error::Status(1))));
+    assert!(!job.run_for(1).unwrap() && job.run_for(9).unwrap());
+    assert!(matches!(job.reply(), Err(Error::Status(wasmloop::NONE))));
     assert_eq!(job.stop().unwrap().len(), 1);
-    assert!(Module::new(b"asm").err().unwrap().to_string().starts_with("byte "));
+}
+
+#[test]
+fn a_wrong_number_is_told_with_its_range() {
+    let (crc, digest) = (module("crc32"), module("digest"));
+    assert_eq!(said(Module::new(b"asm")), "byte 0: the bytes don't begin with 00 61 73 6d");
+    assert_eq!(wasmloop::explain(b"asm").unwrap(), Some("byte 0: the bytes don't begin with 00 61 73 6d".into()));
+    assert!(matches!(Module::new(b"asm"), Err(Error::Refused { fault, .. }) if fault.name() == Some("Magic")));
+    assert_eq!(said(crc.job(task(1), &[0; 65_537])), "length 65537: from 0 to 65536");
+    assert_eq!(said(crc.work(Task { depth: 0, ..task(1) }, b"")), "depth 0: from 1 to 128");
+    assert_eq!(said(crc.function("nothing")), "no function is exported as \"nothing\"");
+    assert_eq!(said(crc.function("uv_work\0")), "no function is exported as \"uv_work\\0\"");
+    assert_eq!(said(module("seven").job(task(1), b"")), "the module exports no uv_work");
+    assert_eq!(said(Instance::new(&crc, 1, 129)), "depth 129: from 1 to 128");
+    assert_eq!(said(Loop::new(&digest, Limits { depth: 129, ..LIMITS })), "depth 129: from 1 to 128");
+    let mut one = Loop::new(&digest, LIMITS).unwrap();
+    assert_eq!(said(one.turn(0)), "most_callbacks 0: from 1 to 4294967295");
+    assert_eq!(said(one.send(16)), "number 16: from 0 to 15");
+    let mut job = crc.job(task(1_000_000), b"").unwrap();
+    assert_eq!(said(job.run_for(0)), "units 0: from 1 to 18446744073709551615");
+    job.run().unwrap();
+    assert_eq!(said(job.run()), "the job was run already, or was not run yet");
 }
 
 #[test]
@@ -47,7 +101,7 @@ fn a_loop_goes_by_turns() {
     let mut one = Loop::new(&module("digest"), LIMITS).unwrap();
     let mut other = Loop::new(&module("digest"), Limits { number: 1, ..LIMITS }).unwrap();
     let turned = one.turn(1).unwrap();
-    assert_eq!((turned.did.what, turned.callbacks, turned.wait), (2, 1, 0));
+    assert_eq!((turned.did.what, turned.callbacks, turned.wait), (wasmloop::RAN, 1, 0));
     let mut job = one.next_job().unwrap().unwrap();
     assert!(!other.start(&mut job).unwrap() && one.start(&mut job).unwrap());
     assert_eq!(one.cancel(job.about().unwrap().request).unwrap(), -16);
@@ -55,24 +109,29 @@ fn a_loop_goes_by_turns() {
     assert_eq!((standing.alive, standing.failed), (1, 0));
     job.run().unwrap();
     assert!(one.accept(job).unwrap());
-    assert!(matches!(one.turn(0), Err(Error::Status(6))));
 }
 
 #[test]
 fn an_instance_keeps_its_memory() {
-    let Some(file) = env::var("WASMLOOP_PLUGIN").ok().filter(|it| !it.is_empty()) else { return };
+    let file = env::var("WASMLOOP_PLUGIN").unwrap_or_default();
+    if file.is_empty() {
+        return;
+    }
     let plugin = Module::new(&fs::read(file).unwrap()).unwrap();
-    let mut it = Instance::new(&plugin, 1_000_000, 64).unwrap().unwrap();
-    let mut add = |by: u64| it.call(c"add", &[by], 1_000_000, 64).unwrap().results()[0];
+    let mut it = Instance::new(&plugin, 1_000_000, 64).unwrap();
+    let mut add = |by: u64| it.call("add", &[by], 1_000_000, 64).unwrap().results()[0];
     assert_eq!((add(5), add(7)), (5, 12));
-    let at = it.call(c"buffer", &[], 1_000_000, 64).unwrap().results()[0] as u32;
+    let at = it.call("buffer", &[], 1_000_000, 64).unwrap().results()[0] as u32;
     it.write(at, b"apple").unwrap();
     let mut bytes = [0; 5];
     it.read(at, &mut bytes).unwrap();
     assert_eq!(&bytes, b"apple");
     let size = it.size().unwrap() as u32;
-    assert!(matches!(it.read(size, &mut bytes), Err(Error::Status(6))));
-    assert_eq!(it.call(c"divide", &[1, 0], 1_000_000, 64).unwrap().trap, 2);
+    assert_eq!(said(it.read(size, &mut bytes)), format!("end {}: from 0 to {size}", size + 5));
+    assert_eq!(said(it.write(size, b"x")), format!("end {}: from 0 to {size}", size + 1));
+    assert!(said(it.call("divide", &[1, 0], 1_000_000, 64)).starts_with("trap: division by zero, after "));
     assert!(!it.stop().unwrap().is_empty());
-    assert!(matches!(it.call(c"absent", &[], 1, 64), Err(Error::Status(1))));
+    assert_eq!(said(it.call("absent", &[], 1, 64)), "no function is exported as \"absent\"");
+    assert!(matches!(it.call("add", &[], 1, 64), Err(Error::Status(wasmloop::ARGUMENTS))));
+    assert!(it.call("add", &[0], 1_000_000, 64).is_ok() && it.stop().unwrap().is_empty());
 }

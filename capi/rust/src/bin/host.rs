@@ -4,11 +4,8 @@
 
 use std::thread::{spawn, JoinHandle};
 use std::{env, fs, process};
-use wasmloop::{Error, Job, Limits, Loop, Module};
+use wasmloop::{Error, Job, Limits, Loop, Module, ENTERED, OVER, RAN};
 
-const ENTERED: u32 = 1;
-const RAN: u32 = 2;
-const OVER: u32 = 4;
 const MOST: u32 = 100_000;
 
 struct Guest {

@@ -165,10 +165,10 @@ else left_out "the header in C++: there is no c++"; fi
 
 if command -v cmake > /dev/null; then
     mkdir -p "$out/cmake"
-    cat > "$out/cmake/CMakeLists.txt" <<'END'
+    sed "s/@version@/$(sed -n 's/^#define WASMLOOP_VERSION "\([0-9]*\.[0-9]*\).*/\1/p' "$here/wasmloop.h")/" > "$out/cmake/CMakeLists.txt" <<'END'
 cmake_minimum_required(VERSION 3.10)
 project(first C)
-find_package(wasmloop 0.1 REQUIRED)
+find_package(wasmloop @version@ REQUIRED)
 add_executable(first ../first.c)
 target_link_libraries(first wasmloop::wasmloop)
 add_executable(first_static ../first.c)

@@ -6,6 +6,7 @@ set -u
 top=$(cd "$(dirname "$0")/.." && pwd)
 page=$top/docs/GUESTS.md
 program=$(readlink -f "$1")
+unset CARGO_TARGET_DIR
 work=$(mktemp -d)
 trap 'rm -r "$work"' EXIT
 mkdir "$work/LOOP" "$work/here"
@@ -44,6 +45,10 @@ square() {
     run "$(block 'check tick.wasm' | head -n 2 | sed 's/tick/square/g')"
     prints "LOOP/wasmloop $(inline 'serve square.wasm')" "$(inline 'loop 0 over emits 1 0 144 2')"
     prints "$(inline 'LOOP/wasmloop work square.wasm 12')" "$(inline 'done 144')"
+    run "$(inline 'LOOP/wasmloop work square.wasm 12 --trace') 2>&1 >/dev/null | sed 's/used //; s/ of .*//'"
+    prints "LOOP/wasmloop work square.wasm 12 --fuel $(cat told)" "$(inline 'done 144')"
+}
+script() {
     block 'loops square.wasm' >square.steps
     run "$(block 'script.py square.steps')"
     prints "LOOP/wasmloop script square.json | tail -n 5" "$(block 'run after 2')"
@@ -54,8 +59,6 @@ square() {
     # (what `serve` itself prints stands first)
     tail -n +2 told >played
     prints "grep -v '^loop 0: ' served.log | cmp - played; echo the served run is taken again" "the served run is taken again"
-    run "$(inline 'LOOP/wasmloop work square.wasm 12 --trace') 2>&1 >/dev/null | sed 's/used //; s/ of .*//'"
-    prints "LOOP/wasmloop work square.wasm 12 --fuel $(cat told)" "$(inline 'done 144')"
 }
 rust() {
     run "$(block 'examples/uv.rs .')"
@@ -81,7 +84,12 @@ library() {
     prints "$(block 'squeeze.c')" "$(inline 'done 13 bytes')"
 }
 
-if has clang && has wasm-ld; then tick && square; else left_out "C: no clang or no wasm-ld"; fi
+if has clang && has wasm-ld; then
+    tick && square
+    if has python3; then script; else left_out "a script: no python3"; fi
+else
+    left_out "C: no clang or no wasm-ld"
+fi
 if [ -d "$(rustc --print target-libdir --target wasm32v1-none 2>/dev/null)" ]; then
     rust 'rustc --edition 2021 --target wasm32v1-none'
 else

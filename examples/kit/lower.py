@@ -17,8 +17,9 @@ imports "env" "invoke_..", and longjmp is "env" "emscripten_longjmp". Both becom
 stack is being unwound, each call of a function that may unwind is followed by a look at it and a return, and invoke_..
 ends it. Global 0 is the stack's pointer, as wasm-ld has it.
 
-The module has to be valid: of one that mixes up floats and integers a valid one may come. Its functions' names are kept.
-What can't be rewritten is refused by its name, and nothing is written.
+The module is validated with floats apart from integers before it is rewritten, and where a call through the table could meet
+a function whose type has become the same, the two types are told apart by further parameters. The functions' names are kept. What
+can't be rewritten is refused by its name, and nothing is written.
 """
 import argparse
 import pathlib

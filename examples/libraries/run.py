@@ -6,14 +6,13 @@
 Takes the sources from Debian's packages (`apt-get source`), compiles each library of ports.py with its file of glue/, once
 for the host and once as a native program, compares the answers, and prints a table: the fuel and the depth of calls that
 suffice, and the processor time of `work` over that of the native program and of V8. It wants clang, lld, wasi-libc,
-libclang-rt-14-dev-wasm32, zstd and node. apt takes the sources by lists of their own, or those that APT_CONFIG names.
+libclang-rt-14-dev-wasm32, zstd and node.
 WASMLOOP names the program, CC and LD another clang and wasm-ld, and CPU what is told to that clang in the place of
 -mcpu=mvp: with CPU= in the environment it compiles as it does by itself, and lower.py rewrites each module. All is written to
 out/ beside this file.
 """
 import os
 import pathlib
-import re
 import resource
 import shutil
 import subprocess
@@ -25,6 +24,7 @@ HERE = pathlib.Path(__file__).resolve().parent
 OUT = HERE / "out"
 SOURCES = OUT / "src"
 KIT = HERE.parent / "kit"
+APT_CONFIG = HERE.parent.parent / "tools" / "apt_config.sh"
 HOST = os.environ.get("WASMLOOP", "wasmloop")
 CC, LD = os.environ.get("CC", "clang"), os.environ.get("LD", "wasm-ld")
 CPU = os.environ.get("CPU", "-mcpu=mvp").split()
@@ -34,10 +34,10 @@ BUILTINS = subprocess.run([CC, "--target=wasm32-wasi", "-print-libgcc-file-name"
 WASM = [CC, "--target=wasm32-wasi", *CPU, "-O2", "-w", "-isystem", KIT, f"-I{KIT}", f"-I{HERE.parent}",
         "-D_WASI_EMULATED_SIGNAL", "-D_WASI_EMULATED_PROCESS_CLOCKS", "-D_WASI_EMULATED_GETPID"]
 NATIVE = [CC, "-O2", "-w", f"-I{KIT}"]
-LINK = [LD, "--no-entry", "--export-table", "--stack-first", "--strip-all", "--compress-relocations",
+LINK = [LD, "--no-entry", "--export-table", "--stack-first", "--strip-debug", "--compress-relocations",
         "-zstack-size=131072"]
-LIBRARIES = [LIBC / "libc.a", LIBC / "libm.a", BUILTINS] + [LIBC / f"libwasi-emulated-{n}.a" for n in
-                                                  ("signal", "process-clocks", "getpid")]
+LIBRARIES = [LIBC / "libc.a", LIBC / "libm.a", BUILTINS,
+             *(LIBC / f"libwasi-emulated-{n}.a" for n in ("signal", "process-clocks", "getpid"))]
 TIMES, PEERS_TIMES = 3, 15          # the minimum of so many runs counts
 AMPLE = 1 << 40
 DEPTHS = (16, 32, 64, 128)
@@ -51,30 +51,6 @@ def call(*words, **more):
     return done.stdout
 
 
-def apt_config():
-    """A configuration of apt with a list of Debian's sources, since many systems have packages alone in theirs."""
-    given = os.environ.get("APT_CONFIG")
-    if given:
-        return given
-    config = OUT / "apt" / "apt.conf"
-    if not config.exists():
-        lists = config.parent / "lists"
-        (lists / "partial").mkdir(parents=True, exist_ok=True)
-        parts = config.parent / "parts"
-        parts.mkdir(exist_ok=True)
-        whole = pathlib.Path("/etc/apt/sources.list.d/debian.sources")
-        if whole.exists():
-            (parts / whole.name).write_text(re.sub(r"(?m)^Types:.*", "Types: deb-src", whole.read_text()))
-        else:
-            lines = pathlib.Path("/etc/apt/sources.list").read_text().splitlines()
-            (parts / "debian.list").write_text("".join(f"deb-src {it[4:]}\n" for it in lines if it.startswith("deb ")))
-        part = config.with_suffix(".part")
-        part.write_text(f'Dir::Etc::sourcelist "/dev/null";\nDir::Etc::sourceparts "{parts}";\nDir::State::lists "{lists}";\n')
-        call("apt-get", "update", env=os.environ | {"APT_CONFIG": str(part)})
-        part.rename(config)
-    return str(config)
-
-
 def fetch(package):
     """Debian's source of a package, unpacked as it is, without Debian's patches."""
     folder = SOURCES / package
@@ -82,7 +58,7 @@ def fetch(package):
         return
     SOURCES.mkdir(parents=True, exist_ok=True)
     call("apt-get", "source", "-q", "--tar-only", "--download-only", package, cwd=SOURCES,
-         env=os.environ | {"APT_CONFIG": apt_config()})
+         env=os.environ | {"APT_CONFIG": call(APT_CONFIG, OUT / "apt").decode().strip()})
     archive, = [p for p in SOURCES.glob(f"{package}_*.orig.tar.*") if p.suffix != ".asc"]
     folder.mkdir()
     call("tar", "xf", archive, "-C", folder, "--strip-components=1")

@@ -29,15 +29,10 @@ left_out() {
     exit 0
 }
 
-# Fetches from where the machine has Debian's packages from, with lists of its own, so that the machine's are as before.
 fetch() {
-    mkdir -p "$out/apt/lists/partial" "$out/apt/parts"
-    sed 's/^Types:.*/Types: deb-src/' /etc/apt/sources.list.d/debian.sources >"$out/apt/parts/debian.sources" 2>/dev/null ||
-        sed -n 's/^deb /deb-src /p' /etc/apt/sources.list >"$out/apt/parts/debian.list"
-    local options=(-q -o Dir::Etc::sourcelist=/dev/null -o "Dir::Etc::sourceparts=$out/apt/parts"
-        -o "Dir::State::lists=$out/apt/lists" -o "Dir::Cache=$out/apt" -o APT::Sandbox::User=root)
-    (cd "$out" && timeout 120 apt-get "${options[@]}" update && timeout 300 apt-get "${options[@]}" source --download-only binaryen) \
-        >"$out/fetch.log" 2>&1
+    local config
+    config=$("$here/../../tools/apt_config.sh" "$out/apt") || return 1
+    (cd "$out" && APT_CONFIG=$config timeout 300 apt-get -q source --download-only binaryen) > "$out/fetch.log" 2>&1
 }
 
 command -v wast2json >/dev/null || left_out "no wast2json (Debian's package wabt)"

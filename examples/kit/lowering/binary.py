@@ -107,7 +107,14 @@ def constant(kind, value):
 def value_type(byte):
     if byte not in LOWERED:
         raise Refused(OTHER_TYPES.get(byte, f"the value type {byte:#x}"))
-    return LOWERED[byte]
+    return byte
+
+
+def lowered(kinds):
+    """Types of values, or a type of functions, with integers in the place of floats."""
+    if isinstance(kinds, tuple):
+        return tuple(map(lowered, kinds))
+    return bytes(LOWERED[kind] for kind in kinds)
 
 
 def memory_argument(r):

@@ -37,10 +37,10 @@ def longjmp(flag, parameters, threw):
     return b"\0" + given + b"\x10" + u(threw) + b"\x41\1" + bytes([GLOBAL_SET]) + u(flag) + b"\x0b"
 
 
-def invoke(flag, parameters, callee):
-    """Calls, and ends an unwinding: global 0 is the stack's pointer, as wasm-ld has it."""
+def invoke(flag, parameters, callee, marks):
+    """Calls with so many marks (tables.py), and ends an unwinding: global 0 is the stack's pointer, as wasm-ld has it."""
     stack = len(parameters)
-    given = b"".join(b"\x20" + u(i) for i in (*range(1, stack), 0))
+    given = b"".join(b"\x20" + u(i) for i in range(1, stack)) + marks * constant(I32, 0) + b"\x20\0"
     call = b"\x23\0\x21" + u(stack) + given + b"\x11" + u(callee) + b"\0"
     end = b"\x23" + u(flag) + b"\x04\x40\x41\0\x24" + u(flag) + b"\x20" + u(stack) + b"\x24\0\x0b\x0b"
     return vec([u(1) + bytes([I32])]) + call + end

@@ -2,7 +2,7 @@
 import collections
 
 from .binary import (END, EXCEPTIONS, F32, F32_CONST, F64, F64_CONST, FUNCTIONS, GLOBAL_GET, I32, I32_CONST, I64, I64_CONST,
-                     NO_FUNCTIONS, OTHERS, REF_FUNC, REF_NULL, REFERENCES, THREADS, Reader, Refused, constant, immediate, u,
+                     LOWERED, NO_FUNCTIONS, OTHERS, REF_FUNC, REF_NULL, REFERENCES, THREADS, Reader, Refused, constant, immediate, u,
                      value_type)
 
 SECTIONS = dict(zip("types imports functions tables memories globals exports start elements code data".split(),
@@ -22,7 +22,7 @@ def wrapped(kind, value):
 
 
 class Module:
-    """Bodies are pairs of the locals and the operations' bytes, active segments pairs of offset and contents."""
+    """Bodies are pairs of the locals and the operations' bytes, active segments pairs of offset and contents. Types are as they came."""
 
     def __init__(self, data):
         if data[:4] != b"\0asm" or data[4:8] != b"\1\0\0\0":
@@ -69,6 +69,11 @@ class Module:
                  "memory": len(self.memories), "global": len(self.globals)}
         if index >= there[what]:
             raise Refused(f"a {what} {index} that isn't there")
+
+    def type_of(self, function):
+        """The number of its type."""
+        first = len(self.imports)
+        return self.imports[function][2] if function < first else self.functions[function - first]
 
     def read(self, section, item):
         r = Reader(self.sections.get(SECTIONS[section], b"\0"))
@@ -158,7 +163,7 @@ class Module:
         if mutable > 1:
             raise Refused(f"a global of the kind {mutable}")
         value = self.value(r, kind)
-        self.globals.append(bytes([value_type(kind), mutable]) + constant(kind, value) + b"\x0b")
+        self.globals.append(bytes([LOWERED[value_type(kind)], mutable]) + constant(kind, value) + b"\x0b")
         self.values.append((kind, value))
 
     def offset(self, r, what):

@@ -1,14 +1,17 @@
 """The module that comes out: the imports that stay, its functions, those for setjmp's imports, those that are put in."""
 import collections
 
-from . import bulk, jumps
+from . import bulk, jumps, tables
 from .binary import (BLOCKS, CALL, CALL_INDIRECT, COPY, DROP, ELEM_DROP, EMPTY_BLOCK, F32, F32_CONST, F64, F64_CONST, FILL,
                      GLOBAL_GET, GLOBAL_SET, I32, INIT, MEMORY_ACCESS, PAGES, PREFIX, SELECT, TYPED_SELECT, Refused, constant,
-                     operations, s, shortest, sized, u, value_type, vec)
+                     LOWERED, lowered, operations, s, shortest, sized, u, value_type, vec)
 from .floats import FLOAT_ACCESS, REINTERPRET, SIGNS, SOFT
 from .module import SECTIONS
+from .validity import Body
 
 FLOATS, LONG = "floating-point instructions", "instructions with a number in more bytes than it needs"
+MARKED = "calls through the table by a type that is told from another by marks"
+ENTRIES = b"uv_main", b"uv_work", b"uv_after_work"
 BULK = {INIT: "memory.init", DROP: "data.drop", COPY: "memory.copy", FILL: "memory.fill"}
 
 
@@ -30,7 +33,8 @@ class Lowering:
         self.number = {old: new for new, old in enumerate(self.kept)}
         self.number.update({imports + i: len(self.kept) + i for i in range(defined)})
         self.number.update({old: len(self.kept) + defined + i for i, old in enumerate(self.made)})
-        self.types, self.function_types, self.bodies = list(module.types), list(module.functions), []
+        self.types, self.function_types, self.bodies = [lowered(kind) for kind in module.types], list(module.functions), []
+        self.marks, self.spare = tables.Marks(module), None
         self.globals, self.lengths, self.added = list(module.globals), {}, {}
         self.flag = self.new_global(0) if self.made else None
         self.counts, self.sizes = collections.Counter(module.changed), collections.Counter()
@@ -56,7 +60,7 @@ class Lowering:
 
     def operation(self, op, written, behind, leave):
         if op in BLOCKS and behind < 0:
-            return bytes([op, EMPTY_BLOCK if behind & 127 == EMPTY_BLOCK else value_type(behind & 127)])
+            return bytes([op, EMPTY_BLOCK if behind & 127 == EMPTY_BLOCK else LOWERED[value_type(behind & 127)]])
         if op in BLOCKS:
             self.old.must_have("type", behind)
         if op in (GLOBAL_GET, GLOBAL_SET):
@@ -67,7 +71,7 @@ class Lowering:
         if op == CALL_INDIRECT:
             self.old.must_have("type", behind[0])
             self.must_be_first("table", behind[1])
-            return self.short(op, written, behind) + (leave if self.through_table else b"")
+            return self.call_indirect(written, behind) + (leave if self.through_table else b"")
         if op in PAGES:
             self.must_be_first("memory", behind)
         if op in (F32_CONST, F64_CONST):
@@ -86,6 +90,19 @@ class Lowering:
             return self.bulk(*behind)
         name = SOFT.get((PREFIX, behind[0]) if op == PREFIX else op)
         return self.soft_call(name) if name else self.short(op, written, behind)
+
+    def call_indirect(self, written, behind):
+        kind = self.old.types[behind[0]]
+        if not self.marks.of(kind):
+            return self.short(CALL_INDIRECT, written, behind)
+        self.counts[MARKED] += 1
+        self.spare = self.first_spare
+        return tables.call(self.type_number(self.marks.type(kind)), self.marks.of(kind), self.spare)
+
+    def placed(self, function):
+        """The number of what the table has for a function."""
+        marked = self.marks.of(self.old.types[self.old.type_of(function)])
+        return self.put_in("by the table", function) if marked else self.number[function]
 
     def short(self, op, written, behind):
         new = shortest(op, written, behind)
@@ -125,17 +142,28 @@ class Lowering:
             self.lengths[segment] = self.new_global(len(self.old.passive[segment]))
         return self.lengths[segment]
 
+    def defined(self, kind, declared, body):
+        """A function of the module's own."""
+        leave = jumps.leave(self.flag, self.types[kind][1]) if self.made else b""
+        self.first_spare, self.spare = len(self.types[kind][0]) + sum(n for n, _ in declared), None
+        walk, code = Body(self.old, kind, declared), []
+        for op, written, behind in operations(body):
+            new = self.operation(op, written, behind, leave)
+            walk.operation(op, behind)
+            code.append(new)
+        walk.ended()
+        spare = [u(1) + bytes([I32])] if self.spare is not None else []
+        return vec([u(n) + bytes([LOWERED[t]]) for n, t in declared] + spare) + b"".join(code)
+
     def functions(self):
         for i, (kind, (declared, body)) in enumerate(zip(self.old.functions, self.old.bodies)):
-            leave = jumps.leave(self.flag, self.types[kind][1]) if self.made else b""
             try:
-                code = b"".join(self.operation(*o, leave) for o in operations(body))
+                self.bodies.append(self.defined(kind, declared, body))
             except Refused as why:
                 number = len(self.old.imports) + i
                 name = dict(self.old.names).get(number)
                 named = f" ({name.decode(errors='replace')})" if name else ""
                 raise Refused(f"{why}, in function {number}{named}") from None
-            self.bodies.append(vec([u(n) + bytes([t]) for n, t in declared]) + code)
         for i in self.made:
             self.made_function(*self.old.imports[i][1:])
         done = 0
@@ -148,7 +176,8 @@ class Lowering:
         self.function_types.append(kind)
         parameters, results = self.types[kind]
         if field.startswith("invoke_"):
-            body = jumps.invoke(self.flag, parameters, self.type_number((parameters[1:], results)))
+            called = self.old.types[kind][0][1:], self.old.types[kind][1]
+            body = jumps.invoke(self.flag, parameters, self.type_number(self.marks.type(called)), self.marks.of(called))
         else:
             threw = next((i for n, k, i in self.old.exports if n == b"guest_threw"), None)
             if threw is None:
@@ -168,13 +197,16 @@ class Lowering:
             code = b"".join(self.soft_operation(*o) for o in operations(body))
             kind = self.soft.types[self.soft.functions[index]]
             body = vec([u(n) + bytes([t]) for n, t in declared]) + code
+        elif what == "by the table":
+            kind = self.old.types[self.old.type_of(index)]
+            body, kind = tables.taker(kind, self.number[index]), self.marks.type(kind)
         elif what == "data":
             kind, body = bulk.data_of(self.old.passive[index])
         elif what == "memory.init":
             kind, body = self.init(index)
         else:
             kind, body = bulk.copy() if what == "memory.copy" else bulk.fill()
-        self.sizes["soft" if what == "soft" else "bulk"] += len(body)
+        self.sizes[what if what in ("soft", "by the table") else "bulk"] += len(body)
         self.function_types.append(self.type_number(kind))
         self.bodies.append(body)
 
@@ -202,8 +234,21 @@ class Lowering:
         part = vec([u(i) + sized(n) for i, n in sorted(named.items())])
         return b"\0" + sized(sized(b"name") + b"\1" + sized(part))
 
+    def look_at_floats_outside(self):
+        """What the host calls and is called by has integers, and must have had them before."""
+        for module, field, kind in self.old.imports:
+            if module == "uv" and tables.has_floats(self.old.types[kind]):
+                raise Refused(f'the import "uv" "{field}", which has floats in its type')
+        for name, kind, index in self.old.exports:
+            if kind == 0 and name in ENTRIES and tables.has_floats(self.old.types[self.old.type_of(index)]):
+                raise Refused(f'the export "{name.decode()}", which has floats in its type')
+
     def module(self):
         old, parts = self.old, {}
+        self.look_at_floats_outside()
+        for _, functions in old.elements:              # (they get their numbers before the functions that are put in)
+            for function in functions:
+                self.placed(function)
         self.functions()
         exports = [(n, k, self.number[i] if k == 0 else i) for n, k, i in old.exports if n != b"guest_threw"]
         imports = [old.imports[i] for i in self.kept]
@@ -213,7 +258,7 @@ class Lowering:
         parts["tables"], parts["memories"] = vec(old.tables), vec(old.memories)
         parts["globals"] = vec(self.globals)
         parts["exports"] = vec([sized(n) + bytes([k]) + u(i) for n, k, i in exports])
-        parts["elements"] = vec([b"\0\x41" + s(at) + b"\x0b" + vec([u(self.number[f]) for f in functions])
+        parts["elements"] = vec([b"\0\x41" + s(at) + b"\x0b" + vec([u(self.placed(f)) for f in functions])
                                  for at, functions in old.elements])
         parts["code"] = vec([sized(b) for b in self.bodies])
         parts["data"] = vec([b"\0\x41" + s(at) + b"\x0b" + sized(data) for at, data in old.data])
@@ -232,13 +277,15 @@ class Lowering:
             lines.append(f"{counts[FLOATS]} {FLOATS}: added {put_in['soft']} functions of SOFT.wasm, {self.sizes['soft']} bytes")
         bulk_counts = [f"{counts[name]} {name}" for name in BULK.values() if counts[name]]
         if bulk_counts:
-            functions = len(self.added) - put_in["soft"]
+            functions = len(self.added) - put_in["soft"] - put_in["by the table"]
             lines.append(f"{', '.join(bulk_counts)}: added {functions} functions, {self.sizes['bulk']} bytes")
         if self.made:
             lines.append(f"{len(self.made)} imports of setjmp: added as many functions, {self.sizes['jumps']} bytes, a global")
+        if put_in["by the table"]:
+            lines.append(f"{counts[MARKED]} {MARKED}: added {put_in['by the table']} functions, {self.sizes['by the table']} bytes")
         if self.lengths:
             lines.append(f"{len(self.lengths)} data segments that can be dropped: added as many globals")
-        lines += [f"{n} {what}" for what, n in counts.items() if n and what not in (FLOATS, *BULK.values())]
+        lines += [f"{n} {what}" for what, n in counts.items() if n and what not in (FLOATS, MARKED, *BULK.values())]
         left_out = [name for name in self.old.customs if name != "name"] + ["datacount"] * (12 in self.old.sections)
         if left_out:
             lines.append(f"left out: {', '.join(left_out)}")

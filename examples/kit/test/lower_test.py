@@ -1,6 +1,6 @@
 #!/usr/bin/env python3
-"""What lower.py must refuse, by name, what it must take, and the names that it keeps. Wants wabt's wat2wasm, and SOFT.wasm
-as its argument."""
+"""What lower.py must refuse, by name, what it must take, and the names that it keeps. Wants wabt's wat2wasm, and as its arguments
+SOFT.wasm and the program."""
 import pathlib
 import subprocess
 import sys
@@ -32,8 +32,54 @@ REFUSED = [
     ('(import "env" "sin" (func (param f64) (result f64)))', '"env" "sin"'),
     ('(import "uv" "g" (global f64))', '"uv" "g", which is no function'),
     ('(import "uv" "m" (memory 1))', '"uv" "m", which is no function'),
+    ('(import "uv" "emit" (func (param f64) (result i32)))', '"uv" "emit", which has floats in its type'),
+    ('(func (export "uv_work") (param f32) (result i32) i32.const 0)', '"uv_work", which has floats in its type'),
     ('(import "env" "emscripten_longjmp" (func (param i32 i32))) (func (call 0 (i32.const 0) (i32.const 0)))', "setjmp.c"),
 ]
+# Bodies that mix up floats and integers, or are wrong in another way, in a module with the rest below; and what is said.
+MIXED = [
+    ("(drop (i32.add (i32.const 1) (f32.const 1)))", "i32 is wanted, and f32 is there"),
+    ("(drop (i64.add (i64.const 1) (f64.const 1)))", "i64 is wanted, and f64 is there"),
+    ("(drop (f64.add (f64.const 1) (f32.const 1)))", "f64 is wanted, and f32 is there"),
+    ("(drop (select (i32.const 1) (f32.const 1) (i32.const 0)))", "f32 is wanted, and i32 is there"),
+    ("(drop (select (result f32) (i32.const 1) (f32.const 1) (i32.const 0)))", "f32 is wanted, and i32 is there"),
+    ("(local.set 0 (f32.const 1))", "i32 is wanted, and f32 is there"),
+    ("(global.set 0 (i64.const 1))", "f64 is wanted, and i64 is there"),
+    ("(drop (block (result f32) (i32.const 1)))", "f32 is wanted, and i32 is there"),
+    ("(drop (block (result i32) (br 0 (f32.const 1))))", "i32 is wanted, and f32 is there"),
+    ("(drop (loop (result i64) (f64.const 1)))", "i64 is wanted, and f64 is there"),
+    ("(drop (if (result f32) (i32.const 1) (then (f32.const 1)) (else (i32.const 1))))", "f32 is wanted, and i32 is there"),
+    ("(drop (call 0 (f32.const 1)))", "i32 is wanted, and f32 is there"),
+    ("(drop (call_indirect (param f32) (result i32) (i32.const 1) (i32.const 0)))", "f32 is wanted, and i32 is there"),
+    ("(f32.store (i32.const 0) (i32.const 0))", "f32 is wanted, and i32 is there"),
+    ("(drop (i32.load (f32.const 0)))", "i32 is wanted, and f32 is there"),
+    ("(return (f32.const 1))", "i32 is wanted, and f32 is there"),
+    ("(drop (i32.reinterpret_f32 (i32.const 1)))", "f32 is wanted, and i32 is there"),
+    ("(drop (f32.neg (i32.const 1)))", "f32 is wanted, and i32 is there"),
+    ("(block (result f32) (i32.const 1) (br_table 0 0 (i32.const 0))) drop", "f32 is wanted, and i32 is there"),
+    ("(unreachable) (drop (i32.add (f32.const 1)))", "i32 is wanted, and f32 is there"),
+    ("(drop (f32.add (f32.const 1)))", "f32 is wanted, and there is no operand"),
+    ("(f32.const 1)", "a block leaves more operands"),
+    ("(drop (if (result f32) (i32.const 1) (then (f32.const 1))))", "an if without an else"),
+    ("(unreachable) (f32.add) (drop) (br_table 0 0) (i64.add) (drop)", ""),
+    ("(block (result f32) (unreachable) (select) (br_table 0 0)) drop", ""),
+    ("(drop (block (result f64) (br_if 0 (f64.const 1) (i32.const 1)) (br 0) (drop)))", ""),
+    ("(drop (f64.promote_f32 (f32.load (i32.const 0)))) (return (i32.const 0)) (f64.add) (drop)", ""),
+    ("(block (param f32) (result f64) (f64.promote_f32))", "f32 is wanted, and there is no operand"),
+    ("(f32.const 1) (block (param f32) (result f64) (f64.promote_f32)) (drop)", ""),
+]
+REST = '(memory 1) (table 1 funcref) (global (mut f64) (f64.const 0)) (func (param i32) (result i32) (local i64) %s (i32.const 0))'
+# Functions whose types become one through the table: the second is called as the first, and traps as it did; and the first.
+THROUGH_TABLE = """(type $f (func (param i32) (result i32))) (type $g (func (param f32) (result i32))) (type $h (func (param i32 i32) (result i32)))
+    (table funcref (elem $int $float $two))
+    (func $int (type $f) (i32.add (local.get 0) (i32.const 1)))
+    (func $float (type $g) (i32.add (i32.reinterpret_f32 (local.get 0)) (i32.const 2)))
+    (func $two (type $h) (i32.add (local.get 0) (local.get 1)))
+    (func (export "int") (param i32) (result i32) (call_indirect (type $f) (i32.const 40) (local.get 0)))
+    (func (export "float") (param i32) (result i32) (call_indirect (type $g) (f32.reinterpret_i32 (i32.const 40)) (local.get 0)))
+    (func (export "two") (param i32) (result i32) (call_indirect (type $h) (i32.const 40) (i32.const 5) (local.get 0)))"""
+TABLE = {("int", 0): "41", ("int", 1): "trap", ("int", 2): "trap", ("float", 0): "trap", ("float", 1): "42", ("float", 2): "trap",
+         ("two", 0): "trap", ("two", 1): "trap", ("two", 2): "45"}
 # Bytes that wat2wasm doesn't write, behind the header; what is refused, or "" where the module is taken.
 BYTES = [
     (b"", ""),
@@ -74,7 +120,7 @@ def module(text):
     with tempfile.TemporaryDirectory() as folder:
         source, target = pathlib.Path(folder) / "m.wat", pathlib.Path(folder) / "m.wasm"
         source.write_text(f"(module {text})")
-        subprocess.run(["wat2wasm", "--enable-all", "--debug-names", source, "-o", target], check=True)
+        subprocess.run(["wat2wasm", "--no-check", "--enable-all", "--debug-names", source, "-o", target], check=True)
         return target.read_bytes()
 
 
@@ -92,9 +138,27 @@ def is_plain(data):
     return not lowering.told() and all(op not in (0xFC, 0x1C) for _, body in Module(again).bodies for op, _, _ in operations(body))
 
 
-def main(path):
+def through_table(program, data):
+    """What the program answers of calls through the table of a module."""
+    with tempfile.TemporaryDirectory() as folder:
+        target = pathlib.Path(folder) / "m.wasm"
+        target.write_bytes(data)
+        for name, at in TABLE:
+            words = [program, "invoke", target, name, str(at)]
+            told = subprocess.run(words, stdout=subprocess.PIPE, stderr=subprocess.DEVNULL, check=False).stdout.decode().split()
+            yield (name, at), "trap" if told[:2] == ["trap", "7"] else told[1]
+
+
+def main(path, program=None):
     soft = pathlib.Path(path).read_bytes()
     wrong = [f"{text}: {refused(module(text), soft) or 'taken'}" for text, words in REFUSED if words not in refused(module(text), soft)]
+    for body, words in MIXED:
+        told = refused(module(REST % body), soft)
+        if words not in told or not words and told:
+            wrong.append(f"{body}: {told or 'taken'}")
+    table, _ = lower.lower(module(THROUGH_TABLE), soft)
+    if program and dict(through_table(program, table)) != TABLE:
+        wrong.append(f"through the table: {dict(through_table(program, table))}")
     header = b"\0asm\1\0\0\0"
     for data, words in BYTES:
         told = refused(header + data, soft)
@@ -113,9 +177,10 @@ def main(path):
     plain, lowering = lower.lower(module(FORMS))
     wrong += [f"not told: {words}" for words in TOLD if not any(words in line for line in lowering.told())]
     wrong += ["what came out is not of 1.0" for data in (lowered, plain) if not is_plain(data)]
-    print("\n".join(wrong) or f"lower: {len(REFUSED) + len(BYTES)} refused by name or taken, names kept")
+    print("\n".join(wrong) or f"lower: {len(REFUSED) + len(BYTES) + len(MIXED)} refused by name or taken, names kept"
+          + (f", {len(TABLE)} calls through a table" if program else ""))
     return bool(wrong)
 
 
 if __name__ == "__main__":
-    sys.exit(main(sys.argv[1]))
+    sys.exit(main(*sys.argv[1:]))

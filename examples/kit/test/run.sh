@@ -72,7 +72,7 @@ if has "soft and mem" clang; then native; fi
 if has "fill" clang wasm-ld "${program:-PROGRAM}"; then fill; fi
 if has "lower" clang wasm-ld wat2wasm; then
     soft_module
-    python3 "$here/lower_test.py" "$work/soft.wasm"
+    python3 "$here/lower_test.py" "$work/soft.wasm" ${program:+"$program"}
 fi
 if has "random modules" clang wasm-ld node "${program:-PROGRAM}"; then
     soft_module

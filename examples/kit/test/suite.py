@@ -8,7 +8,7 @@ module is rewritten; an f32 or f64 among arguments and results is the number of 
 suite's: bit for bit, and of a NaN the class that the suite names. Calls that the suite makes before on the same module
 are made again only where the module has a memory or a global that is written. The status is 1 if something differs
 or a module that the suite calls can't be run.
-A module that the suite calls invalid has to be refused, by lower.py or by the program; with floats it may become valid.
+A module that the suite calls invalid has to be refused, by lower.py or by the program.
 """
 import collections
 import json
@@ -19,9 +19,7 @@ import tempfile
 
 sys.path.insert(0, str(pathlib.Path(__file__).resolve().parent.parent))
 import lower  # noqa: E402
-from lowering.binary import (COPY, DROP, F32_CONST, F64_CONST, FILL, GLOBAL_SET, I32, I64, INIT, PREFIX,  # noqa: E402
-                             SATURATING, Refused, constant, operations, u)
-from lowering.floats import FLOAT_ACCESS, SOFT  # noqa: E402
+from lowering.binary import COPY, DROP, FILL, GLOBAL_SET, I32, I64, INIT, PREFIX, Refused, constant, operations, u  # noqa: E402
 from lowering.module import Module  # noqa: E402
 from lowering.rewriting import Lowering  # noqa: E402
 
@@ -48,11 +46,6 @@ def is_wanted(got, wanted):
 
 def is_write(op, behind):
     return op in range(0x36, 0x3F) or op in (GLOBAL_SET, 0x40) or op == PREFIX and behind[0] in (INIT, DROP, COPY, FILL)
-
-
-def has_floats(module):
-    return any(op in (F32_CONST, F64_CONST) or op in SOFT or op in FLOAT_ACCESS or op == PREFIX and behind[0] in SATURATING
-               for _, body in module.bodies for op, _, behind in operations(body))
 
 
 class Runner:
@@ -87,8 +80,6 @@ class Runner:
         target.write_bytes(lowered)
         if self.tell("check", target) != "accepted":
             return "invalid, refused by the program"
-        if has_floats(Module(data)):
-            return "invalid by its floats, and made valid"
         self.wrong.append(f"line {command['line']}: an invalid module is accepted")
         return "differs"
 
@@ -122,14 +113,11 @@ class Runner:
             code += b"".join(constant(I32 if BITS[a["type"]] == 32 else I64,
                                       signed(a["value"], BITS[a["type"]])) for a in call["args"])
             code += b"\x10" + u(index) + (b"\x1a" * len(results) if call is not action else b"")
-        again = Lowering(module, None)
-        kind = again.type_number((b"", results))
+        module.types.append((b"", results))
         module.exports.append((b"row", 0, len(module.functions)))
-        module.functions.append(kind)
-        again.number[len(module.functions) - 1] = len(module.functions) - 1
-        again.function_types.append(kind)
+        module.functions.append(len(module.types) - 1)
         module.bodies.append(([], code + b"\x0b"))
-        (self.folder / "row.wasm").write_bytes(again.module())
+        (self.folder / "row.wasm").write_bytes(Lowering(module, None).module())
 
     def judge(self, command, told):
         kind = command["type"]

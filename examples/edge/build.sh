@@ -1,7 +1,7 @@
 #!/bin/sh
 # Builds the server: `build.sh OUT [LIBRARY]` makes the program OUT over the folder LIBRARY, which has libwasmloop.a and may have wasmloop.h
 # (else that of capi/). Without LIBRARY it is dist/. It needs libuv, and libllhttp or libhttp-parser (Debian: libuv1-dev and libllhttp-dev or
-# libhttp-parser-dev); CC names the compiler, CFLAGS more flags. What the header has beyond the least is used: slices, and a failure in words.
+# libhttp-parser-dev); CC names the compiler, CFLAGS more flags.
 set -eu
 here=$(cd "$(dirname "$0")" && pwd)
 library=${2:-$here/../../dist} header=$here/../../capi
@@ -11,9 +11,6 @@ if pkg-config --exists libllhttp 2> /dev/null; then
 else
     parser=-lhttp_parser
 fi
-has=
-grep -q 'int wasmloop_job_run_for(' "$header/wasmloop.h" && has="$has -DWASMLOOP_SLICES"
-grep -q 'int wasmloop_stop_told(' "$header/wasmloop.h" && has="$has -DWASMLOOP_STOP_TOLD"
 # shellcheck disable=SC2086
-"${CC:-cc}" -std=c11 -D_GNU_SOURCE -O2 -Wall -Wextra -Wpedantic ${CFLAGS:-} $has -I"$header" -o "$1" \
-    "$here/edge.c" "$here/tenants.c" "$here/loops.c" "$here/pages.c" "$library/libwasmloop.a" -luv $parser -lpthread
+"${CC:-cc}" -std=c11 -D_GNU_SOURCE -O2 -Wall -Wextra -Wpedantic ${CFLAGS:-} -I"$header" -o "$1" \
+    "$here/edge.c" "$here/tenants.c" "$here/loops.c" "$here/people.c" "$library/libwasmloop.a" -luv $parser -lpthread

@@ -3,49 +3,44 @@
 usage: WASMLOOP_LIBRARY=libwasmloop.so PYTHONPATH=capi python3 edge.py FOLDER [PORT [WORKERS]]
 
 POST /NAME[/OP] hands the body to uv_work(OP) of FOLDER/NAME.wasm; FOLDER/NAME.conf may have lines as "fuel 2000000". A file that has
-changed is read anew by the request that sees it; where a module is refused, the old one stays. README.md has the statuses. A job is not
-cut in slices: a deadline is looked at when its turn comes, and fuel alone bounds it then.
-"""
+changed is read anew by the request that sees it; where a module is refused, the old one stays. README.md has the statuses. A deadline is
+looked at between slices of SLICE units; a job doesn't make room for another's turn."""
 import asyncio
 import collections
-import concurrent.futures
 import pathlib
 import signal
 import sys
 import time
-
-from aiohttp import web
+from concurrent import futures
 
 import wasmloop
+from aiohttp import web
 
-STATUS = {"done": 200, "trap": 500, "depth": 500, "spent": 504, "nomemory": 503}
-MOST_WAITING = 4096
+STATUS = {"done": 200, "nowork": 404, "trap": 500, "depth": 500, "nomemory": 503, "ends": 503, "spent": 504, "late": 504}
+LIMITS = {"fuel": 10_000_000, "depth": 64, "queue": 64, "deadline": 1000, "type": "application/octet-stream"}
+MOST_WAITING, SLICE = 4096, 100_000
+tenants, active, pace = {}, set(), 0.0
 
 
 class Tenant:
     def __init__(self, name):
-        self.name, self.module, self.said, self.stamps = name, None, "", {}
+        self.name, self.module, self.said, self.stamps, self.loading = name, None, "", {}, asyncio.Lock()
         self.waiting, self.running, self.share, self.mean = collections.deque(), 0, 0.0, 0.0
         self.counted, self.used, self.cpu = collections.Counter(), 0, 0.0
-        self.loading = asyncio.Lock()
 
     def changed(self, suffix):
         """The path of its file with this suffix, where it is not as it was seen last."""
         path = FOLDER / (self.name + suffix)
         stat = path.stat() if path.exists() else None
-        stamp = stat and (stat.st_mtime_ns, stat.st_size, stat.st_ino)
-        if suffix in self.stamps and self.stamps[suffix] == stamp:
-            return None
-        self.stamps[suffix] = stamp
-        return path
+        before, self.stamps[suffix] = self.stamps.get(suffix, 0), stat and (stat.st_mtime_ns, stat.st_size, stat.st_ino)
+        return path if self.stamps[suffix] != before else None
 
     async def fresh(self):
         """Reads its files anew where they have changed, the module in a thread."""
         async with self.loading:
             if path := self.changed(".conf"):
-                self.limits = {"fuel": 10_000_000, "depth": 64, "queue": 64, "run": max(1, WORKERS - 1), "deadline": 1000, "type": "application/octet-stream"}
-                pairs = path.read_text().split() if path.exists() else []
-                self.limits.update((k, v if k == "type" else int(v)) for k, v in zip(pairs[::2], pairs[1::2]))
+                words = path.read_text().split() if path.exists() else []
+                self.limits = LIMITS | {"run": max(1, WORKERS - 1)} | {k: v if k == "type" else int(v) for k, v in zip(words[::2], words[1::2])}
             if path := self.changed(".wasm"):
                 try:
                     self.module, self.said = await LOOP.run_in_executor(POOL, lambda: wasmloop.Module(path.read_bytes())), ""
@@ -54,124 +49,99 @@ class Tenant:
         return self.module
 
 
-def run(module, op, data, limits):
-    """In a thread: the reply, where it stopped, and the processor time."""
-    began = time.thread_time()
-    with module.job(op, data, limits["fuel"], limits["depth"]) as job:
-        reply = job.run().reply()
-        return reply, job.stop(), time.thread_time() - began
+def run(module, op, data, limits, until):
+    """In a thread: the reply, what is said of a failure, and the processor time."""
+    began, over = time.thread_time(), False
+    try:
+        with module.job(op, data, limits["fuel"], limits["depth"]) as job:
+            while not over and time.monotonic() < until:
+                over = job.run_for(SLICE)
+            if not over:
+                return wasmloop.Reply("late", 0, b"", 0), "not done by its deadline", time.thread_time() - began
+            reply, where = job.reply(), job.stop()
+    except wasmloop.Error as error:
+        return wasmloop.Reply("nomemory" if error.status == wasmloop.MEMORY else "nowork", 0, b"", 0), str(error), 0
+    said = f"{reply.outcome}, after {reply.used} units" + (", in function %d at operation %d" % where[0] if where else "")
+    return reply, said, time.thread_time() - began
 
 
-tenants, active, running, waiting, pace, ending = {}, set(), 0, 0, 0.0, False
-
-
-def schedule():
-    """Hands out to the threads, to the tenant first that has used the least time."""
-    global running, waiting, pace
-    while running < WORKERS:
-        ready = [t for t in active if t.waiting and t.running < t.limits["run"]]
-        if not ready:
-            break
+async def worker():
+    """Keeps a thread busy: the tenant goes first that has used the least time."""
+    global pace
+    while True:
+        while not (ready := [t for t in active if t.waiting and t.running < t.limits["run"]]):
+            WAKE.clear()
+            await WAKE.wait()
         best = min(ready, key=lambda t: t.share)
-        answer, until, words = best.waiting.popleft()
-        waiting -= 1
-        if answer.cancelled():
-            continue
-        if time.monotonic() >= until:
-            answer.set_result(None)
-            continue
-        pace, best.running, running = best.share, best.running + 1, running + 1
-        best.share += best.mean
-        LOOP.run_in_executor(POOL, run, *words).add_done_callback(lambda f, t=best, a=answer: done(f, t, a))
-    active.difference_update([t for t in active if not t.waiting])
+        answer, words = best.waiting.popleft()
+        if not best.waiting:
+            active.discard(best)
+        pace, best.running, best.share = best.share, best.running + 1, best.share + best.mean
+        reply, said, cpu = await LOOP.run_in_executor(POOL, run, *words)
+        best.share, best.mean = best.share + cpu - best.mean, best.mean + (cpu - best.mean) / 8
+        best.cpu, best.used, best.running = best.cpu + cpu, best.used + reply.used, best.running - 1
+        answer.cancelled() or answer.set_result((reply, said))
+        WAKE.set()
 
 
-def done(future, tenant, answer):
-    global running
-    running, tenant.running = running - 1, tenant.running - 1
-    if not future.exception():
-        reply, _, cpu = future.result()
-        tenant.share += cpu - tenant.mean
-        tenant.mean += (cpu - tenant.mean) / 8
-        tenant.cpu, tenant.used = tenant.cpu + cpu, tenant.used + reply.used
-    if not answer.cancelled():
-        answer.set_exception(future.exception()) if future.exception() else answer.set_result(future.result())
-    schedule()
-
-
-def told(tenant, status, text, outcome="refused", **heads):
+def told(tenant, status, text, outcome="refused", heads=None):
     tenant.counted[outcome] += 1
-    return web.Response(status=status, text=f"{tenant.name}: {text}\n", headers=heads | ({"Retry-After": "1"} if status in (429, 503) else {}))
+    return web.Response(status=status, text=f"{tenant.name}: {text}\n", headers=(heads or {}) | ({"Retry-After": "1"} if status in (429, 503) else {}))
 
 
 async def work(request):
-    global waiting
     name, op = request.match_info["name"], int(request.match_info.get("op") or 0)
     if not (FOLDER / f"{name}.wasm").exists():
         tenants.pop(name, None)
         return web.Response(status=404, text="no such tenant\n")
     tenant = tenants.get(name) or tenants.setdefault(name, Tenant(name))
-    data = await request.read()
-    if (module := await tenant.fresh()) is None:
-        return told(tenant, 500, tenant.said)
-    if op >= 2**32:
-        return told(tenant, 400, "an operation is a number below 2^32")
-    if ending or waiting >= MOST_WAITING:
-        return told(tenant, 503, "the server ends" if ending else "too many wait")
-    if len(tenant.waiting) >= tenant.limits["queue"]:
-        return told(tenant, 429, "too many wait")
-    answer = LOOP.create_future()
+    data, until = await request.read(), time.monotonic()
+    module, waits = await tenant.fresh(), sum(len(t.waiting) for t in active)
+    for holds, status, text in ((not module, 500, tenant.said), (op >= 2**32, 400, "an operation is a number below 2^32"), (OVER.is_set(), 503, "the server ends"),
+                                (waits >= MOST_WAITING, 503, "too many wait"), (len(tenant.waiting) >= tenant.limits["queue"], 429, "too many wait")):
+        if holds:
+            return told(tenant, status, text)
     if tenant not in active:
         tenant.share = max(tenant.share, pace)
         active.add(tenant)
-    tenant.waiting.append((answer, time.monotonic() + tenant.limits["deadline"] / 1000, (module, op, data, tenant.limits)))
-    waiting += 1
-    schedule()
-    try:
-        got = await answer
-    except wasmloop.Error as error:
-        return told(tenant, 503 if error.status == wasmloop.MEMORY else 404, str(error))
-    if got is None:
-        return told(tenant, 503 if ending else 504, "the server ends" if ending else "not begun by its deadline", "late")
-    reply, stop, _ = got
+    answer = LOOP.create_future()
+    tenant.waiting.append((answer, (module, op, data, tenant.limits, until + tenant.limits["deadline"] / 1000)))
+    WAKE.set()
+    reply, said = await answer
     heads = {"Wasmloop-Outcome": reply.outcome, "Wasmloop-Value": str(reply.value), "Wasmloop-Fuel": str(reply.used)}
-    if reply.outcome == "done":
-        tenant.counted["done"] += 1
-        return web.Response(body=reply.data, headers=heads | {"Content-Type": tenant.limits["type"]})
-    where = ", in function %d at operation %d" % stop[0] if stop else ""
-    return told(tenant, STATUS[reply.outcome], f"{reply.outcome}, after {reply.used} units{where}", reply.outcome, **heads)
+    if reply.outcome != "done":
+        return told(tenant, STATUS[reply.outcome], said, reply.outcome, heads)
+    tenant.counted["done"] += 1
+    return web.Response(body=reply.data, headers=heads | {"Content-Type": tenant.limits["type"]})
 
 
 async def metrics(_):
-    rows = [f'edge_requests_total{{tenant="{n}",outcome="{k}"}} {v}' for n, t in tenants.items() for k, v in t.counted.items()]
-    rows += [f'edge_fuel_units_total{{tenant="{n}"}} {t.used}' for n, t in tenants.items()]
-    rows += [f'edge_cpu_seconds_total{{tenant="{n}"}} {t.cpu:.6f}' for n, t in tenants.items()]
-    return web.Response(text="".join(f"{row}\n" for row in rows))
+    text = "".join(f'edge_requests_total{{tenant="{n}",outcome="{k}"}} {v}\n' for n, t in tenants.items() for k, v in t.counted.items())
+    for name, number in ("fuel_units_total", "used"), ("cpu_seconds_total", "cpu"):
+        text += "".join(f'edge_{name}{{tenant="{n}"}} {getattr(t, number)}\n' for n, t in tenants.items())
+    return web.Response(text=text)
 
 
 def stop():
     """What runs is finished, what waits is answered 503."""
-    global ending
-    ending = True
-    for answer, *_ in [it for t in tenants.values() for it in t.waiting]:
-        answer.cancelled() or answer.done() or answer.set_result(None)
-    for t in tenants.values():
-        t.waiting.clear()
     OVER.set()
+    for answer in [tenant.waiting.popleft()[0] for tenant in active for _ in list(tenant.waiting)]:
+        answer.cancelled() or answer.set_result((wasmloop.Reply("ends", 0, b"", 0), "the server ends"))
 
 
 async def serve():
-    global LOOP, POOL, OVER
-    LOOP, POOL, OVER = asyncio.get_running_loop(), concurrent.futures.ThreadPoolExecutor(WORKERS), asyncio.Event()
+    global LOOP, POOL, OVER, WAKE
+    LOOP, POOL, OVER, WAKE = asyncio.get_running_loop(), futures.ThreadPoolExecutor(WORKERS), asyncio.Event(), asyncio.Event()
     app = web.Application(client_max_size=65537)
     app.add_routes([web.get("/-/metrics", metrics), *(web.route("*", path, work) for path in ("/{name:[a-z0-9_-]+}", r"/{name:[a-z0-9_-]+}/{op:\d+}"))])
-    runner = web.AppRunner(app)
-    await runner.setup()
+    await (runner := web.AppRunner(app)).setup()
     await web.TCPSite(runner, "127.0.0.1", PORT).start()
     for number in (signal.SIGINT, signal.SIGTERM):
         LOOP.add_signal_handler(number, stop)
+    threads = [LOOP.create_task(worker()) for _ in range(WORKERS)] # a name keeps a task alive
     await OVER.wait()
     await runner.cleanup()
+    [it.cancel() for it in threads]
 
 
 words = [*sys.argv[1:], *("tenants", "8080", "4")[len(sys.argv) - 1:]]

@@ -3,7 +3,8 @@
 # compiler, and under the sanitizers for addresses, undefined behaviour and threads. What needs a package that isn't there is left out, and said.
 #
 # usage: test.sh [LIBRARY [PART..]]     LIBRARY: a folder with libwasmloop.a, and maybe wasmloop.h and libwasmloop.so.0 (else dist/ at the top);
-#                                       PART: plain, addresses, threads (else all)
+#                                       PART: plain, addresses, threads (else these three), or long: ten thousand connections that stand, under the
+#                                       sanitizers too; bench/soak.py for SOAK seconds (600); bench/proxies.py, if one is root
 set -u
 here=$(cd "$(dirname "$0")" && pwd) top=$(cd "$(dirname "$0")/../.." && pwd)
 library=$(readlink -f "${1:-$top/dist}") out=$(mktemp -d) failed=0
@@ -31,7 +32,7 @@ for how; do
     case $how in
     plain)
         CFLAGS=-Werror "$here/build.sh" "$out/plain" "$library" || exit 1
-        part "$out/plain" "$out/guests" functions end clients
+        part "$out/plain" "$out/guests" functions bounds end clients
         if has chromium; then part "$out/plain" "$out/guests" page; else left_out 'the page: there is no chromium'; fi
         if has curl; then "$here/test/lines.sh" "$out/plain" "$out/guests" || failed=1; else left_out 'the lines of README.md: there is no curl'; fi
         if [ ! -f "$library/libwasmloop.so.0" ]; then left_out 'edge.py: there is no libwasmloop.so.0'
@@ -40,10 +41,22 @@ for how; do
         fi ;;
     addresses)
         CC=clang CFLAGS='-g -O1 -fsanitize=address,undefined -fno-sanitize-recover=undefined' "$here/build.sh" "$out/addresses" "$library" || exit 1
-        part "$out/addresses" "$out/guests" functions end clients ;;
+        ASAN_OPTIONS=quarantine_size_mb=8 part "$out/addresses" "$out/guests" functions bounds end clients ;;
     threads)
         CC=clang CFLAGS='-g -O1 -fsanitize=thread' "$here/build.sh" "$out/threads" "$library" || exit 1
-        part "$out/threads" "$out/guests" functions end ;;
+        part "$out/threads" "$out/guests" functions bounds end clients ;;
+    long)
+        "$here/build.sh" "$out/plain" "$library" || exit 1
+        CC=clang CFLAGS='-g -O1 -fsanitize=address,undefined -fno-sanitize-recover=undefined' "$here/build.sh" "$out/addresses" "$library" || exit 1
+        CC=clang CFLAGS='-g -O1 -fsanitize=thread' "$here/build.sh" "$out/threads" "$library" || exit 1
+        cc -std=c11 -D_GNU_SOURCE -O2 -Wall -Wextra -Werror -o "$out/load" "$here/bench/load.c" -luv || exit 1
+        part "$out/plain" "$out/guests" 10000
+        ASAN_OPTIONS=quarantine_size_mb=8 part "$out/addresses" "$out/guests" 10000
+        part "$out/threads" "$out/guests" 10000
+        python3 "$here/bench/soak.py" --seconds "${SOAK:-600}" "$out/plain" "$out/load" "$out/guests" || { say 'FAILED: bench/soak.py'; failed=1; }
+        if [ "$(id -u)" != 0 ]; then left_out 'bench/proxies.py: it makes namespaces as root'
+        else python3 "$here/bench/proxies.py" "$out/plain" "$out/load" "$out/guests" || { say 'FAILED: bench/proxies.py'; failed=1; }
+        fi ;;
     *) say "no part: $how"; exit 2 ;;
     esac
 done

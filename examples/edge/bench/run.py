@@ -1,14 +1,29 @@
-"""The table: answers a second and latencies of good tenants, alone and beside a hostile one, of this server and what else one would take.
+"""All tables of README.md in one run: this server beside what else one would take, on the same guests.
 
-usage: run.py [--seconds S] [--rounds R] [--rate N] [--guests a:OP:BYTES,..] [--hostile a,b] [--only edge,node,..] EDGE GUESTS
+usage: run.py [--seconds S] [--rounds R] [--parts flat,rate,..] [--only edge,node,..] [--rates 100,1000] [--class "chrt -r 20"] EDGE LOAD GUESTS
 
-EDGE is the program, GUESTS a folder of modules. It starts each server that is installed on a port of its own (edge; py, where WASMLOOP_LIBRARY
-and PYTHONPATH lead to the library; node; lua: nginx with libnginx-mod-http-lua; fork: a process a request), says what is left out, lets them take turns,
-and ends them. Flat out is by wrk (eight connections, each asks again once it is answered); --rate N asks N times a second, whatever the server does,
-and counts from the moment at which a request was due. A cell is the median over the rounds: answers a second, p50, p99 and p99.9 in ms.
+EDGE and LOAD are the programs of edge.c and bench/load.c, GUESTS a folder of modules. It starts each server that is installed on a port of its own
+(edge; py, where WASMLOOP_LIBRARY and PYTHONPATH lead to the library; node; lua: nginx with libnginx-mod-http-lua; fork: a process a request), says what is left
+out, lets them take turns, and ends them.
+
+    flat     wrk, eight connections, each asks again once it is answered
+    rate     LOAD asks so many times a second, whatever the server does; a time counts from the moment that was due
+    hostile  hello flat out and at 1,000 a second, alone and then beside four connections that ask a hostile tenant: throughput as a ratio, p99 before and after
+    cost     a thousand tenants of crc32: memory of each, a new file's first answer, its second
+    exact    a guest that never ends, twenty times: how long, and after how many units
+
+and of EDGE alone
+
+    plain    hello, beside EDGE over bench/plain.c, which has a C function in its place
+    wish     how much later than its deadline a guest ends that never would
+    threads  hello and crc32 with one, two and four threads
+    many     ten thousand tenants of crc32
+
+A cell is the median over the rounds. --class puts servers and clients into a class of the scheduler, where others use the machine too.
 """
 import argparse
 import contextlib
+import http.client
 import os
 import pathlib
 import re
@@ -18,28 +33,37 @@ import statistics
 import subprocess
 import sys
 import tempfile
-import threading
 import time
 
 HERE = pathlib.Path(__file__).resolve().parent
 parser = argparse.ArgumentParser()
 parser.add_argument("edge")
-parser.add_argument("guests_folder")
-parser.add_argument("--seconds", type=int, default=3)
+parser.add_argument("load")
+parser.add_argument("guests")
+parser.add_argument("--seconds", type=int, default=2)
 parser.add_argument("--rounds", type=int, default=3)
 parser.add_argument("--threads", type=int, default=3)
-parser.add_argument("--rate", type=int, default=0)
-parser.add_argument("--guests", default="hello:0:16,crc32:0:1024")
-parser.add_argument("--hostile", default="spin")
+parser.add_argument("--parts", default="flat,rate,hostile,cost,exact,plain,wish,threads,many")
 parser.add_argument("--only", default="edge,py,node,lua,fork")
+parser.add_argument("--rates", default="100,1000")
+parser.add_argument("--hostile", default="spin,bomb,deep,huge,trap")
+parser.add_argument("--many", type=int, default=1000)
+parser.add_argument("--class", dest="prefix", default="")
 told = parser.parse_args()
 ROOM = pathlib.Path(tempfile.mkdtemp())
-BASE = 18600
+ROOM.chmod(0o755)  # nginx's workers are somebody else
+PREFIX = told.prefix.split()
+GUESTS = {"hello": 16, "crc32": 1024}
+FOLDERS = {name: ROOM / ("lua" if name == "lua" else "py" if name == "fork" else "wasm") for name in told.only.split(",")}
+SUFFIX = {"lua": ".lua", "py": ".py", "wasm": ".wasm"}
+
+
+# ---- servers ----
 
 
 def nginx(port):
     text = (HERE.parent / "other/nginx.conf.in").read_text()
-    for name, value in {"DIR": ROOM, "PORT": port, "LUA": HERE.parent / "other/lua", "HOOK": "true"}.items():
+    for name, value in {"DIR": ROOM, "PORT": port, "LUA": ROOM / "lua", "HOOK": "true"}.items():
         text = text.replace(f"@{name}@", str(value))
     (ROOM / "nginx.conf").write_text(text)
     return ["nginx", "-p", ROOM, "-c", ROOM / "nginx.conf"]
@@ -58,13 +82,14 @@ def missing(name):
     return None
 
 
-def start(name, port):
-    tenants, threads = ROOM / "tenants", str(told.threads)
-    command = {"edge": lambda: [told.edge, "-p", str(port), "-w", threads, tenants],
+def start(name, port, threads=told.threads, program=None):
+    tenants, threads = FOLDERS[name], str(threads)
+    command = {"edge": lambda: [program or told.edge, "-p", str(port), "-w", threads, tenants],
                "py": lambda: ["/usr/bin/python3", HERE.parent / "edge.py", tenants, str(port), threads],
                "node": lambda: ["node", HERE.parent / "other/node_edge.mjs", tenants, str(port), threads, "50"], "lua": lambda: nginx(port),
-               "fork": lambda: ["/usr/bin/python3", HERE.parent / "other/fork_edge.py", HERE.parent / "other/py", str(port), threads]}[name]()
-    server = subprocess.Popen(command, stdout=subprocess.DEVNULL, stderr=subprocess.DEVNULL)
+               "fork": lambda: ["/usr/bin/python3", HERE.parent / "other/fork_edge.py", tenants, str(port), threads]}[name]()
+    with open(ROOM / "access", "w") as log:
+        server = subprocess.Popen(PREFIX + command, stdout=log if name == "edge" else subprocess.DEVNULL, stderr=subprocess.DEVNULL)
     for _ in range(600):
         with contextlib.suppress(OSError):
             socket.create_connection(("127.0.0.1", port)).close()
@@ -73,16 +98,27 @@ def start(name, port):
     raise SystemExit(f"{name} does not listen")
 
 
-def script(length):
-    path = ROOM / f"{length}.lua"
-    path.write_text(f'wrk.method = "POST"\nwrk.body = string.rep("x", {length})\n'
-                    'done = function(_, l) io.write(string.format("p %d %d %d\\n", l:percentile(50), l:percentile(99), l:percentile(99.9))) end\n')
-    return path
+def resident(pid):
+    """The memory of a process and its children that is theirs alone, in KiB."""
+    total = 0
+    for it in pathlib.Path("/proc").glob("[0-9]*/status"):
+        with contextlib.suppress(OSError):
+            text = it.read_text()
+            if it.parent.name == str(pid) or re.search(rf"(?m)^PPid:\s+{pid}$", text):
+                rss = re.search(r"(?m)^RssAnon:\s+(\d+)", text)
+                total += int(rss[1]) if rss else 0
+    return total
+
+
+# ---- measures: answers a second, p50, p99 and p99.9 in ms, and how many were refused ----
 
 
 def wrk(port, guest, seconds, connections):
-    name, op, length = guest.split(":")
-    return ["wrk", "-t1", f"-c{connections}", f"-d{seconds}", "--timeout", "10", "-s", script(int(length)), f"http://127.0.0.1:{port}/{name}/{op}"]
+    length = GUESTS.get(guest, 16)
+    path = ROOM / f"{length}.lua"
+    path.write_text(f'wrk.method = "POST"\nwrk.body = string.rep("x", {length})\n'
+                    'done = function(_, l) io.write(string.format("p %d %d %d\\n", l:percentile(50), l:percentile(99), l:percentile(99.9))) end\n')
+    return PREFIX + ["wrk", "-t1", f"-c{connections}", f"-d{seconds}", "--timeout", "10", "-s", path, f"http://127.0.0.1:{port}/{guest}"]
 
 
 def flat_out(port, guest):
@@ -91,76 +127,210 @@ def flat_out(port, guest):
     return float(re.search(r"Requests/sec:\s+([\d.]+)", out)[1]), *(int(it) / 1000 for it in re.search(r"(?m)^p (\d+) (\d+) (\d+)", out).groups()), int(refused[1]) if refused else 0
 
 
-def answer_of(link):
-    data = b""
-    while b"\r\n\r\n" not in data:
-        data += link.recv(65536) or sys.exit("a server ended a connection")
-    head, body = data.split(b"\r\n\r\n", 1)
-    length = int(re.search(rb"(?i)content-length: (\d+)", head)[1])
-    while len(body) < length:
-        body += link.recv(65536)
-    return head[9:12] == b"200"
+def at_rate(port, guest, rate):
+    words = ["-c", "64", "-d", str(told.seconds), "-r", str(rate), "-b", str(GUESTS[guest]), str(port), f"/{guest}"]
+    out = subprocess.run(PREFIX + [told.load, *words], capture_output=True, text=True, check=False).stdout
+    got = dict(zip((words := out.split())[::2], words[1::2]))
+    good = int((re.search(r"status.* 200 (\d+)", out) or [0, 0])[1])
+    return float(got["rate"]), *(int(got[it]) / 1000 for it in ("p50", "p99", "p999")), int(got["asked"]) - good
 
 
-def at_rate(port, guest):
-    """Eight connections, each asks at its moments; one that is late asks at once, and the time counts from the moment that was due."""
-    name, op, length = guest.split(":")
-    data = f"POST /{name}/{op} HTTP/1.1\r\nHost: x\r\nContent-Length: {length}\r\n\r\n{'x' * int(length)}".encode()
-    times, refused, began = [], [], time.perf_counter() + 0.1
-
-    def ask(k):
-        with socket.create_connection(("127.0.0.1", port)) as link:
-            for n in range(k, told.rate * told.seconds, 8):
-                due = began + n / told.rate
-                time.sleep(max(0, due - time.perf_counter()))
-                link.sendall(data)
-                (times if answer_of(link) else refused).append((time.perf_counter() - due) * 1000)
-
-    threads = [threading.Thread(target=ask, args=(k,)) for k in range(8)]
-    for it in threads:
-        it.start()
-    for it in threads:
-        it.join()
-    took, times = time.perf_counter() - began, sorted(times) or [0]
-    return len(times) / took, *(times[min(len(times) - 1, int(len(times) * p))] for p in (0.5, 0.99, 0.999)), len(refused)
-
-
-def measure(port, guest, hostile):
-    others = [subprocess.Popen(wrk(port, f"{it}:0:16", told.seconds + 2, 4), stdout=subprocess.DEVNULL, stderr=subprocess.DEVNULL) for it in hostile]
+@contextlib.contextmanager
+def beside(port, hostile):
+    if not hostile:
+        yield
+        return
+    other = subprocess.Popen(wrk(port, hostile, told.seconds + 1, 4), stdout=subprocess.DEVNULL, stderr=subprocess.DEVNULL)
     time.sleep(0.5)
-    got = at_rate(port, guest) if told.rate else flat_out(port, guest)
-    for it in others:
-        it.wait()
-    return got
+    yield
+    other.wait()
 
 
-def resident(pid):
-    return int(re.search(r"VmRSS:\s+(\d+)", pathlib.Path(f"/proc/{pid}/status").read_text())[1]) / 1024
+def ask(port, path, body=b"abc"):
+    link = http.client.HTTPConnection("127.0.0.1", port, timeout=30)
+    began = time.perf_counter()
+    link.request("POST", path, body)
+    answer = link.getresponse()
+    answer.read()
+    return (time.perf_counter() - began) * 1e6, answer.status, answer.headers
+
+
+# ---- tables ----
+
+
+def table(heads, rows):
+    print("\n| | " + " | ".join(heads) + " |\n" + "|---" * (len(heads) + 1) + "|")
+    for name, cells in rows.items():
+        print(f"| {name} | " + " | ".join(cells) + " |", flush=True)
+
+
+def medians(got):
+    return [statistics.median(it) for it in zip(*got)]
+
+
+def cell(got):
+    rate, p50, p99, p999, refused = medians(got)
+    return f"{rate:,.0f}; {p50:.2f}, {p99:.2f}, {p999:.2f}" + (f" ({refused:.0f} refused)" if refused else "")
+
+
+def turns(servers, heads, measures):
+    """Each measure of each server, in turns."""
+    got = {(name, k): [] for name in servers for k in range(len(measures))}
+    for _ in range(told.rounds):
+        for k, measure in enumerate(measures):
+            for name, (port, _) in servers.items():
+                got[name, k].append(measure(port))
+    table(heads, {name: [cell(got[name, k]) for k in range(len(measures))] for name in servers})
+
+
+def flat(servers):
+    turns(servers, [f"{guest}, {length} bytes" for guest, length in GUESTS.items()], [lambda port, g=guest: flat_out(port, g) for guest in GUESTS])
+
+
+def rate(servers):
+    def measure(port, guest, hostile, rate):
+        with beside(port, hostile):
+            return at_rate(port, guest, rate)
+
+    for rate in map(int, told.rates.split(",")):
+        cells = [(guest, hostile) for guest in GUESTS for hostile in ("", "spin")]
+        able = {name: it for name, it in servers.items() if name != "fork" or rate <= 100}
+        turns(able, [f"{guest}{' beside ' + hostile if hostile else ''}, {rate:,} a second" for guest, hostile in cells],
+              [lambda port, c=c: measure(port, *c, rate) for c in cells])
+
+
+def pairs(port, measure, hostile):
+    """Medians alone, and beside a hostile tenant, in turns."""
+    got = []
+    for _ in range(told.rounds):
+        for _ in range(8):
+            ask(port, "/hello")  # what the last one left is over
+        before = measure(port)
+        with beside(port, hostile):
+            got.append((before, measure(port)))
+    return medians(it for it, _ in got), medians(it for _, it in got)
+
+
+def hostile(servers):
+    names = told.hostile.split(",")
+    for text, measure in (("flat out", lambda port: flat_out(port, "hello")), ("at 1,000 a second", lambda port: at_rate(port, "hello", 1000))):
+        rows = {}
+        for name, (port, _) in servers.items():
+            if name == "fork" and text != "flat out":
+                continue
+            both = [pairs(port, measure, it) for it in names]
+            rows[name] = [f"{after[0] / max(before[0], 1):.2f}; {before[2]:.2f} to {after[2]:.2f}" for before, after in both]
+        table([f"{it}, {text}" for it in names], rows)
+
+
+def tenants_of(name, port, server, many):
+    """What so many tenants of crc32 cost, each asked twice."""
+    folder = FOLDERS[name]
+    suffix = SUFFIX[folder.name]
+    links = [folder / f"t{n}{suffix}" for n in range(many)]
+    for _ in range(20):
+        ask(port, "/crc32")
+    before, first = resident(server.pid), []
+    for it in links:
+        shutil.copy(folder / f"crc32{suffix}", it)
+        first.append(ask(port, f"/{it.stem}")[:2])
+    after = resident(server.pid)
+    second = [ask(port, f"/{it.stem}")[:2] for it in links]
+    bad = sum(status != 200 for _, status in first + second)
+    us = [f"{statistics.median(it):,.0f}, {sorted(it)[len(it) * 99 // 100]:,.0f}" for it in ([us for us, _ in first], [us for us, _ in second])]
+    return [f"{(after - before) / many:.1f} KiB", *us, f"{resident(server.pid) / 1024:.0f} MB" + (f", {bad} failed" if bad else "")], links
+
+
+COSTS = ["a tenant of crc32", "a new file's first answer, p50, p99 us", "its second", "all memory"]
+
+
+def cost(servers):
+    rows = {}
+    for name, (port, server) in servers.items():
+        rows[name], links = tenants_of(name, port, server, told.many)
+        for it in links:
+            it.unlink()
+    table([COSTS[0] + f", {told.many:,} of them", *COSTS[1:]], rows)
+
+
+@contextlib.contextmanager
+def alone(port, threads=told.threads, program=None):
+    server = start("edge", port, threads, program)
+    yield port, server
+    server.terminate()
+    server.wait()
+
+
+def plain(_):
+    (ROOM / "plain").mkdir()
+    subprocess.run(["cc", "-O2", "-w", "-I", HERE.parents[2] / "capi", "-c", HERE / "plain.c", "-o", ROOM / "plain/plain.o"], check=True)
+    subprocess.run(["ar", "rcs", ROOM / "plain/libwasmloop.a", ROOM / "plain/plain.o"], check=True)
+    subprocess.run([HERE.parent / "build.sh", ROOM / "plain/edge", ROOM / "plain"], check=True)
+    got = {"edge": [], "a C function": []}
+    with alone(18620) as (edge, _), alone(18621, program=ROOM / "plain/edge") as (c, _):
+        for _ in range(2 * told.rounds):
+            got["edge"].append(flat_out(edge, "hello"))
+            got["a C function"].append(flat_out(c, "hello"))
+    table(["hello, flat out"], {name: [cell(it)] for name, it in got.items()})
+    print(f"\nof the C function's: {medians(got['edge'])[0] / medians(got['a C function'])[0]:.2f}")
+
+
+def wish(_):
+    (ROOM / "wasm/wish.conf").write_text("fuel 1000000000000000\ndeadline 20\nrest 0\n")
+    rows = {}
+    for guest in "spin", "bomb":
+        shutil.copy(ROOM / f"wasm/{guest}.wasm", ROOM / "wasm/wish.wasm")
+        with alone(18620) as (port, _):
+            for _ in range(200):
+                ask(port, "/wish")
+            time.sleep(0.3)
+        us = sorted(int(it) - 20000 for it in re.findall(r'path="/wish" status=504 .* us=(\d+)', (ROOM / "access").read_text()))
+        rows[guest] = [f"{us[len(us) // 2]}, {us[len(us) * 99 // 100]}, {us[-1]} ({len(us)})"]
+    table(["ends later than its deadline by, p50, p99, worst us"], rows)
+
+
+def threads(_):
+    rows = {}
+    for count in 1, 2, 4:
+        with alone(18620, count) as (port, _):
+            rows[f"{count} threads"] = [cell([flat_out(port, guest) for _ in range(told.rounds)]) for guest in GUESTS]
+    table(list(GUESTS), rows)
+
+
+def many(_):
+    with alone(18620) as (port, server):
+        cells, links = tenants_of("edge", port, server, 10000)
+        paths = [f"/{it.stem}" for it in links]
+        out = subprocess.run(PREFIX + [told.load, "-c", "8", "-d", str(told.seconds), "-b", "1024", str(port), *paths], capture_output=True, text=True, check=False).stdout
+        table([*COSTS, "crc32 of 1 KiB by all in turn, flat out"], {"edge, 10,000 tenants": [*cells, out.split(" status")[0]]})
+
+
+def exact(servers):
+    rows = {}
+    for name, (port, _) in servers.items():
+        got = [ask(port, "/spin") for _ in range(20)]
+        ms = [us / 1000 for us, _, _ in got]
+        units = {heads.get("Wasmloop-Fuel") for _, _, heads in got}
+        rows[name] = [f"{min(ms):.0f} to {max(ms):.0f} ms", " ".join(sorted({str(status) for _, status, _ in got})), ", ".join(str(it) for it in units if it) or "no"]
+    table(["a guest that never ends takes", "status", "units, each time"], rows)
 
 
 def main():
     if not shutil.which("wrk"):
         raise SystemExit("left out: all, there is no wrk")
-    shutil.copytree(told.guests_folder, ROOM / "tenants")
-    servers, rows = {}, {}
-    for number, name in enumerate(told.only.split(",")):
-        if why := missing(name):
-            print(f"left out: {name}: {why}", flush=True)
-        else:
-            servers[name] = BASE + number, start(name, BASE + number)
-    cells = [(guest, hostile) for guest in told.guests.split(",") for hostile in ((), tuple(told.hostile.split(",")))]
+    shutil.copytree(told.guests, ROOM / "wasm")
+    shutil.copytree(HERE.parent / "other/lua", ROOM / "lua")
+    shutil.copytree(HERE.parent / "other/py", ROOM / "py")
+    servers = {}
     try:
-        for _ in range(told.rounds):
-            for cell in cells:
-                for name, (port, server) in servers.items():
-                    rows.setdefault(name, {}).setdefault(cell, []).append(measure(port, *cell))
-        print(f"{told.seconds} s a cell, {told.rounds} rounds, {os.cpu_count()} processors, load {os.getloadavg()[0]:.1f}" + (f", {told.rate} a second" if told.rate else ""))
-        print("| |", " | ".join(guest + (" beside " + ", ".join(hostile) if hostile else "") for guest, hostile in cells), "| resident |")
-        print("|---" * (len(cells) + 2) + "|")
-        for name, row in rows.items():
-            got = [[statistics.median(it) for it in zip(*row[cell])] for cell in cells]
-            print(f"| {name} |", " | ".join("{:,.0f}; {:.2f}, {:.2f}, {:.2f}".format(*it) + (f" ({it[4]:.0f} refused)" if it[4] else "") for it in got),
-                  f"| {resident(servers[name][1].pid):.0f} MB |")
+        for number, name in enumerate(told.only.split(",")):
+            if why := missing(name):
+                print(f"left out: {name}: {why}", flush=True)
+            else:
+                servers[name] = 18600 + number, start(name, 18600 + number)
+        print(f"{told.seconds} s a cell, {told.rounds} rounds, {os.cpu_count()} processors, load {os.getloadavg()[0]:.1f}{', ' + told.prefix if told.prefix else ''}", flush=True)
+        for part in told.parts.split(","):
+            globals()[part](servers)
     finally:
         for _, server in servers.values():
             server.terminate()
@@ -168,4 +338,5 @@ def main():
         shutil.rmtree(ROOM)
 
 
-main()
+if __name__ == "__main__":
+    sys.exit(main())

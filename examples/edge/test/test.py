@@ -1,7 +1,7 @@
 """Tries the server: its answers and limits, hostile tenants, a loop, modules that change, its end, and clients of the worst sort.
 
-usage: test.py EDGE GUESTS PART..     EDGE: the program; GUESTS: a folder of modules; PART: functions, end, page (by chromium), python, clients, or a number, which
-is the same with that many connections that only stand (else 1,000)
+usage: test.py EDGE GUESTS PART..     EDGE: the program; GUESTS: a folder of modules; PART: functions, bounds, end, page (by chromium), python, clients, or a
+number, which is the same with that many connections that only stand (else 1,000)
 """
 import concurrent.futures
 import contextlib
@@ -10,6 +10,7 @@ import os
 import pathlib
 import random
 import re
+import resource
 import shutil
 import signal
 import socket
@@ -115,6 +116,12 @@ def read_all(s, wait=20):
     return b"".join(parts)
 
 
+def read_head(s, wait=20):
+    """The status of the next answer."""
+    s.settimeout(wait)
+    return int(s.recv(4096)[9:12])
+
+
 def parse_metrics(text):
     """The values by name and labels; each family must be declared once, and stand together."""
     values, kind, name, closed = {}, None, None, set()
@@ -186,6 +193,38 @@ def deadlines(s):
     s.wants("an ask that nobody answers", 504, "deadline", "/serial/ask/3")
 
 
+def slices(s):
+    """Guests that never end by themselves have all threads: a neighbour is served between two of their slices. Once their clients have gone the threads are free."""
+    links = [s.connect() for _ in range(6)]
+    for n, it in enumerate(links):
+        it.sendall(b"POST /long%d HTTP/1.1\r\nContent-Length: 0\r\n\r\n" % (n % 3))
+    until("all threads are taken", lambda: s.metrics()["edge_threads_busy", None] == 3)
+    times = []
+    for _ in range(40):
+        began = time.perf_counter()
+        s.wants("a neighbour", 200, "^hello, you$", "/hello", b"you")
+        times.append(time.perf_counter() - began)
+    check(sorted(times)[20] < 0.05, "a neighbour's turn comes late", sorted(times)[20])
+    got = s.wants("a deadline that is past while it runs", 504, "not done by its deadline", "/dead")
+    check(got[2]["Wasmloop-Outcome"] == "late", "it is late", got[2])
+    for it in links:
+        it.close()
+    until("threads of those who went", lambda: s.metrics()["edge_threads_busy", None] == 0, 5)
+    form = rf"request={got[2]['Wasmloop-Request']} .* us=(\d+)"
+    until("its line in the log", lambda: re.search(form, (s.folder / "access").read_text()))
+    us = int(re.search(form, (s.folder / "access").read_text())[1])
+    check(200000 <= us < 2000000, "when a deadline of 200 ms ends it", us)
+
+
+def rests(s):
+    """A tenant that fails rests for a millisecond each time, and its neighbours don't."""
+    began = time.perf_counter()
+    for _ in range(50):
+        s.ask("/trap/2")
+    failing = time.perf_counter() - began
+    check(failing > 0.05, "fifty failures and their rests", failing)
+
+
 def loops(s):
     got = [s.ask("/limiter/ask/3")[1] for _ in range(10)]
     check(got == [b"1\n"] * 10, "ten tokens", got)
@@ -201,7 +240,7 @@ def loops(s):
     got = s.ask("/flood/ask/1")
     check(got[0] in (500, 504), "a loop of the worst sort", got[:2])
     s.wants("beside a flood", 200, "hello, you", "/hello", b"you")
-    s.wants("its failure", 200, "flood\t[a-z]+\t1\t\ta callback of its loop: ", "/-/tenants", None, method="GET")
+    s.wants("its failure", 200, "flood\t[a-z]+\t1\t\tspent, after 200000 units, in function", "/-/tenants", None, method="GET")
 
 
 def put(s, name, data):
@@ -274,7 +313,7 @@ def numbers(s):
 
 def broken_too():
     (GUESTS / "broken.wasm").write_text("no module")
-    for name in "slow", "late":
+    for name in "slow", "late", "dead", "long0", "long1", "long2":
         shutil.copy(GUESTS / "spin.wasm", GUESTS / f"{name}.wasm")
 
 
@@ -282,8 +321,9 @@ def functions():
     broken_too()
     s = Server("-t", "30", spin="fuel 1000000\n", slow="fuel 20000000\nqueue 2\nrun 1\ndeadline 60000\n", flood="fuel 1000000\ncallback 200000\n",
                late="fuel 100000000\nrun 1\ndeadline 50\n", hello="type text/plain\n", serial="deadline 300\n", limiter="queue 4\n", deep="depth 32\n",
-               bomb="deadline 60000\n", mine="deadline 60000\n")
-    for part in statuses, queues, deadlines, loops, changes, many, numbers:
+               bomb="deadline 60000\n", mine="deadline 60000\n", dead="fuel 1000000000000000\ndeadline 200\n",
+               **{f"long{n}": "fuel 1000000000000000\ndeadline 3600000\n" for n in range(3)})
+    for part in statuses, queues, deadlines, slices, rests, loops, changes, many, numbers:
         began = time.time()
         part(s)
         if time.time() - began > 10:
@@ -291,15 +331,66 @@ def functions():
     s.end()
 
 
+def crowds(s):
+    """More that wait than there may be, and more bodies: 503, and none is lost."""
+    post = b"POST /%s HTTP/1.1\r\nContent-Length: %d\r\n\r\n"
+    links = [s.connect() for _ in range(4200)]
+    for n, it in enumerate(links):
+        it.sendall(post % (b"slow", 0))
+        if n == 0:
+            until("its module", lambda: s.metrics().get(("edge_loads_total", 'tenant="slow"')) == 1)
+            until("one that runs", lambda: s.metrics().get(("edge_tenant_tasks", 'tenant="slow",are="running"')) == 1)
+    until("4,096 that wait", lambda: s.metrics()["edge_tasks_waiting", None] >= 4096)
+    s.wants("one more", 503, "the server: too many wait", "/hello")
+    heads = [read_head(it) for it in links[4150:]]
+    check(set(heads) == {503}, "those who came after", heads)
+    for it in links:
+        it.close()
+    until("nobody waits", lambda: s.metrics()["edge_tasks_waiting", None] == 0)
+    links = [s.connect() for _ in range(1024)]
+    for it in links:
+        it.sendall(post % (b"hello", 65536))
+    until("64 MiB that are held", lambda: s.metrics()["edge_held_bytes", None] == 64 << 20)
+    s.wants("one body more", 503, "no memory for the body", "/hello", bytes(65536))
+    for it in links:
+        it.close()
+    until("nothing is held", lambda: s.metrics()["edge_held_bytes", None] == 0)
+
+
+def short(s):
+    """Where the system refuses memory some requests are answered 503, none is lost, and the server goes on."""
+    s.wants("its threads are there", 200, "hello, you", "/hello", b"you")
+    status = pathlib.Path(f"/proc/{s.process.pid}/status").read_text()
+    taken = int(re.search(r"VmSize:\s+(\d+)", status)[1]) * 1024
+    if taken > 1 << 40:
+        return # a sanitizer's
+    resource.prlimit(s.process.pid, resource.RLIMIT_AS, (taken + (1 << 20), resource.RLIM_INFINITY))
+    with concurrent.futures.ThreadPoolExecutor(12) as pool:
+        got = [it[0] for it in pool.map(lambda _: s.ask("/bombs"), range(60))]
+    check(503 in got and set(got) <= {200, 503}, "want of memory", got)
+    resource.prlimit(s.process.pid, resource.RLIMIT_AS, (resource.RLIM_INFINITY, resource.RLIM_INFINITY))
+    s.wants("memory again", 200, "", "/bombs")
+
+
+def bounds():
+    broken_too()
+    s = Server("-t", "60", slow="fuel 1000000000000000\nqueue 4096\nrun 1\ndeadline 3600000\n", bombs="deadline 60000\n", hello="type text/plain\n")
+    for part in short, crowds:
+        part(s)
+    s.wants("after crowds", 200, "hello, you", "/hello", b"you")
+    s.end()
+
+
 def end():
     """A signal ends it in order: what runs is finished, what waits is answered 503, and a connection that only stands is closed."""
-    s = Server("-t", "30", spin="fuel 200000000\nrun 1\ndeadline 60000\n", serial="deadline 60000\n")
+    s = Server("-t", "30", spin="fuel 1000000000\nrun 1\ndeadline 60000\n", serial="deadline 60000\n")
     with concurrent.futures.ThreadPoolExecutor(8) as pool:
         stands = s.connect()
         first = pool.submit(s.ask, "/spin")
-        time.sleep(0.3)
+        until("one that runs", lambda: s.metrics().get(("edge_tenant_tasks", 'tenant="spin",are="running"')) == 1)
         rest = [pool.submit(s.ask, path) for path in ("/spin", "/spin", "/serial/ask/1")]
-        time.sleep(0.3)
+        until("two that wait", lambda: s.metrics().get(("edge_tenant_tasks", 'tenant="spin",are="waiting"')) == 2)
+        time.sleep(0.2)
         s.end()
         got = first.result()[0], [it.result()[0] for it in rest]
         check(got == (504, [503, 503, 503]), "the end", got)
@@ -486,6 +577,7 @@ def clients(count=1000):
 
 
 if __name__ == "__main__":
+    resource.setrlimit(resource.RLIMIT_NOFILE, (resource.getrlimit(resource.RLIMIT_NOFILE)[1],) * 2)
     for word in sys.argv[3:]:
-        {"functions": functions, "clients": clients, "end": end, "page": page, "python": python}[word]() if not word.isdigit() else clients(int(word))
+        clients(int(word)) if word.isdigit() else globals()[word]()
     sys.exit(1 if bad else 0)

@@ -1,0 +1,137 @@
+"""The server for long under load, with tenants that come, change and go, and hostile ones beside: is an answer lost, or given twice, does memory grow?
+
+usage: soak.py [--seconds S] [--rate R] [--tenants N] EDGE LOAD GUESTS      (600 s, 2,000 a second, 100 tenants that stay)
+
+EDGE and LOAD are the programs of edge.c and bench/load.c, GUESTS a folder of modules. Each request of LOAD carries its number, which the guest greets; the
+server's access log must have each of its own numbers once. Ends with 1 where one is lost, strays, fails, or stands twice, and where the last
+quarter of the time took more than a tenth more memory than the second.
+"""
+import argparse
+import collections
+import http.client
+import os
+import pathlib
+import re
+import shutil
+import socket
+import subprocess
+import sys
+import tempfile
+import threading
+import time
+
+parser = argparse.ArgumentParser()
+parser.add_argument("edge")
+parser.add_argument("load")
+parser.add_argument("guests")
+parser.add_argument("--seconds", type=int, default=600)
+parser.add_argument("--rate", type=int, default=2000)
+parser.add_argument("--tenants", type=int, default=100)
+told = parser.parse_args()
+FOLDER = pathlib.Path(tempfile.mkdtemp())
+over = threading.Event()
+numbers, statuses, twice = bytearray(), collections.Counter(), []
+seen = collections.Counter()
+
+
+def patient(name):
+    """A busy machine is no failure."""
+    (FOLDER / f"{name}.conf").write_text("deadline 30000\n")
+
+
+def put(name, guest):
+    shutil.copy(pathlib.Path(told.guests) / f"{guest}.wasm", FOLDER / "new")
+    os.rename(FOLDER / "new", FOLDER / f"{name}.wasm")
+
+
+def read_log(server):
+    """Each request's number must come once."""
+    for line in server.stdout:
+        words = dict(it.split("=", 1) for it in line.split())
+        number = int(words["request"])
+        numbers.extend(bytes(max(0, number + 1 - len(numbers))))
+        if numbers[number]:
+            twice.append(number)
+        numbers[number] = 1
+        statuses[words["status"]] += 1
+
+
+def ask(port, path, body=b"x"):
+    link = http.client.HTTPConnection("127.0.0.1", port, timeout=30)
+    link.request("POST", path, body)
+    answer = link.getresponse()
+    got = answer.status, answer.read()
+    link.close()
+    return got
+
+
+def come_and_go(port):
+    """A tenant comes, is asked, changes, is asked until the new module answers, and goes; one of those that stay changes."""
+    n = 0
+    while not over.is_set():
+        n += 1
+        patient(f"guest{n}")
+        put(f"guest{n}", "hello")
+        if ask(port, f"/guest{n}") != (200, b"hello, x"):
+            seen["a new tenant that doesn't answer"] += 1
+        put(f"guest{n}", "crc32")
+        put(f"t{n % told.tenants}", "hello")
+        while not over.is_set() and (got := ask(port, f"/guest{n}"))[1] == b"hello, x":
+            pass
+        if got[0] != 200:
+            seen[f"a changed tenant: {got}"] += 1
+        (FOLDER / f"guest{n}.wasm").unlink()
+        (FOLDER / f"guest{n}.conf").unlink()
+        seen["came and went"] += 1
+        over.wait(0.02)
+
+
+def hostile(port, path):
+    while not over.is_set():
+        seen[f"{path} {ask(port, path)[0]}"] += 1
+
+
+def resident(pid):
+    return int(re.search(r"VmRSS:\s+(\d+)", pathlib.Path(f"/proc/{pid}/status").read_text())[1])
+
+
+def main():
+    with socket.socket() as s:
+        s.bind(("127.0.0.1", 0))
+        port = s.getsockname()[1]
+    for n in range(told.tenants):
+        patient(f"t{n}")
+        put(f"t{n}", "hello")
+    for name in "spin", "bomb", "flood", "limiter", "trap", "deep":
+        put(name, name)
+    (FOLDER / "bomb.conf").write_text("fuel 3000000\n")
+    server = subprocess.Popen([told.edge, "-p", str(port), "-w", "3", FOLDER], stdout=subprocess.PIPE, text=True)
+    time.sleep(0.5)
+    threads = [threading.Thread(target=read_log, args=(server,)), threading.Thread(target=come_and_go, args=(port,)),
+               *(threading.Thread(target=hostile, args=(port, path)) for path in ("/spin", "/bomb", "/trap/0", "/deep", "/flood/ask/1", "/limiter/ask/2"))]
+    load = subprocess.Popen([told.load, "-c", "64", "-d", str(told.seconds), "-r", str(told.rate), "-m", "20000", str(port), *(f"/t{n}" for n in range(told.tenants))],
+                            stdout=subprocess.PIPE, text=True)
+    for it in threads:
+        it.start()
+    memory = []
+    while load.poll() is None:
+        memory.append(resident(server.pid))
+        time.sleep(1)
+    over.set()
+    for it in threads[1:]:
+        it.join()
+    server.terminate()
+    threads[0].join()
+    code, said = server.wait(), load.stdout.read().strip()
+    quarter = max(1, len(memory) // 4)
+    early, late, missing = max(memory[quarter:2 * quarter]), max(memory[-quarter:]), len(numbers) - 1 - sum(numbers)
+    print(said)
+    print("; ".join(f"{k} {v}" for k, v in sorted(seen.items())))
+    print(f"{sum(statuses.values())} lines of the access log, {missing} missing, {len(twice)} twice; statuses {dict(sorted(statuses.items()))}")
+    print(f"resident {memory[0]} KiB at first, at most {early} in the second quarter, {late} in the last; the server ended with {code}")
+    shutil.rmtree(FOLDER)
+    clean = re.search(r"lost 0 strays 0 .* status 200 \d+$", said)
+    sys.exit(0 if clean and not twice and not missing and code == 0 and late < 1.1 * early and not [it for it in seen if it.startswith("a ")] else 1)
+
+
+main()

@@ -1,0 +1,1 @@
+return function(op, data) return string.rep("x", 65536) end

@@ -1,0 +1,1 @@
+return function(op, data) error("trap") end

@@ -1,0 +1,2 @@
+def work(op, data):
+    return work(op, data) + b"x"

@@ -1,0 +1,2 @@
+def work(op, data):
+    return 1 // 0

@@ -1,0 +1,228 @@
+/* Numbers for a collector, the access log on standard output, and pages for people:
+ *
+ *     GET /-/metrics       Prometheus' text form
+ *     GET /-/tenants       a line for each tenant: name, state, 1 where it has a loop, why its file was refused, how it failed last, by tabs
+ *     GET /-/log/NAME      a loop's last steps
+ *     GET /-/              FOLDER/dashboard.html */
+#include <stdlib.h>
+#include <string.h>
+#include <time.h>
+#include "edge.h"
+
+#define U(x) ((unsigned long long)(x))
+
+enum { LOG = 512, KEPT = 1024 };
+
+typedef struct logged {
+    wasmloop_did did;
+    uint64_t first; /* of its emits in `kept` */
+    uint32_t count;
+} logged;
+
+/* The last steps of a loop, which a thread of the pool writes and the main one reads. */
+typedef struct steps {
+    uv_mutex_t mutex;
+    uint64_t logged, emitted;
+    logged log[LOG];
+    int64_t kept[KEPT];
+} steps;
+
+/* ---- what is noted ---- */
+
+/* Counts a request that is answered, or whose client has gone. */
+void count(tenant *t, outcome what, uint64_t came) {
+    counted *n = &t->counted;
+    uint64_t us = (uv_hrtime() - came) / 1000;
+    int power = 0;
+    n->of[what]++;
+    if (what >= NO_MEMORY) return;
+    while (us >> power) power++;
+    n->lived += us, n->times[power < TIMES ? power : TIMES - 1]++;
+    if (us > n->worst) n->worst = us;
+}
+
+void log_answer(client *c, int status, size_t length) {
+    static time_t at;
+    static char moment[32];
+    char path[sizeof c->path];
+    time_t now = time(NULL);
+    struct tm parts;
+    if (now != at) strftime(moment, sizeof moment, "%Y-%m-%dT%H:%M:%SZ", gmtime_r(&now, &parts)), at = now;
+    for (size_t i = 0; i <= c->path_length; i++) path[i] = c->path[i] > ' ' && c->path[i] <= '~' && c->path[i] != '"' ? c->path[i] : '?';
+    path[c->path_length] = 0;
+    printf("at=%s request=%llu method=%s path=\"%s\" status=%d in=%zu out=%zu us=%llu fuel=%llu\n", moment, U(c->number), method_name(&c->parser),
+        path, status, c->length, length, U((uv_hrtime() - c->came) / 1000), U(c->fuel));
+}
+
+void make_steps(tenant *t) {
+    t->steps = calloc(1, sizeof *t->steps);
+    if (t->steps) uv_mutex_init(&t->steps->mutex);
+}
+
+/* In a thread of the pool. */
+void log_step(tenant *t, const wasmloop_did *did, const int64_t *emits, uint32_t n) {
+    steps *s = t->steps;
+    if (!s) return;
+    uv_mutex_lock(&s->mutex);
+    s->log[s->logged++ % LOG] = (logged){ *did, s->emitted, n };
+    for (uint32_t i = 0; i < n; i++) s->kept[s->emitted++ % KEPT] = emits[i];
+    uv_mutex_unlock(&s->mutex);
+}
+
+void free_steps(tenant *t) {
+    if (t->steps) uv_mutex_destroy(&t->steps->mutex);
+    free(t->steps);
+}
+
+/* ---- numbers ---- */
+
+static const char *state_of(const tenant *t) {
+    if (t->absent) return "absent";
+    if (!t->module.mark) return t->loading ? "loading" : "refused";
+    if (t->life && t->life->failed) return t->life->over ? "over" : "failed";
+    return t->said ? "old" : "ready";
+}
+
+/* Within a bucket as if its times were spread evenly, and never above the longest. */
+static double quantile(const counted *t, double part) {
+    double all = 0, seen = 0;
+    for (int i = 0; i < TIMES; i++) all += (double)t->times[i];
+    for (int i = 0; i < TIMES; i++) {
+        double in = (double)t->times[i], low = i ? (double)(1ull << i) / 2 : 0, high = (double)(1ull << i);
+        if (high > (double)t->worst || i == TIMES - 1) high = (double)t->worst;
+        if (in > 0 && seen + in >= part * all) return (low + (high - low) * (part * all - seen) / in) / 1e6;
+        seen += in;
+    }
+    return 0;
+}
+
+static void write_type(FILE *to, const char *name, const char *type, const char *help) {
+    fprintf(to, "# HELP edge_%s %s\n# TYPE edge_%s %s\n", name, help, name, type);
+}
+
+static void write_server(FILE *to) {
+    const struct { const char *name, *help; size_t value; } gauges[] = { { "tenants", "Tenants that are loaded.", tenant_count },
+        { "clients", "Connections that are open.", clients }, { "threads_busy", "Threads of the pool that have a task.", running },
+        { "tasks_waiting", "Tasks that wait for a thread.", waiting }, { "held_bytes", "Bytes of bodies that are read.", held } };
+    for (size_t k = 0; k < sizeof gauges / sizeof *gauges; k++) {
+        write_type(to, gauges[k].name, "gauge", gauges[k].help);
+        fprintf(to, "edge_%s %zu\n", gauges[k].name, gauges[k].value);
+    }
+}
+
+static void write_numbers(FILE *to) {
+    static const struct { const char *name, *type, *help; size_t at; double unit; } numbers[] = {
+        { "fuel_units_total", "counter", "Units of fuel used.", offsetof(tenant, counted.used), 1 },
+        { "cpu_seconds_total", "counter", "Processor time in the pool's threads.", offsetof(tenant, counted.cpu), 1e-9 },
+        { "received_bytes_total", "counter", "Bytes of bodies.", offsetof(tenant, counted.in), 1 },
+        { "sent_bytes_total", "counter", "Bytes of replies.", offsetof(tenant, counted.out), 1 },
+        { "loads_total", "counter", "How often a module was loaded.", offsetof(tenant, counted.loads), 1 },
+        { "loop_turns_total", "counter", "Turns of the loop.", offsetof(tenant, counted.turns), 1 },
+        { "loop_restarts_total", "counter", "How often a loop that failed was made anew.", offsetof(tenant, counted.restarts), 1 },
+        { "latency_worst_seconds", "gauge", "The longest time of a request.", offsetof(tenant, counted.worst), 1e-6 } };
+    for (size_t k = 0; k < sizeof numbers / sizeof *numbers; k++) {
+        write_type(to, numbers[k].name, numbers[k].type, numbers[k].help);
+        for (tenant *t = tenants; t; t = t->next) {
+            uint64_t value = *(uint64_t *)((char *)t + numbers[k].at);
+            fprintf(to, "edge_%s{tenant=\"%s\"} %.15g\n", numbers[k].name, t->name, (double)value * numbers[k].unit);
+        }
+    }
+}
+
+static void write_requests(FILE *to) {
+    static const char *const names[] = { "done", "trap", "depth", "spent", "late", "memory", "refused", "gone" };
+    write_type(to, "requests_total", "counter", "Requests by what became of them.");
+    for (tenant *t = tenants; t; t = t->next)
+        for (int k = 0; k < OUTCOMES; k++)
+            fprintf(to, "edge_requests_total{tenant=\"%s\",outcome=\"%s\"} %llu\n", t->name, names[k], U(t->counted.of[k]));
+    write_type(to, "latency_seconds", "summary", "From a request's first byte to its answer.");
+    for (tenant *t = tenants; t; t = t->next) {
+        uint64_t answered = 0;
+        for (int k = 0; k < TIMES; k++) answered += t->counted.times[k];
+        fprintf(to, "edge_latency_seconds{tenant=\"%s\",quantile=\"0.5\"} %.6f\n", t->name, quantile(&t->counted, 0.5));
+        fprintf(to, "edge_latency_seconds{tenant=\"%s\",quantile=\"0.99\"} %.6f\n", t->name, quantile(&t->counted, 0.99));
+        fprintf(to, "edge_latency_seconds_sum{tenant=\"%s\"} %.6f\nedge_latency_seconds_count{tenant=\"%s\"} %llu\n", t->name, (double)t->counted.lived / 1e6,
+            t->name, U(answered));
+    }
+    write_type(to, "tenant_tasks", "gauge", "Tasks of a tenant that wait or run.");
+    for (tenant *t = tenants; t; t = t->next)
+        fprintf(to, "edge_tenant_tasks{tenant=\"%s\",are=\"waiting\"} %u\nedge_tenant_tasks{tenant=\"%s\",are=\"running\"} %u\n", t->name, t->waiting,
+            t->name, t->running);
+    write_type(to, "tenant_state", "gauge", "1 for the state that a tenant is in.");
+    for (tenant *t = tenants; t; t = t->next) fprintf(to, "edge_tenant_state{tenant=\"%s\",state=\"%s\"} 1\n", t->name, state_of(t));
+}
+
+static void write_plain(FILE *to, const char *said) {
+    for (fputc('\t', to); said && *said; said++) fputc(*said >= ' ' && *said <= '~' ? *said : ' ', to);
+}
+
+static void write_tenants(FILE *to) {
+    for (tenant *t = tenants; t; t = t->next) {
+        fprintf(to, "%s\t%s\t%u", t->name, state_of(t), t->shape.main);
+        write_plain(to, t->said), write_plain(to, t->failure);
+        fputc('\n', to);
+    }
+}
+
+static void write_step(FILE *to, const steps *s, const logged *l) {
+    static const char *const phases[] = { "begin", "timers", "idle", "poll", "check", "closing" };
+    static const char *const kinds[] = { "start", "main", "timer", "idle", "after", "async", "check", "close" };
+    const wasmloop_did *d = &l->did;
+    fprintf(to, "loop 0 ");
+    if (d->what == WASMLOOP_ENTERED) {
+        fprintf(to, "enter %s %llu", phases[d->phase], U(d->now));
+    } else if (d->what == WASMLOOP_SKIPPED) {
+        fprintf(to, "skip %s %u", kinds[d->kind], d->number);
+    } else if (d->what == WASMLOOP_RAN) {
+        fprintf(to, "run %s %u %s", kinds[d->kind], d->number, wasmloop_ending_name(d->ending));
+        if (d->ending == WASMLOOP_TRAP) fprintf(to, " %u", d->trap);
+        fprintf(to, " used %llu%s", U(d->used), l->count ? " emit" : "");
+        for (uint64_t n = 0; n < l->count && s->emitted - l->first <= KEPT; n++) fprintf(to, " %lld", (long long)s->kept[(l->first + n) % KEPT]);
+    } else {
+        fprintf(to, "%s", d->what == WASMLOOP_OVER ? "over" : "failed");
+    }
+    fputc('\n', to);
+}
+
+/* The last steps of a loop in the lines of `wasmloop script`, which examples/picture.py draws. */
+static void write_log_of(FILE *to, const tenant *t) {
+    steps *s = t->steps;
+    if (!s) return;
+    uv_mutex_lock(&s->mutex);
+    for (uint64_t i = s->logged > LOG ? s->logged - LOG : 0; i < s->logged; i++) write_step(to, s, &s->log[i % LOG]);
+    uv_mutex_unlock(&s->mutex);
+}
+
+static bool write_file(FILE *to, const char *name) {
+    char path[512], part[4096];
+    snprintf(path, sizeof path, "%s/%s", folder, name);
+    FILE *file = fopen(path, "rb");
+    if (!file) return false;
+    for (size_t n; (n = fread(part, 1, sizeof part, file)) > 0;) fwrite(part, 1, n, to);
+    fclose(file);
+    return true;
+}
+
+/* Answers GET /-/PATH. */
+void page(client *c, const char *path) {
+    char *at = NULL;
+    size_t length = 0;
+    FILE *to = open_memstream(&at, &length);
+    tenant *t = strncmp(path, "log/", 4) == 0 ? tenant_of(path + 4, false) : NULL;
+    bool people = !*path, numbers = strcmp(path, "metrics") == 0, there = true;
+    if (!to) {
+        say(c, 503, "no memory\n");
+        return;
+    }
+    if (numbers) write_server(to), write_numbers(to), write_requests(to);
+    else if (strcmp(path, "tenants") == 0) write_tenants(to);
+    else if (t) write_log_of(to, t);
+    else there = people && write_file(to, "dashboard.html");
+    bool good = fclose(to) == 0;
+    if (good && there) {
+        answer(c, 200, numbers ? "text/plain; version=0.0.4" : people ? "text/html; charset=utf-8" : "text/plain", at, length);
+        return;
+    }
+    free(at);
+    say(c, good ? 404 : 503, good ? "no such page\n" : "no memory\n");
+}

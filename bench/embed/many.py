@@ -1,0 +1,76 @@
+#!/usr/bin/env python3
+"""Many loops in one process, by the library for C, beside as many of libuv; and what loaded modules keep.
+
+    bench/embed/many.py FOLDER [MODULE..]        FOLDER: the prefix of install.sh
+
+1 to 10,000 loops of a guest with one idle, in one thread, a turn of each in turn: what one takes to be made and dropped, its memory, and
+its turn, as a multiple of a turn of one loop alone. libuv's loops have an idle each; they take some file descriptors each, so there are
+fewer. All in turns, the minimum of five. Then the bytes that a loaded module keeps, as a multiple of its own: three of the examples, and
+those that are named.
+"""
+import subprocess
+import sys
+import tempfile
+from pathlib import Path
+
+HERE = Path(__file__).resolve().parent
+sys.path.insert(0, str(HERE.parent / "cost"))
+import common  # noqa: E402
+
+COUNTS, COUNTS_UV, TURNS, TIMES = (1, 10, 100, 1_000, 10_000), (1, 10, 100, 1_000), 400_000, 5
+EXAMPLES = [common.EXAMPLES / f"{name}.wasm" for name in ("crc32", "sha256", "digest")]
+# A guest whose idle never stops within the turns of a run.
+ENDLESS = 100_000_000
+
+
+def host(folder, prefix, name):
+    """A host of the library: a file of bench/embed."""
+    flags = ["-O2", f"-I{prefix}/include", "-o", f"{folder}/{name}"]
+    subprocess.run(["cc", *flags, HERE / f"{name}.c", f"{prefix}/lib/libwasmloop.a"], check=True)
+    return f"{folder}/{name}"
+
+
+def turns(count):
+    return str(max(TURNS // count, 20))
+
+
+def numbers(command):
+    return [float(word) for word in common.words(command)]
+
+
+def loops(folder, prefix):
+    """The table of loops."""
+    many, many_uv = host(folder, prefix, "many"), common.compiled(f"{folder}/many_uv", HERE / "embed" / "many_uv.c", "-luv")
+    guest = common.guest("guest.c", f"{folder}/idle.wasm", SCENE="IDLE", N=ENDLESS, K=1)
+    commands = [[many, guest, str(it), turns(it)] for it in COUNTS] + [[many_uv, str(it), turns(it)] for it in COUNTS_UV]
+    runs = [[numbers(command) for command in commands] for _ in range(TIMES)]
+    least = [[min(it) for it in zip(*of_one)] for of_one in zip(*runs)]
+    ours, theirs = least[:len(COUNTS)], dict(zip(COUNTS_UV, least[len(COUNTS):]))
+    print("loops  made us   KiB resident   KiB space   turn ns   of one   dropped us    libuv: made us   turn ns   of one")
+    for count, (made, resident, space, turn, dropped) in zip(COUNTS, ours):
+        beside = ""
+        if count in theirs:
+            made_uv, turn_uv = theirs[count]
+            beside = f"{made_uv:18.1f} {turn_uv:9.0f} {turn_uv / theirs[1][1]:8.2f}"
+        print(f"{count:5} {made:8.1f} {resident:14.1f} {space:11.0f} {turn:9.0f} {turn / ours[0][3]:8.2f} {dropped:12.1f}{beside}")
+
+
+def modules(folder, prefix, files):
+    """What loaded modules keep."""
+    kept = host(folder, prefix, "kept")
+    for file in files:
+        size, (each,) = Path(file).stat().st_size, numbers([kept, file, "100"])
+        print(f"{Path(file).name}: {size} bytes, loaded {each:.0f}, {each / size:.1f} times as many")
+
+
+def main(prefix, *files):
+    common.alone()
+    with tempfile.TemporaryDirectory() as folder:
+        loops(folder, prefix)
+        modules(folder, prefix, [*EXAMPLES, *files])
+
+
+if __name__ == "__main__":
+    if len(sys.argv) < 2:
+        sys.exit(__doc__)
+    main(*sys.argv[1:])

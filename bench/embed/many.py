@@ -40,7 +40,7 @@ def numbers(command):
 
 def loops(folder, prefix):
     """The table of loops."""
-    many, many_uv = host(folder, prefix, "many"), common.compiled(f"{folder}/many_uv", HERE / "embed" / "many_uv.c", "-luv")
+    many, many_uv = host(folder, prefix, "many"), common.compiled(f"{folder}/many_uv", HERE / "many_uv.c", "-luv")
     guest = common.guest("guest.c", f"{folder}/idle.wasm", SCENE="IDLE", N=ENDLESS, K=1)
     commands = [[many, guest, str(it), turns(it)] for it in COUNTS] + [[many_uv, str(it), turns(it)] for it in COUNTS_UV]
     runs = [[numbers(command) for command in commands] for _ in range(TIMES)]

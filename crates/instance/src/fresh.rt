@@ -62,14 +62,14 @@ fn write_data(memory: &mut Memory, segment: &Data)
     let _all = memory.write(start, segment.bytes.as_slice());
 }
 
-/// The memory: all zero at first, then with the bytes of each segment.
-pub fn first_memory(alloc: Global, contents: &Contents) -> Result<Memory, AllocError>
+/// The memory: all zero at first, then with the bytes of each segment. It is made in the room of another's front.
+pub fn first_memory(front: Vec<u8>, contents: &Contents) -> Result<Memory, AllocError>
     requires valid { ValidModule contents.now }
     requires fit { All (DataFits contents.now) contents.now.«data» }
     ensures bytes { IfOk result (λ memory. memory.bytes ≡ fresh_bytes contents.now) }
     ensures limit { IfOk result (λ memory. memory.limit ≡ page_limit contents.now.memory) }
 {
-    let mut memory = Memory::new(alloc, contents.memory)?;
+    let mut memory = Memory::new_in(front, contents.memory)?;
     for segment in contents.data.as_slice() {
         write_data(&mut memory, segment);
     }

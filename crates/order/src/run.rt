@@ -26,6 +26,7 @@ use events::values::Values;
 use imports::laws::names_are_apart;
 use imports::{EntryPoint, Linked};
 use instance::fault::InstFault;
+use instance::room::Room;
 use instance::stack::Stack;
 use instance::state::{Instance, State};
 use interp::invoke::invoke_on;
@@ -82,14 +83,14 @@ struct Reserved<T> {
     ghost room: { MAX_BYTES ≤ vec_capacity reply },
 }
 
-/// A new instance of a module.
-fn instance_of(alloc: Global, linked: &Linked) -> Result<Instance, AllocError>
+/// A new instance of a module, in the room that another one had.
+fn instance_of(alloc: Global, linked: &Linked, room: &mut Room) -> Result<Instance, AllocError>
     ensures { IfOk result (λ i. IsReady linked.now.contents i.state) }
 {
     let valid = linked.valid();
     // for what its contract tells: the module is valid
     let _contents = valid.contents();
-    match Instance::new(alloc, valid) {
+    match Instance::new_in(alloc, valid, room) {
         Ok(instance) => Ok(instance),
         Err(InstFault::Memory) => Err(AllocError),
         Err(_) => unreachable!(),
@@ -102,13 +103,14 @@ fn reserve<T: Drop>(
     alloc: Global,
     linked: &Arc<Linked, Global>,
     input: &Arc<T, Global>,
+    room: &mut Room,
 ) -> Result<Reserved<T>, AllocError>
     ensures ready { IfOk result (λ r. IsReady (arc_value linked.now).contents r.instance.state) }
     ensures linked { IfOk result (λ r. arc_value r.linked ≡ arc_value linked.now) }
     ensures input { IfOk result (λ r. arc_value r.input ≡ arc_value input.now) }
 {
     Ok(Reserved {
-        instance: instance_of(alloc, linked)?,
+        instance: instance_of(alloc, linked, room)?,
         linked: Arc::try_clone(linked)?,
         input: Arc::try_clone(input)?,
         reply: Vec::with_capacity(alloc, MAX_BYTES)?,
@@ -139,12 +141,25 @@ impl Order {
         ensures within { result.used ≤ self.fuel }
         ensures trail { Leaves (order_of self) (end_of result.reply.outcome) result.used result.trail }
     {
-        let reserved = reserve(alloc, &self.module, &self.bytes);
-        self.run_in(reserved)
+        self.run_in(alloc, &mut Room::empty())
+    }
+
+    /// Runs the order as `run_told` does, its instance in the room that another order's had. It leaves its own there.
+    pub fn run_in(self, alloc: Global, room: &mut Room) -> Told
+        requires work { (f : ℕ) × ExportsFunction (arc_value self.module).contents (codes "uv_work") f }
+        requires bytes { length (arc_value self.bytes).items ≤ MAX_BYTES }
+        requires depth { (1 ≤ self.depth) × (self.depth ≤ MAX_DEPTH) }
+        ensures order { result.reply.order ≡ self }
+        ensures used { Uses (order_of self) (end_of result.reply.outcome) result.used }
+        ensures within { result.used ≤ self.fuel }
+        ensures trail { Leaves (order_of self) (end_of result.reply.outcome) result.used result.trail }
+    {
+        let reserved = reserve(alloc, &self.module, &self.bytes, room);
+        self.run_reserved(reserved, room)
     }
 
     /// Runs the order in what was reserved for it. There was no memory where that was refused, and nowhere else.
-    fn run_in(self, reserved: Result<Reserved<Vec<u8>>, AllocError>) -> Told
+    fn run_reserved(self, reserved: Result<Reserved<Vec<u8>>, AllocError>, room: &mut Room) -> Told
         requires runs { CanRun (order_of self) }
         requires ready { IfOk reserved (λ r. IsReady (arc_value self.module).contents r.instance.state) }
         requires linked { IfOk reserved (λ r. arc_value r.linked ≡ arc_value self.module) }
@@ -157,7 +172,7 @@ impl Order {
         ensures trail { Leaves (order_of self) (end_of result.reply.outcome) result.used result.trail }
     {
         let computed = match reserved {
-            Ok(reserved) => self.compute(reserved),
+            Ok(reserved) => self.compute(reserved, room),
             Err(AllocError) => Computed {
                 outcome: Outcome::NoMemory,
                 used: 0,
@@ -174,8 +189,8 @@ impl Order {
         }
     }
 
-    /// The same, on a new instance, for a host that has set no bytes. Nothing is reserved.
-    fn compute(&self, reserved: Reserved<Vec<u8>>) -> Computed
+    /// Runs the order on a new instance, for a host that has set no bytes. Nothing is reserved.
+    fn compute(&self, reserved: Reserved<Vec<u8>>, room: &mut Room) -> Computed
         requires runs { CanRun (order_of self.now) }
         requires ready { IsReady (arc_value self.now.module).contents reserved.instance.state }
         requires linked { arc_value reserved.linked ≡ arc_value self.now.module }
@@ -200,10 +215,12 @@ impl Order {
             reply,
         };
         let ended = self.start_and_work(&mut state, &mut stack, &mut host);
+        let trail = Trail::of_last(&stack);
+        room.keep(state, stack);
         Computed {
             outcome: outcome_from(ended.ending, host.into_reply()),
             used: ended.used,
-            trail: Trail::of_last(&stack),
+            trail,
         }
     }
 
@@ -235,7 +252,7 @@ impl Order {
         ensures fresh { IfOk result (λ i. IsFresh (arc_value self.now.module).contents i.state) }
         ensures store { IfOk result (λ i. IsStoreOf (arc_value self.now.module).contents i.state) }
     {
-        instance_of(alloc, &self.module)
+        instance_of(alloc, &self.module, &mut Room::empty())
     }
 
     /// The start function, where there is one.

@@ -22,5 +22,5 @@ pub returns-clause-trail : goal.returns-clause-trail
 returns-clause-trail c =
     let ended = c.start_and_work-ended in
     let reads = subst (λ (reply : List ℕ). EndsAs (end_of_run ended.result.ending) reply (end_of c.outcome_from.result)) c.into_reply.ensures c.outcome_from.ensures.end in
-    leaves (order_of c.args.self.now) (end_of c.outcome_from.result) ended.result.used ended.new.stack c.of_last.result c.outcome_from.ensures.told
-    (ended.ensures.stops (end_of c.outcome_from.result) reads) c.of_last.ensures
+    leaves (order_of c.args.self.now) (end_of c.outcome_from.result) ended.result.used ended.new.stack c.of_last-trail.result c.outcome_from.ensures.told
+    (ended.ensures.stops (end_of c.outcome_from.result) reads) c.of_last-trail.ensures

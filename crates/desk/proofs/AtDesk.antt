@@ -2,11 +2,11 @@
 use Rattle.std.proofs.Common.{◌≡◌, ◌<◌, true, false, List, [], ◌∷◌, refl, sym, ap, subst, arith}
 use Rattle.limits.specs.declared.TheConstants.{MAX_ASYNCS}
 use Rattle.phases.specs.Calls.{Calls, IsLawful}
-use Rattle.phases.specs.History.{Event, Stepped, OrderAsked, EndOffered, CancelAnswered, ClockRaised, MovedBeside, EventStep, IsOpening}
+use Rattle.phases.specs.History.{Event, Stepped, OrderAsked, EndOffered, CancelAnswered, RequestAnswered, ClockRaised, MovedBeside, EventStep, IsOpening}
 use Rattle.phases.specs.State.{Setting, Loop}
 use Rattle.phases.specs.Step.{over}
 use Rattle.phases.proofs.Asyncs.{Few, event_few, async_below}
-use Rattle.phases.proofs.Mirroring.{Anyhow, step_mirrors, cancel_mirrors}
+use Rattle.phases.proofs.Mirroring.{Anyhow, step_mirrors, cancel_mirrors, request_mirrors}
 use Rattle.desk.specs.Desk.{Desk, new_desk}
 use Rattle.desk.specs.Others.{busy_calls}
 use Rattle.desk.specs.Laws.{Passed, Passes, GoesAtDesk, PassesAtDesk, IsAtDesk}
@@ -35,6 +35,11 @@ module _ {S : Type 0} (calls : Calls S) (lawful : IsLawful calls) (g : Setting) 
       let one =
       cancel_mirrors calls busy_calls g Anyhow (λ a. a < MAX_ASYNCS) (Stands calls lawful) (Stands calls lawful) (standing calls lawful)
       (λ made before after k c. tt) old.state.status (old.state, old.shared) d request answer (new.state, new.shared) tt r h.0 in
+      (one.0, (one.1, h.1), one.2)
+  follows (RequestAnswered op bytes answer) old new d few r h =
+      let one =
+      request_mirrors calls busy_calls g Anyhow (λ a. a < MAX_ASYNCS) (Stands calls lawful) (Stands calls lawful) (standing calls lawful)
+      (λ made before after k c. tt) old.state.status (old.state, old.shared) d op bytes answer (new.state, new.shared) tt r h.0 in
       (one.0, (one.1, h.1), one.2)
   follows (ClockRaised ms) old new d few r h = (d, ap (over d) h, kept old new d (ap (λ (l : Loop S). l.shared) h) r)
 

@@ -25,8 +25,8 @@ use Rattle.phases.specs.PhaseList.{is_alive, is_active_handle}
 use Rattle.phases.specs.Calls.{Calls}
 use Rattle.phases.specs.Guests.{GuestCall}
 use Rattle.phases.specs.Host.{with_roster, with_requests}
-use Rattle.phases.specs.History.{Event, Stepped, OrderAsked, EndOffered, CancelAnswered, ClockRaised, MovedBeside, EventStep, Offers}
-use Rattle.phases.specs.Outside.{CancelIn, next_in}
+use Rattle.phases.specs.History.{Event, Stepped, OrderAsked, EndOffered, CancelAnswered, RequestAnswered, ClockRaised, MovedBeside, EventStep, Offers}
+use Rattle.phases.specs.Outside.{CancelIn, RequestIn, next_in}
 use Rattle.phases.specs.Step.{StepIn, ListStep, EntryStep, RunsFrom, CallsBack, CallsHandle, Skips, TakesFirst, AfterWork, in_state}
 use Rattle.phases.specs.Step.{sharing, begun, entered, now_in, turn, is_as_listed, handle_function}
 use Rattle.phases.proofs.GuestCallsKeepListed.{guest_grows}
@@ -138,6 +138,12 @@ module _ {S : Type 0} (calls : Calls S) (g : Setting) where
   cancelled_roster Running old new request answer h = ap (λ (s : State). s.roster) h.2
   cancelled_roster Over old new request answer h = ap (λ (s : State). s.roster) h.2
 
+  requested_roster : (status : Status) (old : State × S) (op : ℕ) (bytes : List ℕ) (answer : ℕ) (new : State × S)
+      → RequestIn calls g status old op bytes answer new → new.0.roster ≡ old.0.roster
+  requested_roster Failed old op bytes answer new h = ap (λ (p : State × S). p.0.roster) h.1
+  requested_roster Running old op bytes answer new h = ap (λ (s : State). s.roster) h.2
+  requested_roster Over old op bytes answer new h = ap (λ (p : State × S). p.0.roster) h.1
+
   offered_roster : (o : WorkOrder) (end : WorkEnd) (taken : Bool) (old new : Loop S) → Offers calls g o end taken old new → new.state.roster ≡ old.state.roster
   offered_roster o end true old new h = ap (λ (l : Loop S). l.state.roster) h.1.1
   offered_roster o end false old new h = ap (λ (l : Loop S). l.state.roster) h.1.1
@@ -149,5 +155,7 @@ module _ {S : Type 0} (calls : Calls S) (g : Setting) where
   event_few (EndOffered o end taken) old new h few = stays_few old.state new.state (offered_roster o end taken old new h) few
   event_few (CancelAnswered request answer) old new h few =
       stays_few old.state new.state (cancelled_roster old.state.status (old.state, old.shared) (new.state, new.shared) request answer h.0) few
+  event_few (RequestAnswered op bytes answer) old new h few =
+      stays_few old.state new.state (requested_roster old.state.status (old.state, old.shared) op bytes answer (new.state, new.shared) h.0) few
   event_few (ClockRaised ms) old new h few = stays_few old.state new.state (ap (λ (l : Loop S). l.state.roster) h) few
   event_few MovedBeside old new h few = stays_few old.state new.state (ap (λ (s : State). s.roster) h.state) few

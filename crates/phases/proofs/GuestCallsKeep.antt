@@ -149,7 +149,7 @@ module _ {S : Type 0} (calls : Calls S) (lawful : IsLawful calls) where
     works : (requests : Requests) → new.0.requests ≡ requests → AreOpenedUpTo requests.last (calls.view new.1) → Keeps new
     works requests is after = rw is after
 
-    call_upto : (f : Call) (args : List Value) → CallStep calls g old call new f args → Keeps new
+    pub call_upto : (f : Call) (args : List Value) → CallStep calls g old call new f args → Keeps new
     call_upto Now [] h = rw h.2 upto
     call_upto TimerInit [] h = does _ refl h.4
     call_upto IdleInit [] h = does _ refl h.4

@@ -313,7 +313,7 @@ module _ {S : Type 0} (calls : Calls S) (g : Setting) (old : State × S) (call :
       (λ _. grows_refl old.0)
       (λ _. grows_same old.0 (record old.0 { emits = old.0.emits ++ value ∷ [] }) refl refl refl refl)
 
-  call_grows : (f : Call) (args : List Value) → CallStep calls g old call new f args → Grows old.0 new.0
+  pub call_grows : (f : Call) (args : List Value) → CallStep calls g old call new f args → Grows old.0 new.0
   call_grows Now [] h = stays (ap (λ p. p.0) h.2)
   call_grows TimerInit [] h = relates _ (holds_made kind.Timer old.0.roster) h
   call_grows IdleInit [] h = relates _ (holds_made kind.Idle old.0.roster) h

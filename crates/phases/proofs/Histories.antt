@@ -14,14 +14,15 @@ use Rattle.phases.specs.declared.entry.Status.{Status}
 use Rattle.phases.specs.declared.entry.Status.TheVariants.{Running, Over, Failed}
 use Rattle.phases.specs.Calls.{Calls}
 use Rattle.phases.specs.Guests.{GuestCall}
-use Rattle.phases.specs.History.{Event, Stepped, OrderAsked, EndOffered, CancelAnswered, ClockRaised, MovedBeside, EventStep, Offers, History, IsOpening, calls_in, guest_calls}
+use Rattle.phases.specs.History.{Event, Stepped, OrderAsked, EndOffered, CancelAnswered, RequestAnswered, ClockRaised, MovedBeside, EventStep, Offers, History, IsOpening, owners_call, calls_in, guest_calls}
 use Rattle.phases.specs.Laws.{WasAsked, WasCancelled, is_after_event, cancellation, AreDue, IsOwn}
 use Rattle.phases.specs.Outside.{next_order_of, next_in, handing}
 use Rattle.phases.specs.Requests.{Stage, Open, HandedOut, Answered, Cancelled, Request, Requests, Completion, no_requests, request_of, with_stage, completion_of, end_completion, lowest_open}
 use Rattle.phases.specs.State.{Setting, State, Loop}
 use Rattle.phases.specs.Step.{AfterWork, in_state}
 use Rattle.phases.proofs.CancelFates.{CancelFate, cancelled, stayed, fate_in}
-use Rattle.phases.proofs.StepFates.{Held, WasWon, after_of, Steps, step_holds, nothing_more}
+use Rattle.phases.proofs.StepFates.{Held, WasWon, after_of, Steps, step_holds, fate_holds, nothing_more}
+use Rattle.phases.proofs.StepsByCalls.{request_fate}
 use Rattle.phases.proofs.RequestByNumber.{Fits, Same, Stages, numbered, Stands, Owned, fits_more, fits_staged, fits_handed, fits_answered, only_found, found_only}
 
 -- some events and then others
@@ -143,6 +144,10 @@ module _ {S : Type 0} (calls : Calls S) (g : Setting) (r : ℕ) where
         silent (EndOffered o end taken) new.state.requests new.state.requests refl (no_cancel (EndOffered o end taken) refl) refl (offered_good o end taken old new h f)
     event_held (CancelAnswered request answer) old new h f =
         fate_good request answer old.state.requests new.state.requests (fate_in calls old.state.status (old.state, old.shared) request answer (new.state, new.shared) h.0) f
+    event_held (RequestAnswered op bytes answer) old new h f =
+        told (RequestAnswered op bytes answer) new.state.requests (no_cancel (RequestAnswered op bytes answer) refl)
+        (fate_holds g r (ByOwner events) ran early (guest_calls events) (owners_call op bytes answer) old.state.requests new.state.requests
+        (request_fate calls g (old.state, old.shared) op bytes answer (new.state, new.shared) old.state.status h.0) f)
     event_held (ClockRaised ms) old new h f =
         silent (ClockRaised ms) old.state.requests new.state.requests refl (no_cancel (ClockRaised ms) refl) (ap (λ l. l.state.requests) h) f
     event_held MovedBeside old new h f =
@@ -254,6 +259,7 @@ module _ {S : Type 0} (calls : Calls S) (g : Setting) (r : ℕ) where
   event_next events (OrderAsked order) old new h was = quiet_next events (OrderAsked order) old new refl h was
   event_next events (EndOffered o end taken) old new h was = quiet_next events (EndOffered o end taken) old new refl h was
   event_next events (CancelAnswered request answer) old new h was = quiet_next events (CancelAnswered request answer) old new refl h was
+  event_next events (RequestAnswered op bytes answer) old new h was = quiet_next events (RequestAnswered op bytes answer) old new refl h was
   event_next events (ClockRaised ms) old new h was = quiet_next events (ClockRaised ms) old new refl h was
   event_next events MovedBeside old new h was = quiet_next events MovedBeside old new refl h was
 
@@ -289,6 +295,7 @@ module _ {S : Type 0} (calls : Calls S) (g : Setting) (r : ℕ) where
   late_behind before behind (OrderAsked order) old mid l' was h is rest = absurd (cc)
   late_behind before behind (EndOffered o end taken) old mid l' was h is rest = absurd (cc)
   late_behind before behind (CancelAnswered request answer) old mid l' was h is rest = absurd (cc)
+  late_behind before behind (RequestAnswered op bytes answer) old mid l' was h is rest = absurd (cc)
   late_behind before behind (ClockRaised ms) old mid l' was h is rest = absurd (cc)
   late_behind before behind MovedBeside old mid l' was h is rest = absurd (cc)
 

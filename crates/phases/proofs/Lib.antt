@@ -21,6 +21,7 @@ pub mod StepsByCalls
 pub mod StopsOfCallbacks
 pub mod RequestByNumber
 pub mod OwnerCallsKeepListed
+pub mod OwnersRequests
 pub mod ListedStaysReady
 pub mod RosterKeeps
 pub mod Runnable

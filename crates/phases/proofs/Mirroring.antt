@@ -29,7 +29,7 @@ use Rattle.phases.specs.PhaseList.{exports, is_active_handle}
 use Rattle.phases.specs.Calls.{Calls}
 use Rattle.phases.specs.Guests.{GuestCall, GuestSteps}
 use Rattle.phases.specs.Host.{CallStep, CancelsAt, QueuesWork, Opens, cancel_state_of, with_roster, with_requests}
-use Rattle.phases.specs.Outside.{CancelIn}
+use Rattle.phases.specs.Outside.{CancelIn, RequestIn}
 use Rattle.phases.specs.Step.{StepsWith, StepIn, ListStep, EntryStep, RunsFrom, CallsBack, CallsHandle, Skips, TakesFirst, AfterWork, in_state, sharing, over, begun, is_as_listed, handle_function}
 
 -- nothing is known of the object, or of an async
@@ -272,3 +272,12 @@ module _ {S T : Type 0} (calls : Calls S) (other : Calls T) (g : Setting) (Comes
   cancel_mirrors Over old t number answer new c r h =
       let it = cancels_at (old.0.requests, old.1) t r number answer h.0 new.1 c (cancel_state_of old.0.requests number) h.1 in
       (it.0, (h.0, it.1, h.2), it.2)
+
+  -- and the owner's request
+  pub request_mirrors : (status : Status) (old : State × S) (t : T) (op : ℕ) (bytes : List ℕ) (answer : ℕ) (new : State × S) → Comes new.1 → R old.1 t
+      → RequestIn calls g status old op bytes answer new → After (λ t'. RequestIn other g status (old.0, t) op bytes answer (new.0, t')) new.1
+  request_mirrors Running old t op bytes answer new c r h =
+      let it = queues bytes (old.0.requests, old.1) t r op 0 (length bytes) answer h.0 new.1 c h.1 in
+      (it.0, (h.0, it.1, h.2), it.2)
+  request_mirrors Over old t op bytes answer new c r h = (t, (h.0, ap (λ p. (p.0, t)) h.1), stays old.1 new.1 t (ap (λ p. p.1) h.1) r)
+  request_mirrors Failed old t op bytes answer new c r h = (t, (h.0, ap (λ p. (p.0, t)) h.1), stays old.1 new.1 t (ap (λ p. p.1) h.1) r)

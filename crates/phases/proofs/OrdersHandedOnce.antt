@@ -9,7 +9,7 @@ use Rattle.phases.specs.declared.entry.Status.{Status}
 use Rattle.phases.specs.declared.entry.Status.TheVariants.{Running, Over, Failed}
 use Rattle.phases.specs.Calls.{Calls}
 use Rattle.phases.specs.Guests.{GuestCall}
-use Rattle.phases.specs.History.{Event, Stepped, OrderAsked, EndOffered, CancelAnswered, ClockRaised, MovedBeside, EventStep, History, IsOpening, guest_calls}
+use Rattle.phases.specs.History.{Event, Stepped, OrderAsked, EndOffered, CancelAnswered, RequestAnswered, ClockRaised, MovedBeside, EventStep, History, IsOpening, guest_calls}
 use Rattle.phases.specs.Laws.{hands_out, WasAsked}
 use Rattle.phases.specs.Outside.{next_order_of, next_in, handing}
 use Rattle.phases.specs.Requests.{Stage, HandedOut, Cancelled, Request, Requests, has_number, in_stage, with_stage, is_open_stage, lowest_open}
@@ -207,6 +207,7 @@ module _ {S : Type 0} (calls : Calls S) (g : Setting) (r : ℕ) where
   event_next events (Stepped did emits made) old new h was = other_event events (Stepped did emits made) old new refl h was
   event_next events (EndOffered o end taken) old new h was = other_event events (EndOffered o end taken) old new refl h was
   event_next events (CancelAnswered request answer) old new h was = other_event events (CancelAnswered request answer) old new refl h was
+  event_next events (RequestAnswered op bytes answer) old new h was = other_event events (RequestAnswered op bytes answer) old new refl h was
   event_next events (ClockRaised ms) old new h was = other_event events (ClockRaised ms) old new refl h was
   event_next events MovedBeside old new h was = other_event events MovedBeside old new refl h was
 

@@ -252,3 +252,8 @@ module _ (g : Setting) (linked : IsLinked g.loaded.contents) (depth : (1 ≤ g.d
 
   pub orders_run : {S : Type 0} (calls : Calls S) (trace : List HostCall) (old new : State × S) → Lawful (HostStep calls g) trace old new → AreOrdersOf g old.0.requests → AreOrdersOf g new.0.requests
   orders_run calls trace old new h = after_trace calls g (AreOrdersOf g) (λ rs number. staged_orders g rs number Cancelled) opened_runs trace old new h
+
+  -- the same of one call
+  pub call_orders : {S : Type 0} (calls : Calls S) (old : State × S) (call : HostCall) (new : State × S) (f : Call) (args : List Value)
+      → CallStep calls g old call new f args → AreOrdersOf g old.0.requests → AreOrdersOf g new.0.requests
+  call_orders calls old call new f args h = of_call calls g (AreOrdersOf g) (λ rs number. staged_orders g rs number Cancelled) opened_runs old call new f args h

@@ -73,7 +73,7 @@ module _ (g : Setting) (r : ℕ) (L : Type 0) where
       (fits_more r (WasAsked g made) (WasAsked g (made ++ [])) (WasWon made) (WasWon (made ++ [])) ran early rs (covers made []) (same_won made [] (λ c none k. omega (arith, none.1))) f)
 
   -- one call of the guest
-  fate_holds : (ran early : Type 0) (made : List GuestCall) (c : GuestCall) (rs rs' : Requests) → CallFate g rs c rs' → Held ran early made rs → Held ran early (made ++ c ∷ []) rs'
+  pub fate_holds : (ran early : Type 0) (made : List GuestCall) (c : GuestCall) (rs rs' : Requests) → CallFate g rs c rs' → Held ran early made rs → Held ran early (made ++ c ∷ []) rs'
   fate_holds ran early made c rs rs' (changes_nothing asks never e) f = stays ran early made c rs rs' (never r) e f
   fate_holds ran early made c rs rs' (opens_one op place count slot is args told e) f =
       subst (Held ran early (made ++ c ∷ [])) (sym e)

@@ -12,7 +12,7 @@ use Rattle.reduction.specs.Run.{HostCall}
 use Rattle.imports.specs.declared.call.Call.{Call}
 use Rattle.imports.specs.declared.call.Call.TheVariants.{Now, TimerInit, IdleInit, CheckInit, TimerStart, TimerStop, IdleStop, CheckStop, TimerAgain, IdleStart}
 use Rattle.imports.specs.declared.call.Call.TheVariants.{CheckStart, AsyncInit, AsyncSend, IsActive, Close, QueueWork, Cancel, InLen, InCopy, OutSet, Emit}
-use Rattle.order.specs.declared.uv.answers.TheConstants.{NO_SUCH_EXPORT, INVALID, NO_ROOM, NONE_LEFT, NO_MEMORY, OUTSIDE_MEMORY}
+use Rattle.order.specs.declared.uv.answers.TheConstants.{NOT_HERE, NO_SUCH_EXPORT, INVALID, NO_ROOM, NONE_LEFT, NO_MEMORY, OUTSIDE_MEMORY}
 use Rattle.order.specs.Work.{WorkOrder, WorkEnd}
 use Rattle.order.specs.Uv.Bytes.{taken_out}
 use Rattle.events.specs.declared.did.StepDid.{StepDid}
@@ -34,9 +34,9 @@ use Rattle.phases.specs.Host.{CallStep, QueuesWork, Opens, next_work, with_roste
 use Rattle.phases.specs.Step.{StepsWith, StepIn, ListStep, EntryStep, NextPhase, RunsFrom, CallsBack, CallsHandle, Skips, TakesFirst, AfterWork, in_state}
 use Rattle.phases.specs.Step.{sharing, begun, entered, now_in, is_as_listed, handle_function}
 use Rattle.phases.specs.Guests.{GuestCall, GuestSteps}
-use Rattle.phases.specs.History.{Event, Stepped, OrderAsked, EndOffered, CancelAnswered, ClockRaised, MovedBeside, EventStep, Offers, History, calls_in, guest_calls}
+use Rattle.phases.specs.History.{Event, Stepped, OrderAsked, EndOffered, CancelAnswered, RequestAnswered, ClockRaised, MovedBeside, EventStep, Offers, History, owners_call, calls_in, guest_calls}
 use Rattle.phases.specs.Laws.{asks_for, IsCancel}
-use Rattle.phases.specs.Outside.{next_order_of, next_in, handing}
+use Rattle.phases.specs.Outside.{RequestIn, next_order_of, next_in, handing}
 use Rattle.phases.proofs.GuestCallsKeep.{emitted_requests}
 use Rattle.phases.proofs.CancelFates.{IsBeside, unmoved, sent, took, CancelMoves, wins, leaves, CancelFate, stayed, cancelled, moves_of, fate_in}
 
@@ -150,6 +150,23 @@ module _ {S : Type 0} (calls : Calls S) (g : Setting) where
 
     pub call_fate : (f : Call) (args : List Value) → call.args ≡ args → CallStep calls g old call new f args → CallFate g old.0.requests (record { function = f; call = call }) new.0.requests
     call_fate f args is h = call_forgets calls g (old.0.requests, old.1) (record { function = f; call = call }) (new.0.requests, new.1) (call_moves f args is h)
+
+-- a request of the loop's owner is one call more
+module _ {S : Type 0} (calls : Calls S) (g : Setting) (old : State × S) (op : ℕ) (bytes : List ℕ) (answer : ℕ) (new : State × S) where
+  abbrev RequestFate : Type 0
+  RequestFate = CallFate g old.0.requests (owners_call op bytes answer) new.0.requests
+
+  refused_request : (answer ≡ NOT_HERE) × (new ≡ old) → RequestFate
+  refused_request h =
+      changes_nothing (λ n few. rw h.0 (ne_eqb NOT_HERE n (λ same. omega (arith, few, same)))) (λ n. other_call n (owners_call op bytes answer) refl)
+      (ap (λ p. p.0.requests) h.1)
+
+  pub request_fate : (status : Status) → RequestIn calls g status old op bytes answer new → RequestFate
+  request_fate Running h =
+      let it = owners_call op bytes answer in
+      call_fate calls g old it.call new QueueWork it.call.args refl (answer, h.0, h.1, (refl, refl), h.2)
+  request_fate Over h = refused_request h
+  request_fate Failed h = refused_request h
 
 -- what a call, a removal and a move of the shared object leave as it is
 pub record IsKeptInSteps {S : Type 0} (calls : Calls S) (g : Setting) (P : List GuestCall → Requests → S → Type 0) : Type 0 where
@@ -307,6 +324,9 @@ module _ {S : Type 0} (calls : Calls S) (g : Setting) (P : List GuestCall → Re
     event_keeps (CancelAnswered n answer) old new h p =
         silent new.state.requests new.state.requests refl
         (cancel_keeps old.state.requests new.state.requests n answer (fate_in calls old.state.status (old.state, old.shared) n answer (new.state, new.shared) h.0) p)
+    event_keeps (RequestAnswered op bytes answer) old new h p =
+        keeps.called made (owners_call op bytes answer) old.state.requests new.state.requests
+        (request_fate calls g (old.state, old.shared) op bytes answer (new.state, new.shared) old.state.status h.0) p
     event_keeps (ClockRaised ms) old new h p = silent old.state.requests new.state.requests (ap (λ l. l.state.requests) h) p
     event_keeps MovedBeside old new h p = silent old.state.requests new.state.requests (ap (λ s. s.requests) h.state) p
 

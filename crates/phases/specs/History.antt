@@ -1,5 +1,7 @@
 -- What the owner of one loop does with it, and what it is told.
-use Rattle.std.specs.Prelude.{◌≡◌, ℕ, Bool, MatchBool, List, [], ◌∷◌, ◌++◌, Option}
+use Rattle.std.specs.Prelude.{◌≡◌, ℕ, Bool, MatchBool, List, [], ◌∷◌, ◌++◌, length, Option, Some}
+use Rattle.syntax.specs.declared.types.Value.TheVariants.{I32}
+use Rattle.imports.specs.declared.call.Call.TheVariants.{QueueWork}
 use Rattle.instance.specs.Fresh.{fresh_store}
 use Rattle.order.specs.Work.{WorkOrder, WorkEnd, IsEndOf}
 use Rattle.events.specs.declared.did.StepDid.{StepDid}
@@ -7,7 +9,7 @@ use Rattle.events.specs.declared.did.StepDid.TheVariants.{Ran}
 use Rattle.phases.specs.Calls.{Calls}
 use Rattle.phases.specs.Guests.{GuestCall}
 use Rattle.phases.specs.Host.{with_requests}
-use Rattle.phases.specs.Outside.{Takes, CancelsLoop, next_order_of, answered, after_clock}
+use Rattle.phases.specs.Outside.{Takes, CancelsLoop, RequestsLoop, next_order_of, answered, after_clock}
 use Rattle.phases.specs.PhaseList.{begin_list}
 use Rattle.phases.specs.Roster.{opening_roster}
 use Rattle.phases.specs.State.{Setting, Loop, opening}
@@ -16,19 +18,34 @@ use Rattle.phases.specs.View.{new_view}
 
 -- A step, with what it did, what the last callback put out, and what the guest called in it; an order that was asked for, if
 -- there was one; an order
--- that was offered with its end, and whether it was taken; a cancel, and its answer; a moment of the clock; and what
--- others do to the shared object.
+-- that was offered with its end, and whether it was taken; a cancel, and its answer; a request of the owner's own, and its
+-- answer; a moment of the clock; and what others do to the shared object.
 pub data Event : Type 0 where
   Stepped : (did : StepDid) → (emits : List ℕ) → (made : List GuestCall) → Event
   OrderAsked : (order : Option WorkOrder) → Event
   EndOffered : (o : WorkOrder) → (end : WorkEnd) → (taken : Bool) → Event
   CancelAnswered : (request answer : ℕ) → Event
+  RequestAnswered : (op : ℕ) → (bytes : List ℕ) → (answer : ℕ) → Event
   ClockRaised : (ms : ℕ) → Event
   MovedBeside : Event
 
--- what the guest called in an event, and in some events, in order
+-- a request of the owner's own, as the call of a guest whose whole memory is the bytes
+abbrev pub owners_call : (op : ℕ) → (bytes : List ℕ) → (answer : ℕ) → GuestCall
+owners_call op bytes answer = record {
+  function = QueueWork;
+  call = record {
+    function = 0;
+    args = I32 op ∷ I32 0 ∷ I32 (length bytes) ∷ [];
+    before = bytes;
+    answer = Some (I32 answer);
+    after = bytes;
+  };
+}
+
+-- what the guest called in an event, and in some events, in order; its owner's requests are among its calls
 abbrev pub calls_in : Event → List GuestCall
 calls_in (Stepped did emits made) = made
+calls_in (RequestAnswered op bytes answer) = owners_call op bytes answer ∷ []
 calls_in _ = []
 
 abbrev pub guest_calls : List Event → List GuestCall
@@ -70,6 +87,7 @@ module _ {S : Type 0} (calls : Calls S) (g : Setting) where
   EventStep (OrderAsked order) old new = (order ≡ (next_order_of old.state).0) × (new ≡ in_state old (next_order_of old.state).1)
   EventStep (EndOffered o end taken) old new = Offers o end taken old new
   EventStep (CancelAnswered request answer) old new = CancelsLoop calls old request answer new
+  EventStep (RequestAnswered op bytes answer) old new = RequestsLoop calls g old op bytes answer new
   EventStep (ClockRaised ms) old new = new ≡ in_state old (after_clock old.state ms)
   EventStep MovedBeside old new = Moves old new
 

@@ -93,6 +93,15 @@ module _ {S : Type 0} (calls : Calls S) where
   abbrev pub OpensIfRoom : Setting → Requests × S → (op : ℕ) → (bytes : List ℕ) → (answer : ℕ) → Requests × S → Type 0
   OpensIfRoom g old op bytes answer new = ((answer ≡ NO_MEMORY) × (new ≡ old)) ⊎ Opens g old op bytes answer new
 
+  -- opens a request, unless as many are outstanding as may be, or the numbers are used up
+  abbrev pub OpensNext : Setting → Requests × S → (op : ℕ) → (bytes : List ℕ) → (answer : ℕ) → Requests × S → Type 0
+  OpensNext g old op bytes answer new =
+      MatchBool (length old.0.outstanding == MAX_REQUESTS)
+      ((answer ≡ NO_ROOM) × (new ≡ old))
+      (MatchBool (old.0.last == MAX_REQUEST_NUMBER)
+      ((answer ≡ NONE_LEFT) × (new ≡ old))
+      (OpensIfRoom g old op bytes answer new))
+
   -- asks for work on the bytes at a place of the memory
   abbrev pub QueuesWork : Setting → (memory : List ℕ) → Requests × S → (op place count answer : ℕ) → Requests × S → Type 0
   QueuesWork g memory old op place count answer new =
@@ -102,11 +111,7 @@ module _ {S : Type 0} (calls : Calls S) where
       ((answer ≡ INVALID) × (new ≡ old))
       (MatchBool (nat_lt (length memory) (place + count))
       ((answer ≡ OUTSIDE_MEMORY) × (new ≡ old))
-      (MatchBool (length old.0.outstanding == MAX_REQUESTS)
-      ((answer ≡ NO_ROOM) × (new ≡ old))
-      (MatchBool (old.0.last == MAX_REQUEST_NUMBER)
-      ((answer ≡ NONE_LEFT) × (new ≡ old))
-      (OpensIfRoom g old op (taken_out place count memory) answer new)))))
+      (OpensNext g old op (taken_out place count memory) answer new)))
 
   -- a send to an async of the loop goes to the shared object
   abbrev pub Sends : Roster → S → (handle answer : ℕ) → S → Type 0

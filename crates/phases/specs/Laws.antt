@@ -26,7 +26,7 @@ abbrev pub is_after_event : (request : ℕ) → Event → Bool
 is_after_event request (Stepped (Ran kind.After number ended) emits made) = number == request
 is_after_event request _ = false
 
--- The guest called `queue_work` and was answered the order's request: the order is of the loop's module, of the
+-- The guest, or the loop's owner, called `queue_work` and was answered the order's request: the order is of the loop's module, of the
 -- operation that was asked for, and of the bytes as they stood in the memory, with the loop's fuel and depth.
 pub record Asks (g : Setting) (c : GuestCall) (o : WorkOrder) : Type 0 where
   pub op : ℕ
@@ -99,7 +99,7 @@ module _ {S : Type 0} (calls : Calls S) (g : Setting) where
     pub given : completion_of q.stage ≡ Some completion
     pub runs : AfterWork calls g (in_state old (record old.state { list = rest })) q.order.request (Some completion) did made new
 
-  -- The callback of this request is given what is due to the order that the guest had asked for, which is the very
+  -- The callback of this request is given what is due to the order that was asked for, which is the very
   -- order of the request that the step removes.
   pub record IsOwn (events : List Event) (old : Loop S) (number : ℕ) (did : StepDid) (made : List GuestCall)
       (new : Loop S) : Type 0 where
@@ -134,7 +134,7 @@ module _ {S : Type 0} (calls : Calls S) where
       → (request : ℕ) → is_after_event request e ≡ true
       → WasCancelled request (e ∷ behind) → ⊥
 
-  -- in every history of a loop from its opening the guest is answered each number of a request at most once
+  -- in every history of a loop from its opening each number of a request is answered at most once, to the guest or the owner
   abbrev pub IsAskedOnce : Type 0
   IsAskedOnce =
       (g : Setting) (l l' : Loop S) (events : List Event) → IsOpening calls g l → History calls g l events l'
@@ -146,7 +146,7 @@ module _ {S : Type 0} (calls : Calls S) where
       (g : Setting) (l l' : Loop S) (events : List Event) → IsOpening calls g l → History calls g l events l'
       → (request : ℕ) → count_by (hands_out request) events ≤ 1
 
-  -- each that is handed out, after any history, is one that the guest had asked for
+  -- each that is handed out, after any history, is one that was asked for
   abbrev pub IsHandedOwn : Type 0
   IsHandedOwn =
       (g : Setting) (l old new : Loop S) (events : List Event) (o : WorkOrder) → IsOpening calls g l → History calls g l events old

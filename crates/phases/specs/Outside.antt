@@ -1,13 +1,13 @@
 -- The calls of a loop's owner, other than its step.
-use Rattle.std.specs.Prelude.{◌≡◌, ℕ, Bool, true, false, max, Option, Some, None}
+use Rattle.std.specs.Prelude.{◌≡◌, ℕ, Bool, true, false, max, List, length, Option, Some, None}
 use Rattle.order.specs.declared.uv.answers.TheConstants.{NOT_HERE}
 use Rattle.order.specs.Work.{WorkOrder, WorkEnd}
 use Rattle.phases.specs.Calls.{Calls, OtherCalls}
 use Rattle.phases.specs.declared.entry.Status.{Status}
-use Rattle.phases.specs.declared.entry.Status.TheVariants.{Failed}
+use Rattle.phases.specs.declared.entry.Status.TheVariants.{Running, Failed}
 use Rattle.phases.specs.Requests.{Requests, Request, HandedOut, Answered, request_of, lowest_open, with_stage, is_settled}
-use Rattle.phases.specs.State.{Loop, State}
-use Rattle.phases.specs.Host.{Cancels, with_requests}
+use Rattle.phases.specs.State.{Setting, Loop, State}
+use Rattle.phases.specs.Host.{Cancels, QueuesWork, with_requests}
 
 abbrev pub is_failed : Status → Bool
 is_failed Failed = true
@@ -65,6 +65,18 @@ module _ {S : Type 0} (calls : Calls S) where
   abbrev pub CancelsLoop : Loop S → (number answer : ℕ) → Loop S → Type 0
   CancelsLoop old number answer new =
       CancelIn old.state.status (old.state, old.shared) number answer (new.state, new.shared) × (new.store ≡ old.store)
+
+  -- The owner's request is answered as `queue_work` is to a guest whose whole memory is the bytes; and -1 where the loop is
+  -- over or has failed.
+  abbrev pub RequestIn : Setting → Status → State × S → (op : ℕ) → (bytes : List ℕ) → (answer : ℕ) → State × S → Type 0
+  RequestIn g Running old op bytes answer new =
+      (requests : Requests) × QueuesWork calls g bytes (old.0.requests, old.1) op 0 (length bytes) answer (requests, new.1)
+      × (new.0 ≡ with_requests old.0 requests)
+  RequestIn g _ old op bytes answer new = (answer ≡ NOT_HERE) × (new ≡ old)
+
+  abbrev pub RequestsLoop : Setting → Loop S → (op : ℕ) → (bytes : List ℕ) → (answer : ℕ) → Loop S → Type 0
+  RequestsLoop g old op bytes answer new =
+      RequestIn g old.state.status (old.state, old.shared) op bytes answer (new.state, new.shared) × (new.store ≡ old.store)
 
 -- a worker's start, and another's send: the shared object moves, and all else stays
 module _ {S : Type 0} (others : OtherCalls S) where

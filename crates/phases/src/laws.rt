@@ -5,8 +5,8 @@ ghost use Rattle.phases.specs.Laws.{IsAfterOnce, IsAfterOwn, IsAfterLast, IsAske
 use crate::shared::Shared;
 
 /// In every history of a loop, whatever it shares and whatever others do to that, each request has at most one
-/// after-work callback. It is given what one thread computes from the very order that the guest asked for, or, where a
-/// cancel of it was answered 0, only its cancellation; and from then on none is answered 0.
+/// after-work callback. It is given what one thread computes from the very order that the guest asked for, or the loop's
+/// owner, or, where a cancel of it was answered 0, only its cancellation; and from then on none is answered 0.
 pub fn after_once<B: Shared>()
     ensures once { IsAfterOnce B.calls }
     ensures own { IsAfterOwn B.calls }
@@ -14,7 +14,7 @@ pub fn after_once<B: Shared>()
 {}
 
 /// In every history of a loop each number of a request is given once, so that a number names one order; and that is
-/// handed out once at most, as the guest asked for it. Numbers are 1 to 2,147,483,647.
+/// handed out once at most, as it was asked for. Numbers are 1 to 2,147,483,647.
 pub fn asked_once<B: Shared>()
     ensures asked { IsAskedOnce B.calls }
     ensures handed { IsHandedOnce B.calls }

@@ -11,7 +11,7 @@ ghost use Rattle.instance.specs.Fresh.{IsFresh};
 ghost use Rattle.order.specs.Orders.{order_of};
 ghost use Rattle.phases.specs.Fitting.{AllRight, IsShort};
 ghost use Rattle.phases.specs.Accepting.{Accepts};
-ghost use Rattle.phases.specs.Outside.{after_clock, is_failed, next_order_of, CancelsLoop, StartsBeside, SendsBeside};
+ghost use Rattle.phases.specs.Outside.{after_clock, is_failed, next_order_of, CancelsLoop, RequestsLoop, StartsBeside, SendsBeside};
 ghost use Rattle.phases.specs.Guests.{GuestCall};
 ghost use Rattle.order.specs.Runnable.{CanRun};
 ghost use Rattle.phases.specs.PhaseList.{begin_list, hint_of, is_alive, IsAlive, IsHint};
@@ -368,6 +368,13 @@ impl<B: Shared + Drop> LoopCore<B> {
         }
     }
 
+    /// The bytes of its module.
+    pub fn module_bytes(&self) -> &[u8]
+        ensures { result.now ≡ self.now.setting.loaded.bytes }
+    {
+        self.linked.valid().module().bytes()
+    }
+
     /// What the last callback put out, `MAX_EMITS` values at most.
     pub fn emits(&self) -> &[u64]
         ensures emits { result.now ≡ self.now.loop.state.emits }
@@ -464,6 +471,32 @@ impl<B: Shared + Drop> LoopCore<B> {
     {
         let LoopHost { state, shared, .. } = &mut self.host;
         state.cancel(shared, request)
+    }
+
+    /// A request of the loop's owner. It goes the way of the guest's own: `next_order` hands it out, and `uv_after_work` is
+    /// given its number. It answers what `queue_work` answers to a guest whose whole memory is these bytes: the request's
+    /// number, or -38, -22, -11, -28 or -12; and -1 on a loop that is over or has failed. Nothing changes where it is below 0.
+    pub fn request(&mut self, op: u32, bytes: &[u8]) -> i32
+        ensures told { RequestsLoop B.calls self.old.setting self.old.loop op bytes.now (cast_unsigned w32 result) self.new.loop }
+        ensures setting { self.new.setting ≡ self.old.setting }
+    {
+        self.request_number(op, bytes).cast_signed()
+    }
+
+    fn request_number(&mut self, op: u32, bytes: &[u8]) -> u32
+        ensures told { RequestsLoop B.calls self.old.setting self.old.loop op bytes.now result self.new.loop }
+        ensures setting { self.new.setting ≡ self.old.setting }
+    {
+        // for what its contract tells: the module is linked
+        let _valid = self.linked.valid();
+        let alloc = self.host.alloc;
+        let LoopHost {
+            setting,
+            state,
+            shared,
+            ..
+        } = &mut self.host;
+        state.request(alloc, setting, shared, op, bytes)
     }
 
     /// How long the loop has nothing to do, by its cached now.

@@ -7,8 +7,10 @@ ghost use Rattle.order.specs.Uv.Bytes.{input_length, copied_in};
 ghost use Rattle.order.specs.Orders.{order_of, end_of};
 ghost use Rattle.phases.specs.Fitting.{AllRight};
 ghost use Rattle.phases.specs.Host.{with_requests, emitted_in};
-ghost use Rattle.phases.specs.Outside.{after_clock, next_order_of, CancelIn, Takes, answered};
+ghost use Rattle.phases.specs.Outside.{after_clock, next_order_of, CancelIn, RequestIn, Takes, answered};
 ghost use Rattle.phases.specs.Inner.Ready.{Grows};
+ghost use Rattle.phases.specs.Inner.Setting.{setting_of};
+ghost use Rattle.phases.specs.View.{AreOpenedUpTo};
 ghost use Rattle.phases.specs.Requests.{IsLowestOpen};
 ghost use Rattle.phases.specs.PhaseList.{is_alive, hint_of, until_due, first_list, IsAlive, IsHint};
 ghost use Rattle.phases.specs.State.{opening};
@@ -17,7 +19,9 @@ use crate::entries::Entries;
 use crate::entry::Status;
 use crate::requests::Requests;
 use crate::roster::Roster;
+use crate::setting::Setting;
 use crate::shared::Shared;
+use crate::work::ask;
 use arrayvec::ArrayVec;
 use events::did::Hint;
 use events::phase::Phase;
@@ -214,6 +218,24 @@ impl LoopState {
         match self.status {
             Status::Failed => NOT_HERE,
             Status::Running | Status::Over => self.requests.cancel(shared, number),
+        }
+    }
+
+    /// A request of the loop's owner, answered as a guest's on these bytes; -1 where the loop is over or has failed.
+    pub fn request<B: Shared>(
+        &mut self,
+        alloc: Global,
+        setting: &Setting,
+        shared: &mut B,
+        op: u32,
+        bytes: &[u8],
+    ) -> u32
+        requires { AreOpenedUpTo self.old.requests.last (B.calls.view shared.old) }
+        ensures { RequestIn B.calls (setting_of setting.now) self.old.status (self.old, shared.old) op bytes.now result (self.new, shared.new) }
+    {
+        match self.status {
+            Status::Running => ask(alloc, setting, &mut self.requests, shared, op, bytes),
+            Status::Over | Status::Failed => NOT_HERE,
         }
     }
 

@@ -2,7 +2,7 @@
 
 ghost use Rattle.std.specs.Prelude.{◌≡◌, ◌<◌, ◌≤◌, ◌+◌, length};
 ghost use Rattle.imports.specs.Uv.{name_of_entry};
-ghost use Rattle.phases.specs.Host.{Sends, QueuesWork, OpensIfRoom};
+ghost use Rattle.phases.specs.Host.{Sends, QueuesWork, OpensNext, OpensIfRoom};
 ghost use Rattle.phases.specs.PhaseList.{exports};
 ghost use Rattle.phases.specs.Inner.Setting.{setting_of};
 ghost use Rattle.phases.specs.View.{AreOpenedUpTo};
@@ -69,13 +69,50 @@ pub fn queue_work<B: Shared>(
     let Some(bytes) = memory.read(asked.place as usize, asked.count as usize) else {
         return OUTSIDE_MEMORY;
     };
+    open_next(alloc, setting, requests, shared, asked.op, bytes)
+}
+
+/// Asks for work as `queue_work` does, on bytes that stand nowhere in the guest's memory.
+#[tactic(auto, using(crate::proofs::OwnersRequests::queues))]
+pub fn ask<B: Shared>(
+    alloc: Global,
+    setting: &Setting,
+    requests: &mut Requests,
+    shared: &mut B,
+    op: u32,
+    bytes: &[u8],
+) -> u32
+    requires { AreOpenedUpTo requests.old.last (B.calls.view shared.old) }
+    ensures { QueuesWork B.calls (setting_of setting.now) bytes.now (requests.old, shared.old) op 0 (length bytes.now) result (requests.new, shared.new) }
+{
+    let linked: &Linked = &setting.linked;
+    if !(exports(linked, EntryPoint::Work) && exports(linked, EntryPoint::AfterWork)) {
+        return NO_SUCH_EXPORT;
+    }
+    if bytes.len() > MAX_BYTES {
+        return INVALID;
+    }
+    open_next(alloc, setting, requests, shared, op, bytes)
+}
+
+fn open_next<B: Shared>(
+    alloc: Global,
+    setting: &Setting,
+    requests: &mut Requests,
+    shared: &mut B,
+    op: u32,
+    bytes: &[u8],
+) -> u32
+    requires { AreOpenedUpTo requests.old.last (B.calls.view shared.old) }
+    ensures { OpensNext B.calls (setting_of setting.now) (requests.old, shared.old) op bytes.now result (requests.new, shared.new) }
+{
     if requests.len() == MAX_REQUESTS {
         return NO_ROOM;
     }
     if requests.last() == MAX_REQUEST_NUMBER {
         return NONE_LEFT;
     }
-    open(alloc, setting, requests, shared, asked.op, bytes)
+    open(alloc, setting, requests, shared, op, bytes)
 }
 
 fn open<B: Shared>(

@@ -2,7 +2,7 @@
 use Rattle.std.proofs.Common.{◌≡◌, ℕ, ◌+◌, List, [], ◌∷◌, refl, sym, subst}
 use Rattle.std.specs.Prelude.{slice_index}
 use Rattle.std.proofs.Math.Logic.{∥∥₁_map}
-use Rattle.phases.specs.History.{Event, Stepped, OrderAsked, EndOffered, CancelAnswered, ClockRaised, MovedBeside, EventStep}
+use Rattle.phases.specs.History.{Event, Stepped, OrderAsked, EndOffered, CancelAnswered, RequestAnswered, ClockRaised, MovedBeside, EventStep}
 use Rattle.phases.specs.State.{Setting, Loop, State}
 use Rattle.phases.specs.Step.{over}
 use Rattle.phases.specs.View.{View}
@@ -36,6 +36,7 @@ module _ (g : Setting) where
   own_goes (OrderAsked order) old new d mid own h = h
   own_goes (EndOffered o end taken) old new d mid own h = h
   own_goes (CancelAnswered request answer) old new d mid own h = absurd own
+  own_goes (RequestAnswered op bytes answer) old new d mid own h = absurd own
   own_goes (ClockRaised ms) old new d mid own h = h
   own_goes MovedBeside old new d mid own h = absurd own
 

@@ -8,7 +8,7 @@ use Rattle.handles.specs.Table.{saturated}
 use Rattle.events.specs.declared.did.Hint.TheVariants.{For, Forever}
 use Rattle.phases.specs.declared.entry.Status.TheVariants as status
 use Rattle.phases.specs.Calls.{Calls}
-use Rattle.phases.specs.History.{Event, Stepped, OrderAsked, EndOffered, CancelAnswered, ClockRaised, MovedBeside, EventStep, IsOpening, emitted}
+use Rattle.phases.specs.History.{Event, Stepped, OrderAsked, EndOffered, CancelAnswered, RequestAnswered, ClockRaised, MovedBeside, EventStep, IsOpening, emitted}
 use Rattle.phases.specs.PhaseList.{hint_of, is_active_handle}
 use Rattle.phases.specs.Roster.{async_handle}
 use Rattle.phases.specs.State.{Setting, Loop, State}
@@ -45,12 +45,13 @@ callbacks_in events = count_by is_callback events
 abbrev pub WaitsUntil : (ms : ℕ) → State → Type 0
 WaitsUntil ms s = (s.requests.outstanding ≡ []) × (s.clock ≡ s.now) × ((d : ℕ) × (hint_of s ≡ For d) × (ms ≡ saturated (s.now + d)))
 
--- What a thread does of its own with a loop that stands so: it cancels no request, and leaves what the loop shares.
+-- What a thread does of its own with a loop that stands so: it cancels and makes no request, and leaves what the loop shares.
 abbrev pub IsByThread : Event → State → Type 0
 IsByThread (Stepped did emits made) s = Unit {0}
 IsByThread (OrderAsked order) s = Unit {0}
 IsByThread (EndOffered o end is_taken) s = Unit {0}
 IsByThread (CancelAnswered request answer) s = ⊥
+IsByThread (RequestAnswered op bytes answer) s = ⊥
 IsByThread (ClockRaised ms) s = WaitsUntil ms s
 IsByThread MovedBeside s = ⊥
 

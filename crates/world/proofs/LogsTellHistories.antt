@@ -9,7 +9,7 @@ use Rattle.std.proofs.lemmas.List.Sums.{sum_by_push}
 use Rattle.events.specs.declared.did.StepDid.{StepDid}
 use Rattle.events.specs.declared.did.StepDid.TheVariants as did
 use Rattle.events.specs.declared.phase.EntryKind.TheVariants as kind
-use Rattle.phases.specs.History.{Event, Stepped, OrderAsked, EndOffered, CancelAnswered, ClockRaised, MovedBeside, EventStep, History}
+use Rattle.phases.specs.History.{Event, Stepped, OrderAsked, EndOffered, CancelAnswered, RequestAnswered, ClockRaised, MovedBeside, EventStep, History}
 use Rattle.phases.specs.Laws.{is_after_event}
 use Rattle.phases.specs.Requests.{Requests}
 use Rattle.phases.specs.State.{Setting, Loop}
@@ -67,6 +67,7 @@ module _ (j : ℕ) where
   tells_callback r entry (EndOffered o end true) h = ap (is_after j r) h
   tells_callback r entry (EndOffered o end false) h = ap (is_after j r) h
   tells_callback r entry (CancelAnswered request answer) h = ap (is_after j r) h
+  tells_callback r entry (RequestAnswered op bytes answer) h = absurd h
   tells_callback r entry (ClockRaised ms) h = ap (is_after j r) h.1
   tells_callback r entry MovedBeside h = others_callback r entry h
 
@@ -117,6 +118,7 @@ module _ (j : ℕ) where
         ap (λ k. CancelAnswered k answer) same ∙ ap (CancelAnswered r) zeroed),
     λ is. (let same : n ≡ r = cc in let zeroed : answer ≡ 0 = cc in h ∙ ap (λ k. line.Cancel j k (cast_signed w32 answer)) same ∙ ap (λ k. line.Cancel j r (cast_signed w32 k)) zeroed),
   )
+  tells_cancel g r entry (RequestAnswered op bytes answer) old new step h = absurd h
   tells_cancel g r entry (ClockRaised ms) old new step h = neither r entry _ (ClockRaised ms) h.1 refl refl
   tells_cancel g r entry MovedBeside old new step h = (
     λ is. absurd (let it : is_of_owner j entry ≡ true = ap (is_of_owner j) is ∙ eq-eqb j j refl in cc),

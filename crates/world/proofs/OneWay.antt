@@ -13,7 +13,7 @@ use Rattle.tallies.proofs.Requests.{either}
 use Rattle.events.specs.declared.did.StepDid.{StepDid}
 use Rattle.events.specs.declared.did.StepDid.TheVariants as did
 use Rattle.phases.specs.Guests.{GuestCall}
-use Rattle.phases.specs.History.{Event, Stepped, OrderAsked, EndOffered, CancelAnswered, ClockRaised, MovedBeside, IsOpening}
+use Rattle.phases.specs.History.{Event, Stepped, OrderAsked, EndOffered, CancelAnswered, RequestAnswered, ClockRaised, MovedBeside, IsOpening}
 use Rattle.phases.specs.Laws.{hands_out}
 use Rattle.phases.specs.Laws.{IsHandedOnce as LoopHandedOnce, IsHandedOwn as LoopHandedOwn}
 use Rattle.phases.specs.Outside.{is_failed, next_order_of}
@@ -362,6 +362,7 @@ module _ (l r : ℕ) where
   tells_posted entry (EndOffered o end true) h = ap (is_posted l r) h
   tells_posted entry (EndOffered o end false) h = ap (is_posted l r) h
   tells_posted entry (CancelAnswered request answer) h = ap (is_posted l r) h
+  tells_posted entry (RequestAnswered op bytes answer) h = absurd h
   tells_posted entry (ClockRaised ms) h = ap (is_posted l r) h.1
   tells_posted entry MovedBeside h = others_posted entry h
 

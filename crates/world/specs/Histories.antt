@@ -2,7 +2,7 @@
 use Rattle.std.specs.Prelude.{◌≡◌, ℕ, ◌==◌, Bool, true, false, List, [], ◌∷◌, Some, None, slice_get}
 use Rattle.std.specs.Int.{w32, cast_signed}
 use Rattle.phases.specs.Guests.{GuestCall}
-use Rattle.phases.specs.History.{Event, Stepped, OrderAsked, EndOffered, CancelAnswered, ClockRaised, MovedBeside, History}
+use Rattle.phases.specs.History.{Event, Stepped, OrderAsked, EndOffered, CancelAnswered, RequestAnswered, ClockRaised, MovedBeside, History}
 use Rattle.phases.specs.History.{guest_calls as calls_within}
 use Rattle.phases.specs.State.{Setting, Loop}
 use Rattle.desk.specs.Desk.{Desk, desk_calls}
@@ -28,7 +28,7 @@ is_of_owner l (line.Cancel n request answer) = n == l
 is_of_owner l (line.Clock n ms) = n == l
 is_of_owner l _ = false
 
--- the line by which an event of this loop is told
+-- the line by which an event of this loop is told; no step of a world makes a request of the owner's own
 abbrev pub Tells : (l : ℕ) → LogEntry → Event → Type 0
 Tells l entry (Stepped did emits made) = entry ≡ told_of l did emits
 Tells l entry (OrderAsked None) = entry ≡ line.Post l post.Nothing
@@ -36,6 +36,7 @@ Tells l entry (OrderAsked (Some o)) = entry ≡ line.Post l (post.Request o.requ
 Tells l entry (EndOffered o end true) = entry ≡ line.Collect l (collect.Request o.request)
 Tells l entry (EndOffered o end false) = entry ≡ line.Collect l collect.Stranger
 Tells l entry (CancelAnswered request answer) = entry ≡ line.Cancel l request (cast_signed w32 answer)
+Tells l entry (RequestAnswered op bytes answer) = ⊥
 Tells l entry (ClockRaised ms) = (clock : ℕ) × (entry ≡ line.Clock l clock)
 Tells l entry MovedBeside = is_of_owner l entry ≡ false
 

@@ -1,0 +1,69 @@
+-- A request of a loop's owner is a call of a guest whose whole memory is the bytes.
+use Rattle.std.proofs.Common.{◌≡◌, ◌≤◌, ◌+◌, ℕ, true, false, ◌&&◌, List, length, refl, sym, ap, subst, arith}
+use Rattle.std.specs.Prelude.{nat_lt, codes}
+use Rattle.std.proofs.lemmas.Bool.{le-ltb}
+use Rattle.std.proofs.Math.Seq.{take-length}
+use Rattle.limits.specs.declared.TheConstants.{MAX_BYTES, MAX_DEPTH}
+use Rattle.imports.specs.Linking.{IsLinked}
+use Rattle.imports.specs.declared.call.Call.TheVariants.{QueueWork}
+use Rattle.order.specs.Uv.Bytes.{taken_out}
+use Rattle.phases.specs.declared.entry.Status.{Status}
+use Rattle.phases.specs.declared.entry.Status.TheVariants.{Running, Over, Failed}
+use Rattle.phases.specs.Calls.{Calls, IsLawful}
+use Rattle.phases.specs.Guests.{GuestCall}
+use Rattle.phases.specs.History.{owners_call}
+use Rattle.phases.specs.Host.{CallStep, QueuesWork, OpensNext, with_requests}
+use Rattle.phases.specs.Inner.Keeping.{AreOrdersOf}
+use Rattle.phases.specs.Inner.Ready.{Grows}
+use Rattle.phases.specs.Outside.{RequestIn}
+use Rattle.phases.specs.PhaseList.{exports}
+use Rattle.phases.specs.Requests.{Requests}
+use Rattle.phases.specs.State.{Setting, State}
+use Rattle.phases.specs.View.{AreOpenedUpTo}
+use Rattle.phases.proofs.GuestCallsKeep.{call_upto}
+use Rattle.phases.proofs.GuestCallsKeepListed.{call_grows, grows_refl}
+use Rattle.phases.proofs.Runnable.{call_orders}
+
+-- the bytes of a memory, all of them
+whole : (bytes : List ℕ) → taken_out 0 (length bytes) bytes ≡ bytes
+whole bytes = take-length bytes
+
+module _ {S : Type 0} (calls : Calls S) (g : Setting) where
+  -- what is opened on the bytes is opened on the whole memory
+  pub queues : (bytes : List ℕ) (old : Requests × S) (op answer : ℕ) (new : Requests × S)
+      → (exports g.loaded.contents (codes "uv_work") && exports g.loaded.contents (codes "uv_after_work")) ≡ true → length bytes ≤ MAX_BYTES
+      → OpensNext calls g old op bytes answer new → QueuesWork calls g bytes old op 0 (length bytes) answer new
+  queues bytes old op answer new exported few h =
+      let small : nat_lt MAX_BYTES (length bytes) ≡ false = le-ltb MAX_BYTES (length bytes) few in
+      let inside : nat_lt (length bytes) (0 + length bytes) ≡ false = le-ltb (length bytes) (0 + length bytes) (omega arith) in
+      rw exported (rw small (rw inside (rw (whole bytes) h)))
+
+  module _ (old : State × S) (op : ℕ) (bytes : List ℕ) (answer : ℕ) (new : State × S) where
+    abbrev made : GuestCall
+    made = owners_call op bytes answer
+
+    -- on a loop that goes on
+    as_call : RequestIn calls g Running old op bytes answer new → CallStep calls g old made.call new QueueWork made.call.args
+    as_call h = (answer, h.0, h.1, (refl, refl), h.2)
+
+    pub request_grows : (status : Status) → RequestIn calls g status old op bytes answer new → Grows old.0 new.0
+    request_grows Running h = call_grows calls g old made.call new QueueWork made.call.args (as_call h)
+    request_grows Over h = subst (Grows old.0) (sym (ap (λ p. p.0) h.1)) (grows_refl old.0)
+    request_grows Failed h = subst (Grows old.0) (sym (ap (λ p. p.0) h.1)) (grows_refl old.0)
+
+    pub request_upto : IsLawful calls → (status : Status) → RequestIn calls g status old op bytes answer new
+        → AreOpenedUpTo old.0.requests.last (calls.view old.1) → AreOpenedUpTo new.0.requests.last (calls.view new.1)
+    request_upto lawful Running h upto = call_upto calls lawful g old made.call new upto QueueWork made.call.args (as_call h)
+    request_upto lawful Over h upto = subst (λ (p : State × S). AreOpenedUpTo p.0.requests.last (calls.view p.1)) (sym h.1) upto
+    request_upto lawful Failed h upto = subst (λ (p : State × S). AreOpenedUpTo p.0.requests.last (calls.view p.1)) (sym h.1) upto
+
+    pub request_orders : IsLinked g.loaded.contents → (1 ≤ g.depth) × (g.depth ≤ MAX_DEPTH) → (status : Status) → RequestIn calls g status old op bytes answer new
+        → AreOrdersOf g old.0.requests → AreOrdersOf g new.0.requests
+    request_orders linked depth Running h k = call_orders g linked depth calls old made.call new QueueWork made.call.args (as_call h) k
+    request_orders linked depth Over h k = subst (λ (p : State × S). AreOrdersOf g p.0.requests) (sym h.1) k
+    request_orders linked depth Failed h k = subst (λ (p : State × S). AreOrdersOf g p.0.requests) (sym h.1) k
+
+    pub request_running : (status : Status) → status ≡ Running
+        → (requests : Requests) × QueuesWork calls g bytes (old.0.requests, old.1) op 0 (length bytes) answer (requests, new.1) × (new.0 ≡ with_requests old.0 requests)
+        → RequestIn calls g status old op bytes answer new
+    request_running status is h = subst (λ (x : Status). RequestIn calls g x old op bytes answer new) (sym is) h

@@ -1,0 +1,31 @@
+use Rattle.std.proofs.Common.{subst, ◌∙◌}
+use Rattle.std.specs.Arc.{arc_value}
+use Rattle.syntax.specs.Loaded.{Loaded}
+use Rattle.imports.specs.Linking.{IsLinked}
+use Rattle.phases.specs.Inner.Setting.{setting_of}
+use Rattle.phases.specs.State.{State}
+use Rattle.phases.proofs.LoopsKeep.{kept_on}
+use Rattle.phases.proofs.OwnersRequests.{request_grows, request_upto, request_orders}
+use Rattle.phases.proofs.loop_core.LoopCore.request_number.Goals as goal
+
+pub invariant_of-self-inside : goal.invariant_of-self-inside
+invariant_of-self-inside g c =
+    let old : State × _ = (c.self.inside.host.state, c.self.inside.host.shared) in
+    let new : State × _ = (c.request.new.self, c.request.new.shared) in
+    record {
+      opened = request_upto g.B.Shared.calls (setting_of c.self.inside.host.setting) old c.args.op c.args.bytes.now c.request.result new
+          g.met.B.Shared.lawful c.self.inside.host.state.status c.request.ensures c.self.inside.host.opened;
+    }
+
+pub invariant_of-self : goal.invariant_of-self
+invariant_of-self g c =
+    let l = arc_value c.self.inside.linked in
+    let set = setting_of c.self.inside.host.setting in
+    let s = c.self.inside.host.state in
+    let old : State × _ = (s, c.self.inside.host.shared) in
+    let new : State × _ = (c.request.new.self, c.request.new.shared) in
+    let linked = subst (λ (x : Loaded). IsLinked x.contents) (c.deref.ensures ∙ c.self.invariant.same) c.valid-valid.ensures.linked in
+    kept_on l set s c.request.new.self c.self.inside.store c.self.invariant
+    (request_grows g.B.Shared.calls set old c.args.op c.args.bytes.now c.request.result new s.status c.request.ensures)
+    (request_orders g.B.Shared.calls set old c.args.op c.args.bytes.now c.request.result new linked c.self.invariant.depth s.status c.request.ensures
+    c.self.invariant.orders)

@@ -203,6 +203,7 @@ static void refuse(wasmloop_handle *h, int want) {
     IS(moment, 7);
     IS(wasmloop_async_send(h, 0), want);
     IS(wasmloop_cancel(h, 1, &answer), want);
+    IS(wasmloop_request(h, 0, NULL, 0, &answer), want);
     IS(answer, 7);
     IS(wasmloop_standing_of(h, &standing), want);
     IS(memcmp(&standing, &same_standing, sizeof standing), 0);
@@ -468,18 +469,118 @@ static void works(void) {
     IS(wasmloop_drop(&module), WASMLOOP_OK);
 }
 
-/* sentences on modules of each shape */
+/* what modules lack, in the words of check */
 static void warns(void) {
-    wasmloop_shape shape;
-    IS(wasmloop_warning(NULL, 0) == NULL, 1);
-    for (uint32_t bits = 0; bits < 32; bits++) {
-        shape = (wasmloop_shape){ .main = bits & 1, .work = bits >> 1 & 1, .after_work = bits >> 2 & 1, .table = bits >> 3 & 1, .imports = bits >> 4 };
-        const char *first = wasmloop_warning(&shape, 0);
-        IS(first && strstr(first, "no table"), (bits & 25) == 17);
-        IS(first && strstr(first, "none of uv_main"), (bits & 7) == 0);
-        IS(first != NULL, (bits & 25) == 17 || (bits & 7) == 0);
-        IS(wasmloop_warning(&shape, 1) == NULL && wasmloop_warning(&shape, UINT32_MAX) == NULL, 1);
+    /* a module that imports timer_start and queue_work and has nothing else */
+    static const uint8_t lacking[] = { 0, 97, 115, 109, 1, 0, 0, 0, 1, 16, 2, 96, 4, 127, 127, 126, 126, 1, 127, 96, 3, 127, 127, 127, 1, 127,
+        2, 34, 2, 2, 117, 118, 11, 116, 105, 109, 101, 114, 95, 115, 116, 97, 114, 116, 0, 0, 2, 117, 118, 10, 113, 117, 101, 117, 101, 95, 119, 111,
+        114, 107, 0, 1 };
+    static const char *const wanted[] = { "imports timer_start but has no table", "exports none of uv_main", "exports neither uv_work nor uv_after_work" };
+    wasmloop_handle module = WASMLOOP_HANDLE_INIT, none = WASMLOOP_HANDLE_INIT, loop = loop_of("countdown.wasm");
+    wasmloop_fault fault;
+    uint64_t count = 7;
+    char text[300];
+    IS(wasmloop_load(lacking, sizeof lacking, &module, &fault), WASMLOOP_OK);
+    for (uint32_t number = 0; number < 3; number++) {
+        memset(text, 0, sizeof text);
+        IS(wasmloop_warning(&module, number, text, sizeof text - 1, &count), WASMLOOP_OK);
+        IS(count == strlen(text) && strstr(text, wanted[number]) != NULL, 1);
     }
+    IS(wasmloop_warning(&module, 3, text, sizeof text, &count), WASMLOOP_NONE);
+    IS(wasmloop_warning(&module, UINT32_MAX, text, sizeof text, &count), WASMLOOP_NONE);
+    memset(text, 'x', sizeof text);
+    IS(wasmloop_warning(&module, 0, text, 3, &count), WASMLOOP_OK);
+    IS(count > 3 && memcmp(text, "thex", 4) == 0, 1);
+    IS(wasmloop_warning(&module, 0, NULL, 0, &count), WASMLOOP_OK);
+    count = 7;
+    IS(wasmloop_warning(NULL, 0, text, 3, &count), WASMLOOP_NULL);
+    IS(wasmloop_warning(&module, 0, NULL, 3, &count), WASMLOOP_NULL);
+    IS(wasmloop_warning(&module, 0, text, 3, NULL), WASMLOOP_NULL);
+    IS(wasmloop_warning(&none, 0, text, SIZE_MAX, &count), WASMLOOP_RANGE);
+    IS(wasmloop_warning(&none, 0, text, 3, &count), WASMLOOP_EMPTY);
+    IS(wasmloop_warning(&loop, 0, text, 3, &count), WASMLOOP_KIND);
+    IS(count == 7 && memcmp(text, "thex", 4) == 0, 1);
+    IS(wasmloop_drop(&module), WASMLOOP_OK);
+    module = module_of("crc32.wasm");
+    IS(wasmloop_warning(&module, 0, text, sizeof text, &count), WASMLOOP_NONE);
+    IS(wasmloop_drop(&module), WASMLOOP_OK);
+    IS(wasmloop_drop(&loop), WASMLOOP_OK);
+}
+
+/* requests of the loop's owner: what they answer, and where they come out */
+static void requests(void) {
+    wasmloop_handle loop = loop_of("digest.wasm"), module = module_of("digest.wasm"), none = WASMLOOP_HANDLE_INIT, job = WASMLOOP_HANDLE_INIT;
+    static const uint8_t word[65537];
+    const uint8_t *abc = (const uint8_t *)"abc";
+    wasmloop_standing standing;
+    wasmloop_about about;
+    int32_t answer = 7;
+    int64_t emits[4];
+    uint32_t count;
+    IS(wasmloop_request(NULL, 0, abc, 3, &answer), WASMLOOP_NULL);
+    IS(wasmloop_request(&loop, 0, NULL, 3, &answer), WASMLOOP_NULL);
+    IS(wasmloop_request(&loop, 0, abc, 3, NULL), WASMLOOP_NULL);
+    IS(wasmloop_request(&none, 0, abc, SIZE_MAX, &answer), WASMLOOP_RANGE);
+    IS(wasmloop_request(&none, 0, abc, 3, &answer), WASMLOOP_EMPTY);
+    IS(wasmloop_request(&module, 0, abc, 3, &answer), WASMLOOP_KIND);
+    IS(answer, 7);
+    IS(wasmloop_drop(&module), WASMLOOP_OK);
+    /* before the first step; the guest's own four come behind */
+    IS(wasmloop_request(&loop, 0, abc, 3, &answer), WASMLOOP_OK);
+    IS(answer, 1);
+    IS(wasmloop_request(&loop, 0, word, 65537, &answer), WASMLOOP_OK);
+    IS(answer, -22);
+    IS(wasmloop_request(&loop, UINT32_MAX, word, 65536, &answer), WASMLOOP_OK);
+    IS(answer, 2);
+    IS(wasmloop_request(&loop, 5, NULL, 0, &answer), WASMLOOP_OK);
+    IS(answer, 3);
+    run_to(&loop, WASMLOOP_RUN_MAIN);
+    for (int number = 8; number < 33; number++) {
+        IS(wasmloop_request(&loop, 0, abc, 3, &answer), WASMLOOP_OK);
+        IS(answer, number);
+    }
+    IS(wasmloop_request(&loop, 0, abc, 3, &answer), WASMLOOP_OK);
+    IS(answer, -11);
+    IS(wasmloop_standing_of(&loop, &standing), WASMLOOP_OK);
+    IS(standing.alive == 1 && standing.outstanding == 32, 1);
+    IS(wasmloop_cancel(&loop, 2, &answer), WASMLOOP_OK);
+    IS(answer, 0);
+    /* each is handed out once, as it was made, and its callback is given its number once */
+    IS(wasmloop_next_job(&loop, &job), WASMLOOP_OK);
+    IS(wasmloop_job_about(&job, &about), WASMLOOP_OK);
+    IS(about.request == 1 && about.op == 0 && about.bytes == 3, 1);
+    IS(wasmloop_job_run(&job), WASMLOOP_OK);
+    IS(wasmloop_accept(&loop, &job), WASMLOOP_OK);
+    for (uint32_t number = 3; number < 33; number++) {
+        if (number == 6) continue; /* the guest has cancelled it */
+        IS(wasmloop_next_job(&loop, &job), WASMLOOP_OK);
+        IS(wasmloop_job_about(&job, &about), WASMLOOP_OK);
+        IS(about.request == number && about.op == (number == 3 ? 5 : 0), 1);
+        IS(wasmloop_drop(&job), WASMLOOP_OK);
+    }
+    IS(wasmloop_next_job(&loop, &job), WASMLOOP_NONE);
+    wasmloop_did did = run_to(&loop, WASMLOOP_RUN_AFTER);
+    IS(did.kind == WASMLOOP_RUN_AFTER && did.number == 1, 1);
+    IS(wasmloop_emits(&loop, emits, 4, &count), WASMLOOP_OK);
+    IS(count == 4 && emits[0] == 1 && emits[1] == 0 && (uint32_t)emits[2] == 0xba7816bf && (uint32_t)emits[3] == 0x8f01cfea, 1);
+    IS(run_to(&loop, WASMLOOP_RUN_AFTER).number, 2);
+    IS(run_to(&loop, WASMLOOP_RUN_AFTER).number, 6);
+    IS(wasmloop_drop(&loop), WASMLOOP_OK);
+    IS(wasmloop_request(&loop, 0, abc, 3, &answer), WASMLOOP_EMPTY);
+    /* a module that exports neither function, and a loop that is over */
+    loop = loop_of("countdown.wasm");
+    IS(wasmloop_request(&loop, 0, abc, 3, &answer), WASMLOOP_OK);
+    IS(answer, -38);
+    IS(run_to(&loop, 99).what, WASMLOOP_OVER);
+    IS(wasmloop_request(&loop, 0, abc, 3, &answer), WASMLOOP_OK);
+    IS(answer, -1);
+    IS(wasmloop_drop(&loop), WASMLOOP_OK);
+    /* and one that has failed */
+    loop = loop_of("endless.wasm");
+    IS(run_to(&loop, 99).what, WASMLOOP_FAILED);
+    IS(wasmloop_request(&loop, 0, abc, 3, &answer), WASMLOOP_OK);
+    IS(answer, -1);
+    IS(wasmloop_drop(&loop), WASMLOOP_OK);
 }
 
 /* turns: each ends where the timers phase is entered, or before it where a callback puts out values */
@@ -574,6 +675,52 @@ static void stops(void) {
     IS(wasmloop_stop(&loop, sites, 4, &count), WASMLOOP_EMPTY);
 }
 
+/* the same in words */
+static void stops_told(void) {
+    wasmloop_handle loop = loop_of("endless.wasm"), none = WASMLOOP_HANDLE_INIT, module = module_of("crc32.wasm"), job = WASMLOOP_HANDLE_INIT;
+    wasmloop_task task = { 3, 0, 64 };
+    uint64_t count = 7, room = 0;
+    char text[2000] = "";
+    size_t length = read_file("endless.wasm");
+    IS(wasmloop_stop_told(bytes, length, &loop, text, sizeof text, &count), WASMLOOP_NONE);
+    run_to(&loop, 99);
+    IS(wasmloop_stop_told(bytes, length, &loop, text, sizeof text - 1, &room), WASMLOOP_OK);
+    IS(room == strlen(text) && strncmp(text, "in function ", 12) == 0 && strstr(text, "operation 0 (") && strstr(text, "; called by function "), 1);
+    IS(strstr(text, "; and 47 more") != NULL, 1);
+    memset(text, 'x', sizeof text);
+    IS(wasmloop_stop_told(bytes, length, &loop, text, 2, &count), WASMLOOP_OK);
+    IS(count == room && memcmp(text, "inx", 3) == 0, 1);
+    IS(wasmloop_stop_told(bytes, length, &loop, NULL, 0, &count), WASMLOOP_OK);
+    count = 7;
+    IS(wasmloop_stop_told(NULL, 1, &loop, text, 2, &count), WASMLOOP_NULL);
+    IS(wasmloop_stop_told(bytes, length, NULL, text, 2, &count), WASMLOOP_NULL);
+    IS(wasmloop_stop_told(bytes, length, &loop, NULL, 2, &count), WASMLOOP_NULL);
+    IS(wasmloop_stop_told(bytes, length, &loop, text, 2, NULL), WASMLOOP_NULL);
+    IS(wasmloop_stop_told(bytes, SIZE_MAX, &none, text, 2, &count), WASMLOOP_RANGE);
+    IS(wasmloop_stop_told(bytes, length, &none, text, SIZE_MAX, &count), WASMLOOP_RANGE);
+    IS(wasmloop_stop_told(bytes, length, &none, text, 2, &count), WASMLOOP_EMPTY);
+    IS(wasmloop_stop_told(bytes, length, &module, text, 2, &count), WASMLOOP_KIND);
+    /* another module's bytes */
+    IS(wasmloop_stop_told(bytes, length - 1, &loop, text, 2, &count), WASMLOOP_REFUSED);
+    IS(wasmloop_stop_told(NULL, 0, &loop, text, 2, &count), WASMLOOP_REFUSED);
+    IS(count == 7 && memcmp(text, "inx", 3) == 0, 1);
+    IS(wasmloop_drop(&loop), WASMLOOP_OK);
+    /* a job: not run, stopped, and returned */
+    IS(wasmloop_job_new(&module, &task, NULL, 0, &job), WASMLOOP_OK);
+    length = read_file("crc32.wasm");
+    IS(wasmloop_stop_told(bytes, length, &job, text, sizeof text, &count), WASMLOOP_NONE);
+    IS(wasmloop_job_run(&job), WASMLOOP_OK);
+    memset(text, 0, sizeof text);
+    IS(wasmloop_stop_told(bytes, length, &job, text, sizeof text, &count), WASMLOOP_OK);
+    IS(count == strlen(text) && strncmp(text, "in function ", 12) == 0 && strstr(text, " at byte "), 1);
+    IS(wasmloop_drop(&job), WASMLOOP_OK);
+    task.fuel = 1000000;
+    IS(wasmloop_work(&module, &task, NULL, 0, &job), WASMLOOP_OK);
+    IS(wasmloop_stop_told(bytes, length, &job, text, sizeof text, &count), WASMLOOP_NONE);
+    IS(wasmloop_drop(&job), WASMLOOP_OK);
+    IS(wasmloop_drop(&module), WASMLOOP_OK);
+}
+
 /* a job's start is told to its loop; sentences and names */
 static void tells(void) {
     wasmloop_handle loop = loop_of("digest.wasm"), job = WASMLOOP_HANDLE_INIT, none = WASMLOOP_HANDLE_INIT;
@@ -644,8 +791,10 @@ int main(int argc, char **argv) {
     threads();
     works();
     stops();
+    stops_told();
     tells();
     warns();
+    requests();
     turns();
     orders();
     if (failed) printf("%u of %u checks fail\n", failed, checks);

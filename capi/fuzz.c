@@ -8,15 +8,16 @@
 #include <string.h>
 #include "wasmloop.h"
 
-enum { SLOTS = 10, STEPS = 200, FILES = 64, GUARD = 0xa5, NAMES = 12 };
-enum { NOTHING, MODULE, LOOP, JOB, INSTANCE };
+enum { SLOTS = 10, STEPS = 200, FILES = 64, GUARD = 0xa5, NAMES = 13 };
+enum { NOTHING, MODULE, LOOP, JOB, PAUSED, INSTANCE }; /* PAUSED: a job between two slices */
 
 typedef struct slot {
     wasmloop_handle handle;
     int kind, has_run;
     unsigned long loop, id; /* a job's loop, by the slot's id, or 0 */
     uint32_t number;        /* the number of a loop, or of a job's loop */
-    int file;
+    int file;               /* of which it was loaded, or -1 */
+    uint64_t used;          /* of a paused job */
 } slot;
 
 typedef struct file {
@@ -31,7 +32,7 @@ static file files[FILES];
 static int file_count;
 static unsigned long ids, calls, answered[16], wrong;
 static uint64_t state;
-static const char *const names[NAMES] = { "uv_work", "uv_main", "uv_after_work", "memory", "add", "put", "get", "divide", "spin", "deep", "grow", "" };
+static const char *const names[NAMES] = { "uv_work", "uv_main", "uv_after_work", "memory", "add", "put", "get", "divide", "spin", "deep", "grow", "count", "" };
 
 static uint32_t draw(void) {
     state ^= state << 13, state ^= state >> 7, state ^= state << 17;
@@ -180,7 +181,7 @@ static void make_loop(slot *from, slot *into) {
     wasmloop_limits limits = { below(100000), below(300000), below(3), depth() };
     int status = CALL(wasmloop_loop(&from->handle, &limits, &into->handle));
     if (!told("loop", status, in_empty(into, from, is_depth(limits.depth), MODULE))) return;
-    fill(into, LOOP), into->number = limits.number;
+    fill(into, LOOP), into->number = limits.number, into->file = from->file;
 }
 
 static void reads_stop(slot *it, int status, int stopped) {
@@ -199,6 +200,33 @@ static void stop(slot *it, int stopped) {
     if (status == WASMLOOP_OK) is("a stop's count", count >= 1 && count <= 128, 1);
     uint64_t kept = status != WASMLOOP_OK ? 0 : it->kind == JOB && count > 17 ? 17 : count;
     done_with("stop", into, length, kept * sizeof(wasmloop_site));
+}
+
+/* The same in words, by the bytes of some file. */
+static void stop_told(slot *it) {
+    size_t room = below(400);
+    uint64_t count = GUARD;
+    char *into = room_for(room);
+    int number = it->file >= 0 && below(4) ? it->file : (int)below(file_count);
+    int status = CALL(wasmloop_stop_told(files[number].bytes, files[number].length, &it->handle, into, room, &count));
+    int stops = it->kind == LOOP || it->kind == INSTANCE || (it->kind == JOB && it->has_run);
+    if (it->kind == JOB && !it->has_run) told("stop_told of a job that was not run", status, WASMLOOP_NONE);
+    else if (!stops) told("stop_told", status, of_kind(it, LOOP));
+    else if (status != WASMLOOP_NONE) told("stop_told", status, number == it->file ? WASMLOOP_OK : WASMLOOP_REFUSED);
+    if (status == WASMLOOP_OK) is("a place in words", count >= 12 && count < 4000 && !memcmp(into, "in function ", room < 12 ? room : 12), 1);
+    done_with("stop_told", into, room, status == WASMLOOP_OK ? count : 0);
+}
+
+static void warnings(slot *it) {
+    size_t room = below(200);
+    uint64_t count = GUARD;
+    char *into = room_for(room);
+    uint32_t number = below(5);
+    int status = CALL(wasmloop_warning(&it->handle, number, into, room, &count));
+    if (it->kind != MODULE) told("warning", status, of_kind(it, MODULE));
+    else told_one("warning", status, number < 3 ? WASMLOOP_OK : WASMLOOP_NONE, WASMLOOP_NONE);
+    if (status == WASMLOOP_OK) is("a warning in words", count > 40 && count < 300, 1);
+    done_with("warning", into, room, status == WASMLOOP_OK ? count : 0);
 }
 
 static void emits(slot *it, uint32_t wanted) {
@@ -272,13 +300,32 @@ static void cancels(slot *it) {
     else is("a cancel that is not done", answer, 7);
 }
 
+static void requests(slot *it) {
+    size_t length = below(8) ? below(300) : 65530 + below(12);
+    uint8_t *bytes = calloc(1, length + 1);
+    wasmloop_standing before = { 0 }, after = { 0 };
+    int32_t answer = 0;
+    wasmloop_standing_of(&it->handle, &before);
+    int status = CALL(wasmloop_request(&it->handle, draw(), length ? bytes : NULL, length, &answer)), was_refused = refused;
+    free(bytes);
+    if (!told("request", status, of_kind(it, LOOP))) { is("a request that is not made", answer, 0); return; }
+    wasmloop_standing_of(&it->handle, &after);
+    is("outstanding", (long)after.outstanding, (long)before.outstanding + (answer > 0));
+    if (answer == -12) is("a request for which there is no memory", was_refused, 1);
+    if (answer > 0) is("a request that is made", length <= 65536 && before.outstanding < 32 && !after.failed, 1);
+    if (answer == -11) is("requests of a loop", (long)before.outstanding, 32);
+    if (answer == -22) is("a request of too many bytes", length > 65536, 1);
+    is("a request's answer", answer > 0 || answer == -38 || answer == -22 || answer == -11 || answer == -12 || answer == -1, 1);
+    if (answer == -38 && it->file >= 0) is("a request of a module that takes none", files[it->file].shape.work && files[it->file].shape.after_work, 0);
+}
+
 /* Jobs. */
 
 static void next_job(slot *from, slot *into) {
     int wanted = in_empty(into, from, 1, LOOP);
     int status = CALL(wasmloop_next_job(&from->handle, &into->handle));
     if (!told_one("next_job", status, wanted, wanted == WASMLOOP_OK ? WASMLOOP_NONE : wanted)) return;
-    fill(into, JOB), into->loop = from->id, into->number = from->number;
+    fill(into, JOB), into->loop = from->id, into->number = from->number, into->file = from->file;
     wasmloop_about about;
     is("about", wasmloop_job_about(&into->handle, &about), WASMLOOP_OK);
     is("a new job", about.request >= 1 && about.slot < 32 && !about.outcome && !about.used && about.loop == from->number, 1);
@@ -295,7 +342,7 @@ static void make_job(slot *from, slot *into) {
                            : wasmloop_job_new(&from->handle, &task, length ? bytes : NULL, length, &into->handle));
     free(bytes);
     if (!told_one("job_new", status, wanted, no_work)) return;
-    fill(into, JOB), into->has_run = runs;
+    fill(into, JOB), into->has_run = runs, into->file = from->file;
     wasmloop_about about;
     is("about", wasmloop_job_about(&into->handle, &about), WASMLOOP_OK);
     is("a lone job", !about.request && about.bytes == length && about.op == task.op && about.used <= task.fuel && !about.outcome == !runs, 1);
@@ -320,17 +367,40 @@ static void accept(slot *loop, slot *job) {
     told("accept of another loop's", status, WASMLOOP_STRANGER);
 }
 
-static void run(slot *it) {
-    int wanted = of_kind(it, JOB);
-    if (wanted == WASMLOOP_OK && it->has_run) wanted = WASMLOOP_KIND;
-    int status = CALL(wasmloop_job_run(&it->handle)), was_refused = refused;
-    if (!told("job_run", status, wanted)) return;
+static void ran(slot *it, int was_refused) {
     it->has_run = 1;
     wasmloop_about about;
     is("about", wasmloop_job_about(&it->handle, &about), WASMLOOP_OK);
     is("an outcome", about.outcome >= WASMLOOP_WORK_DONE && about.outcome <= WASMLOOP_WORK_MEMORY, 1);
     if (about.outcome == WASMLOOP_WORK_MEMORY) is("no memory", was_refused, 1);
     stop(it, about.outcome >= WASMLOOP_WORK_TRAP && about.outcome <= WASMLOOP_WORK_SPENT);
+}
+
+/* A slice, or some: one that leaves a job paused has used its units, and the last one no more. */
+static void run_for(slot *it) {
+    for (uint32_t more = below(6); more < 6; more++) {
+        uint64_t units = below(16) ? below(4000) : UINT64_MAX;
+        uint32_t over = GUARD;
+        int wanted = it->kind == PAUSED ? WASMLOOP_OK : of_kind(it, JOB);
+        if (wanted == WASMLOOP_OK && it->has_run) wanted = WASMLOOP_KIND;
+        int status = CALL(wasmloop_job_run_for(&it->handle, units, &over)), was_refused = refused;
+        if (!told("job_run_for", status, units ? wanted : WASMLOOP_RANGE)) { is("over", over, GUARD); return; }
+        is("over", over <= 1, 1);
+        it->kind = over ? JOB : PAUSED;
+        if (!over) { it->used += units; continue; }
+        ran(it, was_refused);
+        wasmloop_about about;
+        is("about", wasmloop_job_about(&it->handle, &about), WASMLOOP_OK);
+        is("the units of its slices", about.used >= it->used && about.used - it->used <= units, 1);
+        return;
+    }
+}
+
+static void run(slot *it) {
+    int wanted = of_kind(it, JOB);
+    if (wanted == WASMLOOP_OK && it->has_run) wanted = WASMLOOP_KIND;
+    int status = CALL(wasmloop_job_run(&it->handle)), was_refused = refused;
+    if (told("job_run", status, wanted)) ran(it, was_refused);
 }
 
 static void reads(slot *it) {
@@ -372,7 +442,7 @@ static void make_instance(slot *from, slot *into) {
     if (!is_made && status != WASMLOOP_NOT_STARTED) { untouched("ended", &told_of, sizeof told_of); return; }
     ended_right(&told_of, limits.fuel);
     is("started", told_of.ending == WASMLOOP_RETURN, is_made);
-    if (is_made) fill(into, INSTANCE);
+    if (is_made) fill(into, INSTANCE), into->file = from->file;
 }
 
 static void call(slot *it) {
@@ -402,6 +472,16 @@ static void memory(slot *it) {
     done_with("read", into, 64, wanted == WASMLOOP_OK ? length : 0);
 }
 
+static void global(slot *it) {
+    wasmloop_number value;
+    memset(&value, GUARD, sizeof value);
+    int status = CALL(wasmloop_global(&it->handle, names[below(NAMES)], &value));
+    if (it->kind == INSTANCE) told_one("global", status, WASMLOOP_OK, WASMLOOP_NONE);
+    else told("global", status, of_kind(it, INSTANCE));
+    if (status != WASMLOOP_OK) { untouched("global", &value, sizeof value); return; }
+    is("a global's value", (value.value_type == 1 && value.number <= UINT32_MAX) || value.value_type == 2, 1);
+}
+
 /* Sequences. */
 
 static void drop(slot *it) {
@@ -419,6 +499,10 @@ static void owns(slot *a, slot *b) { (void)b, clock_and_hint(a), sends(a), cance
 static void looks(slot *a, slot *b) { (void)b, emits(a, GUARD), standing(a, NULL), stop(a, -1); }
 static void runs(slot *a, slot *b) { (void)b, run(a); }
 static void reads_job(slot *a, slot *b) { (void)b, reads(a); }
+static void slices(slot *a, slot *b) { (void)b, run_for(a); }
+static void tells(slot *a, slot *b) { (void)b, stop_told(a), warnings(a); }
+static void asks(slot *a, slot *b) { (void)b, requests(a); }
+static void globals(slot *a, slot *b) { (void)b, global(a); }
 static void call_of(slot *a, slot *b) { (void)b, call(a); }
 static void memories(slot *a, slot *b) { (void)b, memory(a); }
 
@@ -432,7 +516,10 @@ static const struct { void (*call)(slot *, slot *); int first, second; } all[] =
     { next_job, LOOP, NOTHING }, { make_job, MODULE, NOTHING }, { start, LOOP, JOB }, { start, LOOP, JOB },
     { runs, JOB, NOTHING }, { runs, JOB, NOTHING }, { reads_job, JOB, NOTHING }, { accept, LOOP, JOB },
     { accept, LOOP, JOB }, { make_instance, MODULE, NOTHING }, { call_of, INSTANCE, NOTHING }, { call_of, INSTANCE, NOTHING },
-    { memories, INSTANCE, NOTHING },
+    { memories, INSTANCE, NOTHING }, { globals, INSTANCE, NOTHING }, { asks, LOOP, NOTHING }, { asks, LOOP, NOTHING },
+    { slices, JOB, NOTHING }, { slices, JOB, NOTHING }, { slices, PAUSED, NOTHING }, { slices, PAUSED, NOTHING },
+    { drops, PAUSED, NOTHING }, { runs, PAUSED, NOTHING }, { reads_job, PAUSED, NOTHING }, { accept, LOOP, PAUSED },
+    { tells, LOOP, NOTHING }, { tells, INSTANCE, NOTHING }, { tells, JOB, NOTHING }, { tells, MODULE, NOTHING },
 };
 
 /* A handle's words change only where the model's kind does. */

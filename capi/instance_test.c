@@ -283,10 +283,46 @@ static void starts(void) {
     IS(wasmloop_drop(&module), WASMLOOP_OK);
 }
 
+static void reads_global(wasmloop_handle *it, const char *name, uint32_t type, uint64_t wanted) {
+    wasmloop_number value;
+    memset(&value, 0xab, sizeof value);
+    IS(wasmloop_global(it, name, &value), WASMLOOP_OK);
+    IS(value.value_type, type);
+    IS(value.zero, 0);
+    IS(value.number, wanted);
+}
+
+static void globals(void) {
+    wasmloop_handle module = module_of("start.wasm"), it = WASMLOOP_HANDLE_INIT, two = WASMLOOP_HANDLE_INIT, none = WASMLOOP_HANDLE_INIT;
+    wasmloop_number value;
+    IS(wasmloop_instance(&module, &limits, &it, &ended), WASMLOOP_OK);
+    IS(wasmloop_instance(&module, &limits, &two, &ended), WASMLOOP_OK);
+    reads_global(&it, "count", 1, 7);
+    reads_global(&it, "wide", 2, (uint64_t)-2);
+    IS(call(&it, "bump", 1, 0xffffffffu, 0), WASMLOOP_OK);
+    reads_global(&it, "count", 1, 6);
+    reads_global(&two, "count", 1, 7);
+    memset(&value, 0xab, sizeof value);
+    IS(wasmloop_global(&it, "absent", &value), WASMLOOP_NONE);
+    IS(wasmloop_global(&it, "bump", &value), WASMLOOP_NONE);
+    IS(wasmloop_global(&it, "memory", &value), WASMLOOP_NONE);
+    IS(wasmloop_global(&it, "", &value), WASMLOOP_NONE);
+    IS(wasmloop_global(NULL, "count", &value), WASMLOOP_NULL);
+    IS(wasmloop_global(&it, NULL, &value), WASMLOOP_NULL);
+    IS(wasmloop_global(&it, "count", NULL), WASMLOOP_NULL);
+    IS(wasmloop_global(&none, "count", &value), WASMLOOP_EMPTY);
+    IS(wasmloop_global(&module, "count", &value), WASMLOOP_KIND);
+    IS(value.value_type, 0xabababab);
+    IS(wasmloop_drop(&it), WASMLOOP_OK);
+    IS(wasmloop_drop(&two), WASMLOOP_OK);
+    IS(wasmloop_drop(&module), WASMLOOP_OK);
+}
+
 int main(int argc, char **argv) {
     folder = argc > 1 ? argv[1] : ".";
     stateful();
     starts();
+    globals();
     IS(strcmp(wasmloop_status_name(WASMLOOP_NOT_STARTED), "NOT_STARTED"), 0);
     IS(strcmp(wasmloop_status_name(WASMLOOP_ARGUMENTS), "ARGUMENTS"), 0);
     IS(wasmloop_status_name(13) == NULL, 1);

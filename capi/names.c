@@ -1,4 +1,4 @@
-/* The numbers of statuses, endings, traps and faults as text, and what a module probably lacks. */
+/* The numbers of statuses, endings, traps and faults as text. */
 #include "wasmloop.h"
 
 #define NAME_OF(names, number) ((number) < sizeof(names) / sizeof *(names) ? (names)[number] : NULL)
@@ -32,15 +32,4 @@ const char *wasmloop_fault_name(uint32_t stage, uint32_t code) {
     static const char *const validate[] = { NULL, "Type", "Index", "Label", "Align", "Mutability", "Result", "Export", "Start", "Constant", "Height", "Nesting" };
     static const char *const link[] = { NULL, "Module", "Name", "Type", "Kind", "Segments" };
     return stage == 1 ? NAME_OF(decode, code) : stage == 2 ? NAME_OF(validate, code) : stage == 3 ? NAME_OF(link, code) : NULL;
-}
-
-const char *wasmloop_warning(const wasmloop_shape *shape, uint32_t number) {
-    const char *told[2] = { NULL, NULL };
-    unsigned count = 0;
-    if (!shape) return NULL;
-    if (shape->main && shape->imports && !shape->table)
-        told[count++] = "it exports uv_main and has no table: a callback that it gives is refused with -22 (link it with --export-table)";
-    if (!shape->main && !shape->work && !shape->after_work)
-        told[count++] = "it exports none of uv_main, uv_work and uv_after_work: a loop of it does nothing but its start function";
-    return NAME_OF(told, number);
 }

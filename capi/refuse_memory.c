@@ -37,6 +37,17 @@ static int other_calls(wasmloop_handle *module, int *again) {
     return got || wasmloop_drop(&other) ? 15 : 0;
 }
 
+/* a request of the loop's owner */
+static int asks(wasmloop_handle *loop, int *again) {
+    int32_t answer = 0;
+    int got;
+    while ((got = wasmloop_request(loop, 1, bytes, 100, &answer)) == WASMLOOP_OK && answer == -12) {
+        if ((*again)++ > 2) return 16;
+        told[7]++;
+    }
+    return got || (answer != 1 && answer != -38) ? 17 : 0;
+}
+
 /* all that a host does with a guest; what is answered MEMORY is counted and done again */
 static int life(void) {
     wasmloop_handle module = WASMLOOP_HANDLE_INIT, loop = WASMLOOP_HANDLE_INIT, job = WASMLOOP_HANDLE_INIT;
@@ -56,6 +67,7 @@ static int life(void) {
     }
     if ((got = other_calls(&module, &again))) return got;
     if (wasmloop_drop(&module)) return 3;
+    if ((got = asks(&loop, &again))) return got;
     for (int i = 0; i < 400; i++) {
         if (wasmloop_step(&loop, &did)) return 4;
         if (did.what == WASMLOOP_OVER || did.what == WASMLOOP_FAILED) break;
@@ -88,7 +100,8 @@ int main(int argc, char **argv) {
             if (left >= 0) break; /* fewer allocations than that */
         }
         left = -1;
-        printf("%s: each of %ld allocations refused in turn; answered: load %ld, loop %ld, next_job %ld, job_run %ld, share %ld, work %ld, explain %ld\n", argv[k], n, told[0], told[1], told[2], told[3], told[4], told[5], told[6]);
+        printf("%s: each of %ld allocations refused in turn; answered: load %ld, loop %ld, next_job %ld, job_run %ld, share %ld, work %ld, explain %ld, request %ld\n", argv[k], n,
+            told[0], told[1], told[2], told[3], told[4], told[5], told[6], told[7]);
         for (int i = 0; i < 10; i++) told[i] = 0;
     }
     return 0;

@@ -52,6 +52,19 @@ static void stops(void) {
     uint64_t count;
     wasmloop_stop(&job, sites, 130, &count);
 }
+static void asks(void) {
+    int32_t answer;
+    wasmloop_request(&loop, 0, (const uint8_t *)text, 65536, &answer);
+}
+static void stops_told(void) {
+    uint64_t count;
+    wasmloop_stop_told(bytes, length, &job, text, sizeof text, &count);
+    wasmloop_stop_told(bytes, length, &loop, text, sizeof text, &count);
+}
+static void warns(void) {
+    uint64_t count;
+    for (uint32_t number = 0; number < 3; number++) wasmloop_warning(&module, number, text, sizeof text, &count);
+}
 static void makes_instance(void) {
     wasmloop_call_limits limits = { 100000, 128, 0 };
     wasmloop_ended ended;
@@ -73,8 +86,8 @@ static void drops(void) {
 
 static const struct { const char *name; void (*call)(void); size_t most; } all[] = {
     { "load", loads, MOST }, { "explain", explains, MOST }, { "loop", makes_loop, MOST_LOOP },
-    { "loop of nothing", makes_none, MOST_LOOP }, { "turn", turns, MOST }, { "next_job", hands_out, MOST }, { "job_run", runs, MOST },
-    { "accept", accepts, MOST }, { "job_new", makes_job, MOST }, { "job_run", runs, MOST }, { "stop", stops, MOST },
+    { "loop of nothing", makes_none, MOST_LOOP }, { "request", asks, MOST }, { "warning", warns, MOST }, { "turn", turns, MOST }, { "next_job", hands_out, MOST }, { "job_run", runs, MOST },
+    { "accept", accepts, MOST }, { "job_new", makes_job, MOST }, { "job_run", runs, MOST }, { "stop", stops, MOST }, { "stop_told", stops_told, MOST },
     { "instance", makes_instance, MOST }, { "call", calls, MOST }, { "drop", drops, MOST },
 };
 enum { CALLS = sizeof all / sizeof *all };

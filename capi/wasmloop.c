@@ -15,6 +15,7 @@ uint32_t wasmloop_rt_clock(wasmloop_handle *, uint64_t, uint64_t *);
 uint32_t wasmloop_rt_hint(wasmloop_handle *, uint64_t *);
 uint32_t wasmloop_rt_async_send(wasmloop_handle *, uint32_t);
 uint32_t wasmloop_rt_cancel(wasmloop_handle *, uint32_t, int32_t *);
+uint32_t wasmloop_rt_request(wasmloop_handle *, uint32_t, const uint8_t *, size_t, int32_t *);
 uint32_t wasmloop_rt_standing(wasmloop_handle *, wasmloop_standing *);
 uint32_t wasmloop_rt_next_job(wasmloop_handle *, wasmloop_handle *);
 uint32_t wasmloop_rt_job_run(wasmloop_handle *);
@@ -26,6 +27,8 @@ uint32_t wasmloop_rt_share(wasmloop_handle *, wasmloop_handle *);
 uint32_t wasmloop_rt_shape(wasmloop_handle *, wasmloop_shape *);
 uint32_t wasmloop_rt_explain(const uint8_t *, size_t, char *, size_t, uint64_t *);
 uint32_t wasmloop_rt_stop(wasmloop_handle *, wasmloop_site *, size_t, uint64_t *);
+uint32_t wasmloop_rt_stop_told(const uint8_t *, size_t, wasmloop_handle *, char *, size_t, uint64_t *);
+uint32_t wasmloop_rt_warning(wasmloop_handle *, uint32_t, char *, size_t, uint64_t *);
 uint32_t wasmloop_rt_job_new(wasmloop_handle *, const wasmloop_task *, const uint8_t *, size_t, wasmloop_handle *);
 uint32_t wasmloop_rt_job_start(wasmloop_handle *, wasmloop_handle *);
 uint32_t wasmloop_rt_job_input(wasmloop_handle *, uint8_t *, size_t, uint64_t *);
@@ -36,6 +39,7 @@ uint32_t wasmloop_rt_call(wasmloop_handle *, const uint8_t *, size_t, const uint
 uint32_t wasmloop_rt_read(wasmloop_handle *, uint32_t, uint8_t *, size_t);
 uint32_t wasmloop_rt_write(wasmloop_handle *, uint32_t, const uint8_t *, size_t);
 uint32_t wasmloop_rt_size(wasmloop_handle *, uint64_t *);
+uint32_t wasmloop_rt_global(wasmloop_handle *, const uint8_t *, size_t, wasmloop_number *);
 
 uint32_t wasmloop_rt_job_view(wasmloop_handle *, const uint8_t **, uint64_t *);
 
@@ -121,6 +125,12 @@ int wasmloop_cancel(wasmloop_handle *loop, uint32_t request, int32_t *answer) {
     return loop && answer ? (int)wasmloop_rt_cancel(loop, request, answer) : WASMLOOP_NULL;
 }
 
+int wasmloop_request(wasmloop_handle *loop, uint32_t op, const uint8_t *bytes, size_t length, int32_t *answer) {
+    if (!loop || !answer || (!bytes && length)) return WASMLOOP_NULL;
+    if (length > PTRDIFF_MAX) return WASMLOOP_RANGE;
+    return (int)wasmloop_rt_request(loop, op, length ? bytes : (const uint8_t *)&nothing, length, answer);
+}
+
 int wasmloop_standing_of(wasmloop_handle *loop, wasmloop_standing *standing) {
     return loop && standing ? (int)wasmloop_rt_standing(loop, standing) : WASMLOOP_NULL;
 }
@@ -168,6 +178,19 @@ int wasmloop_stop(wasmloop_handle *handle, wasmloop_site *into, size_t room, uin
     if (!handle || !count || (!into && room)) return WASMLOOP_NULL;
     if (room > PTRDIFF_MAX / sizeof *into) return WASMLOOP_RANGE;
     return (int)wasmloop_rt_stop(handle, room ? into : (wasmloop_site *)&nothing, room, count);
+}
+
+int wasmloop_stop_told(const uint8_t *bytes, size_t length, wasmloop_handle *handle, char *into, size_t room, uint64_t *count) {
+    if (!handle || !count || (!bytes && length) || (!into && room)) return WASMLOOP_NULL;
+    if (length > PTRDIFF_MAX || room > PTRDIFF_MAX) return WASMLOOP_RANGE;
+    return (int)wasmloop_rt_stop_told(length ? bytes : (const uint8_t *)&nothing, length, handle, room ? into : (char *)&nothing, room, count);
+}
+
+int wasmloop_warning(const wasmloop_handle *module, uint32_t number, char *into, size_t room, uint64_t *count) {
+    if (!module || !count || (!into && room)) return WASMLOOP_NULL;
+    if (room > PTRDIFF_MAX) return WASMLOOP_RANGE;
+    wasmloop_handle shared = *module;
+    return (int)wasmloop_rt_warning(&shared, number, room ? into : (char *)&nothing, room, count);
 }
 
 int wasmloop_job_new(const wasmloop_handle *module, const wasmloop_task *task, const uint8_t *bytes, size_t length, wasmloop_handle *job) {
@@ -238,4 +261,8 @@ int wasmloop_write(wasmloop_handle *instance, uint32_t at, const uint8_t *from, 
     if (!instance || (!from && length)) return WASMLOOP_NULL;
     if (length > PTRDIFF_MAX) return WASMLOOP_RANGE;
     return (int)wasmloop_rt_write(instance, at, length ? from : (const uint8_t *)&nothing, length);
+}
+
+int wasmloop_global(wasmloop_handle *instance, const char *name, wasmloop_number *value) {
+    return instance && name && value ? (int)wasmloop_rt_global(instance, (const uint8_t *)name, length_of(name), value) : WASMLOOP_NULL;
 }

@@ -189,6 +189,13 @@ typedef struct wasmloop_ended {
     uint64_t result[WASMLOOP_RESULTS]; /* the results, an i32 in the lower half; behind them 0 */
 } wasmloop_ended;
 
+/* A number, with its type. */
+typedef struct wasmloop_number {
+    uint32_t value_type; /* 1 for an i32, 2 for an i64 */
+    uint32_t zero;
+    uint64_t number;     /* an i32 in the lower half */
+} wasmloop_number;
+
 /* The version of the library, as "0.1.0". The text is never freed. */
 const char *wasmloop_version(void);
 
@@ -221,11 +228,13 @@ int wasmloop_share(const wasmloop_handle *module, wasmloop_handle *other);
 
 int wasmloop_shape_of(const wasmloop_handle *module, wasmloop_shape *shape);
 
-/* What of a shape is probably not meant, as a sentence: number 0 is the first, and NULL is where there are no more (or `shape` is NULL).
- * The text is never freed. Such a module loads and runs all the same. There is a sentence for
- *     main and imports, and no table      a callback that it gives is refused with -22; a guest that gives none needs no table
- *     none of main, work and after_work   a loop of it does nothing but its start function; an instance may be called all the same */
-const char *wasmloop_warning(const wasmloop_shape *shape, uint32_t number);
+/* Writes a sentence on what a module lacks to run on a loop, in the words that `wasmloop check` prints, to `into`, as far as `room` goes,
+ * without a NUL, and how many bytes it has to *count. Number 0 is the first. NONE: there are no more. Such a module loads and runs all
+ * the same. RANGE: `room` is above PTRDIFF_MAX. There is a sentence where it
+ *     imports what takes a callback, and has no table     no callback can be called
+ *     exports none of uv_main, uv_work, uv_after_work     a loop of it does nothing; an instance may be called all the same
+ *     imports queue_work, and lacks one of the last two   each request is answered -38 */
+int wasmloop_warning(const wasmloop_handle *module, uint32_t number, char *into, size_t room, uint64_t *count);
 
 /* Runs one operation of a module's uv_work with no loop, in this thread, and leaves the job, which was run, in an empty handle:
  * wasmloop_job_about and wasmloop_job_reply read it, wasmloop_drop ends it. It is wasmloop_job_new and then wasmloop_job_run, which
@@ -256,6 +265,9 @@ int wasmloop_size(wasmloop_handle *instance, uint64_t *bytes);
  * `into` and `from` may be NULL where `length` is 0. */
 int wasmloop_read(wasmloop_handle *instance, uint32_t at, uint8_t *into, size_t length);
 int wasmloop_write(wasmloop_handle *instance, uint32_t at, const uint8_t *from, size_t length);
+
+/* Writes the value of the global that is exported as `name` to *value. NONE: no global is exported so. */
+int wasmloop_global(wasmloop_handle *instance, const char *name, wasmloop_number *value);
 
 /* Makes a loop of a module, in an empty handle. RANGE: the depth is not 1 to 128. The module stays as it is, and may be dropped. */
 int wasmloop_loop(const wasmloop_handle *module, const wasmloop_limits *limits, wasmloop_handle *loop);
@@ -301,6 +313,21 @@ int wasmloop_cancel(wasmloop_handle *loop, uint32_t request, int32_t *answer);
  * written. NONE: the callback, the job or the call returned, or none was run; or there was no memory for the job. RANGE: `room` is above
  * PTRDIFF_MAX / 16. */
 int wasmloop_stop(wasmloop_handle *handle, wasmloop_site *into, size_t room, uint64_t *count);
+
+/* Makes a request of `op` and `length` bytes for the loop's owner, which goes the way of the guest's own: wasmloop_next_job hands it out,
+ * uv_work computes it, and uv_after_work is given its number, once at most. So a guest whose uv_work sets its input as its reply
+ * has the bytes in its loop. *answer is what queue_work answers: the request's number, above 0; or -38 where uv_work or uv_after_work
+ * is not exported, -22 above 65,536 bytes, -11 where 32 requests are outstanding, -28 where all numbers are used, -12 where memory was
+ * refused; and -1 where the loop is over or has failed. Where it is below 0 nothing has changed. The bytes are copied; `bytes` may be
+ * NULL where `length` is 0. RANGE: `length` is above PTRDIFF_MAX. */
+int wasmloop_request(wasmloop_handle *loop, uint32_t op, const uint8_t *bytes, size_t length, int32_t *answer);
+
+/* Writes where a loop's last callback stopped, or a job, or the last call of an instance, in the words of the program ("in function 5
+ * (divide), operation 7 (i32.div_s) at byte 231; called by function 2 (main) at byte 180"), to `into`, as far as `room` goes, without a
+ * NUL, and how many bytes they have to *count. Why it stopped is told by did, about or ended. `bytes` are those that the module was loaded of.
+ * Functions are counted with the imports. REFUSED: it stopped, and the bytes are another module's. NONE: as of wasmloop_stop. RANGE:
+ * `length` or `room` is above PTRDIFF_MAX. */
+int wasmloop_stop_told(const uint8_t *bytes, size_t length, wasmloop_handle *handle, char *into, size_t room, uint64_t *count);
 
 int wasmloop_standing_of(wasmloop_handle *loop, wasmloop_standing *standing);
 

@@ -1,7 +1,8 @@
 (module
   (type $emit (func (param i64) (result i32)))
   (import "uv" "emit" (func $emit (type $emit)))
-  (global $g (mut i32) (i32.const 5))
+  (global $g (export "count") (mut i32) (i32.const 5))
+  (global (export "wide") i64 (i64.const -2))
   (memory (export "memory") 1)
   (func $start (global.set $g (i32.add (global.get $g) (i32.const 2))))
   (start $start)

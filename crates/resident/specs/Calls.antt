@@ -1,11 +1,11 @@
 -- What comes of a call of a function on an instance that is kept.
-use Rattle.std.specs.Prelude.{◌≡◌, ◌≢◌, ℕ, ◌≤◌, List, [], ◌∷◌, Option, Some, None}
+use Rattle.std.specs.Prelude.{◌≡◌, ◌≢◌, ℕ, ◌≤◌, List, [], ◌∷◌, slice_get, Option, Some, None}
 use Rattle.syntax.specs.Loaded.{Loaded}
 use Rattle.syntax.specs.Exporting.{IsFirst}
 use Rattle.syntax.specs.declared.contents.Contents.{Contents}
 use Rattle.syntax.specs.declared.contents.FuncType.{FuncType}
 use Rattle.validate.specs.Typing.{HasFunctionType}
-use Rattle.syntax.specs.declared.contents.ExternKind.TheVariants.{Func}
+use Rattle.syntax.specs.declared.contents.ExternKind.TheVariants.{Func, Global}
 use Rattle.syntax.specs.declared.export.Export.{Export}
 use Rattle.syntax.specs.declared.types.Value.{Value}
 use Rattle.instance.specs.Store.{Store}
@@ -76,3 +76,14 @@ abbrev pub ExportsNoFunction : Contents → (name : List ℕ) → Type 0
 ExportsNoFunction m name =
     (found : Option Export) × IsFirst m.exports name found
     × ((function : ℕ) (type : FuncType) → HasFunctionType m function type → found ≢ Some (record { kind = Func; index = function }))
+
+-- the first export of this name is a global with this value
+abbrev pub ExportsGlobal : Contents → (name : List ℕ) → (globals : List Value) → (value : Value) → Type 0
+ExportsGlobal m name globals value =
+    (index : ℕ) × IsFirst m.exports name (Some (record { kind = Global; index = index })) × (slice_get globals index ≡ Some value)
+
+-- it is no global that has a value, or there is none
+abbrev pub ExportsNoGlobal : Contents → (name : List ℕ) → (globals : List Value) → Type 0
+ExportsNoGlobal m name globals =
+    (found : Option Export) × IsFirst m.exports name found
+    × ((index : ℕ) (value : Value) → slice_get globals index ≡ Some value → found ≢ Some (record { kind = Global; index = index }))

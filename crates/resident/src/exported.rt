@@ -11,7 +11,7 @@ use syntax::module::Module;
 use validate::{Valid, type_of_function};
 
 /// The first export with this name.
-fn export(module: &Module, name: &[u8]) -> Option<Export>
+pub(crate) fn export(module: &Module, name: &[u8]) -> Option<Export>
     ensures { IsFirst «module».now.contents.exports name.now result }
 {
     let export = module.contents().exports.get(module.export_place(name)?)?;

@@ -9,9 +9,9 @@ ghost use Rattle.instance.specs.Reads.{WritesAt};
 ghost use Rattle.instance.specs.Fresh.{IsFresh};
 ghost use Rattle.instance.specs.Storing.{IsStoreOf};
 ghost use Rattle.reduction.specs.Invoking.{TakesArguments};
-ghost use Rattle.resident.specs.Calls.{Calls, IsNew, Starts, ExportsFirst, ExportsNoFunction};
+ghost use Rattle.resident.specs.Calls.{Calls, IsNew, Starts, ExportsFirst, ExportsNoFunction, ExportsGlobal, ExportsNoGlobal};
 
-use crate::exported::exported_function;
+use crate::exported::{export, exported_function};
 use crate::no_host::NoHost;
 use events::ended::{Ended, Ending};
 use events::values::Values;
@@ -23,7 +23,7 @@ use interp::invoke::invoke_on;
 use std::alloc::{AllocError, Global};
 use std::marker::Model;
 use std::sync::Arc;
-use syntax::contents::FuncType;
+use syntax::contents::{ExternKind, FuncType};
 use syntax::types::Value;
 
 /// An instance of a module that is kept from call to call, with its module. Every import answers -1.
@@ -126,6 +126,24 @@ impl Resident {
                 used: 0,
             },
         }
+    }
+
+    /// The value of the global that is exported under a name, where there is one.
+    pub fn global(&self, name: &[u8]) -> Option<Value>
+        ensures { MatchOption result (ExportsNoGlobal self.now.loaded.contents name.now self.now.store.globals) (ExportsGlobal self.now.loaded.contents name.now self.now.store.globals) }
+    {
+        let export = export(self.linked.valid().module(), name)?;
+        match export.kind {
+            ExternKind::Global => self.state.global(export.index),
+            _ => None,
+        }
+    }
+
+    /// The bytes of its module.
+    pub fn module_bytes(&self) -> &[u8]
+        ensures { result.now ≡ self.now.loaded.bytes }
+    {
+        self.linked.valid().module().bytes()
     }
 
     /// How many bytes the memory has.

@@ -21,5 +21,5 @@ pub use listing::Listing;
 pub use mismatch::Mismatch;
 pub use missing::{Counts, Missing};
 pub use ran::{Ran, What};
-pub use stopping::{Reason, Stopped, ending_of, tell_stopped, unit_of};
-pub use warning::warn;
+pub use stopping::{Reason, Stopped, ending_of, tell_place, tell_stopped, unit_of};
+pub use warning::{Warning, warn, warnings};

@@ -126,8 +126,13 @@ fn write_function<E: Write>(bytes: &[u8], function: u64, err: &mut E) -> io::Res
     }
 }
 
-/// Writes the operation at which a run stopped.
-fn write_innermost<E: Write>(bytes: &[u8], site: Site, err: &mut E) -> io::Result<()> {
+/// Writes the operation at which a run stopped, behind these words.
+fn write_innermost<E: Write>(
+    bytes: &[u8],
+    site: Site,
+    before: &str,
+    err: &mut E,
+) -> io::Result<()> {
     let Some(
         Place::Operation {
             function,
@@ -139,7 +144,7 @@ fn write_innermost<E: Write>(bytes: &[u8], site: Site, err: &mut E) -> io::Resul
     else {
         return Ok(());
     };
-    err.write_all(b", in ")?;
+    err.write_all(before.as_bytes())?;
     write_function(bytes, function, err)?;
     write!(err, ", operation {number} ({name}) at byte {at}")
 }
@@ -175,6 +180,19 @@ fn write_callers<E: Write>(bytes: &[u8], trail: &Trail, err: &mut E) -> io::Resu
     }
 }
 
+/// Tells where a run of a module of these bytes stopped, behind these words: the operation, and the calls around it.
+pub fn tell_place<E: Write>(
+    bytes: &[u8],
+    trail: &Trail,
+    before: &str,
+    err: &mut E,
+) -> io::Result<()> {
+    if let Some(site) = trail.get(0) {
+        write_innermost(bytes, site, before, err)?;
+    }
+    write_callers(bytes, trail, err)
+}
+
 /// Tells in a line how a run of a module of these bytes ended that did not return, and where.
 pub fn tell_stopped<W: fmt::Display, E: Write>(
     what: &W,
@@ -186,9 +204,6 @@ pub fn tell_stopped<W: fmt::Display, E: Write>(
     write!(err, "{what} ")?;
     write_reason(stopped.reason, err)?;
     write!(err, ", after {used} {}", unit_of(used))?;
-    if let Some(site) = stopped.trail.get(0) {
-        write_innermost(bytes, site, err)?;
-    }
-    write_callers(bytes, stopped.trail, err)?;
+    tell_place(bytes, stopped.trail, ", in ", err)?;
     err.write_all(b"\n")
 }

@@ -1,7 +1,22 @@
 // What an accepted module lacks to run on a loop.
 
 use imports::{Call, EntryPoint, Linked};
-use std::io::{self, Write};
+use std::fmt;
+use std::io::Write;
+
+/// What an accepted module lacks to run on a loop. It prints as a sentence.
+#[derive(Clone, Copy, Debug)]
+pub enum Warning {
+    /// It imports this call, which takes a callback, and has no table.
+    Table(Call),
+    /// A loop calls nothing of it.
+    Exports,
+    /// It asks for work, and lacks these exports.
+    Work(&'static str),
+}
+
+/// How many warnings there may be of a module.
+const KINDS: usize = 3;
 
 /// Whether the guest gives a callback with this call, as an index of its table.
 fn takes_callback(call: Call) -> bool {
@@ -30,30 +45,19 @@ fn is_idle(linked: &Linked) -> bool {
         && linked.entry(EntryPoint::AfterWork).is_none()
 }
 
-fn warn_of_table<E: Write>(linked: &Linked, err: &mut E) -> io::Result<()> {
+fn of_table(linked: &Linked) -> Option<Warning> {
     if linked.valid().contents().table.is_some() {
-        return Ok(());
+        return None;
     }
-    match callback_import(linked) {
-        Some(call) => {
-            let name = call.name();
-            writeln!(
-                err,
-                "warning: the module imports {name} but has no table, so that no callback can be called; link it with --export-table"
-            )
-        }
-        None => Ok(()),
-    }
+    Some(Warning::Table(callback_import(linked)?))
 }
 
-fn warn_of_exports<E: Write>(linked: &Linked, err: &mut E) -> io::Result<()> {
-    if !is_idle(linked) {
-        return Ok(());
+fn of_exports(linked: &Linked) -> Option<Warning> {
+    if is_idle(linked) {
+        Some(Warning::Exports)
+    } else {
+        None
     }
-    writeln!(
-        err,
-        "warning: the module exports none of uv_main, uv_work and uv_after_work, so that a loop of it does nothing"
-    )
 }
 
 /// Whether the module imports this call.
@@ -62,28 +66,52 @@ fn imports(linked: &Linked, wanted: Call) -> bool {
     imports.iter().any(|import| Call::from_name(import.name.as_slice()) == Some(wanted))
 }
 
-fn warn_of_work<E: Write>(linked: &Linked, err: &mut E) -> io::Result<()> {
+fn of_work(linked: &Linked) -> Option<Warning> {
     let lacks = match (
         linked.entry(EntryPoint::Work),
         linked.entry(EntryPoint::AfterWork),
     ) {
-        (Some(_), Some(_)) => return Ok(()),
+        (Some(_), Some(_)) => return None,
         (None, Some(_)) => "no uv_work",
         (Some(_), None) => "no uv_after_work",
         (None, None) => "neither uv_work nor uv_after_work",
     };
-    if !imports(linked, Call::QueueWork) {
-        return Ok(());
+    if imports(linked, Call::QueueWork) {
+        Some(Warning::Work(lacks))
+    } else {
+        None
     }
-    writeln!(
-        err,
-        "warning: the module imports queue_work and exports {lacks}, so that each request is answered -38"
-    )
+}
+
+/// What an accepted module lacks to run on a loop.
+pub fn warnings(linked: &Linked) -> [Option<Warning>; KINDS] {
+    [of_table(linked), of_exports(linked), of_work(linked)]
+}
+
+impl fmt::Display for Warning {
+    fn fmt<W: fmt::Write>(&self, f: &mut fmt::Formatter<W>) -> fmt::Result {
+        match self {
+            Warning::Table(call) => {
+                let name = call.name();
+                write!(
+                    f,
+                    "the module imports {name} but has no table, so that no callback can be called; link it with --export-table"
+                )
+            }
+            Warning::Exports => f.write_str(
+                "the module exports none of uv_main, uv_work and uv_after_work, so that a loop of it does nothing",
+            ),
+            Warning::Work(lacks) => write!(
+                f,
+                "the module imports queue_work and exports {lacks}, so that each request is answered -38"
+            ),
+        }
+    }
 }
 
 /// Says what an accepted module lacks to run on a loop. A sentence that can't be written changes nothing.
 pub fn warn<E: Write>(linked: &Linked, err: &mut E) {
-    let _ = warn_of_table(linked, err);
-    let _ = warn_of_exports(linked, err);
-    let _ = warn_of_work(linked, err);
+    for warning in warnings(linked).iter().flatten() {
+        let _ = writeln!(err, "warning: {warning}");
+    }
 }

@@ -23,7 +23,7 @@ use Rattle.desk.specs.Desk.{Desk, desk_calls, desk_others}
 use Rattle.phases.specs.State.{Core, opening}
 use Rattle.phases.specs.Roster.{opening_roster}
 use Rattle.phases.specs.Step.{LoopStep, in_state}
-use Rattle.phases.specs.Outside.{after_clock, is_failed, next_order_of, CancelsLoop, StartsBeside, SendsBeside}
+use Rattle.phases.specs.Outside.{after_clock, is_failed, next_order_of, CancelsLoop, RequestsLoop, StartsBeside, SendsBeside}
 use Rattle.phases.specs.PhaseList.{begin_list, is_alive}
 use Rattle.events.specs.declared.did.StepDid.{StepDid}
 use Rattle.loader.specs.Loading.{IsAccepted, IsRefused}
@@ -98,6 +98,9 @@ Sends c d async_no status = (sent : Bool) × SendsBeside desk_others c.loop asyn
 
 abbrev pub Cancels : Core Desk → Core Desk → (request : ℕ) → ℤ → Type 0
 Cancels c d request answer = CancelsLoop desk_calls c.loop request (cast_unsigned w32 answer) d.loop
+
+abbrev pub Requests : Core Desk → Core Desk → (op : ℕ) → (bytes : List ℕ) → ℤ → Type 0
+Requests c d op bytes answer = RequestsLoop desk_calls c.setting c.loop op bytes (cast_unsigned w32 answer) d.loop
 
 -- the module that a thing is
 abbrev pub module_of : Thing → Option Loaded

@@ -7,11 +7,12 @@ use Rattle.validate.specs.Typing.{HasFunctionType}
 use Rattle.instance.specs.Store.{bytes_at, memory_of, with_memory_instance}
 use Rattle.instance.specs.Reads.{WritesAt}
 use Rattle.events.specs.declared.ended.Ended.{Ended}
-use Rattle.resident.specs.Calls.{Kept, Calls, IsNew, Starts, HasReturned, ExportsFirst, ExportsNoFunction}
+use Rattle.resident.specs.Calls.{Kept, Calls, IsNew, Starts, HasReturned, ExportsFirst, ExportsNoFunction, ExportsGlobal, ExportsNoGlobal}
 use Rattle.wasmloop_c.specs.Calls.{OnHandle}
-use Rattle.wasmloop_c.specs.Values.{values_of, call_numbers}
+use Rattle.wasmloop_c.specs.Values.{values_of, call_numbers, value_numbers}
 use Rattle.wasmloop_c.specs.declared.ended.CallEnded.{CallEnded}
 use Rattle.wasmloop_c.specs.declared.instances.CallLimits.{CallLimits}
+use Rattle.wasmloop_c.specs.declared.number.Number.{Number}
 use Rattle.wasmloop_c.specs.declared.status.TheConstants.{OK, NONE, KIND, MEMORY, RANGE, ARGUMENTS}
 use Rattle.wasmloop_c.specs.declared.thing.Thing.{Thing}
 use Rattle.wasmloop_c.specs.declared.thing.Thing.TheVariants as thing
@@ -86,3 +87,12 @@ pub record WritesMemory (a : Kept) (at : ℕ) (bytes : List ℕ) (status : ℕ) 
   pub rest : b.store ≡ with_memory_instance (memory_of b.store) a.store
   pub same : b.loaded ≡ a.loaded
   pub stop : b.stop ≡ a.stop
+
+-- the value of the global of this name, or there is none
+abbrev pub TellsGlobal : Kept → (name : List ℕ) → (old told : Number) → (status : ℕ) → Type 0
+TellsGlobal a name old told status =
+    ((status ≡ OK) × ((value : Value) × ExportsGlobal a.loaded.contents name a.store.globals value × (told ≡ value_numbers value)))
+    ⊎ ((status ≡ NONE) × ExportsNoGlobal a.loaded.contents name a.store.globals × (told ≡ old))
+
+abbrev pub ReadsGlobal : Thing → (name : List ℕ) → (old told : Number) → (status : ℕ) → Type 0
+ReadsGlobal t name old told status = MatchOption (resident_of t) ((status ≡ KIND) × (told ≡ old)) (λ a. TellsGlobal a name old told status)

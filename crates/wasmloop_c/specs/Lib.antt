@@ -6,3 +6,4 @@ pub mod Values
 pub mod Instances
 pub mod Signatures
 pub mod Slices
+pub mod Sentences

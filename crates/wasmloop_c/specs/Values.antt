@@ -10,6 +10,7 @@ use Rattle.events.specs.declared.ended.Ending.{Ending}
 use Rattle.events.specs.declared.ended.Ending.TheVariants.{Return}
 use Rattle.wasmloop_c.specs.Calls.{copied}
 use Rattle.wasmloop_c.specs.Numbers.{ending_numbers}
+use Rattle.wasmloop_c.specs.declared.number.Number.{Number}
 use Rattle.wasmloop_c.specs.declared.ended.CallEnded.{CallEnded}
 
 -- a number of 64 bits as a value of a type: an i32 is below 2^32
@@ -46,3 +47,8 @@ call_numbers e = record {
   used = e.used;
   result = copied (map number_of (results_of e.ending)) (replicate MAX_RESULTS 0);
 }
+
+-- a value, with the number of its type
+abbrev pub value_numbers : Value → Number
+value_numbers (I32 n) = record { value_type = 1; zero = 0; number = n }
+value_numbers (I64 n) = record { value_type = 2; zero = 0; number = n }

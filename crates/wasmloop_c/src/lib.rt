@@ -20,6 +20,8 @@ mod job;
 mod lone;
 mod loops;
 mod modules;
+mod number;
+mod place;
 mod raw;
 mod sentence;
 mod shape;
@@ -28,6 +30,7 @@ mod slices;
 mod status;
 mod stops;
 mod thing;
+mod warning;
 mod work;
 
 fn may_go<T: Send>() {}

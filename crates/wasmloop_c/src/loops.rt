@@ -3,7 +3,8 @@
 ghost use Rattle.std.specs.Prelude.{◌≡◌, ◌≤◌, ◌<◌, ◌↔◌, ◌⊎◌, None, IfOk, IsSomeAnd};
 ghost use Rattle.std.specs.Arc.{arc_value};
 ghost use Rattle.limits.specs.declared.TheConstants.{MAX_ASYNCS, MAX_DEPTH};
-ghost use Rattle.wasmloop_c.specs.Calls.{AnswersIn, IsDepth, OnLoop, OnHeldLoop, ReadsLoop, ReadsHeldLoop, Steps, Clocks, Sends, Cancels, IsNewLoop, CopiesEmits, loop_of, module_of, standing_of};
+ghost use Rattle.wasmloop_c.specs.Calls.{AnswersIn, IsDepth, OnLoop, OnHeldLoop, ReadsLoop, ReadsHeldLoop, Steps, Clocks, Sends};
+ghost use Rattle.wasmloop_c.specs.Calls.{Cancels, Requests, IsNewLoop, CopiesEmits, loop_of, module_of, standing_of};
 ghost use Rattle.wasmloop_c.specs.Numbers.{hint_number};
 ghost use Rattle.phases.specs.PhaseList.{hint_of};
 
@@ -253,6 +254,30 @@ pub extern "C" fn wasmloop_rt_cancel(
     ensures { OnHeldLoop handle.old.raw.value handle.new.raw.value result (answer.new ≡ answer.old) (λ c d. (result ≡ OK) × Cancels c d request answer.new) }
 {
     on!(handle, alloc, held => cancel(&mut held, request, answer))
+}
+
+fn request(thing: &mut Thing, op: u32, bytes: &[u8], answer: &mut i32) -> u32
+    ensures { OnLoop thing.old thing.new result (answer.new ≡ answer.old) (λ c d. (result ≡ OK) × Requests c d op bytes.now answer.new) }
+{
+    let Thing::Loop(held) = thing else {
+        return KIND;
+    };
+    *answer = held.core.request(op, bytes);
+    OK
+}
+
+/// Makes a request for the loop's owner, which goes the way of the guest's own.
+#[unsafe(no_mangle)]
+pub extern "C" fn wasmloop_rt_request(
+    alloc: Global,
+    handle: &mut Handle,
+    op: u32,
+    bytes: &[u8],
+    answer: &mut i32,
+) -> u32
+    ensures { OnHeldLoop handle.old.raw.value handle.new.raw.value result (answer.new ≡ answer.old) (λ c d. (result ≡ OK) × Requests c d op bytes.now answer.new) }
+{
+    on!(handle, alloc, held => request(&mut held, op, bytes, answer))
 }
 
 fn tell_standing(thing: &Thing, standing: &mut Standing) -> u32

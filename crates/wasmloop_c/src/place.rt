@@ -1,0 +1,91 @@
+// Where a loop's last callback stopped, or a job, or an instance's last call, in words.
+
+ghost use Rattle.std.specs.Prelude.{◌≡◌};
+ghost use Rattle.wasmloop_c.specs.Calls.{ReadsHandle};
+ghost use Rattle.wasmloop_c.specs.Sentences.{Untold, TellsPlace, TellsPlaceIn};
+
+use crate::copying::copy_bytes;
+use crate::handle::{Handle, on};
+use crate::status::{KIND, MEMORY, NONE, OK, REFUSED};
+use crate::thing::Thing;
+use instance::stack::Stop;
+use order::Trail;
+use sentences::tell_place;
+use std::alloc::{AllocError, Global};
+
+fn trail_of(stop: Option<Stop<'_>>) -> Option<Trail> {
+    Some(Trail::of(&stop?))
+}
+
+/// The words for a place in a module of these bytes, as `tell_stopped` has them.
+fn words(alloc: Global, bytes: &[u8], trail: &Trail) -> Result<Vec<u8>, AllocError> {
+    let mut text = Vec::new(alloc);
+    match tell_place(bytes, trail, "in ", &mut text) {
+        Ok(()) => Ok(text),
+        Err(_) => Err(AllocError),
+    }
+}
+
+/// Tells the place in a module of its own bytes, if these are they.
+fn tell(
+    alloc: Global,
+    own: &[u8],
+    trail: Option<&Trail>,
+    bytes: &[u8],
+    into: &mut [u8],
+    count: &mut u64,
+) -> u32
+    ensures { TellsPlaceIn own.now bytes.now into.old into.new count.old count.new result }
+{
+    let Some(trail) = trail else {
+        return NONE;
+    };
+    if own != bytes {
+        return REFUSED;
+    }
+    let Ok(text) = words(alloc, bytes, trail) else {
+        return MEMORY;
+    };
+    copy_bytes(text.as_slice(), into, count)
+}
+
+fn tell_thing(
+    alloc: Global,
+    thing: &Thing,
+    bytes: &[u8],
+    into: &mut [u8],
+    count: &mut u64,
+) -> u32
+    ensures { TellsPlace thing.now bytes.now into.old into.new count.old count.new result }
+{
+    match thing {
+        Thing::Loop(held) => {
+            let trail = trail_of(held.core.last_stop());
+            tell(alloc, held.core.module_bytes(), trail.as_ref(), bytes, into, count)
+        }
+        Thing::Answered(told) => {
+            let own = told.reply.order.module.valid().module().bytes();
+            tell(alloc, own, told.trail.as_ref(), bytes, into, count)
+        }
+        Thing::Resident(resident) => {
+            let trail = trail_of(resident.last_stop());
+            tell(alloc, resident.module_bytes(), trail.as_ref(), bytes, into, count)
+        }
+        Thing::Asked(_) => NONE,
+        _ => KIND,
+    }
+}
+
+/// Tells in words where a loop's last callback stopped, or a job, or an instance's last call, of a module of these bytes.
+#[unsafe(no_mangle)]
+pub extern "C" fn wasmloop_rt_stop_told(
+    alloc: Global,
+    bytes: &[u8],
+    handle: &mut Handle,
+    into: &mut [u8],
+    count: &mut u64,
+) -> u32
+    ensures { ReadsHandle handle.old.raw.value handle.new.raw.value result (Untold into.old into.new count.old count.new) (λ t. TellsPlace t bytes.now into.old into.new count.old count.new result) }
+{
+    on!(handle, alloc, held => tell_thing(alloc, &held, bytes, into, count))
+}

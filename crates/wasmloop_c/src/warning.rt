@@ -1,0 +1,67 @@
+// What a module lacks to run on a loop, in sentences.
+
+ghost use Rattle.std.specs.Prelude.{◌≡◌};
+ghost use Rattle.wasmloop_c.specs.Calls.{ReadsHandle};
+ghost use Rattle.wasmloop_c.specs.Sentences.{Untold, TellsWarning, TellsWarningOf};
+
+use crate::copying::copy_bytes;
+use crate::handle::{Handle, on};
+use crate::status::{KIND, MEMORY, NONE};
+use crate::thing::Thing;
+use imports::Linked;
+use sentences::{Warning, warnings};
+use std::alloc::{AllocError, Global};
+
+fn sentence(alloc: Global, warning: Warning) -> Result<String, AllocError> {
+    let mut text = String::new(alloc);
+    write!(text, "{warning}")?;
+    Ok(text)
+}
+
+fn tell_warning(
+    alloc: Global,
+    linked: &Linked,
+    number: u32,
+    into: &mut [u8],
+    count: &mut u64,
+) -> u32
+    ensures { TellsWarningOf into.old into.new count.old count.new result }
+{
+    let found = warnings(linked);
+    let Some(warning) = found.iter().flatten().nth(number as usize) else {
+        return NONE;
+    };
+    let Ok(text) = sentence(alloc, *warning) else {
+        return MEMORY;
+    };
+    copy_bytes(text.as_bytes(), into, count)
+}
+
+fn warning(
+    alloc: Global,
+    thing: &Thing,
+    number: u32,
+    into: &mut [u8],
+    count: &mut u64,
+) -> u32
+    ensures { TellsWarning thing.now into.old into.new count.old count.new result }
+{
+    let Thing::Module(linked) = thing else {
+        return KIND;
+    };
+    tell_warning(alloc, linked, number, into, count)
+}
+
+/// Copies the sentence of this number on what a module lacks to run on a loop, as far as there is room.
+#[unsafe(no_mangle)]
+pub extern "C" fn wasmloop_rt_warning(
+    alloc: Global,
+    module: &mut Handle,
+    number: u32,
+    into: &mut [u8],
+    count: &mut u64,
+) -> u32
+    ensures { ReadsHandle module.old.raw.value module.new.raw.value result (Untold into.old into.new count.old count.new) (λ t. TellsWarning t into.old into.new count.old count.new result) }
+{
+    on!(module, alloc, held => warning(alloc, &held, number, into, count))
+}

@@ -6,6 +6,8 @@
     python3 tools/bodies.py --once [NAME ..]  all of a crate of tests in one run: what passes here is not met, for sure; what fails may
                                               fail by another body of the run
     python3 tools/bodies.py --list            which would be run together
+    python3 tools/bodies.py --check           runs nothing: whether each can be put into the tree and names a test or a row that is there,
+                                              and whether docs/TESTING.md's table names each, and no edit that isn't there
 
 tests/bodies/NAME.edit is one wrong body:
 
@@ -192,6 +194,43 @@ def meets(body, failed):
     return [test for test in failed if (test.startswith(body.test) if body.crate == 'test_program' else test == body.test)]
 
 
+def is_there(body):
+    """Whether the test, or a command that begins as it says, is there."""
+    if body.crate == 'test_program':
+        return any(line.startswith(f"$ {body.test}") for line in (TOP / 'crates/test_program/stdout').read_text().split('\n'))
+    module, _, name = body.test.partition('::')
+    file = TOP / 'crates' / body.crate / 'src' / f"{module}.rt"
+    return body.test == 'run' or file.is_file() and f"#[test]\nfn {name}(" in file.read_text()
+
+
+def rows_of_table():
+    """Each wrong body of the table of docs/TESTING.md, and what it names: folders and names."""
+    page = (TOP / 'docs/TESTING.md').read_text().partition('## Wrong bodies')[2].partition('\n## ')[0]
+    for line in re.findall(r"^\| .*\|$", page, re.M):
+        says, named = (cell.strip() for cell in line[1:-1].rsplit('|', 1))
+        found, folder = [], None
+        for one, name in re.findall(r"(?:(\w+)/)?(\w+)(?=[,;]|$)", named):
+            folder = one or folder
+            found += [(folder, name)] if folder else []
+        yield says, named, found
+
+
+def faults(bodies):
+    """What of the bodies and of the table is not so."""
+    yield from (f"{body.name} can't be put into the tree" for body in bodies if body.put_into({}) is None)
+    yield from (f"{body.name}: there is no {body.crate} {body.test}" for body in bodies if not is_there(body))
+    named = set()
+    for says, told, found in rows_of_table():
+        edits = [one for one in found if not one[0].startswith('test_')]
+        named.update(edits)
+        if not edits and told != 'Edit or test' and 'clause' not in told and "can't be written" not in told and told != '':
+            yield f"docs/TESTING.md: {says}: neither an edit nor a body is named"
+    there = {('bodies', body.name) for body in bodies}
+    there |= {(file.parent.parent.name, file.stem) for file in (TOP / 'crates').glob('*/must-fail/*.edit')}
+    yield from (f"docs/TESTING.md: {folder}/{name} is not there" for folder, name in sorted(named - there))
+    yield from (f"docs/TESTING.md: bodies/{name} is in no row" for folder, name in sorted(there - named) if folder == 'bodies')
+
+
 def told_of(body, failed):
     """What is told of a body with the tests that meet it; whether the one that it names is there."""
     named = meets(body, failed)
@@ -237,6 +276,10 @@ def main():
     words = sys.argv[1:]
     once, names = '--once' in words, [word for word in words if not word.startswith('--')]
     bodies = [Body(file) for file in sorted(BODIES.glob('*.edit')) if not names or file.stem in names]
+    if '--check' in words:
+        wrong = list(faults(bodies))
+        print('\n'.join(wrong) or f"{len(bodies)} wrong bodies of tests/bodies; each can be put into the tree, and is in the table of docs/TESTING.md")
+        sys.exit(1 if wrong else 0)
     by_crate = {}
     for body in bodies:
         by_crate.setdefault(body.crate, []).append(body)

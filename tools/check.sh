@@ -16,6 +16,7 @@ if has python3; then
     for tool in audit citations picture header limits shape uv; do
         if [ -f "tools/$tool.py" ]; then try python3 "tools/$tool.py"; fi
     done
+    try python3 tools/bodies.py --check
 fi
 try git diff --check HEAD
 if has shellcheck; then files '*.sh' wasmloop .ci/run .ci/nightly | xargs shellcheck --severity=warning || wrong=1; fi

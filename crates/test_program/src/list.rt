@@ -35,6 +35,14 @@ pub fn only_and_command(line: &str) -> (Option<&str>, &str) {
     }
 }
 
+/// Whether the command's output takes nothing, and the command.
+pub fn full_and_command(line: &str) -> (bool, &str) {
+    match line.strip_prefix("full ") {
+        Some(command) => (true, command),
+        None => (false, line),
+    }
+}
+
 fn bytes_line(rest: &str) -> Line<'_> {
     let (name, digits) = rest.split_once(' ').unwrap_or((rest, ""));
     Line::Bytes { name, digits }

@@ -4,7 +4,8 @@
 //! they name stand in the list too: `let NAME HEX` makes a file of bytes, and `text NAME TEXT` one of text, in which each
 //! `@OTHER@` is the file OTHER in hexadecimal. In a command `NAME:N` is the front of a file, N bytes long, and `hex:HEX` a file
 //! of these bytes. `only WORDS COMMAND` shows of standard error only the lines in which one of the words stands, which commas
-//! part. Empty lines and those that begin with `#` are printed as they are.
+//! part. `full COMMAND` gives the command an output that takes nothing. Empty lines and those that begin with `#` are printed as they
+//! are.
 #![tactic(auto)]
 
 ghost use Rattle.std.specs.Prelude.{◌≡◌};
@@ -13,19 +14,33 @@ ghost use Rattle.board.specs.Jobs.{ticket_of};
 mod list;
 mod shelf;
 
-use crate::list::{Line, only_and_command, read_line};
+use crate::list::{Line, full_and_command, only_and_command, read_line};
 use crate::shelf::Shelf;
 use board::JobBox;
 use commands::perform;
 use order::Reply;
 use serve::Task;
 use std::alloc::{AllocError, Global};
-use std::io::{self, BufRead, BufReader, Write};
+use std::io::{self, BufRead, BufReader, ErrorKind, Write};
 use std::process::ExitCode;
 use std::str;
 use std::sync::Wait;
 use std::thread::Threads;
 use words::parse;
+
+/// An output that takes nothing, as a full device.
+#[derive(Drop)]
+struct Full;
+
+impl Write for Full {
+    fn write(&mut self, _bytes: &[u8]) -> io::Result<usize> {
+        Err(io::Error::from(ErrorKind::StorageFull))
+    }
+
+    fn flush(&mut self) -> io::Result<()> {
+        Ok(())
+    }
+}
 
 /// The words of a command line, the program's name first.
 fn words_of(alloc: Global, line: &str) -> Result<Vec<String>, AllocError> {
@@ -86,8 +101,11 @@ fn show_command<R: Threads + Wait + Sync + AllocGlobal, O: Write>(
     out: &mut O,
 ) -> io::Result<()> {
     writeln!(out, "$ {line}")?;
-    let (only, command) = only_and_command(line);
-    let (status, err) = perform_line(rt, command, shelf, out)?;
+    let (only, words) = only_and_command(line);
+    let (status, err) = match full_and_command(words) {
+        (true, command) => perform_line(rt, command, shelf, &mut Full)?,
+        (false, command) => perform_line(rt, command, shelf, out)?,
+    };
     tell_errors(err.as_slice(), only, out)?;
     writeln!(out, "= {status}")
 }

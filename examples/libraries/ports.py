@@ -1,13 +1,15 @@
 """Which files of a library are compiled, with which flags, and what is computed with it.
 
 Paths begin at the folder into which Debian's source package of that name is unpacked; an @ in a flag stands for the
-folder of all of them.
+folder of all of them, and a % for one into which run.py writes what a configure script would.
 """
 import bz2
 import dataclasses
 import gzip
 import lzma
+import math
 import pathlib
+import struct
 import subprocess
 import zlib
 
@@ -25,6 +27,15 @@ DEFLATE = "libdeflate/lib/"
 MBEDTLS = """aes bignum ecdsa ecp ecp_curves sha256 md hmac_drbg asn1write asn1parse constant_time platform_util
     platform""".split()
 YAML_VERSION = "-DYAML_VERSION_MAJOR=0 -DYAML_VERSION_MINOR=2 -DYAML_VERSION_PATCH=5 -DYAML_VERSION_STRING=\"0.2.5\""
+JANSSON = {"@json_inline@": "inline", "@json_have_long_long@": "1", "@json_have_localeconv@": "0", "@json_have_atomic_builtins@": "0",
+           "@json_have_sync_builtins@": "0"}
+LITTLE_ENDIAN = {"@MSGPACK_ENDIAN_BIG_BYTE@": "0", "@MSGPACK_ENDIAN_LITTLE_BYTE@": "1"}
+SODIUM = "libsodium/src/libsodium/include"
+SODIUM_VERSION = {"@VERSION@": "1.0.18", "@SODIUM_LIBRARY_VERSION_MAJOR@": "10", "@SODIUM_LIBRARY_VERSION_MINOR@": "3",
+                  "@SODIUM_LIBRARY_MINIMAL_DEF@": ""}
+SPEEX = {"@INCLUDE_STDINT@": "#include <stdint.h>", "@SIZE16@": "int16_t", "@USIZE16@": "uint16_t", "@SIZE32@": "int32_t", "@USIZE32@": "uint32_t"}
+SNAPPY = {"${HAVE_SYS_UIO_H_01}": "1", "${PROJECT_VERSION_MAJOR}": "1", "${PROJECT_VERSION_MINOR}": "1", "${PROJECT_VERSION_PATCH}": "9"}
+GIF = "dgif_lib egif_lib gifalloc gif_hash gif_err openbsd-reallocarray".split()
 LUA_LEFT_OUT = ("lua.c", "luac.c", "linit.c", "loslib.c", "liolib.c", "loadlib.c", "ldblib.c")
 
 
@@ -39,6 +50,8 @@ class Port:
     lower: bool = False       # has floats: lower.py rewrites the module
     jumps: bool = False       # calls setjmp
     no_files: bool = False    # names files and clocks: nofiles.c answers
+    cpp: bool = False         # is of C++, and so is its glue
+    made: dict = dataclasses.field(default_factory=dict)    # files below %: each of which template, with what in its places
 
 
 PORTS = {
@@ -74,6 +87,32 @@ PORTS = {
     "mujs": Port("mujs", ["mujs/one.c"], "-I@/mujs", lower=True, jumps=True, no_files=True),
     "duktape": Port("duktape", ["duktape/src/duktape.c"], "-I@/duktape/src", wasm_flags="-fno-jump-tables", lower=True,
                     jumps=True, no_files=True),
+    "b64": Port("libb64", ["libb64/src/*.c"], "-I@/libb64/include -DBUFFERSIZE=1"),
+    "brotli": Port("brotli", ["brotli/c/common/*.c", "brotli/c/dec/*.c", "brotli/c/enc/*.c"], "-I@/brotli/c/include", lower=True),
+    "csv": Port("libcsv", ["libcsv/libcsv.c"], "-I@/libcsv"),
+    "gif": Port("giflib", [f"giflib/{n}.c" for n in GIF], "-I@/giflib", no_files=True),
+    "http": Port("http-parser", ["http-parser/http_parser.c"], "-I@/http-parser", lower=True),
+    "jansson": Port("jansson", ["jansson/src/*.c"],
+                    "-I@/jansson/src -I% -I@/../../config/jansson -DHAVE_CONFIG_H", lower=True, no_files=True,
+                    made={"jansson_config.h": ("jansson/src/jansson_config.h.in", JANSSON)}),
+    "msgpack": Port("msgpack-c", ["msgpack-c/src/*.c"], "-I@/msgpack-c/include -I% -I%/msgpack", lower=True,
+                    made={f"msgpack/{n}.h": (f"msgpack-c/cmake/{n}.h.in", LITTLE_ENDIAN) for n in ("sysdep", "pack_template")}),
+    "png": Port("libpng1.6", ["libpng1.6/png*.c", *ZLIB], "-I@/libpng1.6 -I@/zlib -I%", without=("pngtest.c",), lower=True,
+                jumps=True, no_files=True, made={"pnglibconf.h": ("libpng1.6/scripts/pnglibconf.h.prebuilt", {})}),
+    "qrencode": Port("qrencode", ["qrencode/*.c"], "-I@/qrencode -DSTATIC_IN_RELEASE=static -DMAJOR_VERSION=4 "
+                     "-DMINOR_VERSION=1 -DMICRO_VERSION=1 -DVERSION=\"4.1.1\"", without=("qrenc.c",), no_files=True),
+    "snappy": Port("snappy", [f"snappy/{n}.cc" for n in ("snappy", "snappy-sinksource", "snappy-stubs-internal")],
+                   "-I@/snappy -I% -DNDEBUG", no_files=True, cpp=True,
+                   made={"snappy-stubs-public.h": ("snappy/snappy-stubs-public.h.in", SNAPPY)}),
+    "sodium": Port("libsodium", ["libsodium/src/libsodium/**/*.c"],
+                   f"-I@/{SODIUM} -I@/{SODIUM}/sodium -I% -I%/sodium -DCONFIGURED=1 -DNATIVE_LITTLE_ENDIAN=1 -DSODIUM_STATIC=1 -DDEV_MODE=1",
+                   lower=True, no_files=True, made={"sodium/version.h": (f"{SODIUM}/sodium/version.h.in", SODIUM_VERSION)}),
+    "speex": Port("speex", ["speex/libspeex/*.c"], "-I@/speex/include -I@/speex/libspeex -I%/speex -I% -DFIXED_POINT -DDISABLE_FLOAT_API "
+                  "-DEXPORT= -DUSE_SMALLFT", without=("testenc.c", "testenc_wb.c", "testenc_uwb.c"), lower=True, no_files=True,
+                  made={"speex/speex_config_types.h": ("speex/include/speex/speex_config_types.h.in", SPEEX)}),
+    "tinyxml2": Port("tinyxml2", ["tinyxml2/tinyxml2.cpp"], "-I@/tinyxml2", lower=True, no_files=True, cpp=True),
+    "tommath": Port("libtommath", ["libtommath/bn_*.c"], "-I@/libtommath -DMP_NO_FILE -DMP_NO_DEV_URANDOM", no_files=True),
+    "xxhash": Port("xxhash", ["xxhash/xxhash.c"], "-I@/xxhash"),
 }
 
 # glue/zloop.c includes glue/zlib.c: a guest of a loop, whose workers deflate and inflate.
@@ -101,6 +140,26 @@ for (i = 0; i < 100; i++) try { throw new Error("e" + i); } catch (e) { if (e.me
 print(/(\\d+)-(\\w+)/.exec("a 12-bc"), Math.sin(1), Math.sqrt(2), (1234.5678).toFixed(2));
 """
 NUMBERS = b'{"a":[1,2.5,-1e300,0.1,1e-7,123456789012],"c":"d\\u00e9"}'
+
+
+SPEECH = b"".join(struct.pack("<h", int(9000 * math.sin(i / 9) + 3000 * math.sin(i / 2.3))) for i in range(16000))
+HTTP = (b"POST /a/b?c=d HTTP/1.1\r\nHost: x.y\r\nTransfer-Encoding: chunked\r\n\r\n5\r\nhello\r\n6\r\n world\r\n0\r\n\r\n"
+        b"GET / HTTP/1.1\r\nHost: b\r\nContent-Length: 3\r\n\r\nabc") * 20
+PACKED = bytes.fromhex("83a161c3a16293010203a163cb400921fb54442d18a164d920") + b"z" * 32 \
+    + bytes.fromhex("ce00010203d3ffffffff00000000c0c2ca3fc00000")
+OBJECT = b'{"b":[1,2.5,-1e300,0.1,{"x":null,"y":[true,"\\u00e9\\ud83d\\ude00"]}],"a":"' + b"q" * 300 + b'"}'
+XML = b"<?xml version='1.0'?><r a='1'><b>" + b"".join(b"<i n='%d'>t &lt; %d</i>" % (i, i * i) for i in range(400)) + b"</b></r>"
+CSV = b'a,b,"c ""d"" e",f\r\n1,2,3\n,,\n"x\ny",z' * 100
+NOISE = bytes((i * 2654435761 >> 13) & 255 for i in range(4096))
+
+
+def png():
+    """A picture of 100 times 60 points."""
+    def chunk(kind, data):
+        return struct.pack(">I", len(data)) + kind + data + struct.pack(">I", zlib.crc32(kind + data))
+    rows = b"".join(b"\1" + bytes((x * y + c * 50) & 255 for x in range(100) for c in range(3)) for y in range(60))
+    head = struct.pack(">IIBBBBB", 100, 60, 8, 2, 0, 0, 0)
+    return b"\x89PNG\r\n\x1a\n" + chunk(b"IHDR", head) + chunk(b"IDAT", zlib.compress(rows)) + chunk(b"IEND", b"")
 
 
 def tool(words, data):
@@ -145,4 +204,30 @@ def rows(sources):
         ("lua", 0, LUA_PROGRAM, "sieve, sums, sort, pcall"),
         ("mujs", 0, JAVASCRIPT, "sieve, sums, JSON, throw"),
         ("duktape", 0, JAVASCRIPT, "sieve, sums, JSON, throw"),
+        ("b64", 0, gpl[:20000], "base 64, there and back"),
+        ("brotli", 5, gpl, "compress at quality 5 GPL-3"),
+        ("brotli", 9, gpl[:20000], "compress at quality 9"),
+        ("csv", 0, CSV, "rows of CSV"),
+        ("gif", 1, gpl[:30000], "a GIF of 200 times 150"),
+        ("http", 0, HTTP, "40 requests of HTTP"),
+        ("http", 0, b"GET / HTTP/9.x\r\n", "what is no HTTP"),
+        ("jansson", 1, OBJECT, "a JSON text"),
+        ("jansson", 0, b'{"a":', "what is no JSON"),
+        ("msgpack", 0, PACKED * 50, "350 objects"),
+        ("png", 0, png(), "a PNG of 100 times 60"),
+        ("png", 0, b"\x89PNG\r\n\x1a\nxx", "what is no PNG"),
+        ("qrencode", 3, gpl[:800], "a QR code of 800 bytes"),
+        ("snappy", 0, gpl, "compress GPL-3"),
+        ("snappy", 1, b"junk", "what is not compressed"),
+        ("sodium", 0, gpl, "BLAKE2b GPL-3"),
+        ("sodium", 1, NOISE[:1000], "Ed25519 sign and verify"),
+        ("sodium", 2, NOISE, "XChaCha20-Poly1305"),
+        ("sodium", 3, NOISE[:32], "X25519"),
+        ("sodium", 4, NOISE[:20], "Argon2id, 64 KiB"),
+        ("speex", 5, SPEECH, "5 frames of speech"),
+        ("tinyxml2", 0, XML, "a text in XML"),
+        ("tinyxml2", 1, b"<a><b></a>", "what is no XML"),
+        ("tommath", 0, b"", "the factorial of 500"),
+        ("tommath", 1, NOISE[:65], "x^65537 mod 2^521 - 1"),
+        ("xxhash", 1, gpl, "XXH3, XXH64, XXH32 GPL-3"),
     ]

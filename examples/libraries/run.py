@@ -38,6 +38,8 @@ LINK = [LD, "--no-entry", "--export-table", "--stack-first", "--strip-debug", "-
         "-zstack-size=131072"]
 LIBRARIES = [LIBC / "libc.a", LIBC / "libm.a", BUILTINS,
              *(LIBC / f"libwasi-emulated-{n}.a" for n in ("signal", "process-clocks", "getpid"))]
+CPP = ["-std=c++17", "-fno-exceptions", "-fno-rtti"]
+CPP_LIBRARIES = [LIBC / "libc++.a", LIBC / "libc++abi.a"]
 TIMES, PEERS_TIMES = 3, 15          # the minimum of so many runs counts
 AMPLE = 1 << 40
 DEPTHS = (16, 32, 64, 128)
@@ -52,16 +54,24 @@ def call(*words, **more):
 
 
 def fetch(package):
-    """Debian's source of a package, unpacked as it is, without Debian's patches."""
+    """Debian's source of a package, unpacked as it is, without Debian's patches. False where it can't be fetched."""
     folder = SOURCES / package
     if folder.exists():
-        return
+        return True
     SOURCES.mkdir(parents=True, exist_ok=True)
-    call("apt-get", "source", "-q", "--tar-only", "--download-only", package, cwd=SOURCES,
-         env=os.environ | {"APT_CONFIG": call(APT_CONFIG, OUT / "apt").decode().strip()})
-    archive, = [p for p in SOURCES.glob(f"{package}_*.orig.tar.*") if p.suffix != ".asc"]
+    env = os.environ | {"APT_CONFIG": call(APT_CONFIG, OUT / "apt").decode().strip()}
+    told = call("apt-cache", "showsrc", package, env=env).decode()
+    # (the newest first; a mirror may lack the sources of an update)
+    for version in reversed([line.split()[1] for line in told.split("\n") if line.startswith("Version: ")]):
+        words = ["apt-get", "source", "-q", "--tar-only", "--download-only", f"{package}={version}"]
+        if subprocess.run(words, cwd=SOURCES, env=env, stdout=subprocess.DEVNULL, stderr=subprocess.DEVNULL).returncode == 0:
+            break
+    archives = [p for p in SOURCES.glob(f"{package}_*.orig.tar.*") if p.suffix != ".asc"]
+    if len(archives) != 1:
+        return False
     folder.mkdir()
-    call("tar", "xf", archive, "-C", folder, "--strip-components=1")
+    call("tar", "xf", archives[0], "-C", folder, "--strip-components=1")
+    return True
 
 
 def compile_all(compiler, sources, folder):
@@ -70,9 +80,25 @@ def compile_all(compiler, sources, folder):
     for number, source in enumerate(sources):
         made = folder / f"{number}_{pathlib.Path(source).stem}.o"
         if not made.exists() or made.stat().st_mtime < os.path.getmtime(source):
-            call(*compiler, "-c", "-o", made, source)
+            call(*(compiler if pathlib.Path(source).suffix == ".c" else in_cpp(compiler)), "-c", "-o", made, source)
         objects.append(made)
     return objects
+
+
+def in_cpp(compiler):
+    return [compiler[0].replace("clang", "clang++"), *compiler[1:], *CPP]
+
+
+def write_made(name, port):
+    """Writes what a configure script would, of the package's own templates."""
+    for target, (template, places) in port.made.items():
+        text = (SOURCES / template).read_text()
+        for place, what in places.items():
+            text = text.replace(place, what)
+        target = OUT / name / "made" / target
+        target.parent.mkdir(parents=True, exist_ok=True)
+        if not target.exists() or target.read_text() != text:
+            target.write_text(text)
 
 
 def files(patterns, without=()):
@@ -92,8 +118,12 @@ def soft():
     return OUT / "soft.wasm"
 
 
-def port_flags(port):
-    return port.flags.replace("@", str(SOURCES)).split()
+def port_flags(name, port):
+    return port.flags.replace("@", str(SOURCES)).replace("%", str(OUT / name / "made")).split()
+
+
+def glue(name, port):
+    return HERE / "glue" / f"{name}.{'cpp' if port.cpp else 'c'}"
 
 
 def module(name, port):
@@ -104,10 +134,11 @@ def module(name, port):
     kit += [KIT / "nofiles.c"] if port.no_files else []
     kit += [KIT / "setjmp.c"] if port.jumps else []
     jumps = ["-mllvm", "-enable-emscripten-sjlj"] if port.jumps else []
-    sources = [HERE / "glue" / f"{name}.c"] + files(port.sources, port.without)
-    objects = compile_all(WASM + port_flags(port) + port.wasm_flags.split() + jumps, sources, folder / "w")
+    sources = [glue(name, port)] + files(port.sources, port.without)
+    objects = compile_all(WASM + port_flags(name, port) + port.wasm_flags.split() + jumps, sources, folder / "w")
     objects += compile_all(WASM + ["-ffreestanding"], kit, folder / "k")
-    call(*LINK, *(["--import-undefined"] if port.jumps else []), "-o", wasm, *objects, *LIBRARIES)
+    libraries = [*(CPP_LIBRARIES if port.cpp else []), *LIBRARIES]
+    call(*LINK, *(["--import-undefined"] if port.jumps else []), "-o", wasm, *objects, *libraries)
     if port.lower or CPU != ["-mcpu=mvp"]:
         print(name, call(sys.executable, KIT / "lower.py", wasm, wasm, "--soft", soft()).decode().strip(), flush=True)
     return wasm
@@ -116,9 +147,9 @@ def module(name, port):
 def program(name, port):
     """The same glue and library as a native program."""
     native = OUT / name / f"{name}.native"
-    sources = [HERE / "glue" / f"{name}.c", KIT / "native.c"] + files(port.sources, port.without)
-    objects = compile_all(NATIVE + port_flags(port), sources + files(port.native_sources), OUT / name / "n")
-    call(CC, "-o", native, *objects, "-lm")
+    sources = [glue(name, port), KIT / "native.c"] + files(port.sources, port.without)
+    objects = compile_all(NATIVE + port_flags(name, port), sources + files(port.native_sources), OUT / name / "n")
+    call(CC.replace("clang", "clang++") if port.cpp else CC, "-o", native, *objects, "-lm")
     return native
 
 
@@ -184,7 +215,7 @@ def row(name, wasm, native, operation, request, what):
     same = answer == expected and answer.startswith("done")
     fuel, seconds = work.fuel(depth), work.seconds(depth)
     cells = [name, f"{wasm.stat().st_size:,}", what, "yes" if same else "no", f"{fuel:,}",
-             f"{fuel // len(request):,}", str(depth), f"{seconds * 1e3:.1f}"]
+             f"{fuel // len(request):,}" if request else "-", str(depth), f"{seconds * 1e3:.1f}"]
     for ns in (nanoseconds, v8_nanoseconds if by_v8 == expected else ""):
         fit = ns.isdigit() and int(ns) > 0 and seconds > 0.002
         cells.append(f"{seconds * 1e9 / int(ns):.0f}" if fit else "-")
@@ -201,8 +232,12 @@ def main(names):
     if not shutil.which(HOST):
         sys.exit(f"no program {HOST}: WASMLOOP names it")
     names = names or list(ports.PORTS)
-    for package in {p.package for p in ports.PORTS.values()}:
-        fetch(package)
+    for package in sorted({p.package for p in ports.PORTS.values()}):
+        if not fetch(package):
+            names = [n for n in names if ports.PORTS[n].package != package]
+            print(f"left out: the sources of {package} can't be fetched")
+    for name in names:
+        write_made(name, ports.PORTS[name])
     built = {n: (module(n, ports.PORTS[n]), program(n, ports.PORTS[n])) for n in names}
     lines, wrong = [HEAD], 0
     for name, operation, request, what in ports.rows(SOURCES):

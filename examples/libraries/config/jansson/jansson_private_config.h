@@ -1,0 +1,4 @@
+#define HAVE_STDINT_H 1
+#define HAVE_STRTOLL 1
+#define HAVE_SYS_TYPES_H 1
+#define INITIAL_HASHTABLE_ORDER 3

@@ -69,9 +69,10 @@ lacks() {
     case $1 in
     *build.py* | rt\ * | dist/prove.sh* | dist/update.sh* | .ci/* | export\ PATH*) echo "it needs the kit" ;;
     *apt-get* | rustup*) echo "it needs a network" ;;
-    *FILE* | *PROGRAM* | *OUT* | *' NAME'* | *' OP'* | *myhost*) echo "it names the reader's own" ;;
+    *' FILE'* | *PROGRAM* | *OUT* | *' NAME'* | *' OP'* | *myhost*) echo "it names the reader's own" ;;
     *LOOP/*) echo "a step of GUESTS or of its kit" ;;
     pip\ * | *first.py*) has pip && [ -f dist/libwasmloop.so.0 ] || echo "there is no pip, or no library in dist/" ;;
+    *pkg-config*) has pkg-config || echo "there is no pkg-config" ;;
     PREFIX=* | *first* | *libwasmloop*) has cc && [ -f dist/libwasmloop.a ] || echo "there is no cc, or no library in dist/" ;;
     *cargo*) has cargo && [ -f dist/libwasmloop.a ] || echo "there is no cargo, or no library in dist/" ;;
     *clang* | *wasm-ld* | examples/build.sh*) { has clang && has wasm-ld; } || echo "there is no clang or no wasm-ld" ;;
@@ -91,18 +92,25 @@ run() {
     if [ -n "$why" ]; then leave "$page: $command" "$why"; return; fi
     count=$((count + 1))
     [ -z "$tell" ] || echo "run: $page: $command${told:+: $told}"
-    printed=$(eval "( ${command//\/my\/prefix/$room/prefix} )" 2> problem)
+    command=${command//\/my\/prefix/$room/prefix}
+    # (a variable is for the commands behind it)
+    if [[ $command == export\ * ]]; then eval "$command"; return; fi
+    printed=$(eval "( $command )" 2> problem)
     case $? in
     0 | 3 | 4) ;;
     *) fail "$page: $command"; cat problem; return ;;
     esac
     case $told in
-    done\ * | accepted | loop\ * | return\ *) [[ $printed == "${told%..}"* || $told == "$printed"* ]] || fail "$page: $command: it prints $printed" ;;
+    done\ * | accepted | loop\ * | return\ * | [0-9]*) [[ $printed == "${told%..}"* || $told == "$printed"* ]] || fail "$page: $command: it prints $printed" ;;
     esac
 }
 
-# the first block of a language in a page
-block() { awk -v fence="\`\`\`$2" '$0 == fence { inside = 1; next } /^```/ { if (inside) exit } inside' "$top/$1"; }
+# a block of a language in a page: the first, or that of a number
+block() {
+    awk -v fence="\`\`\`$2" -v number="${3:-1}" '$0 == fence { inside = ++count == number; next } /^```/ { if (inside) exit } inside' "$top/$1"
+}
+# the same of a paragraph of a text
+paragraph() { awk -v RS= -v number="$1" 'NR == number'; }
 
 block README.md c > tick.c
 if has clang && has wasm-ld; then
@@ -116,7 +124,7 @@ for page in README.md docs/COMMANDS.md docs/EMBEDDING.md docs/PLUGINS.md example
     if [ "$page" = docs/PLUGINS.md ]; then cp examples/plugins/*.c . 2> /dev/null; fi
     while IFS=$'\t' read -r command told; do
         case $command in
-        ./* | wasmloop\ * | cc\ * | PREFIX=* | pip\ * | python3\ * | examples/* | cd\ * | dist/* | sh\ * | clang\ * | wasm-ld\ *) run "$page" "$command" "$told" ;;
+        ./* | wasmloop\ * | cc\ * | PREFIX=* | export\ PKG_CONFIG_PATH=* | pip\ * | python3\ * | examples/* | cd\ * | dist/* | sh\ * | clang\ * | wasm-ld\ *) run "$page" "$command" "$told" ;;
         esac
     done < <(commands "$page")
 done
@@ -136,6 +144,29 @@ says docs/COMMANDS.md './wasmloop check examples/seven.wasm' 'accepted'
 number=$(./wasmloop work examples/crc32.wasm 0 616263 | cut -d ' ' -f 2)
 [ ! -x first ] || [ "$(./first examples/crc32.wasm)" = "$number" ] || fail "docs/EMBEDDING.md: first.c"
 [ ! -d python ] || [ "$(python3 first.py)" = "$number" ] || fail "docs/EMBEDDING.md: first.py"
+
+# snippet NAME COMMAND: one of EMBEDDING's further blocks, which stands in a file of that name
+snippet() {
+    count=$((count + 1))
+    # shellcheck disable=SC2086
+    $2 > said 2>&1 || { fail "docs/EMBEDDING.md: $1"; cat said; }
+}
+if has cc; then
+    for number in 2 3; do
+        { echo '#include "wasmloop.h"'; block docs/EMBEDDING.md c $number; } > "snippet$number.c"
+        grep -q wasmloop_handle "snippet$number.c" || fail "docs/EMBEDDING.md has no block $number in C"
+        snippet "block $number in C" "cc -std=c99 -Wall -Werror -Icapi -c snippet$number.c"
+    done
+fi
+if [ -d python ] && [ -f tick.wasm ]; then
+    clang --target=wasm32 -mcpu=mvp -O1 -ffreestanding -fno-builtin -c -o kv.o capi/plugins/kv.c
+    wasm-ld --no-entry --stack-first -z stack-size=8192 -o kv.wasm kv.o
+    for number in 1 2; do
+        guest=$([ $number = 1 ] && echo kv.wasm || echo examples/crc32.wasm)
+        { printf 'from wasmloop import Module\nmodule = Module(open("%s", "rb").read())\n' "$guest"; block docs/EMBEDDING.md python 2 | paragraph $number; } > "snippet$number.py"
+        snippet "paragraph $number in Python" "python3 snippet$number.py"
+    done
+fi
 "$top/examples/guests_test.sh" "$program" || wrong=$((wrong + 1))
 echo "pages: $count commands, $left left out, $wrong wrong"
 [ $wrong = 0 ]

@@ -23,6 +23,12 @@ tar --sort=name --mtime="@$SOURCE_DATE_EPOCH" --owner=0 --group=0 --numeric-owne
 
 multiarch=usr/lib/x86_64-linux-gnu
 
+# Debian's form of LICENSE
+copyright() {
+    printf 'Format: https://www.debian.org/doc/packaging-manuals/copyright-format/1.0/\n\nFiles: *\nCopyright: the authors of wasmloop\nLicense: LICENSE\n'
+    sed 's/^$/./; s/^/ /' "$top/LICENSE"
+}
+
 # moves what a package has from the whole tree into its own
 part() {
     package=$1 depends=$2 about=$3
@@ -32,7 +38,7 @@ part() {
         mv deb/$file "$package/$(dirname "$file")"
     done
     mkdir -p "$package/DEBIAN" "$package/usr/share/doc/$package"
-    cp "$top/dist/copyright" "$package/usr/share/doc/$package/copyright"
+    copyright > "$package/usr/share/doc/$package/copyright"
     printf 'wasmloop (%s) unstable; urgency=medium\n\n  * CHANGELOG.md tells what is new.\n\n -- wasmloop <wasmloop@localhost>  %s\n' "$version" \
         "$(date -R -d "@$SOURCE_DATE_EPOCH")" | gzip -9n > "$package/usr/share/doc/$package/changelog.gz"
     (cd "$package" && find usr -type f | sort | xargs md5sum) > "$package/DEBIAN/md5sums"
@@ -48,7 +54,7 @@ Section: $([ "$package" = libwasmloop-dev ] && echo libdevel || { [ "$package" =
 Priority: optional
 Multi-Arch: $([ "$package" = wasmloop ] && echo foreign || echo same)
 Description: host for WebAssembly modules on event loops, $about
- Untrusted modules run on event loops of the libuv kind, each run bounded in
+ Untrusted modules run on libuv-style event loops, each run bounded in
  fuel, call depth and memory. The code is proved to keep its promises.
 CONTROL
     dpkg-deb --root-owner-group -Zxz --build "$package" "$out/${package}_${version}_amd64.deb" > /dev/null

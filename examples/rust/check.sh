@@ -35,10 +35,11 @@ native() {
 
 build "$work/deflate" --target $target
 cp "$work/deflate/target/$target/release/deflate.wasm" "$work"
+if grep -aq _ZN "$work/deflate.wasm"; then echo "Rust: its names are mangled" && exit 1; fi
 native "$here/deflate/src/lib.rs" deflate
 
 /usr/bin/rustc --edition 2021 --target $target -C target-cpu=mvp -C linker=wasm-ld --crate-type cdylib -O \
-    -C panic=abort -C strip=debuginfo -C link-args="--export-table --stack-first -zstack-size=65536" \
+    -C panic=abort -C strip=debuginfo -C link-args="--export-table --demangle --stack-first -zstack-size=65536" \
     -o "$work/means.wasm" "$work/means.rs"
 clang --target=wasm32 -mcpu=mvp -O2 -ffreestanding -c -o "$work/soft.o" "$here/../kit/soft.c"
 wasm-ld --no-entry --strip-all -o "$work/soft.wasm" "$work/soft.o"

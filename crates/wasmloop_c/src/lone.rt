@@ -81,13 +81,7 @@ fn put_job(
     ensures refuses { (result ≡ OK → ⊥) → job.new.raw.value ≡ None }
     ensures known { (result ≡ OK) ⊎ (result ≡ MEMORY) }
 {
-    match boxed(alloc, linked, task, bytes) {
-        Ok(made) => {
-            job.put(alloc, made);
-            OK
-        }
-        Err(AllocError) => MEMORY,
-    }
+    job.put_made(alloc, boxed(alloc, linked, task, bytes))
 }
 
 fn make(alloc: Global, module: &Thing, task: Task, bytes: &[u8], job: &mut Handle) -> u32

@@ -85,13 +85,7 @@ fn open(alloc: Global, module: &Thing, limits: Limits, handle: &mut Handle) -> u
     let Thing::Module(linked) = module else {
         return KIND;
     };
-    match opened(alloc, linked, limits) {
-        Ok(core) => {
-            handle.put(alloc, core);
-            OK
-        }
-        Err(AllocError) => MEMORY,
-    }
+    handle.put_made(alloc, opened(alloc, linked, limits))
 }
 
 /// Makes a loop of a module, in an empty handle.

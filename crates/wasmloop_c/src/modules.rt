@@ -44,13 +44,7 @@ pub extern "C" fn wasmloop_rt_load(
         return KIND;
     }
     match load(alloc, bytes) {
-        Ok(linked) => {
-            let Ok(held) = boxed(alloc, linked) else {
-                return MEMORY;
-            };
-            module.put(alloc, held);
-            OK
-        }
+        Ok(linked) => module.put_made(alloc, boxed(alloc, linked)),
         Err(Refusal::Memory) => MEMORY,
         Err(refusal) => {
             *fault = Fault::new(alloc, refusal, bytes);
@@ -76,13 +70,7 @@ fn share(alloc: Global, module: &Thing, other: &mut Handle) -> u32
     let Thing::Module(linked) = module else {
         return KIND;
     };
-    match doubled(alloc, linked) {
-        Ok(second) => {
-            other.put(alloc, second);
-            OK
-        }
-        Err(AllocError) => MEMORY,
-    }
+    other.put_made(alloc, doubled(alloc, linked))
 }
 
 /// Makes a second handle of the same module, in an empty one.

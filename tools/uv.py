@@ -158,7 +158,7 @@ PLANTED = [
     ("the name of a call", HEADER, r"UV_IMPORT\(is_active\)", "UV_IMPORT(active)"),
     ("the width of a word", HEADER, r"uint64_t timeout", "uint32_t timeout"),
     ("a number", HEADER, r"UV_EBUSY = -16", "UV_EBUSY = -17"),
-    ("a comment", HEADER, r"with 64 handles\. In a callback", "with 65 handles. In a callback"),
+    ("a comment", HEADER, r"Answers its handle, or UV_EAGAIN with 64 handles", "Answers its handle, or UV_EAGAIN with 65 handles"),
     ("a word in Rust", RUST, r"(pub fn emit\(value: )i64", r"\1i32"),
     ("a number in Rust", RUST, r"(ENOSPC: i32 = -)28", r"\g<1>29"),
     ("a type of the host", CALLS, r"(Call::Emit => Signature::new\(&\[)I64", r"\1I32"),

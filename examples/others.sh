@@ -1,5 +1,5 @@
 #!/bin/sh
-# Others' code as work functions, beside native builds of it: all libraries of C and C++, and all crates of Rust, in some twenty minutes.
+# Others' code as work functions, beside native builds of it: all libraries of C and C++, and all crates of Rust, in some half an hour.
 #
 # usage: examples/others.sh PROGRAM       ends with 1 if an answer is not the native one; what lacks a package is left out, and said
 set -u

@@ -1,10 +1,11 @@
 #!/bin/sh
-# `check.sh PROGRAM` builds `deflate` and `means.rs` by Debian's packages (cargo, rustc, libstd-rust-dev-wasm32,
+# `check.sh PROGRAM [CRATE..]` builds `deflate` and `means.rs` by Debian's packages (cargo, rustc, libstd-rust-dev-wasm32,
 # librust-miniz-oxide-dev, lld, clang), without a network, and runs them beside native builds of the same sources
-# (check.py), and then the crates of crates/. It ends with 1 where an answer differs; what lacks a package is left out, and said.
+# (check.py), and then these crates of crates/, or all. It ends with 1 where an answer differs; what lacks a package is left out, and said.
 set -eu
 here=$(cd "$(dirname "$0")" && pwd)
 program=$1
+shift
 cargo=/usr/bin/cargo
 target=wasm32-unknown-unknown
 for file in $cargo /usr/bin/rustc /usr/lib/rustlib/$target /usr/share/cargo/registry/miniz_oxide-0.6.2 \
@@ -46,4 +47,4 @@ wasm-ld --no-entry --strip-all -o "$work/soft.wasm" "$work/soft.o"
 python3 "$here/../kit/lower.py" "$work/means.wasm" "$work/means.wasm" --soft "$work/soft.wasm"
 native "$here/means.rs" means
 python3 "$here/check.py" "$program" "$work" "$here/../crowd.svg" /usr/share/common-licenses/GPL-3 "$program"
-python3 "$here/crates/check.py" "$program" "$work"
+python3 "$here/crates/check.py" "$program" "$work" "$@"

@@ -88,13 +88,15 @@ def calls():
     same((module.shape().work, module.shape().after_work), (1, 0))
     same(module.warnings, [])
     (warning,) = wasmloop.Module(b"\0asm\1\0\0\0").warnings
-    same(warning.startswith("it exports none of uv_main"), True)
+    same(warning.startswith("the module exports none of uv_main"), True)
     same((module.shape().pages, module.shape().most_pages > 1), (2, True))
     refused(lambda: module.work(0, bytes(65_537)), wasmloop.RANGE)
     refused(lambda: module.work(0, b"", depth=129), wasmloop.RANGE)
     same(module.job(0, b"abc").input(), b"abc")
     job = module.job(0, b"abc", fuel=3).run()
     same((job.reply().outcome, job.reply().used, len(job.stop())), ("spent", 3, 1))
+    same(job.stop_told(data).startswith("in function "), True)
+    refused(lambda: job.stop_told(data[:-1]), wasmloop.REFUSED)
     job = module.job(0, b"abc").run()
     same((job.reply().outcome, job.reply().used > 3, job.stop()), ("done", True, []))
     refused(lambda: module.job(0)._reply(), wasmloop.NONE)
@@ -112,6 +114,9 @@ def calls():
             refused(wrong, wasmloop.RANGE)
         turned = loop.turn()
         same((turned.did.what, turned.did.phase), (wasmloop.ENTERED, wasmloop.TIMERS))
+        same((loop.request(0, b"abc"), loop.request(0, bytes(65_537)), loop.stop_told(b"")), (5, -22, None))
+        refused(lambda: loop.request(2**32), wasmloop.RANGE)
+    refused(lambda: loop.request(0), wasmloop.EMPTY)
 
 
 def said(call):

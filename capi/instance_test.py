@@ -16,7 +16,8 @@ def fails(kind, do, **has):
 
 
 folder = sys.argv[1]
-module = w.Module(open(f"{folder}/kv.wasm", "rb").read())
+data = open(f"{folder}/kv.wasm", "rb").read()
+module = w.Module(data)
 it = module.instance()
 two = module.instance()
 assert [it.call("add", k) for k in (5, 7, -20)] == [5, 12, -8]
@@ -40,7 +41,8 @@ for k in range(60):
 assert all(get(b"key%d" % k) == b"value of %d" % k for k in range(60)) and get(b"none") is None
 assert it.call("count") == 60 and two.call("count") == 0
 print(fails(w.Stopped, lambda: it.call("divide", 1, 0), ending="trap", trap=2))
-assert it.stop() and it.call("add", 0) == 992 and not it.stop()
+assert it.stop() and "(divide), operation " in it.stop_told(data)
+assert it.call("add", 0) == 992 and not it.stop() and it.stop_told(data) is None
 assert it.call("divide", -7, 2) == -3 and it.call("divide", 2**32 - 7, 2) == -3
 print(fails(w.Stopped, lambda: it.call("spin", fuel=1000), ending="spent"))
 print(fails(w.Stopped, lambda: it.call("deep", 200), ending="depth"))
@@ -60,6 +62,8 @@ assert it.call("grow", 1) == before // 65536 and len(it.memory) == before + 6553
 start = w.Module(open(f"{folder}/start.wasm", "rb").read())
 with start.instance() as its:
     assert its.call("global") == 7 and its.call("bump", 100) is None and its.call("global") == 107 and its.call("asks") == -1
+    assert its.value("count") == 107 and its.value("wide") == -2
+    print(fails(w.Error, lambda: its.value("bump"), status=w.NONE))
     assert its.call("pair", -3, 2**40) == (2**40, -3) and start.function("pair") == ([32, 64], [64, 32])
 print(fails(w.Stopped, lambda: w.Module(open(f"{folder}/fails.wasm", "rb").read()).instance(), ending="trap", trap=4))
 module.close()

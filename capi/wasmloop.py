@@ -167,6 +167,13 @@ class _Ended(_Struct):
     _fields_ = [("ending", c.c_uint32), ("trap", c.c_uint32), ("results", c.c_uint64), ("used", c.c_uint64), ("result", c.c_uint64 * 16)]
 
 
+@_fields
+class _Number(_Struct):
+    value_type: U32
+    zero: U32
+    number: U64
+
+
 class _Signature(_Struct):
     _fields_ = [("params", c.c_uint64), ("results", c.c_uint64), ("param", c.c_uint8 * 256), ("result", c.c_uint8 * 16)]
 
@@ -223,7 +230,7 @@ class Stopped(Error):
 
 _beside = os.path.join(os.path.dirname(os.path.abspath(__file__)), "libwasmloop.so.0")
 _lib = c.CDLL(os.environ.get("WASMLOOP_LIBRARY") or (_beside if os.path.isfile(_beside) else "libwasmloop.so.0"))
-for _name in "version status_name trap_name fault_name ending_name outcome_name warning".split():
+for _name in "version status_name trap_name fault_name ending_name outcome_name".split():
     getattr(_lib, f"wasmloop_{_name}").restype = c.c_char_p
 
 
@@ -312,6 +319,11 @@ def explain(data: Buffer) -> Optional[str]:
     """Why these bytes are no module, in the words of `wasmloop check`; None where they are one."""
     data = _data(data)
     return _text("explain", data, c.c_size_t(len(data)))
+
+
+def _stop_told(held: Any, data: Buffer) -> Optional[str]:
+    data = _data(data)
+    return _text("stop_told", data, c.c_size_t(len(data)), c.byref(held.handle))
 
 
 class _Held:
@@ -422,6 +434,10 @@ class Job(_Held):
         """Where it stopped and the calls around it, as (function, operation), at most 17 in all, or nothing where it returned."""
         return self._stop(17)
 
+    def stop_told(self, data: Buffer) -> Optional[str]:
+        """The same in the words of the program, by the bytes of the module; None where it returned."""
+        return _stop_told(self, data)
+
 
 def _outcome(about: About) -> str:
     return str(_name_of(_lib.wasmloop_outcome_name(c.c_uint32(about.outcome))))
@@ -459,11 +475,10 @@ class Module(_Held):
 
     @property
     def warnings(self) -> List[str]:
-        """Sentences on what the module has or lacks that is probably not meant."""
-        shape = self.shape()
+        """What the module lacks to run on a loop, in the sentences of `wasmloop check`."""
         told: List[str] = []
-        while text := _lib.wasmloop_warning(c.byref(shape), c.c_uint32(len(told))):
-            told.append(text.decode())
+        while text := _text("warning", c.byref(self.handle), c.c_uint32(len(told))):
+            told.append(text)
         return told
 
     def function(self, name: str) -> Tuple[List[int], List[int]]:
@@ -548,6 +563,14 @@ class Instance(_Held):
     def _about(self) -> str:
         return f"{len(self.memory)} bytes of memory"
 
+    def value(self, name: str) -> int:
+        """The value of the global that is exported as `name`, as a signed number."""
+        told, called = _Number(), _export(name)
+        status = _lib.wasmloop_global(c.byref(self.handle), called, c.byref(told))
+        if status != OK:
+            raise Error(status, f"no global is exported as {name!r}" if status == NONE else None)
+        return _signed(told.number, 32 * told.value_type)
+
     def call(self, name: str, *args: int, fuel: int = 1_000_000, depth: int = 64) -> Union[None, int, Tuple[int, ...]]:
         """Calls the function that is exported as `name`, with whole numbers, negative or not. Its results as signed numbers: nothing where it has
         none, the one where it has one, else a tuple. A call that doesn't return raises Stopped, and the instance stays as it is then."""
@@ -565,12 +588,20 @@ class Instance(_Held):
         self.used = ended.used
         if ended.ending:
             raise Stopped(name, ended)
-        told = tuple((it ^ 1 << bits - 1) - (1 << bits - 1) for it, bits in zip(ended.result[: ended.results], kinds[1]))
+        told = tuple(_signed(it, bits) for it, bits in zip(ended.result[: ended.results], kinds[1]))
         return told[0] if len(told) == 1 else told or None
 
     def stop(self) -> List[Site]:
         """Where the last call stopped and the calls around it, as (function, operation), or nothing where it returned."""
         return self._stop(128)
+
+    def stop_told(self, data: Buffer) -> Optional[str]:
+        """The same in the words of the program, by the bytes of the module; None where it returned."""
+        return _stop_told(self, data)
+
+
+def _signed(value: int, bits: int) -> int:
+    return (value ^ 1 << bits - 1) - (1 << bits - 1)
 
 
 def _call_limits(fuel: int, depth: int) -> _CallLimits:
@@ -642,6 +673,14 @@ class Loop(_Held):
         _call("cancel", self.handle, c.c_uint32(_whole("request", request, 0, 2**32 - 1)), c.byref(answer))
         return answer.value
 
+    def request(self, op: int, data: Buffer = b"") -> int:
+        """Makes a request of its owner, which goes the way of the guest's own: its number, above 0, or what queue_work answers, as -11 where 32
+        are outstanding; and -1 on a loop that is over or has failed."""
+        answer, data = c.c_int32(), _data(data)
+        op = _whole("op", op, -(2**31), 2**32 - 1) % 2**32
+        _call("request", self.handle, c.c_uint32(op), data, c.c_size_t(len(data)), c.byref(answer))
+        return answer.value
+
     def next_job(self) -> Optional[Job]:
         """The lowest request that is not handed out, as a job, or None."""
         job = Job()
@@ -668,6 +707,10 @@ class Loop(_Held):
     def stop(self) -> List[Site]:
         """Where the last callback stopped and the calls around it, as (function, operation), or nothing where it returned."""
         return self._stop(128)
+
+    def stop_told(self, data: Buffer) -> Optional[str]:
+        """The same in the words of the program, by the bytes of the module; None where it returned."""
+        return _stop_told(self, data)
 
 
 @functools.lru_cache(maxsize=8)

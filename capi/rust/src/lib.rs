@@ -230,6 +230,15 @@ impl Signature {
     }
 }
 
+/// A number with its type, 1 for an i32, 2 for an i64; an i32 in the lower half.
+#[repr(C)]
+#[derive(Clone, Copy, Debug, Default)]
+pub struct Number {
+    pub value_type: u32,
+    zero: u32,
+    pub number: u64,
+}
+
 extern "C" {
     fn wasmloop_version() -> *const c_char;
     fn wasmloop_status_name(status: i32) -> *const c_char;
@@ -237,7 +246,7 @@ extern "C" {
     fn wasmloop_fault_name(stage: u32, code: u32) -> *const c_char;
     fn wasmloop_ending_name(ending: u32) -> *const c_char;
     fn wasmloop_outcome_name(outcome: u32) -> *const c_char;
-    fn wasmloop_warning(shape: *const Shape, number: u32) -> *const c_char;
+    fn wasmloop_warning(module: *const Handle, number: u32, into: *mut u8, room: usize, count: *mut u64) -> i32;
     fn wasmloop_explain(bytes: *const u8, length: usize, into: *mut u8, room: usize, count: *mut u64) -> i32;
     fn wasmloop_load(bytes: *const u8, length: usize, module: *mut Handle, fault: *mut Fault) -> i32;
     fn wasmloop_share(module: *const Handle, other: *mut Handle) -> i32;
@@ -257,6 +266,7 @@ extern "C" {
     fn wasmloop_size(instance: *mut Handle, bytes: *mut u64) -> i32;
     fn wasmloop_read(instance: *mut Handle, at: u32, into: *mut u8, length: usize) -> i32;
     fn wasmloop_write(instance: *mut Handle, at: u32, from: *const u8, length: usize) -> i32;
+    fn wasmloop_global(instance: *mut Handle, name: *const c_char, value: *mut Number) -> i32;
     fn wasmloop_loop(module: *const Handle, limits: *const Limits, made: *mut Handle) -> i32;
     fn wasmloop_drop(handle: *mut Handle) -> i32;
     fn wasmloop_step(handle: *mut Handle, did: *mut Did) -> i32;
@@ -266,8 +276,10 @@ extern "C" {
     fn wasmloop_hint(handle: *mut Handle, ms: *mut u64) -> i32;
     fn wasmloop_async_send(handle: *mut Handle, number: u32) -> i32;
     fn wasmloop_cancel(handle: *mut Handle, request: u32, answer: *mut i32) -> i32;
+    fn wasmloop_request(handle: *mut Handle, op: u32, bytes: *const u8, length: usize, answer: *mut i32) -> i32;
     fn wasmloop_standing_of(handle: *mut Handle, standing: *mut Standing) -> i32;
     fn wasmloop_stop(handle: *mut Handle, into: *mut Site, room: usize, count: *mut u64) -> i32;
+    fn wasmloop_stop_told(bytes: *const u8, length: usize, handle: *mut Handle, into: *mut u8, room: usize, count: *mut u64) -> i32;
     fn wasmloop_next_job(handle: *mut Handle, job: *mut Handle) -> i32;
     fn wasmloop_job_start(handle: *mut Handle, job: *mut Handle) -> i32;
     fn wasmloop_job_run(job: *mut Handle) -> i32;
@@ -391,11 +403,11 @@ fn exported(status: i32, name: &str) -> Result<(), Error> {
     if status == NONE { Err(Error::NoFunction(name.into())) } else { done(status) }
 }
 
-/// Why bytes are refused, in the words of `wasmloop check`; `None` where they are a module.
-pub fn explain(bytes: &[u8]) -> Result<Option<String>, Error> {
+/// What a call writes that copies a text as far as there is room; `None` where there is none.
+fn text(call: impl Fn(*mut u8, usize, &mut u64) -> i32) -> Result<Option<String>, Error> {
     let (mut into, mut count) = (Vec::new(), 0);
     loop {
-        match unsafe { wasmloop_explain(bytes.as_ptr(), bytes.len(), into.as_mut_ptr(), into.len(), &mut count) } {
+        match call(into.as_mut_ptr(), into.len(), &mut count) {
             NONE => return Ok(None),
             status => done(status)?,
         }
@@ -405,6 +417,17 @@ pub fn explain(bytes: &[u8]) -> Result<Option<String>, Error> {
         }
         into = vec![0; count as usize];
     }
+}
+
+/// Why bytes are refused, in the words of `wasmloop check`; `None` where they are a module.
+pub fn explain(bytes: &[u8]) -> Result<Option<String>, Error> {
+    text(|into, room, count| unsafe { wasmloop_explain(bytes.as_ptr(), bytes.len(), into, room, count) })
+}
+
+/// Where it stopped, in the words of the program, by the bytes of its module; `None` where it returned.
+fn stop_told(handle: &mut Handle, bytes: &[u8]) -> Result<Option<String>, Error> {
+    let handle: *mut Handle = handle;
+    text(|into, room, count| unsafe { wasmloop_stop_told(bytes.as_ptr(), bytes.len(), handle, into, room, count) })
 }
 
 /// Where a loop's last callback stopped, or a job, and the calls around it outwards, at most so many sites; none where it returned.
@@ -458,10 +481,9 @@ impl Module {
         Ok(shape)
     }
 
-    /// Sentences on what the module has or lacks that is probably not meant.
-    pub fn warnings(&self) -> Result<Vec<&'static str>, Error> {
-        let shape = self.shape()?;
-        Ok((0..).map_while(|number| static_text(unsafe { wasmloop_warning(&shape, number) })).collect())
+    /// What the module lacks to run on a loop, in the sentences of `wasmloop check`.
+    pub fn warnings(&self) -> Result<Vec<String>, Error> {
+        (0..).map_while(|number| text(|into, room, count| unsafe { wasmloop_warning(&self.0, number, into, room, count) }).transpose()).collect()
     }
 
     /// The type of the function that is exported under a name.
@@ -508,6 +530,15 @@ impl Instance {
         if ended.ending == RETURN { Ok(ended) } else { Err(ended.stopped()) }
     }
 
+    /// The value of the global that is exported under a name; `None` where there is none.
+    pub fn global(&mut self, name: &str) -> Result<Option<Number>, Error> {
+        let (Ok(told), mut value) = (CString::new(name), Number::default()) else { return Ok(None) };
+        match unsafe { wasmloop_global(&mut self.0, told.as_ptr(), &mut value) } {
+            NONE => Ok(None),
+            status => done(status).map(|()| Some(value)),
+        }
+    }
+
     /// How many bytes the memory has.
     pub fn size(&mut self) -> Result<u64, Error> {
         let mut bytes = 0;
@@ -535,6 +566,11 @@ impl Instance {
     /// Where the last call stopped and the calls around it outwards; none where it returned.
     pub fn stop(&mut self) -> Result<Vec<Site>, Error> {
         stopped(&mut self.0, MOST_CALLS)
+    }
+
+    /// The same in the words of the program, by the bytes of the module; `None` where it returned.
+    pub fn stop_told(&mut self, bytes: &[u8]) -> Result<Option<String>, Error> {
+        stop_told(&mut self.0, bytes)
     }
 }
 
@@ -583,6 +619,11 @@ impl Job {
     pub fn stop(&mut self) -> Result<Vec<Site>, Error> {
         stopped(&mut self.0, MOST_SITES)
     }
+
+    /// The same in the words of the program, by the bytes of the module; `None` where it returned.
+    pub fn stop_told(&mut self, bytes: &[u8]) -> Result<Option<String>, Error> {
+        stop_told(&mut self.0, bytes)
+    }
 }
 
 impl Loop {
@@ -598,6 +639,11 @@ impl Loop {
         stopped(&mut self.0, MOST_CALLS)
     }
 
+    /// The same in the words of the program, by the bytes of the module; `None` where it returned.
+    pub fn stop_told(&mut self, bytes: &[u8]) -> Result<Option<String>, Error> {
+        stop_told(&mut self.0, bytes)
+    }
+
     /// Takes steps until the timers phase is entered, a callback puts out values or doesn't return, so many callbacks have run, or the loop
     /// is over or has failed.
     pub fn turn(&mut self, most_callbacks: u32) -> Result<Turned, Error> {
@@ -610,6 +656,14 @@ impl Loop {
     pub fn cancel(&mut self, request: u32) -> Result<i32, Error> {
         let mut answer = 0;
         done(unsafe { wasmloop_cancel(&mut self.0, request, &mut answer) })?;
+        Ok(answer)
+    }
+
+    /// Makes a request of the loop's owner, which goes the way of the guest's own, and answers as `queue_work` does; -1 on a loop that is over or
+    /// has failed.
+    pub fn request(&mut self, op: u32, bytes: &[u8]) -> Result<i32, Error> {
+        let mut answer = 0;
+        done(unsafe { wasmloop_request(&mut self.0, op, bytes.as_ptr(), bytes.len(), &mut answer) })?;
         Ok(answer)
     }
 

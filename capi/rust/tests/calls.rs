@@ -47,7 +47,7 @@ fn a_module_is_shared_by_threads() {
     let shape = other.shape().unwrap();
     assert!(shape.work == 1 && shape.pages >= 1 && shape.most_pages >= shape.pages);
     assert!(other.warnings().unwrap().is_empty());
-    assert!(Module::new(b"\0asm\x01\0\0\0").unwrap().warnings().unwrap()[0].starts_with("it exports none of uv_main"));
+    assert!(Module::new(b"\0asm\x01\0\0\0").unwrap().warnings().unwrap()[0].starts_with("the module exports none of uv_main"));
 }
 
 #[test]
@@ -72,6 +72,9 @@ fn it_is_told_where_work_stopped() {
     assert!(!job.run_for(1).unwrap() && job.run_for(9).unwrap());
     assert!(matches!(job.reply(), Err(Error::Status(wasmloop::NONE))));
     assert_eq!(job.stop().unwrap().len(), 1);
+    let bytes = fs::read(format!("{}/../../examples/crc32.wasm", env!("CARGO_MANIFEST_DIR"))).unwrap();
+    assert!(job.stop_told(&bytes).unwrap().unwrap().starts_with("in function "));
+    assert!(matches!(job.stop_told(b"asm"), Err(Error::Status(wasmloop::REFUSED))));
 }
 
 #[test]
@@ -109,6 +112,8 @@ fn a_loop_goes_by_turns() {
     assert_eq!((standing.alive, standing.failed), (1, 0));
     job.run().unwrap();
     assert!(one.accept(job).unwrap());
+    assert_eq!((one.request(0, b"abc").unwrap(), one.request(0, &[0; 65_537]).unwrap()), (5, -22));
+    assert!(one.stop_told(b"").unwrap().is_none());
 }
 
 #[test]
@@ -133,5 +138,6 @@ fn an_instance_keeps_its_memory() {
     assert!(!it.stop().unwrap().is_empty());
     assert_eq!(said(it.call("absent", &[], 1, 64)), "no function is exported as \"absent\"");
     assert!(matches!(it.call("add", &[], 1, 64), Err(Error::Status(wasmloop::ARGUMENTS))));
+    assert!(it.global("absent").unwrap().is_none());
     assert!(it.call("add", &[0], 1_000_000, 64).is_ok() && it.stop().unwrap().is_empty());
 }

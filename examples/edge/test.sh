@@ -21,12 +21,19 @@ part() {
     say "$(basename "$1"): $(shift 2; echo "$*") passed in $(($(date +%s) - began)) s"
 }
 
+soak() {
+    if python3 "$here/bench/soak.py" --seconds "$2" "$1" "$out/load" "$out/guests" > "$out/soak"; then say "soak: $2 s, $(head -n 1 "$out/soak")"
+    else say "FAILED: soak: $(cat "$out/soak")"; failed=1
+    fi
+}
+
 if [ ! -f "$library/libwasmloop.a" ]; then left_out "all: there is no $library/libwasmloop.a"; exit 0; fi
 if ! pkg-config --exists libuv; then left_out "all: there is no libuv"; exit 0; fi
 if ! pkg-config --exists libllhttp && ! echo '#include <http_parser.h>' | cc -E - > /dev/null 2>&1; then left_out "all: there is no HTTP parser"; exit 0; fi
 if ! has clang || ! has wasm-ld; then left_out "all: there is no clang with wasm-ld for the guests"; exit 0; fi
 mkdir "$out/guests"
 "$here/guests/build.sh" "$out/guests" && cp "$here/../crc32.wasm" "$here/../sha256.wasm" "$out/guests" || exit 1
+cc -std=c11 -D_GNU_SOURCE -O2 -Wall -Wextra -Werror -o "$out/load" "$here/bench/load.c" -luv || exit 1
 
 for how; do
     case $how in
@@ -34,6 +41,7 @@ for how; do
         CFLAGS=-Werror "$here/build.sh" "$out/plain" "$library" || exit 1
         part "$out/plain" "$out/guests" functions bounds end clients
         if has chromium; then part "$out/plain" "$out/guests" page; else left_out 'the page: there is no chromium'; fi
+        soak "$out/plain" 10
         if has curl; then "$here/test/lines.sh" "$out/plain" "$out/guests" || failed=1; else left_out 'the lines of README.md: there is no curl'; fi
         if [ ! -f "$library/libwasmloop.so.0" ]; then left_out 'edge.py: there is no libwasmloop.so.0'
         elif ! /usr/bin/python3 -c 'import aiohttp' 2> /dev/null; then left_out 'edge.py: there is no aiohttp'
@@ -49,11 +57,10 @@ for how; do
         "$here/build.sh" "$out/plain" "$library" || exit 1
         CC=clang CFLAGS='-g -O1 -fsanitize=address,undefined -fno-sanitize-recover=undefined' "$here/build.sh" "$out/addresses" "$library" || exit 1
         CC=clang CFLAGS='-g -O1 -fsanitize=thread' "$here/build.sh" "$out/threads" "$library" || exit 1
-        cc -std=c11 -D_GNU_SOURCE -O2 -Wall -Wextra -Werror -o "$out/load" "$here/bench/load.c" -luv || exit 1
         part "$out/plain" "$out/guests" 10000
         ASAN_OPTIONS=quarantine_size_mb=8 part "$out/addresses" "$out/guests" 10000
         part "$out/threads" "$out/guests" 10000
-        python3 "$here/bench/soak.py" --seconds "${SOAK:-600}" "$out/plain" "$out/load" "$out/guests" || { say 'FAILED: bench/soak.py'; failed=1; }
+        soak "$out/plain" "${SOAK:-600}"
         if [ "$(id -u)" != 0 ]; then left_out 'bench/proxies.py: it makes namespaces as root'
         else python3 "$here/bench/proxies.py" "$out/plain" "$out/load" "$out/guests" || { say 'FAILED: bench/proxies.py'; failed=1; }
         fi ;;

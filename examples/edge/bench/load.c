@@ -11,6 +11,7 @@
  *
  * and ends with 1 where there are strays, or nothing was answered. */
 #include <inttypes.h>
+#include <signal.h>
 #include <stdbool.h>
 #include <stdio.h>
 #include <stdlib.h>
@@ -51,8 +52,11 @@ static void on_closed(uv_handle_t *handle) {
 }
 
 static void end(link_t *l) {
+    link_t **at = &first_free;
     if (l->state == CLOSES) return;
     if (l->state == ASKS) lost++;
+    while (*at && *at != l) at = &(*at)->next_free;
+    if (*at) *at = l->next_free;
     l->state = CLOSES;
     uv_close((uv_handle_t *)&l->tcp, on_closed);
 }
@@ -215,6 +219,7 @@ int main(int argc, char **argv) {
         fprintf(stderr, "usage: load [-a ADDRESS] [-c CONNECTIONS] [-d SECONDS] [-r RATE] [-b BYTES] [-m MS] PORT PATH..\n");
         return 2;
     }
+    signal(SIGPIPE, SIG_IGN);
     uv = uv_default_loop();
     uv_ip4_addr(address, port, &at);
     alarm_fd = timerfd_create(CLOCK_MONOTONIC, TFD_NONBLOCK);

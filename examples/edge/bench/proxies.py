@@ -136,11 +136,12 @@ def try_one(name, retries):
     print(f"{name}, {'retries' if retries else 'as it comes'}: {said}", flush=True)
     for it in (front, *servers):
         end(it, "terminate")
-    return not retries or re.search(r"lost 0 strays 0 .* status 200 \d+$", said) is not None
+    return re.search(r"lost 0 strays 0 .* status 200 \d+$" if retries else "^asked", said) is not None
 
 
 def main():
     shutil.copytree(told.guests, ROOM / "tenants")
+    (ROOM / "tenants/hello.conf").write_text("deadline 30000\n")  # a busy machine is no failure
     good = True
     try:
         build_net()

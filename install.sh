@@ -10,7 +10,7 @@ case $prefix in /*) ;; *) prefix=$PWD/$prefix ;; esac
 libdir=${LIBDIR:-$prefix/lib}
 root=${DESTDIR:-}
 share=$prefix/share
-version=$(sed -n 's/^#define WASMLOOP_VERSION "\(.*\)"$/\1/p' "$top/capi/wasmloop.h")
+version=$(sed -n 's/^#define WASMLOOP_VERSION "\(.*\)"$/\1/p' "$top/capi/include/wasmloop.h")
 room=$(mktemp -d)
 trap 'rm -rf "$room"' EXIT
 
@@ -18,7 +18,7 @@ trap 'rm -rf "$room"' EXIT
 files() {
     cat <<LIST
 755 dist/wasmloop $prefix/bin/wasmloop
-644 capi/wasmloop.h $prefix/include/wasmloop.h
+644 capi/include/wasmloop.h $prefix/include/wasmloop.h
 644 dist/libwasmloop.a $libdir/libwasmloop.a
 644 dist/libwasmloop.so.0 $libdir/libwasmloop.so.0
 644 $room/wasmloop.pc $libdir/pkgconfig/wasmloop.pc

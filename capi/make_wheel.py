@@ -1,4 +1,4 @@
-"""Makes the wheel of Python's wasmloop: capi/wasmloop.py and dist/libwasmloop.so.0, with the same bytes wherever it is made.
+"""Makes the wheel of Python's wasmloop: capi/python/wasmloop.py and dist/libwasmloop.so.0, with the same bytes wherever it is made.
 
 It is what pip calls for `pip install ./capi` (PEP 517), and a program: make_wheel.py FOLDER
 """
@@ -22,14 +22,14 @@ def read(path):
 
 
 def version():
-    return re.search(r'#define WASMLOOP_VERSION "(.*)"', read(f"{CAPI}/wasmloop.h").decode())[1]
+    return re.search(r'#define WASMLOOP_VERSION "(.*)"', read(f"{CAPI}/include/wasmloop.h").decode())[1]
 
 
 def build_wheel(folder, config_settings=None, metadata_directory=None):
     name, tags = f"wasmloop-{version()}", "".join(f"Tag: py3-none-{it}\n" for it in TAG.split("-")[2].split("."))
     info = f"{name}.dist-info"
     files = {
-        "wasmloop/__init__.py": read(f"{CAPI}/wasmloop.py"),
+        "wasmloop/__init__.py": read(f"{CAPI}/python/wasmloop.py"),
         "wasmloop/py.typed": b"",
         "wasmloop/libwasmloop.so.0": read(f"{TOP}/dist/libwasmloop.so.0"),
         f"{info}/PROOF.json": read(f"{TOP}/dist/PROOF.json"),

@@ -13,15 +13,15 @@ out=$(cd "$1" && pwd) parts=$(mktemp -d)
 trap 'rm -rf "$parts"' EXIT
 # one program of the kit is all of LLVM's tools, by the name that it is called by
 for tool in clang ld.lld llvm-ar llvm-objcopy; do ln -s "$KIT/toolchain/bin/clang" "$parts/$tool"; done
-names=$(sed -n 's/^[a-z].*[ *]\(wasmloop_[a-z_]*\)(.*;$/\1/p' "$capi/wasmloop.h")
-version=$(sed -n 's/^#define WASMLOOP_VERSION "\(.*\)"$/\1/p' "$capi/wasmloop.h")
+names=$(sed -n 's/^[a-z].*[ *]\(wasmloop_[a-z_]*\)(.*;$/\1/p' "$capi/include/wasmloop.h")
+version=$(sed -n 's/^#define WASMLOOP_VERSION "\(.*\)"$/\1/p' "$capi/include/wasmloop.h")
 
 cd "$parts"
 "$parts/llvm-ar" x "$archive"
 "$parts/llvm-ar" x "$KIT/c/liblibc_c.a"
 for part in wasmloop names; do
     "$parts/clang" --target=x86_64-unknown-linux-gnu -std=c99 -Wall -Wextra -Werror -O2 -fPIC -fno-asynchronous-unwind-tables \
-        -nostdinc "-I$capi" -isystem "$capi/kit" -c -o "public_$part.o" "$capi/$part.c"
+        -nostdinc "-I$capi/include" -isystem "$capi/kit" -c -o "public_$part.o" "$capi/$part.c"
 done
 
 # one object, in which the header's names alone are global: so a host may have other libraries of Rattle's beside it

@@ -11,7 +11,7 @@ trap 'rm -rf "$room"' EXIT
 umask 022
 SOURCE_DATE_EPOCH=${SOURCE_DATE_EPOCH:-$(git -C "$top" log -1 --format=%ct)}
 export SOURCE_DATE_EPOCH LC_ALL=C TZ=UTC
-version=$(sed -n 's/^#define WASMLOOP_VERSION "\(.*\)"$/\1/p' "$top/capi/wasmloop.h")
+version=$(sed -n 's/^#define WASMLOOP_VERSION "\(.*\)"$/\1/p' "$top/capi/include/wasmloop.h")
 cd "$room"
 
 name=wasmloop-$version-x86_64-linux

@@ -7,7 +7,7 @@
 set -u
 top=$(cd "$(dirname "$0")/.." && pwd) packs=$(cd "$1" && pwd) room=$(mktemp -d)
 trap 'rm -rf "$room"' EXIT
-version=$(sed -n 's/^#define WASMLOOP_VERSION "\(.*\)"$/\1/p' "$top/capi/wasmloop.h")
+version=$(sed -n 's/^#define WASMLOOP_VERSION "\(.*\)"$/\1/p' "$top/capi/include/wasmloop.h")
 guest=$top/examples/crc32.wasm wanted=891568578 failed=0 tried=0
 cd "$room" || exit 1
 awk '/^```c$/ { inside = 1; next } /^```$/ { if (inside) exit } inside' "$top/docs/EMBEDDING.md" > first.c

@@ -42,4 +42,4 @@ done | sort | xargs sha256sum | awk -v room="$room/crates" '{ split($2, part, "/
 (cd "$room/crates" && sha256sum -- *) | awk '
     NR == FNR { sum[$2] = $1; next }
     { name = $0; sub(/[ :].*/, "", name); print sum[name] "  " $0 }' - "$room/lines"
-[ "$roots" = wasmloop ] || sha256sum capi/wasmloop.h capi/wasmloop.c capi/names.c capi/kit/stddef.h capi/kit/stdint.h dist/link.sh
+[ "$roots" = wasmloop ] || sha256sum capi/include/wasmloop.h capi/wasmloop.c capi/names.c capi/kit/stddef.h capi/kit/stdint.h dist/link.sh

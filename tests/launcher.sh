@@ -10,7 +10,7 @@ room=$(mktemp -d)
 trap 'rm -rf "$room"' EXIT
 tree=$room/tree wrong=0 tried=0
 source=$tree/crates/words/src/number.rt
-version=$(sed -n 's/^#define WASMLOOP_VERSION "\(.*\)"$/wasmloop \1/p' "$top/capi/wasmloop.h")
+version=$(sed -n 's/^#define WASMLOOP_VERSION "\(.*\)"$/wasmloop \1/p' "$top/capi/include/wasmloop.h")
 differs='    crates/words'
 mkdir "$tree" "$room/bin" "$room/tools" "$room/kit"
 # (no rt and no python3 among them)

@@ -7,7 +7,7 @@ set -u
 from=$(cd "$(dirname "$0")/.." && pwd) most=${1:-20}
 work=$(mktemp -d)
 trap 'rm -rf "$work"' EXIT
-version=$(sed -n 's/^#define WASMLOOP_VERSION "\(.*\)"$/\1/p' "$from/capi/wasmloop.h")
+version=$(sed -n 's/^#define WASMLOOP_VERSION "\(.*\)"$/\1/p' "$from/capi/include/wasmloop.h")
 mkdir "$work/bin"
 # every command of the path but rt
 echo "$PATH" | tr : '\n' | while read -r folder; do

@@ -155,11 +155,11 @@ if has cc; then
     for number in 2 3; do
         { echo '#include "wasmloop.h"'; block docs/EMBEDDING.md c $number; } > "snippet$number.c"
         grep -q wasmloop_handle "snippet$number.c" || fail "docs/EMBEDDING.md has no block $number in C"
-        snippet "block $number in C" "cc -std=c99 -Wall -Werror -Icapi -c snippet$number.c"
+        snippet "block $number in C" "cc -std=c99 -Wall -Werror -Icapi/include -c snippet$number.c"
     done
 fi
 if [ -d python ] && [ -f tick.wasm ]; then
-    clang --target=wasm32 -mcpu=mvp -O1 -ffreestanding -fno-builtin -c -o kv.o capi/plugins/kv.c
+    clang --target=wasm32 -mcpu=mvp -O1 -ffreestanding -fno-builtin -c -o kv.o capi/test/plugins/kv.c
     wasm-ld --no-entry --stack-first -z stack-size=8192 -o kv.wasm kv.o
     for number in 1 2; do
         guest=$([ $number = 1 ] && echo kv.wasm || echo examples/crc32.wasm)

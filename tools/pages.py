@@ -1,5 +1,5 @@
 #!/usr/bin/env python3
-"""Writes the manual pages and the completions, of what the program says by `help` and of the comments in capi/wasmloop.h, to dist/.
+"""Writes the manual pages and the completions, of what the program says by `help` and of the comments in capi/include/wasmloop.h, to dist/.
 
 usage: pages.py PROGRAM [--check]
 
@@ -132,12 +132,12 @@ def main(program, check):
     version = said(program, "--version").split()[1]
     whole = Help(said(program, "help"))
     commands = {name: Help(said(program, "help", name)) for name, _ in whole.tables["Commands"] if name != "help"}
-    told = {f"{TOP}/capi/wasmloop.h": f'#define WASMLOOP_VERSION "{version}"', f"{TOP}/capi/rust/Cargo.toml": f'version = "{version}"'}
+    told = {f"{TOP}/capi/include/wasmloop.h": f'#define WASMLOOP_VERSION "{version}"', f"{TOP}/capi/rust/Cargo.toml": f'version = "{version}"'}
     for path, line in told.items():
         with open(path) as file:
             if line not in file.read().split("\n"):
                 sys.exit(f"the program says {version}, and {os.path.relpath(path, TOP)} does not")
-    with open(f"{TOP}/capi/wasmloop.h") as file:
+    with open(f"{TOP}/capi/include/wasmloop.h") as file:
         header = file.read()
     made = {
         "wasmloop.1": program_page(version, whole, commands),

@@ -63,7 +63,7 @@ def statement(proof_of):
         "subject": [{"name": name, "digest": {"sha256": digest}} for digest, name in sums(f"{TOP}/dist/SHA256")],
         "predicateType": "tag:wasmloop,2026:proof/1",
         "predicate": {
-            "version": re.search(r'#define WASMLOOP_VERSION "(.*)"', text_of(f"{TOP}/capi/wasmloop.h"))[1],
+            "version": re.search(r'#define WASMLOOP_VERSION "(.*)"', text_of(f"{TOP}/capi/include/wasmloop.h"))[1],
             "sources": {"sha256": hashlib.sha256(text_of(f"{TOP}/dist/SOURCES").encode()).hexdigest()},
             "prover": {"name": "rattle", "logic": logic},
             "functions": sum(it["functions"] for it in crates),

@@ -65,7 +65,7 @@ def main(program, folder):
             sys.exit(f"{name}: {got!r} is not {wanted!r}")
         for kind, ours, theirs in zip(("user", "processor", "wall"), here, served):
             print(f"{what}, {kind} time: the library {ours * 1e6:.2f} us, serve {theirs * 1e6:.2f} us, ratio {ours / theirs:.2f}")
-    env = dict(os.environ, PYTHONPATH=str(HERE.parents[1] / "capi"), WASMLOOP_LIBRARY=str(folder / "lib" / "libwasmloop.so.0"))
+    env = dict(os.environ, PYTHONPATH=str(HERE.parents[1] / "capi" / "python"), WASMLOOP_LIBRARY=str(folder / "lib" / "libwasmloop.so.0"))
     (_, loads, _), _ = least([sys.executable, "-c", "import wasmloop"], env)
     (_, bare, _), _ = least([sys.executable, "-c", "import ctypes, functools, threading, typing"], env)
     print(f"a Python process that loads the library: {loads * 1e3:.1f} ms, one that does not: {bare * 1e3:.1f} ms, ratio {loads / bare:.2f}")

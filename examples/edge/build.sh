@@ -4,7 +4,7 @@
 # libhttp-parser-dev); CC names the compiler, CFLAGS more flags.
 set -eu
 here=$(cd "$(dirname "$0")" && pwd)
-library=${2:-$here/../../dist} header=$here/../../capi
+library=${2:-$here/../../dist} header=$here/../../capi/include
 [ ! -f "$library/wasmloop.h" ] || header=$library
 if pkg-config --exists libllhttp 2> /dev/null; then
     parser="-DEDGE_LLHTTP $(pkg-config --cflags --libs libllhttp)"

@@ -1,6 +1,6 @@
 """An HTTP server that runs a module for each tenant, on asyncio and aiohttp (Debian: python3-aiohttp), as edge.c does, but for loops.
 
-usage: WASMLOOP_LIBRARY=libwasmloop.so PYTHONPATH=capi python3 edge.py FOLDER [PORT [WORKERS]]
+usage: WASMLOOP_LIBRARY=libwasmloop.so PYTHONPATH=capi/python python3 edge.py FOLDER [PORT [WORKERS]]
 
 POST /NAME[/OP] hands the body to uv_work(OP) of FOLDER/NAME.wasm; FOLDER/NAME.conf may have lines as "fuel 2000000". A file that has
 changed is read anew by the request that sees it; where a module is refused, the old one stays. README.md has the statuses. A deadline is

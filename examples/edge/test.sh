@@ -45,7 +45,7 @@ for how; do
         if has curl; then "$here/test/lines.sh" "$out/plain" "$out/guests" || failed=1; else left_out 'the lines of README.md: there is no curl'; fi
         if [ ! -f "$library/libwasmloop.so.0" ]; then left_out 'edge.py: there is no libwasmloop.so.0'
         elif ! /usr/bin/python3 -c 'import aiohttp' 2> /dev/null; then left_out 'edge.py: there is no aiohttp'
-        else WASMLOOP_LIBRARY=$library/libwasmloop.so.0 PYTHONPATH=$top/capi part "$out/plain" "$out/guests" python
+        else WASMLOOP_LIBRARY=$library/libwasmloop.so.0 PYTHONPATH=$top/capi/python part "$out/plain" "$out/guests" python
         fi ;;
     addresses)
         CC=clang CFLAGS='-g -O1 -fsanitize=address,undefined -fno-sanitize-recover=undefined' "$here/build.sh" "$out/addresses" "$library" || exit 1

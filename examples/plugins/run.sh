@@ -13,7 +13,7 @@ work=${2:-$(mktemp -d)}
 [ $# -gt 1 ] || trap 'rm -r "$work"' EXIT
 mkdir -p "$work" && cd "$work"
 for name in count csv_sum hostile; do cp "$here/$name.c" . && "$here/../build.sh" "$name"; done
-"${HOSTCC:-cc}" -std=c99 -Wall -Wextra -O1 -o plugins "$here/plugins.c" -I "$here/../../capi" "$library"
+"${HOSTCC:-cc}" -std=c99 -Wall -Wextra -O1 -o plugins "$here/plugins.c" -I "$here/../../capi/include" "$library"
 printf 'banana' > word.txt
 printf 'name,count\npears,3\n"apples, red",-40\nplums,12\n' > fruit.csv
 printf '\0asm' > cut.wasm

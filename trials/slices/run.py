@@ -128,7 +128,7 @@ def main():
     words.add_argument("--seed", type=int, default=1)
     given = words.parse_args()
     os.environ["WASMLOOP_LIBRARY"] = str(Path(given.folder).resolve() / "lib" / "libwasmloop.so.0")
-    sys.path.insert(0, str(HERE.parents[1] / "capi"))
+    sys.path.insert(0, str(HERE.parents[1] / "capi" / "python"))
     import wasmloop
 
     differ = compare_all(wasmloop, given.modules, given.seed) + compare_long(wasmloop)

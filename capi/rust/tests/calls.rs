@@ -1,4 +1,4 @@
-//! The calls on the examples of this repository, and on the plug-in that WASMLOOP_PLUGIN names (capi/plugins/kv.c), where it does.
+//! The calls on the examples of this repository, and on the plug-in that WASMLOOP_PLUGIN names (capi/test/plugins/kv.c), where it does.
 
 use std::{env, fs, thread};
 use wasmloop::{Error, Instance, Job, Limits, Loop, Module, Task};

@@ -263,7 +263,7 @@ def alone(port, threads=told.threads, program=None):
 
 def plain(_):
     (ROOM / "plain").mkdir()
-    subprocess.run(["cc", "-O2", "-w", "-I", HERE.parents[2] / "capi", "-c", HERE / "plain.c", "-o", ROOM / "plain/plain.o"], check=True)
+    subprocess.run(["cc", "-O2", "-w", "-I", HERE.parents[2] / "capi" / "include", "-c", HERE / "plain.c", "-o", ROOM / "plain/plain.o"], check=True)
     subprocess.run(["ar", "rcs", ROOM / "plain/libwasmloop.a", ROOM / "plain/plain.o"], check=True)
     subprocess.run([HERE.parent / "build.sh", ROOM / "plain/edge", ROOM / "plain"], check=True)
     got = {"edge": [], "a C function": []}

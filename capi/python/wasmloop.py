@@ -8,7 +8,7 @@ The library is the file that WASMLOOP_LIBRARY names, else libwasmloop.so.0 besid
 it. A Module may be used by several threads; a Loop and an Instance by one at a time. A Job may be run in any thread.
 
 A call that is not done raises Error, whose text says why. A number out of its range raises OutOfRange, which is an Error and a
-ValueError, and a word of a wrong type TypeError. capi/wasmloop.h says what each number means.
+ValueError, and a word of a wrong type TypeError. capi/include/wasmloop.h says what each number means.
 """
 
 from __future__ import annotations

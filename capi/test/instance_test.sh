@@ -12,4 +12,4 @@ for name in start fails plain; do wat2wasm -o "$out/$name.wasm" "$here/plugins/$
 ${CC:-cc} -std=c11 -Wall -Wextra -Werror -g -fsanitize=address,undefined -fno-sanitize-recover=all "-I$prefix/include" -o "$out/instance_test" \
     "$here/instance_test.c" "$prefix/lib/libwasmloop.a"
 "$out/instance_test" "$out"
-WASMLOOP_LIBRARY=$prefix/lib/libwasmloop.so.0 PYTHONPATH=$here PYTHONDONTWRITEBYTECODE=1 python3 "$here/instance_test.py" "$out"
+WASMLOOP_LIBRARY=$prefix/lib/libwasmloop.so.0 PYTHONPATH=$here/../python PYTHONDONTWRITEBYTECODE=1 python3 "$here/instance_test.py" "$out"

@@ -1,10 +1,11 @@
 #!/bin/sh
 # Installs what is shipped in a folder, as a user would, and runs tests and hosts over it. A host is right where it prints what PROGRAM prints.
 #
-# usage: test.sh PROGRAM OUT       PROGRAM: the built wasmloop; OUT: a folder
+# usage: run.sh PROGRAM OUT       PROGRAM: the built wasmloop; OUT: a folder
 #
 # What needs a program or a package that isn't there is left out, and said. Ends with 1 where anything differs or fails.
-here=$(cd "$(dirname "$0")" && pwd) top=$(cd "$(dirname "$0")/.." && pwd)
+here=$(cd "$(dirname "$0")" && pwd) top=$(cd "$(dirname "$0")/../.." && pwd)
+hosts=$top/capi/hosts python=$top/capi/python rust=$top/capi/rust
 mkdir -p "$2" || exit 1
 program=$(readlink -f "$1") out=$(cd "$2" && pwd)
 examples=$top/examples
@@ -165,7 +166,7 @@ else left_out "the header in C++: there is no c++"; fi
 
 if command -v cmake > /dev/null; then
     mkdir -p "$out/cmake"
-    sed "s/@version@/$(sed -n 's/^#define WASMLOOP_VERSION "\([0-9]*\.[0-9]*\).*/\1/p' "$here/wasmloop.h")/" > "$out/cmake/CMakeLists.txt" <<'END'
+    sed "s/@version@/$(sed -n 's/^#define WASMLOOP_VERSION "\([0-9]*\.[0-9]*\).*/\1/p' "$top/capi/include/wasmloop.h")/" > "$out/cmake/CMakeLists.txt" <<'END'
 cmake_minimum_required(VERSION 3.10)
 project(first C)
 find_package(wasmloop @version@ REQUIRED)
@@ -190,7 +191,7 @@ else left_out "a cancel of work that runs: there is no clang with wasm-ld"; fi
 
 if [ -f /usr/include/uv.h ]; then
     # shellcheck disable=SC2086
-    try cc $c $checked -o "$out/host_uv" "$here/host_uv.c" "$lib/libwasmloop.a" -luv
+    try cc $c $checked -o "$out/host_uv" "$hosts/host_uv.c" "$lib/libwasmloop.a" -luv
     compare host_uv '--loops 2 --workers 1' "VIRTUAL=1 '$out/host_uv' 2 < \"\$1\"" exactly
     compare 'host_uv in real time' '--loops 2 --workers 1' "'$out/host_uv' 2 < \"\$1\"" counted
     prints host_uv cancels "$cancelled" "'$out/host_uv' 1 < \"\$1\""
@@ -198,31 +199,31 @@ if [ -f /usr/include/uv.h ]; then
 else left_out "the libuv host: libuv1-dev is not there"; fi
 
 if command -v python3 > /dev/null; then
-    export WASMLOOP_LIBRARY="$lib/libwasmloop.so.0" PYTHONPATH="$here" PYTHONDONTWRITEBYTECODE=1
-    compare host.py '--loops 2 --workers 1' "python3 '$here/host.py' \"\$1\" 2" exactly
-    compare host_asyncio.py '--loops 1 --workers 1' "python3 '$here/host_asyncio.py' \"\$1\" --virtual" exactly
-    compare 'host_asyncio.py in real time' '--loops 1 --workers 1' "python3 '$here/host_asyncio.py' \"\$1\"" counted
-    prints host.py cancels "$cancelled" "python3 '$here/host.py' \"\$1\" 1"
-    prints host_asyncio.py cancels "$cancelled" "python3 '$here/host_asyncio.py' \"\$1\""
+    export WASMLOOP_LIBRARY="$lib/libwasmloop.so.0" PYTHONPATH="$python" PYTHONDONTWRITEBYTECODE=1
+    compare host.py '--loops 2 --workers 1' "python3 '$hosts/host.py' \"\$1\" 2" exactly
+    compare host_asyncio.py '--loops 1 --workers 1' "python3 '$hosts/host_asyncio.py' \"\$1\" --virtual" exactly
+    compare 'host_asyncio.py in real time' '--loops 1 --workers 1' "python3 '$hosts/host_asyncio.py' \"\$1\"" counted
+    prints host.py cancels "$cancelled" "python3 '$hosts/host.py' \"\$1\" 1"
+    prints host_asyncio.py cancels "$cancelled" "python3 '$hosts/host_asyncio.py' \"\$1\""
     try python3 "$here/calls_test.py" "$examples" "$program"
     tail -1 "$out/said"
     if python3 -m pip --version > /dev/null 2>&1; then
         rm -rf "$out/site"
-        try python3 -m pip install --quiet --no-index --no-cache-dir --root-user-action=ignore --target "$out/site" "$here"
+        try python3 -m pip install --quiet --no-index --no-cache-dir --root-user-action=ignore --target "$out/site" "$top/capi"
         [ "$(env -u WASMLOOP_LIBRARY PYTHONPATH="$out/site" python3 -c 'import sys, wasmloop; print(wasmloop.Module(open(sys.argv[1], "rb").read()).work(0, b"abc").value)' \
             "$examples/crc32.wasm")" = "$("$out/first" "$examples/crc32.wasm")" ] || fail "the wheel"
     else left_out "the wheel: python3 has no pip"; fi
     if python3 -c 'import distributed' 2> /dev/null; then
         seq 300000 > "$out/lines"
-        try timeout 200 python3 "$here/spread.py" "$examples/sha256.wasm" "$out/lines" --kill 4
+        try timeout 200 python3 "$hosts/spread.py" "$examples/sha256.wasm" "$out/lines" --kill 4
         tail -1 "$out/said"
     else left_out "the blocks spread by Dask: python3-distributed is not there"; fi
 else left_out "the Python hosts: there is no python3"; fi
 
 if command -v cargo > /dev/null; then
-    try env PKG_CONFIG_PATH="$lib/pkgconfig" CARGO_TARGET_DIR="$out/rust" cargo build --quiet --offline --manifest-path "$here/rust/Cargo.toml"
+    try env PKG_CONFIG_PATH="$lib/pkgconfig" CARGO_TARGET_DIR="$out/rust" cargo build --quiet --offline --manifest-path "$rust/Cargo.toml"
     try env PKG_CONFIG_PATH="$lib/pkgconfig" CARGO_TARGET_DIR="$out/rust" "WASMLOOP_PLUGIN=${plugins:+$out/plugins/kv.wasm}" \
-        cargo test --quiet --offline --manifest-path "$here/rust/Cargo.toml"
+        cargo test --quiet --offline --manifest-path "$rust/Cargo.toml"
     compare host.rs '--loops 1 --workers 1' "'$out/rust/debug/host' \"\$1\"" exactly
     prints host.rs cancels "$cancelled" "'$out/rust/debug/host' \"\$1\""
 else left_out "the Rust host: there is no cargo"; fi

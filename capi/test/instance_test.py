@@ -1,4 +1,4 @@
-"""An instance from Python. usage: PYTHONPATH=capi WASMLOOP_LIBRARY=LIBRARY instance_test.py FOLDER"""
+"""An instance from Python. usage: PYTHONPATH=capi/python WASMLOOP_LIBRARY=LIBRARY instance_test.py FOLDER"""
 
 import sys
 

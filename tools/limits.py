@@ -15,7 +15,7 @@ from pathlib import Path
 from sources import Sources as Texts
 
 TOP = Path(__file__).resolve().parent.parent
-PAGE, LIMITS = "docs/LIMITS.md", "crates/limits/src/lib.rt"
+PAGE, LIMITS, HELPS = "docs/LIMITS.md", "crates/limits/src/lib.rt", "crates/words/src/grammar.rt"
 CONSTANT = re.compile(r"\bconst ([A-Z][A-Z_0-9]*): \w+ = ([\d_]+);")
 SENTENCE = re.compile(r"(?:[Mm]ore than|at most|deeper than) (\d[\d,]*)(?: ([a-z]+))?")
 
@@ -31,7 +31,8 @@ class Sources(Texts):
         for file in sorted(TOP.glob("crates/*/src/**/*.rt")):
             name = str(file.relative_to(TOP))
             if "/test_" not in name and "/example_" not in name:
-                yield from ((name, string) for string in re.findall(r'"((?:[^"\\]|\\.)*)"', re.sub(r"(?m)//[^\n]*", "", self.text(name))))
+                text = re.sub(r"(?m)//[^\n]*|b?'(?:[^'\\\n]|\\.)'", "", self.text(name))
+                yield from ((name, string) for string in re.findall(r'(?s)"((?:[^"\\]|\\.)*)"', text))
 
 
 def constants(sources):
@@ -93,8 +94,7 @@ PLANTED = [
     ("a constant without a row", LIMITS, r"(?m)^(pub const MAX_EMITS)", r"pub const MAX_NEW: u32 = 7;\n\n\1"),
     ("a row's number", PAGE, r"\| 4,096 \|", "| 4,095 |"),
     ("a row's name", PAGE, r"`MAX_TYPES`", "`MAX_TYPE`"),
-    ("a sentence's number", None, r"(more than )1,024( types)", r"\g<1>1,023\2"),
-    ("a sentence's number, of another limit", None, r"(more than )64( imports)", r"\g<1>256\2"),
+    ("a sentence's number", HELPS, r"(at most )65,536( of them)", r"\g<1>65,535\2"),
 ]
 
 

@@ -4,8 +4,8 @@
     trials/hostile/run.py PROGRAM
 
 A line each: what it is, the seconds of processor time, the greatest resident memory, and the answer. A `check` that takes more than a
-second or 64 MiB, or that answers something else than it should, is marked, and the status is then 1. What a unit of
-fuel costs at worst is measured by bench/fuel/run.py.
+second or 64 MiB, or that answers something else than it should, is marked, and the status is then 1. So is a command that says something
+else where a thread has the stack alone that docs/LIMITS.md asks for. What a unit of fuel costs at worst is measured by bench/fuel/run.py.
 """
 import os
 import pathlib
@@ -15,6 +15,7 @@ import tempfile
 
 SIZE = 1024 * 1024
 SECONDS, MEMORY = 1.0, 64 * 1024  # of a check; kibibytes
+STACK = 128  # kibibytes
 OPENING = b"\0asm\1\0\0\0"
 
 
@@ -160,6 +161,28 @@ def show(program, number, file):
     return is_good
 
 
+EXAMPLES = pathlib.Path(__file__).resolve().parents[2] / "examples"
+ON_SMALL_STACKS = [
+    ("check", "digest.wasm"),
+    ("check", "sha256.wasm"),
+    ("invoke", "endless.wasm", "uv_main", "--depth", "128"),
+    ("work", "sha256.wasm", "0", "616263"),
+    ("script", "digest.json"),
+    ("serve", "digest.wasm", "--loops", "8", "--workers", "16"),
+    ("serve", "asks.wasm", "--loops", "2", "--workers", "2", "--work-fuel", "2"),
+]
+
+
+def show_on_small_stack(program, words):
+    """Prints the line of a command whose threads have little stack, and tells whether it says what it says with more."""
+    command = [program, words[0], str(EXAMPLES / words[1]), *words[2:]]
+    most, least = (subprocess.run(["prlimit", f"--stack={size << 10}", *command], capture_output=True) for size in (8192, STACK))
+    # in which order a loop is told of its requests is the threads' own
+    is_good = most.returncode == least.returncode and sorted((most.stdout + most.stderr).split()) == sorted((least.stdout + least.stderr).split())
+    print(f"{' ' if is_good else '!'} {STACK} KiB of stack  {' '.join(words)}: status {least.returncode}", flush=True)
+    return is_good
+
+
 def main():
     if sys.argv[1:2] == ["--make"]:
         pathlib.Path(sys.argv[3]).write_bytes(ROWS[int(sys.argv[2])][2]())
@@ -168,6 +191,7 @@ def main():
         sys.exit(__doc__)
     with tempfile.TemporaryDirectory() as name:
         good = [show(sys.argv[1], number, f"{name}/hostile") for number in range(len(ROWS))]
+    good += [show_on_small_stack(sys.argv[1], words) for words in ON_SMALL_STACKS]
     sys.exit(not all(good))
 
 

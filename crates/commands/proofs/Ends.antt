@@ -10,10 +10,10 @@ use Rattle.std.specs.Arc.{arc_value}
 use Rattle.commands.specs.Working.{IsResult, asked_order}
 
 -- an order of these parts is the one that was asked for
-pub is_asked : (o : Order) (work : WorkRequest) (linked : Loaded) → o.loop_no ≡ 0 → o.request ≡ 1 → o.slot ≡ 0
-    → arc_value o.module ≡ linked → o.op ≡ work.operation → (arc_value o.bytes).items ≡ work.bytes.items → o.fuel ≡ work.fuel
-    → o.depth ≡ work.depth → order_of o ≡ asked_order work linked
-is_asked o work linked loop_no number slot loaded op bytes fuel depth = rw (loop_no, number, slot, loaded, op, bytes, fuel, depth) refl
+pub is_asked : (o : Order) (work : WorkRequest) (read : List ℕ) (linked : Loaded) → o.loop_no ≡ 0 → o.request ≡ 1 → o.slot ≡ 0
+    → arc_value o.module ≡ linked → o.op ≡ work.operation → (arc_value o.bytes).items ≡ read → o.fuel ≡ work.fuel
+    → o.depth ≡ work.depth → order_of o ≡ asked_order work read linked
+is_asked o work read linked loop_no number slot loaded op bytes fuel depth = rw (loop_no, number, slot, loaded, op, bytes, fuel, depth) refl
 
 -- a result, and where one thread computes one end at most it is the end
 pub record Result (o : WorkOrder) (end : WorkEnd) : Type 0 where

@@ -44,15 +44,16 @@ pub record HasInvoked (gives : List ℕ → ℕ → List ℕ → Type 0) (i : In
   pub called : IsCalled contents i.fuel i.depth function args (Function ended)
   pub returned : HasReturned ended.ending
 
--- what is written behind what the output held is given where that is known
-abbrev pub IsDone : (List ℕ → ℕ → List ℕ → Type 0) → Option (List ℕ) → Option (List ℕ) → Command → Type 0
-IsDone gives before after (Check file) = ((contents : Contents) × Holds gives (string_bytes file) contents)
+-- Of an output whose bytes are known it is said what was appended to them.
+abbrev pub IsDone : (List ℕ → ℕ → List ℕ → Type 0) → (List ℕ → List ℕ → Type 0)
+    → (out_before out_after err_before err_after : Option (List ℕ)) → Command → Type 0
+IsDone gives takes before after _ _ (Check file) = ((contents : Contents) × Holds gives (string_bytes file) contents)
     × Appends before after (codes "accepted\n")
-IsDone gives before after (Invoke invocation) = HasInvoked gives invocation
-IsDone gives before after (Work order) = HasWorked gives before after order
-IsDone gives before after (Script file) = HasRun gives before after (string_bytes file)
+IsDone gives takes _ _ _ _ (Invoke invocation) = HasInvoked gives invocation
+IsDone gives takes before after said_before said_after (Work order) = HasWorked gives takes before after said_before said_after order
+IsDone gives takes before after _ _ (Script file) = HasRun gives before after (string_bytes file)
 -- what loops in threads print is no clause's
-IsDone gives before after (Serve service) = HasServedAll gives service
+IsDone gives takes _ _ _ _ (Serve service) = HasServedAll gives service
 
 -- whose file is refused where the status is 3
 abbrev pub IsRefusedBy : (List ℕ → ℕ → List ℕ → Type 0) → Command → Type 0
@@ -64,10 +65,10 @@ IsRefusedBy gives (Script file) = Unit {0}
 IsRefusedBy gives (Serve service) = Unit {0}
 
 -- what has ended otherwise where the status is 4
-abbrev pub IsEnded : (List ℕ → ℕ → List ℕ → Type 0) → Option (List ℕ) → Option (List ℕ) → Command → Type 0
-IsEnded gives before after (Work order) = HasStopped gives before after order
+abbrev pub IsEnded : (List ℕ → ℕ → List ℕ → Type 0) → (List ℕ → List ℕ → Type 0) → (before after : Option (List ℕ)) → Command → Type 0
+IsEnded gives takes before after (Work order) = HasStopped gives takes before after order
 -- of the others no clause says it
-IsEnded gives before after (Check file) = Unit {0}
-IsEnded gives before after (Invoke invocation) = Unit {0}
-IsEnded gives before after (Script file) = Unit {0}
-IsEnded gives before after (Serve service) = Unit {0}
+IsEnded gives takes before after (Check file) = Unit {0}
+IsEnded gives takes before after (Invoke invocation) = Unit {0}
+IsEnded gives takes before after (Script file) = Unit {0}
+IsEnded gives takes before after (Serve service) = Unit {0}

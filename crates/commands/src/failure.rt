@@ -5,9 +5,11 @@ ghost use Rattle.std.specs.Prelude.{◌≡◌};
 use crate::file::ReadFault;
 use crate::status::Status;
 use instance::fault::InstFault;
-use loader::{Account, Refusal};
+use limits::{MAX_BYTES, MAX_MODULE_BYTES};
+use loader::Refusal;
+use places::Shown;
 use script::ScriptFault;
-use sentences::{Listing, Mismatch};
+use sentences::{Account, Grouped, Listing, Mismatch};
 use std::alloc::{AllocError, AllocFailed, Global};
 use std::io::{self, ErrorKind, Write};
 use std::{fmt, str};
@@ -35,6 +37,11 @@ pub enum Failure<'a> {
     Memory,
     /// The result can't be written, for this reason.
     Output(io::Error),
+    /// The file of this name can't be written, for this reason.
+    Unwritten {
+        name: &'a str,
+        reason: io::Error,
+    },
     /// The bytes of the file, or of a module of the script, are no guest.
     Refused {
         module: Option<usize>,
@@ -53,6 +60,8 @@ pub enum Failure<'a> {
     },
     /// The words are not the arguments that the function takes.
     Arguments(Mismatch<'a>),
+    /// The file of this name, which is the input of a work order, has more than `MAX_BYTES` bytes.
+    TooLong(&'a str),
 }
 
 /// The names under which the module exports functions.
@@ -80,6 +89,16 @@ impl<'a> Failure<'a> {
         }
     }
 
+    /// The file of this name is not written.
+    pub fn unwritten(name: &'a str, reason: io::Error) -> Failure<'a>
+        ensures { status_of_failure result ≡ status.Failed }
+    {
+        match reason.kind() {
+            ErrorKind::OutOfMemory => Failure::Memory,
+            _ => Failure::Unwritten { name, reason },
+        }
+    }
+
     /// The module exports no function of this name.
     pub fn no_function(alloc: Global, contents: &Contents, name: &'a str) -> Failure<'a> {
         Failure::NoFunction {
@@ -93,10 +112,14 @@ impl<'a> Failure<'a> {
         ensures { result ≡ status_of_failure self.now }
     {
         match self {
-            Failure::File { .. } | Failure::Memory | Failure::Output(_) | Failure::Script { .. } =>
-                Status::Failed,
+            Failure::File { .. }
+            | Failure::Memory
+            | Failure::Output(_)
+            | Failure::Unwritten { .. }
+            | Failure::Script { .. } => Status::Failed,
             Failure::Refused { .. } => Status::Refused,
-            Failure::NoFunction { .. } | Failure::Arguments(_) => Status::Usage,
+            Failure::NoFunction { .. } | Failure::Arguments(_) | Failure::TooLong(_) =>
+                Status::Usage,
         }
     }
 
@@ -115,6 +138,12 @@ impl<'a> Failure<'a> {
             Failure::NoFunction { there, .. } => tell_functions(there, err),
             Failure::Arguments(mismatch) => writeln!(err, "{mismatch}"),
             Failure::Output(reason) => writeln!(err, "standard output: {reason}"),
+            Failure::Unwritten { name, reason } => writeln!(err, "{}: {reason}", Shown(*name)),
+            Failure::TooLong(name) => writeln!(
+                err,
+                "{}: more than {MAX_BYTES} bytes; at most so many can be given",
+                Shown(*name)
+            ),
             Failure::File { name, .. } if *name == "-" => {
                 writeln!(err, "standard input is /dev/stdin")
             }
@@ -135,7 +164,8 @@ fn tell_site<E: Write>(what: &str, site: &Site, err: &mut E) -> io::Result<()> {
     match site {
         Site::TooLong => writeln!(
             err,
-            "the {what} has more than 1,048,576 bytes (strip its debug names)"
+            "the {what} has more than {} bytes (strip its debug names)",
+            Grouped(MAX_MODULE_BYTES as u64)
         ),
         Site::Told(account) => writeln!(err, "{account}"),
     }
@@ -144,9 +174,9 @@ fn tell_site<E: Write>(what: &str, site: &Site, err: &mut E) -> io::Result<()> {
 impl fmt::Display for Failure<'_> {
     fn fmt<W: fmt::Write>(&self, f: &mut fmt::Formatter<W>) -> fmt::Result {
         match self {
-            Failure::File { name, reason } => write!(f, "file\n{name}: {reason}"),
+            Failure::File { name, reason } => write!(f, "file\n{}: {reason}", Shown(*name)),
             Failure::Memory => f.write_str("memory"),
-            Failure::Output(_) => f.write_str("output"),
+            Failure::Output(_) | Failure::Unwritten { .. } => f.write_str("output"),
             Failure::Refused {
                 module: Some(number),
                 refusal,
@@ -157,8 +187,8 @@ impl fmt::Display for Failure<'_> {
                 let code = fault.code();
                 write!(f, "script {code} {fault}")
             }
-            Failure::NoFunction { name, .. } => write!(f, "no function {name}"),
-            Failure::Arguments(_) => f.write_str("arguments"),
+            Failure::NoFunction { name, .. } => write!(f, "no function {}", Shown(*name)),
+            Failure::Arguments(_) | Failure::TooLong(_) => f.write_str("arguments"),
         }
     }
 }

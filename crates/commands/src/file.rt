@@ -1,9 +1,9 @@
-// Where the bytes of a FILE come from.
+// Where the bytes of a file come from, and where they go.
 
-ghost use Rattle.std.specs.Prelude.{List, ℕ, IfOk};
+ghost use Rattle.std.specs.Prelude.{List, ℕ, IfOk, OnOk};
 
 use std::alloc::Global;
-use std::fs::File;
+use std::fs::{self, File};
 use std::io::{self, ErrorKind, Read};
 use std::rt::Files;
 
@@ -35,6 +35,16 @@ pub trait Reader {
         ensures { IfOk result (λ bytes. gives self.now name.now most bytes.items) };
 }
 
+/// Writes files by their names.
+pub trait Writer {
+    // The file of this name was made of these bytes.
+    ghost takes: { Self → List ℕ → List ℕ → Type 0 };
+
+    /// Makes the file of these bytes, or replaces it.
+    fn write(&self, name: &str, bytes: &[u8]) -> io::Result<()>
+        ensures { OnOk result (takes self.now name.now bytes.now) };
+}
+
 /// The files of the system.
 #[derive(Drop)]
 pub struct SystemFiles<'a, R> {
@@ -56,5 +66,13 @@ impl<'a, R: Files> Reader for SystemFiles<'a, R> {
         let mut bytes = Vec::new(alloc);
         file.take(most as u64).read_to_end(&mut bytes)?;
         Ok(bytes)
+    }
+}
+
+impl<'a, R: Files> Writer for SystemFiles<'a, R> {
+    ghost takes = { λ _ _ _. Unit {0} };
+
+    fn write(&self, name: &str, bytes: &[u8]) -> io::Result<()> {
+        fs::write(self.runtime, name, bytes)
     }
 }

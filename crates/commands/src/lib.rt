@@ -24,5 +24,5 @@ mod telling;
 mod tracing;
 mod working;
 
-pub use file::{ReadFault, Reader, SystemFiles};
+pub use file::{ReadFault, Reader, SystemFiles, Writer};
 pub use performing::perform;

@@ -11,6 +11,7 @@ use crate::file::Reader;
 use imports::Linked;
 use limits::MAX_MODULE_BYTES;
 use loader::Refusal;
+use sentences::explain;
 use std::alloc::Global;
 
 /// One byte more than a module may have: whatever comes behind it changes no answer.
@@ -20,7 +21,7 @@ fn site_of(alloc: Global, bytes: &[u8], refusal: Refusal) -> Site {
     if bytes.len() > MAX_MODULE_BYTES {
         return Site::TooLong;
     }
-    Site::Told(refusal.explain(alloc, bytes))
+    Site::Told(explain(refusal, alloc, bytes))
 }
 
 fn refused(alloc: Global, bytes: &[u8], refusal: Refusal) -> Failure<'static>

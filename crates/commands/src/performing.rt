@@ -5,13 +5,13 @@ ghost use Rattle.std.specs.Io.KnownBytes.{Appends};
 ghost use Rattle.syntax.specs.declared.contents.Contents.{Contents};
 ghost use Rattle.commands.specs.Accepted.{Holds, HoldsNone};
 ghost use Rattle.commands.specs.Calling.{HasReturned, HasFunctionReturned};
-ghost use Rattle.commands.specs.Inner.Statuses.{status_of_failure, status_of_end};
+ghost use Rattle.commands.specs.Inner.Statuses.{status_of_failure, status_of_end, OnDone, OnEnded};
 ghost use Rattle.commands.specs.Performing.{HasInvoked, IsCallOf, Returns, IsDone, IsRefusedBy, IsEnded};
 
 use crate::arguments::values;
 use crate::calling::{Called, call, exported_function, has_returned};
 use crate::failure::Failure;
-use crate::file::Reader;
+use crate::file::{Reader, Writer};
 use crate::loading::{load, load_whole};
 use crate::scripting::script;
 use crate::serving::serve_file;
@@ -21,14 +21,15 @@ use crate::working::work;
 use events::ended::{Ended, Ending};
 use instance::state::Instance;
 use order::Trail;
-use sentences::{EndedLine, Stopped, tell_stopped, warn};
+use places::Shown;
+use sentences::{Allowed, EndedLine, Stopped, tell_stopped, warn};
 use serve::{Job, Task};
 use std::alloc::{AllocError, Global};
 use std::io::{self, Write};
 use std::sync::Wait;
 use std::thread::Threads;
 use validate::Valid;
-use words::{Command, Invocation};
+use words::{Command, Invocation, WorkOutput, WorkRequest};
 
 /// Tells whether the module of the file is accepted.
 fn check<'a, R: Reader, O: Write, E: Write>(
@@ -113,18 +114,19 @@ fn ended_call<'c>(name: &'c str, called: &'c Called) -> (&'c str, &'c Ended) {
 
 /// Says in a sentence where a call stopped.
 fn explain<E: Write>(
-    name: &str,
+    invocation: &Invocation,
     bytes: &[u8],
     called: &Called,
     instance: &Instance,
     err: &mut E,
 ) -> io::Result<()> {
-    let (what, ended) = ended_call(name, called);
+    let (what, ended) = ended_call(invocation.name.as_str(), called);
     let Some(stop) = instance.last_stop() else {
         return Ok(());
     };
-    match Stopped::of_call(ended, &Trail::of(&stop)) {
-        Some(stopped) => tell_stopped(&what, bytes, &stopped, err),
+    let allowed = Allowed::by_options(invocation.depth);
+    match Stopped::of_call(ended, &Trail::of(&stop), allowed) {
+        Some(stopped) => tell_stopped(&Shown(what), bytes, &stopped, err),
         None => Ok(()),
     }
 }
@@ -152,7 +154,7 @@ fn call_and_tell<'a, O: Write, E: Write>(
     let (called, instance) = call_named(alloc, valid, invocation)?;
     let status = tell_called(&called, out)?;
     // a sentence that can't be written changes nothing
-    let _ = explain(invocation.name.as_str(), bytes, &called, &instance, err);
+    let _ = explain(invocation, bytes, &called, &instance, err);
     let _ = trace(invocation, &called, err);
     Ok(status)
 }
@@ -172,41 +174,73 @@ fn invoke<'a, R: Reader, O: Write, E: Write>(
     call_and_tell(alloc, loaded.0.valid(), bytes, invocation, out, err)
 }
 
-/// Tells why there is no result: a refused module to `out`, everything else to `err`.
-fn tell<O: Write, E: Write>(failure: &Failure<'_>, out: &mut O, err: &mut E) -> Status
+/// Tells to `err` that what should be printed can't be.
+fn tell_unprinted<E: Write>(reason: io::Error, err: &mut E) -> io::Result<()> {
+    let failure = Failure::Output(reason);
+    writeln!(err, "{failure}")?;
+    failure.explain(err)
+}
+
+/// Tells that a module is refused. Where that can't be written, the output is what failed.
+fn tell_refused<O: Write, E: Write>(failure: &Failure<'_>, out: &mut O, err: &mut E) -> Status
+    ensures { (result ≡ Status.Refused) ⊎ (result ≡ Status.Failed) }
+{
+    match writeln!(out, "{failure}") {
+        Ok(()) => Status::Refused,
+        Err(reason) => {
+            // a sentence that can't be written changes nothing
+            let _ = tell_unprinted(reason, err);
+            Status::Failed
+        }
+    }
+}
+
+/// Tells why there is no result: everything to `err`, but where results go to `out` a refused module.
+fn tell<O: Write, E: Write>(failure: &Failure<'_>, is_raw: bool, out: &mut O, err: &mut E) -> Status
     ensures done { result ≢ Status.Done }
     ensures ended { result ≢ Status.Ended }
     ensures refused { result ≡ Status.Refused → status_of_failure failure.now ≡ Status.Refused }
 {
-    let status = failure.status();
-    let told = match status {
-        Status::Refused => writeln!(out, "{failure}"),
-        _ => writeln!(err, "{failure}"),
+    let status = match failure.status() {
+        Status::Refused if !is_raw => tell_refused(failure, out, err),
+        status => {
+            // a sentence that can't be written changes nothing
+            let _ = writeln!(err, "{failure}");
+            status
+        }
     };
-    // a sentence that can't be written changes nothing
     let _ = failure.explain(err);
-    match told {
-        Ok(()) => status,
-        Err(_) => Status::Failed,
-    }
+    status
 }
 
 /// What the program ends with. Why there is no result is told.
 fn status_from<O: Write, E: Write>(
     ended: Result<Status, Failure<'_>>,
+    is_raw: bool,
     out: &mut O,
     err: &mut E,
 ) -> Status
     ensures done { result ≡ Status.Done → ended.entry ≡ Ok Status.Done }
-    ensures kept { result ≡ Status.Done → out.new ≡ out.old }
+    ensures kept { result ≡ Status.Done → (out.new ≡ out.old) × (err.new ≡ err.old) }
     ensures ended { result ≡ Status.Ended → ended.entry ≡ Ok Status.Ended }
-    ensures kept_ended { result ≡ Status.Ended → out.new ≡ out.old }
+    ensures kept_ended { result ≡ Status.Ended → (out.new ≡ out.old) × (err.new ≡ err.old) }
     ensures refused { result ≡ Status.Refused → status_of_end ended.entry ≡ Status.Refused }
 {
     match ended {
         Ok(status) => status,
-        Err(failure) => tell(&failure, out, err),
+        Err(failure) => tell(&failure, is_raw, out, err),
     }
+}
+
+/// Whether standard output has the bytes of a reply alone.
+fn is_raw(command: &Command) -> bool {
+    matches!(
+        command,
+        Command::Work(WorkRequest {
+            output: WorkOutput::Standard,
+            ..
+        })
+    )
 }
 
 /// Does what the command asks for.
@@ -215,29 +249,29 @@ fn run<
     H: Threads + Wait + Sync,
     M: Fn(Task) -> Result<J, AllocError> + Sync,
     J: Job + Send,
-    R: Reader,
+    F: Reader + Writer,
     O: Write,
     E: Write + Send,
 >(
     rt: &H,
     alloc: Global,
     command: &'a Command,
-    reader: &R,
+    files: &F,
     out: &mut O,
     err: &mut E,
     make: &M,
 ) -> Result<Status, Failure<'a>>
     requires make { M.IsAlwaysCallable make.now }
-    ensures done { IfOk result (λ status. status ≡ Status.Done → IsDone (R.gives reader.now) (O.contents out.old) (O.contents out.new) command.now) }
-    ensures refused { status_of_end result ≡ Status.Refused → IsRefusedBy (R.gives reader.now) command.now }
-    ensures ended { IfOk result (λ status. status ≡ Status.Ended → IsEnded (R.gives reader.now) (O.contents out.old) (O.contents out.new) command.now) }
+    ensures done { OnDone result (IsDone (F.gives files.now) (F.takes files.now) (O.contents out.old) (O.contents out.new) (E.contents err.old) (E.contents err.new) command.now) }
+    ensures refused { status_of_end result ≡ Status.Refused → IsRefusedBy (F.gives files.now) command.now }
+    ensures ended { OnEnded result (IsEnded (F.gives files.now) (F.takes files.now) (O.contents out.old) (O.contents out.new) command.now) }
 {
     match command {
-        Command::Check { file } => check(alloc, file.as_str(), reader, out, err),
-        Command::Invoke(invocation) => invoke(alloc, invocation, reader, out, err),
-        Command::Work(order) => work(alloc, order, reader, out, err),
-        Command::Script { file } => script(alloc, file.as_str(), reader, out, err),
-        Command::Serve(service) => serve_file(rt, alloc, service, reader, out, err, make),
+        Command::Check { file } => check(alloc, file.as_str(), files, out, err),
+        Command::Invoke(invocation) => invoke(alloc, invocation, files, out, err),
+        Command::Work(order) => work(alloc, order, files, out, err),
+        Command::Script { file } => script(alloc, file.as_str(), files, out, err),
+        Command::Serve(service) => serve_file(rt, alloc, service, files, out, err, make),
     }
 }
 
@@ -249,17 +283,17 @@ pub fn perform<
     H: Threads + Wait + Sync,
     M: Fn(Task) -> Result<J, AllocError> + Sync,
     J: Job + Send,
-    R: Reader,
+    F: Reader + Writer,
     O: Write,
     E: Write + Send,
->(rt: &H, alloc: Global, command: &Command, reader: &R, out: &mut O, err: &mut E, make: &M) -> u8
+>(rt: &H, alloc: Global, command: &Command, files: &F, out: &mut O, err: &mut E, make: &M) -> u8
     requires make { M.IsAlwaysCallable make.now }
     ensures known { result ≤ 4 }
-    ensures done { result ≡ 0 → IsDone (R.gives reader.now) (O.contents out.old) (O.contents out.new) command.now }
-    ensures refused { result ≡ 3 → IsRefusedBy (R.gives reader.now) command.now }
-    ensures ended { result ≡ 4 → IsEnded (R.gives reader.now) (O.contents out.old) (O.contents out.new) command.now }
+    ensures done { result ≡ 0 → IsDone (F.gives files.now) (F.takes files.now) (O.contents out.old) (O.contents out.new) (E.contents err.old) (E.contents err.new) command.now }
+    ensures refused { result ≡ 3 → IsRefusedBy (F.gives files.now) command.now }
+    ensures ended { result ≡ 4 → IsEnded (F.gives files.now) (F.takes files.now) (O.contents out.old) (O.contents out.new) command.now }
 {
-    let ended = run(rt, alloc, command, reader, out, err, make);
-    let status = status_from(ended, out, err);
+    let ended = run(rt, alloc, command, files, out, err, make);
+    let status = status_from(ended, is_raw(command), out, err);
     status.number()
 }

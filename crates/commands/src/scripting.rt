@@ -17,10 +17,12 @@ use crate::loading::accept;
 use crate::status::Status;
 use events::ended::Ended;
 use imports::Linked;
-use limits::MAX_SCRIPT_BYTES;
+use limits::{MAX_DEPTH, MAX_SCRIPT_BYTES};
 use order::Trail;
 use script::{LoopPlan, Plan, ScriptFault, print, read};
-use sentences::{Counts, Missing, Ran, Reason, Stopped, script_fault, tell_stopped};
+use sentences::{
+    Allowed, Counts, Grouped, Missing, Ran, Reason, Stopped, script_fault, tell_stopped,
+};
 use std::alloc::{AllocError, Global};
 use std::io::{self, Write};
 use std::str;
@@ -46,7 +48,8 @@ fn plan_in(alloc: Global, bytes: &[u8]) -> Result<Plan, Failure<'static>>
     ensures json { OnOk result (IsJson bytes.now) }
 {
     if bytes.len() > MAX_SCRIPT_BYTES {
-        let told = format!(in alloc; "the file has more than {MAX_SCRIPT_BYTES} bytes");
+        let most = Grouped(MAX_SCRIPT_BYTES as u64);
+        let told = format!(in alloc; "the file has more than {most} bytes");
         return Err(no_script(ScriptFault::Range, told.ok()));
     }
     let text = match str::from_utf8(bytes) {
@@ -224,6 +227,12 @@ fn module_bytes(plan: &Plan, loop_no: u32) -> &[u8] {
     }
 }
 
+/// How many calls this loop may have open.
+fn depth_of(plan: &Plan, loop_no: u32) -> u32 {
+    let planned = plan.loops.as_slice().get(loop_no as usize);
+    planned.map_or(MAX_DEPTH, |planned| planned.settings.depth)
+}
+
 /// What is kept of a job, if its work did not return.
 fn undone_in(world: &World, job: JobId) -> Option<&Undone> {
     world.undone().iter().find(|undone| undone.job.loop_no == job.loop_no
@@ -242,7 +251,8 @@ fn explain_callback<E: Write>(
         return Ok(());
     };
     let bytes = module_bytes(plan, ran.loop_no);
-    match Stopped::of_call(ended, &Trail::of(&stop)) {
+    let allowed = Allowed::by_keys(depth_of(plan, ran.loop_no));
+    match Stopped::of_call(ended, &Trail::of(&stop), allowed) {
         Some(stopped) => tell_stopped(&ran, bytes, &stopped, err),
         None => Ok(()),
     }
@@ -260,6 +270,7 @@ fn explain_work<E: Write>(world: &World, plan: &Plan, job: JobId, err: &mut E) -
         reason,
         used: undone.used,
         trail: &undone.trail,
+        allowed: Allowed::of_work_by_keys(depth_of(plan, job.loop_no)),
     };
     let ran = Ran::work(job.loop_no, job.request);
     tell_stopped(&ran, module_bytes(plan, job.loop_no), &stopped, err)

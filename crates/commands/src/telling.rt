@@ -4,7 +4,7 @@ use events::phase::EntryKind;
 use imports::EntryPoint;
 use limits::{MAX_BYTES, MAX_DEPTH};
 use order::{Order, Told};
-use sentences::{Ran, Stopped, What, tell_stopped, unit_of};
+use sentences::{Allowed, Ran, Stopped, What, tell_stopped, unit_of};
 use serve::{Account, Callback, LoopEnding, Served};
 use std::alloc::Global;
 use std::io::{self, Write};
@@ -33,9 +33,10 @@ fn run_again(alloc: Global, order: Order) -> Option<Told> {
 }
 
 /// How the last callback of a loop ended, if it did not return.
-fn last_stopped(served: &Served) -> Option<(Ran, Stopped<'_>)> {
+fn last_stopped(served: &Served, depth: u32) -> Option<(Ran, Stopped<'_>)> {
     let Callback { kind, number } = served.account.last()?;
-    let stopped = Stopped::of_call(served.account.stopped()?, served.trail.as_ref()?)?;
+    let (ended, trail) = (served.account.stopped()?, served.trail.as_ref()?);
+    let stopped = Stopped::of_call(ended, trail, Allowed::by_options(depth))?;
     Some((Ran::callback(served.loop_no, kind, number), stopped))
 }
 
@@ -114,7 +115,7 @@ impl Teller<'_> {
     }
 
     fn tell_failed<E: Write>(&self, served: &Served, err: &mut E) -> io::Result<()> {
-        match last_stopped(served) {
+        match last_stopped(served, self.service.settings.depth) {
             Some((ran, stopped)) => tell_stopped(&ran, self.bytes, &stopped, err),
             None => Ok(()),
         }
@@ -147,7 +148,8 @@ impl Teller<'_> {
     }
 
     fn tell_undone<E: Write>(&self, ran: Ran, told: &Told, err: &mut E) -> io::Result<()> {
-        match Stopped::of_told(told) {
+        let allowed = Allowed::of_work_by_options(self.service.settings.depth);
+        match Stopped::of_told(told, allowed) {
             Some(stopped) => tell_stopped(&ran, self.bytes, &stopped, err),
             None => Ok(()),
         }

@@ -13,7 +13,7 @@ use syntax::module::Module;
 use validate::{Valid, ValidFault, validate};
 
 /// The module that the bytes spell.
-pub(crate) fn decoded(alloc: Global, bytes: &[u8]) -> Result<Module, Refusal>
+pub fn decoded(alloc: Global, bytes: &[u8]) -> Result<Module, Refusal>
     ensures same { IfOk result (λ m. m.bytes ≡ bytes.now) }
     ensures spelled { IfOk result (λ m. Spells bytes.now m.contents) }
     ensures refused { IfErr result (IsRefused bytes.now) }
@@ -29,7 +29,7 @@ pub(crate) fn decoded(alloc: Global, bytes: &[u8]) -> Result<Module, Refusal>
 }
 
 /// The valid module that the bytes spell.
-pub(crate) fn validated(alloc: Global, bytes: &[u8]) -> Result<Valid, Refusal>
+pub fn validated(alloc: Global, bytes: &[u8]) -> Result<Valid, Refusal>
     ensures same { IfOk result (λ v. v.bytes ≡ bytes.now) }
     ensures spelled { IfOk result (λ v. Spells bytes.now v.contents) }
     ensures valid { IfOk result (λ v. ValidModule v.contents) }

@@ -23,6 +23,32 @@ fn counted(bytes: &[u8], at: usize) -> Option<(&[u8], usize)>
     Some((&bytes[span.from..span.to], span.to))
 }
 
+/// The name of the custom section that compilers write into what is not yet linked.
+const LINKING: &[u8] = b"linking";
+
+/// Whether a module is an object file, which has to be linked: it has a custom section "linking".
+pub fn is_object(bytes: &[u8]) -> bool {
+    let mut at = OPENING;
+    for _ in 0..bytes.len() {
+        let Some((id, section)) = section_at(bytes, at) else {
+            return false;
+        };
+        if id == CUSTOM && is_named(bytes, section, LINKING) {
+            return true;
+        }
+        at = section.to;
+    }
+    false
+}
+
+/// Whether a custom section has this name.
+fn is_named(bytes: &[u8], section: Span, wanted: &[u8]) -> bool {
+    match counted(bytes, section.from) {
+        Some((name, _)) => name == wanted,
+        None => false,
+    }
+}
+
 /// The parts of a name section, if a section with this id is one.
 fn parts_of(bytes: &[u8], id: u8, section: Span) -> Option<&[u8]>
     ensures custom { IfSome result (λ _. id ≡ 0) }

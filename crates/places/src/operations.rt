@@ -42,24 +42,6 @@ const NAMES: &str = "unreachable nop block loop if else - - \
     f64.convert_i32_u f64.convert_i64_s f64.convert_i64_u f64.promote_f32 i32.reinterpret_f32 i64.reinterpret_f64 f32.reinterpret_i32 f64.reinterpret_i64 \
     i32.extend8_s i32.extend16_s i64.extend8_s i64.extend16_s i64.extend32_s";
 
-/// The extension of WebAssembly 1.0 to which the operations belong that begin with this byte, if it is known. The byte behind it
-/// decides where an opcode stands for operations of several.
-pub(crate) fn extension_at(bytes: &[u8], at: usize) -> Option<&'static str> {
-    let behind = bytes.get(at.checked_add(1)?);
-    Some(match (*bytes.get(at)?, behind) {
-        (0x06..=0x0a | 0x18 | 0x19 | 0x1f, _) => "exceptions",
-        (0x12..=0x15, _) => "tail calls and function references",
-        (0x1c | 0x25 | 0x26 | 0xd0..=0xd2, _) => "reference types",
-        (0xfb, _) => "garbage collection",
-        (0xfc, Some(0x00..=0x07)) => "conversions that saturate",
-        (0xfc, Some(0x08..=0x0b)) => "bulk memory",
-        (0xfc, _) => "bulk memory or reference types",
-        (0xfd, _) => "vectors",
-        (0xfe, _) => "threads",
-        _ => return None,
-    })
-}
-
 /// The byte behind an integer.
 fn behind_integer(bytes: &[u8], at: usize) -> Option<usize>
     ensures { IfSome result (λ next. at < next) }
@@ -73,7 +55,7 @@ fn behind_integer(bytes: &[u8], at: usize) -> Option<usize>
 }
 
 /// The byte behind so many integers.
-fn behind_integers(bytes: &[u8], at: usize, count: u32) -> Option<usize>
+pub(crate) fn behind_integers(bytes: &[u8], at: usize, count: u32) -> Option<usize>
     ensures { IfSome result (λ next. at ≤ next) }
 {
     let mut next = at;
@@ -93,7 +75,7 @@ fn immediates(opcode: u8) -> u32 {
 }
 
 /// The byte behind the operation that begins at this byte.
-fn behind_operation(bytes: &[u8], at: usize) -> Option<usize>
+pub(crate) fn behind_operation(bytes: &[u8], at: usize) -> Option<usize>
     ensures { IfSome result (λ next. at < next) }
 {
     let opcode = *bytes.get(at)?;
@@ -114,7 +96,7 @@ fn first_operation(bytes: &[u8], body: Span) -> Option<usize>
 }
 
 /// Whether this byte of a body is one of its locals.
-pub(crate) fn is_in_locals(bytes: &[u8], byte: usize) -> Option<bool> {
+pub fn is_in_locals(bytes: &[u8], byte: usize) -> Option<bool> {
     let (_, body) = body_with(bytes, find(bytes, CODE)?, byte)?;
     Some(byte < first_operation(bytes, body)?)
 }
@@ -190,7 +172,7 @@ fn spot_of(bytes: &[u8], body: Span, operation: usize) -> Option<(usize, usize)>
 }
 
 /// The name of the operation that begins with this byte.
-pub(crate) fn name_of(opcode: u8) -> Option<&'static str> {
+pub fn name_of(opcode: u8) -> Option<&'static str> {
     NAMES.split_whitespace().nth(usize::from(opcode))
 }
 

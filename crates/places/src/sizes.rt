@@ -5,7 +5,7 @@ use leb::read_u32;
 
 /// What a section of tables or memories says, as far as it can be read.
 #[derive(Clone, Copy, Debug)]
-pub(crate) struct Sizes {
+pub struct Sizes {
     /// How many there are.
     pub count: u32,
     /// How many elements or pages the first of them begins with.
@@ -15,7 +15,7 @@ pub(crate) struct Sizes {
 }
 
 /// The numbers of the section with this id, which is that of tables or of memories.
-pub(crate) fn sizes_of(bytes: &[u8], section: u8) -> Option<Sizes> {
+pub fn sizes_of(bytes: &[u8], section: u8) -> Option<Sizes> {
     let (count, from) = read_u32(bytes, find(bytes, section)?.from).ok()?;
     let flag_at = if section == TABLES {
         from.checked_add(1)?

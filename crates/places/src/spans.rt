@@ -10,28 +10,37 @@ use crate::place::{Part, Place};
 use leb::read_u32;
 
 /// The id of the section of types.
-pub(crate) const TYPES: u8 = 1;
+pub const TYPES: u8 = 1;
 
 /// The id of the section of imports.
-pub(crate) const IMPORTS: u8 = 2;
+pub const IMPORTS: u8 = 2;
+
+/// The id of the section of functions.
+pub const FUNCTIONS: u8 = 3;
 
 /// The id of the section of tables.
-pub(crate) const TABLES: u8 = 4;
+pub const TABLES: u8 = 4;
 
 /// The id of the section of memories.
-pub(crate) const MEMORIES: u8 = 5;
+pub const MEMORIES: u8 = 5;
+
+/// The id of the section of globals.
+pub const GLOBALS: u8 = 6;
+
+/// The id of the section of exports.
+pub const EXPORTS: u8 = 7;
 
 /// The id of the section of element segments.
 pub const ELEMENTS: u8 = 9;
 
 /// The id of the section of bodies.
-pub(crate) const CODE: u8 = 10;
+pub const CODE: u8 = 10;
 
 /// The id of the section of data segments.
 pub const DATA: u8 = 11;
 
 /// How many bytes a module begins with, of the magic number and the version.
-pub(crate) const OPENING: usize = 8;
+pub const OPENING: usize = 8;
 
 /// Where something lies that has its size in front.
 #[derive(Clone, Copy)]
@@ -88,6 +97,33 @@ pub(crate) fn find(bytes: &[u8], id: u8) -> Option<Span>
     None
 }
 
+/// A section that says it has more bytes than the module: its id, how many it says, and how many there are.
+#[derive(Clone, Copy)]
+pub struct CutShort {
+    pub section: u8,
+    pub said: u32,
+    pub left: usize,
+}
+
+/// The section behind whose size the bytes end too soon.
+pub fn cut_short(bytes: &[u8]) -> Option<CutShort> {
+    let mut at = OPENING;
+    for _ in 0..bytes.len() {
+        let section = *bytes.get(at)?;
+        let (said, from) = read_u32(bytes, at.checked_add(1)?).ok()?;
+        let left = bytes.len().checked_sub(from)?;
+        if said as usize > left {
+            return Some(CutShort {
+                section,
+                said,
+                left,
+            });
+        }
+        at = from.checked_add(said as usize)?;
+    }
+    None
+}
+
 /// The body of this number in a code section.
 pub(crate) fn body_at(bytes: &[u8], code: Span, number: usize) -> Option<Span>
     ensures { IfSome result (λ s. BodyAt bytes.now code.from number s.at s.from s.to) }
@@ -105,17 +141,18 @@ pub(crate) fn body_at(bytes: &[u8], code: Span, number: usize) -> Option<Span>
     None
 }
 
-/// How many functions a module imports. In the host's profile every import is a function.
-fn imported(bytes: &[u8]) -> u32 {
-    match find(bytes, IMPORTS) {
+/// How many things the section with this id says that it holds.
+pub fn count_in(bytes: &[u8], id: u8) -> u32 {
+    match find(bytes, id) {
         Some(section) => read_u32(bytes, section.from).map_or(0, |(count, _)| count),
         None => 0,
     }
 }
 
-/// The number of the function with this body. The imported functions are counted first.
+/// The number of the function with this body. The imported functions are counted first: in the host's profile every import is a
+/// function.
 pub(crate) fn function_of(bytes: &[u8], body: usize) -> u64 {
-    u64::from(imported(bytes)).saturating_add(body as u64)
+    u64::from(count_in(bytes, IMPORTS)).saturating_add(body as u64)
 }
 
 /// The body of a code section that has this byte, and its number.
@@ -145,7 +182,7 @@ pub fn place_of_section(bytes: &[u8], id: u8) -> Option<Place>
 }
 
 /// Whether this byte of the section with this id is one of the number of things that it holds.
-pub(crate) fn is_in_count(bytes: &[u8], id: u8, byte: usize) -> Option<bool> {
+pub fn is_in_count(bytes: &[u8], id: u8, byte: usize) -> Option<bool> {
     let (_, behind) = read_u32(bytes, find(bytes, id)?.from).ok()?;
     Some(byte < behind)
 }

@@ -1,8 +1,9 @@
 // Where a text is refused that should be a script, and for what.
 
 use crate::flaw::Flaw;
+use crate::nesting::deepest;
 use crate::walk::Walk;
-use json::{Reader, Scratch};
+use json::{MAX_DEPTH, Reader, Scratch};
 use script::ScriptFault;
 use serde_json::Value;
 use std::alloc::Global;
@@ -19,6 +20,38 @@ fn spot_of(text: &str, at: usize) -> (usize, usize) {
     spot
 }
 
+/// What else a text may be that is no JSON from its first letter on.
+fn other_text(text: &str) -> &'static str {
+    if text.starts_with("\0asm") {
+        return " (a module: 'wasmloop serve FILE --loops 1 --workers 1' runs it)";
+    }
+    match text.trim_start().as_bytes().first() {
+        Some(b'#' | b'a'..=b'z') => " (a list of steps? examples/script.py makes JSON of it)",
+        _ => "",
+    }
+}
+
+/// Why a text is no JSON, if it doesn't nest too deep.
+fn no_json_at(alloc: Global, error: &serde_json::Error, text: &str) -> Option<String> {
+    let (line, column) = (error.line(), error.column());
+    if error.is_eof() {
+        return format!(in alloc;
+            "line {line}, column {column}: the text ends before its JSON does"
+        ).ok();
+    }
+    let other = other_text(text);
+    format!(in alloc; "line {line}, column {column}: the text is no JSON{other}").ok()
+}
+
+/// Where a text nests deeper than is read, if it is JSON up to there.
+fn too_deep(error: &serde_json::Error, text: &str) -> Option<(usize, usize)> {
+    let spot = spot_of(text, deepest(text)?);
+    if (error.line(), error.column().saturating_add(1)) < spot {
+        return None;
+    }
+    Some(spot)
+}
+
 fn no_json(alloc: Global, text: &str) -> Option<String> {
     let Err(error) = serde_json::from_str::<Value>(alloc, text) else {
         return None;
@@ -26,13 +59,14 @@ fn no_json(alloc: Global, text: &str) -> Option<String> {
     if error.is_memory() {
         return None;
     }
-    let (line, column) = (error.line(), error.column());
-    let words = if error.is_eof() {
-        "the text ends before its JSON does"
-    } else {
-        "the text is no JSON"
-    };
-    format!(in alloc; "line {line}, column {column}: {words}").ok()
+    match too_deep(&error, text) {
+        Some((line, column)) => {
+            format!(in alloc;
+                "line {line}, column {column}: the text nests deeper than {MAX_DEPTH} levels"
+            ).ok()
+        }
+        None => no_json_at(alloc, &error, text),
+    }
 }
 
 fn told(alloc: Global, fault: ScriptFault, text: &str, flaw: Flaw<'_>) -> Option<String> {

@@ -1,25 +1,40 @@
-//! What is told on standard error, in words: where a run stopped that did not return (`tell_stopped`), what a module lacks to
+//! What is told on standard error, in words: where and why bytes are refused (`explain`), where a run stopped that did not return (`tell_stopped`), what a module lacks to
 //! run on a loop (`warn`), what arguments a function takes (`Mismatch`), where and why a text is no script
 //! (`script_fault`), what a step of a script names that isn't there (`Missing`). No clause speaks of words; tests compare them.
 //! Names that come from a module are printed as a line can hold them.
 #![tactic(auto)]
 
+mod count;
+mod extension;
 mod fault;
 mod flaw;
+mod found;
+mod help;
+mod invalid;
 mod line;
 mod listing;
+mod meanings;
 mod mismatch;
 mod missing;
+mod nesting;
 mod ran;
+mod reason;
+mod refusal;
 mod stopping;
+mod types;
+mod undecoded;
+mod unlinked;
 mod walk;
 mod warning;
 
+pub use count::Grouped;
 pub use fault::script_fault;
 pub use line::EndedLine;
 pub use listing::Listing;
+pub use meanings::meaning;
 pub use mismatch::Mismatch;
 pub use missing::{Counts, Missing};
 pub use ran::{Ran, What};
-pub use stopping::{Reason, Stopped, ending_of, tell_place, tell_stopped, unit_of};
+pub use refusal::{Account, explain, place_of};
+pub use stopping::{Allowed, Reason, Stopped, ending_of, tell_place, tell_stopped, unit_of};
 pub use warning::{Warning, warn, warnings};

@@ -1,7 +1,8 @@
 // Why words are not the arguments of a function.
 
 use crate::listing::Listing;
-use places::{Shown, name_of_type};
+use crate::types::name_of_type;
+use places::Shown;
 use std::alloc::{AllocError, Global};
 use std::fmt;
 use syntax::types::ValType;

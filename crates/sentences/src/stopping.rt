@@ -3,6 +3,7 @@
 use events::ended::{Ended, Ending};
 use events::trap::TrapCode;
 use instance::stack::Site;
+use limits::MAX_DEPTH;
 use order::{MAX_TRAIL, Outcome, Told, Trail};
 use places::{Place, Shown, function_name, place_of_operation};
 use std::fmt;
@@ -20,6 +21,50 @@ pub enum Reason {
     Spent,
 }
 
+/// How many calls its user lets a run have open, and by which words he gives it more of them and of fuel.
+#[derive(Clone, Copy, Debug)]
+pub struct Allowed {
+    pub depth: u32,
+    pub depth_by: &'static str,
+    pub fuel_by: &'static str,
+}
+
+impl Allowed {
+    /// By the options of the command line.
+    pub fn by_options(depth: u32) -> Allowed {
+        Allowed {
+            depth,
+            depth_by: "--depth",
+            fuel_by: "--fuel",
+        }
+    }
+
+    /// By the options of the command line, of a work function beside loops.
+    pub fn of_work_by_options(depth: u32) -> Allowed {
+        Allowed {
+            fuel_by: "--work-fuel",
+            ..Allowed::by_options(depth)
+        }
+    }
+
+    /// By the keys of a loop in a script.
+    pub fn by_keys(depth: u32) -> Allowed {
+        Allowed {
+            depth,
+            depth_by: "its loop's \"depth\"",
+            fuel_by: "its loop's \"fuel\"",
+        }
+    }
+
+    /// By the keys of a loop in a script, of a work function.
+    pub fn of_work_by_keys(depth: u32) -> Allowed {
+        Allowed {
+            fuel_by: "its loop's \"work_fuel\"",
+            ..Allowed::by_keys(depth)
+        }
+    }
+}
+
 /// How a run ended that did not return.
 #[derive(Clone, Copy, Debug)]
 pub struct Stopped<'a> {
@@ -27,6 +72,7 @@ pub struct Stopped<'a> {
     /// The units of fuel that it used.
     pub used: u64,
     pub trail: &'a Trail,
+    pub allowed: Allowed,
 }
 
 /// How a work function ended, as a log tells it.
@@ -64,20 +110,22 @@ impl Reason {
 
 impl<'a> Stopped<'a> {
     /// How a call ended that stopped there, if it did not return.
-    pub fn of_call(ended: &Ended, trail: &'a Trail) -> Option<Stopped<'a>> {
+    pub fn of_call(ended: &Ended, trail: &'a Trail, allowed: Allowed) -> Option<Stopped<'a>> {
         Some(Stopped {
             reason: Reason::of_ending(&ended.ending)?,
             used: ended.used,
             trail,
+            allowed,
         })
     }
 
     /// How the run of an order ended, if it did not return.
-    pub fn of_told(told: &'a Told) -> Option<Stopped<'a>> {
+    pub fn of_told(told: &'a Told, allowed: Allowed) -> Option<Stopped<'a>> {
         Some(Stopped {
             reason: Reason::of_work(ending_of(&told.reply.outcome))?,
             used: told.used,
             trail: told.trail.as_ref()?,
+            allowed,
         })
     }
 }
@@ -100,15 +148,39 @@ fn meaning(trap: TrapCode) -> &'static str {
     }
 }
 
+/// Writes that a run made more calls than may be open, and what lets it make more.
+fn write_depth<E: Write>(allowed: Allowed, err: &mut E) -> io::Result<()> {
+    let Allowed {
+        depth,
+        depth_by,
+        ..
+    } = allowed;
+    if depth >= MAX_DEPTH {
+        return write!(
+            err,
+            "made more than {depth} nested calls (no run may make more)"
+        );
+    }
+    let calls = if depth == 1 { "call" } else { "calls" };
+    write!(
+        err,
+        "made more than {depth} nested {calls} ({depth_by} lets it make up to {MAX_DEPTH})"
+    )
+}
+
 /// Writes why a run did not return.
-fn write_reason<E: Write>(reason: Reason, err: &mut E) -> io::Result<()> {
-    match reason {
+fn write_reason<E: Write>(stopped: &Stopped<'_>, err: &mut E) -> io::Result<()> {
+    match stopped.reason {
         Reason::Trap(trap) => {
             let (meaning, code) = (meaning(trap), trap.code());
             write!(err, "trapped: {meaning} ({code})")
         }
-        Reason::Depth => err.write_all(b"made too many nested calls"),
-        Reason::Spent => err.write_all(b"spent its fuel"),
+        Reason::Depth => write_depth(stopped.allowed, err),
+        Reason::Spent => write!(
+            err,
+            "spent its fuel ({} gives more)",
+            stopped.allowed.fuel_by
+        ),
     }
 }
 
@@ -163,20 +235,50 @@ fn write_caller<E: Write>(bytes: &[u8], site: Site, err: &mut E) -> io::Result<(
     write!(err, " at byte {at}")
 }
 
-/// Writes the calls around it, from the inside outwards, and how many are left out.
+/// How many calls in a row are of this site, from this index on.
+fn repeats(trail: &Trail, site: Site, from: usize) -> usize {
+    let calls = trail.as_slice().get(from..).unwrap_or(&[]);
+    calls.iter().take_while(|call| **call == site).count()
+}
+
+/// Writes that a call is open so many times.
+fn write_times<E: Write>(times: usize, err: &mut E) -> io::Result<()> {
+    match times {
+        0 | 1 => Ok(()),
+        _ => write!(err, ", {times} times in a row"),
+    }
+}
+
+/// Writes the calls around it, from the inside outwards, and how many are left out. Calls of one site in a row are counted.
 fn write_callers<E: Write>(bytes: &[u8], trail: &Trail, err: &mut E) -> io::Result<()> {
     let mut between = "; called ";
-    for index in 1..MAX_TRAIL {
-        let Some(site) = trail.get(index) else {
-            return Ok(());
+    let mut next = 1;
+    for _ in 1..MAX_TRAIL {
+        let Some(site) = trail.get(next) else {
+            break;
         };
         err.write_all(between.as_bytes())?;
         write_caller(bytes, site, err)?;
+        let times = repeats(trail, site, next);
+        write_times(times, err)?;
+        next = next.saturating_add(times.max(1));
         between = "; ";
     }
     match trail.more() {
         0 => Ok(()),
         more => write!(err, "; and {more} more"),
+    }
+}
+
+/// Writes what mostly leads to an access outside the memory.
+fn write_cause<E: Write>(reason: Reason, err: &mut E) -> io::Result<()> {
+    match reason {
+        Reason::Trap(TrapCode::Memory) => {
+            err.write_all(
+                b"; a wild pointer, or a stack that is too small (link with a greater -z stack-size)",
+            )
+        }
+        _ => Ok(()),
     }
 }
 
@@ -202,8 +304,9 @@ pub fn tell_stopped<W: fmt::Display, E: Write>(
 ) -> io::Result<()> {
     let used = stopped.used;
     write!(err, "{what} ")?;
-    write_reason(stopped.reason, err)?;
+    write_reason(stopped, err)?;
     write!(err, ", after {used} {}", unit_of(used))?;
     tell_place(bytes, stopped.trail, ", in ", err)?;
+    write_cause(stopped.reason, err)?;
     err.write_all(b"\n")
 }

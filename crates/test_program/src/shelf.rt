@@ -1,7 +1,8 @@
-// The files that a list makes.
+// The files that a list and its commands make.
 
-use commands::{ReadFault, Reader};
+use commands::{ReadFault, Reader, Writer};
 use std::alloc::{AllocError, Global};
+use std::cell::RefCell;
 use std::io::{self, ErrorKind};
 
 #[derive(Drop)]
@@ -10,10 +11,13 @@ struct Kept {
     bytes: Vec<u8>,
 }
 
-/// The files that a list has made so far, by their names.
+/// The files that a list has made so far, by their names, and those that its commands have written. Where two have one name, it
+/// is the written one that is read, and of these the last.
 #[derive(Drop)]
 pub struct Shelf {
+    alloc: Global,
     files: Vec<Kept>,
+    written: RefCell<Vec<Kept>>,
 }
 
 fn wrong() -> io::Error {
@@ -28,7 +32,9 @@ impl Shelf {
     /// No file.
     pub fn new(alloc: Global) -> Shelf {
         Shelf {
+            alloc,
             files: Vec::new(alloc),
+            written: RefCell::new(Vec::new(alloc)),
         }
     }
 
@@ -66,6 +72,21 @@ impl Shelf {
         Some(kept.bytes.as_slice())
     }
 
+    /// The front of the last file of this name that a command has written.
+    fn find_written(
+        &self,
+        alloc: Global,
+        name: &str,
+        most: usize,
+    ) -> Option<Result<Vec<u8>, ReadFault>> {
+        let written = self.written.try_borrow().ok()?;
+        let kept = written
+            .iter()
+            .rev()
+            .find(|kept| kept.name.as_str() == name)?;
+        Some(front(alloc, kept.bytes.as_slice(), most))
+    }
+
     /// The front of a file where the name ends with a colon and a number, else the whole file.
     fn named(&self, name: &str) -> Option<&[u8]> {
         let Some((file, count)) = name.split_once(':') else {
@@ -83,6 +104,9 @@ impl Reader for Shelf {
     ghost gives = { λ _ _ _ _. Unit {0} };
 
     fn read(&self, alloc: Global, name: &str, most: usize) -> Result<Vec<u8>, ReadFault> {
+        if let Some(found) = self.find_written(alloc, name, most) {
+            return found;
+        }
         match name.strip_prefix("hex:") {
             Some(digits) => match hex::decode(alloc, digits) {
                 Ok(bytes) => front(alloc, bytes.as_slice(), most),
@@ -92,6 +116,25 @@ impl Reader for Shelf {
                 Some(bytes) => front(alloc, bytes, most),
                 None => Err(absent()),
             },
+        }
+    }
+}
+
+/// Under `/nowhere/` no file can be made.
+impl Writer for Shelf {
+    ghost takes = { λ _ _ _. Unit {0} };
+
+    fn write(&self, name: &str, bytes: &[u8]) -> io::Result<()> {
+        if name.starts_with("/nowhere/") {
+            return Err(io::Error::from(ErrorKind::NotFound));
+        }
+        let kept = Kept {
+            name: String::from_str(self.alloc, name)?,
+            bytes: Vec::from_slice(self.alloc, bytes)?,
+        };
+        match self.written.try_borrow_mut() {
+            Ok(mut written) => Ok(written.push(kept)?),
+            Err(_) => Err(io::Error::from(ErrorKind::ResourceBusy)),
         }
     }
 }

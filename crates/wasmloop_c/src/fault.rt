@@ -5,6 +5,7 @@ ghost use Rattle.wasmloop_c.specs.Numbers.{stage_number, code_number};
 
 use loader::Refusal;
 use places::{Part, Place};
+use sentences::place_of;
 use std::alloc::Global;
 
 /// Why bytes are no guest, and where.
@@ -124,7 +125,7 @@ impl Fault {
         ensures { (result.stage ≡ stage_number refusal) × (result.code ≡ code_number refusal) }
     {
         let fault = Fault::nowhere(refusal);
-        match refusal.place(alloc, bytes) {
+        match place_of(refusal, alloc, bytes) {
             Some(place) => fault.at_place(place),
             None => fault,
         }

@@ -8,11 +8,12 @@ ghost use Rattle.wasmloop_c.specs.Calls.{Explains};
 use crate::copying::copy_bytes;
 use crate::status::{MEMORY, NONE, OK};
 use loader::{Refusal, load};
+use sentences::explain;
 use std::alloc::{AllocError, Global};
 
 /// The sentence on a refusal of these bytes, as `check` prints it.
 fn sentence(alloc: Global, refusal: Refusal, bytes: &[u8]) -> Result<String, AllocError> {
-    let account = refusal.explain(alloc, bytes);
+    let account = explain(refusal, alloc, bytes);
     let mut text = String::new(alloc);
     write!(text, "{account}")?;
     Ok(text)

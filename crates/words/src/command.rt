@@ -1,7 +1,8 @@
 // What the program is asked to do.
 
-ghost use Rattle.std.specs.Prelude.{◌≤◌, vec_len};
+ghost use Rattle.std.specs.Prelude.{◌≤◌};
 ghost use Rattle.limits.specs.declared.TheConstants.{MAX_BYTES, MAX_DEPTH, MAX_LOOPS, MAX_WORKERS};
+ghost use Rattle.words.specs.Inputs.{spelled_count};
 
 use events::settings::LoopSettings;
 
@@ -23,6 +24,26 @@ pub struct Invocation {
     pub ghost depth_in_range: { (1 ≤ depth) × (depth ≤ MAX_DEPTH) },
 }
 
+/// Where the bytes of a work order come from.
+#[derive(Drop)]
+pub enum WorkInput {
+    /// These, at most `MAX_BYTES` of them.
+    Bytes(Vec<u8>),
+    /// The file of this name.
+    File(String),
+}
+
+/// Where the reply of a work order goes.
+#[derive(Drop)]
+pub enum WorkOutput {
+    /// Into the printed line, in hexadecimal.
+    Line,
+    /// Into the file of this name, which is made or replaced.
+    File(String),
+    /// To standard output, and the printed line to standard error.
+    Standard,
+}
+
 /// A work order for a module.
 #[derive(Drop)]
 pub struct WorkRequest {
@@ -30,8 +51,10 @@ pub struct WorkRequest {
     pub file: String,
     /// What `uv_work` is given.
     pub operation: u32,
-    /// What it may read, at most `MAX_BYTES` bytes.
-    pub bytes: Vec<u8>,
+    /// What it may read.
+    pub input: WorkInput,
+    /// Where its reply goes.
+    pub output: WorkOutput,
     /// The units of fuel that the start function and `uv_work` may use together.
     pub fuel: u64,
     /// How many calls may stand open, 1 to `MAX_DEPTH`.
@@ -39,7 +62,7 @@ pub struct WorkRequest {
     /// Whether it is told what was used.
     pub is_traced: bool,
     pub ghost depth_in_range: { (1 ≤ depth) × (depth ≤ MAX_DEPTH) },
-    pub ghost short: { vec_len bytes ≤ MAX_BYTES },
+    pub ghost short: { spelled_count input ≤ MAX_BYTES },
 }
 
 /// Loops of a module and workers beside them.

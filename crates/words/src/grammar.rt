@@ -10,6 +10,15 @@ const USED_HELP: &str = "Tells on standard error what was used";
 /// The option that asks to be told what happens.
 pub(crate) const TRACE: &str = "trace";
 
+/// The option that names a file to read the bytes of a work order from.
+pub(crate) const INPUT: &str = "in";
+
+/// The option that names a file to write the reply to.
+pub(crate) const OUTPUT: &str = "out";
+
+/// The option that asks for the reply alone.
+pub(crate) const RAW: &str = "raw";
+
 const PROGRAM_TEXT: &str = "\
 Status: 0 done, also where `serve` prints `limit` or `waiting`; 1 a file, a script, the memory or the output failed;
 2 wrong words; 3 a module is refused; 4 a call ended otherwise than by return, or a loop failed.
@@ -49,7 +58,8 @@ The operation -1 is written as 4294967295.
 
 Prints `done 42 bytes 0`: the result as a signed number, how many bytes the reply has, and where there are
 any, these in hexadecimal; or `trap 4`, `depth`, `spent` or `nomemory`. The numbers of traps: see `invoke --help`.
-Standard error says where it did not return, and why.
+With --out the bytes go to a file and aren't printed. With --raw or --out - standard output has them alone,
+and the line goes to standard error, which says too where the work did not return, and why.
 
 Status: 0 done; 1 the file, the memory or the output failed; 2 wrong words, or no function uv_work;
 3 the module is refused; 4 it ended otherwise than by return.
@@ -102,6 +112,7 @@ fn fuel_option<'a>(alloc: Global, name: &'a str, help: &'a str) -> Arg<'a> {
         .long(name)
         .value_name("N")
         .default_value("1000000")
+        .allow_negative_numbers(true)
         .help(help)
 }
 
@@ -110,6 +121,7 @@ fn depth_option<'a>(alloc: Global) -> Arg<'a> {
         .long("depth")
         .value_name("N")
         .default_value("64")
+        .allow_negative_numbers(true)
         .help("How many calls may be open, 1 to 128")
 }
 
@@ -122,7 +134,9 @@ fn trace_option<'a>(alloc: Global, help: &'a str) -> Arg<'a> {
 
 /// A count of threads, which has to be told.
 fn count_option<'a>(alloc: Global, name: &'a str, help: &'a str) -> Arg<'a> {
-    wanted(alloc, name, "N", help).long(name)
+    wanted(alloc, name, "N", help)
+        .long(name)
+        .allow_negative_numbers(true)
 }
 
 /// A command with its help and its words.
@@ -197,6 +211,28 @@ fn bytes_word<'a>(alloc: Global) -> Arg<'a> {
         .help("The bytes to read, in hexadecimal, at most 65,536 of them")
 }
 
+fn input_option<'a>(alloc: Global) -> Result<Arg<'a>, AllocError> {
+    Arg::new(alloc, INPUT)
+        .long(INPUT)
+        .value_name("FILE")
+        .help("A file of the bytes to read, in place of HEX; - is standard input")
+        .conflicts_with("bytes")
+}
+
+fn output_option<'a>(alloc: Global) -> Arg<'a> {
+    Arg::new(alloc, OUTPUT).long(OUTPUT).value_name("FILE").help(
+        "A file to write the reply's bytes to; - is standard output",
+    )
+}
+
+fn raw_option<'a>(alloc: Global) -> Result<Arg<'a>, AllocError> {
+    Arg::new(alloc, RAW)
+        .long(RAW)
+        .action(ArgAction::SetTrue)
+        .help("Writes the reply's bytes to standard output, as --out - does")
+        .conflicts_with(OUTPUT)
+}
+
 fn work_words<'a>(alloc: Global) -> Result<Command<'a>, AllocError> {
     command(
         alloc,
@@ -207,6 +243,9 @@ fn work_words<'a>(alloc: Global) -> Result<Command<'a>, AllocError> {
             file_word(alloc),
             operation_word(alloc),
             bytes_word(alloc),
+            input_option(alloc)?,
+            output_option(alloc),
+            raw_option(alloc)?,
             fuel_option(alloc, "fuel", FUEL_HELP),
             depth_option(alloc),
             trace_option(alloc, USED_HELP),

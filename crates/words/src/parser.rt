@@ -1,9 +1,10 @@
 // From the words of the command line to a command.
 
 ghost use Rattle.std.specs.Prelude.{◌≤◌, IfOk, vec_len};
+ghost use Rattle.words.specs.Inputs.{spelled_count};
 
-use crate::command::{Command, Invocation, Service, WorkRequest};
-use crate::grammar::{self, TRACE};
+use crate::command::{Command, Invocation, Service, WorkInput, WorkOutput, WorkRequest};
+use crate::grammar::{self, INPUT, OUTPUT, RAW, TRACE};
 use crate::number::{decimal, small_decimal};
 use crate::refused::Refused;
 use clap::ArgMatches;
@@ -13,11 +14,16 @@ use hex::FromHexError;
 use limits::{MAX_BYTES, MAX_DEPTH, MAX_LOOPS, MAX_WORKERS};
 use std::alloc::Global;
 
+/// The file that stands for standard input.
+const STANDARD_INPUT: &str = "/dev/stdin";
+
 fn refused(alloc: Global, error: clap::Error) -> Refused {
     let shown = !error.use_stderr();
     match (error.kind(), error.to_string(alloc)) {
         (ErrorKind::OutOfMemory, _) | (_, Err(_)) => Refused::Memory,
         (_, Ok(text)) if shown => Refused::Help(text),
+        (ErrorKind::InvalidSubcommand | ErrorKind::MissingSubcommand, Ok(text)) =>
+            Refused::NoCommand(text),
         (_, Ok(text)) => Refused::Usage(text),
     }
 }
@@ -45,8 +51,7 @@ fn option(
     match decimal(value) {
         Some(number) if least <= number && number <= most => Ok(number),
         _ => Err(Refused::Usage(format!(in alloc;
-            "error: invalid value '{value}' for '--{name} <N>': it must be a whole number from {least} to {most}\n\n\
-             For more information, try '--help'."
+            "error: invalid value '{value}' for '--{name} <N>': it must be a whole number from {least} to {most}\n\nFor more information, try '--help'."
         )?)),
     }
 }
@@ -102,6 +107,33 @@ fn bytes(alloc: Global, word: &str) -> Result<Vec<u8>, Refused>
     }
 }
 
+/// Where the bytes of a work order come from: of HEX and `--in` one at most is given, and with neither there are none.
+fn input(alloc: Global, matches: &ArgMatches<'_>) -> Result<WorkInput, Refused>
+    ensures { IfOk result (λ input. spelled_count input ≤ MAX_BYTES) }
+{
+    let name = match matches.get_str(INPUT) {
+        Some("-") => STANDARD_INPUT,
+        Some(name) => name,
+        None => {
+            let digits = matches.get_str("bytes").unwrap_or("");
+            return Ok(WorkInput::Bytes(bytes(alloc, digits)?));
+        }
+    };
+    Ok(WorkInput::File(String::from_str(alloc, name)?))
+}
+
+/// Where the reply of a work order goes: of `--out` and `--raw` one at most is given.
+fn output(alloc: Global, matches: &ArgMatches<'_>) -> Result<WorkOutput, Refused> {
+    if matches.get_flag(RAW) {
+        return Ok(WorkOutput::Standard);
+    }
+    match matches.get_str(OUTPUT) {
+        Some("-") => Ok(WorkOutput::Standard),
+        Some(name) => Ok(WorkOutput::File(String::from_str(alloc, name)?)),
+        None => Ok(WorkOutput::Line),
+    }
+}
+
 /// The number of an operation.
 fn operation(alloc: Global, matches: &ArgMatches<'_>) -> Result<u32, Refused> {
     let word = word(matches, "operation")?;
@@ -113,13 +145,14 @@ fn operation(alloc: Global, matches: &ArgMatches<'_>) -> Result<u32, Refused> {
 
 fn work(alloc: Global, matches: &ArgMatches<'_>) -> Result<Command, Refused> {
     let operation = operation(alloc, matches)?;
-    let bytes = bytes(alloc, matches.get_str("bytes").unwrap_or(""))?;
+    let input = input(alloc, matches)?;
     Ok(Command::Work(WorkRequest {
         fuel: fuel(alloc, matches)?,
         depth: depth(alloc, matches)?,
         file: text(alloc, matches, "file")?,
         operation,
-        bytes,
+        input,
+        output: output(alloc, matches)?,
         is_traced: is_traced(matches),
     }))
 }
@@ -174,8 +207,8 @@ fn missing(alloc: Global, program: &mut clap::Command<'_>) -> Refused {
 /// The command that the words ask for. The first of them is the program's name.
 ///
 /// They are refused by `Help` where they ask for help or for the version, by `Operation`, `Digits` or `TooManyBytes` where
-/// the number or the bytes of a work order are not written as they should be, by `Memory` where memory was refused, and
-/// else by `Usage`.
+/// the number or the bytes of a work order are not written as they should be, by `Memory` where memory was refused, by
+/// `NoCommand` where the first of them is no command or missing, and else by `Usage`.
 pub fn parse(alloc: Global, words: &[String]) -> Result<Command, Refused> {
     let mut program = grammar::program(alloc)?;
     let matches = match program.try_get_matches_from_mut(words) {

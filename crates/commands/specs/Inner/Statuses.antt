@@ -1,5 +1,5 @@
 -- What the program ends with.
-use Rattle.std.specs.Prelude.{ℕ, Result, Ok, Err}
+use Rattle.std.specs.Prelude.{◌≡◌, ℕ, Result, Ok, Err, IfOk}
 use Rattle.commands.specs.declared.status.Status.{Status}
 use Rattle.commands.specs.declared.status.Status.TheVariants as status
 use Rattle.commands.specs.declared.failure.Failure.{Failure}
@@ -9,10 +9,12 @@ abbrev pub status_of_failure : Failure → Status
 status_of_failure (failure.File _ _) = status.Failed
 status_of_failure failure.Memory = status.Failed
 status_of_failure (failure.Output _) = status.Failed
+status_of_failure (failure.Unwritten _ _) = status.Failed
 status_of_failure (failure.Script _ _) = status.Failed
 status_of_failure (failure.Refused _ _ _) = status.Refused
 status_of_failure (failure.NoFunction _ _) = status.Usage
 status_of_failure (failure.Arguments _) = status.Usage
+status_of_failure (failure.TooLong _) = status.Usage
 
 -- the status of a command that ended so
 abbrev pub status_of_end : Result Status Failure → Status
@@ -25,3 +27,11 @@ number_of status.Failed = 1
 number_of status.Usage = 2
 number_of status.Refused = 3
 number_of status.Ended = 4
+
+-- this holds where a command ended with the status 0
+abbrev pub OnDone : Result Status Failure → Type 0 → Type 0
+OnDone end holds = IfOk end (λ s. s ≡ status.Done → holds)
+
+-- this holds where a command ended with the status 4
+abbrev pub OnEnded : Result Status Failure → Type 0 → Type 0
+OnEnded end holds = IfOk end (λ s. s ≡ status.Ended → holds)

@@ -1,3 +1,5 @@
+use Rattle.std.proofs.Common.{ap}
+use Rattle.std.specs.Arc.{arc_value}
 use Rattle.commands.proofs.Ends.{is_asked}
 use Rattle.commands.proofs.working.reply_of.Goals as goal
 
@@ -7,5 +9,5 @@ run_told-requires-clause-work c = rw c.in_ok-order.ensures.module (c.in-Some._fu
 pub returns : goal.returns
 returns c =
     let e = c.in_ok-order.ensures in
-    let asked = is_asked c.in_ok-order.order c.args.work.now c.args.linked e.loop_no e.number e.slot e.module e.operation e.bytes e.fuel e.depth in
+    let asked = is_asked c.in_ok-order.order c.args.work.now (arc_value c.args.bytes).items c.args.linked e.loop_no e.number e.slot e.module e.operation (ap (λ v. v.items) e.bytes) e.fuel e.depth in
     rw asked at c.run_told.ensures.used

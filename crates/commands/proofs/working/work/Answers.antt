@@ -10,31 +10,38 @@ pub returns-clause-done : goal.returns-clause-done
 returns-clause-done g c = λ done.
     let linked = c.in_ok-linked.linked in
     let told = c.in_ok-told.told in
-    let held : IsLoaded (g.R.Reader.gives c.args.reader.now) (string_bytes c.args.work.now.file) linked =
+    let read = (arc_value c.in_ok-bytes.bytes).items in
+    let held : IsLoaded (g.F.Reader.gives c.args.files.now) (string_bytes c.args.work.now.file) linked =
     rw (← c.as_str.ensures.value) (c.in_ok-linked.ensures.read, c.in_ok-linked.ensures.accepted) in
-    let end = result (asked_order c.args.work.now linked) (end_of told.reply.outcome) told.used c.in_ok-linked.ensures.accepted.valid
+    let end = result (asked_order c.args.work.now read linked) (end_of told.reply.outcome) told.used c.in_ok-linked.ensures.accepted.valid
     c.one_end.ensures c.in_ok-told.ensures (c.status_of.ensures.0 done) in
     record {
+      read = read;
+      given = c.in_ok-bytes.ensures.given;
       loaded = linked;
       held = held;
       value = end.value;
       bytes = end.bytes;
       computed = end.computed;
-      printed = rw end.is at c.in_ok-tell_outcome.ensures;
+      printed = rw end.is at c.in_ok-tell_outcome.ensures.told;
+      said = λ quiet. rw end.is at c.in_ok-tell_outcome.ensures.said;
     }
 
 pub returns-clause-ended : goal.returns-clause-ended
 returns-clause-ended g c = λ ended.
     let linked = c.in_ok-linked.linked in
     let told = c.in_ok-told.told in
-    let held : IsLoaded (g.R.Reader.gives c.args.reader.now) (string_bytes c.args.work.now.file) linked =
+    let read = (arc_value c.in_ok-bytes.bytes).items in
+    let held : IsLoaded (g.F.Reader.gives c.args.files.now) (string_bytes c.args.work.now.file) linked =
     rw (← c.as_str.ensures.value) (c.in_ok-linked.ensures.read, c.in_ok-linked.ensures.accepted) in
     record {
+      read = read;
+      given = c.in_ok-bytes.ensures.given;
       loaded = linked;
       held = held;
       end = end_of told.reply.outcome;
-      computed = end_of_order (asked_order c.args.work.now linked) (end_of told.reply.outcome) told.used c.in_ok-linked.ensures.accepted.valid
+      computed = end_of_order (asked_order c.args.work.now read linked) (end_of told.reply.outcome) told.used c.in_ok-linked.ensures.accepted.valid
           c.one_end.ensures c.in_ok-told.ensures;
       no_result = λ is. not_done (c.status_of.ensures.1 is) ended;
-      printed = c.in_ok-tell_outcome.ensures;
+      printed = c.in_ok-tell_outcome.ensures.told;
     }

@@ -1,19 +1,17 @@
 // What a refusal means, in words.
 
-use crate::refusal::Refusal;
 use decode::DecodeFault;
 use imports::LinkFault;
+use loader::Refusal;
 use validate::ValidFault;
 
-impl Refusal {
-    /// What is wrong, in words.
-    pub fn meaning(self) -> &'static str {
-        match self {
-            Refusal::Memory => "there is not enough memory",
-            Refusal::Decode(fault) => of_decode(fault),
-            Refusal::Validate(fault) => of_validate(fault),
-            Refusal::Link(fault) => of_link(fault),
-        }
+/// What is wrong, in words, whatever the bytes are.
+pub fn meaning(refusal: Refusal) -> &'static str {
+    match refusal {
+        Refusal::Memory => "there is not enough memory",
+        Refusal::Decode(fault) => of_decode(fault),
+        Refusal::Validate(fault) => of_validate(fault),
+        Refusal::Link(fault) => of_link(fault),
     }
 }
 
@@ -49,13 +47,13 @@ fn of_validate(fault: ValidFault) -> &'static str {
         ValidFault::Start => "the start function takes or leaves operands",
         ValidFault::Constant => "an initializer or an offset is not one constant of its type",
         ValidFault::Height =>
-            "there are more than 256 operands at a time, or more than 256 parameters and locals",
-        ValidFault::Nesting => "blocks lie more than 256 deep in one another",
+            "there are too many operands at a time, or too many parameters and locals",
+        ValidFault::Nesting => "blocks lie too deep in one another",
         ValidFault::Memory => "there is not enough memory",
     }
 }
 
-fn of_link(fault: LinkFault) -> &'static str {
+pub fn of_link(fault: LinkFault) -> &'static str {
     match fault {
         LinkFault::Module => "it is not from the module \"uv\"",
         LinkFault::Name => "the module \"uv\" has no function of this name",

@@ -1,10 +1,12 @@
 // In which section, function and operation a module is not valid, and for what.
 
-use crate::loading::decoded;
-use places::{
-    NO_TABLES, OPTIMIZED, Place, Reason, name_of_type, place_of_function, place_of_operation,
-    place_of_section,
-};
+use crate::found;
+use crate::help::{NO_TABLES, OPTIMIZED};
+use crate::reason::Reason;
+use crate::types::name_of_type;
+use limits::{MAX_HEIGHT, MAX_LOCALS, MAX_NESTING};
+use loader::decoded;
+use places::{Place, place_of_function, place_of_operation, place_of_section};
 use std::alloc::Global;
 use validate::{Lack, Site, ValidFault, refused_at};
 
@@ -35,21 +37,22 @@ fn of_type(name: &str, lack: Option<Lack>) -> Option<Reason> {
 }
 
 /// What is known of the fault beyond its meaning.
-fn reason_of(fault: ValidFault, site: Site, place: &Place) -> Option<Reason> {
-    let (words, help) = match (fault, site, place) {
+fn reason_of(bytes: &[u8], fault: ValidFault, site: Site, place: &Place) -> Option<Reason> {
+    let (most, things, help) = match (fault, site, place) {
+        (ValidFault::Index, Site::Section(section), _) => return found::segment(bytes, section),
         (ValidFault::BadType, Site::Operation { lack, .. }, Place::Operation { name, .. }) => {
             return of_type(*name, lack);
         }
         (ValidFault::Height, Site::Function(_), _) => {
-            ("more than 256 parameters and locals", OPTIMIZED)
+            (MAX_LOCALS, "parameters and locals", OPTIMIZED)
         }
         (ValidFault::Height, Site::Operation { .. }, _) => {
-            ("more than 256 operands at a time", "split the expression")
+            (MAX_HEIGHT, "operands at a time", "split the expression")
         }
-        (ValidFault::Nesting, _, _) => ("blocks lie more than 256 deep in one another", NO_TABLES),
+        (ValidFault::Nesting, _, _) => (MAX_NESTING, "blocks in one another", NO_TABLES),
         _ => return None,
     };
-    Some(Reason::words(words).with(help))
+    Some(Reason::more_than(most as u64, things).with(help))
 }
 
 /// The part of the module that is not valid, and what is found there.
@@ -57,6 +60,6 @@ pub fn invalid(alloc: Global, bytes: &[u8]) -> Option<(Place, Option<Reason>)> {
     let module = decoded(alloc, bytes).ok()?;
     let refused = refused_at(alloc, &module)?;
     let place = place_of(bytes, refused.site)?;
-    let reason = reason_of(refused.fault, refused.site, &place);
+    let reason = reason_of(bytes, refused.fault, refused.site, &place);
     Some((place, reason))
 }

@@ -1,13 +1,30 @@
 // At which byte a module is refused by its form, and for what.
 
+use crate::found;
+use crate::reason::Reason;
 use decode::{DecodeFault, RefusedAt, refused_at};
-use places::{Part, Place, Reason, found, part_with};
+use places::{Part, Place, part_with};
 use std::alloc::Global;
+
+/// Which segment is to blame, where the fault is in one.
+fn of_segment(bytes: &[u8], part: Option<Part>) -> Option<Reason> {
+    match part {
+        Some(Part::Section(section)) => found::segment(bytes, section),
+        _ => None,
+    }
+}
 
 /// What is known of the fault beyond its meaning.
 fn reason_of(bytes: &[u8], refused: RefusedAt, part: Option<Part>) -> Option<Reason> {
     let RefusedAt { fault, at } = refused;
+    if let Some(reason) = of_segment(bytes, part) {
+        return Some(reason);
+    }
     match fault {
+        DecodeFault::Magic => found::format(bytes),
+        DecodeFault::Version => found::version(bytes),
+        DecodeFault::End => found::end(bytes, at),
+        DecodeFault::Counts => Some(found::counts(bytes)),
         DecodeFault::Opcode => found::opcode(bytes, at),
         DecodeFault::Profile => found::profile(*bytes.get(at)?),
         DecodeFault::Limit => found::limit(bytes, at, part),

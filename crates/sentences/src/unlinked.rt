@@ -1,9 +1,13 @@
 // Which import, export or segment doesn't fit the host, and what would.
 
-use crate::loading::validated;
+use crate::help::DEFINED;
+use crate::meanings::of_link;
+use crate::reason::Reason;
+use crate::types::Shape;
 use imports::{Call, EntryPoint, LinkFault, Signature, Site, refused_at};
 use limits::PAGE_SIZE;
-use places::{DATA, DEFINED, ELEMENTS, Place, Reason, Shape, place_of_section};
+use loader::validated;
+use places::{DATA, ELEMENTS, Place, place_of_section};
 use std::alloc::{AllocError, Global};
 use syntax::body::Body;
 use syntax::contents::{Contents, ExternKind, FuncType, Import, ModuleExport};
@@ -125,17 +129,12 @@ fn part_of(
     })
 }
 
-/// What of the module doesn't fit the host, which means this, and what is known besides.
-pub fn unlinked(
-    alloc: Global,
-    bytes: &[u8],
-    fault: LinkFault,
-    meaning: &'static str,
-) -> Option<(Place, Option<Reason>)> {
+/// What of the module doesn't fit the host, and what is known besides.
+pub fn unlinked(alloc: Global, bytes: &[u8], fault: LinkFault) -> Option<(Place, Option<Reason>)> {
     let valid = validated(alloc, bytes).ok()?;
     let (place, told) = part_of(alloc, bytes, valid.contents(), refused_at(&valid)?, fault)?;
     Some((
         place,
-        told.map(|told| Reason::words(meaning).with_told(told)),
+        told.map(|told| Reason::words(of_link(fault)).with_told(told)),
     ))
 }

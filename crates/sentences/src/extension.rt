@@ -1,0 +1,79 @@
+// What is newer than WebAssembly 1.0, by the first byte that only it has (WebAssembly Core 3.0, 5.3 to 5.5).
+
+use crate::help::{LOWERED, NARROW, NO_EXCEPTIONS, NO_THREADS, PLAIN};
+use places::{DATA, EXPORTS, IMPORTS, MEMORIES, TABLES, TYPES};
+
+/// What begins with a byte that the host doesn't take, and what helps.
+#[derive(Clone, Copy)]
+pub struct Extension {
+    pub name: &'static str,
+    pub help: &'static str,
+}
+
+fn named(name: &'static str, help: &'static str) -> Extension {
+    Extension { name, help }
+}
+
+/// What operations begin so. The byte behind the opcode decides where it stands for operations of several.
+pub fn of_operation(bytes: &[u8], at: usize) -> Option<Extension> {
+    let behind = bytes.get(at.checked_add(1)?);
+    Some(match (*bytes.get(at)?, behind) {
+        (0x06..=0x0a | 0x18 | 0x19 | 0x1f, _) => named("exceptions", NO_EXCEPTIONS),
+        (0x12..=0x15, _) => named("tail calls and function references", PLAIN),
+        (0x1c, _) => named("reference types", LOWERED),
+        (0x25 | 0x26 | 0xd0..=0xd2, _) => named("reference types", PLAIN),
+        (0xfb, _) => named("garbage collection", PLAIN),
+        (0xfc, Some(0x00..=0x07)) => named("conversions that saturate", LOWERED),
+        (0xfc, Some(0x08..=0x0b)) => named("bulk memory", LOWERED),
+        (0xfc, _) => named("bulk memory or reference types", PLAIN),
+        (0xfd, _) => named("vectors", PLAIN),
+        (0xfe, _) => named("threads", NO_THREADS),
+        _ => return None,
+    })
+}
+
+/// What a section with this id is.
+pub fn of_section(id: u8) -> Option<Extension> {
+    match id {
+        12 => Some(named("the number of data segments, of bulk memory", LOWERED)),
+        13 => Some(named("tags, of exceptions", NO_EXCEPTIONS)),
+        _ => None,
+    }
+}
+
+/// What a type is that begins with this byte.
+pub fn of_type(byte: u8) -> Option<Extension> {
+    match byte {
+        0x7b => Some(named("the type v128, of vectors", PLAIN)),
+        0x70 => Some(named("the type funcref, of reference types", PLAIN)),
+        0x6f => Some(named("the type externref, of reference types", PLAIN)),
+        0x69 => Some(named("the type exnref, of exceptions", NO_EXCEPTIONS)),
+        _ => None,
+    }
+}
+
+/// What this byte begins within a section.
+pub fn in_section(section: u8, byte: u8) -> Option<Extension> {
+    match (section, byte) {
+        (TYPES, 0x4e..=0x50 | 0x5e | 0x5f) => Some(named("a type of garbage collection", PLAIN)),
+        (MEMORIES, 0x02 | 0x03) => Some(named("a shared memory, of threads", NO_THREADS)),
+        (MEMORIES, 0x04..=0x07) => Some(named("a memory of 64 bits", NARROW)),
+        (TABLES, 0x02 | 0x03) => Some(named("a shared table, of threads", NO_THREADS)),
+        (TABLES, 0x04..=0x07) => Some(named("a table of 64 bits", NARROW)),
+        (IMPORTS | EXPORTS, 0x04) => Some(named("a tag, of exceptions", NO_EXCEPTIONS)),
+        _ => of_type(byte),
+    }
+}
+
+/// What a segment is that begins with this number.
+pub fn of_segment(section: u8, first: u32) -> Option<Extension> {
+    match (section, first) {
+        (_, 0) => None,
+        (DATA, 1) => Some(named("passive, of bulk memory", LOWERED)),
+        (DATA, _) => Some(named("for a memory by its number, of bulk memory", LOWERED)),
+        (_, 1) => Some(named("passive, of bulk memory", LOWERED)),
+        (_, 3) => Some(named("declared, of reference types", LOWERED)),
+        (_, 2) => Some(named("for a table by its number, of reference types", LOWERED)),
+        _ => Some(named("of expressions, of reference types", LOWERED)),
+    }
+}

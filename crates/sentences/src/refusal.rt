@@ -1,0 +1,57 @@
+// What is told of a refusal.
+
+use crate::help::LINKED;
+use crate::invalid::invalid;
+use crate::meanings::meaning;
+use crate::reason::Reason;
+use crate::undecoded::undecoded;
+use crate::unlinked::unlinked;
+use loader::Refusal;
+use places::{Place, is_object};
+use std::alloc::Global;
+use std::fmt;
+
+/// What is told of a refusal: where it is, as far as that is known, and why. It prints as a sentence.
+#[derive(Debug, Drop)]
+pub struct Account {
+    pub place: Option<Place>,
+    reason: Reason,
+}
+
+impl fmt::Display for Account {
+    fn fmt<W: fmt::Write>(&self, f: &mut fmt::Formatter<W>) -> fmt::Result {
+        match &self.place {
+            Some(place) => write!(f, "{place}: {}", self.reason),
+            None => write!(f, "{}", self.reason),
+        }
+    }
+}
+
+/// What is found at the place at which these bytes are refused so. They are read anew; without memory for that nothing is known.
+fn found_at(refusal: Refusal, alloc: Global, bytes: &[u8]) -> Option<(Place, Option<Reason>)> {
+    match refusal {
+        Refusal::Memory => None,
+        Refusal::Decode(_) => undecoded(alloc, bytes),
+        Refusal::Validate(_) => invalid(alloc, bytes),
+        Refusal::Link(fault) => unlinked(alloc, bytes, fault),
+    }
+}
+
+/// Where these bytes are refused so, and why. It reads them anew; without memory for that the place is left out.
+pub fn explain(refusal: Refusal, alloc: Global, bytes: &[u8]) -> Account {
+    let (place, found) = match found_at(refusal, alloc, bytes) {
+        Some((place, found)) => (Some(place), found),
+        None => (None, None),
+    };
+    let reason = if is_object(bytes) {
+        Reason::words("an object file, by its section \"linking\"").with(LINKED)
+    } else {
+        found.unwrap_or(Reason::words(meaning(refusal)))
+    };
+    Account { place, reason }
+}
+
+/// Where these bytes are refused so, as `explain` tells it.
+pub fn place_of(refusal: Refusal, alloc: Global, bytes: &[u8]) -> Option<Place> {
+    explain(refusal, alloc, bytes).place
+}

@@ -39,7 +39,7 @@
 #include <stdint.h>
 
 /* The version of this header; wasmloop_version tells the library's. */
-#define WASMLOOP_VERSION "0.1.0"
+#define WASMLOOP_VERSION "0.2.0"
 
 #ifdef __cplusplus
 extern "C" {
@@ -196,7 +196,7 @@ typedef struct wasmloop_number {
     uint64_t number;     /* an i32 in the lower half */
 } wasmloop_number;
 
-/* The version of the library, as "0.1.0". The text is never freed. */
+/* The version of the library, as "0.2.0". The text is never freed. */
 const char *wasmloop_version(void);
 
 /* Names, as "MEMORY" of a status, "division by zero" of a trap, "Opcode" of a fault's stage and code, and "return", "trap",

@@ -332,7 +332,7 @@ fn verb_words<'a>(alloc: Global, verb: Verb) -> Result<Command<'a>, AllocError> 
 /// The program with its commands.
 pub(crate) fn program<'a>(alloc: Global) -> Result<Command<'a>, AllocError> {
     let mut program = Command::new(alloc, "wasmloop")
-        .version("0.1.0")
+        .version("0.2.0")
         .bin_name("wasmloop")?
         .override_usage("wasmloop <COMMAND>")
         .about("Runs untrusted WebAssembly modules on event loops")

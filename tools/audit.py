@@ -10,6 +10,7 @@
     python3 tools/audit.py --names    prints each definition that is reached, with its lines
     python3 tools/audit.py --rest     prints each file of definitions of which nothing is reached
     python3 tools/audit.py --inner    prints what of specs/Inner a public clause reaches, and by which calls
+    python3 tools/audit.py --bare     prints each public call that no clause says what it promises
     python3 tools/audit.py --kit      prints the words of the kit's crates that are reached
     python3 tools/audit.py --files --from interp::invoke ..     the same from these calls in place of the page's
 
@@ -25,7 +26,8 @@ public module, and of each definition that these reach: who changes a believed l
 which was changed.
 
 It also compares what is reached with where it stands: what these calls reach of specs/Inner is what the page lists, and a file
-of specs/ outside Inner is reached by one of them.
+of specs/ outside Inner is reached by one of them. And each public call that no clause says what it promises is one that the page
+lists, with its reason: by its name, as `crate::Type::{one, other}`, or with all of its crate or type.
 """
 import re
 import sys
@@ -342,6 +344,29 @@ def misplaced(tree, page, reached, calls):
             yield f"{name}: no public clause reaches it, and it stands outside Inner"
 
 
+def bare(tree):
+    """The public calls of libraries without a clause of what they promise."""
+    for call in tree.public_calls():
+        if not call.scope.crate.startswith(('test_', 'example_')) and not re.search(r"^\s+ensures\b", call.written, re.M):
+            yield '::'.join(filter(None, [call.scope.crate, call.of, call.name]))
+
+
+def excused(page):
+    """The calls that the page's list of such calls names, or the types and crates."""
+    lines = page.partition('## Public calls without a clause\n')[2].partition('\n## ')[0]
+    heads = ' '.join(re.split(r"\.\s", item)[0] for item in lines.split('\n- ')[1:])
+    for head, names in re.findall(r"`([a-z_]+(?:::\w+)*?)(?:::\{([\w,\s]+)\})?`", heads):
+        yield from (f"{head}::{name}" for name in re.findall(r"\w+", names)) if names else [head]
+
+
+def unexcused(tree, page):
+    """Which of them the page doesn't list, and which it lists that are none."""
+    found, told = set(bare(tree)), set(excused(page))
+    covered = {call: [name for name in told if f"{call}::".startswith(f"{name}::")] for call in found}
+    yield from (f"docs/AUDIT.md: {call} has no clause, and isn't listed" for call in sorted(found) if not covered[call])
+    yield from (f"docs/AUDIT.md: {name} is listed, and is no such call" for name in sorted(told - {one for names in covered.values() for one in names}))
+
+
 KINDS = 'definition', 'clause'
 ROW = re.compile(r"^\| ([a-z_]+/(?:specs|src)(?:/\w+)*: [^|]*) \| (\d+ of \d+) \|", re.M)
 
@@ -415,12 +440,14 @@ def main():
     told = sums.sums(tree.reach_from(calls))
     if '--inner' in options:
         print('\n'.join(inner_lines(tree, calls)))
+    if '--bare' in options:
+        print('\n'.join(sorted(bare(tree))))
     if '--renew' in options:
         page = renew(PAGE.read_text(), counts)
         PAGE.write_text(page)
         sums.renew(told, KINDS)
     wrong = [f"docs/AUDIT.md: {line}" for line in compare(page, counts)] + list(misplaced(tree, page, counts, calls))
-    wrong += [f"docs/AUDIT.sums: {line}" for line in sums.differences(told, KINDS)]
+    wrong += list(unexcused(tree, page)) + [f"docs/AUDIT.sums: {line}" for line in sums.differences(told, KINDS)]
     for line in wrong:
         print(line, file=sys.stderr)
     sys.exit(1 if wrong else 0)

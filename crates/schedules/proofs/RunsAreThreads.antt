@@ -8,7 +8,7 @@ use Rattle.std.proofs.lemmas.List.{set-set}
 use Rattle.limits.specs.declared.TheConstants.{MAX_JOBS}
 use Rattle.order.specs.Work.{WorkOrder}
 use Rattle.tallies.proofs.Places.{set_here, set_same, map_get}
-use Rattle.phases.specs.State.{Setting, Core}
+use Rattle.phases.specs.State.{Setting, Loop, Core}
 use Rattle.phases.specs.Step.{sharing}
 use Rattle.phases.specs.Outside.{is_failed, next_order_of}
 use Rattle.desk.specs.Desk.{Desk}
@@ -17,9 +17,10 @@ use Rattle.world_log.specs.declared.step.Step.TheVariants as step
 use Rattle.world_log.specs.declared.entry.LogEntry.{LogEntry}
 use Rattle.world_log.specs.declared.entry.LogEntry.TheVariants as line
 use Rattle.world_log.specs.declared.outcome.PostOutcome.TheVariants as post
+use Rattle.world.specs.Guests.{EachRunCalls}
 use Rattle.world.specs.Histories.{IsHistory}
 use Rattle.world.specs.Laws.{RunsJoin}
-use Rattle.world.specs.World.{World, Worker, Idle, Taken, Started, Only, PostsOrder, TakesJob, StepsLoop, WorldStep, WorldRun, opening_world, with_loop, core}
+use Rattle.world.specs.World.{World, Worker, Idle, Taken, Started, Only, PostsOrder, TakesJob, StepsLoop, WorldStep, WorldRun, HasLoop, opening_world, with_loop, core}
 use Rattle.schedules.specs.Accesses.{Access, Moves, Reach}
 use Rattle.schedules.specs.Laws.{HasThreads, is_full}
 use Rattle.schedules.specs.Schedule.{Underway, Threads, Atom, Begin, Next, End, Whole, MayBe, AtOnce, TakesOne, AtomStep, ThreadsRun, opening_threads}
@@ -171,9 +172,15 @@ none_full entry log none = by (is_full entry) refl where
   by true is = absurd (let all = sum_by-cons (λ x. cond {A = ℕ} (is_full x) 1 0) entry log in let one = ap (λ b. cond {A = ℕ} b 1 0) is in omega (arith, all, one, none))
   by false is = (is, (let all = sum_by-cons (λ x. cond {A = ℕ} (is_full x) 1 0) entry log in omega (arith, all, none)))
 
-module _ (history : IsHistory) (joins : RunsJoin) (settings : List Setting) (workers : ℕ) where
+module _ (calls : EachRunCalls) (history : IsHistory) (joins : RunsJoin) (settings : List Setting) (workers : ℕ) where
   abbrev Us : List (Option Underway)
   Us = (opening_threads settings workers).steps
+
+  setting_is : (done : List Step) (before : List LogEntry) (w : World) → WorldRun (opening_world settings workers) done before w
+      → (n : ℕ) (g : Setting) (now : Loop Desk) → HasLoop w n g now → slice_get settings n ≡ Some g
+  setting_is done before w was n g now at =
+      let made = calls n (opening_world settings workers) done before w was in
+      (history settings workers done before w n made.0 made.1 g now at).0
 
   run_threads : (steps done : List Step) (log before : List LogEntry) (w w' : World) → WorldRun (opening_world settings workers) done before w → WorldRun w steps log w' → count_by is_full log ≡ 0
       → (atoms : List Atom) × ThreadsRun (record { world = w; steps = Us }) atoms log (record { world = w'; steps = Us })
@@ -183,7 +190,7 @@ module _ (history : IsHistory) (joins : RunsJoin) (settings : List Setting) (wor
   run_threads (s ∷ steps) done (e ∷ log) before w w' was run none =
       let room = none_full e log none in
       let one =
-      step_threads Us w run.0 e (λ n p at. map_get (λ _. None) settings n p.setting (history settings workers done before w was n p.setting p.loop at).0) room.0 s run.1 in
+      step_threads Us w run.0 e (λ n p at. map_get (λ _. None) settings n p.setting (setting_is done before w was n p.setting p.loop at)) room.0 s run.1 in
       let rest =
       run_threads steps (done ++ s ∷ []) log (before ++ e ∷ []) run.0 w'
       (joins (opening_world settings workers) w run.0 done (s ∷ []) before (e ∷ []) was (run.0, run.1, refl)) run.2 room.1 in (

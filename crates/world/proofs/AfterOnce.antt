@@ -26,7 +26,7 @@ use Rattle.world_log.specs.declared.step.Step.TheVariants as step
 use Rattle.world_log.specs.declared.entry.LogEntry.{LogEntry}
 use Rattle.world.specs.World.{World, Worker, Idle, Taken, Started, Answer, UnlessFailed, PostsOrder, TakesJob, StartsJob, FinishesJob, CollectsFrom, StepsLoop}
 use Rattle.world.specs.World.{WorldStep, WorldRun, HasLoop, opening_world, opening_loop, told_of, core}
-use Rattle.world.specs.Guests.{step_calls, guest_calls}
+use Rattle.world.proofs.GuestsOfRuns.{step_calls, guest_calls}
 use Rattle.world.specs.Histories.{AreTold, HasHistory}
 use Rattle.world.specs.Laws.{is_after, WasCancelled, IsOwn}
 use Rattle.world.proofs.EndsAreLogged.{finished_after, given_end}

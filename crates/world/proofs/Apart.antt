@@ -34,7 +34,7 @@ use Rattle.world_log.specs.declared.outcome.PostOutcome.TheVariants as post
 use Rattle.world_log.specs.declared.outcome.StartOutcome.TheVariants as start
 use Rattle.world_log.specs.declared.outcome.FinishOutcome.TheVariants as finish
 use Rattle.world_log.specs.declared.outcome.CollectOutcome.TheVariants as collect
-use Rattle.world.specs.Guests.{step_calls, guest_calls}
+use Rattle.world.proofs.GuestsOfRuns.{step_calls, guest_calls}
 use Rattle.world.specs.Laws.{is_of_job, is_begun, is_finished, WasCancelled, AreInPlace}
 use Rattle.world.specs.World.{World, Worker, Idle, Taken, Started, Answer, Only, UnlessFailed, PostsOrder, TakesJob, StartsJob, FinishesJob, CollectsFrom}
 use Rattle.world.specs.World.{StepsLoop, WorldStep, WorldRun, HasLoop, opening_world, opening_loop, with_loop, with_worker, job_of, told_of, core}

@@ -1,4 +1,5 @@
 pub mod AfterOnce
+pub mod GuestsOfRuns
 pub mod Apart
 pub mod RequestsApart
 pub mod CollectsAgree
@@ -11,4 +12,5 @@ pub mod RunsByStep
 pub mod TakesAgree
 pub mod LogsTellHistories
 pub mod StepsAgree
+pub mod StopsAgree
 pub mod WorkersAgree

@@ -28,7 +28,7 @@ use Rattle.world_log.specs.declared.outcome.PostOutcome.TheVariants as post
 use Rattle.world_log.specs.declared.outcome.StartOutcome.TheVariants as start
 use Rattle.world_log.specs.declared.outcome.FinishOutcome.TheVariants as finish
 use Rattle.world_log.specs.declared.outcome.CollectOutcome.TheVariants as collect
-use Rattle.world.specs.Guests.{step_calls}
+use Rattle.world.proofs.GuestsOfRuns.{step_calls}
 use Rattle.world.specs.Histories.{Tells, AreTold, is_of_owner}
 use Rattle.world.specs.Laws.{is_of_job, is_posted, is_taken, is_begun, is_dropped, is_finished, is_collected, GoesOnce, AreInPlace}
 use Rattle.world.specs.World.{World, Worker, Idle, Taken, Started, Answer, Only, UnlessFailed, PostsOrder, TakesJob, StartsJob, FinishesJob, CollectsFrom}

@@ -33,7 +33,7 @@ use Rattle.world_log.specs.declared.outcome.PostOutcome.TheVariants as post
 use Rattle.world_log.specs.declared.outcome.CollectOutcome.TheVariants as collect
 use Rattle.world.specs.World.{World, Worker, Idle, Taken, Started, Answer, Only, UnlessFailed, StepsLoop, Posts, PostsOrder, TakesJob, StartsJob, FinishesJob}
 use Rattle.world.specs.World.{CollectsFrom, WorldStep, WorldRun, told_of, core}
-use Rattle.world.specs.Guests.{step_calls, guest_calls}
+use Rattle.world.proofs.GuestsOfRuns.{step_calls, guest_calls}
 use Rattle.world.specs.Histories.{is_of_owner, Tells, AreTold}
 use Rattle.world.specs.Laws.{is_after}
 use Rattle.world.proofs.LogsTellHistories.{history_push, told_push, tells_callback, tells_cancel, contains_push, count_push}

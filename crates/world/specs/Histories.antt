@@ -11,8 +11,8 @@ use Rattle.world_log.specs.declared.entry.LogEntry.TheVariants as line
 use Rattle.world_log.specs.declared.step.Step.{Step}
 use Rattle.world_log.specs.declared.outcome.PostOutcome.TheVariants as post
 use Rattle.world_log.specs.declared.outcome.CollectOutcome.TheVariants as collect
-use Rattle.world.specs.World.{World, WorldRun, HasLoop, opening_world, opening_loop, told_of}
-use Rattle.world.specs.Guests.{guest_calls}
+use Rattle.world.specs.World.{World, HasLoop, opening_world, opening_loop, told_of}
+use Rattle.world.specs.Guests.{RunCalls}
 
 -- the line tells what the owner of this loop did with it
 abbrev pub is_of_owner : (l : ℕ) → LogEntry → Bool
@@ -57,8 +57,7 @@ pub record HasHistory (l : ℕ) (g : Setting) (start : Loop Desk) (log : List Lo
 -- in every run from an opening world each loop has such a history, from its opening
 abbrev pub IsHistory : Type 0
 IsHistory =
-    (settings : List Setting) (workers : ℕ) (steps : List Step) (log : List LogEntry) (w : World)
-    (run : WorldRun (opening_world settings workers) steps log w)
-    → (l : ℕ) (g : Setting) (now : Loop Desk) → HasLoop w l g now
-    → (slice_get settings l ≡ Some g)
-    × HasHistory l g (opening_loop g).loop log (guest_calls l (opening_world settings workers) steps log w run) now
+    (settings : List Setting) (workers : ℕ) (steps : List Step) (log : List LogEntry) (w : World) (l : ℕ) (made : List GuestCall)
+    → RunCalls l (opening_world settings workers) steps log made w
+    → (g : Setting) (now : Loop Desk) → HasLoop w l g now
+    → (slice_get settings l ≡ Some g) × HasHistory l g (opening_loop g).loop log made now

@@ -20,7 +20,7 @@ use Rattle.world_log.specs.declared.outcome.StartOutcome.TheVariants as start
 use Rattle.world_log.specs.declared.outcome.FinishOutcome.TheVariants as finish
 use Rattle.world_log.specs.declared.outcome.CollectOutcome.TheVariants as collect
 use Rattle.world.specs.World.{World, WorldStep, WorldRun, HasLoop, opening_world, with_loop, told_of, Tells}
-use Rattle.world.specs.Guests.{step_calls, guest_calls}
+use Rattle.world.specs.Guests.{StepCalls, RunCalls}
 
 -- the entry tells an after-work callback of this loop and request
 abbrev pub is_after : (l request : ℕ) → LogEntry → Bool
@@ -76,21 +76,21 @@ pub record IsOwn (settings : List Setting) (log : List LogEntry) (made : List Gu
 -- each step that runs an after-work callback, after any run from an opening world, gives it what is due to its own order
 abbrev pub IsAfterOwn : Type 0
 IsAfterOwn =
-    (settings : List Setting) (workers : ℕ) (steps : List Step) (log : List LogEntry) (w : World)
-    (run : WorldRun (opening_world settings workers) steps log w)
+    (settings : List Setting) (workers : ℕ) (steps : List Step) (log : List LogEntry) (w : World) (l : ℕ) (made : List GuestCall)
+    → RunCalls l (opening_world settings workers) steps log made w
     → (s : Step) (entry : LogEntry) (w' : World) → WorldStep w s entry w'
-    → (l request : ℕ) → is_after l request entry ≡ true
-    → IsOwn settings log (guest_calls l (opening_world settings workers) steps log w run) w l request entry w'
+    → (request : ℕ) → is_after l request entry ≡ true
+    → IsOwn settings log made w l request entry w'
 
 -- from the callback on no cancel of its request is answered 0, in the callback or behind it
 abbrev pub IsAfterLast : Type 0
 IsAfterLast =
     (settings : List Setting) (workers : ℕ) (steps : List Step) (log : List LogEntry) (w : World)
     → WorldRun (opening_world settings workers) steps log w
-    → (s : Step) (entry : LogEntry) (mid : World) (step : WorldStep w s entry mid)
-    → (behind : List Step) (more : List LogEntry) (w' : World) (run : WorldRun mid behind more w')
-    → (l request : ℕ) → is_after l request entry ≡ true
-    → WasCancelled l request (entry ∷ more) (step_calls l w s entry mid step ++ guest_calls l mid behind more w' run) → ⊥
+    → (l : ℕ) (s : Step) (entry : LogEntry) (first : List GuestCall) (mid : World) → StepCalls l w s entry first mid
+    → (behind : List Step) (lines : List LogEntry) (more : List GuestCall) (w' : World) → RunCalls l mid behind lines more w'
+    → (request : ℕ) → is_after l request entry ≡ true
+    → WasCancelled l request (entry ∷ lines) (first ++ more) → ⊥
 
 -- the line tells of the job of this loop and request: that it was posted, taken, begun, dropped, finished, collected
 abbrev pub is_of_job : (l request : ℕ) → JobId → Bool
@@ -144,8 +144,8 @@ IsOneWay =
 abbrev pub IsCancelledOrBegun : Type 0
 IsCancelledOrBegun =
     (settings : List Setting) (workers : ℕ) (steps : List Step) (log : List LogEntry) (w : World) → AreInPlace settings
-    → (run : WorldRun (opening_world settings workers) steps log w) → (l request : ℕ)
-    → WasCancelled l request log (guest_calls l (opening_world settings workers) steps log w run)
+    → (l : ℕ) (made : List GuestCall) → RunCalls l (opening_world settings workers) steps log made w
+    → (request : ℕ) → WasCancelled l request log made
     → (count_by (is_begun l request) log ≡ 0) × (count_by (is_finished l request) log ≡ 0)
 
 -- a run, and a run from where it ended, are one run

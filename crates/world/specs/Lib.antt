@@ -2,4 +2,5 @@ pub mod Guests
 pub mod Histories
 pub mod Laws
 pub mod Making
+pub mod Stopping
 pub mod World

@@ -1,15 +1,17 @@
 //! Laws of the runs of a world. Their functions do nothing: each contract is the law.
 
+ghost use Rattle.world.specs.Guests.{EachRunCalls};
 ghost use Rattle.world.specs.Histories.{IsHistory};
 ghost use Rattle.world.specs.Laws.{IsAfterOnce, IsAfterOwn, IsAfterLast, IsOneWay, IsCancelledOrBegun, RunsJoin};
 
 use desk::Desk;
 
-/// In every run of a world each loop has a history of what its owner did with it, which the log tells. So each loop
-/// and request have at most one after-work callback. It is given what one thread computes from the request's own
+/// In every run of a world the guest of each loop makes some calls, and each loop has a history of what its owner did with
+/// it, which the log tells. So each loop and request have at most one after-work callback. It is given what one thread computes from the request's own
 /// order, which the log's line tells by which its job was finished, or, where a cancel was answered 0, only its
 /// cancellation; and from then on none is answered 0.
 pub fn after_once()
+    ensures calls { EachRunCalls }
     ensures history { IsHistory }
     ensures once { IsAfterOnce }
     ensures own { IsAfterOwn }

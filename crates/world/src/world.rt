@@ -1,8 +1,9 @@
 // All loops and workers, in one thread.
 
-ghost use Rattle.std.specs.Prelude.{◌≡◌, ◌++◌, ◌∷◌, [], ◌≤◌, ◌<◌, All, IfOk, IfErr, OnOk, OnErr, length, map, replicate, take};
+ghost use Rattle.std.specs.Prelude.{◌≡◌, ◌++◌, ◌∷◌, [], ◌≤◌, ◌<◌, All, IfOk, IfErr, IfSome, OnOk, OnErr, length, map, replicate, take};
 ghost use Rattle.limits.specs.declared.TheConstants.{MAX_LOOPS, MAX_WORKERS};
 ghost use Rattle.world.specs.Making.{setting_from, settings_from, answers_of, HasDepth, MayFault, Stops};
+ghost use Rattle.world.specs.Stopping.{StopsIn};
 ghost use Rattle.world.specs.World.{opening_world, opening_loop, WorldStep, WorldRun, told_of, job_of, Tells, StepsLoop, Posts, WithWorker, TakesJob, StartsJob};
 ghost use Rattle.world.specs.World.{FinishesJob, Collects, SendsTo, Cancels, Clocks};
 ghost use Rattle.order.specs.Orders.{order_of, end_of};
@@ -231,8 +232,12 @@ impl World {
 
     /// Where the last callback of a loop stopped, if it was over but by return: at which operation, and within which calls.
     /// Of a loop that has failed, this stays.
-    pub fn last_stop(&self, loop_no: u32) -> Option<Stop<'_>> {
-        let core = self.loops.get(loop_no as usize)?;
+    pub fn last_stop(&self, loop_no: u32) -> Option<Stop<'_>>
+        ensures { IfSome result (StopsIn self.now loop_no) }
+    {
+        let Some(core) = self.loops.get(loop_no as usize) else {
+            return None;
+        };
         core.last_stop()
     }
 

@@ -1,0 +1,62 @@
+-- The calls of a loop's guest, read off a run.
+use Rattle.std.proofs.Common.{◌≡◌, ℕ, ◌==◌, refl, sym, ap, ◌∙◌, List, [], ◌∷◌, ◌++◌, if◌then◌else◌}
+use Rattle.phases.specs.Guests.{GuestCall}
+use Rattle.world_log.specs.declared.step.Step.{Step}
+use Rattle.world_log.specs.declared.step.Step.TheVariants as step
+use Rattle.world_log.specs.declared.entry.LogEntry.{LogEntry}
+use Rattle.world.specs.World.{World, WorldStep, WorldRun}
+use Rattle.world.specs.Guests.{StepCalls, RunCalls, EachRunCalls}
+
+-- the calls of one loop's guest in a step, which is the loop's own
+abbrev pub step_calls : (l : ℕ) (w : World) (s : Step) (entry : LogEntry) (w' : World) → WorldStep w s entry w' → List GuestCall
+step_calls l w (step.Loop n) entry w' h = if n == l then h.made else []
+step_calls l w _ entry w' h = []
+
+-- the calls of one loop's guest in a run, in order
+abbrev pub guest_calls : (l : ℕ) (w : World) (steps : List Step) (log : List LogEntry) (w' : World) → WorldRun w steps log w'
+    → List GuestCall
+guest_calls l w (s ∷ steps) (entry ∷ log) w' h = step_calls l w s entry h.0 h.1 ++ guest_calls l h.0 steps log w' h.2
+guest_calls l w _ _ w' h = []
+
+step_makes : (l : ℕ) (w : World) (s : Step) (entry : LogEntry) (w' : World) (h : WorldStep w s entry w') → StepCalls l w s entry (step_calls l w s entry w' h) w'
+step_makes l w (step.Loop n) entry w' h = (h, refl)
+step_makes l w (step.Post n) entry w' h = (h, refl)
+step_makes l w (step.Take n) entry w' h = (h, refl)
+step_makes l w (step.Start n) entry w' h = (h, refl)
+step_makes l w (step.Finish n) entry w' h = (h, refl)
+step_makes l w (step.Collect n) entry w' h = (h, refl)
+step_makes l w (step.Send n a) entry w' h = (h, refl)
+step_makes l w (step.Cancel n request) entry w' h = (h, refl)
+step_makes l w (step.Clock n ms) entry w' h = (h, refl)
+
+pub step_of : (l : ℕ) (w : World) (s : Step) (entry : LogEntry) (made : List GuestCall) (w' : World) → StepCalls l w s entry made w'
+    → (h : WorldStep w s entry w') × (made ≡ step_calls l w s entry w' h)
+step_of l w (step.Loop n) entry made w' h = (h.0, h.1)
+step_of l w (step.Post n) entry made w' h = (h.0, h.1)
+step_of l w (step.Take n) entry made w' h = (h.0, h.1)
+step_of l w (step.Start n) entry made w' h = (h.0, h.1)
+step_of l w (step.Finish n) entry made w' h = (h.0, h.1)
+step_of l w (step.Collect n) entry made w' h = (h.0, h.1)
+step_of l w (step.Send n a) entry made w' h = (h.0, h.1)
+step_of l w (step.Cancel n request) entry made w' h = (h.0, h.1)
+step_of l w (step.Clock n ms) entry made w' h = (h.0, h.1)
+
+run_makes : (l : ℕ) (w : World) (steps : List Step) (log : List LogEntry) (w' : World) (run : WorldRun w steps log w') → RunCalls l w steps log (guest_calls l w steps log w' run) w'
+run_makes l w [] [] w' run = (run, refl)
+run_makes l w [] (entry ∷ log) w' run = absurd run
+run_makes l w (s ∷ steps) [] w' run = absurd run
+run_makes l w (s ∷ steps) (entry ∷ log) w' run =
+    (run.0, step_calls l w s entry run.0 run.1, guest_calls l run.0 steps log w' run.2, step_makes l w s entry run.0 run.1, run_makes l run.0 steps log w' run.2, refl)
+
+pub run_of : (l : ℕ) (w : World) (steps : List Step) (log : List LogEntry) (made : List GuestCall) (w' : World) → RunCalls l w steps log made w'
+    → (run : WorldRun w steps log w') × (made ≡ guest_calls l w steps log w' run)
+run_of l w [] [] made w' h = (h.0, h.1)
+run_of l w [] (entry ∷ log) made w' h = absurd h
+run_of l w (s ∷ steps) [] made w' h = absurd h
+run_of l w (s ∷ steps) (entry ∷ log) made w' h =
+    let one = step_of l w s entry h.1 h.0 h.3 in
+    let rest = run_of l h.0 steps log h.2 w' h.4 in
+    ((h.0, one.0, rest.0), h.5 ∙ ap (λ cs. cs ++ h.2) one.1 ∙ ap (λ cs. step_calls l w s entry h.0 one.0 ++ cs) rest.1)
+
+pub each_run_calls : EachRunCalls
+each_run_calls l w steps log w' run = (guest_calls l w steps log w' run, run_makes l w steps log w' run)

@@ -1,0 +1,14 @@
+use Rattle.std.proofs.Common.{ap, sym, ◌∙◌}
+use Rattle.std.specs.Prelude.{slice_get}
+use Rattle.world.proofs.StepsAgree.{read}
+use Rattle.world.proofs.StopsAgree.{stops_in}
+use Rattle.world.specs.World.{World}
+use Rattle.world.proofs.world.World.last_stop.Goals as goal
+
+pub returns : goal.returns
+returns c =
+    stops_in c.args.self.now c.args.loop_no c.in-Some.core.now c.last_stop.result
+    (ap (λ (w : World). slice_get w.loops c.args.loop_no) (sym c.self.view_is)
+    ∙ ap (λ cores. slice_get cores c.args.loop_no) (sym c.deref.ensures.value)
+    ∙ read c.deref.result.now c.args.loop_no c.in-Some.core.now c.in-Some.ensures.lookup.3.0 c.in-Some.ensures.lookup.3.1)
+    c.last_stop.ensures

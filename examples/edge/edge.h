@@ -12,7 +12,7 @@
 
 enum { MOST_BYTES = 65536, MOST_HEAD = 16384, MOST_HELD = 64 << 20, MOST_MODULE = 1 << 20, MOST_WAITING = 4096 };
 enum { ASYNCS = 16, MOST_RUNS = 32, MOST_EMITS = MOST_RUNS * 64, TURN_NS = 500000, TIMES = 32 };
-typedef enum limit { FUEL, CALLBACK, DEADLINE, DEPTH, QUEUE, RUN, REST, LIMITS } limit; /* the numbers in NAME.conf */
+typedef enum limit { FUEL, CALLBACK, DEADLINE, DEPTH, QUEUE, RUN, REST, OUT, LIMITS } limit; /* the numbers in NAME.conf */
 typedef enum outcome { DONE, TRAPPED, DEEP, SPENT, LATE, NO_MEMORY, REFUSED, GONE, OUTCOMES } outcome;
 typedef struct tenant tenant;
 typedef struct task task;
@@ -89,7 +89,7 @@ struct tenant {
     wasmloop_shape shape;
     bool loading, again, absent, active;
     bool fails;                  /* its last request did */
-    uint64_t rests;              /* the moment until which it rests */
+    uint64_t rests, sent;        /* the moments until which it rests, and until which its replies may be sent at its rate */
     uint32_t waiting, running;
     double share, mean;          /* the processor time that it has used beside the others', and of a task, in nanoseconds */
     task *first, **end;

@@ -243,11 +243,14 @@ static bool ready_work(task *k) {
     return false;
 }
 
-/* A tenant whose request failed rests for a while, and has one thread until one is done: its failures must not be its neighbours' loss. */
-static void note_end(tenant *t, outcome what) {
+/* A tenant whose request failed rests for a while, and has one thread until one is done: its failures must not be its neighbours' loss. One
+ * whose replies have more than `out` bytes a millisecond rests until they had not: the main thread writes them. */
+static void note_end(tenant *t, outcome what, uint64_t bytes) {
+    const uint64_t now = uv_hrtime(), ms = 1000000;
+    t->sent = (t->sent > now ? t->sent : now) + bytes * ms / t->limits[OUT];
+    if (t->sent > now + ms) t->rests = t->sent - ms;
     if (what == DONE) t->fails = false;
-    if (what < TRAPPED || what > LATE) return;
-    t->fails = true, t->rests = uv_hrtime() + t->limits[REST] * 1000000;
+    if (what >= TRAPPED && what <= LATE) t->fails = true, t->rests = now + t->limits[REST] * ms;
 }
 
 static void worked(task *k) {
@@ -259,7 +262,7 @@ static void worked(task *k) {
     outcome what = k->late ? LATE : a->outcome == WASMLOOP_WORK_DONE && !k->out ? NO_MEMORY : ends[a->outcome];
     t->counted.used += a->used, t->counted.out += a->reply;
     count(t, c ? what : GONE, k->came);
-    note_end(t, what);
+    note_end(t, what, a->reply);
     if (c) {
         c->fuel = a->used;
         snprintf(c->more, sizeof c->more, "Wasmloop-Outcome: %s\r\nWasmloop-Value: %d\r\nWasmloop-Fuel: %llu\r\n",
@@ -326,7 +329,7 @@ static void load(tenant *t) {
 static void read_limits(tenant *t) {
     static const struct { const char *key; uint64_t usual, least, most; } known[LIMITS] = { [FUEL] = { "fuel", 10000000, 1, UINT64_MAX },
         [CALLBACK] = { "callback", 1000000, 1, UINT64_MAX }, [DEADLINE] = { "deadline", 1000, 1, 3600000 }, [DEPTH] = { "depth", 64, 1, 128 },
-        [QUEUE] = { "queue", 64, 1, MOST_WAITING }, [RUN] = { "run", 1, 1, 128 }, [REST] = { "rest", 1, 0, 1000 } };
+        [QUEUE] = { "queue", 64, 1, MOST_WAITING }, [RUN] = { "run", 1, 1, 128 }, [REST] = { "rest", 1, 0, 1000 }, [OUT] = { "out", 65536, 1, 1 << 30 } };
     char key[32], value[64], *end;
     FILE *file = open_file(t, "conf");
     for (int i = 0; i < LIMITS; i++) t->limits[i] = known[i].usual;

@@ -222,12 +222,13 @@ def slices(s):
 
 
 def rests(s):
-    """A tenant that fails rests for a millisecond each time, and its neighbours don't."""
-    began = time.perf_counter()
-    for _ in range(50):
-        s.ask("/trap/2")
-    failing = time.perf_counter() - began
-    check(failing > 0.05, "fifty failures and their rests", failing)
+    """A tenant that fails rests for a millisecond each time, and so does one for each 65,536 bytes that it replies."""
+    for path, status in ("/trap/2", 500), ("/huge", 200):
+        began = time.perf_counter()
+        with concurrent.futures.ThreadPoolExecutor(4) as pool:
+            got = {it[0] for it in pool.map(lambda _: s.ask(path), range(60))}
+        took = time.perf_counter() - began
+        check(got == {status} and took > 0.05, "sixty answers and their rests", path, got, took)
 
 
 def loops(s):

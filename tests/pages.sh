@@ -152,7 +152,7 @@ snippet() {
     $2 > said 2>&1 || { fail "docs/EMBEDDING.md: $1"; cat said; }
 }
 if has cc; then
-    for number in 2 3; do
+    for number in 2 3 4; do
         { echo '#include "wasmloop.h"'; block docs/EMBEDDING.md c $number; } > "snippet$number.c"
         grep -q wasmloop_handle "snippet$number.c" || fail "docs/EMBEDDING.md has no block $number in C"
         snippet "block $number in C" "cc -std=c99 -Wall -Werror -Icapi/include -c snippet$number.c"

@@ -21,6 +21,6 @@ fi
 try git diff --check HEAD
 if has shellcheck; then files '*.sh' wasmloop .ci/run .ci/nightly | xargs shellcheck --severity=warning || wrong=1; fi
 if has flake8; then files '*.py' | xargs flake8 --max-line-length=160 || wrong=1; fi
-if has mypy; then try mypy --strict --no-error-summary capi/python/wasmloop.py; fi
+if has mypy; then try mypy --strict --no-error-summary --cache-dir=/dev/null capi/python/wasmloop.py; fi
 if has cc; then for file in capi/wasmloop.c capi/names.c; do try cc -std=c99 -Wall -Wextra -Werror -Icapi/include -fsyntax-only "$file"; done; fi
 exit $wrong

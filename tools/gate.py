@@ -1,8 +1,8 @@
 #!/usr/bin/env python3
 """gate.py [TABLE]: runs the gate, `rt ci`, and writes a table of the processor seconds of each crate, by kind: its proof, its tests, its edits.
 
-What the gate prints goes to standard output as ever; the table goes to the file TABLE, or is appended to it. Twice a second the processes below `rt ci` are looked
-at under /proc (Linux), and what each has used is added up under the crate and the kind that the command line of `rattle` names, with what it started.
+What the gate prints goes to standard output as ever; the table goes to the file TABLE, or is appended to it. Twice a second the processes
+below `rt ci` are looked at under /proc (Linux), and what each has used is added up under the crate and the kind that the command line of `rattle` names, with what it started.
 Links, and runs of programs and tests, are no part of it. What a process uses after the last look at it is lost: under 1 in 100."""
 
 import collections
@@ -70,7 +70,10 @@ def table(used, wall):
         sums[crate, kind] += seconds
     with open("crates.txt") as file:
         crates = re.findall(r"(?m)^(\w+)[^:\n]*:", file.read())
-    row = lambda name, cells: f"| {name} | " + " | ".join(cells) + " |"
+
+    def row(name, cells):
+        return f"| {name} | " + " | ".join(cells) + " |"
+
     lines = [row("crate", [*KINDS, "edits, number", "sum"]), row("---", ["---"] * 5).replace(" ", "")]
     for crate in crates:
         seconds = [sums[crate, kind] for kind in KINDS]

@@ -308,7 +308,10 @@ def trap_names(sources):
 
 def wrong_names(sources):
     enums = {next(iter(told)): told for told in c_enums(sources)}
-    plainly = lambda first, prefix: [name.removeprefix(prefix).lower().replace("_", " ") for name in enums[first]]
+
+    def plainly(first, prefix):
+        return [name.removeprefix(prefix).lower().replace("_", " ") for name in enums[first]]
+
     statuses, traps = list(enums["OK"]), trap_names(sources)
     wanted = {"status_name": statuses, "trap_name": traps, "ending_name": plainly("RETURN", ""),
               "outcome_name": [{"memory": "nomemory"}.get(it, it) for it in plainly("NOT_RUN", "WORK_")],

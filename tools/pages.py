@@ -76,7 +76,9 @@ def program_page(version, whole, commands):
 
 def header_page(version, text):
     """The header's first comment, and its declarations, each behind what is said of it."""
-    words = lambda it: re.sub(r"(?m)^ ?\*? ?", "", it.strip()).strip()
+    def words(comment):
+        return re.sub(r"(?m)^ ?\*? ?", "", comment.strip()).strip()
+
     first = words(re.match(r"/\*(.*?)\*/", text, re.S)[1])
     about, _, first = first.partition("\n\n")
     body = re.search(r'extern "C" \{\n#endif\n(.*)\n#ifdef __cplusplus', text, re.S)[1]
@@ -116,7 +118,9 @@ complete -o filenames -F _wasmloop wasmloop""".split("\n")
 
 
 def zsh(whole, commands):
-    quoted = lambda it: it.replace("'", "").replace("[", "(").replace("]", ")").replace(":", ",")
+    def quoted(text):
+        return text.replace("'", "").replace("[", "(").replace("]", ")").replace(":", ",")
+
     lines = ["#compdef wasmloop", "", "local -a commands", "commands=("]
     lines += [f"    '{name}:{quoted(it.about)}'" for name, it in commands.items()]
     lines += [")", "if (( CURRENT == 2 )); then", "    _describe command commands -- '(--help --version)'", "    return", "fi"]

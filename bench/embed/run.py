@@ -5,7 +5,8 @@
 
 Two guests run under `serve`, with one loop and one worker, and by bench/embed/host.c over the library, in one thread: one asks for work
 again and again, the other restarts a timer. Each is run with few and with many rounds, and the difference is the time of a round: the
-program's start is no part of it. User time, processor time and wall time are printed, since `serve` has two threads. The last line is the processor time of a Python process that loads the library, beside one that does not.
+program's start is no part of it. User time, processor time and wall time are printed, since `serve` has two threads. The last line is the
+processor time of a Python process that loads the library, beside one that does not.
 """
 import os
 import resource

@@ -94,7 +94,6 @@ COMMANDS = [
 ]
 
 
-
 def serve_lines(*values):
     """What `serve` prints of loops that emit these values: 6, or -12 where the work had no memory, or none."""
     return done("".join(f"loop {loop} over emits{value}\n" for loop, value in enumerate(values)))

@@ -2,8 +2,10 @@
 """gate.py [TABLE]: runs the gate, `rt ci`, and writes a table of the processor seconds of each crate, by kind: its proof, its tests, its edits.
 
 What the gate prints goes to standard output as ever; the table goes to the file TABLE, or is appended to it. Twice a second the processes
-below `rt ci` are looked at under /proc (Linux), and what each has used is added up under the crate and the kind that the command line of `rattle` names, with what it started.
-Links, and runs of programs and tests, are no part of it. What a process uses after the last look at it is lost: under 1 in 100."""
+below `rt ci` are looked at under /proc (Linux), and what each has used is added up under the crate and the kind that the command line of
+`rattle` names, with what it started. Links, and runs of programs and tests, are no part of it. What a process uses after the last look at
+it is lost: under 1 in 100.
+"""
 
 import collections
 import os

@@ -532,8 +532,9 @@ impl Instance {
 
     /// The value of the global that is exported under a name; `None` where there is none.
     pub fn global(&mut self, name: &str) -> Result<Option<Number>, Error> {
-        let (Ok(told), mut value) = (CString::new(name), Number::default()) else { return Ok(None) };
-        match unsafe { wasmloop_global(&mut self.0, told.as_ptr(), &mut value) } {
+        // (no name has a NUL)
+        let (told, mut value) = (CString::new(name).ok(), Number::default());
+        match told.map_or(NONE, |it| unsafe { wasmloop_global(&mut self.0, it.as_ptr(), &mut value) }) {
             NONE => Ok(None),
             status => done(status).map(|()| Some(value)),
         }

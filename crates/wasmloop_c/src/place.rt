@@ -49,19 +49,20 @@ fn tell(
     copy_bytes(text.as_slice(), into, count)
 }
 
-fn tell_thing(
-    alloc: Global,
-    thing: &Thing,
-    bytes: &[u8],
-    into: &mut [u8],
-    count: &mut u64,
-) -> u32
+fn tell_thing(alloc: Global, thing: &Thing, bytes: &[u8], into: &mut [u8], count: &mut u64) -> u32
     ensures { TellsPlace thing.now bytes.now into.old into.new count.old count.new result }
 {
     match thing {
         Thing::Loop(held) => {
             let trail = trail_of(held.core.last_stop());
-            tell(alloc, held.core.module_bytes(), trail.as_ref(), bytes, into, count)
+            tell(
+                alloc,
+                held.core.module_bytes(),
+                trail.as_ref(),
+                bytes,
+                into,
+                count,
+            )
         }
         Thing::Answered(told) => {
             let own = told.reply.order.module.valid().module().bytes();
@@ -69,7 +70,14 @@ fn tell_thing(
         }
         Thing::Resident(resident) => {
             let trail = trail_of(resident.last_stop());
-            tell(alloc, resident.module_bytes(), trail.as_ref(), bytes, into, count)
+            tell(
+                alloc,
+                resident.module_bytes(),
+                trail.as_ref(),
+                bytes,
+                into,
+                count,
+            )
         }
         Thing::Asked(_) => NONE,
         _ => KIND,

@@ -37,13 +37,7 @@ fn tell_warning(
     copy_bytes(text.as_bytes(), into, count)
 }
 
-fn warning(
-    alloc: Global,
-    thing: &Thing,
-    number: u32,
-    into: &mut [u8],
-    count: &mut u64,
-) -> u32
+fn warning(alloc: Global, thing: &Thing, number: u32, into: &mut [u8], count: &mut u64) -> u32
     ensures { TellsWarning thing.now into.old into.new count.old count.new result }
 {
     let Thing::Module(linked) = thing else {

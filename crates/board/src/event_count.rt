@@ -1,7 +1,11 @@
 // An event count: what threads sleep on until something is done.
 
+use std::hint::spin_loop;
 use std::sync::Wait;
 use std::sync::atomic::{AtomicU64, Ordering};
+
+/// How often a thread looks again before it sleeps. It takes some microseconds at most, and to sleep and to be woken takes as long.
+const LOOKS: u32 = 300;
 
 /// It counts its events. A thread that is going to wait first asks how many there were, and then looks for what it waits
 /// for: if that comes behind the look, so does an event, and the wait ends. A thread is counted in `sleepers` before the
@@ -41,8 +45,22 @@ impl EventCount {
         }
     }
 
-    /// Sleeps until there are more events than so many.
+    /// Looks a fixed number of times whether there are more events than so many.
+    fn sees_more(&self, heard: u64) -> bool {
+        for _ in 0..LOOKS {
+            if self.events() != heard {
+                return true;
+            }
+            spin_loop();
+        }
+        false
+    }
+
+    /// Waits until there are more events than so many: it looks for a while, and then sleeps.
     pub fn wait<R: Wait>(&self, rt: &R, heard: u64) {
+        if self.sees_more(heard) {
+            return;
+        }
         self.sleepers.fetch_add(1, Ordering::SeqCst);
         for _ in rt.forever() {
             if self.events() != heard {

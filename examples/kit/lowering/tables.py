@@ -13,6 +13,10 @@ class Marks:
     """How many marks each type of the module has."""
 
     def __init__(self, module):
+        kinds = {*module.types, CALLBACK}
+        if len(set(map(lowered, kinds))) == len(kinds):    # no two become one
+            self.counts = {}
+            return
         called, placed = called_types(module), {module.types[module.type_of(f)] for _, those in module.elements for f in those}
         self.counts, taken = {}, {lowered(kind) for kind in called | placed}
         for kind in sorted(called | placed):

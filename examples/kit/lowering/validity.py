@@ -119,9 +119,9 @@ class Body:
         self.stack += frame.taken
         self.frames.append(Frame(ELSE, frame.taken, frame.left, len(self.stack) - len(frame.taken)))
 
-    def selects(self, kinds):
+    def selects(self, op, kinds):
         self.pop(I32)
-        if kinds is not None:
+        if op == TYPED_SELECT:
             if len(kinds) != 1 or kinds[0] not in LOWERED:
                 raise Refused("select with other types than one of a number")
             self.does([kinds[0]] * 2, [kinds[0]])
@@ -161,45 +161,44 @@ class Body:
             kind = self.module.type_of(behind)
         self.does(*map(list, self.module.types[kind]))
 
-    def control(self, op, behind):
-        if op in BLOCKS:
-            if op == IF:
-                self.pop(I32)
-            self.opens(op, *self.block_type(behind))
-        elif op == ELSE:
-            self.else_begins()
-        elif op == END:
-            self.ends()
-        elif op == BR_TABLE:
-            self.branches([*behind[0], behind[1]])
-        else:
-            self.leaves(op, behind)
-
     def leaves(self, op, behind):
         if op == BR_IF:
             self.pop(I32)
             self.does(self.label(behind), self.label(behind))
             return
+        if op == BR_TABLE:
+            self.branches([*behind[0], behind[1]])
+            return
         if op != UNREACHABLE:
             self.takes(self.frames[0].left if op == RETURN else self.label(behind))
         self.goes_no_further()
 
+    def begins(self, op, behind):
+        if op == IF:
+            self.pop(I32)
+        self.opens(op, *self.block_type(behind))
+
     def operation(self, op, behind):
         if not self.frames:
             raise Refused("an operation behind the body's end")
-        if op in (*BLOCKS, ELSE, END, BR, BR_IF, BR_TABLE, RETURN, UNREACHABLE):
-            self.control(op, behind)
-        elif op in (CALL, CALL_INDIRECT):
-            self.calls(op, behind)
-        elif op in (LOCAL_GET, LOCAL_SET, LOCAL_TEE, GLOBAL_GET, GLOBAL_SET):
-            self.variable(op, behind)
-        elif op in (SELECT, TYPED_SELECT):
-            self.selects(behind if op == TYPED_SELECT else None)
-        elif op == DROP:
-            self.pop(ANY)
+        taken_and_left = SIGNATURES.get((PREFIX, behind[0]) if op == PREFIX else op)
+        if taken_and_left:
+            self.does(*taken_and_left)
         else:
-            self.does(*SIGNATURES[(PREFIX, behind[0]) if op == PREFIX else op])
+            OTHERS[op](self, op, behind)
 
     def ended(self):
         if self.frames:
             raise Refused("a body that doesn't end")
+
+
+OTHERS = {
+    **dict.fromkeys((LOCAL_GET, LOCAL_SET, LOCAL_TEE, GLOBAL_GET, GLOBAL_SET), Body.variable),
+    **dict.fromkeys((CALL, CALL_INDIRECT), Body.calls),
+    **dict.fromkeys(BLOCKS, Body.begins),
+    **dict.fromkeys((BR, BR_IF, BR_TABLE, RETURN, UNREACHABLE), Body.leaves),
+    **dict.fromkeys((SELECT, TYPED_SELECT), Body.selects),
+    DROP: lambda body, op, behind: body.pop(ANY),
+    ELSE: lambda body, op, behind: body.else_begins(),
+    END: lambda body, op, behind: body.ends(),
+}

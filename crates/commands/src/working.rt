@@ -280,7 +280,7 @@ fn name_of_run(contents: &Contents, trail: &Trail) -> &'static str {
     }
 }
 
-/// Says in a sentence where the work stopped, if it did not return.
+/// Says in a sentence where the work stopped.
 fn explain<E: Write>(told: &Told, err: &mut E) -> io::Result<()> {
     let module = told.reply.order.module.valid().module();
     let allowed = Allowed::by_options(told.reply.order.depth);
@@ -291,6 +291,37 @@ fn explain<E: Write>(told: &Told, err: &mut E) -> io::Result<()> {
         }
         None => Ok(()),
     }
+}
+
+/// Says in a sentence where the work stopped, if it did not return.
+fn explain_end<E: Write>(told: &Told, err: &mut E)
+    ensures quiet { IsResult (end_of told.now.reply.outcome) → err.new ≡ err.old }
+{
+    match &told.reply.outcome {
+        Outcome::Done(_, _) => {}
+        Outcome::Trap(_) | Outcome::Depth | Outcome::Spent | Outcome::NoMemory => {
+            // a sentence that can't be written changes nothing
+            let _ = explain(told, err);
+        }
+    }
+}
+
+/// Says what the work used, if that is asked for.
+fn trace<E: Write>(told: &Told, work: &WorkRequest, err: &mut E)
+    ensures quiet { work.now.is_traced ≡ false → err.new ≡ err.old }
+{
+    if work.is_traced {
+        // a line that can't be written changes nothing
+        let _ = tell_used(told.used, work.fuel, err);
+    }
+}
+
+/// Says where the work stopped, if it did not return, and what it used, if that is asked for.
+fn say_more<E: Write>(told: &Told, work: &WorkRequest, err: &mut E)
+    ensures quiet { IsResult (end_of told.now.reply.outcome) → work.now.is_traced ≡ false → err.new ≡ err.old }
+{
+    explain_end(told, err);
+    trace(told, work, err);
 }
 
 /// Lets the module of the file compute the reply of a work order, and tells what came of it. Done, where that is a value
@@ -310,13 +341,6 @@ pub fn work<'a, F: Reader + Writer, O: Write, E: Write>(
     let linked = load(alloc, files, work.file.as_str())?;
     let told = reply_of(alloc, linked, work, bytes)?;
     tell_outcome(alloc, &told.reply.outcome, &work.output, files, out, err)?;
-    let status = status_of(&told.reply.outcome);
-    // a sentence that can't be written changes nothing
-    if status != Status::Done {
-        let _ = explain(&told, err);
-    }
-    if work.is_traced {
-        let _ = tell_used(told.used, work.fuel, err);
-    }
-    Ok(status)
+    say_more(&told, work, err);
+    Ok(status_of(&told.reply.outcome))
 }

@@ -14,4 +14,4 @@ returns-clause-refused g c = λ three.
 pub returns-clause-ended : goal.returns-clause-ended
 returns-clause-ended g c = λ four.
     let is = ended_of c.status_from-status.result (sym c.number.ensures ∙ four) in
-    rw ((c.status_from-status.ensures.kept_ended is).0, (c.status_from-status.ensures.kept_ended is).1) (at_ended c.run-ended.result _ c.run-ended.ensures.ended (c.status_from-status.ensures.ended is) refl)
+    rw (c.status_from-status.ensures.kept_ended is).0 (at_ended c.run-ended.result _ c.run-ended.ensures.ended (c.status_from-status.ensures.ended is) refl)

@@ -1,4 +1,5 @@
 use Rattle.std.proofs.Common.{string_bytes}
+use Rattle.std.specs.Arc.{arc_value}
 use Rattle.order.specs.Orders.{end_of}
 use Rattle.commands.specs.Accepted.{IsLoaded}
 use Rattle.commands.specs.Working.{asked_order}
@@ -24,7 +25,7 @@ returns-clause-done g c = λ done.
       bytes = end.bytes;
       computed = end.computed;
       printed = rw end.is at c.in_ok-tell_outcome.ensures.told;
-      said = λ quiet. rw end.is at c.in_ok-tell_outcome.ensures.said;
+      said = λ quiet. rw (c.say_more.ensures.quiet (c.status_of.ensures.0 done) quiet) (rw end.is at c.in_ok-tell_outcome.ensures.said);
     }
 
 pub returns-clause-ended : goal.returns-clause-ended

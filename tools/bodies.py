@@ -7,11 +7,11 @@
                                               fail by another body of the run
     python3 tools/bodies.py --list            which would be run together
     python3 tools/bodies.py --check           runs nothing: whether each can be put into the tree and names a test or a row that is there,
-                                              and whether docs/TESTING.md's table names each, and no edit that isn't there
+                                              and whether tests/bodies/README.md's table names each, and no edit that isn't there
 
 tests/bodies/NAME.edit is one wrong body:
 
-    says: what is wrong, as docs/TESTING.md says it
+    says: what is wrong, as tests/bodies/README.md says it
     met: CRATE TEST             the test that must fail, as `test_modules runs::bodies_end_as_they_must`; of test_program, how the
                                 command begins whose row must differ; `wasmloop run`, the program on its stored arguments
     alone                       (if it is so) it breaks too much to stand beside others
@@ -204,8 +204,8 @@ def is_there(body):
 
 
 def rows_of_table():
-    """Each wrong body of the table of docs/TESTING.md, and what it names: folders and names."""
-    page = (TOP / 'docs/TESTING.md').read_text().partition('## Wrong bodies')[2].partition('\n## ')[0]
+    """Each wrong body of the table of tests/bodies/README.md, and what it names: folders and names."""
+    page = (TOP / 'tests/bodies/README.md').read_text()
     for line in re.findall(r"^\| .*\|$", page, re.M):
         says, named = (cell.strip() for cell in line[1:-1].rsplit('|', 1))
         found, folder = [], None
@@ -224,11 +224,11 @@ def faults(bodies):
         edits = [one for one in found if not one[0].startswith('test_')]
         named.update(edits)
         if not edits and told != 'Edit or test' and 'clause' not in told and "can't be written" not in told and told != '':
-            yield f"docs/TESTING.md: {says}: neither an edit nor a body is named"
+            yield f"tests/bodies/README.md: {says}: neither an edit nor a body is named"
     there = {('bodies', body.name) for body in bodies}
     there |= {(file.parent.parent.name, file.stem) for file in (TOP / 'crates').glob('*/must-fail/*.edit')}
-    yield from (f"docs/TESTING.md: {folder}/{name} is not there" for folder, name in sorted(named - there))
-    yield from (f"docs/TESTING.md: bodies/{name} is in no row" for folder, name in sorted(there - named) if folder == 'bodies')
+    yield from (f"tests/bodies/README.md: {folder}/{name} is not there" for folder, name in sorted(named - there))
+    yield from (f"tests/bodies/README.md: bodies/{name} is in no row" for folder, name in sorted(there - named) if folder == 'bodies')
 
 
 def told_of(body, failed):
@@ -278,7 +278,7 @@ def main():
     bodies = [Body(file) for file in sorted(BODIES.glob('*.edit')) if not names or file.stem in names]
     if '--check' in words:
         wrong = list(faults(bodies))
-        print('\n'.join(wrong) or f"{len(bodies)} wrong bodies of tests/bodies; each can be put into the tree, and is in the table of docs/TESTING.md")
+        print('\n'.join(wrong) or f"{len(bodies)} wrong bodies of tests/bodies; each can be put into the tree, and is in the table of tests/bodies/README.md")
         sys.exit(1 if wrong else 0)
     by_crate = {}
     for body in bodies:

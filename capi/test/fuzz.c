@@ -30,7 +30,7 @@ typedef struct file {
 static slot slots[SLOTS];
 static file files[FILES];
 static int file_count;
-static unsigned long ids, calls, answered[16], wrong;
+static unsigned long ids, calls, pauses, given, answered[16], wrong;
 static uint64_t state;
 static const char *const names[NAMES] = { "uv_work", "uv_main", "uv_after_work", "memory", "add", "put", "get", "divide", "spin", "deep", "grow", "count", "" };
 
@@ -311,6 +311,7 @@ static void requests(slot *it) {
     if (!told("request", status, of_kind(it, LOOP))) { is("a request that is not made", answer, 0); return; }
     wasmloop_standing_of(&it->handle, &after);
     is("outstanding", (long)after.outstanding, (long)before.outstanding + (answer > 0));
+    given += answer > 0;
     if (answer == -12) is("a request for which there is no memory", was_refused, 1);
     if (answer > 0) is("a request that is made", length <= 65536 && before.outstanding < 32 && !after.failed, 1);
     if (answer == -11) is("requests of a loop", (long)before.outstanding, 32);
@@ -387,7 +388,7 @@ static void run_for(slot *it) {
         if (!told("job_run_for", status, units ? wanted : WASMLOOP_RANGE)) { is("over", over, GUARD); return; }
         is("over", over <= 1, 1);
         it->kind = over ? JOB : PAUSED;
-        if (!over) { it->used += units; continue; }
+        if (!over) { pauses++, it->used += units; continue; }
         ran(it, was_refused);
         wasmloop_about about;
         is("about", wasmloop_job_about(&it->handle, &about), WASMLOOP_OK);
@@ -508,7 +509,9 @@ static void memories(slot *a, slot *b) { (void)b, memory(a); }
 
 /* The calls, and of what kind the two handles are mostly given. */
 static const struct { void (*call)(slot *, slot *); int first, second; } all[] = {
-    { load_into, MODULE, NOTHING }, { load_into, MODULE, NOTHING }, { drops, JOB, NOTHING }, { drops, LOOP, NOTHING },
+    { load_into, NOTHING, NOTHING }, { load_into, NOTHING, NOTHING }, { load_into, NOTHING, NOTHING }, { load_into, NOTHING, NOTHING },
+    { make_job, MODULE, NOTHING }, { make_job, MODULE, NOTHING }, { make_instance, MODULE, NOTHING }, { make_loop, MODULE, NOTHING },
+    { drops, JOB, NOTHING }, { drops, LOOP, NOTHING },
     { drops, INSTANCE, NOTHING }, { drops, MODULE, NOTHING }, { share, MODULE, NOTHING }, { shapes, MODULE, NOTHING },
     { functions, MODULE, NOTHING }, { make_loop, MODULE, NOTHING }, { make_loop, MODULE, NOTHING }, { steps, LOOP, NOTHING },
     { steps, LOOP, NOTHING }, { steps, LOOP, NOTHING }, { turns, LOOP, NOTHING }, { turns, LOOP, NOTHING },
@@ -567,7 +570,7 @@ int main(int count, char **words) {
     state = strtoull(words[1], NULL, 10) * 0x9e3779b97f4a7c15u + 1;
     for (int i = 3; i < count; i++) read_file(words[i]);
     for (unsigned long more = strtoul(words[2], NULL, 10); more; more--) sequence();
-    printf("fuzz: %lu calls, %lu not as foretold;", calls, wrong);
+    printf("fuzz: %lu calls, %lu not as foretold; %lu slices that paused, %lu requests of the owner;", calls, wrong, pauses, given);
     for (int i = 0; i < 13; i++) printf(" %s %lu", wasmloop_status_name(i), answered[i]);
     puts("");
     return wrong != 0;

@@ -142,7 +142,7 @@ else left_out "instances: there is no clang with wasm-ld, wat2wasm or python3"; 
 # (by hand: another seed, and more sequences)
 for seed in 1 2; do
     # shellcheck disable=SC2086
-    "$out/fuzz" $seed 800 "$examples"/*.wasm $plugins || fail "random calls, with seed $seed"
+    "$out/fuzz" $seed 3000 "$examples"/*.wasm $plugins || fail "random calls, with seed $seed"
 done
 
 # the program with which docs/EMBEDDING.md begins

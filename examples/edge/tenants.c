@@ -2,7 +2,6 @@
  * has used the least processor time. A module that changes on disk is loaded beside the old one, which serves until then, and after where
  * the new one is refused. */
 #include <errno.h>
-#include <sched.h>
 #include <search.h>
 #include <stdlib.h>
 #include <string.h>
@@ -74,7 +73,6 @@ void run_job(task *k) {
         if (wasmloop_job_run_for(&k->handle, k->units, &over) != WASMLOOP_OK) over = 1;
         k->about.used += k->units, now = uv_hrtime();
         k->late = !over && now >= k->until;
-        if (!over && now - began >= TURN_NS) sched_yield();
         k->units = k->units * SLICE_NS / (now - from + SLICE_NS / 8), from = now;
         k->units = k->units < FEWEST ? FEWEST : k->units > MOST ? MOST : k->units;
     }

@@ -3,8 +3,9 @@
  * usage: edge [-a ADDRESS] [-p PORT] [-w WORKERS] [-t SECONDS] [-c CLIENTS] FOLDER
  *
  *     POST /NAME[/OP]      the body to uv_work(OP) of FOLDER/NAME.wasm, on an instance of its own; the reply's bytes come back
- *     POST /NAME/ask/K     a module with uv_main lives on a loop: sends to its async K (0 to 15), and answers the low half of the first
- *                          number that it emits whose upper half is K
+ *     POST /NAME/ask[/OP]  a module with uv_main lives on a loop: the body as a request of OP to it, which uv_after_work is given; the answer
+ *                          is the low half of the first number that it emits whose upper half is the request's number
+ *     POST /NAME/send/K    sends to its async K (0 to 15)
  *     GET /-/..            numbers and pages: people.c
  *
  * A request has SECONDS (10) to come whole and its answer as many to be taken. README.md has the statuses. This part has connections and
@@ -61,8 +62,8 @@ static void on_closed(uv_handle_t *handle) {
 void leave(client *c) {
     if (c->state == CLOSED) return;
     c->state = CLOSED;
-    if (c->task) c->task->from = NULL, c->task->gone = true;
-    if (c->asked) drop_ask(c, GONE);
+    if (c->task && c->asks) drop_ask(c->task, GONE);
+    else if (c->task) c->task->from = NULL, c->task->gone = true;
     uv_close((uv_handle_t *)&c->tcp, on_closed);
 }
 
@@ -91,7 +92,7 @@ void answer(client *c, int status, const char *type, char *body, size_t length) 
     uv_buf_t parts[2] = { uv_buf_init(c->head, (unsigned)n), uv_buf_init(body, (unsigned)length) };
     log_answer(c, status, length);
     free_body(c);
-    c->task = NULL, c->out = body, c->state = ANSWERS, c->until = uv_now(uv) + patience;
+    c->task = NULL, c->asks = false, c->out = body, c->state = ANSWERS, c->until = uv_now(uv) + patience;
     if (uv_write(&c->write, (uv_stream_t *)&c->tcp, parts, length ? 2 : 1, on_written) == 0) return;
     free(body);
     leave(c);
@@ -129,14 +130,15 @@ static void request(client *c) {
         page(c, rest);
         return;
     }
+    void (*does)(client *, tenant *, uint32_t) = work;
+    if (strncmp(rest, "ask", 3) == 0 && (!rest[3] || rest[3] == '/')) does = ask, rest += rest[3] ? 4 : 3;
+    else if (strncmp(rest, "send/", 5) == 0) does = send_to, rest += 5;
     tenant *t = tenant_of(name, true);
-    bool asks = strncmp(rest, "ask/", 4) == 0;
-    uint64_t number = *rest ? number_of(rest + (asks ? 4 : 0), asks ? ASYNCS - 1 : UINT32_MAX) : 0;
+    uint64_t number = *rest ? number_of(rest, does == send_to ? ASYNCS - 1 : UINT32_MAX) : 0;
     if (ending) say(c, 503, "the server ends\n");
     else if (!t || t->absent) say(c, 404, "no such tenant\n");
-    else if (number == UINT64_MAX) say(c, 400, asks ? "an async is a number from 0 to 15\n" : "an operation is a number below 2^32\n");
-    else if (asks) c->until = uv_now(uv) + t->limits[DEADLINE], ask(c, t, (uint32_t)number);
-    else work(c, t, (uint32_t)number);
+    else if (number == UINT64_MAX) say(c, 400, does == send_to ? "an async is a number from 0 to 15\n" : "an operation is a number below 2^32\n");
+    else does(c, t, (uint32_t)number);
 }
 
 static int on_begin(parser *p) {
@@ -267,8 +269,8 @@ static void on_connection(uv_stream_t *stream, int status) {
 
 /* One whose patience is at its end, or that must go since the server ends. */
 static void part(client *c) {
-    bool asks = c->asked;
-    if (asks) drop_ask(c, ending ? REFUSED : LATE);
+    bool asks = c->asks;
+    if (asks) drop_ask(c->task, ending ? REFUSED : LATE);
     c->keep = c->keep && asks;
     if (!asks && (c->state != READS || !c->begun)) leave(c);
     else if (ending) say(c, 503, "the server ends\n");
@@ -279,7 +281,7 @@ static void part(client *c) {
 static void on_each(uv_handle_t *handle, void *all) {
     client *c = handle->data;
     if (handle->type != UV_TCP || handle == (uv_handle_t *)&server || c->state == CLOSED) return;
-    if (uv_now(uv) >= c->until || (all && (c->asked || c->state == READS))) part(c);
+    if (uv_now(uv) >= c->until || (all && (c->asks || c->state == READS))) part(c);
 }
 
 static void on_sweep(uv_timer_t *timer) {

@@ -29,11 +29,8 @@ typedef struct client {
     uint64_t number, came, until, fuel; /* until: the moment in libuv's milliseconds at which patience ends */
     int status;                         /* what its head or its body has earned, and why */
     const char *why;
-    bool begun, whole, keep;
-    task *task;                         /* its work, which waits or runs */
-    tenant *asked;                      /* whose loop it asked, by async `line` */
-    uint32_t line;
-    struct client *next_ask;
+    bool begun, whole, keep, asks;
+    task *task;                         /* its work, which waits or runs, or, where it asks a loop, what it asked */
 } client;
 
 /* What a task is: `ready` makes what it needs, in the main thread, or says that it isn't to be run; `run` is in a thread of the pool; `after`,
@@ -51,6 +48,7 @@ struct task {
     atomic_bool gone;        /* they have: a slice is its last */
     bool over, late;
     int status;              /* of a load */
+    int32_t request;         /* of an ask: its number in the loop, or why it has none */
     uint32_t op;             /* of a loop's job: the loop's number */
     char *body, *out, *said; /* said: why it failed */
     size_t length, room;     /* of the body: the room is held */
@@ -66,9 +64,9 @@ typedef struct life {
     uv_timer_t timer;
     task *done;              /* jobs that are done, for the next turn */
     uint64_t began;          /* the moment at which its clock is 0 */
-    uint32_t number, sends;  /* a bit for each async */
+    uint32_t number;
     bool turning, renew, failed, over;
-    task turn, *given, *made; /* given: the jobs that it takes in; made: those that it asks for */
+    task turn, *given, *made, *open; /* given: the jobs that it takes in; made: those that it asks for; open: what it was asked */
     wasmloop_handle loop;
     uint64_t clock, hint;
     uint32_t sent, emit_count, last; /* last: its last step */
@@ -94,8 +92,8 @@ struct tenant {
     double share, mean;          /* the processor time that it has used beside the others', and of a task, in nanoseconds */
     task *first, **end;
     life *life;                  /* NULL: it never had a loop */
-    client *asks;                /* who wait for their answers from it */
-    uint32_t asked;
+    task *asks;                  /* what its next turn is asked */
+    uint32_t asked, sends;       /* sends: a bit for each async of its loop */
     struct steps *steps;         /* its loop's last ones: people.c */
     counted counted;
     tenant *next, *next_active;
@@ -119,6 +117,7 @@ tenant *tenant_of(const char *name, bool make);
 void tenant_changed(const char *file);
 void tenants_start(void), tenants_sweep(void), tenants_stop(void), tenants_free(void);
 void work(client *c, tenant *t, uint32_t op);
+void take_body(task *k, client *c, uint32_t op);
 task *task_of(tenant *t, const kind *kind);
 void end_task(task *k);
 void wait_for(task *k, bool front);
@@ -128,8 +127,9 @@ void explain(task *k, wasmloop_handle *of, const char *how, uint32_t trap, uint6
 /* loops.c */
 void make_loop(tenant *t);
 void refuse_asks(tenant *t, int status, outcome as, const char *why);
-void ask(client *c, tenant *t, uint32_t line);
-void drop_ask(client *c, outcome what);
+void ask(client *c, tenant *t, uint32_t op);
+void send_to(client *c, tenant *t, uint32_t async);
+client *drop_ask(task *k, outcome what);
 
 /* people.c */
 void count(tenant *t, outcome what, uint64_t came);

@@ -1,5 +1,6 @@
-/* Loops that live: a module with uv_main has one, whose turns are tasks like others. An ask sends to an async, and is answered by the
- * first number that the loop emits for it. A loop that failed is made anew a second later. */
+/* Loops that live: a module with uv_main has one, whose turns are tasks like others. An ask is a request of the loop: uv_work computes it, and
+ * uv_after_work is given its number; the first number that the loop emits with that one in its upper half answers it. Where the module
+ * changes, its new loop is asked what wasn't answered. A loop that failed is made anew a second later. */
 #include <stdlib.h>
 #include <string.h>
 #include "edge.h"
@@ -20,69 +21,83 @@ static void turn_soon(tenant *t) {
 
 /* ---- those who ask ---- */
 
-static bool first_of_line(const tenant *t, const client *c) {
-    for (const client *b = t->asks; b && b != c; b = b->next_ask)
-        if (b->line == c->line) return false;
-    return true;
+static void sweep(tenant *t, task **at) {
+    for (task *k; (k = *at);) {
+        if (k->from) {
+            at = &k->next;
+            continue;
+        }
+        *at = k->next, t->asked--;
+        end_task(k);
+    }
 }
 
-static void take_ask(client *c, outcome what) {
-    client **at = &c->asked->asks;
-    while (*at != c) at = &(*at)->next_ask;
-    *at = c->next_ask, c->asked->asked--;
-    count(c->asked, what, c->came);
-    c->asked = NULL;
+/* Who asked waits no more. */
+client *drop_ask(task *k, outcome what) {
+    tenant *t = k->of;
+    client *c = k->from;
+    count(t, what, k->came);
+    k->from = NULL;
+    sweep(t, &t->asks);
+    if (t->life && !t->life->turning) sweep(t, &t->life->open);
+    return c;
 }
 
-/* One who asked waits no more; whoever stands behind them is sent for. */
-void drop_ask(client *c, outcome what) {
-    tenant *t = c->asked;
-    bool first = first_of_line(t, c);
-    take_ask(c, what);
-    for (client *b = t->asks; b && first && t->life; b = b->next_ask)
-        if (b->line == c->line) t->life->sends |= 1u << b->line;
-    if (t->life && t->life->sends) turn_soon(t);
-}
-
-/* A number that the loop put out answers the first who asked by its line. */
-static void emitted(tenant *t, uint64_t value) {
-    client *c = t->asks;
-    while (c && c->line != value >> 32) c = c->next_ask;
-    if (!c) return;
-    drop_ask(c, DONE);
-    say(c, 200, "%u\n", (uint32_t)value);
+/* The first of a list for whom somebody waits, and whose request is that one, or, where `which` is 0, any. */
+static task *find(task *k, int64_t which) {
+    while (k && !(k->from && (which == 0 || k->request == which))) k = k->next;
+    return k;
 }
 
 void refuse_asks(tenant *t, int status, outcome as, const char *why) {
-    for (client *c; (c = t->asks);) {
-        take_ask(c, as);
-        say(c, status, "%s: %s\n", t->name, why);
-    }
+    for (task *k; (k = find(t->asks, 0)) || (t->life && (k = find(t->life->open, 0)));) say(drop_ask(k, as), status, "%s: %s\n", t->name, why);
 }
 
-void ask(client *c, tenant *t, uint32_t line) {
-    life *l = t->life;
-    client **at = &t->asks;
-    c->line = line;
-    if (t->module.mark && !t->shape.main) {
-        count(t, REFUSED, c->came), say(c, 404, "%s: it has no loop\n", t->name);
-    } else if (l && l->failed) {
-        count(t, TRAPPED, c->came), say(c, 500, "%s: %s\n", t->name, l->over ? "its loop is over" : t->failure);
-    } else if (t->asked >= t->limits[QUEUE]) {
-        count(t, REFUSED, c->came), say(c, 429, "%s: too many wait\n", t->name);
-    } else {
-        while (*at) at = &(*at)->next_ask;
-        *at = c, c->next_ask = NULL, c->asked = t, t->asked++;
-        if (l && first_of_line(t, c)) l->sends |= 1u << line, turn_soon(t);
+static const char *why_failed(const tenant *t) { return t->life->over ? "its loop is over" : t->failure ? t->failure : "no memory"; }
+
+/* Answers for a loop that there isn't, or that has failed. */
+static bool answer_without(client *c, tenant *t) {
+    bool none = t->module.mark && !t->shape.main;
+    if (!none && !(t->life && t->life->failed)) return false;
+    count(t, none ? REFUSED : TRAPPED, c->came);
+    say(c, none ? 404 : 500, "%s: %s\n", t->name, none ? "it has no loop" : why_failed(t));
+    return true;
+}
+
+void ask(client *c, tenant *t, uint32_t op) {
+    if (answer_without(c, t)) return;
+    bool full = t->asked >= t->limits[QUEUE];
+    task *k = full ? NULL : task_of(t, NULL), **at = &t->asks;
+    if (!k) {
+        count(t, full ? REFUSED : NO_MEMORY, c->came);
+        say(c, full ? 429 : 503, "%s: %s\n", t->name, full ? "too many wait" : "no memory");
+        return;
     }
+    take_body(k, c, op);
+    c->asks = true, c->until = uv_now(uv) + t->limits[DEADLINE];
+    while (*at) at = &(*at)->next;
+    *at = k, t->asked++;
+    if (t->life) turn_soon(t);
+}
+
+/* Sends to an async of a loop, which may be still to come. */
+void send_to(client *c, tenant *t, uint32_t async) {
+    if (answer_without(c, t)) return;
+    count(t, DONE, c->came);
+    t->sends |= 1u << async;
+    if (t->life) turn_soon(t);
+    say(c, 202, "sent\n");
 }
 
 /* ---- a turn ---- */
 
 static bool ready_turn(task *k) {
     life *l = k->of->life;
-    l->given = l->done, l->sent = l->sends, l->clock = uv_now(uv) - l->began;
-    l->made = l->done = NULL, l->sends = l->emit_count = 0, l->hint = 0;
+    task **at = &l->open;
+    while (*at) at = &(*at)->next;
+    *at = k->of->asks, k->of->asks = NULL;
+    l->given = l->done, l->sent = k->of->sends, l->clock = uv_now(uv) - l->began;
+    l->made = l->done = NULL, k->of->sends = l->emit_count = 0, l->hint = 0;
     return true;
 }
 
@@ -92,6 +107,15 @@ static void put_in(life *l) {
     for (task *j = l->given; j; j = j->next) wasmloop_accept(&l->loop, &j->handle); /* a stranger's is dropped with its task */
     for (uint32_t i = 0; i < ASYNCS; i++)
         if (l->sent >> i & 1) wasmloop_async_send(&l->loop, i);
+}
+
+/* Makes the requests that weren't made, as far as more may be outstanding. */
+static void put_requests(life *l) {
+    enum { AGAIN = -11 };
+    for (task *k = l->open; k; k = k->next) {
+        if (k->request == 0) wasmloop_request(&l->loop, k->op, (uint8_t *)k->body, k->length, &k->request);
+        if (k->request == AGAIN) k->request = 0;
+    }
 }
 
 /* A step, which is logged. */
@@ -127,6 +151,7 @@ static void run_turn(task *k) {
     uint32_t runs = 0, before = UINT32_MAX;
     uint64_t began = uv_hrtime();
     put_in(l);
+    put_requests(l);
     while (did.what != WASMLOOP_OVER && did.what != WASMLOOP_FAILED && runs < MOST_RUNS && !(hurry && uv_hrtime() - began > TURN_NS)) {
         step(k, &did);
         runs += did.what == WASMLOOP_RAN;
@@ -135,28 +160,38 @@ static void run_turn(task *k) {
         before = runs, l->hint = 0;
     }
     l->last = did.what;
+    put_requests(l);
     take_jobs(k->of);
 }
 
 static void on_due(uv_timer_t *timer);
 
+/* Answers those whose request was refused, or has its number. */
+static void answer_asks(tenant *t, life *l) {
+    task *k;
+    for (uint32_t i = 0; i < l->emit_count; i++)
+        if (l->emits[i] >> 32 > 0 && (k = find(l->open, l->emits[i] >> 32))) say(drop_ask(k, DONE), 200, "%u\n", (uint32_t)l->emits[i]);
+    if ((k = find(l->open, -38))) refuse_asks(t, 404, REFUSED, "it takes no requests");
+    while ((k = find(l->open, -12))) say(drop_ask(k, NO_MEMORY), 503, "%s: no memory\n", t->name);
+}
+
 static void turned(task *k) {
     tenant *t = k->of;
     life *l = t->life;
-    t->counted.turns++, t->counted.used += k->about.used;
+    l->turning = false, t->counted.turns++, t->counted.used += k->about.used;
     if (k->said) free(t->failure), t->failure = k->said, k->said = NULL;
     for (task *j; (j = l->given);) l->given = j->next, end_task(j);
-    for (uint32_t i = 0; i < l->emit_count; i++) emitted(t, (uint64_t)l->emits[i]);
     for (task *j; (j = l->made);) l->made = j->next, wait_for(j, false);
-    l->turning = false;
+    answer_asks(t, l);
+    sweep(t, &l->open);
     if (ending) return;
     if (l->renew) {
         make_loop(t);
     } else if (l->last == WASMLOOP_OVER || l->last == WASMLOOP_FAILED) {
         l->failed = true, l->over = l->last == WASMLOOP_OVER;
-        refuse_asks(t, 500, TRAPPED, l->over ? "its loop is over" : t->failure ? t->failure : "no memory");
+        refuse_asks(t, 500, TRAPPED, why_failed(t));
         if (!l->over) uv_timer_start(&l->timer, on_due, RESTART_MS, 0);
-    } else if (l->sends || l->done || l->hint == 0) {
+    } else if (t->sends || l->done || t->asks || l->hint == 0) {
         turn_soon(t);
     } else if (l->hint != WASMLOOP_FOREVER) {
         uv_timer_start(&l->timer, on_due, l->hint, 0);
@@ -202,10 +237,10 @@ static void clear(life *l) {
     uv_timer_stop(&l->timer);
     wasmloop_drop(&l->loop);
     for (task *j; (j = l->done);) l->done = j->next, end_task(j);
-    l->number = 0, l->sends = 0, l->renew = l->failed = l->over = false;
+    l->number = 0, l->renew = l->failed = l->over = false;
 }
 
-/* Makes the loop of a tenant's module anew, where that has one, and sends for those who ask. */
+/* Makes the loop of a tenant's module anew, where that has one, which is to be asked what isn't answered. */
 void make_loop(tenant *t) {
     static uint32_t loops;
     bool wanted = t->module.mark && t->shape.main;
@@ -223,7 +258,7 @@ void make_loop(tenant *t) {
     wasmloop_limits limits = { t->limits[CALLBACK], t->limits[FUEL], l->number = ++loops, (uint32_t)t->limits[DEPTH] };
     l->failed = wasmloop_loop(&t->module, &limits, &l->loop) != WASMLOOP_OK;
     l->began = uv_now(uv);
-    for (client *c = t->asks; c; c = c->next_ask) l->sends |= 1u << c->line;
+    for (task *k = l->open; k; k = k->next) k->request = 0;
     if (l->failed) uv_timer_start(&l->timer, on_due, RESTART_MS, 0);
     else turn_soon(t);
 }

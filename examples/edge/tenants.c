@@ -272,6 +272,14 @@ static void worked(task *k) {
     end_task(k);
 }
 
+/* Makes a task of a request. */
+void take_body(task *k, client *c, uint32_t op) {
+    tenant *t = k->of;
+    k->from = c, c->task = k, k->op = op, k->came = c->came, k->until = c->came + t->limits[DEADLINE] * 1000000;
+    k->body = c->body, k->length = c->length, k->room = c->room, t->counted.in += c->length;
+    c->body = NULL, c->room = 0;
+}
+
 /* Lets a request wait for its tenant's turn, within the bounds of those that may. */
 void work(client *c, tenant *t, uint32_t op) {
     static const kind works = { ready_work, run_work, worked };
@@ -283,9 +291,7 @@ void work(client *c, tenant *t, uint32_t op) {
         else say(c, full ? 503 : 429, "%s: too many wait\n", full ? "the server" : t->name);
         return;
     }
-    k->from = c, c->task = k, k->op = op, k->came = c->came, k->until = c->came + t->limits[DEADLINE] * 1000000;
-    k->body = c->body, k->length = c->length, k->room = c->room, t->counted.in += c->length;
-    c->body = NULL, c->room = 0;
+    take_body(k, c, op);
     wait_for(k, false);
 }
 
@@ -384,11 +390,7 @@ void tenant_changed(const char *file) {
 static void free_tenant(tenant *t) {
     wasmloop_drop(&t->module);
     if (t->life) wasmloop_drop(&t->life->loop);
-    while (t->life && t->life->done) {
-        task *k = t->life->done;
-        t->life->done = k->next;
-        end_task(k);
-    }
+    for (task *k; t->life && (k = t->life->done);) t->life->done = k->next, end_task(k);
     free_steps(t), free(t->life), free(t->said), free(t->failure), free(t);
 }
 

@@ -32,7 +32,7 @@ if ! pkg-config --exists libuv; then left_out "all: there is no libuv"; exit 0; 
 if ! pkg-config --exists libllhttp && ! echo '#include <http_parser.h>' | cc -E - > /dev/null 2>&1; then left_out "all: there is no HTTP parser"; exit 0; fi
 if ! has clang || ! has wasm-ld; then left_out "all: there is no clang with wasm-ld for the guests"; exit 0; fi
 mkdir "$out/guests"
-"$here/guests/build.sh" "$out/guests" && cp "$here/../crc32.wasm" "$here/../sha256.wasm" "$out/guests" || exit 1
+"$here/guests/build.sh" "$out/guests" && cp "$here/../crc32.wasm" "$here/../sha256.wasm" "$here/../ticker.wasm" "$out/guests" || exit 1
 cc -std=c11 -D_GNU_SOURCE -O2 -Wall -Wextra -Werror -o "$out/load" "$here/bench/load.c" -luv || exit 1
 
 for how; do

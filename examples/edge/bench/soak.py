@@ -108,7 +108,7 @@ def main():
     server = subprocess.Popen([told.edge, "-p", str(port), "-w", "3", FOLDER], stdout=subprocess.PIPE, text=True)
     time.sleep(0.5)
     threads = [threading.Thread(target=read_log, args=(server,)), threading.Thread(target=come_and_go, args=(port,)),
-               *(threading.Thread(target=hostile, args=(port, path)) for path in ("/spin", "/bomb", "/trap/0", "/deep", "/flood/ask/1", "/limiter/ask/2"))]
+               *(threading.Thread(target=hostile, args=(port, path)) for path in ("/spin", "/bomb", "/trap/0", "/deep", "/flood/ask", "/limiter/ask"))]
     load = subprocess.Popen([told.load, "-c", "64", "-d", str(told.seconds), "-r", str(told.rate), "-m", "20000", str(port), *(f"/t{n}" for n in range(told.tenants))],
                             stdout=subprocess.PIPE, text=True)
     for it in threads:

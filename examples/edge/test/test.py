@@ -3,6 +3,7 @@
 usage: test.py EDGE GUESTS PART..     EDGE: the program; GUESTS: a folder of modules; PART: functions, bounds, end, page (by chromium), python, clients, or a
 number, which is the same with that many connections that only stand (else 1,000)
 """
+import collections
 import concurrent.futures
 import contextlib
 import http.client
@@ -169,9 +170,12 @@ def statuses(s):
     check(got[2]["Wasmloop-Fuel"] == "1000000" and got[2]["Wasmloop-Outcome"] == "spent", "fuel is exact", got[2])
     s.wants("bomb", 504, "bomb: ", "/bomb")
     s.wants("no module", 500, "broken: ", "/broken")
-    s.wants("no work", 404, "it exports no uv_work", "/limiter")
+    s.wants("no work", 404, "it exports no uv_work", "/ticker")
     s.wants("no loop", 404, "it has no loop", "/hello/ask/1")
-    s.wants("no async", 400, "an async", "/limiter/ask/16")
+    s.wants("no loop to send to", 404, "it has no loop", "/hello/send/1")
+    s.wants("no async", 400, "an async", "/limiter/send/16")
+    s.wants("a loop that takes no requests", 404, "it takes no requests", "/ticker/ask")
+    until("a loop that is over", lambda: s.ask("/ticker/ask")[:2] == (500, b"ticker: its loop is over\n"))
     s.wants("the longest body", 200, "", "/crc32", bytes(65536))
     s.wants("a longer body", 413, "too long", "/crc32", bytes(65537))
     s.wants("a long path", 414, "too long", "/" + "a" * 300)
@@ -195,7 +199,7 @@ def deadlines(s):
         late = [pool.submit(s.ask, "/late") for _ in range(3)]
         texts = [it.result() for it in late]
     check(all(it[0] == 504 for it in texts) and any(b"deadline" in it[1] for it in texts), "a deadline", [it[:2] for it in texts])
-    s.wants("an ask that nobody answers", 504, "deadline", "/serial/ask/3")
+    s.wants("an ask that nobody answers", 504, "deadline", "/mute/ask/1")
 
 
 def slices(s):
@@ -232,18 +236,24 @@ def rests(s):
 
 
 def loops(s):
-    got = [s.ask("/limiter/ask/3")[1] for _ in range(10)]
+    got = [s.ask("/limiter/ask", b"10.0.0.7")[1] for _ in range(10)]
     check(got == [b"1\n"] * 10, "ten tokens", got)
+    s.wants("another key", 200, "^1\n$", "/limiter/ask", b"10.0.0.8" * 8000)
     with concurrent.futures.ThreadPoolExecutor(16) as pool:
-        got = [it[0] for it in pool.map(lambda _: s.ask("/limiter/ask/4"), range(64))]
-    check(set(got) <= {200, 429}, "asks at once", set(got))
-    time.sleep(0.5)
-    s.wants("a token of later", 200, "^1\n$", "/limiter/ask/3")
-    got = s.wants("a loop's log", 200, "run async", "/-/log/limiter", None, method="GET")
+        got = [it[0] for it in pool.map(lambda n: s.ask("/limiter/ask", b"%d" % n), range(64))]
+    check(set(got) <= {200, 429} and 200 in got, "asks at once", set(got))
+    until("no token", lambda: s.ask("/limiter/ask", b"10.0.0.9")[1] == b"0\n")
+    s.wants("a send", 202, "sent", "/limiter/send/0")
+    until("tokens of the send", lambda: all(s.ask("/limiter/ask", b"10.0.0.9")[1] == b"1\n" for _ in range(5)))
+    with concurrent.futures.ThreadPoolExecutor(64) as pool:
+        got = list(pool.map(lambda n: s.ask("/crowd/ask", b"%d" % n)[:2], range(400)))
+    check(set(got) == {(200, b"1\n")}, "four hundred keys at once, more than a loop may have outstanding", collections.Counter(got))
+    s.ask("/limiter/ask", b"10.0.0.7")
+    got = s.wants("a loop's log", 200, "run after", "/-/log/limiter", None, method="GET")
     (s.folder / "log").write_bytes(got[1])
     picture = HERE.parents[1] / "picture.py"
     check(subprocess.run([sys.executable, picture, s.folder / "log", s.folder / "svg"], check=False).returncode == 0, "picture.py draws the log")
-    got = s.ask("/flood/ask/1")
+    got = s.ask("/flood/ask")
     check(got[0] in (500, 504), "a loop of the worst sort", got[:2])
     s.wants("beside a flood", 200, "hello, you", "/hello", b"you")
     s.wants("its failure", 200, "flood\t[a-z]+\t1\t\tspent, after 200000 units, in function", "/-/tenants", None, method="GET")
@@ -319,6 +329,8 @@ def numbers(s):
 
 def broken_too():
     (GUESTS / "broken.wasm").write_text("no module")
+    for name in "mute", "crowd":
+        shutil.copy(GUESTS / "limiter.wasm", GUESTS / f"{name}.wasm")
     for name in "slow", "late", "dead", "long0", "long1", "long2":
         shutil.copy(GUESTS / "spin.wasm", GUESTS / f"{name}.wasm")
 
@@ -326,7 +338,7 @@ def broken_too():
 def functions():
     broken_too()
     s = Server("-t", "30", spin="fuel 1000000\n", slow="fuel 20000000\nqueue 2\nrun 1\ndeadline 60000\n", flood="fuel 1000000\ncallback 200000\n",
-               late="fuel 100000000\nrun 1\ndeadline 50\n", hello="type text/plain\n", serial="deadline 300\n", limiter="queue 4\n", deep="depth 32\n",
+               late="fuel 100000000\nrun 1\ndeadline 50\n", hello="type text/plain\n", mute="deadline 300\n", limiter="queue 4\n", crowd="queue 200\ndeadline 20000\n", deep="depth 32\n",
                bomb="deadline 60000\n", mine="deadline 60000\n", dead="fuel 1000000000000000\ndeadline 200\n",
                **{f"long{n}": "fuel 1000000000000000\ndeadline 3600000\n" for n in range(3)})
     for part in statuses, queues, deadlines, slices, rests, loops, changes, many, numbers:
@@ -399,12 +411,12 @@ def bounds():
 
 def end():
     """A signal ends it in order: what runs is finished, what waits is answered 503, and a connection that only stands is closed."""
-    s = Server("-t", "30", spin="fuel 1000000000\nrun 1\ndeadline 60000\n", serial="deadline 60000\n")
+    s = Server("-t", "30", spin="fuel 1000000000\nrun 1\ndeadline 60000\n", mute="deadline 60000\n")
     with concurrent.futures.ThreadPoolExecutor(8) as pool:
         stands = s.connect()
         first = pool.submit(s.ask, "/spin")
         until("one that runs", lambda: s.metrics().get(("edge_tenant_tasks", 'tenant="spin",are="running"')) == 1)
-        rest = [pool.submit(s.ask, path) for path in ("/spin", "/spin", "/serial/ask/1")]
+        rest = [pool.submit(s.ask, path) for path in ("/spin", "/spin", "/mute/ask/1")]
         until("two that wait", lambda: s.metrics().get(("edge_tenant_tasks", 'tenant="spin",are="waiting"')) == 2)
         time.sleep(0.2)
         s.end()
@@ -416,7 +428,7 @@ def end():
 def page():
     """The page in a browser: a row for each tenant, no p99 above the worst, the last failure, and a timeline."""
     s = Server(hello="type text/plain\n")
-    for path in ("/hello",) * 20 + ("/trap", "/limiter/ask/1"):
+    for path in ("/hello",) * 20 + ("/trap", "/limiter/ask"):
         s.ask(path)
     with tempfile.TemporaryDirectory() as home:
         got = subprocess.run(["chromium", "--headless", "--no-sandbox", "--disable-gpu", "--disable-dev-shm-usage", f"--user-data-dir={home}", "--virtual-time-budget=3000",
@@ -446,7 +458,7 @@ def python():
     s.wants("depth", 500, "depth", "/deep")
     s.wants("fuel", 504, "spent, after 1000000 units", "/spin")
     s.wants("no module", 500, "broken: ", "/broken")
-    s.wants("no work", 404, "exports no uv_work", "/limiter")
+    s.wants("no work", 404, "exports no uv_work", "/ticker")
     s.wants("an operation too great", 400, "an operation", "/hello/4294967296")
     s.wants("the longest body", 200, "", "/crc32", bytes(65536))
     s.wants("a longer body", 413, "", "/crc32", bytes(65537))
@@ -559,7 +571,7 @@ def noise(s):
     """Requests with bytes that are changed, cut and doubled."""
     chance = random.Random(43)
     seeds = [b"POST /hello/1 HTTP/1.1\r\nHost: a\r\nContent-Length: 5\r\n\r\nworld", b"GET /-/metrics HTTP/1.1\r\nConnection: keep-alive\r\n\r\n",
-             b"POST /crc32 HTTP/1.1\r\nTransfer-Encoding: chunked\r\n\r\n5\r\nhello\r\n3;x=y\r\nabc\r\n0\r\nT: x\r\n\r\n", b"POST /limiter/ask/2 HTTP/1.1\r\n\r\n"]
+             b"POST /crc32 HTTP/1.1\r\nTransfer-Encoding: chunked\r\n\r\n5\r\nhello\r\n3;x=y\r\nabc\r\n0\r\nT: x\r\n\r\n", b"POST /limiter/ask HTTP/1.1\r\n\r\n"]
     for _ in range(400):
         data = bytearray(chance.choice(seeds) + chance.choice(seeds))
         for _ in range(chance.randrange(6)):

@@ -337,9 +337,11 @@ def broken_too():
 
 def functions():
     broken_too()
-    s = Server("-t", "30", spin="fuel 1000000\n", slow="fuel 20000000\nqueue 2\nrun 1\ndeadline 60000\n", flood="fuel 1000000\ncallback 200000\n",
-               late="fuel 100000000\nrun 1\ndeadline 50\n", hello="type text/plain\n", mute="deadline 300\n", limiter="queue 4\n", crowd="queue 200\ndeadline 20000\n", deep="depth 32\n",
-               bomb="deadline 60000\n", mine="deadline 60000\n", dead="fuel 1000000000000000\ndeadline 200\n",
+    patient = "deadline 60000\n"
+    s = Server("-t", "30", spin="fuel 1000000\n" + patient, slow="fuel 20000000\nqueue 2\nrun 1\n" + patient,
+               flood="fuel 1000000\ncallback 200000\n", late="fuel 100000000\nrun 1\ndeadline 50\n", hello="type text/plain\n" + patient,
+               crc32=patient, mute="deadline 300\n", limiter="queue 4\n", crowd="queue 200\ndeadline 20000\n", deep="depth 32\n" + patient,
+               trap=patient, bomb=patient, mine=patient, dead="fuel 1000000000000000\ndeadline 200\n",
                **{f"long{n}": "fuel 1000000000000000\ndeadline 3600000\n" for n in range(3)})
     for part in statuses, queues, deadlines, slices, rests, loops, changes, many, numbers:
         began = time.time()

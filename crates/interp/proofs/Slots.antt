@@ -19,6 +19,7 @@ pub mod FollowingCalls
 pub mod OperandsInCalls
 pub mod FollowingTable
 pub mod StepsSimulate
+pub mod SlotsAlike
 pub mod RunsOfContexts
 pub mod OperandsAreFound
 pub mod BodiesEnd

@@ -1,6 +1,6 @@
 // The host is asked for an import.
 
-ghost use Rattle.std.specs.Prelude.{◌≡◌, ◌≤◌, ◌<◌, ◌+◌, ◌^◌, length};
+ghost use Rattle.std.specs.Prelude.{◌≡◌, ◌≤◌, ◌<◌, ◌+◌, ◌^◌, drop, length};
 ghost use Rattle.reduction.specs.Run.{as_operands};
 ghost use Rattle.reduction.specs.Hosting.{Names};
 ghost use Rattle.interp.specs.Inner.Slots.Holding.{AreSmall};
@@ -10,6 +10,7 @@ ghost use Rattle.interp.specs.Inner.Slots.HostAsked.{CanAsk, Asks};
 use crate::host::{Args, Host};
 use crate::reading::number_of;
 use engine::At;
+use instance::stack::Slots;
 use instance::state::State;
 use syntax::contents::Contents;
 use syntax::types::Value;
@@ -34,7 +35,7 @@ fn lay_answer(slots: &mut [u64], place: usize, answer: Option<Value>) -> usize
 /// Asks the host for an import, whose arguments are the topmost slots up to a height. Its answer takes their place, and
 /// the run goes on behind the call.
 #[inline(always)]
-pub fn ask_host<H: Host>(
+fn ask_host<H: Host>(
     contents: &Contents,
     state: &mut State,
     host: &mut H,
@@ -59,4 +60,53 @@ pub fn ask_host<H: Host>(
     let results = lay_answer(slots, place, answer);
     at.pc += 1;
     at.sp = place + results;
+}
+
+/// The same, on the slots above the one at the bottom.
+#[inline(always)]
+fn ask_above<H: Host>(
+    contents: &Contents,
+    state: &mut State,
+    host: &mut H,
+    slots: &mut [u64],
+    at: &mut At,
+    import: usize,
+    height: usize,
+)
+    requires bottom { 1 ≤ length slots.old }
+    requires can { CanAsk contents.now import height (length (drop 1 slots.old)) }
+    requires names { Names contents.now (H.types host.old) }
+    requires steps { at.old.pc + 1 < 2 ^ 64 }
+    ensures asked { Asks contents.now H.moves import height at.old (drop 1 slots.old) state.old host.old at.new (drop 1 slots.new) state.new host.new }
+    ensures types { H.types host.new ≡ H.types host.old }
+{
+    ask_host(contents, state, host, &mut slots[1..], at, import, height);
+}
+
+/// The same, on the slots of all calls.
+#[inline(always)]
+pub fn ask_on<H: Host>(
+    contents: &Contents,
+    state: &mut State,
+    host: &mut H,
+    slots: &mut Slots,
+    at: &mut At,
+    import: usize,
+    height: usize,
+)
+    requires can { CanAsk contents.now import height (length slots.old) }
+    requires names { Names contents.now (H.types host.old) }
+    requires steps { at.old.pc + 1 < 2 ^ 64 }
+    ensures asked { Asks contents.now H.moves import height at.old slots.old state.old host.old at.new slots.new state.new host.new }
+    ensures types { H.types host.new ≡ H.types host.old }
+{
+    ask_above(
+        contents,
+        state,
+        host,
+        slots.as_mut_slice(),
+        at,
+        import,
+        height,
+    );
 }

@@ -35,6 +35,26 @@ fn lay_locals(slots: &mut [u64], args: &[Value], zeros: usize)
     zero(slots, args.len(), zeros);
 }
 
+/// The same, above the slot at the bottom.
+fn lay_above(slots: &mut [u64], args: &[Value], zeros: usize)
+    requires bottom { 1 ≤ length slots.old }
+    requires room { length args.now + zeros ≤ length (drop 1 slots.old) }
+    ensures laid { drop 1 slots.new ≡ (erased args.now ++ replicate zeros 0) ++ drop (length args.now + zeros) (drop 1 slots.old) }
+    ensures small { AreSmall args.now }
+{
+    lay_locals(&mut slots[1..], args, zeros);
+}
+
+/// The same, on the slots of all calls.
+fn lay_on(slots: &mut Slots, args: &[Value], zeros: usize)
+    requires { length args.now + zeros ≤ length slots.old }
+    ensures laid { slots.new ≡ (erased args.now ++ replicate zeros 0) ++ drop (length args.now + zeros) slots.old }
+    ensures room { length slots.new ≡ length slots.old }
+    ensures small { AreSmall args.now }
+{
+    lay_above(slots.as_mut_slice(), args, zeros);
+}
+
 /// Lays the locals of a call from outside in the lowest slots, and tells where its run begins.
 pub fn open(contents: &Contents, slots: &mut Slots, function: u32, args: &[Value]) -> At
     requires { CanOpen contents.now function args.now }
@@ -49,7 +69,7 @@ pub fn open(contents: &Contents, slots: &mut Slots, function: u32, args: &[Value
         slots.lengthen(FIRST_SLOTS);
     }
     let zeros = func.locals.len();
-    lay_locals(slots.as_mut_slice(), args, zeros);
+    lay_on(slots, args, zeros);
     At {
         function: index,
         pc: 0,

@@ -1,9 +1,7 @@
 use Rattle.interp.proofs.Words.{◌≡◌, ℕ, ◌+◌, ◌-◌, ◌≤◌, ◌++◌, Some, List, length, drop, replicate, ap, ◌∙◌, arith, length-append, slice_get, FuncType}
 use Rattle.interp.proofs.Words.{Func, erased}
-use Rattle.std.specs.List.{refill}
 use Rattle.std.proofs.lemmas.List.{length-replicate}
 use Rattle.reduction.proofs.OneRun.{one_function}
-use Rattle.interp.proofs.Slots.Hosted.{refilled}
 use Rattle.interp.proofs.opening.open.Goals as goal
 use Rattle.interp.proofs.opening.open.Goals.{then-len-lt-FIRST_SLOTS, else-len-lt-FIRST_SLOTS}
 
@@ -20,10 +18,7 @@ returns-clause-opened c = λ type f defined.
     let count : length c.args.args.now ≡ length type.params = r.count ∙ ap (λ (t : FuncType). length t.params) one.0 in
     let height : length c.args.args.now + c.len-zeros.result ≡ length type.params + length f.locals = omega (arith, zeros, count) in
     let before = c.if-len-lt-FIRST_SLOTS.slots in
-    let lent = c.as_mut_slice.result.now in
-    let rest = drop (length c.args.args.now + c.len-zeros.result) lent in
-    let same : length c.lay_locals.new.slots ≡ length before = c.lay_locals.auto.slots ∙ ap (λ (xs : List ℕ). length xs) c.as_mut_slice.ensures.value in
-    let back : refill (length before) before c.lay_locals.new.slots ≡ c.lay_locals.new.slots = refilled before c.lay_locals.new.slots same in
+    let rest = drop (length c.args.args.now + c.len-zeros.result) before in
     let wide : 512 ≤ length before =
     elim c.if-len-lt-FIRST_SLOTS.branch [
       | then-len-lt-FIRST_SLOTS w ↦
@@ -35,9 +30,10 @@ returns-clause-opened c = λ type f defined.
           let is = c.len-2.ensures in
           omega (arith, long, test, is)
     ] in
+    let same : length c.lay_on.new.slots ≡ length before = c.lay_on.ensures.room in
     record {
       free = rest;
       at_is = λ i. record { function = index i; pc = 0; sp = height i; base = 0; depth = 0 };
-      slots_are = back ∙ c.lay_locals.ensures.laid ∙ ap (λ (n : ℕ). (erased c.args.args.now ++ replicate n 0) ++ rest) zeros;
-      room = omega (arith, wide, same, ap (λ (xs : List ℕ). length xs) back);
+      slots_are = c.lay_on.ensures.laid ∙ ap (λ (n : ℕ). (erased c.args.args.now ++ replicate n 0) ++ rest) zeros;
+      room = omega (arith, wide, same);
     }

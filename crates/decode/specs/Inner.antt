@@ -1,6 +1,5 @@
 -- No public clause reaches these: how the reader goes through the bytes.
 pub mod Assembly
-pub mod Faults
 pub mod Heads
 pub mod Locals
 pub mod Parts

@@ -1,7 +1,7 @@
 // The functions that the host calls by name.
 
 ghost use Rattle.std.specs.Prelude.{◌≡◌, ◌↔◌, Some};
-ghost use Rattle.imports.specs.Inner.Signatures.{func_type};
+ghost use Rattle.imports.specs.Signatures.{func_type};
 ghost use Rattle.imports.specs.Uv.{name_of_entry, type_of_entry};
 
 use crate::signature::Signature;

@@ -8,8 +8,8 @@ pub use Rattle.reduction.proofs.Words.{Body, Place, AreBodies, IsPlaced, Over, l
 pub use Rattle.reduction.proofs.Words.{StaysInBlock, Target, Token, number_in}
 pub use Rattle.std.proofs.Common.{◌^◌}
 pub use Rattle.engine.specs.declared.at.At.{At}
-pub use Rattle.interp.specs.Inner.Slots.Holding.{Holds, onto, AreSmall, erased}
+pub use Rattle.interp.specs.Slots.Holding.{Holds, onto, AreSmall, erased}
 pub use Rattle.engine.specs.Programs.{Program, Function}
 pub use Rattle.engine.specs.Stepping.{State}
-pub use Rattle.interp.specs.Inner.Slots.Simulating.{IsProgramOf}
-pub use Rattle.interp.specs.Inner.Slots.Lying.{stacked, Lies, here}
+pub use Rattle.interp.specs.Slots.Simulating.{IsProgramOf}
+pub use Rattle.interp.specs.Slots.Lying.{stacked, Lies, here}

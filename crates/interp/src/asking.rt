@@ -3,8 +3,8 @@
 ghost use Rattle.std.specs.Prelude.{◌≡◌, ◌≤◌, ◌<◌, ◌+◌, ◌^◌, drop, length};
 ghost use Rattle.reduction.specs.Run.{as_operands};
 ghost use Rattle.reduction.specs.Hosting.{Names};
-ghost use Rattle.interp.specs.Inner.Slots.Holding.{AreSmall};
-ghost use Rattle.interp.specs.Inner.Slots.Resuming.{laid};
+ghost use Rattle.interp.specs.Slots.Holding.{AreSmall};
+ghost use Rattle.interp.specs.Slots.Resuming.{laid};
 ghost use Rattle.interp.specs.Inner.Slots.HostAsked.{CanAsk, Asks};
 
 use crate::host::{Args, Host};

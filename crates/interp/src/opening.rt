@@ -1,8 +1,8 @@
 // A call from outside begins.
 
 ghost use Rattle.std.specs.Prelude.{◌≡◌, ◌≤◌, ◌+◌, ◌++◌, length, drop, replicate};
-ghost use Rattle.interp.specs.Inner.Slots.Holding.{AreSmall, erased};
-ghost use Rattle.interp.specs.Inner.Slots.CallsBegun.{CanOpen, Opened};
+ghost use Rattle.interp.specs.Slots.Holding.{AreSmall, erased};
+ghost use Rattle.interp.specs.Slots.CallsBegun.{CanOpen, Opened};
 
 use crate::reading::number_of;
 use engine::{At, zero};

@@ -35,7 +35,7 @@ use Rattle.instance.specs.declared.stack.Caller.{Caller}
 use Rattle.engine.specs.declared.at.At.{At}
 use Rattle.engine.specs.Programs.{program_of}
 use Rattle.engine.specs.Stepping.{standing}
-use Rattle.interp.specs.Inner.Slots.Hosted.{IsUnderWay}
+use Rattle.interp.specs.Slots.Hosted.{IsUnderWay}
 use Rattle.interp.specs.Slices.{IsPaused}
 use Rattle.interp.proofs.Slots.CallsBegin.{under_way}
 use Rattle.order.specs.declared.host.WorkHost.{WorkHost}

@@ -14,3 +14,4 @@ pub mod HeightsOfRuns
 pub mod Places
 pub mod Laws
 pub mod Inner
+pub mod Walks

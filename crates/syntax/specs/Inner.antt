@@ -1,4 +1,3 @@
 -- No public clause reaches these: operations as tokens, and how they are kept.
-pub mod Operations
 pub mod Payloads
 pub mod Tokens

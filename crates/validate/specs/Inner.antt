@@ -1,7 +1,6 @@
 -- No public clause reaches these: the checker, its frames and the table that it writes.
 pub mod Brackets
 pub mod Checking
-pub mod Faults
 pub mod Frames
 pub mod Operands
 pub mod Placing

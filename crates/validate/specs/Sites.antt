@@ -13,7 +13,7 @@ use Rattle.validate.specs.declared.fault.ValidFault.TheVariants.{BadType, Index,
 use Rattle.validate.specs.declared.fault.ValidFault.TheVariants.{Height, Nesting, Memory}
 use Rattle.validate.specs.declared.site.Site.{Site}
 use Rattle.validate.specs.declared.site.Site.TheVariants as site
-use Rattle.validate.specs.Inner.Faults.{fault_of}
+use Rattle.validate.specs.Faults.{fault_of}
 use Rattle.validate.specs.Typing.{type_of_function}
 use Rattle.validate.specs.Valid.{IsConstant, NamesExtern, DistinctNames}
 use Rattle.validate.specs.Refusals.{HasFew, HasStart, ElementNames, DataNames, RefutesFunc}

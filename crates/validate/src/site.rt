@@ -3,7 +3,7 @@
 ghost use Rattle.std.specs.Prelude.{◌≡◌, None};
 ghost use Rattle.validate.specs.declared.fault.ValidFault.TheVariants.{Memory};
 ghost use Rattle.validate.specs.declared.site.Site.TheVariants as site;
-ghost use Rattle.validate.specs.Inner.Faults.{fault_of};
+ghost use Rattle.validate.specs.Faults.{fault_of};
 ghost use Rattle.validate.specs.Inner.Placing.{site_in};
 
 use crate::fault::{BodyFault, ValidFault};

@@ -1,8 +1,8 @@
 -- What C is told in numbers.
 use Rattle.std.specs.Prelude.{ℕ, length}
 use Rattle.std.specs.Arc.{arc_value}
-use Rattle.decode.specs.Inner.Faults.{number_of as decode_number}
-use Rattle.validate.specs.Inner.Faults.{number_of as valid_number}
+use Rattle.decode.specs.Faults.{number_of as decode_number}
+use Rattle.validate.specs.Faults.{number_of as valid_number}
 use Rattle.imports.specs.Linking.{number_of as link_number}
 use Rattle.loader.specs.declared.refusal.Refusal.{Refusal}
 use Rattle.loader.specs.declared.refusal.Refusal.TheVariants as refusal

@@ -9,7 +9,7 @@ use Rattle.syntax.specs.declared.instruction.Token.TheVariants as operation
 use Rattle.syntax.specs.declared.types.ValType.TheVariants.{I32, I64}
 use Rattle.syntax.specs.declared.operator.Extension.TheVariants.{Signed, Unsigned}
 use Rattle.syntax.specs.declared.operator.Width.TheVariants.{One, Two, Four}
-use Rattle.syntax.specs.Inner.Operations.{operation_of}
+use Rattle.syntax.specs.Operations.{operation_of}
 use Rattle.syntax.specs.Language.{Language, nothing, only_if}
 use Rattle.syntax.specs.Instructions.{opcode, immediates}
 use Rattle.syntax.specs.Inner.Payloads.{payload, Empty, Reserved, Exists, no_access}

@@ -4,7 +4,7 @@ use Rattle.std.proofs.Common.{length-drop}
 use Rattle.std.proofs.lemmas.List.{length-take}
 use Rattle.instance.specs.Store.{MemoryInstance}
 use Rattle.reduction.specs.Hosting.{Takes, Answers}
-use Rattle.interp.specs.Inner.Slots.Resuming.{laid}
+use Rattle.interp.specs.Slots.Resuming.{laid}
 use Rattle.interp.specs.Inner.Slots.ValuesRead.{typed_values}
 use Rattle.interp.specs.Inner.Slots.HostAsked.{arguments}
 use Rattle.interp.proofs.Slots.ValuesRead.{between, typed_types}

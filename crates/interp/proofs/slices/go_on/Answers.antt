@@ -2,7 +2,7 @@ use Rattle.std.proofs.Common.{◌≡◌, ℕ, List, ◌+◌, ◌-◌, ◌<◌, �
 use Rattle.events.specs.declared.ended.Ending.{Ending}
 use Rattle.events.specs.declared.ended.Ending.TheVariants as ending
 use Rattle.interp.proofs.Slots.Slicing.{going, paused_again, is_over, slice_returns_typed, slice_within, slice_typed, slice_fit, slice_callers}
-use Rattle.interp.specs.Inner.Slots.Hosted.{IsUnderWay}
+use Rattle.interp.specs.Slots.Hosted.{IsUnderWay}
 use Rattle.interp.proofs.slices.go_on.Given.{Over}
 use Rattle.interp.proofs.slices.go_on.Goals as goal
 use Rattle.interp.proofs.slices.go_on.Goals.{After-run_over_host}

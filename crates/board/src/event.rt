@@ -14,7 +14,7 @@ pub enum Event {
 }
 
 /// How often something had been done when it was asked. To wait for the next time, ask first, then look, then wait: so
-/// what is done behind the look ends the wait.
+/// what is done after the look ends the wait.
 #[derive(Clone, Copy, Debug)]
 pub struct Heard {
     /// What was asked for.

@@ -8,7 +8,7 @@ use std::sync::atomic::{AtomicU64, Ordering};
 const LOOKS: u32 = 300;
 
 /// It counts its events. A thread that is going to wait first asks how many there were, and then looks for what it waits
-/// for: if that comes behind the look, so does an event, and the wait ends. A thread is counted in `sleepers` before the
+/// for: if that comes after the look, so does an event, and the wait ends. A thread is counted in `sleepers` before the
 /// system compares the events, and an event is counted before `sleepers` is read, so that one of them sees the other.
 #[derive(Drop)]
 pub struct EventCount {

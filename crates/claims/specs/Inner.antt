@@ -1,2 +1,2 @@
--- No public clause reaches these: what a step tells a seat.
+-- No public clause reaches these: what a seat knows after a step.
 pub mod Steps

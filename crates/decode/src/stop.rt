@@ -33,14 +33,14 @@ impl Stop {
         }
     }
 
-    /// At the byte in front of those that are left.
+    /// At the byte before those that are left.
     pub(crate) fn behind(fault: DecodeFault, rest: &[u8]) -> Stop
         ensures { result.fault ≡ fault }
     {
         Stop::before(fault, rest).followed_by(1)
     }
 
-    /// At the last byte of an integer in front, which has at most `longest` bytes.
+    /// At the last byte of an integer at the start, which has at most `longest` bytes.
     pub(crate) fn in_integer(fault: LebFault, bytes: &[u8], longest: usize) -> Stop {
         match fault {
             LebFault::End => Stop::at_end(DecodeFault::End),
@@ -51,7 +51,7 @@ impl Stop {
         }
     }
 
-    /// The same of a text behind which so many bytes more are read.
+    /// This stop in a text after which so many more bytes are read.
     pub(crate) fn followed_by(self, bytes: usize) -> Stop
         ensures { result.fault ≡ self.fault }
     {

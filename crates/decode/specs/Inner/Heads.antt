@@ -74,7 +74,7 @@ StandsFor op head.I64Const = opcode (instr.Const (value.I64 0)) ≡ op
 StandsFor op head.Float = HasNone op
 StandsFor op head.Unknown = HasNone op
 
--- the instructions of an opcode, by what stands behind it
+-- the instructions of an opcode, by what follows it
 abbrev pub behind_opcode : ℕ → Token → Language
 behind_opcode op (operation.Plain i) = only_if (opcode i ≡ op) (immediates i)
 behind_opcode op _ = nothing

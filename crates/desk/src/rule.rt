@@ -1,4 +1,8 @@
-//! What the one seat knows, the rule that ties it to the words, and what each step tells.
+//! What the one seat knows, the rule that ties it to the words, and what each step shows.
+//!
+//! The history is the view of the table's one seat: what a step makes of a view is said with it, while a struct's own ghost data can be set
+//! by hand-written separation logic alone. A slot's word is the number of the open request, or 0, and not `4 * request + state` as between
+//! threads: no answer depends on whether a request that isn't open was started or cancelled.
 ghost use Rattle.std.specs.Prelude.{◌≡◌, ◌==◌, ℕ};
 ghost use Rattle.desk.specs.Desk.{new_desk, opened, DeskCancels, DeskTakes, DeskStarts, sent_own, sent_by_another};
 ghost use Rattle.desk.specs.Inner.Rule.{desk_of, history_of, waiting_place, IsKept};
@@ -14,7 +18,7 @@ pub(crate) struct History {
     pub(crate) opened: LinkedList<(u64, u64)>,
     pub(crate) cancelled: LinkedList<(u64, u64)>,
     pub(crate) found_started: LinkedList<(u64, u64)>,
-    /// For each async the takes, the sum of what they found, the loop's own sends, and those of them behind the last take.
+    /// For each async the takes, the sum of what they found, the loop's own sends, and those of them after the last take.
     pub(crate) takes: [u64; MAX_ASYNCS],
     pub(crate) taken: [u64; MAX_ASYNCS],
     pub(crate) own: [u64; MAX_ASYNCS],
@@ -49,7 +53,7 @@ impl Play<(), History> for Cancelling {
     ghost then = { λ step before found after. DeskCancels (desk_of before.0) (step.word, step.first) (found == step.first) (desk_of after.0) };
 }
 
-/// The same exchange by a worker starts it.
+/// A worker starts it by this exchange.
 pub(crate) struct Starting;
 
 impl Play<(), History> for Starting {
@@ -63,7 +67,7 @@ impl Play<(), History> for Sending {
     ghost then = { λ step before _ after. (a : ℕ) → step.word ≡ waiting_place a → desk_of after.0 ≡ sent_own (desk_of before.0) a };
 }
 
-/// The same addition by another.
+/// Another thread sends by this addition.
 pub(crate) struct Getting;
 
 impl Play<(), History> for Getting {

@@ -1,4 +1,4 @@
-// What a step tells.
+// What a step did.
 
 use crate::ended::Ended;
 use crate::phase::{EntryKind, Phase};

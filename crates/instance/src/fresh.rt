@@ -38,7 +38,7 @@ fn write_element(table: &mut [Option<u32>], element: &Element)
     }
 }
 
-/// The table: empty at first, then with the elements of each segment.
+/// The table: empty initially, then with the elements of each segment.
 pub fn first_table(alloc: Global, contents: &Contents) -> Result<Vec<Option<u32>>, AllocError>
     requires valid { ValidModule contents.now }
     requires fit { All (ElementFits contents.now) contents.now.elements }
@@ -62,7 +62,7 @@ fn write_data(memory: &mut Memory, segment: &Data)
     let _all = memory.write(start, segment.bytes.as_slice());
 }
 
-/// The memory: all zero at first, then with the bytes of each segment. It is made in the room of another's front.
+/// The memory: all zero initially, then with the bytes of each segment. It is made in the room of another's front.
 pub fn first_memory(front: Vec<u8>, contents: &Contents) -> Result<Memory, AllocError>
     requires valid { ValidModule contents.now }
     requires fit { All (DataFits contents.now) contents.now.«data» }

@@ -1,4 +1,4 @@
-// The front of a memory: the bytes that are kept. Behind it all are zero.
+// The front of a memory: the bytes that are kept. After it all are zero.
 
 ghost use Rattle.std.specs.Prelude.{◌≡◌, ◌+◌, ◌*◌, ◌≤◌, ◌<◌, nat_le, length, true, vec_capacity};
 ghost use Rattle.instance.specs.Inner.Room.{all_bytes, rounded, lengthened};

@@ -4,7 +4,7 @@ use Rattle.std.specs.Int.{next_multiple_of}
 use Rattle.limits.specs.declared.TheConstants.{PAGE_SIZE}
 use Rattle.instance.specs.declared.front.TheConstants.{STEP}
 
--- so many bytes, of which a front is kept: behind it all are zero
+-- so many bytes, of which a front is kept: after it all are zero
 abbrev pub all_bytes : (total : ℕ) → (front : List ℕ) → List ℕ
 all_bytes total front = front ++ replicate (total - length front) 0
 

@@ -96,7 +96,7 @@ pub const MAX_SENDS: u64 = 4_294_967_296;
 /// How many seats may send to the asyncs of a loop.
 pub const MAX_SEND_SEATS: usize = 64;
 
-/// How many callbacks of a loop are run in threads before it is told `limit`.
+/// How many callbacks of a loop are run in threads before it ends as `limit`.
 pub const MAX_CALLBACKS: u32 = 100_000;
 
 /// How many modules a script may name.

@@ -46,7 +46,7 @@ pub fn validated(alloc: Global, bytes: &[u8]) -> Result<Valid, Refusal>
 /// The module that the bytes spell, validated and linked.
 ///
 /// They are refused by `Decode` where they spell no module within the limits, by `Validate` where that is not valid, by
-/// `Link` where it doesn't fit the host, each with its fault; and by `Memory` where there is not enough memory to tell.
+/// `Link` where it doesn't fit the host, each with its fault; and by `Memory` where there is not enough memory to find out.
 pub fn load(alloc: Global, bytes: &[u8]) -> Result<Linked, Refusal>
     ensures same { IfOk result (λ guest. guest.bytes ≡ bytes.now) }
     ensures accepted { IfOk result (λ guest. IsAccepted guest.bytes guest.contents) }

@@ -18,13 +18,13 @@ abbrev pub IsPlaceOfFunction : List ℕ → ℕ → Place → Type 0
 IsPlaceOfFunction bytes body (place.Function number at) = (from : ℕ) × (to : ℕ) × CodeAt bytes body at from to
 IsPlaceOfFunction bytes body _ = ⊥
 
--- the byte lies in the body of this number, and no more operations stand in front of it there than are decoded
+-- the byte lies in the body of this number, and no more operations stand before it there than are decoded
 abbrev pub IsPlaceOfOperation : List ℕ → ℕ → ℕ → Place → Type 0
 IsPlaceOfOperation bytes body operation (place.Operation function number name at) =
     (begin : ℕ) × (from : ℕ) × (to : ℕ) × CodeAt bytes body begin from to × (from ≤ at) × (at < to) × (number ≤ operation)
 IsPlaceOfOperation bytes body operation _ = ⊥
 
--- the byte lies behind the id of a section, or in a body
+-- the byte lies after the id of a section, or in a body
 abbrev pub IsPartWith : List ℕ → ℕ → Part → Type 0
 IsPartWith bytes byte (part.Section id) =
     (before : List Section) × (at : ℕ) × (from : ℕ) × (to : ℕ) × SectionAt bytes before id at from to × (at < byte) × (byte < to)
@@ -46,7 +46,7 @@ IsPlaceOfExport name _ = ⊥
 abbrev pub name_section : Language
 name_section = counted (0x6e ∷ 0x61 ∷ 0x6d ∷ 0x65 ∷ []) ⨾ anything
 
--- in such a section this name stands behind the function's number
+-- in such a section this name stands after the function's number
 abbrev pub GivesName : List ℕ → ℕ → List ℕ → Type 0
 GivesName bytes function name =
     (before : List Section) × (at : ℕ) × (from : ℕ) × (to : ℕ) × SectionAt bytes before 0 at from to

@@ -24,13 +24,13 @@ pub record SectionAt (bytes : List ℕ) (before : List Section) (id at from to :
   pub here : Stands (section (record { id = id; contents = slice_range bytes from to })) bytes at to
   pub holds : from ≤ to
 
--- the same of the first section with this id
+-- the first section with this id begins there
 abbrev pub FirstSectionAt : List ℕ → (id at from to : ℕ) → Type 0
 FirstSectionAt bytes id at from to =
     (before : List Section) × SectionAt bytes before id at from to × All (λ s. s.id ≡ id → ⊥) before
 
 -- In a section that holds bodies from `held` on, the one of this number stands from `at` up to `to`, and what it holds begins at `from`.
--- In front of it stand the number of bodies and as many bodies as its own number says.
+-- Before it stand the number of bodies and as many bodies as its own number says.
 pub record BodyAt (bytes : List ℕ) (held number at from to : ℕ) : Type 0 where
   pub count : ℕ
   pub first : ℕ
@@ -42,7 +42,7 @@ pub record BodyAt (bytes : List ℕ) (held number at from to : ℕ) : Type 0 whe
   pub here : Stands (counted (slice_range bytes from to)) bytes at to
   pub holds : from ≤ to
 
--- the same in the first section of code, whose id is 10
+-- the body is in the first section of code, whose id is 10
 abbrev pub CodeAt : List ℕ → (number at from to : ℕ) → Type 0
 CodeAt bytes number at from to =
     (code : ℕ) × (held : ℕ) × (end : ℕ) × FirstSectionAt bytes 10 code held end × BodyAt bytes held number at from to

@@ -15,7 +15,7 @@ const CUSTOM: u8 = 0;
 /// The id of the part that has the names of functions.
 const FUNCTION_NAMES: u8 = 1;
 
-/// The bytes that have their number in front, and where they end.
+/// The bytes that have their number at the start, and where they end.
 fn counted(bytes: &[u8], at: usize) -> Option<(&[u8], usize)>
     ensures { IfSome result (λ read. Stands (spells_counted read.0.now) bytes.now at read.1) }
 {

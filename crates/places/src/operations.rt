@@ -42,7 +42,7 @@ const NAMES: &str = "unreachable nop block loop if else - - \
     f64.convert_i32_u f64.convert_i64_s f64.convert_i64_u f64.promote_f32 i32.reinterpret_f32 i64.reinterpret_f64 f32.reinterpret_i32 f64.reinterpret_i64 \
     i32.extend8_s i32.extend16_s i64.extend8_s i64.extend16_s i64.extend32_s";
 
-/// The byte behind an integer.
+/// The byte after an integer.
 fn behind_integer(bytes: &[u8], at: usize) -> Option<usize>
     ensures { IfSome result (λ next. at < next) }
 {
@@ -54,7 +54,7 @@ fn behind_integer(bytes: &[u8], at: usize) -> Option<usize>
     None
 }
 
-/// The byte behind so many integers.
+/// The byte after so many integers.
 pub(crate) fn behind_integers(bytes: &[u8], at: usize, count: u32) -> Option<usize>
     ensures { IfSome result (λ next. at ≤ next) }
 {
@@ -65,7 +65,7 @@ pub(crate) fn behind_integers(bytes: &[u8], at: usize, count: u32) -> Option<usi
     Some(next)
 }
 
-/// How many integers and single bytes stand behind an opcode, if it isn't that of `br_table`.
+/// How many integers and single bytes stand after an opcode, if it isn't that of `br_table`.
 fn immediates(opcode: u8) -> u32 {
     match opcode {
         0x02..=0x04 | 0x0c | 0x0d | 0x10 | 0x20..=0x24 | 0x3f..=0x42 => 1,
@@ -74,7 +74,7 @@ fn immediates(opcode: u8) -> u32 {
     }
 }
 
-/// The byte behind the operation that begins at this byte.
+/// The byte after the operation that begins at this byte.
 pub(crate) fn behind_operation(bytes: &[u8], at: usize) -> Option<usize>
     ensures { IfSome result (λ next. at < next) }
 {
@@ -87,7 +87,7 @@ pub(crate) fn behind_operation(bytes: &[u8], at: usize) -> Option<usize>
     behind_integers(bytes, next, immediates(opcode))
 }
 
-/// Where a body's first operation begins, behind its locals.
+/// Where a body's first operation begins, after its locals.
 fn first_operation(bytes: &[u8], body: Span) -> Option<usize>
     ensures { IfSome result (λ first. body.from ≤ first) }
 {

@@ -8,7 +8,7 @@ use leb::read_u32;
 
 const END: u8 = 0x0b;
 
-/// The byte behind the operations that begin at this byte and end with `end`.
+/// The byte after the operations that begin at this byte and end with `end`.
 fn behind_offset(bytes: &[u8], at: usize) -> Option<usize> {
     let mut next = at;
     for _ in 0..bytes.len() {
@@ -21,7 +21,7 @@ fn behind_offset(bytes: &[u8], at: usize) -> Option<usize> {
     None
 }
 
-/// The byte behind what a segment holds: so many bytes, or so many numbers.
+/// The byte after what a segment holds: so many bytes, or so many numbers.
 fn behind_held(bytes: &[u8], section: u8, at: usize) -> Option<usize> {
     let (count, first) = read_u32(bytes, at).ok()?;
     match section {

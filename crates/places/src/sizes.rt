@@ -10,7 +10,7 @@ pub struct Sizes {
     pub count: u32,
     /// How many elements or pages the first of them begins with.
     pub first: u32,
-    /// How many it may have at most, where that is told.
+    /// How many it may have at most, where that is known.
     pub most: Option<u32>,
 }
 

@@ -42,7 +42,7 @@ pub const DATA: u8 = 11;
 /// How many bytes a module begins with, of the magic number and the version.
 pub const OPENING: usize = 8;
 
-/// Where something lies that has its size in front.
+/// Where something lies that has its size at the start.
 #[derive(Clone, Copy)]
 pub(crate) struct Span {
     /// Where it begins.
@@ -105,7 +105,7 @@ pub struct CutShort {
     pub left: usize,
 }
 
-/// The section behind whose size the bytes end too soon.
+/// The section after whose size the bytes end too soon.
 pub fn cut_short(bytes: &[u8]) -> Option<CutShort> {
     let mut at = OPENING;
     for _ in 0..bytes.len() {
@@ -198,7 +198,7 @@ pub fn place_of_function(bytes: &[u8], function: usize) -> Option<Place>
     })
 }
 
-/// The section that has this byte behind its id, and its id.
+/// The section that has this byte after its id, and its id.
 fn section_with(bytes: &[u8], byte: usize) -> Option<(u8, Span)>
     ensures here { IfSome result (λ s. (before : List Section) × SectionAt bytes.now before s.0 s.1.at s.1.from s.1.to) }
     ensures has { IfSome result (λ s. (s.1.at < byte) × (byte < s.1.to)) }
@@ -214,7 +214,7 @@ fn section_with(bytes: &[u8], byte: usize) -> Option<(u8, Span)>
     None
 }
 
-/// The section that has this byte behind its id, or the function where it is in a body.
+/// The section that has this byte after its id, or the function where it is in a body.
 pub fn part_with(bytes: &[u8], byte: usize) -> Option<Part>
     ensures { IfSome result (IsPartWith bytes.now byte) }
 {

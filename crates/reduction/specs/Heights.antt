@@ -1,5 +1,6 @@
 -- What laws of runs speak of, and no part of what a run means.
--- How high the operands of a call can stand and how many labels can be open in it.
+-- How high the operands of a call can stand and how many labels can be open in it: by numbers, and not by a second typing, since the types
+-- after an unconditional branch are not determined.
 use Rattle.std.specs.Prelude.{◌≡◌, ℕ, ◌+◌, ◌≤◌, List, [], ◌∷◌, length, Option, Some, None, slice_get}
 use Rattle.limits.specs.declared.TheConstants.{MAX_HEIGHT, MAX_LOCALS, MAX_NESTING}
 use Rattle.syntax.specs.declared.instruction.Instr.{Instr}
@@ -47,7 +48,7 @@ counts m labels MemorySize = Changes 0 1
 counts m labels MemoryGrow = Changes 1 1
 counts m labels i = effect_of (around m) i
 
--- where an instruction is followed by what comes next, it finds its operands, and this holds of the number behind it
+-- where an instruction is followed by what comes next, it finds its operands, and this holds of the number after it
 abbrev pub Follows : Effect → (before : ℕ) → (ℕ → Type 0) → Type 0
 Follows (Changes pops pushes) before Holds = (left : ℕ) × (before ≡ pops + left) × Holds (pushes + left)
 Follows Ends before Holds = Unit {0}

@@ -23,7 +23,7 @@ operands_of [] = []
 operands_of (Label arity next values code ∷ below) = values
 operands_of (Frame locals arity values code ∷ below) = values
 
--- what stands round the body of a call
+-- what stands around the body of a call
 abbrev pub call_typing : Contents → (locals results : List ValType) → Typing
 call_typing m locals results = record { module_contents = m; locals = locals; labels = []; results = results }
 

@@ -57,7 +57,7 @@ pub fn table_stays()
     ensures calls { CallsKeepTable }
 {}
 
-/// A law, with nothing to run: where runs stand, the side tables tell. Whatever a call of a function of a valid module
+/// A law, with nothing to run: the side tables say where runs stand. Whatever a call of a function of a valid module
 /// comes to, each of its open calls stands at an operation of its body (`reached`), and each step leads on to where that
 /// operation and its entry in the table say, with no look at what is open (`steps`). What a branch keeps and what it
 /// drops is what the entry says (`br`, `br_if`, `br_table`): of all operands, but those that it tests, the topmost are

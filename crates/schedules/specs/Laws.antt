@@ -15,7 +15,7 @@ use Rattle.world.specs.World.{World, WorldRun, opening_world}
 use Rattle.schedules.specs.Accesses.{Access, Reach, StepsBy}
 use Rattle.schedules.specs.Schedule.{Threads, Atom, ThreadsRun, IsBetween, opening_threads}
 
--- the line tells what this loop did
+-- the line says what this loop did
 abbrev pub is_of_loop : (l : ℕ) → LogEntry → Bool
 is_of_loop l (line.Entered n phase now) = n == l
 is_of_loop l (line.Ran n kind number ended emits) = n == l
@@ -32,7 +32,7 @@ is_of_loop l _ = false
 abbrev pub log_of : (l : ℕ) → List LogEntry → List LogEntry
 log_of l log = filter (is_of_loop l) log
 
--- the line tells that a job was posted; how many were
+-- the line says that a job was posted; how many were
 abbrev pub is_posted : LogEntry → Bool
 is_posted (line.Post n (post.Request request)) = true
 is_posted _ = false
@@ -40,7 +40,7 @@ is_posted _ = false
 abbrev pub jobs_in : List LogEntry → ℕ
 jobs_in log = count_by is_posted log
 
--- the line tells that this worker took a job
+-- the line says that this worker took a job
 abbrev pub is_taken_by : (worker : ℕ) → LogEntry → Bool
 is_taken_by worker (line.Take n (Some job)) = n == worker
 is_taken_by worker _ = false
@@ -81,7 +81,7 @@ IsSplit =
     (g : Setting) (old : Loop Desk) (did : StepDid) (made : List GuestCall) (new : Loop Desk)
     → StepsWith desk_calls g old did made new ↔ HasAccesses g old did made new
 
--- the line tells that the list of jobs was full, which it never is among the threads
+-- the line says that the list of jobs was full, which it never is among the threads
 abbrev pub is_full : LogEntry → Bool
 is_full (line.Post n post.Full) = true
 is_full _ = false

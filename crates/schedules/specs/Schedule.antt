@@ -16,8 +16,8 @@ use Rattle.world.specs.World.{World, Idle, Taken, Only, UnlessFailed, PostsOrder
 use Rattle.world.specs.World.{job_of, told_of}
 use Rattle.schedules.specs.Accesses.{Access, Moves, StepsBy}
 
--- A loop's step that is under way: what it does at the desk yet, and what it will have done then: what is told of it, what
--- its guest called, and the state and the store that it leaves.
+-- A loop's step under way: the accesses that it has yet to make at the desk; what is logged of it then; the calls that
+-- its guest makes; and the state and the store that it leaves.
 pub record Underway : Type 0 where
   pub ahead : List Access
   pub did : StepDid
@@ -39,7 +39,7 @@ abbrev pub IsBetween : Threads → ℕ → Type 0
 IsBetween t n = slice_get t.steps n ≡ Some None
 
 -- What a thread does at once: a loop begins a step; it goes on with it, by the next access to its desk; it ends the step,
--- which is then told; or another step is taken whole.
+-- which is then logged; or another step is taken whole.
 pub data Atom : Type 0 where
   Begin : (loop_no : ℕ) → Atom
   Next : (loop_no : ℕ) → Atom
@@ -118,7 +118,7 @@ pub record TakesOne (w : World) (n : ℕ) (entry : LogEntry) (w' : World) : Type
   pub told : entry ≡ line.Take n (Some (job_of job))
   pub after : w' ≡ record (with_worker w n (Taken job)) { jobs = before ++ behind }
 
--- A step that is taken at once, and what is told of it: but for these two it is the world's. A worker may find no job at
+-- A step that is taken at once, and what is logged of it: but for these two it is the world's. A worker may find no job at
 -- any time.
 abbrev pub AtOnce : World → Step → LogEntry → World → Type 0
 AtOnce w (step.Post n) entry w' = HandsOut w n entry w'
@@ -140,7 +140,7 @@ AtomStep t (Next n) told t' = GoesOn t n told t'
 AtomStep t (End n) told t' = Ends t n told t'
 AtomStep t (Whole s) told t' = IsTaken t s told t'
 
--- Some atomic steps, one after another, and what is told of them. Between two of one thread's may stand any of others'.
+-- Some atomic steps, one after another, and what is logged of them. Between two of one thread's may stand any of others'.
 abbrev pub ThreadsRun : Threads → List Atom → List LogEntry → Threads → Type 0
 ThreadsRun t [] log t' = (log ≡ []) × (t' ≡ t)
 ThreadsRun t (a ∷ atoms) log t' =

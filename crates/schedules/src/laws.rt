@@ -27,7 +27,7 @@ pub fn after_once()
     world::laws::after_once();
 }
 
-/// The other way round, each run of the world in which no list of jobs was full is a run of threads, with as many workers.
+/// Conversely, each run of the world in which no list of jobs was full is a run of threads, with as many workers.
 pub fn of_threads()
     ensures { IsOfThreads }
 {

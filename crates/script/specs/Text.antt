@@ -110,7 +110,7 @@ abbrev pub refused_words : Bool → List (List ℕ)
 refused_words true = codes "refused" ∷ []
 refused_words false = []
 
--- words, each behind a space
+-- words, each after a space
 abbrev pub spaced : List (List ℕ) → List ℕ
 spaced words = flat_map (λ word. 32 ∷ word) words
 

@@ -3,7 +3,7 @@
 //! `read` gives a plan within the limits, or the lowest of the faults that the text has. `print` is exactly the text of the log, a
 //! line for each entry (`specs/Text.antt`); docs/COMMANDS.md has both forms.
 //!
-//! JSON itself is read by the kit's `serde_json`, into the types of `document`, and `json` tells exactly which texts are none. Begin
+//! JSON itself is read by the kit's `serde_json`, into the types of `document`, and `json` finds exactly those texts that are none. Begin
 //! with `plan`, what a script asks for, and `reader`.
 #![tactic(auto)]
 

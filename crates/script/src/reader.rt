@@ -15,7 +15,7 @@ use world_log::Step;
 
 /// Reads a script: one JSON object with the keys `modules`, `loops`, `workers` and `steps`.
 ///
-/// Of several faults the one with the lowest number is told, save that want of memory may be told before any other.
+/// Of several faults the one with the lowest number is reported, but memory may run out before that.
 pub fn read(alloc: Global, text: &str) -> Result<Plan, ScriptFault>
     ensures limits { IfOk result (λ plan. IsWithinLimits plan) }
     ensures json { OnOk result (IsJson text.now) }

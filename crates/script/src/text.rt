@@ -12,8 +12,8 @@ use world_log::{
 
 /// The text of a log: a line for each entry, the oldest first.
 ///
-/// A line is words with one space between them and one line feed at its end. The result behind `done`, the values
-/// behind `emit` and the answer of a cancel are signed, and all other numbers are unsigned. The only error is want of
+/// A line is words with one space between them and one line feed at its end. The result after `done`, the values
+/// after `emit` and the answer of a cancel are signed, and all other numbers are unsigned. The only error is lack of
 /// memory.
 pub fn print(alloc: Global, log: &Log) -> Result<String, AllocError>
     ensures { IfOk result (λ text. string_bytes text ≡ log_text log.now.entries) }
@@ -25,7 +25,7 @@ pub fn print(alloc: Global, log: &Log) -> Result<String, AllocError>
     Ok(text)
 }
 
-/// The line of one entry, as `print` has it. The only error is want of memory.
+/// The line of one entry, as `print` has it. The only error is out of memory.
 pub fn print_entry(alloc: Global, entry: &LogEntry) -> Result<String, AllocError>
     ensures { IfOk result (λ text. string_bytes text ≡ line_of entry.now) }
 {

@@ -36,7 +36,7 @@ impl Drop for Import {
     }
 }
 
-/// A defined function. Its locals come behind its parameters.
+/// A defined function. Its locals come after its parameters.
 pub struct Func {
     pub type_index: u32,
     pub locals: Items<ValType>,

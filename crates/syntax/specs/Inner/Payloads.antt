@@ -1,4 +1,4 @@
--- What stands behind an opcode (WebAssembly Core 1.0, 5.4).
+-- What follows an opcode (WebAssembly Core 1.0, 5.4).
 use Rattle.std.specs.Prelude.{ℕ, List}
 use Rattle.syntax.specs.declared.types.ValType.TheVariants.{I32}
 use Rattle.syntax.specs.declared.types.Value.TheVariants as value
@@ -8,7 +8,7 @@ use Rattle.syntax.specs.declared.operator.MemArg.{MemArg}
 use Rattle.syntax.specs.declared.instruction.Instr.{Instr}
 use Rattle.syntax.specs.declared.instruction.Instr.TheVariants as instr
 
--- what stands behind an opcode
+-- what follows an opcode
 pub data Payload : Type 0 where
   Empty : Payload
   Reserved : Payload
@@ -44,7 +44,7 @@ payload (instr.Const (value.I64 n)) = Number 64 n
 payload (instr.Unary I32 unary.Extend32S) = Never
 payload _ = Empty
 
--- some text stands behind the opcode
+-- some text stands after the opcode
 abbrev pub Exists : Payload → Type 0
 Exists Never = ⊥
 Exists _ = Unit {0}

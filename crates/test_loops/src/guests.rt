@@ -19,14 +19,14 @@ pub fn linked_of(alloc: Global, sections: &str) -> Result<Arc<Linked>, Fail> {
     guest_of(alloc, module_of(alloc, sections)?)
 }
 
-/// The bytes with a section behind them that says nothing.
+/// The bytes with a section after them that says nothing.
 fn lengthened(alloc: Global, bytes: &[u8]) -> Result<Vec<u8>, AllocError> {
     let mut bytes = Vec::from_slice(alloc, bytes)?;
     bytes.extend_from_slice(&[0x00, 0x02, 0x01, 0x78])?;
     Ok(bytes)
 }
 
-/// The same guest with a section behind it that says nothing, so that its bytes are others.
+/// A guest with a section after it that says nothing, so its bytes are others.
 pub fn with_custom_section(alloc: Global, guest: &Linked) -> Result<Arc<Linked>, Fail> {
     guest_of(alloc, lengthened(alloc, guest.valid().module().bytes())?)
 }

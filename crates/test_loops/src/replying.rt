@@ -39,7 +39,7 @@ fn a_reply_of_another_operation_is_a_stranger_and_the_right_one_is_taken_once(
     check(&rt, rt.alloc(), ASKS, &turns, wanted)
 }
 
-/// What the loop does behind `uv_main`, where nobody offers it a reply of another order.
+/// What the loop does after `uv_main`, where nobody offers it a reply of another order.
 const WITHOUT: &str =
     "hint Forever; Timers 0; Idle 0; Poll 0; Check 0; Closing 0; Timers 0; accepted; hint Now; Idle 0; \
         Poll 0; run After 1 0 6; Check 0; Closing 0; over; over";

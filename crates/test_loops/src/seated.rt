@@ -96,7 +96,7 @@ fn sends(marks: &Marks, sender: &mut SendSeat, count: u32) -> bool
     true
 }
 
-/// How many steps a loop takes, how many sends to its async 0 there are before and behind, and how many steps behind those.
+/// How many steps a loop takes, how many sends to its async 0 there are before and after, and how many steps after those.
 #[derive(Clone, Copy)]
 struct Counts {
     before: u32,
@@ -122,7 +122,7 @@ fn seated_loop<'a>(
     LoopCore::new(alloc, guest, noted, 0, FUEL, FUEL, DEPTH)
 }
 
-/// Sends, takes the steps, sends again and takes the further steps. Whether the sends were taken in, before and behind.
+/// Sends, takes the steps, sends again and takes the further steps. Whether the sends were taken in, before and after.
 fn drive(
     core: &mut LoopCore<Noted<'_>>,
     marks: &Marks,

@@ -1,4 +1,4 @@
-// What a loop does, as text: its events, one behind the other.
+// What a loop does, as text: its events, one after another.
 
 use events::did::StepDid;
 use events::ended::Ending;
@@ -6,7 +6,7 @@ use phases::{LoopCore, Shared};
 use std::alloc::AllocError;
 use std::process::Abort;
 
-/// That this was told.
+/// Asserts that this was printed.
 pub fn check_told(rt: &impl Abort, told: &str, wanted: &str) {
     assert_eq!(rt; told, wanted);
 }
@@ -54,7 +54,7 @@ fn tell(did: &StepDid, emits: &[u64], text: &mut String) -> Result<(), AllocErro
     }
 }
 
-/// What is told of an ending behind the callback. Of a return it is nothing.
+/// What is printed of an ending after the callback: nothing of a return.
 fn word(ending: &Ending) -> &'static str {
     match ending {
         Ending::Return(_) => "",

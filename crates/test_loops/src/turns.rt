@@ -1,4 +1,4 @@
-// A loop over a desk that is told turn by turn what to do.
+// A loop over a desk that takes one turn after another.
 
 use crate::guests::{loop_at_desk, with_custom_section};
 use crate::telling::{check_told, next, steps};
@@ -36,7 +36,7 @@ pub enum Turn {
     Steps(u32),
     /// The clock is raised.
     Clock(u64),
-    /// The hint is told.
+    /// The hint is printed.
     Hint,
     /// Another sends to an async.
     Send(u32),

@@ -1,4 +1,4 @@
-// Texts cut short, wrong or too large, and what is told of them.
+// Texts cut short, wrong or too large, and what is reported of them.
 
 use crate::rows::check_rows;
 use decode::{DecodeFault, decode};
@@ -14,10 +14,10 @@ use test_fixtures::{bytes_of, joined, module_of};
 const CONSTANT: &str = "0061736d010000000105016000017f0302010007050101660000\
      0a0601040041070b";
 
-/// The same up to its code section.
+/// That module up to its code section.
 const BEFORE_CODE: &str = "0061736d010000000105016000017f0302010007050101660000";
 
-/// The same up to its export section.
+/// That module up to its export section.
 const BEFORE_EXPORTS: &str = "0061736d010000000105016000017f03020100";
 
 /// The magic number and the version.
@@ -33,7 +33,7 @@ const TIMER: &str = "0061736d01000000\
      0907010041000b0104\
      0a17020700100010031a0b0d00100141004232420010021a0b";
 
-/// Whole texts, and what is told of each.
+/// Whole texts, and what is reported of each.
 const TEXTS: &str = "
     00617e = Magic
     0061736d01 = End
@@ -44,7 +44,7 @@ const TEXTS: &str = "
     0061736d01000000 00f4ff3f 1048564*00 = accepted
     1048577*00 = Limit";
 
-/// Sections behind the opening: ids, sizes and names.
+/// Sections after the opening: ids, sizes and names.
 const SECTIONS: &str = "
     0c = Kind
     0105016000017f01 = Order
@@ -112,7 +112,7 @@ const SECTIONS: &str = "
     0907010041000b0104 = accepted
     0b07010041000b01ff = accepted";
 
-/// Code sections behind the rest of a module.
+/// Code sections after the rest of a module.
 const CODE: &str = "
     # instructions and block types
     0a050103008b0b = Profile
@@ -145,7 +145,7 @@ const CODE: &str = "
     0a070202000b02000b = Counts
     0a0100 = Counts";
 
-/// What stands behind a whole module.
+/// What follows a whole module.
 const BEHIND: &str = "
     00020178 = accepted
     0000 = End";
@@ -160,7 +160,7 @@ fn told(alloc: Global, bytes: Vec<u8>) -> Option<DecodeFault> {
     decode(alloc, bytes).err()
 }
 
-/// A module, and what is told of its fronts.
+/// A module, and what is reported of its prefixes.
 #[derive(Clone, Copy)]
 struct Fronts {
     module: &'static str,
@@ -231,7 +231,7 @@ fn word_told(alloc: Global, front: &str, text: &str) -> Result<String, Fail> {
     word_of(alloc, told(alloc, bytes))
 }
 
-/// Each row has a text, which comes behind `front`, and what is told of both.
+/// Each row has a text, which comes after `front`, and what is reported of both.
 fn check_texts(rt: &impl Abort, alloc: Global, front: &str, rows: &str) -> Result<(), Fail> {
     check_rows(rt, rows, |text| word_told(alloc, front, text))
 }
@@ -246,7 +246,7 @@ fn told_of_rows(rt: HostRuntime) -> Result<(), Fail> {
     check_texts(&rt, alloc, CONSTANT, BEHIND)
 }
 
-/// What is told of an opcode that is no instruction of the profile.
+/// What is reported of an opcode that is no instruction of the profile.
 fn refused_opcode(opcode: u8) -> Option<DecodeFault> {
     match opcode {
         0x00..=0x04 | 0x0b..=0x11 | 0x1a | 0x1b | 0x20..=0x24 => None,

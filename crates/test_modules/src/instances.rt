@@ -1,4 +1,4 @@
-// Instances that are told turn by turn what to do: their memories, tables, globals and segments.
+// Instances that take one turn after another: their memories, tables, globals and segments.
 
 use crate::instances::Turn::{Copy, Element, Get, Grow, Length, Load, Read, Set, Store, Write};
 use crate::rows::{check_rows, check_told_of};
@@ -16,25 +16,25 @@ use validate::Valid;
 /// What is done with an instance.
 #[derive(Clone, Copy)]
 enum Turn {
-    /// The memory is to grow by so many pages. What that answers is told, and how many there are then.
+    /// The memory is to grow by so many pages. What that answers is printed, and how many there are then.
     Grow(u32),
     /// A number is loaded, by its address and offset.
     Load(u32, u32, AccessSize),
-    /// A number is stored. Whether it was is told.
+    /// A number is stored. Whether it was is printed.
     Store(u32, u32, AccessSize, u64),
-    /// How many bytes the memory has is told.
+    /// How many bytes the memory has is printed.
     Length,
     /// So many bytes of the memory are read.
     Read(usize, usize),
-    /// The same, copied over what is in the room, 16 bytes at most.
+    /// Bytes are copied over what is in the room, 16 at most.
     Copy(usize, usize),
-    /// Bytes are written to the memory. Whether they were is told.
+    /// Bytes are written to the memory. Whether they were is printed.
     Write(usize, &'static [u8]),
     /// An element of the table is looked up.
     Element(u32),
     /// A global is looked up.
     Get(u32),
-    /// A global is set. Whether it was is told.
+    /// A global is set. Whether it was is printed.
     Set(u32, Value),
 }
 
@@ -225,7 +225,7 @@ fn lends_its_memory(rt: HostRuntime) -> Result<(), Fail> {
     check(&rt, rt.alloc(), ONE_PAGE, &turns, wanted)
 }
 
-/// Loads, stores and reads that begin before a multiple of 4,096 and end behind it, and what lies far behind.
+/// Loads, stores and reads that begin before a multiple of 4,096 and end after it, and what lies far beyond.
 const ACROSS: [Turn; 14] = [
     Load(4_092, 0, Eight),
     Store(4_095, 0, One, 7),

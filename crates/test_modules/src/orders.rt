@@ -1,4 +1,4 @@
-// What is told of a run of an order, at once and in slices: what becomes of it, the units that it used, and where it stopped.
+// What is reported of a run of an order, at once and in slices: what becomes of it, the units that it used, and where it stopped.
 
 ghost use Rattle.std.specs.Prelude.{◌≤◌};
 
@@ -13,7 +13,7 @@ use test_fixtures::{guest_of, joined};
 /// A module's front, with a type from an i32 to an i32, and one from nothing to nothing.
 const FRONT: &str = "0061736d01000000 010902 60017f017f 600000";
 
-/// Sections behind it, and what is told of `uv_work` by operation 5, with 200 units and 64 calls: the sites are numbers of
+/// Sections after it, and what is reported of `uv_work` with operation 5, with 200 units and 64 calls: the sites are numbers of
 /// defined functions, each with that of an operation.
 const MODULES: &str = "
     # it returns, by itself and behind a start function of two units
@@ -101,7 +101,7 @@ fn tell(text: &mut String, told: &Told) -> Result<(), AllocError> {
     }
 }
 
-/// What is told of a run of the guest with these sections, at once or in slices of so many units.
+/// What is reported of a run of the guest with these sections, at once or in slices of so many units.
 fn told(alloc: Global, sections: &str, units: u64) -> Result<String, Fail> {
     let guest = guest_of(alloc, joined(alloc, FRONT, sections)?)?;
     let mut text = String::new(alloc);

@@ -12,7 +12,7 @@ fn parts_of(row: &str) -> Result<Option<(&str, &str)>, Fail> {
     Ok(Some(row.split_once(" = ").ok_or("a row of one part")?))
 }
 
-/// That of this text it is told what is wanted.
+/// Asserts that what was printed of a text is what is wanted.
 pub fn check_told_of(rt: &impl Abort, told: &str, wanted: &str, text: &str) {
     assert_eq!(rt; told, wanted, "of {text}");
 }
@@ -30,7 +30,7 @@ fn check_row<F: Fn(&str) -> Result<String, Fail>>(
     Ok(())
 }
 
-/// Each row has a text and what is to be told of it.
+/// Each row has a text and what is to be printed of it.
 pub fn check_rows<F: Fn(&str) -> Result<String, Fail>>(
     rt: &impl Abort,
     rows: &str,

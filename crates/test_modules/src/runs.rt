@@ -135,7 +135,7 @@ fn end_of(alloc: Global, bytes: Vec<u8>, fuel: u64, depth: u32) -> Result<String
     Ok(told(alloc, &ended)?)
 }
 
-/// Each row has a body, which comes behind these sections, and how a call of it ends.
+/// Each row has a body, which comes after these sections, and how a call of it ends.
 fn check_bodies(rt: &impl Abort, alloc: Global, sections: &str, rows: &str) -> Result<(), Fail> {
     check_rows(
         rt,
@@ -190,7 +190,7 @@ fn calls_itself_up_to_the_limit(rt: HostRuntime) -> Result<(), Fail> {
 const COUNTS_DOWN: &str = "010f 03 6000017f 6000027f7f 60017f017f 03020100
     0a140112 01017f 4105 0302 41016b 2200 2000 0d00 0b 0b";
 
-/// The same over 100, to which it adds what is left.
+/// Counts down over 100, to which it adds what is left.
 const COUNTS_OVER: &str = "010f 03 6000017f 6000027f7f 60017f017f 03020100
     0a180116 01017f 41e400 4105 0302 41016b 2200 2000 0d00 0b 6a 0b";
 

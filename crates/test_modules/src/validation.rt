@@ -35,7 +35,7 @@ const BODIES: &str = "
     110000 0b = validate 2 Index
 ";
 
-/// The same, with two more types: from nothing to two i32, and from an i32 to an i32.
+/// A module with two more types: from nothing to two i32, and from an i32 to an i32.
 const THREE_TYPES: &str = "010f 03 6000017f 6000027f7f 60017f017f 03020100 07050101660000";
 
 /// Bodies of its function.
@@ -53,7 +53,7 @@ const BODIES_OF_THREE_TYPES: &str = "
     4107 4100 0401 0b 1a 0b = validate 1 Type
 ";
 
-/// Each row has a body, which comes behind these sections, and the verdict on the module.
+/// Each row has a body, which comes after these sections, and the verdict on the module.
 fn check_bodies(rt: &impl Abort, alloc: Global, sections: &str, rows: &str) -> Result<(), Fail> {
     check_rows(
         rt,

@@ -1,6 +1,6 @@
 //! Performs the commands of a list, and prints what each prints and ends with.
 //!
-//! Standard input has a line for each command: its words, as the program takes them behind its own name. The files that
+//! Standard input has a line for each command: its words, as the program takes them after its own name. The files that
 //! they name stand in the list too: `let NAME HEX` makes a file of bytes, and `text NAME TEXT` one of text, in which each
 //! `@OTHER@` is the file OTHER in hexadecimal. In a command `NAME:N` is the front of a file, N bytes long, and `hex:HEX` a file
 //! of these bytes. `only WORDS COMMAND` shows of standard error only the lines in which one of the words stands, which commas
@@ -83,7 +83,7 @@ fn is_shown(line: &str, wanted: &str) -> bool {
         .any(|word| wanted.split(',').any(|one| one == word))
 }
 
-/// Tells what was written to standard error, each line behind a mark: all, or those in which one of these words stands.
+/// Tells what was written to standard error, each line after a mark: all, or those in which one of these words stands.
 fn tell_errors<O: Write>(err: &[u8], only: Option<&str>, out: &mut O) -> io::Result<()> {
     for line in str::from_utf8(err).unwrap_or("no text").lines() {
         if only.is_none_or(|wanted| is_shown(line, wanted)) {

@@ -1,4 +1,4 @@
-// Tables of handles that are told turn by turn what to do.
+// Tables of handles that take one turn after another.
 
 ghost use Rattle.std.specs.Prelude.{IsTrue};
 ghost use Rattle.handles.specs.Table.{IsOpen, IsTimer};
@@ -25,7 +25,7 @@ enum Turn {
     Due(u64),
     /// The active idle handles are listed.
     Idle,
-    /// The nearest due moment is told.
+    /// The nearest due moment is printed.
     Nearest,
 }
 

@@ -1,8 +1,8 @@
-// What each test here tells is a text.
+// Each test here prints a text.
 
 use std::process::Abort;
 
-/// That this was told.
+/// Asserts that this was printed.
 pub fn check_told(rt: &impl Abort, told: &str, wanted: &str) {
     assert_eq!(rt; told, wanted);
 }

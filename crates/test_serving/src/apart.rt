@@ -35,7 +35,7 @@ const BUSY: u64 = 0xffff_ffff_ffff_fff0;
 /// How often the guest is served.
 const TIMES: u32 = 8;
 
-/// What the after-work callback of a request whose cancel was answered so emits, if it is told of a cancellation exactly
+/// What the after-work callback of a request whose cancel was answered so emits, if it hears of a cancellation exactly
 /// where that answer is 0.
 fn told(request: u64, answer: u64) -> u64 {
     if answer == 0 {

@@ -1,4 +1,4 @@
-//! Tests of `serve`: loops and workers in threads, and what a watcher is told.
+//! Tests of `serve`: loops and workers in threads, and what a watcher gets.
 #![tactic(auto)]
 
 #[cfg(test)]

@@ -89,8 +89,8 @@ const TRAPS: &str = "0061736d 01000000
     0a20021400230041016a24002300419f8d06460440000b0b09001000410010011a0b";
 
 /// Asks for work 200 times, 32 at once, with the request's number as its operation; its work function adds 1. A timer's
-/// callback in the turn behind each post cancels every third request. Each after-work looks at whether it is the
-/// request's first, whether it is told of a cancel exactly where that was answered 0, and at the result. The last emits
+/// callback in the turn after each post cancels every third request. Each after-work looks at whether it is the
+/// request's first, whether it hears of a cancel exactly where that was answered 0, and at the result. The last emits
 /// how many there were, and how much was wrong.
 pub const CANCELS: &str = "0061736d 01000000
     012b086000017f60047f7f7e7e017f60037f7f7f017f60017f017f60017e017f60000060037f7f7f0060017f00
@@ -158,7 +158,7 @@ pub fn served<R: Threads + Wait + Sync + AllocGlobal>(
     served_meeting(rt, digits, serving, &nobody, &nobody)
 }
 
-/// The same of loops that meet as they make a job, and of workers that meet as they call one.
+/// Loops that meet as they make a job, and workers that meet as they call one.
 fn served_meeting<R: Threads + Wait + Sync + AllocGlobal>(
     rt: &R,
     digits: &str,

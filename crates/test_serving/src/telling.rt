@@ -1,4 +1,4 @@
-// What loops and workers do with a request is told in its order.
+// What loops and workers do with a request is reported in its order.
 
 ghost use Rattle.std.specs.Prelude.{◌≡◌};
 ghost use Rattle.board.specs.Jobs.{ticket_of};
@@ -17,7 +17,7 @@ use std::test::Fail;
 use std::thread::Threads;
 use test_fixtures::{comes, linked_of};
 
-/// Asks for three pieces of work, and a timer's callback in the turn behind their posts cancels the second. Each after-work
+/// Asks for three pieces of work, and a timer's callback in the turn after their posts cancels the second. Each after-work
 /// emits its status.
 const CANCELS_ONE: &str = "0061736d 01000000
     012b086000017f60047f7f7e7e017f60037f7f7f017f60017f017f60017e017f60000060017f0060037f7f7f00
@@ -48,7 +48,7 @@ const REQUESTS: u32 = 256;
 
 const PLACES: u32 = 512;
 
-/// How far each request of two loops has come, how many were begun, dropped and collected, how often one was told out of
+/// How far each request of two loops has come, how many were begun, dropped and collected, how often one was reported out of
 /// its order, and how many timers' callbacks ran.
 struct Stages {
     stages: Vec<AtomicU64>,
@@ -102,7 +102,7 @@ impl Stages {
         stage.store(to, Ordering::SeqCst);
     }
 
-    /// How often one was told out of its order, how many were begun, and how many of these were not collected.
+    /// How often one was reported out of its order, how many were begun, and how many of these were not collected.
     fn seen(&self) -> (u64, u64, u64) {
         let begun = self.begun.load(Ordering::SeqCst);
         let collected = self.collected.load(Ordering::SeqCst);
@@ -113,7 +113,7 @@ impl Stages {
         )
     }
 
-    /// Whether a worker that took a request has told neither that it dropped it nor that it finished it.
+    /// Whether a worker that took a request has reported neither that it dropped it nor that it finished it.
     fn has_unfinished(&self) -> bool {
         for stage in &self.stages {
             let stage = stage.load(Ordering::SeqCst);
@@ -216,7 +216,7 @@ fn what_is_done_with_a_request_is_told_in_its_order(rt: HostRuntime) -> Result<(
     Ok(())
 }
 
-/// The one worker is held at the first job until the second is cancelled, and the loop ends behind the third.
+/// The one worker is held at the first job until the second is cancelled, and the loop ends after the third.
 #[test]
 fn a_dropped_job_is_told(rt: HostRuntime) -> Result<(), Fail> {
     let stages = Stages::new(rt.alloc())?;

@@ -1,4 +1,4 @@
-// Several workers that work until the board is closed, on a line of replies that is full at first.
+// Several workers that work until the board is closed, on a line of replies that is full initially.
 
 ghost use Rattle.std.specs.Prelude.{◌≡◌};
 

@@ -51,7 +51,7 @@ fn an_unjoined_seats_sends_are_taken_once(rt: HostRuntime) -> Result<(), Fail> {
     Ok(())
 }
 
-/// What a loop takes from this async before a send to it, behind that, and behind another.
+/// What a loop takes from this async before a send to it, after that, and after another.
 fn take_thrice(alloc: Global, async_no: u32) -> Result<(u64, u64, u64), Fail>
     requires { async_no < MAX_ASYNCS }
 {

@@ -8,7 +8,7 @@ pub fn shows<T: Copy + Debug + PartialEq>(rt: &impl Abort, seen: T, expected: T)
     assert_eq!(rt; seen, expected);
 }
 
-/// That this was told.
+/// Asserts that this was printed.
 pub fn check_told(rt: &impl Abort, told: &str, wanted: &str) {
     assert_eq!(rt; told, wanted);
 }

@@ -1,4 +1,4 @@
--- One sequence of instructions behind another.
+-- One sequence of instructions after another.
 use Rattle.syntax.specs.Code.{Code, Done, Plain, Block, Loop, If}
 
 abbrev pub joined : (first last : Code) → Code

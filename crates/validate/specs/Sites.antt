@@ -64,12 +64,12 @@ abbrev pub BreaksFunc : Contents → Func → BodyFault → Option ℕ → Type 
 BreaksFunc m f e None = BreaksHead m f e
 BreaksFunc m f e (Some number) = (number < length (operations f.body)) × BreaksBy m f number e
 
--- the same of the function with this number among those that have a body
+-- the rule is broken so in the function with this number among those that have a body
 abbrev pub BreaksNumbered : Contents → ℕ → ValidFault → Option ℕ → Type 0
 BreaksNumbered m number e at =
     (f : Func) × (slice_get m.functions number ≡ Some f) × (b : BodyFault) × (e ≡ fault_of b) × BreaksFunc m f b at
 
--- the rule of the fault is broken there; want of memory says nothing
+-- the rule of the fault is broken there; `Memory` says nothing
 abbrev pub BreaksAt : Contents → ValidFault → Site → Type 0
 BreaksAt m e (site.Section id) = BreaksSection m e id
 BreaksAt m e (site.Function number) = BreaksNumbered m number e None

@@ -15,8 +15,8 @@ pub fn typing_is_framed()
 {}
 
 /// A law, with nothing to run: composition (WebAssembly Core 1.0, 3.3.6). A sequence that leaves the types `top`
-/// over others, and behind it one that takes `top` to `to`, are together a sequence that leaves `to` over those
-/// others (`joins`). Where two sequences, one behind the other, are typed, each is: there are types that the first
+/// over others, and after it one that takes `top` to `to`, are together a sequence that leaves `to` over those
+/// others (`joins`). Where two sequences, one after another, are typed, each is: there are types that the first
 /// leaves and the second takes (`parts`).
 pub fn typed_sequences_compose()
     ensures joins { (c : Context) (first last : Code) (from top to below : List ValType) → Typed c first from (top ++ below) → Typed c last top to → Typed c (joined first last) from (to ++ below) }

@@ -69,7 +69,7 @@ pub struct BodyRefused {
 }
 
 impl BodyRefused {
-    /// The same of the function with this number.
+    /// This refusal, at the function with this number.
     pub fn in_function(self, function: usize) -> RefusedAt
         ensures same { result.fault ≡ fault_of self.fault }
         ensures placed { result.site ≡ site_in function self }

@@ -1,4 +1,4 @@
--- What the check of one instruction says of the operands before it and behind it.
+-- What the check of one instruction says of the operands before it and after it.
 use Rattle.std.specs.Prelude.{◌≡◌, ℕ, ◌+◌, List, [], ◌∷◌, length}
 use Rattle.syntax.specs.declared.types.ValType.{ValType}
 use Rattle.syntax.specs.declared.instruction.Instr.{Instr}
@@ -34,8 +34,8 @@ extent_of type height = record { params = length type.params; results = length t
 abbrev pub extent_at : Checker → Extent
 extent_at c = extent_of (innermost c.scope.contents.now c.frames) (length c.operands.below)
 
--- Whatever the operands behind the instruction stand for comes by it from something that those before it stand for,
--- and whatever comes by it from something that those before it stand for, those behind it stand for.
+-- Whatever the operands after the instruction stand for comes by it from something that those before it stand for,
+-- and whatever comes by it from something that those before it stand for, those after it stand for.
 pub record Checks (c : Context) (i : Instr) (before after : Held) : Type 0 where
   pub below : after.below ≡ before.below
   pub height : height_of after ≡ after_effect (length before.below) (height_of before) (effect_of c i)

@@ -15,7 +15,7 @@ use Rattle.validate.specs.Typing.{block_type}
 use Rattle.validate.specs.Height.{shape_of}
 use Rattle.validate.specs.Inner.Checking.{Passes}
 
--- a block begins: its parameters are taken from the block round it, and it begins with them
+-- a block begins: its parameters are taken from the block around it, and it begins with them
 pub record Enters (f : ControlFrame) (before after : Checker) : Type 0 where
   pub scope : after.scope ≡ before.scope
   pub frames : after.frames ≡ f ∷ before.frames
@@ -36,7 +36,7 @@ pub record Finishes (f : ControlFrame) (type : FuncType) (mid : Held) (before : 
   pub taken : Takes type.results before.operands mid
   pub empty : mid.own ≡ []
 
--- a block ends, and its results are left in the block round it
+-- a block ends, and its results are left in the block around it
 pub record Leaves (before after : Checker) : Type 0 where
   pub frame : ControlFrame
   pub scope : after.scope ≡ before.scope
@@ -58,7 +58,7 @@ pub record TurnsToElse (before after : Checker) : Type 0 where
   pub finished : Finishes frame type mid before
   pub operands : after.operands ≡ with_left type.params (held_of [] mid.below false)
 
--- each block began where the operands of the one round it stand
+-- each block began where the operands of the one around it stand
 abbrev pub AreStacked : List ControlFrame → ℕ → Type 0
 AreStacked [] base = Unit {0}
 AreStacked (f ∷ fs) base = (f.enclosing.base ≤ base) × AreStacked fs f.enclosing.base

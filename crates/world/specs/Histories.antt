@@ -1,4 +1,4 @@
--- What the log of a world tells of one loop: a history of what its owner did with it.
+-- What the log of a world shows of one loop: a history of what its owner did with it.
 use Rattle.std.specs.Prelude.{◌≡◌, ℕ, ◌==◌, Bool, true, false, List, [], ◌∷◌, Some, None, slice_get}
 use Rattle.std.specs.Int.{w32, cast_signed}
 use Rattle.phases.specs.Guests.{GuestCall}
@@ -14,7 +14,7 @@ use Rattle.world_log.specs.declared.outcome.CollectOutcome.TheVariants as collec
 use Rattle.world.specs.World.{World, HasLoop, opening_world, opening_loop, told_of}
 use Rattle.world.specs.Guests.{RunCalls}
 
--- the line tells what the owner of this loop did with it
+-- the line shows what the owner of this loop did with it
 abbrev pub is_of_owner : (l : ℕ) → LogEntry → Bool
 is_of_owner l (line.Entered n phase now) = n == l
 is_of_owner l (line.Ran n kind number ended emits) = n == l
@@ -28,7 +28,7 @@ is_of_owner l (line.Cancel n request answer) = n == l
 is_of_owner l (line.Clock n ms) = n == l
 is_of_owner l _ = false
 
--- the line by which an event of this loop is told; no step of a world makes a request of the owner's own
+-- the line of an event of this loop; no step of a world makes a request of the owner's own
 abbrev pub Tells : (l : ℕ) → LogEntry → Event → Type 0
 Tells l entry (Stepped did emits made) = entry ≡ told_of l did emits
 Tells l entry (OrderAsked None) = entry ≡ line.Post l post.Nothing
@@ -40,13 +40,13 @@ Tells l entry (RequestAnswered op bytes answer) = ⊥
 Tells l entry (ClockRaised ms) = (clock : ℕ) × (entry ≡ line.Clock l clock)
 Tells l entry MovedBeside = is_of_owner l entry ≡ false
 
--- each line tells its event
+-- each line shows its event
 abbrev pub AreTold : (l : ℕ) → List LogEntry → List Event → Type 0
 AreTold l [] [] = Unit {0}
 AreTold l (entry ∷ log) (e ∷ events) = Tells l entry e × AreTold l log events
 AreTold l _ _ = ⊥
 
--- A history of a loop from where it began, which the log tells, and in which the guest made these calls.
+-- A history of a loop from where it began, which the log shows, and in which the guest made these calls.
 pub record HasHistory (l : ℕ) (g : Setting) (start : Loop Desk) (log : List LogEntry) (made : List GuestCall)
     (now : Loop Desk) : Type 0 where
   pub events : List Event

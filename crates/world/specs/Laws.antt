@@ -22,7 +22,7 @@ use Rattle.world_log.specs.declared.outcome.CollectOutcome.TheVariants as collec
 use Rattle.world.specs.World.{World, WorldStep, WorldRun, HasLoop, opening_world, with_loop, told_of, Tells}
 use Rattle.world.specs.Guests.{StepCalls, RunCalls}
 
--- the entry tells an after-work callback of this loop and request
+-- the entry is an after-work callback of this loop and request
 abbrev pub is_after : (l request : ℕ) → LogEntry → Bool
 is_after l request (line.Ran n kind.After number ended emits) = (n == l) && (number == request)
 is_after l request _ = false
@@ -38,7 +38,7 @@ IsAfterOnce =
 abbrev pub WasCancelled : (l request : ℕ) → List LogEntry → List GuestCall → Type 0
 WasCancelled l request log made = Contains log (line.Cancel l request (pos 0)) ⊎ ((c : GuestCall) × Contains made c × IsCancel request c)
 
--- a line tells that the job of this loop and request was finished, and ended so
+-- a line says that the job of this loop and request was finished, and ended so
 abbrev pub WasFinished : (l request : ℕ) → WorkEnd → List LogEntry → Type 0
 WasFinished l request end log =
     (worker : ℕ) × (ending : JobEnd) × Tells ending end
@@ -59,7 +59,7 @@ pub record RunsAfter (w : World) (l : ℕ) (q : Request) (g : Setting) (completi
 
 -- The callback of this loop and request was given what is due to the order that the guest had asked for under that
 -- request's number, which is the very order of the request that the step removed: where it was not cancelled, the end that
--- the line tells by which its job was finished.
+-- the line of its job's finish says.
 pub record IsOwn (settings : List Setting) (log : List LogEntry) (made : List GuestCall) (w : World) (l number : ℕ) (entry : LogEntry)
     (w' : World) : Type 0 where
   pub setting : Setting
@@ -82,7 +82,7 @@ IsAfterOwn =
     → (request : ℕ) → is_after l request entry ≡ true
     → IsOwn settings log made w l request entry w'
 
--- from the callback on no cancel of its request is answered 0, in the callback or behind it
+-- from the callback on no cancel of its request is answered 0, in the callback or after it
 abbrev pub IsAfterLast : Type 0
 IsAfterLast =
     (settings : List Setting) (workers : ℕ) (steps : List Step) (log : List LogEntry) (w : World)
@@ -92,7 +92,7 @@ IsAfterLast =
     → (request : ℕ) → is_after l request entry ≡ true
     → WasCancelled l request (entry ∷ lines) (first ++ more) → ⊥
 
--- the line tells of the job of this loop and request: that it was posted, taken, begun, dropped, finished, collected
+-- the line says of the job of this loop and request: that it was posted, taken, begun, dropped, finished, collected
 abbrev pub is_of_job : (l request : ℕ) → JobId → Bool
 is_of_job l request job = (job.loop_no == l) && (job.request == request)
 
@@ -134,7 +134,7 @@ abbrev pub AreInPlace : List Setting → Type 0
 AreInPlace settings = (n : ℕ) (g : Setting) → slice_get settings n ≡ Some g → g.loop_no ≡ n
 
 -- In every run from an opening world each job goes its way so, of loops whose numbers are their places. Since a run's
--- beginnings are runs, each line of the way stands behind the one before it.
+-- beginnings are runs, each line of the way stands after the one before it.
 abbrev pub IsOneWay : Type 0
 IsOneWay =
     (settings : List Setting) (workers : ℕ) (steps : List Step) (log : List LogEntry) (w : World) → AreInPlace settings

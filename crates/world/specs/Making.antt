@@ -94,7 +94,7 @@ abbrev pub MayFault : World → Step → WorldFault → Type 0
 MayFault w s NoSuch = NamesNothing w s
 MayFault w s Memory = Unit {0}
 
--- the steps before a fault told this, and left this world
+-- the steps before a fault logged this, and left this world
 pub record Stops (w : World) (steps : List Step) (fault : WorldFault) (told : List LogEntry) (w' : World) : Type 0 where
   pub done : ℕ
   pub next : Step

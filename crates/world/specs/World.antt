@@ -84,7 +84,7 @@ with_worker w n state = record w { workers = slice_set w.workers n state }
 abbrev pub with_replies : World → ℕ → List Answer → World
 with_replies w n replies = record w { replies = slice_set w.replies n replies }
 
--- this is told, and nothing changes
+-- this is logged, and nothing changes
 abbrev pub Only : World → LogEntry → LogEntry → World → Type 0
 Only w entry told w' = (entry ≡ told) × (w' ≡ w)
 
@@ -92,7 +92,7 @@ Only w entry told w' = (entry ≡ told) × (w' ≡ w)
 abbrev pub UnlessFailed : World → ℕ → Loop Desk → LogEntry → World → Type 0 → Type 0
 UnlessFailed w n l entry w' goes_on = MatchBool (is_failed l.state.status) (Only w entry (line.Failed n) w') goes_on
 
--- what is told of a loop's step
+-- what is logged of a loop's step
 abbrev pub told_of : (n : ℕ) → StepDid → (emits : List ℕ) → LogEntry
 told_of n (did.Entered phase now) emits = line.Entered n phase now
 told_of n (did.Ran kind number ended) emits = line.Ran n kind number ended emits
@@ -112,7 +112,7 @@ pub record StepsLoop (w : World) (n : ℕ) (entry : LogEntry) (w' : World) : Typ
   pub told : entry ≡ told_of n did new.state.emits
   pub after : w' ≡ with_loop w n setting new
 
--- A failed loop is told first, then a full list, then that there is no order.
+-- A failed loop is logged first, then a full list, then that there is no order.
 abbrev pub PostsOrder : World → ℕ → Setting → Loop Desk → Option WorkOrder × State → LogEntry → World → Type 0
 PostsOrder w n g l (None, s) entry w' = Only w entry (line.Post n post.Nothing) w'
 PostsOrder w n g l (Some o, s) entry w' =
@@ -141,7 +141,7 @@ StartsJob w n (Taken o) entry w' =
     ((entry ≡ line.Start n (start.Dropped (job_of o))) × (w' ≡ with_worker w n Idle))
 StartsJob w n _ entry w' = Only w entry (line.Start n start.Nothing) w'
 
--- how an end is told
+-- how an end is logged
 abbrev pub Tells : JobEnd → WorkEnd → Type 0
 Tells (ending.Done told) (Done value bytes) = told ≡ value
 Tells (ending.Trap told) (Trap code) = trap_number told ≡ code
@@ -202,7 +202,7 @@ Clocks w n ms entry w' =
     × UnlessFailed w n l entry w'
     ((entry ≡ line.Clock n (after_clock l.state ms).clock) × (w' ≡ with_loop w n g (in_state l (after_clock l.state ms))))
 
--- one step, and what is told of it; a step of a loop, worker or async that is not there is none
+-- one step, and what is logged of it; a step of a loop, worker or async that is not there is none
 abbrev pub WorldStep : World → Step → LogEntry → World → Type 0
 WorldStep w (step.Loop n) entry w' = StepsLoop w n entry w'
 WorldStep w (step.Post n) entry w' = Posts w n entry w'
@@ -214,7 +214,7 @@ WorldStep w (step.Send n a) entry w' = SendsTo w n a entry w'
 WorldStep w (step.Cancel n request) entry w' = Cancels w n request entry w'
 WorldStep w (step.Clock n ms) entry w' = Clocks w n ms entry w'
 
--- some steps, one after another, and what is told of them
+-- some steps, one after another, and what is logged of them
 abbrev pub WorldRun : World → List Step → List LogEntry → World → Type 0
 WorldRun w [] [] w' = w' ≡ w
 WorldRun w (s ∷ steps) (entry ∷ entries) w' = (mid : World) × WorldStep w s entry mid × WorldRun mid steps entries w'

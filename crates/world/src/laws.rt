@@ -7,8 +7,8 @@ ghost use Rattle.world.specs.Laws.{IsAfterOnce, IsAfterOwn, IsAfterLast, IsOneWa
 use desk::Desk;
 
 /// In every run of a world the guest of each loop makes some calls, and each loop has a history of what its owner did with
-/// it, which the log tells. So each loop and request have at most one after-work callback. It is given what one thread computes from the request's own
-/// order, which the log's line tells by which its job was finished, or, where a cancel was answered 0, only its
+/// it, which the log shows. So each loop and request have at most one after-work callback. It is given what one thread computes from the request's own
+/// order, as the log's line of its job's end says, or, where a cancel was answered 0, only its
 /// cancellation; and from then on none is answered 0.
 pub fn after_once()
     ensures calls { EachRunCalls }
@@ -22,7 +22,7 @@ pub fn after_once()
 
 /// In every run of a world, of loops whose numbers are their places, each job goes its way at most once and in order:
 /// it is posted, taken, begun or dropped, and where it was begun finished and collected. Where a cancel of its request
-/// was answered 0, it is not begun, before or behind the cancel.
+/// was answered 0, it is not begun, before or after the cancel.
 pub fn one_way()
     ensures way { IsOneWay }
     ensures cancelled { IsCancelledOrBegun }
@@ -31,7 +31,7 @@ pub fn one_way()
 }
 
 /// A run of some steps, and a run of more from the world in which it ended, are one run of them all. So a world that
-/// stopped with a fault and went on has one run behind it.
+/// stopped with a fault and went on has one run after it.
 pub fn runs_join()
     ensures { RunsJoin }
 {}

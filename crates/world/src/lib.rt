@@ -2,7 +2,7 @@
 //! that takes them.
 //!
 //! `World::new` gives the opening world, and `World::run` takes a list of steps; by its contract world and log are those of the
-//! definition's run, and on a fault those of the steps before it. `laws::after_once` says what every run tells of a request.
+//! definition's run, and on a fault those of the steps before it. `laws::after_once` says what holds of a request in every run.
 //!
 //! Begin with `specs/World.antt` (one step) and `specs/Laws.antt`.
 #![tactic(auto)]

@@ -75,7 +75,7 @@ impl Model for World {
     ghost invariant = { λ a. IsKept a.loops.items a.jobs.items a.workers.items (length a.replies.items) (deque_capacity a.jobs) };
 }
 
-/// What a log tells of a loop's step, of which these are the values that its callback put out.
+/// What a log has of a loop's step, of which these are the values that its callback emitted.
 pub fn told(loop_no: u32, did: StepDid, emits: Items<u64>) -> LogEntry
     ensures { result ≡ told_of loop_no did emits }
 {
@@ -115,7 +115,7 @@ fn job_of(order: &Order) -> JobId
     }
 }
 
-/// How an outcome is told.
+/// How an outcome is logged.
 fn ending_of(outcome: &Outcome) -> JobEnd
     ensures { Tells result (end_of outcome.now) }
 {
@@ -230,7 +230,7 @@ impl World {
         })
     }
 
-    /// Where the last callback of a loop stopped, if it was over but by return: at which operation, and within which calls.
+    /// Where the last callback of a loop stopped, unless it returned: at which operation, and within which calls.
     /// Of a loop that has failed, this stays.
     pub fn last_stop(&self, loop_no: u32) -> Option<Stop<'_>>
         ensures { IfSome result (StopsIn self.now loop_no) }
@@ -246,7 +246,7 @@ impl World {
         self.undone.as_slice()
     }
 
-    /// Takes these steps one after another, and writes what each did behind the log. It stops at a step that names a
+    /// Takes these steps one after another, and writes what each did after the log. It stops at a step that names a
     /// loop, a worker or an async that is not there, by `NoSuch`, and at one for which there is no memory, by `Memory`:
     /// world and log are then as the steps before it left them.
     pub fn run(&mut self, steps: &[Step], log: &mut Log) -> Result<(), WorldFault>

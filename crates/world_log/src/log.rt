@@ -37,7 +37,7 @@ impl Log {
         }
     }
 
-    /// Makes room for one more entry, and changes none. `AllocError` comes only where memory is refused.
+    /// Makes room for one more entry, and changes none. `AllocError` comes only if memory is refused.
     pub fn reserve(&mut self) -> Result<(), AllocError>
         ensures entries { self.new.entries ≡ self.old.entries }
         ensures room { OnOk result (1 ≤ self.new.room) }
@@ -45,7 +45,7 @@ impl Log {
         self.entries.reserve(1)
     }
 
-    /// Writes an entry behind the others, where there is room for it.
+    /// Writes an entry after the others, where there is room for it.
     pub fn push_reserved(&mut self, entry: LogEntry)
         requires room { 1 ≤ self.old.room }
         ensures { self.new.entries ≡ self.old.entries ++ entry ∷ [] }
@@ -53,7 +53,7 @@ impl Log {
         self.entries.push_reserved(entry);
     }
 
-    /// Writes an entry behind the others. `AllocError` comes only where memory is refused: the entries are as they were.
+    /// Writes an entry after the others. `AllocError` comes only if memory is refused: the entries are as they were.
     pub fn push(&mut self, entry: LogEntry) -> Result<(), AllocError>
         ensures written { OnOk result (self.new.entries ≡ self.old.entries ++ entry ∷ []) }
         ensures unchanged { OnErr result (self.new.entries ≡ self.old.entries) }

@@ -19,7 +19,7 @@ pub struct Invocation {
     pub fuel: u64,
     /// How many calls may stand open, 1 to `MAX_DEPTH`.
     pub depth: u32,
-    /// Whether it is told what was used.
+    /// Whether what was used is reported.
     pub is_traced: bool,
     pub ghost depth_in_range: { (1 ≤ depth) × (depth ≤ MAX_DEPTH) },
 }
@@ -59,7 +59,7 @@ pub struct WorkRequest {
     pub fuel: u64,
     /// How many calls may stand open, 1 to `MAX_DEPTH`.
     pub depth: u32,
-    /// Whether it is told what was used.
+    /// Whether what was used is reported.
     pub is_traced: bool,
     pub ghost depth_in_range: { (1 ≤ depth) × (depth ≤ MAX_DEPTH) },
     pub ghost short: { spelled_count input ≤ MAX_BYTES },
@@ -76,7 +76,7 @@ pub struct Service {
     pub workers: u32,
     /// What each loop may spend.
     pub settings: LoopSettings,
-    /// Whether it is told what loops and workers do, as they do it.
+    /// Whether what loops and workers do is reported, as they do it.
     pub is_traced: bool,
     pub ghost few_loops: { (1 ≤ loops) × (loops ≤ MAX_LOOPS) },
     pub ghost few_workers: { (1 ≤ workers) × (workers ≤ MAX_WORKERS) },

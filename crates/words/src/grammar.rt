@@ -7,7 +7,7 @@ const FUEL_HELP: &str = "How many instructions may run, 0 to 2^64 - 1";
 
 const USED_HELP: &str = "Tells on standard error what was used";
 
-/// The option that asks to be told what happens.
+/// The option that asks for a report of what happens.
 pub(crate) const TRACE: &str = "trace";
 
 /// The option that names a file to read the bytes of a work order from.
@@ -132,7 +132,7 @@ fn trace_option<'a>(alloc: Global, help: &'a str) -> Arg<'a> {
         .help(help)
 }
 
-/// A count of threads, which has to be told.
+/// A count of threads, which is required.
 fn count_option<'a>(alloc: Global, name: &'a str, help: &'a str) -> Arg<'a> {
     wanted(alloc, name, "N", help)
         .long(name)

@@ -1,4 +1,4 @@
-//! The words of the command line: `parse` reads them as a `Command`, or tells why they are none.
+//! The words of the command line: `parse` reads them as a `Command`, or says why they are none.
 //!
 //! Nothing here runs anything. A number is decimal digits alone, so no sign and no blank, and `decimal` is exact. What a
 //! command may ask for (its depth, its loops and workers, the length of its bytes) is within its bounds by type. Begin with

@@ -1,4 +1,4 @@
-// Numbers, as they are told.
+// Numbers, as they are printed.
 
 use std::fmt;
 

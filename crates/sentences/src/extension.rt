@@ -14,7 +14,7 @@ fn named(name: &'static str, help: &'static str) -> Extension {
     Extension { name, help }
 }
 
-/// What operations begin so. The byte behind the opcode decides where it stands for operations of several.
+/// What operations begin so. The byte after the opcode decides where it stands for operations of several.
 pub fn of_operation(bytes: &[u8], at: usize) -> Option<Extension> {
     let behind = bytes.get(at.checked_add(1)?);
     Some(match (*bytes.get(at)?, behind) {

@@ -77,7 +77,7 @@ fn told(alloc: Global, fault: ScriptFault, text: &str, flaw: Flaw<'_>) -> Option
     format!(in alloc; "line {line}, column {column}: {flaw}").ok()
 }
 
-/// A number may be told out of its range only once the modules are counted, so that a second walk may find what the first did not.
+/// A number is known to be out of its range only once the modules are counted, so that a second walk may find what the first did not.
 fn walked(alloc: Global, fault: ScriptFault, text: &str) -> Option<String> {
     let mut modules = None;
     for _ in 0..2 {
@@ -97,7 +97,7 @@ fn walked(alloc: Global, fault: ScriptFault, text: &str) -> Option<String> {
     None
 }
 
-/// Where the text has the fault and what is found there, in words, where there is memory to tell. It reads the text anew.
+/// Where the text has the fault and what is found there, in words, where there is memory for them. It reads the text anew.
 pub fn script_fault(alloc: Global, fault: ScriptFault, text: &str) -> Option<String> {
     match fault {
         ScriptFault::Json => no_json(alloc, text),

@@ -12,7 +12,7 @@ use places::{
     TABLES, TYPES, count_in, cut_short, first_newer, is_in_count, is_in_locals, name_of, sizes_of,
 };
 
-/// The version of a component, behind the magic number.
+/// The version of a component, after the magic number.
 const COMPONENT: &[u8] = &[0x0d, 0, 1, 0];
 
 fn more_than(most: u32, things: &'static str) -> Reason {
@@ -24,7 +24,7 @@ fn newer(byte: u8, what: Extension) -> Reason {
     Reason::byte(byte, what.name).with(what.help)
 }
 
-/// Whether the bytes begin as the text format does: with a bracket or a comment behind blanks.
+/// Whether the bytes begin as the text format does: with a bracket or a comment after blanks.
 fn is_text(bytes: &[u8]) -> bool {
     let first = bytes
         .iter()

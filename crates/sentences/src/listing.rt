@@ -36,7 +36,7 @@ impl Listing {
         Ok(())
     }
 
-    /// The names in a row, and behind them how many more there are.
+    /// The names in a row, and after them how many more there are.
     pub fn finish(self) -> Result<String, AllocError> {
         if self.count <= MOST {
             return Ok(self.text);

@@ -10,7 +10,7 @@ use syntax::types::ValType;
 /// Why words are not the arguments of a function.
 #[derive(Drop)]
 pub enum Mismatch<'a> {
-    /// The function takes so many arguments, but so many words are given. The types are told where there is memory for
+    /// The function takes so many arguments, but so many words are given. The types are named where there is memory for
     /// them.
     Count {
         taken: usize,

@@ -8,7 +8,7 @@ struct Nesting {
     /// How many lists and objects are open.
     depth: usize,
     is_in_string: bool,
-    /// Whether a backslash stands in front.
+    /// Whether a backslash stands before the next byte.
     is_escaped: bool,
 }
 

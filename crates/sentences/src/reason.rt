@@ -38,7 +38,7 @@ enum Found {
     },
 }
 
-/// What helps, or what is known besides.
+/// What helps, or what else is known.
 #[derive(Debug, Drop)]
 enum Help {
     Nothing,
@@ -46,7 +46,7 @@ enum Help {
     Told(String),
 }
 
-/// Why bytes are refused. It prints as words, with what helps behind them in brackets.
+/// Why bytes are refused. It prints as words, with what helps after them in brackets.
 #[derive(Debug, Drop)]
 pub struct Reason {
     found: Found,
@@ -128,7 +128,7 @@ impl Reason {
         }
     }
 
-    /// With what is known besides.
+    /// With what else is known.
     pub fn with_told(self, told: String) -> Reason {
         Reason {
             found: self.found,

@@ -1,4 +1,4 @@
-// What is told of a refusal.
+// What is said of a refusal.
 
 use crate::help::LINKED;
 use crate::invalid::invalid;
@@ -11,7 +11,7 @@ use places::{Place, is_object};
 use std::alloc::Global;
 use std::fmt;
 
-/// What is told of a refusal: where it is, as far as that is known, and why. It prints as a sentence.
+/// What is said of a refusal: where it is, as far as that is known, and why. It prints as a sentence.
 #[derive(Debug, Drop)]
 pub struct Account {
     pub place: Option<Place>,
@@ -51,7 +51,7 @@ pub fn explain(refusal: Refusal, alloc: Global, bytes: &[u8]) -> Account {
     Account { place, reason }
 }
 
-/// Where these bytes are refused so, as `explain` tells it.
+/// Where these bytes are refused so, as `explain` says it.
 pub fn place_of(refusal: Refusal, alloc: Global, bytes: &[u8]) -> Option<Place> {
     explain(refusal, alloc, bytes).place
 }

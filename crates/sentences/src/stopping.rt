@@ -1,4 +1,4 @@
-// Where a run stopped that did not return, told in a sentence.
+// Where a run stopped that did not return, in a sentence.
 
 use events::ended::{Ended, Ending};
 use events::trap::TrapCode;
@@ -75,7 +75,7 @@ pub struct Stopped<'a> {
     pub allowed: Allowed,
 }
 
-/// How a work function ended, as a log tells it.
+/// How a work function ended, as a log has it.
 pub fn ending_of(outcome: &Outcome) -> JobEnd {
     match outcome {
         Outcome::Done(value, _) => JobEnd::Done(*value),
@@ -130,7 +130,7 @@ impl<'a> Stopped<'a> {
     }
 }
 
-/// In what so much fuel is told.
+/// The unit in which fuel is printed.
 pub fn unit_of(fuel: u64) -> &'static str {
     if fuel == 1 { "unit" } else { "units" }
 }
@@ -198,7 +198,7 @@ fn write_function<E: Write>(bytes: &[u8], function: u64, err: &mut E) -> io::Res
     }
 }
 
-/// Writes the operation at which a run stopped, behind these words.
+/// Writes the operation at which a run stopped, after these words.
 fn write_innermost<E: Write>(
     bytes: &[u8],
     site: Site,
@@ -282,7 +282,7 @@ fn write_cause<E: Write>(reason: Reason, err: &mut E) -> io::Result<()> {
     }
 }
 
-/// Tells where a run of a module of these bytes stopped, behind these words: the operation, and the calls around it.
+/// Says where a run of a module of these bytes stopped, after these words: the operation, and the calls around it.
 pub fn tell_place<E: Write>(
     bytes: &[u8],
     trail: &Trail,

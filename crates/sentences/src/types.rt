@@ -1,4 +1,4 @@
-// Types, as they are told.
+// Types, as they are printed.
 
 use std::fmt;
 use syntax::types::ValType;

@@ -60,7 +60,7 @@ fn of_export(alloc: Global, contents: &Contents, export: &ModuleExport) -> Optio
     format!(in alloc; "a function of type {wanted} is wanted").ok()
 }
 
-/// Whether so many elements or bytes from this offset on end behind the room, and where.
+/// Whether so many elements or bytes from this offset on end beyond the room, and where.
 fn end_behind(room: u64, offset: &Body, count: usize) -> Option<u64> {
     let Token::Plain(Instr::Const(Value::I32(start))) = offset.as_slice().first()?.operation()
     else {
@@ -70,7 +70,7 @@ fn end_behind(room: u64, offset: &Body, count: usize) -> Option<u64> {
     if end > room { Some(end) } else { None }
 }
 
-/// The first element segment that ends behind the table.
+/// The first element segment that ends beyond the table.
 fn of_elements(alloc: Global, contents: &Contents) -> Option<String> {
     let room = contents.table.map_or(0, |limits| u64::from(limits.min));
     for (number, element) in contents.elements.as_slice().iter().enumerate() {
@@ -83,7 +83,7 @@ fn of_elements(alloc: Global, contents: &Contents) -> Option<String> {
     None
 }
 
-/// The first data segment that ends behind the memory.
+/// The first data segment that ends beyond the memory.
 fn of_data(alloc: Global, contents: &Contents) -> Option<String> {
     let pages = contents.memory.map_or(0, |limits| u64::from(limits.min));
     let room = pages.saturating_mul(PAGE_SIZE as u64);
@@ -129,7 +129,7 @@ fn part_of(
     })
 }
 
-/// What of the module doesn't fit the host, and what is known besides.
+/// What of the module doesn't fit the host, and what else is known.
 pub fn unlinked(alloc: Global, bytes: &[u8], fault: LinkFault) -> Option<(Place, Option<Reason>)> {
     let valid = validated(alloc, bytes).ok()?;
     let (place, told) = part_of(alloc, bytes, valid.contents(), refused_at(&valid)?, fault)?;

@@ -330,7 +330,7 @@ impl<'a> Walk<'a> {
         Ok(())
     }
 
-    /// The numbers behind the name of a step, to the end of the step.
+    /// The numbers after the name of a step, to the end of the step.
     fn numbers(&mut self, part: Part, name: &'a str, names: Names) -> Result<(), Flaw<'a>> {
         let at = self.reader.offset();
         let taken = names.count();

@@ -19,7 +19,7 @@ Holds gives name contents = (bytes : List ℕ) × gives name enough bytes × IsA
 abbrev pub IsLoaded : (List ℕ → ℕ → List ℕ → Type 0) → List ℕ → Loaded → Type 0
 IsLoaded gives name loaded = gives name enough loaded.bytes × IsAccepted loaded.bytes loaded.contents
 
--- there is a reason other than want of memory for which these bytes are no guest
+-- there is a reason other than out of memory for which these bytes are no guest
 pub record AreRefused (bytes : List ℕ) : Type 0 where
   pub refusal : Refusal
   pub known : refusal ≢ Memory

@@ -41,7 +41,7 @@ pub record IsPlanned (modules : List Loaded) (loop_no : ℕ) (planned : LoopPlan
   pub work_fuel : g.work_fuel ≡ planned.settings.work_fuel
   pub depth : g.depth ≡ planned.settings.depth
 
--- the same of each, in order, with numbers from here on
+-- each is planned so, in order, with numbers from here on
 abbrev pub ArePlanned : List Loaded → (from : ℕ) → List LoopPlan → List Setting → Type 0
 ArePlanned modules from [] [] = Unit {0}
 ArePlanned modules from (p ∷ ps) (g ∷ gs) = IsPlanned modules from p g × ArePlanned modules (from + 1) ps gs
@@ -56,7 +56,7 @@ pub record IsWorldOf (plan : Plan) (world : World) : Type 0 where
   pub loops : ArePlanned modules 0 plan.loops.items settings
   pub opens : world ≡ opening_world settings plan.workers
 
--- the line tells of no callback that ended otherwise than by return
+-- the line is of no callback that did not return
 abbrev pub TellsNoFailure : LogEntry → Type 0
 TellsNoFailure (Ran loop_no kind number ended emits) = HasReturned ended.ending
 TellsNoFailure _ = Unit {0}

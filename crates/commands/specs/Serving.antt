@@ -21,7 +21,7 @@ asked_loop service loaded loop_no = record {
 abbrev pub HasNotFailed : Served → Type 0
 HasNotFailed served = served.ending ≢ Failed
 
--- There is an answer for each loop that was asked for, each tells a history of its loop from its opening, and none that
+-- There is an answer for each loop that was asked for, each reports a history of its loop from its opening, and none that
 -- the loop failed.
 pub record AreServed (service : Service) (loaded : Loaded) : Type 0 where
   pub served : List Served

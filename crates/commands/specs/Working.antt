@@ -1,4 +1,4 @@
--- What comes of a work order, and how its end is told.
+-- What comes of a work order, and how its end is reported.
 use Rattle.std.specs.Prelude.{◌≡◌, ◌≤◌, ℕ, ◌+◌, List, [], ◌∷◌, ◌++◌, length, codes, decimal, string_bytes, Option, false}
 use Rattle.std.specs.List.{join_with_byte}
 use Rattle.std.specs.Io.KnownBytes.{Appends}
@@ -41,11 +41,11 @@ abbrev pub digits_words : List ℕ → List (List ℕ)
 digits_words [] = []
 digits_words (byte ∷ bytes) = encode_lower (byte ∷ bytes) ∷ []
 
--- the words that tell a value, which is signed, and so many bytes
+-- the words that report a value, which is signed, and so many bytes
 abbrev pub done_words : (value count : ℕ) → (digits : List (List ℕ)) → List (List ℕ)
 done_words value count digits = codes "done" ∷ signed_i32 value ∷ codes "bytes" ∷ decimal count ∷ digits
 
--- the words that tell an end
+-- the words that report an end
 abbrev pub end_words : WorkEnd → List (List ℕ)
 end_words (Done value bytes) = done_words value (length bytes) (digits_words bytes)
 end_words (Trap code) = codes "trap" ∷ decimal code ∷ []
@@ -97,7 +97,7 @@ IsSaid (output.File name) before after end = after ≡ before
 IsSaid output.Standard before after end = Appends before after (short_line end)
 
 -- The file's module is accepted, one thread computes from the order and the input a value and bytes and nothing else, and these
--- were written where the words say. What was used is told besides, if that is asked for.
+-- were written where the words say. What was used is also reported, if that is asked for.
 pub record HasWorked (gives : List ℕ → ℕ → List ℕ → Type 0) (takes : List ℕ → List ℕ → Type 0)
     (out_before out_after err_before err_after : Option (List ℕ)) (work : WorkRequest) : Type 0 where
   pub read : List ℕ

@@ -48,12 +48,12 @@ pub enum Failure<'a> {
         refusal: Refusal,
         site: Site,
     },
-    /// The file is no script. Where and why is told where that is known, and where there is memory for it.
+    /// The file is no script. Where and why is said if that is known, and if there is memory for it.
     Script {
         fault: ScriptFault,
         told: Option<String>,
     },
-    /// The module exports no function of this name. Those that it exports are told where there is memory for them.
+    /// The module exports no function of this name. Those that it exports are named if there is memory for them.
     NoFunction {
         name: &'a str,
         there: Option<String>,
@@ -193,14 +193,14 @@ impl fmt::Display for Failure<'_> {
     }
 }
 
-/// A world is refused for want of memory alone.
+/// A world is refused only if memory runs out.
 impl From<WorldFault> for Failure<'_> {
     fn from(_fault: WorldFault) -> Self {
         Failure::Memory
     }
 }
 
-/// A linked module's segments fit, so that its instance fails for want of memory alone.
+/// A linked module's segments fit, so its instance fails only if memory runs out.
 impl From<InstFault> for Failure<'_> {
     fn from(_fault: InstFault) -> Self {
         Failure::Memory

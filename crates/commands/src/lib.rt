@@ -4,7 +4,7 @@
 //! a module that is decoded, valid and linked; the function that `invoke` called returned; `work` wrote the line of a value and
 //! bytes, which are the one end of its order; `script` took all steps, every callback returned, and the text of the log was
 //! written; and no loop that `serve` ran has failed. Of `check` it says too that with 3 the file is refused, and of `work` which
-//! end was told with 4. Begin with `perform`.
+//! end was reported with 4. Begin with `perform`.
 //!
 //! What a status says is `specs/Inner/Statuses.antt`, and what each command has done `specs/Performing.antt`. Each command has a module of
 //! its own (`calling`, `working`, `scripting`, `serving`); files are read through `Reader`, which `SystemFiles` is for the program.

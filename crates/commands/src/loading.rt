@@ -14,7 +14,7 @@ use loader::Refusal;
 use sentences::explain;
 use std::alloc::Global;
 
-/// One byte more than a module may have: whatever comes behind it changes no answer.
+/// One byte more than a module may have: whatever comes after it changes no answer.
 const ENOUGH: usize = MAX_MODULE_BYTES + 1;
 
 fn site_of(alloc: Global, bytes: &[u8], refusal: Refusal) -> Site {

@@ -140,7 +140,7 @@ fn trace<E: Write>(invocation: &Invocation, called: &Called, err: &mut E) -> io:
     tell_used(ended.used, invocation.fuel, err)
 }
 
-/// Calls the function of the module that the words name, and tells how it ended.
+/// Calls the function of the module that the words name, and reports how it ended.
 fn call_and_tell<'a, O: Write, E: Write>(
     alloc: Global,
     valid: &Valid,
@@ -159,7 +159,7 @@ fn call_and_tell<'a, O: Write, E: Write>(
     Ok(status)
 }
 
-/// Calls an exported function of the file's module, and tells how it ended.
+/// Calls an exported function of the file's module, and reports how it ended.
 fn invoke<'a, R: Reader, O: Write, E: Write>(
     alloc: Global,
     invocation: &'a Invocation,
@@ -213,7 +213,7 @@ fn tell<O: Write, E: Write>(failure: &Failure<'_>, is_raw: bool, out: &mut O, er
     status
 }
 
-/// What the program ends with. Why there is no result is told.
+/// What the program ends with. Why there is no result is reported.
 fn status_from<O: Write, E: Write>(
     ended: Result<Status, Failure<'_>>,
     is_raw: bool,
@@ -278,7 +278,7 @@ fn run<
 /// Performs the command. Results are written to `out`, and messages to `err`. `make` makes the job of an order.
 ///
 /// The answer is what the program ends with: 0 done; 1 the file, the memory or the output stood in the way; 2 the
-/// words ask for what isn't there; 3 the module is refused; 4 the call ended otherwise than by return, or a loop failed.
+/// words ask for what isn't there; 3 the module is refused; 4 the call did not return, or a loop failed.
 pub fn perform<
     H: Threads + Wait + Sync,
     M: Fn(Task) -> Result<J, AllocError> + Sync,

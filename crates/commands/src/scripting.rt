@@ -80,7 +80,7 @@ fn module_of(alloc: Global, bytes: &[u8]) -> Result<Arc<Linked, Global>, Failure
     Ok(Arc::new(alloc, linked)?)
 }
 
-/// A refused module is told with its number.
+/// A refused module is reported with its number.
 fn numbered(number: usize, failure: Failure<'static>) -> Failure<'static> {
     match failure {
         Failure::Refused { refusal, site, .. } => Failure::Refused {
@@ -154,7 +154,7 @@ fn world_of(alloc: Global, plan: &Plan) -> Result<World, Failure<'static>>
     Ok(World::new(alloc, config)?)
 }
 
-/// Not of a callback that ended otherwise than by return, so that its loop failed.
+/// Not of a callback that did not return, so its loop failed.
 fn tells_no_failure(entry: &LogEntry) -> bool
     ensures { IsTrue result ↔ TellsNoFailure entry.now }
 {
@@ -164,7 +164,7 @@ fn tells_no_failure(entry: &LogEntry) -> bool
     }
 }
 
-/// Done, where no callback ended otherwise than by return.
+/// Done, if every callback returned.
 fn status_of(log: &Log) -> Status
     ensures { (result ≡ Status.Done) ↔ All TellsNoFailure log.now.entries }
 {
@@ -204,7 +204,7 @@ fn explain_fault<E: Write>(
     }
 }
 
-/// Says why the step behind those of the log was not taken. A sentence that can't be written changes nothing.
+/// Says why the step after those of the log was not taken. A sentence that can't be written changes nothing.
 fn explain_stop<E: Write>(fault: WorldFault, plan: &Plan, log: &Log, err: &mut E) {
     let number = log.entries().len();
     if let Some(step) = plan.steps.as_slice().get(number).copied() {
@@ -300,7 +300,7 @@ fn explain_log<E: Write>(world: &World, plan: &Plan, log: &Log, err: &mut E) -> 
     Ok(())
 }
 
-/// Takes the steps, and prints what each did. A step that isn't taken is told to `err`, and where runs
+/// Takes the steps, and prints what each did. A step that isn't taken is reported to `err`, and where runs
 /// stopped that did not return.
 fn take_steps<O: Write, E: Write>(
     alloc: Global,
@@ -335,7 +335,7 @@ fn counts_of(plan: &Plan) -> Counts {
 }
 
 /// Takes the steps of a script, and prints what each did. A step that names what is not there, or for which there is
-/// no memory, is told behind the steps before it. Done, where all steps were taken and every callback returned.
+/// no memory, is reported after the steps before it. Done, where all steps were taken and every callback returned.
 pub fn script<'a, R: Reader, O: Write, E: Write>(
     alloc: Global,
     file: &'a str,

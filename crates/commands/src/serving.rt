@@ -57,7 +57,7 @@ fn status_of(served: &[Served]) -> Status
     Status::Ended
 }
 
-/// The module of the file, to be shared. What it lacks is told.
+/// The module of the file, to be shared. What it lacks is reported.
 fn shared<'a, R: Reader, E: Write>(
     alloc: Global,
     reader: &R,
@@ -71,7 +71,7 @@ fn shared<'a, R: Reader, E: Write>(
     Ok(Arc::new(alloc, linked)?)
 }
 
-/// Runs loops of the module and workers. What the loops do is told to `err`, if that is asked for.
+/// Runs loops of the module and workers. What the loops do is reported to `err`, if that is asked for.
 fn run_loops<
     H: Threads + Wait + Sync,
     M: Fn(Task) -> Result<J, AllocError> + Sync,
@@ -131,7 +131,7 @@ fn serve_module<
     Ok(status)
 }
 
-/// Runs loops of the file's module and workers in threads, and tells what each loop did once all have ended. Whatever the
+/// Runs loops of the file's module and workers in threads, and reports what each loop did once all have ended. Whatever the
 /// lines need of memory is there before the first loop begins.
 pub fn serve_file<
     'a,

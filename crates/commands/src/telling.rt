@@ -1,4 +1,4 @@
-// Why the loops that were served ended as they did, told in sentences.
+// Why the loops that were served ended as they did, in sentences.
 
 use events::phase::EntryKind;
 use imports::EntryPoint;

@@ -1,4 +1,4 @@
-// What is told where it is asked for: what was used, and what loops and workers do, as they do it.
+// What is reported if it is asked for: what was used, and what loops and workers do, as they do it.
 
 use events::did::StepDid;
 use order::Reply;

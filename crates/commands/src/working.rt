@@ -324,7 +324,7 @@ fn say_more<E: Write>(told: &Told, work: &WorkRequest, err: &mut E)
     trace(told, work, err);
 }
 
-/// Lets the module of the file compute the reply of a work order, and tells what came of it. Done, where that is a value
+/// Lets the module of the file compute the reply of a work order, and reports what came of it. Done, where that is a value
 /// and bytes. The input is read first.
 pub fn work<'a, F: Reader + Writer, O: Write, E: Write>(
     alloc: Global,

@@ -29,6 +29,6 @@ pub record EndsAfterOnce (g : Setting) (ending : LoopEnding) (emits : List ℕ) 
   pub last : (request : ℕ) (before behind : List Event) (e : Event) → ended.done.events ≡ before ++ e ∷ behind → is_after_event request e ≡ true
       → WasCancelled request (e ∷ behind) → ⊥
 
--- So has each loop that was served, as its answer tells.
+-- So has each loop that was served, as its answer shows.
 abbrev pub IsServedAfterOnce : Type 0
 IsServedAfterOnce = (g : Setting) (served : Served) → IsServed g served → ∥ EndsAfterOnce g served.ending served.emits.items ∥₁

@@ -6,7 +6,7 @@ use Rattle.serve.specs.declared.served.Served.{Served}
 use Rattle.serve.specs.declared.serving.Serving.{Serving}
 use Rattle.serve.specs.Histories.{HasEnded, thread_calls, setting_at}
 
--- The answer has the loop's number, and the loop has a history over its seats from its opening, in which its callbacks put out just
+-- The answer has the loop's number, and the loop has a history over its seats from its opening, in which its callbacks emitted just
 -- these values and at whose end it has ended so.
 pub record IsServed (g : Setting) (s : Served) : Type 0 where
   pub numbered : s.loop_no ≡ g.loop_no

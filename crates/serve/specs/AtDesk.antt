@@ -8,11 +8,11 @@ use Rattle.serve.specs.declared.served.Served.{Served}
 use Rattle.serve.specs.Answers.{IsServed}
 use Rattle.serve.specs.Histories.{HasEnded}
 
--- So does a loop end at a desk at which nothing was done, as others move there between its calls.
+-- A history over a new desk, where others move between the loop's calls, ends so.
 pub record EndsAtDesk (g : Setting) (ending : LoopEnding) (emits : List ℕ) : Type 0 where
   pub ended : HasEnded busy_calls g ending emits
   pub fresh : ended.done.start.shared ≡ new_desk g.loop_no
 
--- What a loop is served with, it ends with at a desk.
+-- What `serve` answers of a loop, such a history ends with.
 abbrev pub IsServedAtDesk : Type 0
 IsServedAtDesk = (g : Setting) (served : Served) → IsServed g served → ∥ EndsAtDesk g served.ending served.emits.items ∥₁

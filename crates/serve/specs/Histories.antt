@@ -67,7 +67,7 @@ module _ {S : Type 0} (calls : Calls S) (g : Setting) where
   IsSentAlone now =
       (a : ℕ) → slice_index (calls.view now.shared).taken a + slice_index (calls.view now.shared).untaken a ≡ slice_index (calls.view now.shared).own a
 
-  -- A history of a loop of this setting from its opening, in which so many callbacks ran and put out these values, in order, and
+  -- A history of a loop of this setting from its opening, in which so many callbacks ran and emitted these values, in order, and
   -- nobody else sent to the loop.
   pub record HasDone (now : Loop S) (ran : ℕ) (emits : List ℕ) : Type 0 where
     pub start : Loop S
@@ -103,7 +103,7 @@ module _ {S : Type 0} (calls : Calls S) where
   EndsBy ending.Waiting now ran = IsWaiting now
   EndsBy ending.Limit now ran = ran ≡ MAX_CALLBACKS
 
--- A history of a loop of this setting from its opening, in which its callbacks put out these values, in order, and at
+-- A history of a loop of this setting from its opening, in which its callbacks emitted these values, in order, and at
 -- whose end the loop has ended so.
 pub record HasEnded {S : Type 0} (calls : Calls S) (g : Setting) (ending : LoopEnding) (emits : List ℕ) : Type 0 where
   pub now : Loop S
@@ -112,7 +112,7 @@ pub record HasEnded {S : Type 0} (calls : Calls S) (g : Setting) (ending : LoopE
   pub done : HasDone calls g now ran emits
   pub ends : EndsBy calls ending now ran
 
--- the same of some loop of this number, over its seats
+-- some loop of this number has ended so, over its seats
 pub record HasServed (loop_no : ℕ) (ending : LoopEnding) (emits : List ℕ) : Type 0 where
   pub setting : Setting
   pub numbered : setting.loop_no ≡ loop_no

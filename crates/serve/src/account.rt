@@ -48,7 +48,7 @@ impl Drop for Account {
     }
 }
 
-/// The same order once more.
+/// A copy of an order.
 fn copy_of(order: &Order) -> Result<Order, AllocError> {
     Ok(Order {
         loop_no: order.loop_no,
@@ -106,7 +106,7 @@ impl Account {
         }
     }
 
-    /// After a callback that did not return no other runs, so only such a one changes how the last ended.
+    /// A loop fails with the first callback that doesn't return, so `stopped` is set once at most.
     fn run(&mut self, callback: Callback, ended: BareEnded) {
         self.in_row = if self.last == Some(callback) {
             self.in_row.saturating_add(1)
@@ -169,7 +169,7 @@ impl Account {
         self.work.most()
     }
 
-    /// That to which tasks tell what they use.
+    /// The meter to which tasks report the fuel that they use.
     pub(crate) fn meter(&self) -> Result<Meter, AllocError> {
         self.work.shared()
     }

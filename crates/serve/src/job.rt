@@ -15,7 +15,7 @@ use std::sync::Wait;
 /// What makes jobs is a type parameter of what serves, and a bound on it can't name a job that is a box of a closure.
 /// So what jobs it makes is a type parameter too.
 pub trait Job: Drop {
-    /// Works on the jobs of the board until it is closed, and tells what is done with each.
+    /// Works on the jobs of the board until it is closed, and reports what is done with each.
     fn work<R: Wait, W: Watch>(
         rt: &R,
         board: &Board<Self>,

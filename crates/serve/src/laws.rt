@@ -11,7 +11,7 @@ use pool::Seats;
 /// In every history of a loop over its seats, and so in that of each loop that was served, whatever other threads do and
 /// in whatever order, each request has at most one after-work callback. It is given what one thread computes from the
 /// very order that the guest asked for, or that there was no memory, or, where a cancel of it was answered 0, only its
-/// cancellation; and from then on none is answered 0. So what `serve` answers of a loop tells of a history of which this
+/// cancellation; and from then on none is answered 0. So what `serve` answers of a loop is of a history of which this
 /// holds.
 pub fn after_once()
     ensures once { IsAfterOnce thread_calls }

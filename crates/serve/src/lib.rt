@@ -3,7 +3,7 @@
 //! The loops share claims and a board with the workers. A loop takes one turn after another until it is over, has failed,
 //! waits for ever or has run as many callbacks as it may. The board is closed once all loops have ended.
 //!
-//! By its contract `serve` gives an answer for each loop, and the k-th tells a history of loop k of this module over its
+//! By its contract `serve` gives an answer for each loop, and the k-th reports a history of loop k of this module over its
 //! seats: what its callbacks emitted, in order, and how it ended. `laws::after_once` is the law of after-work callbacks in
 //! each such history. Begin with `specs/Histories.antt` and `specs/Answers.antt`; the code with `threads` and `turn`.
 #![tactic(auto)]

@@ -41,7 +41,7 @@ pub struct LoopPlace<'a, J> {
 }
 
 impl<J: Job> WorkerPlace<'_, J> {
-    /// Works until the board is closed, and tells what is done.
+    /// Works until the board is closed, and reports what is done.
     pub fn work<R: Wait, W: Watch>(self, rt: &R, watch: &W) {
         let WorkerPlace {
             board,

@@ -1,4 +1,4 @@
-// A loop, with how many of its callbacks ran and what they have put out.
+// A loop, with how many of its callbacks ran and what they have emitted.
 
 ghost use Rattle.std.specs.Prelude.{◌≡◌, ◌<◌, ◌≤◌, ◌+◌, ◌++◌, [], true, false, None, length, vec_len, vec_capacity, IfOk, IfSome};
 ghost use Rattle.std.specs.Bool.{OnFalse};
@@ -28,7 +28,7 @@ use pool::Seats;
 use std::alloc::{AllocError, Global};
 use std::sync::Wait;
 
-/// A loop, with how many of its callbacks ran and all that they have put out: it has a history from its opening that
+/// A loop, with how many of its callbacks ran and all that they have emitted: it has a history from its opening that
 /// says so.
 #[derive(Drop)]
 pub struct Record<'a> {
@@ -57,7 +57,7 @@ fn is_taken(accepted: &Accepted) -> bool {
     matches!(accepted, Accepted::Accepted)
 }
 
-/// Puts values behind others, for which there is room. Mostly there are none.
+/// Puts values after others, for which there is room. Mostly there are none.
 fn append(emits: &mut Vec<u64>, more: &[u64])
     requires { vec_len emits.old + length more.now ≤ vec_capacity emits.old }
     ensures { emits.new.items ≡ emits.old.items ++ more.now }
@@ -112,12 +112,12 @@ impl<'a> Record<'a> {
         self.core.next_order()
     }
 
-    /// That to which the loop's tasks tell what they use.
+    /// The meter to which the loop's tasks report the fuel that they use.
     pub fn meter(&self) -> Result<Meter, AllocError> {
         self.account.meter()
     }
 
-    /// Steps until the timers phase is entered or the loop has ended, and tells each step. How it ended, if it did.
+    /// Steps until the timers phase is entered or the loop has ended, and reports each step. How it ended, if it did.
     pub fn step_through<R: Wait, W: Watch>(
         &mut self,
         rt: &R,
@@ -144,7 +144,7 @@ impl<'a> Record<'a> {
         unreachable!()
     }
 
-    /// One step of the loop. Where memory for what a callback may put out is refused, it takes none. Inlined, so that of its did
+    /// One step of the loop. If memory for what a callback may emit is refused, it takes none. Inlined, so that of its did
     /// nothing is built but what is read.
     #[inline(always)]
     fn step(&mut self) -> Result<BareDid, AllocError>
@@ -185,7 +185,7 @@ impl<'a> Record<'a> {
         matches!(self.core.hint(), Hint::Now)
     }
 
-    /// Raises the clock to the next timer, and tells it. Without one the loop waits for ever.
+    /// Raises the clock to the next timer, and reports it. Without one the loop waits for ever.
     pub fn wait<R: Wait, W: Watch>(&mut self, rt: &R, loop_no: u32, watch: &W) -> Option<LoopEnding>
         requires goes { GoesOn thread_calls self.old.core.loop self.old.ran }
         requires at_turn { IsAtTurn self.old.core.loop.state }

@@ -33,14 +33,14 @@ impl LoopEnding {
 
 /// What one loop did. It prints as a line, as in `loop 0 over emits 6`.
 ///
-/// A loop of this number has a history from its opening, over its seats, in which its callbacks put out just this, and
+/// A loop of this number has a history from its opening, over its seats, in which its callbacks emitted just this, and
 /// at whose end it has ended so.
 pub struct Served {
     /// The loop's number, from 0.
     pub loop_no: u32,
     /// How it ended.
     pub ending: LoopEnding,
-    /// What its callbacks put out, in order.
+    /// What its callbacks emitted, in order.
     pub emits: Vec<u64>,
     /// What it did last.
     pub account: Account,

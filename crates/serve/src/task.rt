@@ -43,7 +43,7 @@ impl Model for Task {
 }
 
 impl Task {
-    /// The order as a task, which tells the meter what it uses.
+    /// The order as a task, which reports what it uses to the meter.
     pub(crate) fn new(order: Order, meter: Meter) -> Task
         requires runs { CanRun (order_of order) }
         requires there { (order.loop_no < MAX_LOOPS) × (order.slot < MAX_REQUESTS) }

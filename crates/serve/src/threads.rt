@@ -25,10 +25,10 @@ use std::thread;
 use std::thread::{PromisedHandle, Scope, Threads};
 
 /// Runs loops of the module and workers, each in a thread of its own, until all loops have ended. What each loop did, in
-/// the order of their numbers: it has a history from its opening, over its seats, in which its callbacks put out just
+/// the order of their numbers: it has a history from its opening, over its seats, in which its callbacks emitted just
 /// the answer's values, and at whose end it has ended as the answer says. `make` makes the job of an order.
 ///
-/// Where memory is refused, no further thread is started and a loop that it concerns ends; the error comes once all
+/// If memory is refused, no further thread is started and a loop that it concerns ends; the error comes once all
 /// threads have ended.
 pub fn serve<R: Threads + Wait + Sync, M: Fn(Task) -> Result<J, AllocError> + Sync, J: Job + Send>(
     rt: &R,
@@ -44,7 +44,7 @@ pub fn serve<R: Threads + Wait + Sync, M: Fn(Task) -> Result<J, AllocError> + Sy
     serve_watched(rt, alloc, linked, serving, make, &Nobody)
 }
 
-/// Serves as `serve` does, and tells `watch` what the loops and the workers do, as they do it.
+/// Serves as `serve` does, and reports to `watch` what the loops and the workers do, as they do it.
 pub fn serve_watched<
     R: Threads + Wait + Sync,
     M: Fn(Task) -> Result<J, AllocError> + Sync,
@@ -66,7 +66,7 @@ pub fn serve_watched<
     with_claims(rt, &plan, make, watch)
 }
 
-/// The same of what all loops are made of, with claims for them.
+/// Makes the claims, then the board and the threads.
 fn with_claims<
     R: Threads + Wait + Sync,
     M: Fn(Task) -> Result<J, AllocError> + Sync,

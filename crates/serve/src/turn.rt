@@ -24,7 +24,7 @@ use pool::Seats;
 use std::alloc::{AllocError, Global};
 use std::sync::{Arc, Wait};
 
-/// A loop with what it has put out, and its pass.
+/// A loop with what it has emitted, and its pass.
 #[derive(Drop)]
 pub struct Turns<'a, J> {
     board: &'a Board<J>,
@@ -263,7 +263,7 @@ impl<'a, J: Drop> Turns<'a, J> {
         unreachable!()
     }
 
-    /// The job that was kept, or one for the next order, of which it is told that it is posted.
+    /// The job that was kept, or one for the next order, which is reported as posted.
     fn next_job<R: Wait, M: Fn(Task) -> Result<J, AllocError>, W: Watch>(
         &mut self,
         rt: &R,

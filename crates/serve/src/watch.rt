@@ -1,17 +1,17 @@
-// Who is told what loops and workers do, as they do it.
+// Who hears what loops and workers do, as they do it.
 
 use events::did::StepDid;
 use order::Reply;
 use std::sync::Wait;
 
-/// Is told what loops and workers do, each time by the thread of the loop or the worker that did it, which goes on once the
-/// call returns. Of one request it is told in this order that it was posted, taken and started, that its work is over, and
+/// Hears what loops and workers do, each time by the thread of the loop or the worker that did it, which goes on once the
+/// call returns. Of one request it hears in this order that it was posted, taken and started, that its work is over, and
 /// that its loop was offered the reply.
 pub trait Watch {
     /// Whether `Account::most_work` is asked for, which costs some steps for each request.
     fn measures_work(&self) -> bool;
 
-    /// The loop took this step, and the values are what its last callback put out.
+    /// The loop took this step, and the values are what its last callback emitted.
     fn step<R: Wait>(&self, rt: &R, loop_no: u32, did: StepDid, emits: &[u64]);
 
     /// The order of this request is posted.
@@ -33,7 +33,7 @@ pub trait Watch {
     fn finish<R: Wait>(&self, rt: &R, worker_no: u32, reply: &Reply);
 }
 
-/// Is told, and does nothing.
+/// Hears, and does nothing.
 pub struct Nobody;
 
 impl Watch for Nobody {

@@ -5,7 +5,7 @@ use Rattle.events.specs.declared.did.StepDid.TheVariants.{Entered, Ran, Skipped,
 use Rattle.phases.specs.declared.did.BareDid.{BareDid}
 use Rattle.phases.specs.declared.did.BareDid.TheVariants as bare
 
--- as it is told
+-- as the owner gets it
 abbrev pub whole : BareDid → StepDid
 whole (bare.Entered phase now) = Entered phase now
 whole (bare.Ran kind number ended) = Ran kind number (whole_ended ended)

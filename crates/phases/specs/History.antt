@@ -1,4 +1,4 @@
--- What the owner of one loop does with it, and what it is told.
+-- What the owner of one loop does with it, and what it is answered.
 use Rattle.std.specs.Prelude.{◌≡◌, ℕ, Bool, MatchBool, List, [], ◌∷◌, ◌++◌, length, Option, Some}
 use Rattle.syntax.specs.declared.types.Value.TheVariants.{I32}
 use Rattle.imports.specs.declared.call.Call.TheVariants.{QueueWork}
@@ -16,7 +16,7 @@ use Rattle.phases.specs.State.{Setting, Loop, opening}
 use Rattle.phases.specs.Step.{StepsWith, in_state}
 use Rattle.phases.specs.View.{new_view}
 
--- A step, with what it did, what the last callback put out, and what the guest called in it; an order that was asked for, if
+-- A step, with what it did, what the last callback emitted, and what the guest called in it; an order that was asked for, if
 -- there was one; an order
 -- that was offered with its end, and whether it was taken; a cancel, and its answer; a request of the owner's own, and its
 -- answer; a moment of the clock; and what others do to the shared object.
@@ -52,7 +52,7 @@ abbrev pub guest_calls : List Event → List GuestCall
 guest_calls [] = []
 guest_calls (e ∷ events) = calls_in e ++ guest_calls events
 
--- what callbacks put out in an event, and in some events, in order
+-- what callbacks emitted in an event, and in some events, in order
 abbrev pub emits_in : Event → List ℕ
 emits_in (Stepped (Ran kind number ended) emits made) = emits
 emits_in _ = []

@@ -89,7 +89,7 @@ module _ {S : Type 0} (calls : Calls S) where
     pub answered : answer ≡ old.0.last + 1
     pub kept : new.0 ≡ with_work old.0 (next_work g old.0 slot op bytes)
 
-  -- where memory is refused, nothing changes
+  -- if memory is refused, nothing changes
   abbrev pub OpensIfRoom : Setting → Requests × S → (op : ℕ) → (bytes : List ℕ) → (answer : ℕ) → Requests × S → Type 0
   OpensIfRoom g old op bytes answer new = ((answer ≡ NO_MEMORY) × (new ≡ old)) ⊎ Opens g old op bytes answer new
 
@@ -136,7 +136,7 @@ module _ {S : Type 0} (calls : Calls S) (g : Setting) (old : State × S) (call :
   abbrev pub Relates : ((answer : ℕ) → Roster → Type 0) → Type 0
   Relates R = (answer : ℕ) × (roster : Roster) × R answer roster × Says answer × (new ≡ (with_roster old.0 roster, old.1))
 
-  -- the same of the requests and the shared object
+  -- such an answer with new requests and a new shared object
   abbrev pub RelatesWork : ((answer : ℕ) → Requests × S → Type 0) → Type 0
   RelatesWork R = (answer : ℕ) × (requests : Requests) × R answer (requests, new.1) × Says answer × (new.0 ≡ with_requests old.0 requests)
 

@@ -81,7 +81,7 @@ hands_out request _ = false
 abbrev pub cancellation : Completion
 cancellation = record { kind = 5; code = CANCELLED_CODE; bytes = [] }
 
--- Once cancelled, it is told that alone; else what one thread computes from the order alone, or that there was no
+-- Once cancelled, it gets that alone; else what one thread computes from the order alone, or that there was no
 -- memory.
 abbrev pub AreDue : WorkOrder → Completion → (cancelled : Type 0) → Type 0
 AreDue o completion cancelled =
@@ -126,7 +126,7 @@ module _ {S : Type 0} (calls : Calls S) where
       → (request : ℕ) → is_after_event request (Stepped did emits made) ≡ true
       → IsOwn calls g events old request did made new
 
-  -- from the callback on no cancel of its request is answered 0, in the callback or behind it
+  -- from the callback on no cancel of its request is answered 0, in the callback or after it
   abbrev pub IsAfterLast : Type 0
   IsAfterLast =
       (g : Setting) (l l' : Loop S) (before behind : List Event) (e : Event) → IsOpening calls g l

@@ -61,7 +61,7 @@ module _ {S : Type 0} (calls : Calls S) where
       (requests : Requests) × Cancels calls (old.0.requests, old.1) number answer (requests, new.1)
       × (new.0 ≡ with_requests old.0 requests)
 
-  -- the same of a whole loop
+  -- the loop's owner cancels a request of a whole loop
   abbrev pub CancelsLoop : Loop S → (number answer : ℕ) → Loop S → Type 0
   CancelsLoop old number answer new =
       CancelIn old.state.status (old.state, old.shared) number answer (new.state, new.shared) × (new.store ≡ old.store)

@@ -100,7 +100,7 @@ pub record HasActive (t : Table) : Type 0 where
   pub there : record_of t handle ≡ Some it
   pub active : it.active ≡ true
 
--- the same without the lists: a handle is active, a request is outstanding, or a handle is closing
+-- `is_alive` without the lists: a handle is active, a request is outstanding, or a handle is closing
 abbrev pub IsAlive : State → Type 0
 IsAlive s = HasActive s.roster.handles ⊎ ((s.requests.outstanding ≢ []) ⊎ (s.roster.closing ≢ []))
 
@@ -138,7 +138,7 @@ pub record IsNextDue (t : Table) (due : ℕ) : Type 0 where
 abbrev pub IsAtOnce : State → Type 0
 IsAtOnce s = (IsAlive s → ⊥) ⊎ (HasActiveOf kind.Idle s.roster.handles ⊎ ((s.roster.closing ≢ []) ⊎ (settled s.requests ≢ [])))
 
--- the same as `hint_of` without the lists: now, also where the next timer is due; or so long until that; or for ever
+-- `hint_of` without the lists: now, also where the next timer is due; or so long until that; or for ever
 -- where no timer is active
 abbrev pub IsHint : State → Hint → Type 0
 IsHint s Now = IsAtOnce s ⊎ ((due : ℕ) × IsNextDue s.roster.handles due × (due ≤ s.now))

@@ -84,7 +84,7 @@ end_completion Depth = record { kind = 2; code = 0; bytes = [] }
 end_completion Spent = record { kind = 3; code = 0; bytes = [] }
 end_completion NoMemory = record { kind = 4; code = NO_MEMORY; bytes = [] }
 
--- as much as an after-work callback is told of a settled request
+-- as much as an after-work callback gets of a settled request
 abbrev pub completion_of : Stage → Option Completion
 completion_of Open = None
 completion_of HandedOut = None

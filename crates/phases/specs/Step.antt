@@ -99,7 +99,7 @@ module _ {S : Type 0} (calls : Calls S) (g : Setting) where
     pub told : did ≡ Ran kind number ended
     pub finished : new.state ≡ finished state ended
 
-  -- the same of a function that may be known
+  -- the run of a function that may be known
   abbrev pub CallsBack : Loop S → EntryKind → ℕ → Option ℕ → List Value → StepDid → List GuestCall → Loop S → Type 0
   CallsBack old kind number function args did made new =
       MatchOption function ⊥ (λ f. RunsFrom old kind number f args None did made new)
@@ -170,10 +170,10 @@ module _ {S : Type 0} (calls : Calls S) (g : Setting) where
   StepIn Over old did made new = (did ≡ step.Over) × (new ≡ old) × (made ≡ [])
   StepIn Failed old did made new = (did ≡ step.Failed) × (new ≡ old) × (made ≡ [])
 
-  -- one step, what it tells, and what the guest called in it, in order
+  -- one step, what it answers, and what the guest called in it, in order
   abbrev pub StepsWith : Loop S → StepDid → (made : List GuestCall) → Loop S → Type 0
   StepsWith old did made new = StepIn old.state.status old did made new
 
-  -- the same, whatever the guest called
+  -- one step, whatever the guest called
   abbrev pub LoopStep : Loop S → StepDid → Loop S → Type 0
   LoopStep old did new = (made : List GuestCall) × StepsWith old did made new

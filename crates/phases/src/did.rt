@@ -34,7 +34,7 @@ pub enum BareDid {
 }
 
 impl BareDid {
-    /// The same, as it is told.
+    /// The step as the owner gets it.
     /// Each arm returns by itself: what a `match` gives is filled with zeros and copied once more.
     pub fn whole(self) -> StepDid
         ensures { result ≡ whole self }

@@ -157,7 +157,7 @@ impl<B: Shared + Drop> LoopCore<B> {
         self.step_bare().whole()
     }
 
-    /// The same, with no room for results in its answer. Inlined, so that a phase with no entries costs no call.
+    /// One step, with no room for results in its answer. Inlined, so that a phase with no entries costs no call.
     #[inline(always)]
     pub fn step_bare(&mut self) -> BareDid
         ensures step { LoopStep B.calls self.old.setting self.old.loop (whole result) self.new.loop }
@@ -375,7 +375,7 @@ impl<B: Shared + Drop> LoopCore<B> {
         self.linked.valid().module().bytes()
     }
 
-    /// What the last callback put out, `MAX_EMITS` values at most.
+    /// What the last callback emitted, `MAX_EMITS` values at most.
     pub fn emits(&self) -> &[u64]
         ensures emits { result.now ≡ self.now.loop.state.emits }
         ensures few { length result.now ≤ MAX_EMITS }
@@ -393,7 +393,7 @@ impl<B: Shared + Drop> LoopCore<B> {
         self.host.state.raise(ms)
     }
 
-    /// Where the last callback stopped, if it was over but by return: at which operation, and within which calls.
+    /// Where the last callback stopped, unless it returned: at which operation, and within which calls.
     pub fn last_stop(&self) -> Option<Stop<'_>>
         ensures { IfSome result (λ sites. ∥ StopsAt B.calls self.now.setting self.now.loop.store sites ∥₁) }
     {
@@ -487,7 +487,7 @@ impl<B: Shared + Drop> LoopCore<B> {
         ensures told { RequestsLoop B.calls self.old.setting self.old.loop op bytes.now result self.new.loop }
         ensures setting { self.new.setting ≡ self.old.setting }
     {
-        // for what its contract tells: the module is linked
+        // by its contract the module is linked
         let _valid = self.linked.valid();
         let alloc = self.host.alloc;
         let LoopHost {

@@ -164,7 +164,7 @@ impl LoopState {
         0
     }
 
-    /// What the last callback put out.
+    /// What the last callback emitted.
     pub fn emits(&self) -> &[u64]
         ensures value { result.now ≡ self.now.emits }
         ensures few { length result.now ≤ MAX_EMITS }
@@ -269,7 +269,7 @@ impl LoopState {
         self.listed_hint()
     }
 
-    /// The same, by the lists of the phases.
+    /// The hint, by the lists of the phases.
     #[tactic(auto, unfolding(crate::specs::PhaseList::hint_of))]
     fn listed_hint(&self) -> Hint
         ensures { result ≡ hint_of self.now }

@@ -126,7 +126,7 @@ impl Request {
         self.stage = Stage::Cancelled;
     }
 
-    /// What its after-work callback is told.
+    /// What its after-work callback gets.
     pub fn into_completion(self, alloc: Global) -> Completion
         requires { is_settled self.stage ≡ true }
         ensures { completion_of self.stage ≡ Some (completion_in result) }

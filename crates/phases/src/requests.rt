@@ -250,7 +250,7 @@ impl Requests {
         Ok(())
     }
 
-    /// Removes a request that is answered or cancelled, and tells what came of it.
+    /// Removes a request that is answered or cancelled, and returns what came of it.
     pub fn take(&mut self, alloc: Global, number: u32) -> Completion
         requires { MatchOption (request_of self.old number) ⊥ (λ r. is_settled r.stage ≡ true) }
         ensures completion { MatchOption (request_of self.old number) ⊥ (λ r. completion_of r.stage ≡ Some (completion_in result)) }

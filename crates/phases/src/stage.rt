@@ -26,7 +26,7 @@ pub enum CancelState {
     Pending { slot: u32 },
 }
 
-/// What an after-work callback is told of a request.
+/// What an after-work callback gets of a request.
 #[derive(Drop)]
 pub struct Completion {
     /// 0 done, 1 a trap, 2 too many calls, 3 fuel spent, 4 no memory, 5 cancelled.

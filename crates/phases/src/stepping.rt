@@ -146,7 +146,7 @@ impl LoopState {
         self.roster.finish_closing(handle)
     }
 
-    /// Removes a request that is answered or cancelled, and tells what came of it.
+    /// Removes a request that is answered or cancelled, and returns what came of it.
     pub fn take_request(&mut self, alloc: Global, number: u32) -> Completion
         requires { MatchOption (request_of self.old.requests number) ⊥ (λ r. is_settled r.stage ≡ true) }
         ensures completion { MatchOption (request_of self.old.requests number) ⊥ (λ r. completion_of r.stage ≡ Some (completion_in result)) }
@@ -156,7 +156,7 @@ impl LoopState {
         self.requests.take(alloc, number)
     }
 
-    /// A callback begins, which may read these bytes, and has put out nothing.
+    /// A callback begins, which may read these bytes, and has emitted nothing.
     pub fn begin_callback(&mut self, reply: Option<Vec<u8>>)
         requires { IsShort (option_map (λ v. v.items) reply) }
         ensures { self.new ≡ begun self.old (option_map (λ v. v.items) reply) }

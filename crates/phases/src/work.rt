@@ -46,7 +46,7 @@ fn exports(linked: &Linked, entry: EntryPoint) -> bool
 
 /// Asks for work: -38 where `uv_work` or `uv_after_work` is not exported, -22 where the bytes are more than `MAX_BYTES`,
 /// -14 where they lie outside the memory, -11 where `MAX_REQUESTS` requests are outstanding, -28 where the numbers are used
-/// up, and -12 where memory is refused. Nothing is changed then. Else the request's number.
+/// up, and -12 if memory is refused. Nothing is changed then. Else the request's number.
 pub fn queue_work<B: Shared>(
     alloc: Global,
     setting: &Setting,

@@ -13,7 +13,7 @@ use Rattle.phases.specs.Inner.Ready.{AreReady}
 use Rattle.phases.specs.State.{Setting, State}
 
 -- an order of the loop: it has the loop's number and a slot below MAX_REQUESTS, it can be run, and what comes of it can
--- be told
+-- be reported
 pub record IsOrderOf (g : Setting) (o : WorkOrder) : Type 0 where
   pub loop_no : o.loop_no ≡ g.loop_no
   pub slot : o.slot < MAX_REQUESTS

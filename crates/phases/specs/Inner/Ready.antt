@@ -32,7 +32,7 @@ Spares (entry.Close a) (entry.Close b) = a ≢ b
 Spares (entry.Close a) (entry.Async b) = ⊥
 Spares _ _ = Unit {0}
 
--- each entry spares all behind it
+-- each entry spares all after it
 abbrev pub AreApart : List Entry → Type 0
 AreApart entries = AllPairs Spares entries
 

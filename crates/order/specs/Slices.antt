@@ -8,7 +8,7 @@ use Rattle.order.specs.Stopping.{Leaves}
 use Rattle.order.specs.Underway.{Underway}
 use Rattle.order.specs.Work.{WorkOrder, NoMemory, Uses}
 
--- The order is over, and there was memory. What is told is what is told of a run of the whole order: its reply's type says of what becomes
+-- The order is over, and there was memory. What is answered is what is answered for a run of the whole order: its reply's type says of what becomes
 -- of it that one thread computes it, and so much fuel is used for it in all, of which the slice used at most its units.
 pub record IsOver (o : WorkOrder) (before units : ℕ) (told : Told) : Type 0 where
   pub order : order_of told.reply.order ≡ o

@@ -15,7 +15,7 @@ use imports::laws::names_are_apart;
 pub fn imports_are_named(linked: &Linked)
     ensures { Names linked.now.contents (import_types linked.now.contents) }
 {
-    // for what its contract tells: the module is linked
+    // by its contract the module is linked
     let _valid = linked.valid();
 }
 

@@ -3,7 +3,7 @@
 //!
 //! `Order::run` makes an instance, runs the start function and then `uv_work`, and gives the reply. A `Reply` keeps in its type that it
 //! holds the end of its own order, which is one (`laws::one_end`), or that there was no memory: so whoever holds a reply
-//! knows it, whatever thread made it. `Order::run_told` tells beside the reply what the run used and where it stopped; `run_in` does so
+//! knows it, whatever thread made it. `Order::run_told` also answers what the run used and where it stopped; `run_in` does so
 //! in the `Room` that the last order's instance had, so that nothing is taken anew for this one's.
 //! `Order::is_same` compares two orders in every field.
 //!

@@ -81,7 +81,7 @@ impl Order {
         })
     }
 
-    /// Goes on with a call of a function of the order's module for at most so many units of fuel, and tells whether it is over.
+    /// Goes on with a call of a function of the order's module for at most so many units of fuel, and returns whether it is over.
     fn slice(
         &self,
         tables: &[SideTable],
@@ -161,7 +161,7 @@ impl Machine {
         )
     }
 
-    /// Goes on with a call of a function of the order's module for at most so many units of fuel, and tells whether it is over. Then
+    /// Goes on with a call of a function of the order's module for at most so many units of fuel, and returns whether it is over. Then
     /// its ending is written.
     pub(crate) fn go_on(
         &mut self,

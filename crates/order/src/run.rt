@@ -60,11 +60,11 @@ pub struct Told {
     /// The units of fuel that the start function and `uv_work` used together, at most those of the order; 0 where there was
     /// no memory.
     pub used: u64,
-    /// Where the start function or `uv_work` stopped, if it was over but by return.
+    /// Where the start function or `uv_work` stopped, unless it returned.
     pub trail: Option<Trail>,
 }
 
-/// The same of an order whose instance and reply were reserved.
+/// What became of an order whose instance and reply were reserved.
 #[derive(Drop)]
 struct Computed {
     outcome: Outcome,
@@ -88,7 +88,7 @@ fn instance_of(alloc: Global, linked: &Linked, room: &mut Room) -> Result<Instan
     ensures { IfOk result (λ i. IsReady linked.now.contents i.state) }
 {
     let valid = linked.valid();
-    // for what its contract tells: the module is valid
+    // by its contract the module is valid
     let _contents = valid.contents();
     match Instance::new_in(alloc, valid, room) {
         Ok(instance) => Ok(instance),
@@ -120,7 +120,7 @@ fn reserve<T: Drop>(
 impl Order {
     /// Runs the order: the start function and then `uv_work` on a new instance, with the fuel that is left. Its module
     /// exports `uv_work`, and its bytes and its depth are within their limits, as of each order that a loop hands out.
-    /// The instance and the bytes of the reply are reserved first; where memory is refused there, the reply says so.
+    /// The instance and the bytes of the reply are reserved first; if memory is refused there, the reply says so.
     pub fn run(self, alloc: Global) -> Reply
         requires work { (f : ℕ) × ExportsFunction (arc_value self.module).contents (codes "uv_work") f }
         requires bytes { length (arc_value self.bytes).items ≤ MAX_BYTES }
@@ -131,7 +131,7 @@ impl Order {
         reply
     }
 
-    /// Runs the order as `run` does, and tells beside the reply what the run used and where it stopped.
+    /// Runs the order as `run` does, and also answers what the run used and where it stopped.
     pub fn run_told(self, alloc: Global) -> Told
         requires work { (f : ℕ) × ExportsFunction (arc_value self.module).contents (codes "uv_work") f }
         requires bytes { length (arc_value self.bytes).items ≤ MAX_BYTES }

@@ -73,14 +73,14 @@ impl Model for Running {
 /// What a slice leaves of an order.
 #[derive(Drop)]
 pub enum Going {
-    /// It is over: the order with what became of it, as `Order::run_told` tells it.
+    /// It is over: the order with what became of it, as `Order::run_told` answers it.
     Over(Told),
     /// It goes on from here.
     Paused(Running),
 }
 
 impl Order {
-    /// Begins the order: reserves its instance and the bytes of its reply, and runs nothing yet. Where memory is refused, the reply says
+    /// Begins the order: reserves its instance and the bytes of its reply, and runs nothing yet. If memory is refused, the reply says
     /// so. Its module exports `uv_work`, and its bytes and its depth are within their limits, as at `run`.
     pub fn begin(self, alloc: Global) -> Result<Running, Reply>
         requires work { (f : ℕ) × ExportsFunction (arc_value self.module).contents (codes "uv_work") f }
@@ -125,7 +125,7 @@ impl Running {
     }
 }
 
-/// What is told of an order that is over.
+/// The answer for an order that is over.
 fn tell(order: Order, host: WorkHost, stack: Stack, ending: Ending, used: u64) -> Told
     requires valid { ValidModule (arc_value order.module).contents }
     requires computes { (end : WorkEnd) → EndsAs (end_of_run ending) host.reply.items end → Computes (order_of order) end used }
@@ -147,7 +147,7 @@ fn tell(order: Order, host: WorkHost, stack: Stack, ending: Ending, used: u64) -
     }
 }
 
-/// The same of an order whose machine is at its end.
+/// The answer for an order whose machine is at its end.
 fn over(order: Order, machine: Machine, ending: Ending, used: u64) -> Told
     requires runs { Runs (order_of order) machine }
     requires computes { (end : WorkEnd) → EndsAs (end_of_run ending) machine.host.reply.items end → Computes (order_of order) end used × ComputesTo (order_of order) end used (stop_of machine.last machine.frames.items) }

@@ -10,7 +10,7 @@ use std::marker::Model;
 pub const MAX_TRAIL: usize = 17;
 
 /// The operation at which a run stopped and, from the inside outwards, the calls within which it did, at most `MAX_TRAIL`
-/// sites in all; and how many calls were open. A `Stop` tells all of them, but goes with its instance.
+/// sites in all; and how many calls were open. A `Stop` has all of them, but goes with its instance.
 #[derive(Debug, Drop)]
 pub struct Trail {
     sites: [Site; MAX_TRAIL],
@@ -63,7 +63,7 @@ impl Trail {
         }
     }
 
-    /// What is kept of where the last run on a stack stopped, if it was over but by return.
+    /// What is kept of where the last run on a stack stopped, unless it returned.
     pub fn of_last(stack: &Stack) -> Option<Trail>
         ensures { result ≡ option_map innermost stack.now }
     {

@@ -42,7 +42,7 @@ IsSomeCalling o tables function paused slots callers t host =
 abbrev pub callers : WorkOrder → Machine → List Caller
 callers o m = take (o.depth - 1) m.frames.items
 
--- the same on a machine
+-- a machine that calls the function so
 abbrev pub IsCallingOn : WorkOrder → Machine → (function : ℕ) → Store → WorkHost → Paused → (fuel : ℕ) → List Value → Type 0
 IsCallingOn o m function s old paused fuel args = IsCalling o (arc_value m.tables) function s old paused m.slots (callers o m) m.state m.host fuel args
 

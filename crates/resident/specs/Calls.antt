@@ -20,7 +20,7 @@ use Rattle.events.specs.declared.ended.Ending.{Ending}
 use Rattle.events.specs.declared.ended.Ending.TheVariants.{Return, Trap, Depth, Spent}
 use Rattle.resident.specs.NoHost.{Refuses}
 
--- An instance that is kept: its module, its store, and where its last call stopped, innermost first, if that was over but by return.
+-- An instance that is kept: its module, its store, and where its last call stopped, innermost first, unless that returned.
 pub record Kept : Type 0 where
   pub loaded : Loaded
   pub store : Store

@@ -24,7 +24,7 @@ impl<'a> NoHost<'a> {
         ensures same { result.valid ≡ valid.entry }
         ensures names { Names valid.entry.now.contents (types_of_imports valid.entry.now.contents) }
     {
-        // for what its contract tells: the module is valid
+        // by its contract the module is valid
         let _contents = valid.contents();
         NoHost { valid }
     }

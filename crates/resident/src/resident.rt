@@ -174,7 +174,7 @@ impl Resident {
         self.state.memory_mut().write(at, bytes)
     }
 
-    /// Where the last call stopped, if it was over but by return.
+    /// Where the last call stopped, unless it returned.
     pub fn last_stop(&self) -> Option<Stop<'_>>
         ensures { result ≡ self.now.stop }
     {

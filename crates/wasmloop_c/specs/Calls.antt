@@ -46,11 +46,11 @@ abbrev pub loop_of : Thing → Option (Core Desk)
 loop_of (thing.Loop held) = Some held.core.value
 loop_of _ = None
 
--- a call on a handle: an empty one stays, and C is told so, and `Same` holds
+-- a call on a handle: an empty one stays, and the status says so, and `Same` holds
 abbrev pub OnHandle : (old new : Option Thing) → (status : ℕ) → (Same : Type 0) → (Does : Thing → Thing → Type 0) → Type 0
 OnHandle old new status Same Does = MatchOption old ((status ≡ EMPTY) × (new ≡ None) × Same) (λ t. IsSomeAnd new (λ u. Does t u))
 
--- a call on what a handle has: where that is no loop it stays, and C is told so, and `Same` holds
+-- a call on what a handle has: where that is no loop it stays, and the status says so, and `Same` holds
 abbrev pub OnLoop : (old new : Thing) → (status : ℕ) → (Same : Type 0) → (Does : Core Desk → Core Desk → Type 0) → Type 0
 OnLoop old new status Same Does =
     MatchOption (loop_of old) ((status ≡ KIND) × (new ≡ old) × Same) (λ c. IsSomeAnd (loop_of new) (λ d. (d.setting ≡ c.setting) × Does c d))
@@ -59,7 +59,7 @@ OnLoop old new status Same Does =
 abbrev pub OnHeldLoop : (old new : Option Thing) → (status : ℕ) → (Same : Type 0) → (Does : Core Desk → Core Desk → Type 0) → Type 0
 OnHeldLoop old new status Same Does = OnHandle old new status Same (λ t u. OnLoop t u status Same Does)
 
--- a step, told in numbers
+-- a step, in numbers
 abbrev pub Steps : Core Desk → Core Desk → Did → Type 0
 Steps c d told = (t : StepDid) × LoopStep desk_calls c.setting c.loop t d.loop × (told ≡ did_of t (length d.loop.state.emits))
 
@@ -79,7 +79,7 @@ ReadsHeldLoop old new status Same Does = ReadsHandle old new status Same (λ t. 
 abbrev pub copied : {A : Type 0} → List A → List A → List A
 copied from old = take (length old) from ++ drop (length from) old
 
--- what a loop's last callback put out, as far as there is room, and how much that is
+-- what a loop's last callback emitted, as far as there is room, and how much that is
 abbrev pub CopiesEmits : Core Desk → (old new : List ℕ) → (count : ℕ) → Type 0
 CopiesEmits c old new count = (new ≡ copied c.loop.state.emits old) × (count ≡ length c.loop.state.emits)
 
@@ -131,7 +131,7 @@ abbrev pub Runs : (old new : Thing) → (status : ℕ) → Type 0
 Runs (thing.Asked order) new status = (status ≡ OK) × Answers order new
 Runs other new status = (status ≡ KIND) × (new ≡ other)
 
--- a job's start, told to its loop; a job of another loop is a stranger, and nothing changes
+-- a job's start, reported to its loop; a job of another loop is a stranger, and nothing changes
 abbrev pub Starts : Core Desk → Core Desk → (job : Thing) → (status : ℕ) → Type 0
 Starts c d (thing.Asked order) status =
     ((order.loop_no ≢ c.setting.loop_no) × (status ≡ STRANGER) × (d ≡ c))
@@ -159,7 +159,7 @@ abbrev pub Explains : (bytes old new : List ℕ) → (count : ℕ) → Type 0
 Explains bytes old new count =
     ((refusal : Refusal) × IsRefused bytes refusal × (refusal ≢ Memory)) × ((text : List ℕ) × (new ≡ copied text old) × (count ≡ length text))
 
--- what is told of a job
+-- what is reported of a job
 abbrev pub Tells : Thing → (old new : About) → (status : ℕ) → Type 0
 Tells (thing.Asked order) old new status = (status ≡ OK) × (new ≡ about_order order)
 Tells (thing.Answered told) old new status = (status ≡ OK) × (new ≡ about_told told)

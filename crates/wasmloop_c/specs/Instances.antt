@@ -22,7 +22,7 @@ abbrev pub resident_of : Thing → Option Kept
 resident_of (thing.Resident resident) = Some resident.value
 resident_of _ = None
 
--- a call on what a handle has: where that is no instance it stays, and C is told so, and `Same` holds
+-- a call on what a handle has: where that is no instance it stays, and the status says so, and `Same` holds
 abbrev pub OnResident : (old new : Thing) → (status : ℕ) → (Same : Type 0) → (Does : Kept → Kept → Type 0) → Type 0
 OnResident old new status Same Does =
     MatchOption (resident_of old) ((status ≡ KIND) × (new ≡ old) × Same) (λ a. IsSomeAnd (resident_of new) (λ b. Does a b))

@@ -1,4 +1,4 @@
--- What C is told in numbers.
+-- What C gets in numbers.
 use Rattle.std.specs.Prelude.{ℕ, length}
 use Rattle.std.specs.Arc.{arc_value}
 use Rattle.decode.specs.Faults.{number_of as decode_number}
@@ -52,7 +52,7 @@ ending_numbers Spent = (3, 0)
 abbrev pub only : ℕ → Did
 only what = record { what = what; phase = 0; kind = 0; number = 0; ending = 0; trap = 0; emits = 0; zero = 0; moment = 0; used = 0 }
 
--- a step, and how many values its callback put out
+-- a step, and how many values its callback emitted
 abbrev pub did_of : StepDid → ℕ → Did
 did_of (step.Entered phase now) emits = record (only 1) { phase = phase_number phase; moment = now }
 did_of (step.Ran kind number ended) emits = record (only 2) {

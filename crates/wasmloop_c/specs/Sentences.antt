@@ -1,4 +1,4 @@
--- What is told in words: where something stopped, and what a module lacks. No clause says which words.
+-- What is said in words: where something stopped, and what a module lacks. No clause says which words.
 use Rattle.std.specs.Prelude.{◌≡◌, ◌≢◌, ◌⊎◌, ℕ, List, length, MatchOption}
 use Rattle.std.specs.Arc.{arc_value}
 use Rattle.wasmloop_c.specs.Calls.{copied, module_of}
@@ -10,11 +10,11 @@ use Rattle.wasmloop_c.specs.declared.thing.Thing.TheVariants as thing
 abbrev pub CopiesWords : (old new : List ℕ) → (count : ℕ) → Type 0
 CopiesWords old new count = (words : List ℕ) × (new ≡ copied words old) × (count ≡ length words)
 
--- nothing is told
+-- nothing is said
 abbrev pub Untold : (old new : List ℕ) → (before count : ℕ) → Type 0
 Untold old new before count = (new ≡ old) × (count ≡ before)
 
--- A place in a module of its own bytes is told where these are they; REFUSED says that they are others.
+-- A place in a module of its own bytes is said where these are they; REFUSED says that they are others.
 abbrev pub TellsPlaceIn : (own bytes old new : List ℕ) → (before count status : ℕ) → Type 0
 TellsPlaceIn own bytes old new before count status =
     ((status ≡ OK) × (bytes ≡ own) × CopiesWords old new count)

@@ -1,4 +1,4 @@
--- What is told of where a loop's last callback stopped, or a job, or an instance's last call.
+-- What is reported of where a loop's last callback stopped, or a job, or an instance's last call.
 use Rattle.std.specs.Prelude.{◌≡◌, ℕ, List, length, map, Option, Some, None}
 use Rattle.std.specs.Option.{option_map}
 use Rattle.instance.specs.declared.stack.Site.{Site as Operation}

@@ -17,7 +17,7 @@ pub fn copy_front<T: Copy>(from: &[T], into: &mut [T])
     into[..count].copy_from_slice(&from[..count]);
 }
 
-/// Copies bytes as far as there is room, and tells how many there are.
+/// Copies bytes as far as there is room, and returns how many there are.
 pub fn copy_bytes(bytes: &[u8], into: &mut [u8], count: &mut u64) -> u32
     ensures { Copies bytes.now into.old into.new count.new result }
 {

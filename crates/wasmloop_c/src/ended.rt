@@ -22,7 +22,7 @@ pub struct CallEnded {
     pub results: u64,
     /// The fuel that it used.
     pub used: u64,
-    /// The results, the first first, an i32 in the lower half; behind them 0.
+    /// The results, the first first, an i32 in the lower half; after them 0.
     pub result: [u64; MAX_RESULTS],
 }
 
@@ -99,7 +99,7 @@ fn results_of(ending: &Ending) -> &[Value]
 }
 
 impl CallEnded {
-    /// The same in numbers.
+    /// The ended call in numbers.
     pub fn of(ended: &Ended) -> CallEnded
         ensures { result ≡ call_numbers ended.now }
     {

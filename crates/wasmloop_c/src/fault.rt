@@ -16,7 +16,7 @@ pub struct Fault {
     pub stage: u32,
     /// The fault's number in its stage, or 0.
     pub code: u32,
-    /// Which of the following are told: 0 none, 1 a byte, 2 a section, 3 a function, 4 an operation, 5 an import, 6 an export.
+    /// Which of the following are known: 0 none, 1 a byte, 2 a section, 3 a function, 4 an operation, 5 an import, 6 an export.
     pub place: u32,
     /// The section's id, or 0.
     pub section: u32,
@@ -120,7 +120,7 @@ impl Fault {
         }
     }
 
-    /// Why these bytes are refused, and where, as far as that can be told.
+    /// Why these bytes are refused, and where, as far as that is known.
     pub fn new(alloc: Global, refusal: Refusal, bytes: &[u8]) -> Fault
         ensures { (result.stage ≡ stage_number refusal) × (result.code ≡ code_number refusal) }
     {

@@ -4,7 +4,7 @@
 //! it does to what the handle has what `load`, `LoopCore` and `Order::run` do. A handle may go to another thread
 //! (`handles_may_go`). C's names for the calls, with tests for null pointers before them, are in capi/include/wasmloop.h.
 //!
-//! Begin with `handle` and `thing`; what the calls mean is `specs/Calls.antt`, and how it is told in numbers `specs/Numbers.antt`.
+//! Begin with `handle` and `thing`; what the calls mean is `specs/Calls.antt`, and their numbers are `specs/Numbers.antt`.
 //! The raw pointers are in `raw`, and in the crate `slot`.
 #![tactic(auto)]
 

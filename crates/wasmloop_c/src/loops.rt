@@ -143,7 +143,7 @@ fn emits(thing: &Thing, into: &mut [u64], count: &mut u32) -> u32
     OK
 }
 
-/// Copies what the last callback put out, as far as there is room.
+/// Copies what the last callback emitted, as far as there is room.
 #[unsafe(no_mangle)]
 pub extern "C" fn wasmloop_rt_emits(
     alloc: Global,
@@ -192,7 +192,7 @@ fn clock(thing: &mut Thing, ms: u64, now: &mut u64) -> u32
     OK
 }
 
-/// Raises the clock, and tells it.
+/// Raises the clock, and answers it.
 #[unsafe(no_mangle)]
 pub extern "C" fn wasmloop_rt_clock(
     alloc: Global,

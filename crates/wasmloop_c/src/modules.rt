@@ -25,7 +25,7 @@ fn boxed(alloc: Global, linked: Linked) -> Result<Box<Thing, Global>, AllocError
 /// Makes a module of the bytes that spell it, in an empty handle.
 ///
 /// `OK`: the module is of these very bytes, which are a valid module that fits the host. `REFUSED`: they are none, and the fault
-/// says why and where. `MEMORY`: there is not enough to tell. `KIND`: the handle is not empty.
+/// says why and where. `MEMORY`: there is not enough to find out. `KIND`: the handle is not empty.
 #[unsafe(no_mangle)]
 pub extern "C" fn wasmloop_rt_load(
     alloc: Global,

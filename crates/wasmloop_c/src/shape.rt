@@ -26,7 +26,7 @@ pub struct Shape {
     pub after_work: u32,
     /// It has a table, from which callbacks are called.
     pub table: u32,
-    /// How many pages its memory has at first; 0 where it has none.
+    /// How many pages its memory has initially; 0 where it has none.
     pub pages: u32,
     /// How many pages it may grow to, `MAX_PAGES` at most; a memory that begins with more is refused.
     pub most_pages: u32,

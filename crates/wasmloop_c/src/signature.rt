@@ -14,7 +14,7 @@ use std::alloc::Global;
 use syntax::contents::FuncType;
 use syntax::types::ValType;
 
-/// The type of a function: of each parameter and each result 1 for an i32, 2 for an i64; behind them 0.
+/// The type of a function: of each parameter and each result 1 for an i32, 2 for an i64; after them 0.
 #[repr(C)]
 #[derive(Clone, Copy)]
 pub struct Signature {

@@ -52,7 +52,7 @@ fn run_for(alloc: Global, thing: Thing, units: u64, over: &mut u32) -> (Thing, u
     (left, OK)
 }
 
-/// Runs a job for at most so many units of fuel, at least one, and tells whether it is over.
+/// Runs a job for at most so many units of fuel, at least one, and answers whether it is over.
 #[unsafe(no_mangle)]
 pub extern "C" fn wasmloop_rt_job_run_for(
     alloc: Global,

@@ -17,9 +17,9 @@ pub enum Thing {
     Loop(HeldLoop),
     /// What a loop asks for.
     Asked(Job),
-    /// The same, between two slices of its run.
+    /// A job between two slices of its run.
     Running(Running),
-    /// The same, with the reply, what its run used and where it stopped.
+    /// A job with the reply, what its run used and where it stopped.
     Answered(Told),
     /// An instance that is kept from call to call.
     Resident(Box<Resident, Global>),

@@ -16,7 +16,7 @@ use syntax::contents::Contents;
 use syntax::types::Value;
 use validate::type_of_function;
 
-/// Lays an answer down, where there is one, and tells how many slots it takes.
+/// Lays an answer down, where there is one, and returns how many slots it takes.
 fn lay_answer(slots: &mut [u64], place: usize, answer: Option<Value>) -> usize
     requires { place + length (as_operands answer) ≤ length slots.old }
     ensures laid { slots.new ≡ laid answer place slots.old }
@@ -33,7 +33,7 @@ fn lay_answer(slots: &mut [u64], place: usize, answer: Option<Value>) -> usize
 }
 
 /// Asks the host for an import, whose arguments are the topmost slots up to a height. Its answer takes their place, and
-/// the run goes on behind the call.
+/// the run goes on after the call.
 #[inline(always)]
 fn ask_host<H: Host>(
     contents: &Contents,
@@ -62,7 +62,7 @@ fn ask_host<H: Host>(
     at.sp = place + results;
 }
 
-/// The same, on the slots above the one at the bottom.
+/// Asks the host on the slots above the one at the bottom.
 #[inline(always)]
 fn ask_above<H: Host>(
     contents: &Contents,
@@ -83,7 +83,7 @@ fn ask_above<H: Host>(
     ask_host(contents, state, host, &mut slots[1..], at, import, height);
 }
 
-/// The same, on the slots of all calls.
+/// Asks the host on the slots of all calls.
 #[inline(always)]
 pub fn ask_on<H: Host>(
     contents: &Contents,

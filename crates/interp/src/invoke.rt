@@ -107,7 +107,7 @@ fn invoke_defined<H: Host>(
     );
 }
 
-/// The same, with room for more callers than so deep calls have.
+/// Calls a defined function, whose callers may take the first `depth` - 1 places of `frames`.
 #[inline(always)]
 fn invoke_below<H: Host>(
     contents: &Contents,
@@ -143,7 +143,7 @@ fn invoke_below<H: Host>(
 /// Calls a function of a module on one of its instances, with these arguments and so much fuel. At most `depth`, 1 to `MAX_DEPTH`,
 /// calls stand open, this one among them; calls of the host are not counted. A call of an imported function is one
 /// call of the host, and uses no fuel. No memory is taken: the instance has room for the slots of all calls. `last_stop` of the
-/// instance then tells where the call stopped, if it was over but by return.
+/// instance then has where the call stopped, unless it returned.
 pub fn invoke<H: Host>(
     valid: &Valid,
     instance: &mut Instance,
@@ -167,7 +167,7 @@ pub fn invoke<H: Host>(
     invoke_on(valid, state, stack, host, function, args, fuel, depth)
 }
 
-/// The same, on the state and the stack of an instance. The stack then tells where the call stopped, if it was over but by
+/// Calls it on the state and the stack of an instance. The stack then has where the call stopped, unless it ended by
 /// return: at which operation of which function, and within which calls.
 pub fn invoke_on<H: Host>(
     valid: &Valid,
@@ -238,7 +238,7 @@ pub fn unwritten() -> Ended
     }
 }
 
-/// The same as `invoke_on`, with a place that the ending is written to.
+/// Does what `invoke_on` does, and writes the ending to a place.
 #[inline(always)]
 fn invoke_into<H: Host>(
     valid: &Valid,

@@ -35,7 +35,7 @@ fn lay_locals(slots: &mut [u64], args: &[Value], zeros: usize)
     zero(slots, args.len(), zeros);
 }
 
-/// The same, above the slot at the bottom.
+/// Lays the locals above the slot at the bottom.
 fn lay_above(slots: &mut [u64], args: &[Value], zeros: usize)
     requires bottom { 1 ≤ length slots.old }
     requires room { length args.now + zeros ≤ length (drop 1 slots.old) }
@@ -45,7 +45,7 @@ fn lay_above(slots: &mut [u64], args: &[Value], zeros: usize)
     lay_locals(&mut slots[1..], args, zeros);
 }
 
-/// The same, on the slots of all calls.
+/// Lays the locals in the slots of all calls.
 fn lay_on(slots: &mut Slots, args: &[Value], zeros: usize)
     requires { length args.now + zeros ≤ length slots.old }
     ensures laid { slots.new ≡ (erased args.now ++ replicate zeros 0) ++ drop (length args.now + zeros) slots.old }
@@ -55,7 +55,7 @@ fn lay_on(slots: &mut Slots, args: &[Value], zeros: usize)
     lay_above(slots.as_mut_slice(), args, zeros);
 }
 
-/// Lays the locals of a call from outside in the lowest slots, and tells where its run begins.
+/// Lays the locals of a call from outside in the lowest slots, and returns where its run begins.
 pub fn open(contents: &Contents, slots: &mut Slots, function: u32, args: &[Value]) -> At
     requires { CanOpen contents.now function args.now }
     ensures opened { Opened contents.now function args.now result slots.new }

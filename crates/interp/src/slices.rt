@@ -80,7 +80,7 @@ fn is_paused(ending: &Ending, granted: u64, left: u64) -> bool
     granted < left && matches!(ending, Ending::Spent)
 }
 
-/// Goes on with a call for at most so many units of fuel, and tells whether it is over. Then its ending is written, with all fuel that
+/// Goes on with a call for at most so many units of fuel, and returns whether it is over. Then its ending is written, with all fuel that
 /// it has used since it began; else it has used exactly so many units more, and some are left.
 pub fn go_on<H: Host>(
     contents: &Contents,

@@ -2,7 +2,6 @@ pub mod Accepted
 pub mod Arguments
 pub mod Calling
 pub mod Performing
-pub mod NoHost
 pub mod Scripting
 pub mod Serving
 pub mod Inner

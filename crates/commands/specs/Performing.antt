@@ -12,7 +12,8 @@ use Rattle.words.specs.declared.command.Invocation.{Invocation}
 use Rattle.commands.specs.declared.calling.Called.{Called}
 use Rattle.commands.specs.declared.calling.Called.TheVariants.{Function}
 use Rattle.commands.specs.Accepted.{Holds, HoldsNone}
-use Rattle.commands.specs.Calling.{IsCalled, HasReturned, HasFunctionReturned}
+use Rattle.resident.specs.Calls.{HasReturned}
+use Rattle.commands.specs.Calling.{IsCalled, HasFunctionReturned}
 use Rattle.commands.specs.Arguments.{AllSpell}
 use Rattle.commands.specs.Working.{HasWorked, HasStopped}
 use Rattle.commands.specs.Scripting.{HasRun}

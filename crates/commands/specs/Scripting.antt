@@ -14,7 +14,7 @@ use Rattle.world.specs.World.{World, WorldRun, opening_world}
 use Rattle.world_log.specs.declared.step.Step.{Step}
 use Rattle.world_log.specs.declared.entry.LogEntry.{LogEntry}
 use Rattle.world_log.specs.declared.entry.LogEntry.TheVariants.{Ran}
-use Rattle.commands.specs.Calling.{HasReturned}
+use Rattle.resident.specs.Calls.{HasReturned}
 
 -- how many bytes of a file are read: one more than a script may have
 abbrev pub enough_of_script : ℕ

@@ -1,25 +1,22 @@
 // A call of a function on a new instance of its module.
 
-ghost use Rattle.std.specs.Prelude.{◌≡◌, ◌≤◌, ◌↔◌, Some, IfOk, IfSome, IsTrue};
+ghost use Rattle.std.specs.Prelude.{◌≤◌, ◌↔◌, IfOk, IsTrue};
 ghost use Rattle.limits.specs.declared.TheConstants.{MAX_DEPTH};
 ghost use Rattle.instance.specs.Fresh.{IsFresh};
 ghost use Rattle.instance.specs.Storing.{IsStoreOf};
 ghost use Rattle.reduction.specs.Invoking.{TakesArguments};
-ghost use Rattle.syntax.specs.declared.contents.ExternKind.TheVariants.{Func};
-ghost use Rattle.syntax.specs.Exporting.{IsFirst};
-ghost use Rattle.validate.specs.Typing.{HasFunctionType};
-ghost use Rattle.commands.specs.Calling.{Runs, Starts, HasReturned, IsCalled};
+ghost use Rattle.resident.specs.Calls.{HasReturned};
+ghost use Rattle.commands.specs.Calling.{Runs, Starts, IsCalled};
 
 use crate::failure::Failure;
-use crate::no_host::NoHost;
 use events::ended::{Ended, Ending};
 use events::values::Values;
 use instance::state::Instance;
 use interp::invoke::invoke;
+use resident::NoHost;
 use std::alloc::Global;
-use syntax::contents::{ExternKind, FuncType};
 use syntax::types::Value;
-use validate::{Valid, type_of_function};
+use validate::Valid;
 
 /// What came of a call.
 #[derive(Debug, Drop)]
@@ -28,21 +25,6 @@ pub enum Called {
     Start(Ended),
     /// The function ended so.
     Function(Ended),
-}
-
-/// The function that is exported under a name, with its type, where there is one.
-pub fn exported_function<'a>(valid: &'a Valid, name: &str) -> Option<(u32, &'a FuncType)>
-    ensures named { IfSome result (λ found. IsFirst valid.now.contents.exports name.now (Some (record { kind = Func; index = found.0 }))) }
-    ensures typed { IfSome result (λ found. HasFunctionType valid.now.contents found.0 found.1.now) }
-{
-    let export = valid.module().export(name)?;
-    match export.kind {
-        ExternKind::Func => {
-            let func_type = type_of_function(valid.contents(), export.index)?;
-            Some((export.index, func_type))
-        }
-        _ => None,
-    }
 }
 
 /// Whether a call ended by return.

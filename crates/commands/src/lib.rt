@@ -15,7 +15,6 @@ mod calling;
 mod failure;
 mod file;
 mod loading;
-mod no_host;
 mod performing;
 mod scripting;
 mod serving;

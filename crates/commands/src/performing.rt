@@ -4,12 +4,13 @@ ghost use Rattle.std.specs.Prelude.{◌≡◌, ◌≢◌, ◌≤◌, ◌⊎◌, 
 ghost use Rattle.std.specs.Io.KnownBytes.{Appends};
 ghost use Rattle.syntax.specs.declared.contents.Contents.{Contents};
 ghost use Rattle.commands.specs.Accepted.{Holds, HoldsNone};
-ghost use Rattle.commands.specs.Calling.{HasReturned, HasFunctionReturned};
+ghost use Rattle.resident.specs.Calls.{HasReturned};
+ghost use Rattle.commands.specs.Calling.{HasFunctionReturned};
 ghost use Rattle.commands.specs.Inner.Statuses.{status_of_failure, status_of_end, OnDone, OnEnded};
 ghost use Rattle.commands.specs.Performing.{HasInvoked, IsCallOf, Returns, IsDone, IsRefusedBy, IsEnded};
 
 use crate::arguments::values;
-use crate::calling::{Called, call, exported_function, has_returned};
+use crate::calling::{Called, call, has_returned};
 use crate::failure::Failure;
 use crate::file::{Reader, Writer};
 use crate::loading::{load, load_whole};
@@ -22,6 +23,7 @@ use events::ended::{Ended, Ending};
 use instance::state::Instance;
 use order::Trail;
 use places::Shown;
+use resident::exported_function;
 use sentences::{Allowed, EndedLine, Stopped, tell_stopped, warn};
 use serve::{Job, Task};
 use std::alloc::{AllocError, Global};
@@ -59,7 +61,7 @@ fn call_named<'a>(
     ensures { IfOk result (λ done. IsCallOf valid.now.contents invocation.now done.0) }
 {
     let name = invocation.name.as_str();
-    let Some((function, func_type)) = exported_function(valid, name) else {
+    let Some((function, func_type)) = exported_function(valid, name.as_bytes()) else {
         return Err(Failure::no_function(alloc, valid.contents(), name));
     };
     let args = values(

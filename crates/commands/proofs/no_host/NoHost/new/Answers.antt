@@ -1,5 +1,0 @@
-use Rattle.commands.proofs.NoHostNames.{names_imports}
-use Rattle.commands.proofs.no_host.NoHost.new.Goals as goal
-
-pub returns-clause-names : goal.returns-clause-names
-returns-clause-names c = names_imports c.args.valid.now.contents c.contents-contents.ensures.valid

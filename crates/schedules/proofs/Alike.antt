@@ -5,7 +5,7 @@ use Rattle.phases.specs.State.{Setting, Core}
 use Rattle.desk.specs.Desk.{Desk}
 use Rattle.world.specs.World.{opening_loop}
 use Rattle.schedules.specs.Accesses.{Access, Reach, StepsBy}
-use Rattle.schedules.specs.Schedule.{Underway}
+use Rattle.schedules.specs.Schedule.{StepUnderway}
 use Rattle.schedules.proofs.SendsMoveBehind.{Gets}
 
 -- once something was done, sends may have come
@@ -15,7 +15,7 @@ AreLate (a ∷ done) late = Unit {0}
 
 -- The accesses that the step has made, and then the sends that came since the first of them, lead from the world's desk to
 -- the threads'.
-pub record IsBehind (p : Core Desk) (u : Underway) (q : Core Desk) : Type 0 where
+pub record IsBehind (p : Core Desk) (u : StepUnderway) (q : Core Desk) : Type 0 where
   pub setting : q.setting ≡ p.setting
   pub state : q.loop.state ≡ p.loop.state
   pub store : q.loop.store ≡ p.loop.store
@@ -27,24 +27,24 @@ pub record IsBehind (p : Core Desk) (u : Underway) (q : Core Desk) : Type 0 wher
   pub gets : Gets desk late p.loop.shared
   pub steps : StepsBy p.setting p.loop (done ++ u.ahead) u.did u.made u.state u.store
 
-abbrev pub Alike : Core Desk → Option Underway → Core Desk → Type 0
+abbrev pub Alike : Core Desk → Option StepUnderway → Core Desk → Type 0
 Alike p None q = q ≡ p
 Alike p (Some u) q = IsBehind p u q
 
-abbrev pub AllAlike : List (Core Desk) → List (Option Underway) → List (Core Desk) → Type 0
+abbrev pub AllAlike : List (Core Desk) → List (Option StepUnderway) → List (Core Desk) → Type 0
 AllAlike [] [] [] = Unit {0}
 AllAlike (p ∷ ps) (u ∷ us) (q ∷ qs) = Alike p u q × AllAlike ps us qs
 AllAlike _ _ _ = ⊥
 
 -- one loop of each
-pub record AreAlikeAt (n : ℕ) (p : Core Desk) (us : List (Option Underway)) (qs : List (Core Desk)) : Type 0 where
-  pub step : Option Underway
+pub record AreAlikeAt (n : ℕ) (p : Core Desk) (us : List (Option StepUnderway)) (qs : List (Core Desk)) : Type 0 where
+  pub step : Option StepUnderway
   pub core : Core Desk
   pub at_step : slice_get us n ≡ Some step
   pub at_core : slice_get qs n ≡ Some core
   pub alike : Alike p step core
 
-pub alike_at : (n : ℕ) (ps : List (Core Desk)) (us : List (Option Underway)) (qs : List (Core Desk)) (p : Core Desk) → AllAlike ps us qs → slice_get ps n ≡ Some p → AreAlikeAt n p us qs
+pub alike_at : (n : ℕ) (ps : List (Core Desk)) (us : List (Option StepUnderway)) (qs : List (Core Desk)) (p : Core Desk) → AllAlike ps us qs → slice_get ps n ≡ Some p → AreAlikeAt n p us qs
 alike_at n [] us qs p all at = absurd (cc)
 alike_at n (x ∷ ps) [] qs p all at = absurd all
 alike_at n (x ∷ ps) (u ∷ us) [] p all at = absurd all
@@ -56,7 +56,7 @@ alike_at (suc n) (x ∷ ps) (u ∷ us) (q ∷ qs) p all at =
     record { step = it.step; core = it.core; at_step = it.at_step; at_core = it.at_core; alike = it.alike }
 
 -- where the threads' step is known
-pub alike_known : (n : ℕ) (ps : List (Core Desk)) (us : List (Option Underway)) (qs : List (Core Desk)) (p : Core Desk) (u : Option Underway)
+pub alike_known : (n : ℕ) (ps : List (Core Desk)) (us : List (Option StepUnderway)) (qs : List (Core Desk)) (p : Core Desk) (u : Option StepUnderway)
     → AllAlike ps us qs → slice_get ps n ≡ Some p → slice_get us n ≡ Some u
     → (q : Core Desk) × (slice_get qs n ≡ Some q) × Alike p u q
 alike_known n ps us qs p u all at at_step =
@@ -65,7 +65,7 @@ alike_known n ps us qs p u all at at_step =
     (it.core, it.at_core, subst (λ x. Alike p x it.core) same it.alike)
 
 -- one of each is set
-pub alike_set : (n : ℕ) (ps : List (Core Desk)) (us : List (Option Underway)) (qs : List (Core Desk)) (p : Core Desk) (u : Option Underway) (q : Core Desk)
+pub alike_set : (n : ℕ) (ps : List (Core Desk)) (us : List (Option StepUnderway)) (qs : List (Core Desk)) (p : Core Desk) (u : Option StepUnderway) (q : Core Desk)
     → Alike p u q → AllAlike ps us qs → AllAlike (slice_set ps n p) (slice_set us n u) (slice_set qs n q)
 alike_set n [] [] [] p u q h all = all
 alike_set n [] [] (y ∷ qs) p u q h all = absurd all
@@ -76,7 +76,7 @@ alike_set zero (x ∷ ps) (v ∷ us) (y ∷ qs) p u q h all = (h, all.1)
 alike_set (suc n) (x ∷ ps) (v ∷ us) (y ∷ qs) p u q h all = (all.0, alike_set n ps us qs p u q h all.1)
 
 -- where no step is under way both are the same
-pub alike_between : (n : ℕ) (ps : List (Core Desk)) (us : List (Option Underway)) (qs : List (Core Desk)) → slice_get us n ≡ Some None → AllAlike ps us qs → slice_get qs n ≡ slice_get ps n
+pub alike_between : (n : ℕ) (ps : List (Core Desk)) (us : List (Option StepUnderway)) (qs : List (Core Desk)) → slice_get us n ≡ Some None → AllAlike ps us qs → slice_get qs n ≡ slice_get ps n
 alike_between n [] [] [] between all = refl
 alike_between n [] [] (y ∷ qs) between all = absurd all
 alike_between n [] (v ∷ us) qs between all = absurd all

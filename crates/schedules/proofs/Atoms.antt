@@ -19,9 +19,9 @@ use Rattle.world_log.specs.declared.outcome.FinishOutcome.TheVariants as finish
 use Rattle.events.specs.declared.did.StepDid.{StepDid}
 use Rattle.events.specs.declared.did.StepDid.TheVariants as did
 use Rattle.world.specs.Laws.{RunsJoin}
-use Rattle.world.specs.World.{World, Worker, Idle, Taken, Started, Only, PostsOrder, StartsJob, FinishesJob, SendsTo, WorldStep, with_loop, with_worker, job_of, told_of, core}
-use Rattle.schedules.specs.Laws.{log_of, jobs_in, is_posted, is_taken_by}
-use Rattle.schedules.specs.Schedule.{Underway, Threads, Atom, Begin, Next, End, Whole, MayBe, IsBetween, Begins, GoesOn, Ends, HandsOut, TakesOne, AtOnce, AtomStep}
+use Rattle.world.specs.World.{World, Worker, Idle, Taken, Started, Only, PostsOrder, StartsJob, FinishesJob, SendsTo, WorldStep, with_loop, with_worker_at, job_of, entry_told, core}
+use Rattle.schedules.specs.Laws.{log_of, jobs_in, is_post_entry, is_taken_by}
+use Rattle.schedules.specs.Schedule.{StepUnderway, Threads, Atom, Begin, Next, End, Whole, MayBe, IsBetween, BeginsStep, GoesOnStep, EndsStep, HandsOutAtOnce, TakesOne, AtOnce, AtomStep}
 use Rattle.schedules.proofs.Alike.{IsBehind, Alike, AllAlike, AreAlikeAt, alike_at, alike_known, alike_set}
 use Rattle.schedules.proofs.Behind.{behind_begun, behind_next, behind_started, behind_sent, behind_is, behind_ended, Received}
 use Rattle.schedules.proofs.Hands.{AreHeld, IsAt, handed, waiting, waiting_push, is_at, hand_posts, hand_takes, hand_goes, hand_drops}
@@ -48,7 +48,7 @@ Silent entry = (l : ℕ) → [] ≡ log_of l (entry ∷ [])
 silent_as : (entry told : LogEntry) → entry ≡ told → Silent told → Silent entry
 silent_as entry told is h l = h l ∙ ap (λ x. log_of l (x ∷ [])) (sym is)
 
-untaken_step : (k n : ℕ) (d : StepDid) (emits : List ℕ) → is_taken_by k (told_of n d emits) ≡ false
+untaken_step : (k n : ℕ) (d : StepDid) (emits : List ℕ) → is_taken_by k (entry_told n d emits) ≡ false
 untaken_step k n (did.Entered phase now) emits = refl
 untaken_step k n (did.Ran kind number ended) emits = refl
 untaken_step k n (did.Skipped kind number) emits = refl
@@ -71,7 +71,7 @@ module _ (joins : RunsJoin) (all : ℕ) (t : Threads) (ls : List (Core Desk)) (w
   more_room told = omega arith
 
   -- a step begins
-  begins : (n : ℕ) (told : List LogEntry) (t' : Threads) → Begins t n told t' → On told t'
+  begins : (n : ℕ) (told : List LogEntry) (t' : Threads) → BeginsStep t n told t' → On told t'
   begins n told t' h = subst (λ x. On told x) (sym h.after) (subst (λ xs. On xs (record t { steps = slice_set t.steps n (Some h.step) })) (sym h.silent) (record {
     loops = ls;
     workers = ws;
@@ -93,7 +93,7 @@ module _ (joins : RunsJoin) (all : ℕ) (t : Threads) (ls : List (Core Desk)) (w
     q = alike_known n t.world.loops t.steps ls p None alike h.at h.between
 
   -- it goes on
-  goes_on : (n : ℕ) (told : List LogEntry) (t' : Threads) → GoesOn t n told t' → On told t'
+  goes_on : (n : ℕ) (told : List LogEntry) (t' : Threads) → GoesOnStep t n told t' → On told t'
   goes_on n told t' h = subst (λ x. On told x) (sym h.after) (subst (λ xs. On xs next) (sym h.silent) (record {
     loops = ls;
     workers = ws;
@@ -118,7 +118,7 @@ module _ (joins : RunsJoin) (all : ℕ) (t : Threads) (ls : List (Core Desk)) (w
     q = alike_known n t.world.loops t.steps ls (core h.setting h.old) (Some h.step) alike h.at h.underway
 
   -- it ends: the world takes it whole, and then the sends that came
-  module _ (n : ℕ) (g : Setting) (l : Loop Desk) (u : Underway) (at : slice_get t.world.loops n ≡ Some (core g l)) (underway : slice_get t.steps n ≡ Some (Some u)) (none : u.ahead ≡ []) where
+  module _ (n : ℕ) (g : Setting) (l : Loop Desk) (u : StepUnderway) (at : slice_get t.world.loops n ≡ Some (core g l)) (underway : slice_get t.steps n ≡ Some (Some u)) (none : u.ahead ≡ []) where
     behind : (q : Core Desk) × (slice_get ls n ≡ Some q) × IsBehind (core g l) u q
     behind = alike_known n t.world.loops t.steps ls (core g l) (Some u) alike at underway
 
@@ -129,7 +129,7 @@ module _ (joins : RunsJoin) (all : ℕ) (t : Threads) (ls : List (Core Desk)) (w
     after_step = record { state = u.state; store = u.store; shared = behind.2.desk }
 
     abbrev entry : LogEntry
-    entry = told_of n u.did u.state.emits
+    entry = entry_told n u.did u.state.emits
 
     ends_run : Runs w used (entry ∷ []) (beside t.world (slice_set ls n (core g ended)) ws) used
     ends_run =
@@ -145,7 +145,7 @@ module _ (joins : RunsJoin) (all : ℕ) (t : Threads) (ls : List (Core Desk)) (w
         let both = run_join joins w (beside t.world mid ws) (beside t.world (slice_set mid n (core g ended)) ws) used used used (entry ∷ []) [] one two in
         subst (λ xs. Runs w used (entry ∷ []) (beside t.world xs ws) used) (set-set ls n (core g after_step) (core g ended)) both
 
-  ends : (n : ℕ) (told : List LogEntry) (t' : Threads) → Ends t n told t' → On told t'
+  ends : (n : ℕ) (told : List LogEntry) (t' : Threads) → EndsStep t n told t' → On told t'
   ends n told t' h = subst (λ x. On told x) (sym h.after) (subst (λ xs. On xs next) (sym h.line) (record {
     loops = slice_set ls n (core h.setting last);
     workers = ws;
@@ -155,7 +155,7 @@ module _ (joins : RunsJoin) (all : ℕ) (t : Threads) (ls : List (Core Desk)) (w
     alike = alike_set n t.world.loops t.steps ls (core h.setting last) None (core h.setting last) refl alike;
     hands = hands;
     jobs = jobs_are;
-    room = more_room (told_of n h.step.did h.step.state.emits ∷ []);
+    room = more_room (entry_told n h.step.did h.step.state.emits ∷ []);
   })) where
     last : Loop Desk
     last = record { state = h.step.state; store = h.step.store; shared = h.old.shared }
@@ -242,7 +242,7 @@ module _ (joins : RunsJoin) (all : ℕ) (t : Threads) (ls : List (Core Desk)) (w
         long = length_push bag (Some o)
 
         counts : jobs_in (entry ∷ []) ≡ 1
-        counts = ap (λ x. jobs_in (x ∷ [])) told ∙ count_one is_posted (line.Post n (post.Request o.request))
+        counts = ap (λ x. jobs_in (x ∷ [])) told ∙ count_one is_post_entry (line.Post n (post.Request o.request))
 
         below : used < all
         below = omega (arith, room, counts)
@@ -274,7 +274,7 @@ module _ (joins : RunsJoin) (all : ℕ) (t : Threads) (ls : List (Core Desk)) (w
       posts_if true fails k = tells (line.Failed n) (λ i. refl) (λ w' j. (g, l, here, rw fails j)) k
       posts_if false goes k = posts_order (next_order_of l.state) goes refl k
 
-    posts : (n : ℕ) → IsBetween t n → used + jobs_in (entry ∷ []) ≤ all → HandsOut t.world n entry r' → On (entry ∷ []) next
+    posts : (n : ℕ) → IsBetween t n → used + jobs_in (entry ∷ []) ≤ all → HandsOutAtOnce t.world n entry r' → On (entry ∷ []) next
     posts n between room h = posts_if n between room h.0 h.1 h.2 (is_failed h.1.state.status) refl h.3
 
     -- a job is taken
@@ -308,7 +308,7 @@ module _ (joins : RunsJoin) (all : ℕ) (t : Threads) (ls : List (Core Desk)) (w
     -- a job is begun
     module _ (n : ℕ) (o : WorkOrder) (g : Setting) (l m : Loop Desk) (held : slice_get t.world.workers n ≡ Some (Taken o)) (at : slice_get t.world.loops o.loop_no ≡ Some (core g l))
         (moves : DeskStarts l.shared (o.slot, o.request) true m.shared) (state : m.state ≡ l.state) (store : m.store ≡ l.store)
-        (told : entry ≡ line.Start n (start.Begun (job_of o))) (after : r' ≡ with_worker (with_loop t.world o.loop_no g m) n (Started o)) where
+        (told : entry ≡ line.Start n (start.Begun (job_of o))) (after : r' ≡ with_worker_at (with_loop t.world o.loop_no g m) n (Started o)) where
       abbrev c : ℕ × ℕ
       c = (o.slot, o.request)
 
@@ -321,10 +321,10 @@ module _ (joins : RunsJoin) (all : ℕ) (t : Threads) (ls : List (Core Desk)) (w
           ∙ ap (λ x. record { state = l.state; store = x; shared = m.shared }) store
           ∙ ap (λ x. record { state = l.state; store = l.store; shared = x }) moves.1
 
-      abbrev Begun : Option Underway → Core Desk → Type 0
+      abbrev Begun : Option StepUnderway → Core Desk → Type 0
       Begun u q = (is_open q.loop.shared c ≡ true) × Alike (core g m) u (core q.setting (sharing q.loop (started q.loop.shared c)))
 
-      begun_at : (u : Option Underway) (q : Core Desk) → slice_get ls place ≡ Some q → Alike (core g l) u q → Begun u q
+      begun_at : (u : Option StepUnderway) (q : Core Desk) → slice_get ls place ≡ Some q → Alike (core g l) u q → Begun u q
       begun_at None q at_q same = (
         ap (λ (x : Core Desk). is_open x.loop.shared c) same ∙ sym moves.0,
         ap (λ (x : Core Desk). core x.setting (sharing x.loop (started x.loop.shared c))) same ∙ ap (core g) (sym begun_is),
@@ -381,16 +381,16 @@ module _ (joins : RunsJoin) (all : ℕ) (t : Threads) (ls : List (Core Desk)) (w
         Ws = slice_set ws (hand n) (Started o)
 
     -- a job is dropped: the worker that stands for this one keeps it
-    drops : (n : ℕ) (o : WorkOrder) → slice_get t.world.workers n ≡ Some (Taken o) → entry ≡ line.Start n (start.Dropped (job_of o)) → r' ≡ with_worker t.world n Idle → On (entry ∷ []) next
+    drops : (n : ℕ) (o : WorkOrder) → slice_get t.world.workers n ≡ Some (Taken o) → entry ≡ line.Start n (start.Dropped (job_of o)) → r' ≡ with_worker_at t.world n Idle → On (entry ∷ []) next
     drops n o held told after =
-        idle (with_worker t.world n Idle) after refl (silent_as entry (line.Start n (start.Dropped (job_of o))) told (λ l. refl))
+        idle (with_worker_at t.world n Idle) after refl (silent_as entry (line.Start n (start.Dropped (job_of o))) told (λ l. refl))
         (subst (λ (x : World). AllAlike x.loops t.steps ls) (sym after) alike)
         (subst (λ (x : World). AreHeld all bag hand x.workers ws) (sym after) (hand_drops all bag hand t.world.workers ws hands n (Taken o) held)) (ap (λ (x : World). x.jobs) after)
 
     starts_if : (n : ℕ) (o : WorkOrder) (ok : Bool) (g : Setting) (l m : Loop Desk) → slice_get t.world.workers n ≡ Some (Taken o) → slice_get t.world.loops o.loop_no ≡ Some (core g l)
         → DeskStarts l.shared (o.slot, o.request) ok m.shared → m.state ≡ l.state → m.store ≡ l.store
-        → MatchBool ok ((entry ≡ line.Start n (start.Begun (job_of o))) × (r' ≡ with_worker (with_loop t.world o.loop_no g m) n (Started o)))
-        ((entry ≡ line.Start n (start.Dropped (job_of o))) × (r' ≡ with_worker t.world n Idle)) → On (entry ∷ []) next
+        → MatchBool ok ((entry ≡ line.Start n (start.Begun (job_of o))) × (r' ≡ with_worker_at (with_loop t.world o.loop_no g m) n (Started o)))
+        ((entry ≡ line.Start n (start.Dropped (job_of o))) × (r' ≡ with_worker_at t.world n Idle)) → On (entry ∷ []) next
     starts_if n o true g l m held at moves state store h = starts n o g l m held at moves state store h.0 h.1
     starts_if n o false g l m held at moves state store h = drops n o held h.0 h.1
 
@@ -486,7 +486,7 @@ module _ (joins : RunsJoin) (all : ℕ) (t : Threads) (ls : List (Core Desk)) (w
           let same : core g m ≡ core g l = ap (core g) (sent_is ∙ ap (sharing l) moves.1) in
           later (subst (λ x. Alike x it.step it.core) (sym same) it.alike)
       sends true moves = by it.step it.alike now_sent later where
-        by : (u : Option Underway) → Alike (core g l) u it.core
+        by : (u : Option StepUnderway) → Alike (core g l) u it.core
             → (DeskGets it.core.loop.shared a true m.shared → Alike (core g m) u (core it.core.setting (sharing it.core.loop m.shared)) → On (entry ∷ []) next)
             → (Alike (core g m) u it.core → On (entry ∷ []) next) → On (entry ∷ []) next
         by None same now later =

@@ -6,7 +6,7 @@ use Rattle.phases.specs.Step.{StepsWith, sharing, over}
 use Rattle.desk.specs.Desk.{Desk, desk_calls, is_open, started, DeskGets}
 use Rattle.world.specs.World.{core}
 use Rattle.schedules.specs.Accesses.{Access, Moves, Reach, StepsBy}
-use Rattle.schedules.specs.Schedule.{Underway}
+use Rattle.schedules.specs.Schedule.{StepUnderway}
 use Rattle.schedules.proofs.Alike.{IsBehind, AreLate}
 use Rattle.schedules.proofs.Numbers.{step_opens, others_front}
 use Rattle.schedules.proofs.SendsMoveBehind.{Gets, gets_more, gets_open, gets_started, moves_first, TakesFirst, takes_first, no_take_behind}
@@ -14,7 +14,7 @@ use Rattle.schedules.proofs.StepsByAccess.{step_whole}
 use Rattle.schedules.proofs.StartsMoveBefore.{OpenOthers, StartsAhead, starts_ahead, reach_more}
 
 -- as the step begins
-pub behind_begun : (g : Setting) (l : Loop Desk) (u : Underway) (q : Core Desk) → q ≡ core g l → StepsBy g l u.ahead u.did u.made u.state u.store → IsBehind (core g l) u q
+pub behind_begun : (g : Setting) (l : Loop Desk) (u : StepUnderway) (q : Core Desk) → q ≡ core g l → StepsBy g l u.ahead u.did u.made u.state u.store → IsBehind (core g l) u q
 behind_begun g l u q is steps = subst (IsBehind (core g l) u) (sym is) (record {
   setting = refl;
   state = refl;
@@ -28,7 +28,7 @@ behind_begun g l u q is steps = subst (IsBehind (core g l) u) (sym is) (record {
   steps = steps;
 })
 
-module _ (g : Setting) (l : Loop Desk) (u : Underway) (q : Core Desk) (b : IsBehind (core g l) u q) where
+module _ (g : Setting) (l : Loop Desk) (u : StepUnderway) (q : Core Desk) (b : IsBehind (core g l) u q) where
   -- the step goes on
   module _ (a : Access) (ahead : List Access) (e : Desk) (moves : Moves l.shared a e) where
     abbrev Passed : List Access → Type 0

@@ -21,7 +21,7 @@ use Rattle.world_log.specs.declared.entry.LogEntry.TheVariants as line
 use Rattle.world_log.specs.declared.outcome.PostOutcome.TheVariants as post
 use Rattle.world.specs.Laws.{AreInPlace}
 use Rattle.world.specs.World.{World, Worker, Idle, Taken, Started, Answer, Only, UnlessFailed, PostsOrder, TakesJob, StartsJob, FinishesJob, CollectsFrom}
-use Rattle.world.specs.World.{WorldStep, opening_world, opening_loop, with_loop, with_worker, core}
+use Rattle.world.specs.World.{WorldStep, opening_world, opening_loop, with_loop, with_worker_at, core}
 use Rattle.schedules.proofs.Hands.{set_cases}
 use Rattle.schedules.proofs.Numbers.{AreOwn, Numbered, Kept, own_found, keeps_numbered, staged}
 
@@ -193,7 +193,7 @@ module _ (w w' : World) (s : Stands w) where
 
   starts : (n : ℕ) (o : WorkOrder) (ok : Bool) (g : Setting) (l m : Loop Desk) (entry told dropped : LogEntry) → slice_get w.workers n ≡ Some (Taken o)
       → slice_get w.loops o.loop_no ≡ Some (core g l) → m.state ≡ l.state
-      → MatchBool ok ((entry ≡ told) × (w' ≡ with_worker (with_loop w o.loop_no g m) n (Started o))) ((entry ≡ dropped) × (w' ≡ with_worker w n Idle)) → Stands w'
+      → MatchBool ok ((entry ≡ told) × (w' ≡ with_worker_at (with_loop w o.loop_no g m) n (Started o))) ((entry ≡ dropped) × (w' ≡ with_worker_at w n Idle)) → Stands w'
   starts n o true g l m entry told dropped at at_loop same h =
       let loops : w'.loops ≡ slice_set w.loops o.loop_no (core g m) = ap (λ (x : World). x.loops) h.1 in
       let numbered = same_requests o.loop_no g l m at_loop (ap (λ (x : State). x.requests) same) in

@@ -7,7 +7,7 @@ use Rattle.events.specs.declared.phase.EntryKind.TheVariants as kind
 use Rattle.world_log.specs.declared.entry.LogEntry.{LogEntry}
 use Rattle.world_log.specs.declared.entry.LogEntry.TheVariants as line
 use Rattle.world.specs.Laws.{AreInPlace, is_after}
-use Rattle.world.specs.Laws.{IsAfterOnce as IsAfterOnceInWorld}
+use Rattle.world.specs.Laws.{AfterOnceInLog as IsAfterOnceInWorld}
 use Rattle.schedules.specs.Laws.{IsAsInWorld, is_of_loop, jobs_in}
 use Rattle.schedules.specs.Schedule.{Threads, Atom, ThreadsRun, opening_threads}
 

@@ -12,7 +12,7 @@ use Rattle.world_log.specs.declared.step.Step.TheVariants as step
 use Rattle.world_log.specs.declared.entry.LogEntry.{LogEntry}
 use Rattle.world_log.specs.declared.entry.LogEntry.TheVariants as line
 use Rattle.world_log.specs.declared.outcome.CollectOutcome.TheVariants as collect
-use Rattle.world.specs.World.{World, Worker, Answer, Only, UnlessFailed, Collects, CollectsFrom, Cancels, Clocks, WorldStep, with_loop, with_replies, core}
+use Rattle.world.specs.World.{World, Worker, Answer, Only, UnlessFailed, Collects, CollectsFrom, CancelsAt, ClocksAt, WorldStep, with_loop, with_replies, core}
 use Rattle.schedules.specs.Laws.{is_taken_by}
 use Rattle.schedules.proofs.RunsOfOneJobEach.{beside}
 
@@ -109,13 +109,13 @@ module _ (r r' : World) (n : ℕ) (entry : LogEntry) (ls : List (Core Desk)) (ws
         other _ (λ w'. WorldStep w (step.Collect n) entry w') (λ w' k. (h.0, h.1, h.2, here, h.4, k))
         (unless_out h.0 h.1 h.3 here _ (λ w'. CollectsFrom w n h.0 h.1 h.2 entry w') (collects_from h.0 h.1 h.3 here h.2) h.5)
 
-    pub owner_cancels : (request : ℕ) → Cancels r n request entry r' → Out (λ w'. WorldStep w (step.Cancel n request) entry w')
+    pub owner_cancels : (request : ℕ) → CancelsAt r n request entry r' → Out (λ w'. WorldStep w (step.Cancel n request) entry w')
     owner_cancels request h =
         let here = same (core h.0 h.1) h.4 in
         other _ (λ w'. WorldStep w (step.Cancel n request) entry w') (λ w' k. (h.0, h.1, h.2, h.3, here, k))
         (unless_out h.0 h.1 h.4 here _ _ (cancels h.0 h.1 h.4 here request h.3 h.2) h.5)
 
-    pub owner_clocks : (ms : ℕ) → Clocks r n ms entry r' → Out (λ w'. WorldStep w (step.Clock n ms) entry w')
+    pub owner_clocks : (ms : ℕ) → ClocksAt r n ms entry r' → Out (λ w'. WorldStep w (step.Clock n ms) entry w')
     owner_clocks ms h =
         let here = same (core h.0 h.1) h.2 in
         other _ (λ w'. WorldStep w (step.Clock n ms) entry w') (λ w' k. (h.0, h.1, here, k))

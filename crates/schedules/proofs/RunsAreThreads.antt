@@ -23,7 +23,7 @@ use Rattle.world.specs.Laws.{RunsJoin}
 use Rattle.world.specs.World.{World, Worker, Idle, Taken, Started, Only, PostsOrder, TakesJob, StepsLoop, WorldStep, WorldRun, HasLoop, opening_world, with_loop, core}
 use Rattle.schedules.specs.Accesses.{Access, Moves, Reach}
 use Rattle.schedules.specs.Laws.{HasThreads, is_full}
-use Rattle.schedules.specs.Schedule.{Underway, Threads, Atom, Begin, Next, End, Whole, MayBe, AtOnce, TakesOne, AtomStep, ThreadsRun, opening_threads}
+use Rattle.schedules.specs.Schedule.{StepUnderway, Threads, Atom, Begin, Next, End, Whole, MayBe, AtOnce, TakesOne, AtomStep, ThreadsRun, opening_threads}
 use Rattle.schedules.proofs.StepsByAccess.{step_split}
 
 threads_join : (atoms more : List Atom) (log lines : List LogEntry) (t mid t' : Threads) → ThreadsRun t atoms log mid → ThreadsRun mid more lines t' → ThreadsRun t (atoms ++ more) (log ++ lines) t'
@@ -46,8 +46,8 @@ step_alone : (a : Atom) (told : List LogEntry) (t t' : Threads) → AtomStep t a
 step_alone a told t t' moves = (t', told, [], moves, (refl, refl), sym (append-nil told))
 
 -- one step of a loop
-module _ (us : List (Option Underway)) (w w' : World) (n : ℕ) (entry : LogEntry) (h : StepsLoop w n entry w') (rests : slice_get us n ≡ Some None) where
-  abbrev underway : List Access → Underway
+module _ (us : List (Option StepUnderway)) (w w' : World) (n : ℕ) (entry : LogEntry) (h : StepsLoop w n entry w') (rests : slice_get us n ≡ Some None) where
+  abbrev underway : List Access → StepUnderway
   underway accesses = record { ahead = accesses; did = h.did; made = h.made; state = h.new.state; store = h.new.store }
 
   -- the loop at a desk, with some accesses ahead
@@ -138,7 +138,7 @@ hands_out : (failed full : Bool) (entry : LogEntry) (w w' : World) (n : ℕ) (P 
 hands_out true full entry w w' n P room h = h
 hands_out false full entry w w' n P room h = not_full full entry w w' n P room h
 
-module _ (us : List (Option Underway)) (w w' : World) (entry : LogEntry)
+module _ (us : List (Option StepUnderway)) (w w' : World) (entry : LogEntry)
     (rests : (n : ℕ) (p : Core Desk) → slice_get w.loops n ≡ Some p → slice_get us n ≡ Some None) (room : is_full entry ≡ false) where
   abbrev still : World → Threads
   still x = record { world = x; steps = us }
@@ -173,7 +173,7 @@ none_full entry log none = by (is_full entry) refl where
   by false is = (is, (let all = sum_by-cons (λ x. cond {A = ℕ} (is_full x) 1 0) entry log in omega (arith, all, none)))
 
 module _ (calls : EachRunCalls) (history : IsHistory) (joins : RunsJoin) (settings : List Setting) (workers : ℕ) where
-  abbrev Us : List (Option Underway)
+  abbrev Us : List (Option StepUnderway)
   Us = (opening_threads settings workers).steps
 
   setting_is : (done : List Step) (before : List LogEntry) (w : World) → WorldRun (opening_world settings workers) done before w

@@ -7,7 +7,7 @@ use Rattle.world_log.specs.declared.step.Step.{Step}
 use Rattle.world_log.specs.declared.entry.LogEntry.{LogEntry}
 use Rattle.world.specs.Laws.{AreInPlace, RunsJoin}
 use Rattle.world.specs.World.{World, Worker, Idle, WorldRun, opening_loop}
-use Rattle.schedules.specs.Laws.{HasWorld, jobs_in, is_posted}
+use Rattle.schedules.specs.Laws.{HasWorld, jobs_in, is_post_entry}
 use Rattle.schedules.specs.Schedule.{Threads, Atom, ThreadsRun, opening_threads}
 use Rattle.schedules.proofs.Alike.{AllAlike, alike_between, alike_open}
 use Rattle.schedules.proofs.Atoms.{atom_runs}
@@ -42,7 +42,7 @@ module _ (joins : RunsJoin) (all : ℕ) where
     alike = alike;
   })
   ran (a ∷ atoms) t ls ws bag hand log t' alike hands jobs stands room h =
-      let split : jobs_in log ≡ jobs_in h.1 + jobs_in h.2 = ap jobs_in h.5 ∙ count_append is_posted h.1 h.2 in
+      let split : jobs_in log ≡ jobs_in h.1 + jobs_in h.2 = ap jobs_in h.5 ∙ count_append is_post_entry h.1 h.2 in
       let one = atom_runs joins all t ls ws bag hand alike hands jobs stands a h.1 h.0 (omega (arith, room, split)) h.3 in
       let next : Stands (beside h.0.world one.loops one.workers) = run_stands one.runs.steps one.runs.lines (beside t.world ls ws) (beside h.0.world one.loops one.workers) one.runs.run stands in
       let less = one.room in

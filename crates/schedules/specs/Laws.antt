@@ -33,12 +33,12 @@ abbrev pub log_of : (l : ℕ) → List LogEntry → List LogEntry
 log_of l log = filter (is_of_loop l) log
 
 -- the line says that a job was posted; how many were
-abbrev pub is_posted : LogEntry → Bool
-is_posted (line.Post n (post.Request request)) = true
-is_posted _ = false
+abbrev pub is_post_entry : LogEntry → Bool
+is_post_entry (line.Post n (post.Request request)) = true
+is_post_entry _ = false
 
 abbrev pub jobs_in : List LogEntry → ℕ
-jobs_in log = count_by is_posted log
+jobs_in log = count_by is_post_entry log
 
 -- the line says that this worker took a job
 abbrev pub is_taken_by : (worker : ℕ) → LogEntry → Bool
@@ -63,8 +63,8 @@ IsAsInWorld =
     → ThreadsRun (opening_threads settings workers) atoms log t → HasWorld settings log t
 
 -- in every such run each loop and request have at most one after-work callback
-abbrev pub IsAfterOnce : Type 0
-IsAfterOnce =
+abbrev pub AfterOnceInSchedule : Type 0
+AfterOnceInSchedule =
     (settings : List Setting) (workers : ℕ) (atoms : List Atom) (log : List LogEntry) (t : Threads) → AreInPlace settings
     → ThreadsRun (opening_threads settings workers) atoms log t → (l request : ℕ) → count_by (is_after l request) log ≤ 1
 

@@ -1,6 +1,6 @@
 //! Laws of what loops and workers do in threads. Their functions do nothing: each contract is the law.
 
-ghost use Rattle.schedules.specs.Laws.{IsAfterOnce, IsAsInWorld, IsOfThreads, IsSplit};
+ghost use Rattle.schedules.specs.Laws.{AfterOnceInSchedule, IsAsInWorld, IsOfThreads, IsSplit};
 
 /// A step of a loop over its desk is one that makes some accesses, which lead from that desk to the next; and each such
 /// is a step over the desk. So splitting a step into its accesses loses none, and adds none where nothing comes between.
@@ -21,7 +21,7 @@ pub fn as_in_world()
 /// So what a law says of the log of a loop in every run of the world holds in threads: each request has at most one
 /// after-work callback.
 pub fn after_once()
-    ensures { IsAfterOnce }
+    ensures { AfterOnceInSchedule }
 {
     as_in_world();
     world::laws::after_once();

@@ -16,7 +16,7 @@ use Rattle.events.specs.declared.phase.EntryKind.TheVariants as kind
 use Rattle.phases.specs.Guests.{GuestCall}
 use Rattle.phases.specs.History.{Event, History, IsOpening}
 use Rattle.phases.specs.Laws.{WasAsked, AreDue}
-use Rattle.phases.specs.Laws.{IsAfterOnce as LoopOnce, IsAfterOwn as LoopOwn, IsAfterLast as LoopLast, WasCancelled as LoopCancelled}
+use Rattle.phases.specs.Laws.{IsAfterOnce as LoopOnce, IsAfterOwn as LoopOwn, IsAfterLast as LoopLast, IsCancelledInLog as LoopCancelled}
 use Rattle.phases.specs.Outside.{is_failed, next_order_of}
 use Rattle.phases.specs.Requests.{Completion}
 use Rattle.phases.specs.State.{Setting, State, Loop, Core}
@@ -25,10 +25,10 @@ use Rattle.world_log.specs.declared.step.Step.{Step}
 use Rattle.world_log.specs.declared.step.Step.TheVariants as step
 use Rattle.world_log.specs.declared.entry.LogEntry.{LogEntry}
 use Rattle.world.specs.World.{World, Worker, Idle, Taken, Started, Answer, UnlessFailed, PostsOrder, TakesJob, StartsJob, FinishesJob, CollectsFrom, StepsLoop}
-use Rattle.world.specs.World.{WorldStep, WorldRun, HasLoop, opening_world, opening_loop, told_of, core}
+use Rattle.world.specs.World.{WorldStep, WorldRun, HasLoop, opening_world, opening_loop, entry_told, core}
 use Rattle.world.proofs.GuestsOfRuns.{step_calls, guest_calls}
 use Rattle.world.specs.Histories.{AreTold, HasHistory}
-use Rattle.world.specs.Laws.{is_after, WasCancelled, IsOwn}
+use Rattle.world.specs.Laws.{is_after, IsCancelledInLog, IsOwn}
 use Rattle.world.proofs.EndsAreLogged.{finished_after, given_end}
 use Rattle.world.proofs.Runs.{Keeps, Told, AllEnds, step_next, run_keeps}
 use Rattle.world.proofs.LogsTellHistories.{history_join, step_callback, tells_callback}
@@ -42,7 +42,7 @@ some_of (Some x) h = (x, refl)
 
 -- only a step of a loop tells a callback
 module _ (j r : ℕ) where
-  after_told : (n : ℕ) (told : StepDid) (emits : List ℕ) → is_after j r (told_of n told emits) ≡ true → n ≡ j
+  after_told : (n : ℕ) (told : StepDid) (emits : List ℕ) → is_after j r (entry_told n told emits) ≡ true → n ≡ j
   after_told n (did.Ran kind.After number ended) emits h = eqb-true n j (and_parts (n == j) (number == r) h).0
   after_told n _ emits h = absurd (cc)
 
@@ -148,13 +148,13 @@ module _ (settings : List Setting) (j : ℕ) where
     -- what was cancelled, in the log and in the history
     cancelled_same : (Begins : Setting → Loop Desk → Type 0) (there : Bool) (r : ℕ) (lines : List LogEntry) (made : List GuestCall) (g : Setting)
         (l : Loop Desk) (it : Told Begins there j lines made g l)
-        → LoopCancelled r it.events ↔ WasCancelled j r lines made
+        → LoopCancelled r it.events ↔ IsCancelledInLog j r lines made
     cancelled_same Begins there r lines made g l it = (to, back) where
-      to : LoopCancelled r it.events → WasCancelled j r lines made
+      to : LoopCancelled r it.events → IsCancelledInLog j r lines made
       to (inl h) = inl ((it.cancels r).1 h)
       to (inr a) = inr (a.0, subst (λ cs. Contains cs a.0) it.calls a.1, a.2)
 
-      back : WasCancelled j r lines made → LoopCancelled r it.events
+      back : IsCancelledInLog j r lines made → LoopCancelled r it.events
       back (inl h) = inl ((it.cancels r).0 h)
       back (inr a) = inr (a.0, subst (λ cs. Contains cs a.0) (sym it.calls) a.1, a.2)
 
@@ -188,7 +188,7 @@ module _ (settings : List Setting) (j : ℕ) where
             asked = subst (λ cs. WasAsked here.setting cs it.request.order) before.calls it.asked;
             runs = record { old = here.old; new = here.new; did = here.did; made = here.made; at = here.at; runs = it.runs; told = here.told; after = here.after };
             due = due;
-            finished = given_end log j r here.old.state.requests it.request it.completion (WasCancelled j r log Made) answered it.runs.stood it.numbered it.runs.given due;
+            finished = given_end log j r here.old.state.requests it.request it.completion (IsCancelledInLog j r log Made) answered it.runs.stood it.numbered it.runs.given due;
           }
 
       -- from here on
@@ -213,7 +213,7 @@ module _ (settings : List Setting) (j : ℕ) where
           r (sym (tells_callback j r entry e told.0) ∙ is) cancelled
 
       pub last_after : LoopLast desk_calls → (behind : List Step) (more : List LogEntry) (w'' : World) (rest : WorldRun w' behind more w'')
-          → WasCancelled j r (entry ∷ more) (step_calls j w s entry w' h ++ guest_calls j w' behind more w'' rest) → ⊥
+          → IsCancelledInLog j r (entry ∷ more) (step_calls j w s entry w' h ++ guest_calls j w' behind more w'' rest) → ⊥
       last_after law behind more w'' rest cancelled =
           let next = step_next From true j w [] [] from_keeps s entry w' h in
           let then_on = run_keeps From true j behind more w' w'' (entry ∷ []) (step_calls j w s entry w' h) next rest in

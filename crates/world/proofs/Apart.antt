@@ -35,9 +35,9 @@ use Rattle.world_log.specs.declared.outcome.StartOutcome.TheVariants as start
 use Rattle.world_log.specs.declared.outcome.FinishOutcome.TheVariants as finish
 use Rattle.world_log.specs.declared.outcome.CollectOutcome.TheVariants as collect
 use Rattle.world.proofs.GuestsOfRuns.{step_calls, guest_calls}
-use Rattle.world.specs.Laws.{is_of_job, is_begun, is_finished, WasCancelled, AreInPlace}
+use Rattle.world.specs.Laws.{is_of_job, is_begun, is_finished, IsCancelledInLog, AreInPlace}
 use Rattle.world.specs.World.{World, Worker, Idle, Taken, Started, Answer, Only, UnlessFailed, PostsOrder, TakesJob, StartsJob, FinishesJob, CollectsFrom}
-use Rattle.world.specs.World.{StepsLoop, WorldStep, WorldRun, HasLoop, opening_world, opening_loop, with_loop, with_worker, job_of, told_of, core}
+use Rattle.world.specs.World.{StepsLoop, WorldStep, WorldRun, HasLoop, opening_world, opening_loop, with_loop, with_worker_at, job_of, entry_told, core}
 use Rattle.world.proofs.AfterOnce.{some_of}
 use Rattle.world.proofs.EndsAreLogged.{set_at}
 use Rattle.world.proofs.OneWay.{IsCounted, own_orders, step_counted, opening_counted, one_way_after}
@@ -51,7 +51,7 @@ is_cancel_line _ = false
 
 module _ (l r : ℕ) where
   abbrev Won : List LogEntry → List GuestCall → Type 0
-  Won log made = WasCancelled l r log made
+  Won log made = IsCancelledInLog l r log made
 
   abbrev Begun : List LogEntry → Type 0
   Begun log = 1 ≤ count_by (is_begun l r) log
@@ -216,7 +216,7 @@ module _ (l r : ℕ) where
       there = λ b. set_some n (core g m) loops ∙ s.there (begun_back q.0 b);
     }
 
-    step_quiet : (n : ℕ) (told : StepDid) (emits : List ℕ) → (is_begun l r (told_of n told emits) ≡ false) × (is_cancel_line (told_of n told emits) ≡ false)
+    step_quiet : (n : ℕ) (told : StepDid) (emits : List ℕ) → (is_begun l r (entry_told n told emits) ≡ false) × (is_cancel_line (entry_told n told emits) ≡ false)
     step_quiet n (did.Entered phase now) emits = (refl, refl)
     step_quiet n (did.Ran kind number ended) emits = (refl, refl)
     step_quiet n (did.Skipped kind number) emits = (refl, refl)
@@ -382,8 +382,8 @@ module _ (l r : ℕ) where
 
     started_next : (n : ℕ) (o : WorkOrder) (ok : Bool) (g : Setting) (x m : Loop Desk) → slice_get w.workers n ≡ Some (Taken o) → slice_get w.loops o.loop_no ≡ Some (core g x)
         → DeskStarts x.shared (o.slot, o.request) ok m.shared → m.state ≡ x.state
-        → MatchBool ok ((entry ≡ line.Start n (start.Begun (job_of o))) × (w' ≡ with_worker (with_loop w o.loop_no g m) n (Started o)))
-        ((entry ≡ line.Start n (start.Dropped (job_of o))) × (w' ≡ with_worker w n Idle)) → Next []
+        → MatchBool ok ((entry ≡ line.Start n (start.Begun (job_of o))) × (w' ≡ with_worker_at (with_loop w o.loop_no g m) n (Started o)))
+        ((entry ≡ line.Start n (start.Dropped (job_of o))) × (w' ≡ with_worker_at w n Idle)) → Next []
     started_next n o true g x m held at moves same h =
         begun_next n o g x m (s.workers n (Taken o) held) at moves same h.0 (ap (λ (y : World). y.loops) h.1) (ap (λ (y : World). y.jobs) h.1) (ap (λ (y : World). y.workers) h.1)
     started_next n o false g x m held at moves same h =
@@ -525,7 +525,7 @@ module _ (settings : List Setting) (placed : AreInPlace settings) (workers : ℕ
   none_of (suc b) f never few = absurd (never (omega arith))
 
   pub apart_after : (steps : List Step) (log : List LogEntry) (w : World) (run : WorldRun (opening_world settings workers) steps log w)
-      → WasCancelled l r log (guest_calls l (opening_world settings workers) steps log w run)
+      → IsCancelledInLog l r log (guest_calls l (opening_world settings workers) steps log w run)
       → (count_by (is_begun l r) log ≡ 0) × (count_by (is_finished l r) log ≡ 0)
   apart_after steps log w run won =
       let s = run_stands steps log (opening_world settings workers) w [] [] (opening_counted settings placed workers l r once own) (opening_stands l r settings workers) run in

@@ -17,8 +17,8 @@ use Rattle.phases.proofs.CancelFates.{CancelFate, cancelled, stayed, fate_in}
 use Rattle.desk.specs.Desk.{Desk, desk_calls}
 use Rattle.world_log.specs.declared.entry.LogEntry.{LogEntry}
 use Rattle.world_log.specs.declared.entry.LogEntry.TheVariants as line
-use Rattle.world.specs.World.{told_of}
-use Rattle.world.specs.Histories.{is_of_owner, Tells, AreTold}
+use Rattle.world.specs.World.{entry_told}
+use Rattle.world.specs.Histories.{is_of_owner, EntryTells, AreTold}
 use Rattle.world.specs.Laws.{is_after}
 
 pub history_push : (g : Setting) (events : List Event) (e : Event) (start old new : Loop Desk) → History desk_calls g start events old
@@ -31,14 +31,14 @@ history_join g [] ys start mid new h k = subst (λ l. History desk_calls g l ys 
 history_join g (x ∷ xs) ys start mid new h k = (h.0, h.1, history_join g xs ys h.0 mid new h.2 k)
 
 module _ (j : ℕ) where
-  pub told_push : (log : List LogEntry) (events : List Event) (entry : LogEntry) (e : Event) → AreTold j log events → Tells j entry e → AreTold j (log ++ entry ∷ []) (events ++ e ∷ [])
+  pub told_push : (log : List LogEntry) (events : List Event) (entry : LogEntry) (e : Event) → AreTold j log events → EntryTells j entry e → AreTold j (log ++ entry ∷ []) (events ++ e ∷ [])
   told_push [] [] entry e all h = (h, tt)
   told_push [] (x ∷ events) entry e all h = absurd all
   told_push (y ∷ log) [] entry e all h = absurd all
   told_push (y ∷ log) (x ∷ events) entry e all h = (all.0, told_push log events entry e all.1 h)
 
   -- an after-work callback
-  pub step_callback : (r : ℕ) (told : StepDid) (emits : List ℕ) (made : List _) → is_after j r (told_of j told emits) ≡ is_after_event r (Stepped told emits made)
+  pub step_callback : (r : ℕ) (told : StepDid) (emits : List ℕ) (made : List _) → is_after j r (entry_told j told emits) ≡ is_after_event r (Stepped told emits made)
   step_callback r (did.Entered phase now) emits made = refl
   step_callback r (did.Ran kind.After number ended) emits made = rw (eq-eqb j j refl) refl
   step_callback r (did.Ran kind.Start number ended) emits made = refl
@@ -60,7 +60,7 @@ module _ (j : ℕ) where
   others_callback r (line.Ran n kind.After number ended emits) h = and_none (n == j) (number == r) h
   others_callback r _ h = refl
 
-  pub tells_callback : (r : ℕ) (entry : LogEntry) (e : Event) → Tells j entry e → is_after j r entry ≡ is_after_event r e
+  pub tells_callback : (r : ℕ) (entry : LogEntry) (e : Event) → EntryTells j entry e → is_after j r entry ≡ is_after_event r e
   tells_callback r entry (Stepped did emits made) h = ap (is_after j r) h ∙ step_callback r did emits made
   tells_callback r entry (OrderAsked None) h = ap (is_after j r) h
   tells_callback r entry (OrderAsked (Some o)) h = ap (is_after j r) h
@@ -92,7 +92,7 @@ module _ (j : ℕ) where
     λ is. absurd (let it : is_cancel_event e ≡ true = ap is_cancel_event is in cc),
   )
 
-  step_is_none : (told : StepDid) (emits : List ℕ) → is_cancel_line (told_of j told emits) ≡ false
+  step_is_none : (told : StepDid) (emits : List ℕ) → is_cancel_line (entry_told j told emits) ≡ false
   step_is_none (did.Entered phase now) emits = refl
   step_is_none (did.Ran kind number ended) emits = refl
   step_is_none (did.Skipped kind number) emits = refl
@@ -103,8 +103,8 @@ module _ (j : ℕ) where
   zero_both rs rs' n answer (stayed refused e) h = absurd (refused.signed h)
   zero_both rs rs' n answer (cancelled q found is e) h = is
 
-  pub tells_cancel : (g : Setting) (r : ℕ) (entry : LogEntry) (e : Event) (old new : Loop Desk) → EventStep desk_calls g e old new → Tells j entry e → IsLine r entry ↔ IsEvent r e
-  tells_cancel g r entry (Stepped did emits made) old new step h = neither r entry (told_of j did emits) (Stepped did emits made) h (step_is_none did emits) refl
+  pub tells_cancel : (g : Setting) (r : ℕ) (entry : LogEntry) (e : Event) (old new : Loop Desk) → EventStep desk_calls g e old new → EntryTells j entry e → IsLine r entry ↔ IsEvent r e
+  tells_cancel g r entry (Stepped did emits made) old new step h = neither r entry (entry_told j did emits) (Stepped did emits made) h (step_is_none did emits) refl
   tells_cancel g r entry (OrderAsked None) old new step h = neither r entry _ (OrderAsked None) h refl refl
   tells_cancel g r entry (OrderAsked (Some o)) old new step h = neither r entry _ (OrderAsked (Some o)) h refl refl
   tells_cancel g r entry (EndOffered o end true) old new step h = neither r entry _ (EndOffered o end true) h refl refl

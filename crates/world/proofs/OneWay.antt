@@ -29,10 +29,10 @@ use Rattle.world_log.specs.declared.outcome.StartOutcome.TheVariants as start
 use Rattle.world_log.specs.declared.outcome.FinishOutcome.TheVariants as finish
 use Rattle.world_log.specs.declared.outcome.CollectOutcome.TheVariants as collect
 use Rattle.world.proofs.GuestsOfRuns.{step_calls}
-use Rattle.world.specs.Histories.{Tells, AreTold, is_of_owner}
-use Rattle.world.specs.Laws.{is_of_job, is_posted, is_taken, is_begun, is_dropped, is_finished, is_collected, GoesOnce, AreInPlace}
+use Rattle.world.specs.Histories.{EntryTells, AreTold, is_of_owner}
+use Rattle.world.specs.Laws.{is_of_job, is_post_of, is_taken, is_begun, is_dropped, is_finished, is_collected, GoesOnce, AreInPlace}
 use Rattle.world.specs.World.{World, Worker, Idle, Taken, Started, Answer, Only, UnlessFailed, PostsOrder, TakesJob, StartsJob, FinishesJob, CollectsFrom}
-use Rattle.world.specs.World.{StepsLoop, WorldStep, WorldRun, HasLoop, opening_world, job_of, told_of, core}
+use Rattle.world.specs.World.{StepsLoop, WorldStep, WorldRun, HasLoop, opening_world, job_of, entry_told, core}
 use Rattle.world.proofs.AfterOnce.{Opens, IsThere, opening_keeps, opening_is, some_of}
 use Rattle.world.proofs.Runs.{Keeps, step_next}
 
@@ -76,7 +76,7 @@ module _ (l r : ℕ) where
 
   -- each line of the way, and where the job is between it and the next
   pub record Balanced (w : World) (log : List LogEntry) : Type 0 where
-    pub posted : count_by (is_taken l r) log + count_by is_order w.jobs ≡ count_by (is_posted l r) log
+    pub posted : count_by (is_taken l r) log + count_by is_order w.jobs ≡ count_by (is_post_of l r) log
     pub taken : count_by (is_begun l r) log + count_by (is_dropped l r) log + count_by is_taken_worker w.workers ≡ count_by (is_taken l r) log
     pub begun : count_by (is_finished l r) log + count_by is_started_worker w.workers ≡ count_by (is_begun l r) log
     pub ended : count_by (is_collected l r) log + replies_at w.replies ≤ count_by (is_finished l r) log
@@ -86,14 +86,14 @@ module _ (l r : ℕ) where
 
   -- how much of each kind one line is, and what it moves
   record Moves (w w' : World) (told : LogEntry) : Type 0 where
-    pub jobs : cond (is_taken l r told) 1 0 + count_by is_order w'.jobs ≡ count_by is_order w.jobs + cond (is_posted l r told) 1 0
+    pub jobs : cond (is_taken l r told) 1 0 + count_by is_order w'.jobs ≡ count_by is_order w.jobs + cond (is_post_of l r told) 1 0
     pub taken : cond (is_begun l r told) 1 0 + cond (is_dropped l r told) 1 0 + count_by is_taken_worker w'.workers ≡ count_by is_taken_worker w.workers + cond (is_taken l r told) 1 0
     pub started : cond (is_finished l r told) 1 0 + count_by is_started_worker w'.workers ≡ count_by is_started_worker w.workers + cond (is_begun l r told) 1 0
     pub ended : cond (is_collected l r told) 1 0 + replies_at w'.replies ≤ replies_at w.replies + cond (is_finished l r told) 1 0
 
   balanced_on : (w w' : World) (log : List LogEntry) (told : LogEntry) → Moves w w' told → Balanced w log → Balanced w' (log ++ told ∷ [])
   balanced_on w w' log told m b =
-      let p = pushed (is_posted l r) log told in
+      let p = pushed (is_post_of l r) log told in
       let t = pushed (is_taken l r) log told in
       let s = pushed (is_begun l r) log told in
       let d = pushed (is_dropped l r) log told in
@@ -116,7 +116,7 @@ module _ (l r : ℕ) where
 
   -- a line that is none of them
   record IsQuiet (told : LogEntry) : Type 0 where
-    pub posted : is_posted l r told ≡ false
+    pub posted : is_post_of l r told ≡ false
     pub taken : is_taken l r told ≡ false
     pub begun : is_begun l r told ≡ false
     pub dropped : is_dropped l r told ≡ false
@@ -126,7 +126,7 @@ module _ (l r : ℕ) where
   -- what one step did: how the job moved, and that its loop is there where it was posted
   record Goes (w w' : World) (entry : LogEntry) : Type 0 where
     pub moves : Moves w w' entry
-    pub there : (is_posted l r entry ≡ false) ⊎ (is_some (slice_get w.loops l) ≡ true)
+    pub there : (is_post_of l r entry ≡ false) ⊎ (is_some (slice_get w.loops l) ≡ true)
 
   -- the same by what is told
   as_told : (w w' : World) (entry told : LogEntry) → entry ≡ told → Goes w w' told → Goes w w' entry
@@ -149,7 +149,7 @@ module _ (l r : ℕ) where
   failed_quiet : (n : ℕ) → IsQuiet (line.Failed n)
   failed_quiet n = record { posted = refl; taken = refl; begun = refl; dropped = refl; finished = refl; collected = refl }
 
-  step_quiet : (n : ℕ) (told : StepDid) (emits : List ℕ) → IsQuiet (told_of n told emits)
+  step_quiet : (n : ℕ) (told : StepDid) (emits : List ℕ) → IsQuiet (entry_told n told emits)
   step_quiet n (did.Entered phase now) emits = record { posted = refl; taken = refl; begun = refl; dropped = refl; finished = refl; collected = refl }
   step_quiet n (did.Ran kind number ended) emits = record { posted = refl; taken = refl; begun = refl; dropped = refl; finished = refl; collected = refl }
   step_quiet n (did.Skipped kind number) emits = record { posted = refl; taken = refl; begun = refl; dropped = refl; finished = refl; collected = refl }
@@ -344,36 +344,36 @@ module _ (l r : ℕ) where
 
 -- what a log and the history that it tells hand out
 module _ (l r : ℕ) where
-  step_posted : (told : StepDid) (emits : List ℕ) → is_posted l r (told_of l told emits) ≡ false
+  step_posted : (told : StepDid) (emits : List ℕ) → is_post_of l r (entry_told l told emits) ≡ false
   step_posted (did.Entered phase now) emits = refl
   step_posted (did.Ran kind number ended) emits = refl
   step_posted (did.Skipped kind number) emits = refl
   step_posted did.Over emits = refl
   step_posted did.Failed emits = refl
 
-  others_posted : (entry : LogEntry) → is_of_owner l entry ≡ false → is_posted l r entry ≡ false
+  others_posted : (entry : LogEntry) → is_of_owner l entry ≡ false → is_post_of l r entry ≡ false
   others_posted (line.Post n (post.Request request)) h = ap (λ b. b && (request == r)) h
   others_posted _ h = refl
 
-  tells_posted : (entry : LogEntry) (e : Event) → Tells l entry e → is_posted l r entry ≡ hands_out r e
-  tells_posted entry (Stepped did emits made) h = ap (is_posted l r) h ∙ step_posted did emits
-  tells_posted entry (OrderAsked None) h = ap (is_posted l r) h
-  tells_posted entry (OrderAsked (Some o)) h = ap (is_posted l r) h ∙ ap (λ b. b && (o.request == r)) (eq-eqb l l refl)
-  tells_posted entry (EndOffered o end true) h = ap (is_posted l r) h
-  tells_posted entry (EndOffered o end false) h = ap (is_posted l r) h
-  tells_posted entry (CancelAnswered request answer) h = ap (is_posted l r) h
+  tells_posted : (entry : LogEntry) (e : Event) → EntryTells l entry e → is_post_of l r entry ≡ hands_out r e
+  tells_posted entry (Stepped did emits made) h = ap (is_post_of l r) h ∙ step_posted did emits
+  tells_posted entry (OrderAsked None) h = ap (is_post_of l r) h
+  tells_posted entry (OrderAsked (Some o)) h = ap (is_post_of l r) h ∙ ap (λ b. b && (o.request == r)) (eq-eqb l l refl)
+  tells_posted entry (EndOffered o end true) h = ap (is_post_of l r) h
+  tells_posted entry (EndOffered o end false) h = ap (is_post_of l r) h
+  tells_posted entry (CancelAnswered request answer) h = ap (is_post_of l r) h
   tells_posted entry (RequestAnswered op bytes answer) h = absurd h
-  tells_posted entry (ClockRaised ms) h = ap (is_posted l r) h.1
+  tells_posted entry (ClockRaised ms) h = ap (is_post_of l r) h.1
   tells_posted entry MovedBeside h = others_posted entry h
 
-  told_posted : (log : List LogEntry) (events : List Event) → AreTold l log events → count_by (is_posted l r) log ≡ count_by (hands_out r) events
+  told_posted : (log : List LogEntry) (events : List Event) → AreTold l log events → count_by (is_post_of l r) log ≡ count_by (hands_out r) events
   told_posted [] [] h = refl
   told_posted [] (e ∷ events) h = absurd h
   told_posted (entry ∷ log) [] h = absurd h
   told_posted (entry ∷ log) (e ∷ events) h =
       let one = ap (λ b. cond {A = ℕ} b 1 0) (tells_posted entry e h.0) in
       let rest = told_posted log events h.1 in
-      let lines = count_cons (is_posted l r) entry log in
+      let lines = count_cons (is_post_of l r) entry log in
       let told = count_cons (hands_out r) e events in
       omega (arith, one, rest, lines, told)
 
@@ -394,7 +394,7 @@ module _ (settings : List Setting) (placed : AreInPlace settings) (workers : ℕ
   pub record IsCounted (w : World) (log : List LogEntry) : Type 0 where
     pub told : Histories w log
     pub balanced : Balanced l r w log
-    pub posted : count_by (is_posted l r) log ≤ 1
+    pub posted : count_by (is_post_of l r) log ≤ 1
 
   pub step_counted : (w w' : World) (log : List LogEntry) (s : Step) (entry : LogEntry) → WorldStep w s entry w' → IsCounted w log → IsCounted w' (log ++ entry ∷ [])
   step_counted w w' log s entry h kept = record {
@@ -408,8 +408,8 @@ module _ (settings : List Setting) (placed : AreInPlace settings) (workers : ℕ
     next : Histories w' (log ++ entry ∷ [])
     next j = ((kept.told j).0 ++ step_calls j w s entry w' h, step_next (Opens settings j) (IsThere settings j workers) j w log (kept.told j).0 (kept.told j).1 s entry w' h)
 
-    by : (is_posted l r entry ≡ false) ⊎ (is_some (slice_get w.loops l) ≡ true) → count_by (is_posted l r) (log ++ entry ∷ []) ≤ 1
-    by (inl none) = subst (λ n. n ≤ 1) (sym (pushed l r (is_posted l r) log entry ∙ rw none (omega arith))) kept.posted
+    by : (is_post_of l r entry ≡ false) ⊎ (is_some (slice_get w.loops l) ≡ true) → count_by (is_post_of l r) (log ++ entry ∷ []) ≤ 1
+    by (inl none) = subst (λ n. n ≤ 1) (sym (pushed l r (is_post_of l r) log entry ∙ rw none (omega arith))) kept.posted
     by (inr there) =
         let at = some_of (slice_get w'.loops l) ((next l).1.stays ∙ sym (kept.told l).1.stays ∙ there) in
         let it = (next l).1.loops at.0 at.1 in

@@ -32,9 +32,9 @@ use Rattle.world_log.specs.declared.entry.LogEntry.TheVariants as line
 use Rattle.world_log.specs.declared.outcome.PostOutcome.TheVariants as post
 use Rattle.world_log.specs.declared.outcome.CollectOutcome.TheVariants as collect
 use Rattle.world.specs.World.{World, Worker, Idle, Taken, Started, Answer, Only, UnlessFailed, StepsLoop, Posts, PostsOrder, TakesJob, StartsJob, FinishesJob}
-use Rattle.world.specs.World.{CollectsFrom, WorldStep, WorldRun, told_of, core}
+use Rattle.world.specs.World.{CollectsFrom, WorldStep, WorldRun, entry_told, core}
 use Rattle.world.proofs.GuestsOfRuns.{step_calls, guest_calls}
-use Rattle.world.specs.Histories.{is_of_owner, Tells, AreTold}
+use Rattle.world.specs.Histories.{is_of_owner, EntryTells, AreTold}
 use Rattle.world.specs.Laws.{is_after}
 use Rattle.world.proofs.LogsTellHistories.{history_push, told_push, tells_callback, tells_cancel, contains_push, count_push}
 
@@ -89,7 +89,7 @@ module _ (Begins : Setting → Loop Desk → Type 0) (there : Bool) (j : ℕ) wh
     pub cancels : (r : ℕ) → Contains log (line.Cancel j r (pos 0)) ↔ Contains events (CancelAnswered r 0)
 
   -- one event more
-  told_more : (log : List LogEntry) (made more : List GuestCall) (g : Setting) (l m : Loop Desk) (entry : LogEntry) (e : Event) → EventStep desk_calls g e l m → Tells j entry e → calls_in e ≡ more
+  told_more : (log : List LogEntry) (made more : List GuestCall) (g : Setting) (l m : Loop Desk) (entry : LogEntry) (e : Event) → EventStep desk_calls g e l m → EntryTells j entry e → calls_in e ≡ more
       → Told log made g l → Told (log ++ entry ∷ []) (made ++ more) g m
   told_more log made more g l m entry e step tells is was = record {
     start = was.start;
@@ -116,7 +116,7 @@ module _ (Begins : Setting → Loop Desk → Type 0) (there : Bool) (j : ℕ) wh
   record Happens (g : Setting) (l m : Loop Desk) (entry : LogEntry) (more : List GuestCall) : Type 0 where
     pub event : Event
     pub step : EventStep desk_calls g event l m
-    pub tells : Tells j entry event
+    pub tells : EntryTells j entry event
     pub calls : calls_in event ≡ more
 
   module _ (w : World) (log : List LogEntry) (made : List GuestCall) (keeps : Keeps w log made) where
@@ -266,7 +266,7 @@ module _ (Begins : Setting → Loop Desk → Type 0) (there : Bool) (j : ℕ) wh
         h.1
 
     -- a step of a loop
-    told_elsewhere : (n : ℕ) (told : StepDid) (emits : List ℕ) → n ≢ j → is_of_owner j (told_of n told emits) ≡ false
+    told_elsewhere : (n : ℕ) (told : StepDid) (emits : List ℕ) → n ≢ j → is_of_owner j (entry_told n told emits) ≡ false
     told_elsewhere n (did.Entered phase now) emits other = ne_eqb n j other
     told_elsewhere n (did.Ran kind number ended) emits other = ne_eqb n j other
     told_elsewhere n (did.Skipped kind number) emits other = ne_eqb n j other
@@ -279,7 +279,7 @@ module _ (Begins : Setting → Loop Desk → Type 0) (there : Bool) (j : ℕ) wh
         (λ same. record {
           event = Stepped h.did h.new.state.emits h.made;
           step = (h.steps, refl);
-          tells = h.told ∙ ap (λ k. told_of k h.did h.new.state.emits) same;
+          tells = h.told ∙ ap (λ k. entry_told k h.did h.new.state.emits) same;
           calls = rw (eq-eqb n j same) refl;
         })
         (λ other. (ap (is_of_owner j) h.told ∙ told_elsewhere n h.did h.new.state.emits other, rw (ne_eqb n j other) refl))

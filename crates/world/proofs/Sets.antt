@@ -8,7 +8,7 @@ use Rattle.order.specs.declared.order.Order.{Order}
 use Rattle.phases.specs.State.{Core}
 use Rattle.desk.specs.Desk.{Desk}
 use Rattle.world.specs.declared.worker.Worker.{Worker}
-use Rattle.world.specs.Making.{AreNumbered, IsJob, IsHeld, IsKept}
+use Rattle.world.specs.Making.{AreNumbered, IsJob, FitsLoops, WorldIsKept}
 
 -- a loop stands otherwise, under the same number
 numbered_set : (k : ℕ) (ls : List (Core Desk)) (n : ℕ) (p q : Core Desk) → slice_get ls n ≡ Some p → q.setting ≡ p.setting → AreNumbered k ls → AreNumbered k (slice_set ls n q)
@@ -22,20 +22,20 @@ numbered_at k (x ∷ xs) zero p at h = let same : x ≡ p = cc in ap (λ y. y.se
 numbered_at k (x ∷ xs) (suc n) p at h = numbered_at (k + 1) xs n p at h.1 ∙ omega arith
 
 pub kept_set : (ls : List (Core Desk)) (js : List Order) (hs : List Worker) (lists room : ℕ) (n : ℕ) (p q : Core Desk) → slice_get ls n ≡ Some p → q.setting ≡ p.setting
-    → IsKept ls js hs lists room → IsKept (slice_set ls n q) js hs lists room
+    → WorldIsKept ls js hs lists room → WorldIsKept (slice_set ls n q) js hs lists room
 kept_set ls js hs lists room n p q at e h =
     let long : length (slice_set ls n q) ≡ length ls = length-set ls n q in
     record {
       numbered = numbered_set 0 ls n p q at e h.numbered;
       waiting = subst (λ k. All (IsJob k) js) (sym long) h.waiting;
-      held = subst (λ k. All (IsHeld k) hs) (sym long) h.held;
+      held = subst (λ k. All (FitsLoops k) hs) (sym long) h.held;
       paired = h.paired ∙ sym long;
       few = h.few;
       roomy = h.roomy;
     }
 
 pub kept_push : (ls : List (Core Desk)) (js js' : List Order) (hs : List Worker) (lists room room' : ℕ) (o : Order) → js' ≡ js ++ o ∷ [] → room' ≡ room → length js ≢ MAX_JOBS → IsJob (length ls) o
-    → IsKept ls js hs lists room → IsKept ls js' hs lists room'
+    → WorldIsKept ls js hs lists room → WorldIsKept ls js' hs lists room'
 kept_push ls js js' hs lists room room' o pushed same other job h = record {
   numbered = h.numbered;
   waiting = subst (All (IsJob (length ls))) (sym pushed) (All-push (IsJob (length ls)) js o h.waiting job);

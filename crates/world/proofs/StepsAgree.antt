@@ -19,7 +19,7 @@ use Rattle.desk.specs.Desk.{Desk, desk_calls, desk_others}
 use Rattle.world_log.specs.declared.entry.LogEntry.{LogEntry}
 use Rattle.world_log.specs.declared.entry.LogEntry.TheVariants as line
 use Rattle.world_log.specs.declared.outcome.PostOutcome.TheVariants as post
-use Rattle.world.specs.World.{World, Worker, Answer, UnlessFailed, StepsLoop, Posts, PostsOrder, SendsTo, Cancels, Clocks, with_loop, told_of, core}
+use Rattle.world.specs.World.{World, Worker, Answer, UnlessFailed, StepsLoop, Posts, PostsOrder, SendsTo, CancelsAt, ClocksAt, with_loop, entry_told, core}
 
 pub read : {X : Type 0} (xs : List X) (n : ℕ) (x : X) → n < length xs → ((d : X) → x ≡ get_or xs n d) → slice_get xs n ≡ Some x
 read xs n x within is = slice_get-get_or xs n x within ∙ ap Some (sym (is x))
@@ -44,20 +44,20 @@ module _ (w : World) (ls : List (Core Desk)) (js : List WorkOrder) (hs : List Wo
   pub going_on : (entry : LogEntry) (w' : World) (P : Type 0) → is_failed p.loop.state.status ≡ false → P → UnlessFailed w n p.loop entry w' P
   going_on entry w' P f h = rw f h
 
-  pub clock_failed : (ms : ℕ) → is_failed p.loop.state.status ≡ true → Clocks w n ms (line.Failed n) (world_of (slice_set ls n p) js hs rs)
+  pub clock_failed : (ms : ℕ) → is_failed p.loop.state.status ≡ true → ClocksAt w n ms (line.Failed n) (world_of (slice_set ls n p) js hs rs)
   clock_failed ms f = (p.setting, p.loop, here, failing _ f)
 
   pub clocked : (ms clock : ℕ) (q : Core Desk) → is_failed p.loop.state.status ≡ false → q.setting ≡ p.setting → q.loop ≡ in_state p.loop (after_clock p.loop.state ms) → clock ≡ q.loop.state.clock
-      → Clocks w n ms (line.Clock n clock) (world_of (slice_set ls n q) js hs rs)
+      → ClocksAt w n ms (line.Clock n clock) (world_of (slice_set ls n q) js hs rs)
   clocked ms clock q f e core told =
       (p.setting, p.loop, here, going_on _ _ _ f (ap (λ k. line.Clock n k) (told ∙ ap (λ l. l.state.clock) core), moved q e ∙ ap (with_loop w n p.setting) core))
 
-  pub cancel_failed : (request : ℕ) → is_failed p.loop.state.status ≡ true → Cancels w n request (line.Failed n) (world_of (slice_set ls n p) js hs rs)
+  pub cancel_failed : (request : ℕ) → is_failed p.loop.state.status ≡ true → CancelsAt w n request (line.Failed n) (world_of (slice_set ls n p) js hs rs)
   cancel_failed request f = (p.setting, p.loop, p.loop, 0, here, failing _ f)
 
   pub cancels : (request answer : ℕ) (signed : ℤ) (q : Core Desk) → is_failed p.loop.state.status ≡ false → q.setting ≡ p.setting
       → CancelsLoop desk_calls p.loop request answer q.loop → signed ≡ cast_signed w32 answer
-      → Cancels w n request (line.Cancel n request signed) (world_of (slice_set ls n q) js hs rs)
+      → CancelsAt w n request (line.Cancel n request signed) (world_of (slice_set ls n q) js hs rs)
   cancels request answer signed q f e h told = (p.setting, p.loop, q.loop, answer, here, going_on _ _ _ f (h.0, h.1, ap (line.Cancel n request) told, moved q e))
 
   pub sends : (a : ℕ) (ok : Bool) (q : Core Desk) → a < MAX_ASYNCS → q.setting ≡ p.setting → SendsBeside desk_others p.loop a ok q.loop
@@ -65,7 +65,7 @@ module _ (w : World) (ls : List (Core Desk)) (js : List WorkOrder) (hs : List Wo
   sends a ok q few e h = (p.setting, p.loop, q.loop, ok, few, here, h, refl, moved q e)
 
   pub steps : (did : StepDid) (q : Core Desk) (entry : LogEntry) → q.setting ≡ p.setting → LoopStep desk_calls p.setting p.loop did q.loop
-      → entry ≡ told_of n did q.loop.state.emits → StepsLoop w n entry (world_of (slice_set ls n q) js hs rs)
+      → entry ≡ entry_told n did q.loop.state.emits → StepsLoop w n entry (world_of (slice_set ls n q) js hs rs)
   steps did q entry e h told = record { setting = p.setting; old = p.loop; new = q.loop; did = did; made = h.0; at = here; steps = h.1; told = told; after = moved q e }
 
 -- where no order is open, nothing is handed out

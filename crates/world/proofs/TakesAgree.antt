@@ -11,10 +11,10 @@ use Rattle.phases.specs.State.{Core}
 use Rattle.desk.specs.Desk.{Desk}
 use Rattle.world_log.specs.declared.entry.LogEntry.TheVariants as line
 use Rattle.world_log.specs.declared.outcome.JobId.{JobId}
-use Rattle.world.specs.World.{World, Worker, Answer, Idle, Taken, Started, WithWorker, TakesJob, job_of, with_worker}
+use Rattle.world.specs.World.{World, Worker, Answer, Idle, Taken, Started, WithWorker, TakesJob, job_of, with_worker_at}
 use Rattle.world.specs.declared.worker.Worker.{Worker as CodeWorker}
 use Rattle.world.specs.declared.worker.Worker.TheVariants as code
-use Rattle.world.specs.Making.{worker_of, IsJob, IsHeld, IsKept}
+use Rattle.world.specs.Making.{worker_of, IsJob, FitsLoops, WorldIsKept}
 use Rattle.world.proofs.StepsAgree.{world_of}
 
 taken_none : (w : World) (n : ℕ) (state : Worker) (w' : World) → slice_get w.workers n ≡ Some state → w' ≡ w → (state ≢ Idle) ⊎ (w.jobs ≡ [])
@@ -27,7 +27,7 @@ taken_none w n state w' at same why = (state, at, by state w.jobs why) where
   by (Taken o) jobs why = (refl, same)
   by (Started o) jobs why = (refl, same)
 
-taken_one : (w : World) (n : ℕ) (o : WorkOrder) (rest : List WorkOrder) (w' : World) → slice_get w.workers n ≡ Some Idle → w.jobs ≡ o ∷ rest → w' ≡ record (with_worker w n (Taken o)) { jobs = rest }
+taken_one : (w : World) (n : ℕ) (o : WorkOrder) (rest : List WorkOrder) (w' : World) → slice_get w.workers n ≡ Some Idle → w.jobs ≡ o ∷ rest → w' ≡ record (with_worker_at w n (Taken o)) { jobs = rest }
     → WithWorker w n (λ h. TakesJob w n h w.jobs (line.Take n (Some (job_of o))) w')
 taken_one w n o rest w' at front after = (Idle, at, subst (λ js. TakesJob w n Idle js (line.Take n (Some (job_of o))) w') (sym front) (refl, after))
 
@@ -65,16 +65,16 @@ module _ (w : World) (ls : List (Core Desk)) (js : List Order) (hs : List CodeWo
       let w' = world_of ls (map order_of js') (map worker_of (slice_set hs n (code.Taken o))) rs in
       subst (λ k. WithWorker w n (λ x. TakesJob w n x w.jobs (line.Take n (Some k)) w')) (sym told)
       (taken_one w n (order_of o) (map order_of js') w' (there ∙ ap (λ x. Some (worker_of x)) empty) (jobs_are ∙ ap (map order_of) front)
-      (ap (λ x. world_of ls (map order_of js') x rs) (map-set worker_of hs n (code.Taken o)) ∙ ap (λ (x : World). record (with_worker x n (Taken (order_of o))) { jobs = map order_of js' }) is))
+      (ap (λ x. world_of ls (map order_of js') x rs) (map-set worker_of hs n (code.Taken o)) ∙ ap (λ (x : World). record (with_worker_at x n (Taken (order_of o))) { jobs = map order_of js' }) is))
 
-pub kept_take : (ls : List (Core Desk)) (js js' : List Order) (hs : List CodeWorker) (lists room room' n : ℕ) (o : Order) → js ≡ o ∷ js' → room' ≡ room → IsKept ls js hs lists room
-    → IsKept ls js' (slice_set hs n (code.Taken o)) lists room'
+pub kept_take : (ls : List (Core Desk)) (js js' : List Order) (hs : List CodeWorker) (lists room room' n : ℕ) (o : Order) → js ≡ o ∷ js' → room' ≡ room → WorldIsKept ls js hs lists room
+    → WorldIsKept ls js' (slice_set hs n (code.Taken o)) lists room'
 kept_take ls js js' hs lists room room' n o front same h =
     let jobs : All (IsJob (length ls)) (o ∷ js') = subst (All (IsJob (length ls))) front h.waiting in
     record {
       numbered = h.numbered;
       waiting = (λ k d below. jobs (suc k) d (omega arith));
-      held = All-set (IsHeld (length ls)) hs n (code.Taken o) (jobs 0 o (omega arith)) h.held;
+      held = All-set (FitsLoops (length ls)) hs n (code.Taken o) (jobs 0 o (omega arith)) h.held;
       paired = h.paired;
       few = (let long : length js ≡ length (o ∷ js') = ap length front in let few = h.few in omega arith);
       roomy = rw same h.roomy;

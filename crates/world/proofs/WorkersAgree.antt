@@ -17,10 +17,10 @@ use Rattle.world_log.specs.declared.outcome.JobId.{JobId}
 use Rattle.world_log.specs.declared.outcome.JobEnd.{JobEnd}
 use Rattle.world_log.specs.declared.outcome.StartOutcome.TheVariants as start
 use Rattle.world_log.specs.declared.outcome.FinishOutcome.TheVariants as finish
-use Rattle.world.specs.World.{World, Worker, Answer, Idle, Taken, Started, WithWorker, StartsJob, FinishesJob, Tells, job_of, with_worker, with_loop, with_replies, core}
+use Rattle.world.specs.World.{World, Worker, Answer, Idle, Taken, Started, WithWorker, StartsJob, FinishesJob, TellsEnd, job_of, with_worker_at, with_loop, with_replies, core}
 use Rattle.world.specs.declared.worker.Worker.{Worker as CodeWorker}
 use Rattle.world.specs.declared.worker.Worker.TheVariants as worker
-use Rattle.world.specs.Making.{worker_of, answer_of, IsJob, IsHeld, IsKept}
+use Rattle.world.specs.Making.{worker_of, answer_of, IsJob, FitsLoops, WorldIsKept}
 use Rattle.phases.proofs.RequestsRise.{at_all}
 use Rattle.world.proofs.StepsAgree.{world_of, moved}
 
@@ -46,26 +46,26 @@ taken_same x y h = cc
 pub started_same : (x y : Order) → worker.Started x ≡ worker.Started y → x ≡ y
 started_same x y h = cc
 
-pub job_held : (loops n : ℕ) (hs : List CodeWorker) (h h' : CodeWorker) → All (IsHeld loops) hs → slice_get hs n ≡ Some h → h ≡ h' → IsHeld loops h'
-job_held loops n hs h h' all at is = subst (IsHeld loops) is (at_all (IsHeld loops) hs n h all at)
+pub job_held : (loops n : ℕ) (hs : List CodeWorker) (h h' : CodeWorker) → All (FitsLoops loops) hs → slice_get hs n ≡ Some h → h ≡ h' → FitsLoops loops h'
+job_held loops n hs h h' all at is = subst (FitsLoops loops) is (at_all (FitsLoops loops) hs n h all at)
 
-pub kept_worker : (ls : List (Core Desk)) (js : List Order) (hs : List CodeWorker) (lists room n : ℕ) (h : CodeWorker) → IsHeld (length ls) h
-    → IsKept ls js hs lists room → IsKept ls js (slice_set hs n h) lists room
+pub kept_worker : (ls : List (Core Desk)) (js : List Order) (hs : List CodeWorker) (lists room n : ℕ) (h : CodeWorker) → FitsLoops (length ls) h
+    → WorldIsKept ls js hs lists room → WorldIsKept ls js (slice_set hs n h) lists room
 kept_worker ls js hs lists room n h job kept = record {
   numbered = kept.numbered;
   waiting = kept.waiting;
-  held = All-set (IsHeld (length ls)) hs n h job kept.held;
+  held = All-set (FitsLoops (length ls)) hs n h job kept.held;
   paired = kept.paired;
   few = kept.few;
   roomy = kept.roomy;
 }
 
 pub kept_reply : {D : Type 0} (ls : List (Core Desk)) (js : List Order) (hs : List CodeWorker) (lists : List D) (room n k : ℕ) (h : CodeWorker) (d : D)
-    → h ≡ worker.Idle → IsKept ls js hs (length lists) room
-    → IsKept ls js (slice_set hs n h) (length (slice_set lists k d)) room
+    → h ≡ worker.Idle → WorldIsKept ls js hs (length lists) room
+    → WorldIsKept ls js (slice_set hs n h) (length (slice_set lists k d)) room
 kept_reply ls js hs lists room n k h d empty kept =
-    subst (λ m. IsKept ls js (slice_set hs n h) m room) (sym (length-set lists k d))
-    (kept_worker ls js hs (length lists) room n h (subst (IsHeld (length ls)) (sym empty) tt) kept)
+    subst (λ m. WorldIsKept ls js (slice_set hs n h) m room) (sym (length-set lists k d))
+    (kept_worker ls js hs (length lists) room n h (subst (FitsLoops (length ls)) (sym empty) tt) kept)
 
 loop_same : (l m : Loop Desk) → l.state ≡ m.state → l.store ≡ m.store → l.shared ≡ m.shared → l ≡ m
 loop_same l m state store shared =
@@ -120,9 +120,9 @@ module _ (w : World) (ls : List (Core Desk)) (js : List WorkOrder) (hs : List Co
         (
           ap (λ j. line.Start n (start.Begun j)) told,
           ap (λ x. world_of (slice_set ls job.loop_no q) js x rs) (map-set worker_of hs n (worker.Started o'))
-              ∙ ap (λ x. with_worker x n (Started (order_of o'))) (moved w ls js (workers_in hs) rs is job.loop_no p at_loop q e)
-              ∙ ap (λ j. with_worker (with_loop w j.loop_no p.setting q.loop) n (Started (order_of o'))) told
-              ∙ ap (λ y. with_worker (with_loop w o.loop_no p.setting q.loop) n (Started (order_of y))) same,
+              ∙ ap (λ x. with_worker_at x n (Started (order_of o'))) (moved w ls js (workers_in hs) rs is job.loop_no p at_loop q e)
+              ∙ ap (λ j. with_worker_at (with_loop w j.loop_no p.setting q.loop) n (Started (order_of o'))) told
+              ∙ ap (λ y. with_worker_at (with_loop w o.loop_no p.setting q.loop) n (Started (order_of y))) same,
         ),
       ),
     )
@@ -144,7 +144,7 @@ module _ (w : World) (ls : List (Core Desk)) (js : List WorkOrder) (hs : List Co
               ap (λ j. line.Start n (start.Dropped j)) told,
               ap (λ x. world_of (slice_set ls job.loop_no q) js x rs) (map-set worker_of hs n worker.Idle)
                   ∙ ap (λ x. world_of x js (slice_set (workers_in hs) n Idle) rs) (ap (slice_set ls job.loop_no) still ∙ set_same ls job.loop_no p at_loop)
-                  ∙ ap (λ x. with_worker x n Idle) is,
+                  ∙ ap (λ x. with_worker_at x n Idle) is,
             ),
           ),
         )
@@ -162,7 +162,7 @@ module _ {D : Type 0} (f : D → List Answer) (w : World) (ls : List (Core Desk)
       ∙ unmoved w ls js hs (map f rs) is n h at
 
   pub finishes : (r : Reply) (ending : JobEnd) (h' : CodeWorker) → job ≡ job_of (order_of o) → h' ≡ worker.Idle → r.order ≡ o
-      → f d' ≡ f d ++ answer_of r ∷ [] → ∥ IsEndOf (order_of r.order) (end_of r.outcome) ∥₁ → Tells ending (end_of r.outcome)
+      → f d' ≡ f d ++ answer_of r ∷ [] → ∥ IsEndOf (order_of r.order) (end_of r.outcome) ∥₁ → TellsEnd ending (end_of r.outcome)
       → WithWorker w n (λ x. FinishesJob w n x (line.Finish n (finish.Ended job ending)) (world_of ls js (workers_in (slice_set hs n h')) (map f (slice_set rs job.loop_no d'))))
   finishes r ending h' told empty own pushed right tells = (
     Started (order_of o),
@@ -180,7 +180,7 @@ module _ {D : Type 0} (f : D → List Answer) (w : World) (ls : List (Core Desk)
           ∙ ap (λ y. world_of ls js (slice_set (workers_in hs) n (worker_of y)) (map f (slice_set rs job.loop_no d'))) empty
           ∙ ap (λ x. world_of ls js (slice_set (workers_in hs) n Idle) x)
           (map-set f rs job.loop_no d' ∙ ap (slice_set (map f rs) job.loop_no) (pushed ∙ ap (λ y. f d ++ record { order = order_of y; end = end_of r.outcome } ∷ []) own))
-          ∙ ap (λ x. with_worker (with_replies x job.loop_no (f d ++ record { order = order_of o; end = end_of r.outcome } ∷ [])) n Idle) is
-          ∙ ap (λ j. with_worker (with_replies w j.loop_no (f d ++ record { order = order_of o; end = end_of r.outcome } ∷ [])) n Idle) told;
+          ∙ ap (λ x. with_worker_at (with_replies x job.loop_no (f d ++ record { order = order_of o; end = end_of r.outcome } ∷ [])) n Idle) is
+          ∙ ap (λ j. with_worker_at (with_replies w j.loop_no (f d ++ record { order = order_of o; end = end_of r.outcome } ∷ [])) n Idle) told;
     },
   )

@@ -16,7 +16,7 @@ use Rattle.desk.specs.Desk.{Desk, new_desk}
 use Rattle.world.specs.declared.config.LoopConfig.{LoopConfig}
 use Rattle.world.specs.declared.worker.Worker.{Worker as CodeWorker}
 use Rattle.world.specs.declared.worker.Worker.TheVariants as worker
-use Rattle.world.specs.Making.{setting_from, settings_from, worker_of, AreNumbered, IsHeld, IsJob, IsKept}
+use Rattle.world.specs.Making.{setting_from, settings_from, worker_of, AreNumbered, FitsLoops, IsJob, WorldIsKept}
 use Rattle.world.specs.World.{Idle, Answer, opening_loop, opening_world, core}
 use Rattle.world.proofs.StepsAgree.{world_of}
 
@@ -82,11 +82,11 @@ replies_opening n (c ∷ cs) = ap (λ rs. [] ∷ rs) (replies_opening (n + 1) cs
 -- a world that opens keeps what a world keeps
 pub opening_kept : {X : Type 0} (cs : List LoopConfig) (ls : List (Core Desk)) (js : List Order) (hs : List CodeWorker) (lists : List X)
     (f : X → List Answer) (workers room : ℕ) → ls ≡ map opening_loop (settings_from 0 cs) → js ≡ [] → hs ≡ replicate workers worker.Idle
-    → map f lists ≡ replicate (length cs) [] → MAX_JOBS ≤ room → IsKept ls js hs (length lists) room
+    → map f lists ≡ replicate (length cs) [] → MAX_JOBS ≤ room → WorldIsKept ls js hs (length lists) room
 opening_kept cs ls js hs lists f workers room loops none states replies roomy = record {
   numbered = subst (AreNumbered 0) (sym loops) (opening_numbered 0 cs);
   waiting = subst (All (IsJob (length ls))) (sym none) (All-nil (IsJob (length ls)));
-  held = subst (All (IsHeld (length ls))) (sym states) (All-replicate (IsHeld (length ls)) workers worker.Idle tt);
+  held = subst (All (FitsLoops (length ls))) (sym states) (All-replicate (FitsLoops (length ls)) workers worker.Idle tt);
   paired =
       sym (length-map lists f) ∙ ap length replies ∙ length-replicate (length cs) []
       ∙ sym (ap length loops ∙ length-map (settings_from 0 cs) opening_loop ∙ settings_long 0 cs);

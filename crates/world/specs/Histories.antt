@@ -11,7 +11,7 @@ use Rattle.world_log.specs.declared.entry.LogEntry.TheVariants as line
 use Rattle.world_log.specs.declared.step.Step.{Step}
 use Rattle.world_log.specs.declared.outcome.PostOutcome.TheVariants as post
 use Rattle.world_log.specs.declared.outcome.CollectOutcome.TheVariants as collect
-use Rattle.world.specs.World.{World, HasLoop, opening_world, opening_loop, told_of}
+use Rattle.world.specs.World.{World, HasLoop, opening_world, opening_loop, entry_told}
 use Rattle.world.specs.Guests.{RunCalls}
 
 -- the line shows what the owner of this loop did with it
@@ -29,21 +29,21 @@ is_of_owner l (line.Clock n ms) = n == l
 is_of_owner l _ = false
 
 -- the line of an event of this loop; no step of a world makes a request of the owner's own
-abbrev pub Tells : (l : ℕ) → LogEntry → Event → Type 0
-Tells l entry (Stepped did emits made) = entry ≡ told_of l did emits
-Tells l entry (OrderAsked None) = entry ≡ line.Post l post.Nothing
-Tells l entry (OrderAsked (Some o)) = entry ≡ line.Post l (post.Request o.request)
-Tells l entry (EndOffered o end true) = entry ≡ line.Collect l (collect.Request o.request)
-Tells l entry (EndOffered o end false) = entry ≡ line.Collect l collect.Stranger
-Tells l entry (CancelAnswered request answer) = entry ≡ line.Cancel l request (cast_signed w32 answer)
-Tells l entry (RequestAnswered op bytes answer) = ⊥
-Tells l entry (ClockRaised ms) = (clock : ℕ) × (entry ≡ line.Clock l clock)
-Tells l entry MovedBeside = is_of_owner l entry ≡ false
+abbrev pub EntryTells : (l : ℕ) → LogEntry → Event → Type 0
+EntryTells l entry (Stepped did emits made) = entry ≡ entry_told l did emits
+EntryTells l entry (OrderAsked None) = entry ≡ line.Post l post.Nothing
+EntryTells l entry (OrderAsked (Some o)) = entry ≡ line.Post l (post.Request o.request)
+EntryTells l entry (EndOffered o end true) = entry ≡ line.Collect l (collect.Request o.request)
+EntryTells l entry (EndOffered o end false) = entry ≡ line.Collect l collect.Stranger
+EntryTells l entry (CancelAnswered request answer) = entry ≡ line.Cancel l request (cast_signed w32 answer)
+EntryTells l entry (RequestAnswered op bytes answer) = ⊥
+EntryTells l entry (ClockRaised ms) = (clock : ℕ) × (entry ≡ line.Clock l clock)
+EntryTells l entry MovedBeside = is_of_owner l entry ≡ false
 
 -- each line shows its event
 abbrev pub AreTold : (l : ℕ) → List LogEntry → List Event → Type 0
 AreTold l [] [] = Unit {0}
-AreTold l (entry ∷ log) (e ∷ events) = Tells l entry e × AreTold l log events
+AreTold l (entry ∷ log) (e ∷ events) = EntryTells l entry e × AreTold l log events
 AreTold l _ _ = ⊥
 
 -- A history of a loop from where it began, which the log shows, and in which the guest made these calls.

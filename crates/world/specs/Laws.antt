@@ -19,7 +19,7 @@ use Rattle.world_log.specs.declared.outcome.PostOutcome.TheVariants as post
 use Rattle.world_log.specs.declared.outcome.StartOutcome.TheVariants as start
 use Rattle.world_log.specs.declared.outcome.FinishOutcome.TheVariants as finish
 use Rattle.world_log.specs.declared.outcome.CollectOutcome.TheVariants as collect
-use Rattle.world.specs.World.{World, WorldStep, WorldRun, HasLoop, opening_world, with_loop, told_of, Tells}
+use Rattle.world.specs.World.{World, WorldStep, WorldRun, HasLoop, opening_world, with_loop, entry_told, TellsEnd}
 use Rattle.world.specs.Guests.{StepCalls, RunCalls}
 
 -- the entry is an after-work callback of this loop and request
@@ -28,20 +28,20 @@ is_after l request (line.Ran n kind.After number ended emits) = (n == l) && (num
 is_after l request _ = false
 
 -- in every run from an opening world each loop and request have at most one after-work callback
-abbrev pub IsAfterOnce : Type 0
-IsAfterOnce =
+abbrev pub AfterOnceInLog : Type 0
+AfterOnceInLog =
     (settings : List Setting) (workers : ℕ) (steps : List Step) (log : List LogEntry) (w : World)
     → WorldRun (opening_world settings workers) steps log w
     → (l request : ℕ) → count_by (is_after l request) log ≤ 1
 
 -- a cancel of the request was answered 0: the owner's, which is in the log, or a guest's
-abbrev pub WasCancelled : (l request : ℕ) → List LogEntry → List GuestCall → Type 0
-WasCancelled l request log made = Contains log (line.Cancel l request (pos 0)) ⊎ ((c : GuestCall) × Contains made c × IsCancel request c)
+abbrev pub IsCancelledInLog : (l request : ℕ) → List LogEntry → List GuestCall → Type 0
+IsCancelledInLog l request log made = Contains log (line.Cancel l request (pos 0)) ⊎ ((c : GuestCall) × Contains made c × IsCancel request c)
 
 -- a line says that the job of this loop and request was finished, and ended so
 abbrev pub WasFinished : (l request : ℕ) → WorkEnd → List LogEntry → Type 0
 WasFinished l request end log =
-    (worker : ℕ) × (ending : JobEnd) × Tells ending end
+    (worker : ℕ) × (ending : JobEnd) × TellsEnd ending end
     × Contains log (line.Finish worker (finish.Ended (record { loop_no = l; request = request }) ending))
 
 -- The step took this request off its loop's list and removed it, ran its after-work callback, and gave it these
@@ -54,7 +54,7 @@ pub record RunsAfter (w : World) (l : ℕ) (q : Request) (g : Setting) (completi
   pub made : List GuestCall
   pub at : HasLoop w l g old
   pub runs : LoopRunsAfter desk_calls g old q completion did made new
-  pub told : entry ≡ told_of l did new.state.emits
+  pub told : entry ≡ entry_told l did new.state.emits
   pub after : w' ≡ with_loop w l g new
 
 -- The callback of this loop and request was given what is due to the order that the guest had asked for under that
@@ -69,8 +69,8 @@ pub record IsOwn (settings : List Setting) (log : List LogEntry) (made : List Gu
   pub numbered : request.order.request ≡ number
   pub asked : WasAsked setting made request.order
   pub runs : RunsAfter w l request setting completion entry w'
-  pub due : AreDue request.order completion (WasCancelled l number log made)
-  pub finished : (WasCancelled l number log made → ⊥)
+  pub due : AreDue request.order completion (IsCancelledInLog l number log made)
+  pub finished : (IsCancelledInLog l number log made → ⊥)
       → (end : WorkEnd) × WasFinished l number end log × (completion ≡ end_completion end)
 
 -- each step that runs an after-work callback, after any run from an opening world, gives it what is due to its own order
@@ -90,15 +90,15 @@ IsAfterLast =
     → (l : ℕ) (s : Step) (entry : LogEntry) (first : List GuestCall) (mid : World) → StepCalls l w s entry first mid
     → (behind : List Step) (lines : List LogEntry) (more : List GuestCall) (w' : World) → RunCalls l mid behind lines more w'
     → (request : ℕ) → is_after l request entry ≡ true
-    → WasCancelled l request (entry ∷ lines) (first ++ more) → ⊥
+    → IsCancelledInLog l request (entry ∷ lines) (first ++ more) → ⊥
 
 -- the line says of the job of this loop and request: that it was posted, taken, begun, dropped, finished, collected
 abbrev pub is_of_job : (l request : ℕ) → JobId → Bool
 is_of_job l request job = (job.loop_no == l) && (job.request == request)
 
-abbrev pub is_posted : (l request : ℕ) → LogEntry → Bool
-is_posted l request (line.Post n (post.Request number)) = (n == l) && (number == request)
-is_posted l request _ = false
+abbrev pub is_post_of : (l request : ℕ) → LogEntry → Bool
+is_post_of l request (line.Post n (post.Request number)) = (n == l) && (number == request)
+is_post_of l request _ = false
 
 abbrev pub is_taken : (l request : ℕ) → LogEntry → Bool
 is_taken l request (line.Take n (Some job)) = is_of_job l request job
@@ -123,8 +123,8 @@ is_collected l request _ = false
 -- The job was posted at most once, and got no further more often than as far as that: it was taken where it was posted,
 -- begun or dropped where it was taken, finished where it was begun, and collected where it was finished.
 pub record GoesOnce (l request : ℕ) (log : List LogEntry) : Type 0 where
-  pub posted : count_by (is_posted l request) log ≤ 1
-  pub taken : count_by (is_taken l request) log ≤ count_by (is_posted l request) log
+  pub posted : count_by (is_post_of l request) log ≤ 1
+  pub taken : count_by (is_taken l request) log ≤ count_by (is_post_of l request) log
   pub started : count_by (is_begun l request) log + count_by (is_dropped l request) log ≤ count_by (is_taken l request) log
   pub finished : count_by (is_finished l request) log ≤ count_by (is_begun l request) log
   pub collected : count_by (is_collected l request) log ≤ count_by (is_finished l request) log
@@ -145,7 +145,7 @@ abbrev pub IsCancelledOrBegun : Type 0
 IsCancelledOrBegun =
     (settings : List Setting) (workers : ℕ) (steps : List Step) (log : List LogEntry) (w : World) → AreInPlace settings
     → (l : ℕ) (made : List GuestCall) → RunCalls l (opening_world settings workers) steps log made w
-    → (request : ℕ) → WasCancelled l request log made
+    → (request : ℕ) → IsCancelledInLog l request log made
     → (count_by (is_begun l request) log ≡ 0) × (count_by (is_finished l request) log ≡ 0)
 
 -- a run, and a run from where it ended, are one run

@@ -18,9 +18,9 @@ use Rattle.world.specs.declared.fault.WorldFault.{WorldFault}
 use Rattle.world.specs.declared.fault.WorldFault.TheVariants.{NoSuch, Memory}
 use Rattle.world.specs.World.{World, Worker, Idle, Taken, Started, Answer, WorldRun}
 
-abbrev pub number_of : WorldFault → ℕ
-number_of NoSuch = 1
-number_of Memory = 2
+abbrev pub world_fault_number : WorldFault → ℕ
+world_fault_number NoSuch = 1
+world_fault_number Memory = 2
 
 abbrev pub setting_from : ℕ → LoopConfig → Setting
 setting_from n c = record {
@@ -57,10 +57,10 @@ pub record IsJob (loops : ℕ) (o : Order) : Type 0 where
   pub slot : o.slot < MAX_REQUESTS
   pub runs : CanRun (order_of o)
 
-abbrev pub IsHeld : ℕ → CodeWorker → Type 0
-IsHeld loops worker.Idle = Unit {0}
-IsHeld loops (worker.Taken o) = IsJob loops o
-IsHeld loops (worker.Started o) = IsJob loops o
+abbrev pub FitsLoops : ℕ → CodeWorker → Type 0
+FitsLoops loops worker.Idle = Unit {0}
+FitsLoops loops (worker.Taken o) = IsJob loops o
+FitsLoops loops (worker.Started o) = IsJob loops o
 
 -- each loop's number is its place, counted from here
 abbrev pub AreNumbered : ℕ → List (Core Desk) → Type 0
@@ -69,10 +69,10 @@ AreNumbered n (p ∷ ps) = (p.setting.loop_no ≡ n) × AreNumbered (n + 1) ps
 
 -- Each loop's number is its place, each job is one of these loops' and can be started and run, each loop has a list of
 -- replies, and so many jobs have room at least.
-pub record IsKept (loops : List (Core Desk)) (jobs : List Order) (states : List CodeWorker) (lists room : ℕ) : Type 0 where
+pub record WorldIsKept (loops : List (Core Desk)) (jobs : List Order) (states : List CodeWorker) (lists room : ℕ) : Type 0 where
   pub numbered : AreNumbered 0 loops
   pub waiting : All (IsJob (length loops)) jobs
-  pub held : All (IsHeld (length loops)) states
+  pub held : All (FitsLoops (length loops)) states
   pub paired : lists ≡ length loops
   pub few : length jobs ≤ MAX_JOBS
   pub roomy : MAX_JOBS ≤ room

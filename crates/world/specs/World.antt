@@ -78,8 +78,8 @@ HasLoop w n g l = slice_get w.loops n ≡ Some (core g l)
 abbrev pub with_loop : World → ℕ → Setting → Loop Desk → World
 with_loop w n g l = record w { loops = slice_set w.loops n (core g l) }
 
-abbrev pub with_worker : World → ℕ → Worker → World
-with_worker w n state = record w { workers = slice_set w.workers n state }
+abbrev pub with_worker_at : World → ℕ → Worker → World
+with_worker_at w n state = record w { workers = slice_set w.workers n state }
 
 abbrev pub with_replies : World → ℕ → List Answer → World
 with_replies w n replies = record w { replies = slice_set w.replies n replies }
@@ -93,12 +93,12 @@ abbrev pub UnlessFailed : World → ℕ → Loop Desk → LogEntry → World →
 UnlessFailed w n l entry w' goes_on = MatchBool (is_failed l.state.status) (Only w entry (line.Failed n) w') goes_on
 
 -- what is logged of a loop's step
-abbrev pub told_of : (n : ℕ) → StepDid → (emits : List ℕ) → LogEntry
-told_of n (did.Entered phase now) emits = line.Entered n phase now
-told_of n (did.Ran kind number ended) emits = line.Ran n kind number ended emits
-told_of n (did.Skipped kind number) emits = line.Skipped n kind number
-told_of n did.Over emits = line.Over n
-told_of n did.Failed emits = line.Failed n
+abbrev pub entry_told : (n : ℕ) → StepDid → (emits : List ℕ) → LogEntry
+entry_told n (did.Entered phase now) emits = line.Entered n phase now
+entry_told n (did.Ran kind number ended) emits = line.Ran n kind number ended emits
+entry_told n (did.Skipped kind number) emits = line.Skipped n kind number
+entry_told n did.Over emits = line.Over n
+entry_told n did.Failed emits = line.Failed n
 
 -- a step of a loop, in which its guest calls this
 pub record StepsLoop (w : World) (n : ℕ) (entry : LogEntry) (w' : World) : Type 0 where
@@ -109,7 +109,7 @@ pub record StepsLoop (w : World) (n : ℕ) (entry : LogEntry) (w' : World) : Typ
   pub made : List GuestCall
   pub at : HasLoop w n setting old
   pub steps : StepsWith desk_calls setting old did made new
-  pub told : entry ≡ told_of n did new.state.emits
+  pub told : entry ≡ entry_told n did new.state.emits
   pub after : w' ≡ with_loop w n setting new
 
 -- A failed loop is logged first, then a full list, then that there is no order.
@@ -129,7 +129,7 @@ job_of o = record { loop_no = o.loop_no; request = o.request }
 
 -- an idle worker takes the front job
 abbrev pub TakesJob : World → ℕ → Worker → List WorkOrder → LogEntry → World → Type 0
-TakesJob w n Idle (o ∷ jobs) entry w' = (entry ≡ line.Take n (Some (job_of o))) × (w' ≡ record (with_worker w n (Taken o)) { jobs = jobs })
+TakesJob w n Idle (o ∷ jobs) entry w' = (entry ≡ line.Take n (Some (job_of o))) × (w' ≡ record (with_worker_at w n (Taken o)) { jobs = jobs })
 TakesJob w n _ _ entry w' = Only w entry (line.Take n None) w'
 
 -- a job that was taken is started at what its loop shares, or dropped
@@ -137,18 +137,18 @@ abbrev pub StartsJob : World → ℕ → Worker → LogEntry → World → Type 
 StartsJob w n (Taken o) entry w' =
     (g : Setting) × (l l' : Loop Desk) × (ok : Bool) × HasLoop w o.loop_no g l × StartsBeside desk_others l o.slot o.request ok l'
     × MatchBool ok
-    ((entry ≡ line.Start n (start.Begun (job_of o))) × (w' ≡ with_worker (with_loop w o.loop_no g l') n (Started o)))
-    ((entry ≡ line.Start n (start.Dropped (job_of o))) × (w' ≡ with_worker w n Idle))
+    ((entry ≡ line.Start n (start.Begun (job_of o))) × (w' ≡ with_worker_at (with_loop w o.loop_no g l') n (Started o)))
+    ((entry ≡ line.Start n (start.Dropped (job_of o))) × (w' ≡ with_worker_at w n Idle))
 StartsJob w n _ entry w' = Only w entry (line.Start n start.Nothing) w'
 
 -- how an end is logged
-abbrev pub Tells : JobEnd → WorkEnd → Type 0
-Tells (ending.Done told) (Done value bytes) = told ≡ value
-Tells (ending.Trap told) (Trap code) = trap_number told ≡ code
-Tells told Depth = told ≡ ending.Depth
-Tells told Spent = told ≡ ending.Spent
-Tells told NoMemory = told ≡ ending.NoMemory
-Tells _ _ = ⊥
+abbrev pub TellsEnd : JobEnd → WorkEnd → Type 0
+TellsEnd (ending.Done told) (Done value bytes) = told ≡ value
+TellsEnd (ending.Trap told) (Trap code) = trap_number told ≡ code
+TellsEnd told Depth = told ≡ ending.Depth
+TellsEnd told Spent = told ≡ ending.Spent
+TellsEnd told NoMemory = told ≡ ending.NoMemory
+TellsEnd _ _ = ⊥
 
 -- a job that was started is run, and its reply goes to the back of its loop's list
 pub record RunsJob (w : World) (n : ℕ) (o : WorkOrder) (entry : LogEntry) (w' : World) : Type 0 where
@@ -156,10 +156,10 @@ pub record RunsJob (w : World) (n : ℕ) (o : WorkOrder) (entry : LogEntry) (w' 
   pub ending : JobEnd
   pub replies : List Answer
   pub right : ∥ IsEndOf o end ∥₁
-  pub tells : Tells ending end
+  pub tells : TellsEnd ending end
   pub waiting : slice_get w.replies o.loop_no ≡ Some replies
   pub told : entry ≡ line.Finish n (finish.Ended (job_of o) ending)
-  pub after : w' ≡ with_worker (with_replies w o.loop_no (replies ++ record { order = o; end = end } ∷ [])) n Idle
+  pub after : w' ≡ with_worker_at (with_replies w o.loop_no (replies ++ record { order = o; end = end } ∷ [])) n Idle
 
 abbrev pub FinishesJob : World → ℕ → Worker → LogEntry → World → Type 0
 FinishesJob w n (Started o) entry w' = RunsJob w n o entry w'
@@ -189,15 +189,15 @@ SendsTo w n a entry w' =
     (g : Setting) × (l l' : Loop Desk) × (ok : Bool) × (a < MAX_ASYNCS) × HasLoop w n g l × SendsBeside desk_others l a ok l'
     × (entry ≡ line.Send n a (not ok)) × (w' ≡ with_loop w n g l')
 
-abbrev pub Cancels : World → ℕ → (request : ℕ) → LogEntry → World → Type 0
-Cancels w n request entry w' =
+abbrev pub CancelsAt : World → ℕ → (request : ℕ) → LogEntry → World → Type 0
+CancelsAt w n request entry w' =
     (g : Setting) × (l l' : Loop Desk) × (answer : ℕ) × HasLoop w n g l
     × UnlessFailed w n l entry w'
     (CancelIn desk_calls l.state.status (l.state, l.shared) request answer (l'.state, l'.shared) × (l'.store ≡ l.store)
     × (entry ≡ line.Cancel n request (cast_signed w32 answer)) × (w' ≡ with_loop w n g l'))
 
-abbrev pub Clocks : World → ℕ → (ms : ℕ) → LogEntry → World → Type 0
-Clocks w n ms entry w' =
+abbrev pub ClocksAt : World → ℕ → (ms : ℕ) → LogEntry → World → Type 0
+ClocksAt w n ms entry w' =
     (g : Setting) × (l : Loop Desk) × HasLoop w n g l
     × UnlessFailed w n l entry w'
     ((entry ≡ line.Clock n (after_clock l.state ms).clock) × (w' ≡ with_loop w n g (in_state l (after_clock l.state ms))))
@@ -211,8 +211,8 @@ WorldStep w (step.Start n) entry w' = WithWorker w n (λ state. StartsJob w n st
 WorldStep w (step.Finish n) entry w' = WithWorker w n (λ state. FinishesJob w n state entry w')
 WorldStep w (step.Collect n) entry w' = Collects w n entry w'
 WorldStep w (step.Send n a) entry w' = SendsTo w n a entry w'
-WorldStep w (step.Cancel n request) entry w' = Cancels w n request entry w'
-WorldStep w (step.Clock n ms) entry w' = Clocks w n ms entry w'
+WorldStep w (step.Cancel n request) entry w' = CancelsAt w n request entry w'
+WorldStep w (step.Clock n ms) entry w' = ClocksAt w n ms entry w'
 
 -- some steps, one after another, and what is logged of them
 abbrev pub WorldRun : World → List Step → List LogEntry → World → Type 0

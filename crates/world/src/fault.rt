@@ -18,11 +18,11 @@ pub enum WorldFault {
 }
 
 impl WorldFault {
-    ghost use Rattle.world.specs.Making.{number_of};
+    ghost use Rattle.world.specs.Making.{world_fault_number};
 
     /// The fault's number: 1 NoSuch, 2 Memory.
     pub fn code(self) -> u32
-        ensures { result ≡ number_of self }
+        ensures { result ≡ world_fault_number self }
     {
         match self {
             WorldFault::NoSuch => 1,

@@ -2,7 +2,7 @@
 
 ghost use Rattle.world.specs.Guests.{EachRunCalls};
 ghost use Rattle.world.specs.Histories.{IsHistory};
-ghost use Rattle.world.specs.Laws.{IsAfterOnce, IsAfterOwn, IsAfterLast, IsOneWay, IsCancelledOrBegun, RunsJoin};
+ghost use Rattle.world.specs.Laws.{AfterOnceInLog, IsAfterOwn, IsAfterLast, IsOneWay, IsCancelledOrBegun, RunsJoin};
 
 use desk::Desk;
 
@@ -13,7 +13,7 @@ use desk::Desk;
 pub fn after_once()
     ensures calls { EachRunCalls }
     ensures history { IsHistory }
-    ensures once { IsAfterOnce }
+    ensures once { AfterOnceInLog }
     ensures own { IsAfterOwn }
     ensures last { IsAfterLast }
 {

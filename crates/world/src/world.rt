@@ -4,8 +4,8 @@ ghost use Rattle.std.specs.Prelude.{◌≡◌, ◌++◌, ◌∷◌, [], ◌≤�
 ghost use Rattle.limits.specs.declared.TheConstants.{MAX_LOOPS, MAX_WORKERS};
 ghost use Rattle.world.specs.Making.{setting_from, settings_from, answers_of, HasDepth, MayFault, Stops};
 ghost use Rattle.world.specs.Stopping.{StopsIn};
-ghost use Rattle.world.specs.World.{opening_world, opening_loop, WorldStep, WorldRun, told_of, job_of, Tells, StepsLoop, Posts, WithWorker, TakesJob, StartsJob};
-ghost use Rattle.world.specs.World.{FinishesJob, Collects, SendsTo, Cancels, Clocks};
+ghost use Rattle.world.specs.World.{opening_world, opening_loop, WorldStep, WorldRun, entry_told, job_of, TellsEnd, StepsLoop, Posts, WithWorker, TakesJob, StartsJob};
+ghost use Rattle.world.specs.World.{FinishesJob, Collects, SendsTo, CancelsAt, ClocksAt};
 ghost use Rattle.order.specs.Orders.{order_of, end_of};
 
 use crate::config::{Config, LoopConfig};
@@ -64,7 +64,7 @@ impl Model for World {
     ghost use Rattle.phases.specs.Inner.Codes.{roster_code, requests_code};
     ghost use Rattle.order.specs.Orders.{order_of};
     ghost use Rattle.world.specs.World.{World as Value_of};
-    ghost use Rattle.world.specs.Making.{answers_of, worker_of, IsKept};
+    ghost use Rattle.world.specs.Making.{answers_of, worker_of, WorldIsKept};
 
     ghost Value = { Value_of };
 
@@ -72,12 +72,12 @@ impl Model for World {
 
     ghost view = { λ a. record { loops = a.loops.items; jobs = map order_of a.jobs.items; workers = map worker_of a.workers.items; replies = map (λ d. answers_of d.items) a.replies.items } };
 
-    ghost invariant = { λ a. IsKept a.loops.items a.jobs.items a.workers.items (length a.replies.items) (deque_capacity a.jobs) };
+    ghost invariant = { λ a. WorldIsKept a.loops.items a.jobs.items a.workers.items (length a.replies.items) (deque_capacity a.jobs) };
 }
 
 /// What a log has of a loop's step, of which these are the values that its callback emitted.
 pub fn told(loop_no: u32, did: StepDid, emits: Items<u64>) -> LogEntry
-    ensures { result ≡ told_of loop_no did emits }
+    ensures { result ≡ entry_told loop_no did emits }
 {
     match did {
         StepDid::Entered { phase, now } => LogEntry::Entered {
@@ -117,7 +117,7 @@ fn job_of(order: &Order) -> JobId
 
 /// How an outcome is logged.
 fn ending_of(outcome: &Outcome) -> JobEnd
-    ensures { Tells result (end_of outcome.now) }
+    ensures { TellsEnd result (end_of outcome.now) }
 {
     match outcome {
         Outcome::Done(value, _) => JobEnd::Done(*value),
@@ -460,7 +460,7 @@ impl World {
     }
 
     fn cancel(&mut self, loop_no: u32, request: u32) -> Result<LogEntry, WorldFault>
-        ensures ran { IfOk result (λ entry. Cancels self.old loop_no request entry self.new) }
+        ensures ran { IfOk result (λ entry. CancelsAt self.old loop_no request entry self.new) }
         ensures fault { IfErr result (λ fault. MayFault self.old (Step.Cancel loop_no request) fault) }
         ensures kept { OnErr result (self.new ≡ self.old) }
     {
@@ -479,7 +479,7 @@ impl World {
     }
 
     fn clock(&mut self, loop_no: u32, ms: u64) -> Result<LogEntry, WorldFault>
-        ensures ran { IfOk result (λ entry. Clocks self.old loop_no ms entry self.new) }
+        ensures ran { IfOk result (λ entry. ClocksAt self.old loop_no ms entry self.new) }
         ensures fault { IfErr result (λ fault. MayFault self.old (Step.Clock loop_no ms) fault) }
         ensures kept { OnErr result (self.new ≡ self.old) }
     {

@@ -2,7 +2,7 @@ use Rattle.std.proofs.Common.{◌≡◌, subst, sym, ap, ◌∙◌, ◌∷◌, �
 use Rattle.world.proofs.AfterOnce.{history_after, once_after, own_after, last_after}
 use Rattle.world.proofs.GuestsOfRuns.{step_calls, step_of, run_of, each_run_calls}
 use Rattle.world.specs.Histories.{HasHistory}
-use Rattle.world.specs.Laws.{IsOwn, WasCancelled}
+use Rattle.world.specs.Laws.{IsOwn, IsCancelledInLog}
 use Rattle.world.specs.World.{opening_world, opening_loop}
 use Rattle.world.proofs.laws.after_once.Goals as goal
 
@@ -29,4 +29,4 @@ returns-clause-last c settings workers steps log w run l s entry first mid calls
     let one = step_of l w s entry first mid calls in
     let others = run_of l mid behind lines more w' rest in
     last_after settings l workers steps log w run request s entry mid one.0 is c.after_once.ensures.last behind lines w' others.0
-    (subst (λ m. WasCancelled l request (entry ∷ lines) m) (ap (λ m. m ++ more) one.1 ∙ ap (λ m. step_calls l w s entry mid one.0 ++ m) others.1) cancelled)
+    (subst (λ m. IsCancelledInLog l request (entry ∷ lines) m) (ap (λ m. m ++ more) one.1 ∙ ap (λ m. step_calls l w s entry mid one.0 ++ m) others.1) cancelled)

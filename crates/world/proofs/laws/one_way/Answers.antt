@@ -2,7 +2,7 @@ use Rattle.world.proofs.Apart.{apart_after}
 use Rattle.world.proofs.OneWay.{one_way_after}
 use Rattle.std.proofs.Common.{subst}
 use Rattle.world.proofs.GuestsOfRuns.{run_of}
-use Rattle.world.specs.Laws.{WasCancelled}
+use Rattle.world.specs.Laws.{IsCancelledInLog}
 use Rattle.world.specs.World.{opening_world}
 use Rattle.world.proofs.laws.one_way.Goals as goal
 
@@ -14,4 +14,4 @@ pub returns-clause-cancelled : goal.returns-clause-cancelled
 returns-clause-cancelled c settings workers steps log w placed l made calls request won =
     let run = run_of l (opening_world settings workers) steps log made w calls in
     apart_after settings placed workers l request c.asked_once.ensures.handed c.asked_once.ensures.own steps log w run.0
-    (subst (λ m. WasCancelled l request log m) run.1 won)
+    (subst (λ m. IsCancelledInLog l request log m) run.1 won)

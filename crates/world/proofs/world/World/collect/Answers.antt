@@ -2,7 +2,7 @@ use Rattle.std.proofs.Common.{◌≡◌, ◌<◌, [], length, map, Some, sym, ap
 use Rattle.std.specs.Prelude.{slice_set}
 use Rattle.std.specs.VecDeque.{deque_capacity}
 use Rattle.std.proofs.lemmas.List.{length-map, length-set, map-set}
-use Rattle.world.specs.Making.{answers_of, IsKept}
+use Rattle.world.specs.Making.{answers_of, WorldIsKept}
 use Rattle.world.proofs.Sets.{kept_set}
 use Rattle.world.proofs.StepsAgree.{read}
 use Rattle.world.proofs.CollectsAgree.{reads_at, emptied, collect_failed, collect_nothing, collect_taken, collect_stranger}
@@ -30,7 +30,7 @@ returns-in_default-pop_front-clause-ran c =
 
 pub invariant_of-self-2 : goal.invariant_of-self-2
 invariant_of-self-2 c =
-    subst (λ k. IsKept (slice_set c.self.inside.loops.items c.args.loop_no c.accept.new.self) c.self.inside.jobs.items c.self.inside.workers.items k
+    subst (λ k. WorldIsKept (slice_set c.self.inside.loops.items c.args.loop_no c.accept.new.self) c.self.inside.jobs.items c.self.inside.workers.items k
     (deque_capacity c.self.inside.jobs)) (sym (length-set c.self.inside.replies.items c.args.loop_no c.pop_front.new.self))
     (kept_set c.self.inside.loops.items _ _ _ _ c.args.loop_no c.in-Some.core.now c.accept.new.self
     (read c.self.inside.loops.items c.args.loop_no c.in-Some.core.now c.in-Some.ensures.item.3.0 c.in-Some.ensures.item.3.1) c.accept.ensures.setting c.self.invariant)

@@ -1,5 +1,5 @@
 use Rattle.std.proofs.Common.{◌∙◌, ◌++◌, ap}
-use Rattle.world.specs.World.{told_of}
+use Rattle.world.specs.World.{entry_told}
 use Rattle.world.proofs.Sets.{kept_set}
 use Rattle.world.proofs.StepsAgree.{read, steps}
 use Rattle.world.proofs.world.World.step_loop.Goals as goal
@@ -14,5 +14,5 @@ returns-clause-ran c =
     steps c.args.self.now c.self.inside.loops.items _ _ _ c.self.view_is c.args.loop_no c.in-Some.core.now
     (read c.self.inside.loops.items c.args.loop_no c.in-Some.core.now c.in-Some.ensures.item.3.0 c.in-Some.ensures.item.3.1) c.step-did.result c.step-did.new.self c.told.result
     c.step-did.ensures.setting c.step-did.ensures.step
-    (c.told.ensures ∙ ap (told_of c.args.loop_no c.step-did.result)
+    (c.told.ensures ∙ ap (entry_told c.args.loop_no c.step-did.result)
     (c.from_vec.ensures ∙ c.in-Ok.ensures.items ∙ ap (λ xs. xs ++ c.emits.result.now) c.in_ok-emits.ensures.items ∙ c.emits.ensures.emits))

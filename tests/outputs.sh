@@ -73,10 +73,17 @@ mixtures 0 result --version
 mixtures 1 message check "$room/none"
 mixtures 1 message script "$room/text"
 mixtures 1 message work examples/copies.wasm 5 616263 --out "$room/none/reply"
+mixtures 2 message
 mixtures 2 message nonsense
 mixtures 2 message invoke examples/seven.wasm nofunction
 mixtures 2 message invoke examples/seven.wasm f 1
 mixtures 2 message work examples/copies.wasm 5 6
+
+# a command is missing: what is said of it, and how a guest is run
+"$program" > "$room/out" 2> "$room/err"
+is "what no command prints" "" "$(cat "$room/out")"
+is "what is said of no command" "error: a command is missing" "$(head -n 1 "$room/err")"
+is "how a guest is run" "A guest runs by 'wasmloop serve FILE --loops 1 --workers 1'." "$(grep -o 'A guest runs by .*' "$room/err")"
 
 # whatever is closed, the file has the reply alone
 for in in open closed; do for out in open closed; do for err in open closed; do

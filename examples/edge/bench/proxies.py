@@ -6,24 +6,17 @@ All is bounded to namespaces that it makes and removes. After 3 s the second ser
 after 9.5 s it is there again. A proxy that `retries` gives a request to another server where one ended without an answer, or answered 503: work functions
 keep nothing, so twice is as good as once. Prints a line for each proxy; ends with 1 where one that retries lost an answer, or gave another than 200.
 """
-import argparse
 import os
-import pathlib
 import re
 import shutil
 import subprocess
 import sys
-import tempfile
 import time
 
-parser = argparse.ArgumentParser()
-parser.add_argument("edge")
-parser.add_argument("load")
-parser.add_argument("guests")
-parser.add_argument("--rate", type=int, default=1000)
-told = parser.parse_args()
-ROOM = pathlib.Path(tempfile.mkdtemp())
-ROOM.chmod(0o755)
+import common
+
+told = common.words(rate=1000)
+ROOM = common.room()
 FRONT, BACKS = f"edge{os.getpid()}p", [f"edge{os.getpid()}s{n}" for n in (1, 2, 3)]
 ADDRESSES = [f"10.77.0.{10 + n}" for n in (1, 2, 3)]
 

@@ -21,38 +21,24 @@ and of EDGE alone
 
 A cell is the median over the rounds. --class puts servers and clients into a class of the scheduler, where others use the machine too.
 """
-import argparse
 import contextlib
-import http.client
 import os
 import pathlib
 import re
 import shutil
-import socket
 import statistics
 import subprocess
 import sys
-import tempfile
 import time
 
+import common
+from common import ask
+
 HERE = pathlib.Path(__file__).resolve().parent
-parser = argparse.ArgumentParser()
-parser.add_argument("edge")
-parser.add_argument("load")
-parser.add_argument("guests")
-parser.add_argument("--seconds", type=int, default=2)
-parser.add_argument("--rounds", type=int, default=3)
-parser.add_argument("--threads", type=int, default=3)
-parser.add_argument("--parts", default="flat,rate,hostile,cost,exact,plain,wish,threads,many")
-parser.add_argument("--only", default="edge,py,node,lua,fork")
-parser.add_argument("--rates", default="100,1000")
-parser.add_argument("--hostile", default="spin,bomb,deep,huge,trap")
-parser.add_argument("--many", type=int, default=1000)
-parser.add_argument("--class", dest="prefix", default="")
-told = parser.parse_args()
-ROOM = pathlib.Path(tempfile.mkdtemp())
-ROOM.chmod(0o755)  # nginx's workers are somebody else
-PREFIX = told.prefix.split()
+told = common.words(seconds=2, rounds=3, threads=3, parts="flat,rate,hostile,cost,exact,plain,wish,threads,many", only="edge,py,node,lua,fork",
+                    rates="100,1000", hostile="spin,bomb,deep,huge,trap", many=1000, **{"class": ""})
+ROOM = common.room()
+PREFIX = vars(told)["class"].split()
 GUESTS = {"hello": 16, "crc32": 1024}
 FOLDERS = {name: ROOM / ("lua" if name == "lua" else "py" if name == "fork" else "wasm") for name in told.only.split(",")}
 SUFFIX = {"lua": ".lua", "py": ".py", "wasm": ".wasm"}
@@ -90,23 +76,16 @@ def start(name, port, threads=told.threads, program=None):
                "fork": lambda: ["/usr/bin/python3", HERE.parent / "other/fork_edge.py", tenants, str(port), threads]}[name]()
     with open(ROOM / "access", "w") as log:
         server = subprocess.Popen(PREFIX + command, stdout=log if name == "edge" else subprocess.DEVNULL, stderr=subprocess.DEVNULL)
-    for _ in range(600):
-        with contextlib.suppress(OSError):
-            socket.create_connection(("127.0.0.1", port)).close()
-            return server
-        time.sleep(0.1)
-    raise SystemExit(f"{name} does not listen")
+    return common.listening(server, port)
 
 
 def resident(pid):
     """The memory of a process and its children that is theirs alone, in KiB."""
     total = 0
-    for it in pathlib.Path("/proc").glob("[0-9]*/status"):
+    for it in pathlib.Path("/proc").glob("[0-9]*"):
         with contextlib.suppress(OSError):
-            text = it.read_text()
-            if it.parent.name == str(pid) or re.search(rf"(?m)^PPid:\s+{pid}$", text):
-                rss = re.search(r"(?m)^RssAnon:\s+(\d+)", text)
-                total += int(rss[1]) if rss else 0
+            if it.name == str(pid) or common.memory(it.name, "PPid") == pid:
+                total += common.memory(it.name, "RssAnon")
     return total
 
 
@@ -144,15 +123,6 @@ def beside(port, hostile):
     time.sleep(0.5)
     yield
     other.wait()
-
-
-def ask(port, path, body=b"abc"):
-    link = http.client.HTTPConnection("127.0.0.1", port, timeout=30)
-    began = time.perf_counter()
-    link.request("POST", path, body)
-    answer = link.getresponse()
-    answer.read()
-    return (time.perf_counter() - began) * 1e6, answer.status, answer.headers
 
 
 # ---- tables ----
@@ -233,11 +203,11 @@ def tenants_of(name, port, server, many):
     before, first = resident(server.pid), []
     for it in links:
         shutil.copy(folder / f"crc32{suffix}", it)
-        first.append(ask(port, f"/{it.stem}")[:2])
+        first.append(ask(port, f"/{it.stem}"))
     after = resident(server.pid)
-    second = [ask(port, f"/{it.stem}")[:2] for it in links]
-    bad = sum(status != 200 for _, status in first + second)
-    us = [f"{statistics.median(it):,.0f}, {sorted(it)[len(it) * 99 // 100]:,.0f}" for it in ([us for us, _ in first], [us for us, _ in second])]
+    second = [ask(port, f"/{it.stem}") for it in links]
+    bad = sum(status != 200 for status, *_ in first + second)
+    us = [f"{statistics.median(it):,.0f}, {sorted(it)[len(it) * 99 // 100]:,.0f}" for it in ([us for *_, us in first], [us for *_, us in second])]
     return [f"{(after - before) / many:.1f} KiB", *us, f"{resident(server.pid) / 1024:.0f} MB" + (f", {bad} failed" if bad else "")], links
 
 
@@ -254,7 +224,8 @@ def cost(servers):
 
 
 @contextlib.contextmanager
-def alone(port, threads=told.threads, program=None):
+def alone(threads=told.threads, program=None):
+    port = common.free_port()
     server = start("edge", port, threads, program)
     yield port, server
     server.terminate()
@@ -267,7 +238,7 @@ def plain(_):
     subprocess.run(["ar", "rcs", ROOM / "plain/libwasmloop.a", ROOM / "plain/plain.o"], check=True)
     subprocess.run([HERE.parent / "build.sh", ROOM / "plain/edge", ROOM / "plain"], check=True)
     got = {"edge": [], "a C function": []}
-    with alone(18620) as (edge, _), alone(18621, program=ROOM / "plain/edge") as (c, _):
+    with alone() as (edge, _), alone(program=ROOM / "plain/edge") as (c, _):
         for _ in range(2 * told.rounds):
             got["edge"].append(flat_out(edge, "hello"))
             got["a C function"].append(flat_out(c, "hello"))
@@ -280,7 +251,7 @@ def wish(_):
     rows = {}
     for guest in "spin", "bomb":
         shutil.copy(ROOM / f"wasm/{guest}.wasm", ROOM / "wasm/wish.wasm")
-        with alone(18620) as (port, _):
+        with alone() as (port, _):
             for _ in range(200):
                 ask(port, "/wish")
             time.sleep(0.3)
@@ -292,13 +263,13 @@ def wish(_):
 def threads(_):
     rows = {}
     for count in 1, 2, 4:
-        with alone(18620, count) as (port, _):
+        with alone(count) as (port, _):
             rows[f"{count} threads"] = [cell([flat_out(port, guest) for _ in range(told.rounds)]) for guest in GUESTS]
     table(list(GUESTS), rows)
 
 
 def many(_):
-    with alone(18620) as (port, server):
+    with alone() as (port, server):
         cells, links = tenants_of("edge", port, server, 10000)
         paths = [f"/{it.stem}" for it in links]
         out = subprocess.run(PREFIX + [told.load, "-c", "8", "-d", str(told.seconds), "-b", "1024", str(port), *paths], capture_output=True, text=True, check=False).stdout
@@ -309,9 +280,9 @@ def exact(servers):
     rows = {}
     for name, (port, _) in servers.items():
         got = [ask(port, "/spin") for _ in range(20)]
-        ms = [us / 1000 for us, _, _ in got]
-        units = {heads.get("Wasmloop-Fuel") for _, _, heads in got}
-        rows[name] = [f"{min(ms):.0f} to {max(ms):.0f} ms", " ".join(sorted({str(status) for _, status, _ in got})), ", ".join(str(it) for it in units if it) or "no"]
+        ms = [us / 1000 for *_, us in got]
+        units = {heads.get("Wasmloop-Fuel") for _, _, heads, _ in got}
+        rows[name] = [f"{min(ms):.0f} to {max(ms):.0f} ms", " ".join(sorted({str(status) for status, *_ in got})), ", ".join(str(it) for it in units if it) or "no"]
     table(["a guest that never ends takes", "status", "units, each time"], rows)
 
 
@@ -323,12 +294,13 @@ def main():
     shutil.copytree(HERE.parent / "other/py", ROOM / "py")
     servers = {}
     try:
-        for number, name in enumerate(told.only.split(",")):
+        for name in told.only.split(","):
             if why := missing(name):
                 print(f"left out: {name}: {why}", flush=True)
             else:
-                servers[name] = 18600 + number, start(name, 18600 + number)
-        print(f"{told.seconds} s a cell, {told.rounds} rounds, {os.cpu_count()} processors, load {os.getloadavg()[0]:.1f}{', ' + told.prefix if told.prefix else ''}", flush=True)
+                port = common.free_port()
+                servers[name] = port, start(name, port)
+        print(f"{told.seconds} s a cell, {told.rounds} rounds, {os.cpu_count()} processors, load {os.getloadavg()[0]:.1f}{', ' + ' '.join(PREFIX) if PREFIX else ''}", flush=True)
         for part in told.parts.split(","):
             globals()[part](servers)
     finally:

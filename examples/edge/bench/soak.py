@@ -6,29 +6,20 @@ EDGE and LOAD are the programs of edge.c and bench/load.c, GUESTS a folder of mo
 server's access log must have each of its own numbers once. Ends with 1 where one is lost, strays, fails, or stands twice, and, from 100 s on, where the
 last quarter of the time took more than a tenth more memory than the second.
 """
-import argparse
 import collections
-import http.client
-import os
 import pathlib
 import re
 import shutil
-import socket
 import subprocess
 import sys
-import tempfile
 import threading
 import time
 
-parser = argparse.ArgumentParser()
-parser.add_argument("edge")
-parser.add_argument("load")
-parser.add_argument("guests")
-parser.add_argument("--seconds", type=int, default=600)
-parser.add_argument("--rate", type=int, default=1000)
-parser.add_argument("--tenants", type=int, default=100)
-told = parser.parse_args()
-FOLDER = pathlib.Path(tempfile.mkdtemp())
+import common
+from common import ask
+
+told = common.words(seconds=600, rate=1000, tenants=100)
+FOLDER = common.room()
 over = threading.Event()
 numbers, statuses, twice = bytearray(), collections.Counter(), []
 seen = collections.Counter()
@@ -40,8 +31,7 @@ def patient(name):
 
 
 def put(name, guest):
-    shutil.copy(pathlib.Path(told.guests) / f"{guest}.wasm", FOLDER / "new")
-    os.rename(FOLDER / "new", FOLDER / f"{name}.wasm")
+    common.put(pathlib.Path(told.guests) / f"{guest}.wasm", FOLDER / f"{name}.wasm")
 
 
 def read_log(server):
@@ -56,15 +46,6 @@ def read_log(server):
         statuses[words["status"]] += 1
 
 
-def ask(port, path, body=b"x"):
-    link = http.client.HTTPConnection("127.0.0.1", port, timeout=30)
-    link.request("POST", path, body)
-    answer = link.getresponse()
-    got = answer.status, answer.read()
-    link.close()
-    return got
-
-
 def come_and_go(port):
     """A tenant comes, is asked, changes, is asked until the new module answers, and goes; one of those that stay changes."""
     n = 0
@@ -72,14 +53,14 @@ def come_and_go(port):
         n += 1
         patient(f"guest{n}")
         put(f"guest{n}", "hello")
-        if ask(port, f"/guest{n}") != (200, b"hello, x"):
+        if ask(port, f"/guest{n}")[:2] != (200, b"hello, x"):
             seen["a new tenant that doesn't answer"] += 1
         put(f"guest{n}", "crc32")
         put(f"t{n % told.tenants}", "hello")
         while not over.is_set() and (got := ask(port, f"/guest{n}"))[1] == b"hello, x":
             pass
         if got[0] != 200:
-            seen[f"a changed tenant: {got}"] += 1
+            seen[f"a changed tenant: {got[:2]}"] += 1
         (FOLDER / f"guest{n}.wasm").unlink()
         (FOLDER / f"guest{n}.conf").unlink()
         seen["came and went"] += 1
@@ -91,14 +72,8 @@ def hostile(port, path):
         seen[f"{path} {ask(port, path)[0]}"] += 1
 
 
-def resident(pid):
-    return int(re.search(r"VmRSS:\s+(\d+)", pathlib.Path(f"/proc/{pid}/status").read_text())[1])
-
-
 def main():
-    with socket.socket() as s:
-        s.bind(("127.0.0.1", 0))
-        port = s.getsockname()[1]
+    port = common.free_port()
     for n in range(told.tenants):
         patient(f"t{n}")
         put(f"t{n}", "hello")
@@ -106,7 +81,7 @@ def main():
         put(name, name)
     (FOLDER / "bomb.conf").write_text("fuel 3000000\n")
     server = subprocess.Popen([told.edge, "-p", str(port), "-w", "3", FOLDER], stdout=subprocess.PIPE, text=True)
-    time.sleep(0.5)
+    common.listening(server, port)
     threads = [threading.Thread(target=read_log, args=(server,)), threading.Thread(target=come_and_go, args=(port,)),
                *(threading.Thread(target=hostile, args=(port, path)) for path in ("/spin", "/bomb", "/trap/0", "/deep", "/flood/ask", "/limiter/ask"))]
     load = subprocess.Popen([told.load, "-c", "64", "-d", str(told.seconds), "-r", str(told.rate), "-m", "20000", str(port), *(f"/t{n}" for n in range(told.tenants))],
@@ -115,7 +90,7 @@ def main():
         it.start()
     memory = []
     while load.poll() is None:
-        memory.append(resident(server.pid))
+        memory.append(common.memory(server.pid))
         time.sleep(1)
     over.set()
     for it in threads[1:]:

@@ -1,9 +1,11 @@
 #!/bin/sh
 # Runs the lines of README.md that begin with curl, on a server of EDGE: each prints what stands behind its #. usage: lines.sh EDGE GUESTS
 set -u
-here=$(cd "$(dirname "$0")/.." && pwd) room=$(mktemp -d) port=${PORT:-18470} failed=0 count=0
+here=$(cd "$(dirname "$0")/.." && pwd) room=$(mktemp -d) failed=0 count=0
+port=$(python3 -c 'import socket; s = socket.socket(); s.bind(("127.0.0.1", 0)); print(s.getsockname()[1])')
 cp "$2"/*.wasm "$here/dashboard.html" "$room"
-echo 'type text/plain' > "$room/hello.conf"
+for guest in "$room"/*.wasm; do echo 'deadline 60000' > "${guest%.wasm}.conf"; done # a busy machine is no failure
+echo 'type text/plain' >> "$room/hello.conf"
 "$1" -p "$port" -w 3 "$room" > "$room/access" & pid=$!
 trap 'kill $pid; wait $pid; rm -rf "$room"' EXIT
 curl -s --retry 50 --retry-connrefused --retry-delay 1 -o "$room/got" "http://127.0.0.1:$port/-/metrics"

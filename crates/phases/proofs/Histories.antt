@@ -15,11 +15,12 @@ use Rattle.phases.specs.declared.entry.Status.TheVariants.{Running, Over, Failed
 use Rattle.phases.specs.Calls.{Calls}
 use Rattle.phases.specs.Guests.{GuestCall}
 use Rattle.phases.specs.History.{Event, Stepped, OrderAsked, EndOffered, CancelAnswered, RequestAnswered, ClockRaised, MovedBeside, EventStep, Offers, History, IsOpening, owners_call, calls_in, guest_calls}
-use Rattle.phases.specs.Laws.{WasAsked, WasCancelled, is_after_event, cancellation, AreDue, IsOwn}
+use Rattle.phases.specs.Laws.{WasAsked, WasCancelled, is_after_event, AreDue, IsOwn}
 use Rattle.phases.specs.Outside.{next_order_of, next_in, handing}
-use Rattle.phases.specs.Requests.{Stage, Open, HandedOut, Answered, Cancelled, Request, Requests, Completion, no_requests, request_of, with_stage, completion_of, end_completion, lowest_open}
+use Rattle.phases.specs.Requests.{Stage, Open, HandedOut, Answered, Cancelled, Request, Requests, Completion, cancellation, no_requests, request_of, with_stage, completion_of, end_completion, lowest_open}
 use Rattle.phases.specs.State.{Setting, State, Loop}
 use Rattle.phases.specs.Step.{AfterWork, in_state}
+use Rattle.phases.proofs.EventsKeep.{counted, uncounted, Keeps, kept_by, kept_along}
 use Rattle.phases.proofs.CancelFates.{CancelFate, cancelled, stayed, fate_in}
 use Rattle.phases.proofs.StepFates.{Held, WasWon, after_of, Steps, step_holds, fate_holds, nothing_more}
 use Rattle.phases.proofs.StepsByCalls.{request_fate}
@@ -156,11 +157,7 @@ module _ {S : Type 0} (calls : Calls S) (g : Setting) (r : ℕ) where
   -- the same of many events
   run_held : (ran early : Type 0) (events more : List Event) (old new : Loop S) → History calls g old more new → Good ran early events old.state.requests
       → Good ran early (events ++ more) new.state.requests
-  run_held ran early events [] old new h f =
-      subst (λ l. Good ran early (events ++ []) l.state.requests) (sym h) (subst (λ es. Good ran early es old.state.requests) (sym (append-nil events)) f)
-  run_held ran early events (e ∷ more) old new h f =
-      subst (λ es. Good ran early es new.state.requests) (append_assoc events (e ∷ []) more)
-      (run_held ran early (events ++ e ∷ []) more h.0 new h.2 (event_held ran early events e old h.0 h.1 f))
+  run_held ran early = kept_along calls g (λ events l. Good ran early events l.state.requests) (λ e events old new h f. event_held ran early events e old new h f)
 
   abbrev pub HasRun : List Event → Type 0
   HasRun events = 1 ≤ count_by (is_after_event r) events
@@ -169,23 +166,17 @@ module _ {S : Type 0} (calls : Calls S) (g : Setting) (r : ℕ) where
     pub good : Good (HasRun events) (Unit {0}) events l.state.requests
     pub once : count_by (is_after_event r) events ≤ 1
 
-  counted : (events : List Event) (e : Event) → count_by (is_after_event r) (events ++ e ∷ []) ≡ count_by (is_after_event r) events + cond (is_after_event r e) 1 0
-  counted events e = sum_by_push (λ x. cond (is_after_event r x) 1 0) events e
-
-  uncounted : (events : List Event) (e : Event) → is_after_event r e ≡ false → count_by (is_after_event r) (events ++ e ∷ []) ≡ count_by (is_after_event r) events
-  uncounted events e none = counted events e ∙ rw none (omega arith)
-
   after_told : (did : StepDid) (emits : List ℕ) (made : List GuestCall) → is_after_event r (Stepped did emits made) ≡ true → after_of did ≡ Some r
   after_told (Ran kind.After number ended) emits made h = ap Some (eqb-true number r h)
   after_told _ emits made h = absurd (cc)
 
-  quiet_next : (events : List Event) (e : Event) (old new : Loop S) → is_after_event r e ≡ false → EventStep calls g e old new → Holds events old → Holds (events ++ e ∷ []) new
-  quiet_next events e old new none h was = record {
+  quiet_next : (e : Event) → is_after_event r e ≡ false → Keeps calls g Holds e
+  quiet_next e none events old new h was = record {
     good =
         less_ran r (WasAsked g (guest_calls (events ++ e ∷ []))) (WasWon g r (ByOwner (events ++ e ∷ [])) (guest_calls (events ++ e ∷ []))) (HasRun events)
         (HasRun (events ++ e ∷ [])) (Unit {0}) new.state.requests
-        (λ k. subst (λ n. 1 ≤ n) (uncounted events e none) k) (event_held (HasRun events) (Unit {0}) events e old new h was.good);
-    once = subst (λ n. n ≤ 1) (sym (uncounted events e none)) was.once;
+        (λ k. subst (λ n. 1 ≤ n) (uncounted (is_after_event r) events e none) k) (event_held (HasRun events) (Unit {0}) events e old new h was.good);
+    once = subst (λ n. n ≤ 1) (sym (uncounted (is_after_event r) events e none)) was.once;
   }
 
   -- an after-work callback of the request
@@ -202,7 +193,7 @@ module _ {S : Type 0} (calls : Calls S) (g : Setting) (r : ℕ) where
           (HasRun (events ++ Stepped did emits made ∷ [])) (Unit {0}) new.state.requests
           (λ _. tt)
           (told (Unit {0}) (Unit {0}) events (Stepped did emits made) new.state.requests (no_cancel (Stepped did emits made) refl) (stepped.after (after_told did emits made is)).3.gone);
-      once = subst (λ n. n ≤ 1) (sym (counted events (Stepped did emits made) ∙ rw is refl)) (below (cases_lt 0 (count_by (is_after_event r) events)));
+      once = subst (λ n. n ≤ 1) (sym (counted (is_after_event r) events (Stepped did emits made) ∙ rw is refl)) (below (cases_lt 0 (count_by (is_after_event r) events)));
     } where
       below : (0 < count_by (is_after_event r) events) ⊎ (count_by (is_after_event r) events ≤ 0) → count_by (is_after_event r) events + 1 ≤ 1
       below (inr none) = omega (arith, none)
@@ -251,22 +242,9 @@ module _ {S : Type 0} (calls : Calls S) (g : Setting) (r : ℕ) where
                 due = stage_due q.order (WasWon g r (ByOwner events) (guest_calls events)) q.stage mine.1 t told;
               }
 
-  event_next : (events : List Event) (e : Event) (old new : Loop S) → EventStep calls g e old new → Holds events old → Holds (events ++ e ∷ []) new
-  event_next events (Stepped did emits made) old new h was = by (is_after_event r (Stepped did emits made)) refl where
-    by : (b : Bool) → is_after_event r (Stepped did emits made) ≡ b → Holds (events ++ Stepped did emits made ∷ []) new
-    by true is = ran_next events did emits made old new h was is
-    by false none = quiet_next events (Stepped did emits made) old new none h was
-  event_next events (OrderAsked order) old new h was = quiet_next events (OrderAsked order) old new refl h was
-  event_next events (EndOffered o end taken) old new h was = quiet_next events (EndOffered o end taken) old new refl h was
-  event_next events (CancelAnswered request answer) old new h was = quiet_next events (CancelAnswered request answer) old new refl h was
-  event_next events (RequestAnswered op bytes answer) old new h was = quiet_next events (RequestAnswered op bytes answer) old new refl h was
-  event_next events (ClockRaised ms) old new h was = quiet_next events (ClockRaised ms) old new refl h was
-  event_next events MovedBeside old new h was = quiet_next events MovedBeside old new refl h was
-
-  run_holds : (events more : List Event) (old new : Loop S) → History calls g old more new → Holds events old → Holds (events ++ more) new
-  run_holds events [] old new h was = subst (λ l. Holds (events ++ []) l) (sym h) (subst (λ es. Holds es old) (sym (append-nil events)) was)
-  run_holds events (e ∷ more) old new h was =
-      subst (λ es. Holds es new) (append_assoc events (e ∷ []) more) (run_holds (events ++ e ∷ []) more h.0 new h.2 (event_next events e old h.0 h.1 was))
+  this_next : (e : Event) → is_after_event r e ≡ true → Keeps calls g Holds e
+  this_next (Stepped did emits made) is events old new h was = ran_next events did emits made old new h was is
+  this_next _ is events old new h was = absurd (cc)
 
   opening_holds : (l : Loop S) → IsOpening calls g l → Holds [] l
   opening_holds l h = record {
@@ -281,7 +259,7 @@ module _ {S : Type 0} (calls : Calls S) (g : Setting) (r : ℕ) where
     fresh = record { owned = tt; fresh = λ _. (refl, never); gone = λ k. absurd (omega (arith, k)); late = λ _ _. tt }
 
   pub holds_after : (l l' : Loop S) (events : List Event) → IsOpening calls g l → History calls g l events l' → Holds events l'
-  holds_after l l' events o h = run_holds [] events l l' h (opening_holds l o)
+  holds_after l l' events o h = kept_along calls g Holds (kept_by calls g Holds (is_after_event r) this_next quiet_next) [] events l l' h (opening_holds l o)
 
   pub own_after : (l old new : Loop S) (events : List Event) (did : StepDid) (emits : List ℕ) (made : List GuestCall) → IsOpening calls g l → History calls g l events old
       → EventStep calls g (Stepped did emits made) old new → is_after_event r (Stepped did emits made) ≡ true → IsOwn calls g events old r did made new

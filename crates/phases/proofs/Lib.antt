@@ -10,6 +10,7 @@ pub mod GuestCallsKeepListed
 pub mod GuestCallsKeep
 pub mod OrdersHandedOnce
 pub mod StepFates
+pub mod EventsKeep
 pub mod Histories
 pub mod LoopsKeep
 pub mod ActiveAsyncs

@@ -15,6 +15,7 @@ use Rattle.phases.specs.Outside.{next_order_of, next_in, handing}
 use Rattle.phases.specs.Requests.{Stage, HandedOut, Cancelled, Request, Requests, has_number, in_stage, with_stage, is_open_stage, lowest_open}
 use Rattle.phases.specs.State.{Setting, State, Loop}
 use Rattle.tallies.proofs.Filtered.{Member, found_kept}
+use Rattle.phases.proofs.EventsKeep.{counted, uncounted, Keeps, kept_by, kept_along}
 use Rattle.phases.proofs.Histories.{holds_after}
 use Rattle.phases.proofs.StepsByCalls.{CallFate, changes_nothing, opens_one, cancels_one, IsKeptBy, event_keeps}
 use Rattle.phases.proofs.RequestByNumber.{numbered, Owned}
@@ -163,21 +164,17 @@ module _ {S : Type 0} (calls : Calls S) (g : Setting) (r : ℕ) where
     pub once : count_by (hands_out r) events ≤ 1
     pub handed : IsHanded r (WasHanded events) l.state.requests
 
-  counted : (events : List Event) (e : Event) → count_by (hands_out r) (events ++ e ∷ []) ≡ count_by (hands_out r) events + cond (hands_out r e) 1 0
-  counted events e = sum_by_push (λ x. cond (hands_out r x) 1 0) events e
-
-  other_event : (events : List Event) (e : Event) (old new : Loop S) → hands_out r e ≡ false → EventStep calls g e old new → Holds events old → Holds (events ++ e ∷ []) new
-  other_event events e old new none h was =
-      let same : count_by (hands_out r) (events ++ e ∷ []) ≡ count_by (hands_out r) events = counted events e ∙ rw none (omega arith) in
+  other_event : (e : Event) → hands_out r e ≡ false → Keeps calls g Holds e
+  other_event e none events old new h was =
+      let same = uncounted (hands_out r) events e none in
       let kept = event_keeps calls g (Handed g r (WasHanded events)) (keeps g r (WasHanded events)) [] e old new h was.handed in
       record {
         once = subst (λ n. n ≤ 1) (sym same) was.once;
         handed = record { up_to = kept.up_to; shut = λ w. kept.shut (subst (λ n. 1 ≤ n) same w) };
       }
 
-  this_event : (events : List Event) (o : WorkOrder) (old new : Loop S) → hands_out r (OrderAsked (Some o)) ≡ true
-      → EventStep calls g (OrderAsked (Some o)) old new → Holds events old → Holds (events ++ OrderAsked (Some o) ∷ []) new
-  this_event events o old new is h was =
+  this_event : (e : Event) → hands_out r e ≡ true → Keeps calls g Holds e
+  this_event (OrderAsked (Some o)) is events old new h was =
       let it = handed_is old.state.status old.state o refl h.0 in
       let number : o.request ≡ r = eqb-true o.request r is in
       let mine : it.request.order.request ≡ r = ap (λ (y : WorkOrder). y.request) it.order ∙ number in
@@ -195,26 +192,9 @@ module _ {S : Type 0} (calls : Calls S) (g : Setting) (r : ℕ) where
             → count_by (hands_out r) (events ++ OrderAsked (Some o) ∷ []) ≤ 1
         first rs (inl some) q lowest mine = absurd (found_open r old.state.requests.outstanding q lowest (was.handed.shut some).1 mine)
         first rs (inr none) q lowest mine =
-            let one : count_by (hands_out r) (events ++ OrderAsked (Some o) ∷ []) ≡ count_by (hands_out r) events + 1 = counted events (OrderAsked (Some o)) ∙ rw is refl in
+            let one : count_by (hands_out r) (events ++ OrderAsked (Some o) ∷ []) ≡ count_by (hands_out r) events + 1 = counted (hands_out r) events (OrderAsked (Some o)) ∙ rw is refl in
             omega (arith, none, one)
-
-  event_next : (events : List Event) (e : Event) (old new : Loop S) → EventStep calls g e old new → Holds events old → Holds (events ++ e ∷ []) new
-  event_next events (OrderAsked (Some o)) old new h was = by (hands_out r (OrderAsked (Some o))) refl where
-    by : (b : Bool) → hands_out r (OrderAsked (Some o)) ≡ b → Holds (events ++ OrderAsked (Some o) ∷ []) new
-    by true is = this_event events o old new is h was
-    by false is = other_event events (OrderAsked (Some o)) old new is h was
-  event_next events (OrderAsked None) old new h was = other_event events (OrderAsked None) old new refl h was
-  event_next events (Stepped did emits made) old new h was = other_event events (Stepped did emits made) old new refl h was
-  event_next events (EndOffered o end taken) old new h was = other_event events (EndOffered o end taken) old new refl h was
-  event_next events (CancelAnswered request answer) old new h was = other_event events (CancelAnswered request answer) old new refl h was
-  event_next events (RequestAnswered op bytes answer) old new h was = other_event events (RequestAnswered op bytes answer) old new refl h was
-  event_next events (ClockRaised ms) old new h was = other_event events (ClockRaised ms) old new refl h was
-  event_next events MovedBeside old new h was = other_event events MovedBeside old new refl h was
-
-  run_holds : (events more : List Event) (old new : Loop S) → History calls g old more new → Holds events old → Holds (events ++ more) new
-  run_holds events [] old new h was = subst (λ l. Holds (events ++ []) l) (sym h) (subst (λ es. Holds es old) (sym (append-nil events)) was)
-  run_holds events (e ∷ more) old new h was =
-      subst (λ es. Holds es new) (append_assoc events (e ∷ []) more) (run_holds (events ++ e ∷ []) more h.0 new h.2 (event_next events e old h.0 h.1 was))
+  this_event _ is events old new h was = absurd (cc)
 
   opening_holds : (l : Loop S) → IsOpening calls g l → Holds [] l
   opening_holds l opens = record {
@@ -223,7 +203,7 @@ module _ {S : Type 0} (calls : Calls S) (g : Setting) (r : ℕ) where
   }
 
   pub handed_after : (l l' : Loop S) (events : List Event) → IsOpening calls g l → History calls g l events l' → count_by (hands_out r) events ≤ 1
-  handed_after l l' events opens h = (run_holds [] events l l' h (opening_holds l opens)).once
+  handed_after l l' events opens h = (kept_along calls g Holds (kept_by calls g Holds (hands_out r) this_event other_event) [] events l l' h (opening_holds l opens)).once
 
 -- what is handed out was asked for
 owned_member : (asked : WorkOrder → Type 0) (won : Type 0) (qs : List Request) (q : Request) → Owned asked won qs → Member q qs → asked q.order

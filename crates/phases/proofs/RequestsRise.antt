@@ -6,9 +6,8 @@ use Rattle.std.proofs.lemmas.Bool.{eq-eqb, ne_eqb, eqb-true}
 use Rattle.std.proofs.lemmas.List.Elements.{All-filter, All-push, All-set}
 use Rattle.std.proofs.lemmas.Option.{get_or_from_slice_get, slice_get_within}
 use Rattle.limits.specs.declared.TheConstants.{MAX_BYTES, MAX_REQUESTS, MAX_REQUEST_NUMBER}
-use Rattle.order.specs.declared.uv.answers.TheConstants.{CANCELLED_CODE}
 use Rattle.order.specs.Work.{WorkOrder, WorkEnd, Done, Trap, Depth, Spent, NoMemory, IsEndOf, IsShortEnd}
-use Rattle.phases.specs.Requests.{Request, Stage, Open, HandedOut, Answered, Cancelled, has_number, in_stage, Completion, completion_of, end_completion}
+use Rattle.phases.specs.Requests.{Request, Stage, Open, HandedOut, Answered, Cancelled, has_number, in_stage, Completion, cancellation, completion_of, end_completion}
 use Rattle.std.proofs.Math.Dec.{eqb-suc-zero}
 use Rattle.phases.specs.PhaseList.{is_empty}
 use Rattle.phases.specs.Fitting.{AreRising, IsRight, IsTrueTo, AreKept}
@@ -234,7 +233,7 @@ pub short_completion : ((o : WorkOrder) (end : WorkEnd) → ∥ IsEndOf o end �
 short_completion short o Open t right h = absurd (cc)
 short_completion short o HandedOut t right h = absurd (cc)
 short_completion short o (Answered end) t right h = let is : end_completion end ≡ t = cc in subst (λ (u : Completion). length u.bytes ≤ MAX_BYTES) is (short_end end (short o end right))
-short_completion short o Cancelled t right h = let is : record { kind = 5; code = CANCELLED_CODE; bytes = [] } ≡ t = cc in subst (λ (u : Completion). length u.bytes ≤ MAX_BYTES) is (omega arith)
+short_completion short o Cancelled t right h = let is : cancellation ≡ t = cc in subst (λ (u : Completion). length u.bytes ≤ MAX_BYTES) is (omega arith)
 
 -- where no request has the number, nothing is changed
 pub untouched_all : (stage : Stage) (n : ℕ) (xs : List Request) → find (has_number n) xs ≡ None → map (in_stage n stage) xs ≡ xs

@@ -6,7 +6,6 @@ use Rattle.syntax.specs.declared.types.Value.{Value}
 use Rattle.syntax.specs.declared.types.Value.TheVariants.{I32}
 use Rattle.imports.specs.declared.call.Call.{Call}
 use Rattle.imports.specs.declared.call.Call.TheVariants.{QueueWork, Cancel}
-use Rattle.order.specs.declared.uv.answers.TheConstants.{CANCELLED_CODE}
 use Rattle.order.specs.Uv.Bytes.{taken_out}
 use Rattle.order.specs.Work.{WorkOrder, WorkEnd, IsEndOf}
 use Rattle.events.specs.declared.did.StepDid.{StepDid}
@@ -17,7 +16,7 @@ use Rattle.events.specs.declared.phase.EntryKind.TheVariants as kind
 use Rattle.phases.specs.Calls.{Calls}
 use Rattle.phases.specs.Guests.{GuestCall}
 use Rattle.phases.specs.History.{Event, Stepped, OrderAsked, CancelAnswered, EventStep, History, IsOpening, guest_calls}
-use Rattle.phases.specs.Requests.{Request, Completion, end_completion, request_of, completion_of}
+use Rattle.phases.specs.Requests.{Request, Completion, cancellation, end_completion, request_of, completion_of}
 use Rattle.phases.specs.State.{Setting, Loop}
 use Rattle.phases.specs.Step.{AfterWork, in_state}
 
@@ -76,10 +75,6 @@ asks_for request c = is_queue_work c.function && is_number request c.call.answer
 abbrev pub hands_out : (request : ℕ) → Event → Bool
 hands_out request (OrderAsked (Some o)) = o.request == request
 hands_out request _ = false
-
--- as much as the callback of a cancelled request is given
-abbrev pub cancellation : Completion
-cancellation = record { kind = 5; code = CANCELLED_CODE; bytes = [] }
 
 -- Once cancelled, it gets that alone; else what one thread computes from the order alone, or that there was no
 -- memory.

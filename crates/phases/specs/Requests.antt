@@ -3,6 +3,7 @@ use Rattle.std.specs.Prelude.{◌≡◌, ℕ, ◌≤◌, ◌==◌, Bool, true, f
 use Rattle.std.specs.Prelude.{Some, None, if◌then◌else◌}
 use Rattle.std.specs.List.{list_any}
 use Rattle.order.specs.declared.uv.answers.TheConstants.{NO_MEMORY, CANCELLED_CODE}
+use Rattle.phases.specs.declared.completion_kind.TheConstants as kind
 use Rattle.order.specs.Work.{WorkOrder, WorkEnd, Done, Trap, Depth, Spent, NoMemory}
 
 -- how far a request has come: not handed out, handed out, answered by a reply, or cancelled
@@ -78,15 +79,19 @@ pub record Completion : Type 0 where
   pub bytes : List ℕ
 
 abbrev pub end_completion : WorkEnd → Completion
-end_completion (Done value bytes) = record { kind = 0; code = value; bytes = bytes }
-end_completion (Trap code) = record { kind = 1; code = code; bytes = [] }
-end_completion Depth = record { kind = 2; code = 0; bytes = [] }
-end_completion Spent = record { kind = 3; code = 0; bytes = [] }
-end_completion NoMemory = record { kind = 4; code = NO_MEMORY; bytes = [] }
+end_completion (Done value bytes) = record { kind = kind.DONE; code = value; bytes = bytes }
+end_completion (Trap code) = record { kind = kind.TRAP; code = code; bytes = [] }
+end_completion Depth = record { kind = kind.DEPTH; code = 0; bytes = [] }
+end_completion Spent = record { kind = kind.SPENT; code = 0; bytes = [] }
+end_completion NoMemory = record { kind = kind.NO_MEMORY; code = NO_MEMORY; bytes = [] }
+
+-- as much as the callback of a cancelled request is given
+abbrev pub cancellation : Completion
+cancellation = record { kind = kind.CANCELLED; code = CANCELLED_CODE; bytes = [] }
 
 -- as much as an after-work callback gets of a settled request
 abbrev pub completion_of : Stage → Option Completion
 completion_of Open = None
 completion_of HandedOut = None
 completion_of (Answered end) = Some (end_completion end)
-completion_of Cancelled = Some (record { kind = 5; code = CANCELLED_CODE; bytes = [] })
+completion_of Cancelled = Some cancellation

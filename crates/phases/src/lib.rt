@@ -13,6 +13,7 @@ ghost use Rattle.phases.specs.Outside.{CancelIn, StartsBeside, SendsBeside};
 ghost use Rattle.phases.specs.Step.{LoopStep};
 
 mod callbacks;
+mod completion_kind;
 mod did;
 mod entries;
 mod entry;

@@ -6,6 +6,7 @@ ghost use Rattle.order.specs.Orders.{order_of, end_of};
 ghost use Rattle.phases.specs.Host.{stage_cancel_state};
 ghost use Rattle.phases.specs.Requests.{Open, HandedOut, Answered, Cancelled, is_open_stage, is_settled, completion_of, end_completion};
 
+use crate::completion_kind;
 use crate::stage::{CancelState, Completion, Stage};
 use order::uv::answers::{CANCELLED_CODE, NO_MEMORY};
 use order::{Order, Outcome};
@@ -134,7 +135,11 @@ impl Request {
         let Request { order: _, stage } = self;
         match stage {
             Stage::Answered(outcome) => outcome_completion(alloc, outcome),
-            Stage::Cancelled => Completion::without_bytes(alloc, 5, CANCELLED_CODE),
+            Stage::Cancelled => Completion::without_bytes(
+                alloc,
+                completion_kind::CANCELLED,
+                CANCELLED_CODE,
+            ),
             Stage::Open(_) | Stage::HandedOut => unreachable!(),
         }
     }
@@ -145,14 +150,18 @@ fn outcome_completion(alloc: Global, outcome: Outcome) -> Completion
 {
     match outcome {
         Outcome::Done(value, bytes) => Completion {
-            kind: 0,
+            kind: completion_kind::DONE,
             code: value,
             bytes,
         },
-        Outcome::Trap(trap) => Completion::without_bytes(alloc, 1, trap.code()),
-        Outcome::Depth => Completion::without_bytes(alloc, 2, 0),
-        Outcome::Spent => Completion::without_bytes(alloc, 3, 0),
-        Outcome::NoMemory => Completion::without_bytes(alloc, 4, NO_MEMORY),
+        Outcome::Trap(trap) => Completion::without_bytes(alloc, completion_kind::TRAP, trap.code()),
+        Outcome::Depth => Completion::without_bytes(alloc, completion_kind::DEPTH, 0),
+        Outcome::Spent => Completion::without_bytes(alloc, completion_kind::SPENT, 0),
+        Outcome::NoMemory => Completion::without_bytes(
+            alloc,
+            completion_kind::NO_MEMORY,
+            NO_MEMORY,
+        ),
     }
 }
 

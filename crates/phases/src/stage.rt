@@ -29,7 +29,7 @@ pub enum CancelState {
 /// What an after-work callback gets of a request.
 #[derive(Drop)]
 pub struct Completion {
-    /// 0 done, 1 a trap, 2 too many calls, 3 fuel spent, 4 no memory, 5 cancelled.
+    /// How it came to its end: a number of `completion_kind`.
     pub kind: u32,
     /// The result, the trap's number, or why it was not done.
     pub code: u32,

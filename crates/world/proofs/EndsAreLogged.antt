@@ -11,9 +11,9 @@ use Rattle.tallies.proofs.Requests.{either}
 use Rattle.phases.specs.declared.entry.Status.{Status}
 use Rattle.phases.specs.declared.entry.Status.TheVariants.{Running, Over, Failed}
 use Rattle.phases.specs.Guests.{GuestCall}
-use Rattle.phases.specs.Laws.{AreDue, cancellation}
+use Rattle.phases.specs.Laws.{AreDue}
 use Rattle.phases.specs.Outside.{is_failed, next_order_of, next_in, handing, after_clock}
-use Rattle.phases.specs.Requests.{Stage, Open, HandedOut, Answered, Cancelled, Request, Requests, Completion, has_number, request_of, in_stage, lowest_open, completion_of, end_completion}
+use Rattle.phases.specs.Requests.{Stage, Open, HandedOut, Answered, Cancelled, Request, Requests, Completion, cancellation, has_number, request_of, in_stage, lowest_open, completion_of, end_completion}
 use Rattle.phases.specs.State.{Setting, State, Loop, Core}
 use Rattle.phases.specs.Step.{in_state}
 use Rattle.phases.proofs.CancelFates.{CancelFate, cancelled, stayed, fate_in}

@@ -195,8 +195,8 @@ def statuses(s):
     s.wants("no loop", 404, "it has no loop", "/hello/ask/1")
     s.wants("no loop to send to", 404, "it has no loop", "/hello/send/1")
     s.wants("no async", 400, "an async", "/limiter/send/16")
-    s.wants("a loop that takes no requests", 404, "it takes no requests", "/ticker/ask")
-    until("a loop that is over", lambda: s.ask("/ticker/ask")[:2] == (500, b"ticker: its loop is over\n"))
+    s.wants("a loop that takes no requests", 404, "it takes no requests", "/brief/ask")
+    until("a loop that is over", lambda: s.ask("/brief/ask")[:2] == (500, b"brief: its loop is over\n"))
     s.wants("the longest body", 200, "", "/crc32", bytes(65536))
     s.wants("a longer body", 413, "too long", "/crc32", bytes(65537))
     s.wants("a long path", 414, "too long", "/" + "a" * 300)
@@ -348,6 +348,7 @@ def numbers(s):
 
 def broken_too():
     (GUESTS / "broken.wasm").write_text("no module")
+    shutil.copy(GUESTS / "ticker.wasm", GUESTS / "brief.wasm")
     for name in "mute", "crowd":
         shutil.copy(GUESTS / "limiter.wasm", GUESTS / f"{name}.wasm")
     for name in "slow", "late", "dead", "long0", "long1", "long2":

@@ -19,7 +19,7 @@ import common
 from common import ask
 
 told = common.words(seconds=600, rate=1000, tenants=100, threads=3)
-FOLDER = common.room()
+FOLDER, PATIENCE = common.room(), 120
 over = threading.Event()
 numbers, statuses, twice = bytearray(), collections.Counter(), []
 seen = collections.Counter()
@@ -27,7 +27,7 @@ seen = collections.Counter()
 
 def patient(name):
     """A busy machine is no failure."""
-    (FOLDER / f"{name}.conf").write_text("deadline 30000\n")
+    (FOLDER / f"{name}.conf").write_text(f"deadline {PATIENCE}000\n")
 
 
 def put(name, guest):
@@ -84,7 +84,7 @@ def main():
     common.listening(server, port)
     threads = [threading.Thread(target=read_log, args=(server,)), threading.Thread(target=come_and_go, args=(port,)),
                *(threading.Thread(target=hostile, args=(port, path)) for path in ("/spin", "/bomb", "/trap/0", "/deep", "/flood/ask", "/limiter/ask"))]
-    load = subprocess.Popen([told.load, "-c", "64", "-d", str(told.seconds), "-r", str(told.rate), "-m", "20000", str(port), *(f"/t{n}" for n in range(told.tenants))],
+    load = subprocess.Popen([told.load, "-c", "64", "-d", str(told.seconds), "-r", str(told.rate), "-m", f"{PATIENCE}000", str(port), *(f"/t{n}" for n in range(told.tenants))],
                             stdout=subprocess.PIPE, text=True)
     for it in threads:
         it.start()

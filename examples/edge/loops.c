@@ -201,14 +201,6 @@ static void on_due(uv_timer_t *timer) {
         turn_soon(t);
 }
 
-static life *life_of(tenant *t) {
-    if (t->life || !(t->life = calloc(1, sizeof *t->life))) return t->life;
-    uv_timer_init(uv, &t->life->timer);
-    t->life->timer.data = t;
-    make_steps(t);
-    return t->life;
-}
-
 static void clear(life *l) {
     uv_timer_stop(&l->timer);
     wasmloop_drop(&l->loop);
@@ -230,7 +222,8 @@ void make_loop(tenant *t) {
         refuse_asks(t);
         return;
     }
-    if (!(l = life_of(t))) {
+    if (!l && (l = t->life = calloc(1, sizeof *l))) uv_timer_init(uv, &l->timer), l->timer.data = t, make_steps(t);
+    if (!l) {
         while (t->asks) fail(t->asks, t, NO_MEMORY, 503, "no memory");
         return;
     }

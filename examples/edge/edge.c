@@ -97,10 +97,8 @@ void say(client *c, int status, const char *format, ...) {
     va_start(words, format);
     int n = vasprintf(&text, format, words);
     va_end(words);
-    if (n >= 0)
-        answer(c, status, "text/plain", text, (size_t)n);
-    else
-        answer(c, 503, "text/plain", NULL, 0);
+    if (n < 0) text = NULL, n = 0, status = 503;
+    answer(c, status, "text/plain", text, (size_t)n);
 }
 
 /* Says why a request of a tenant has no reply, and counts it. */
@@ -214,10 +212,8 @@ static size_t feed(client *c, const char *at, size_t n) {
     c->state = WAITS, c->until = UINT64_MAX, c->keep = stands == HPE_PAUSED && parser_keeps(&c->parser);
     if (stands == HPE_PAUSED)
         request(c);
-    else if (c->status)
-        say(c, c->status, "%s\n", c->why);
     else
-        say(c, 400, "no request: %s\n", parser_said(&c->parser));
+        say(c, c->status ? c->status : 400, "no request: %s\n", c->status ? c->why : parser_said(&c->parser));
     return took;
 }
 
@@ -277,16 +273,12 @@ static void on_connection(uv_stream_t *stream, int status) {
 
 /* One whose patience is at its end, or that must go since the server ends. */
 static void part(client *c) {
-    if (c->asks && ending)
-        fail(c, c->asks, REFUSED, 503, "the server ends");
-    else if (c->asks)
-        fail(c, c->asks, LATE, 504, "the loop did not answer before its deadline");
+    if (c->asks)
+        fail(c, c->asks, ending ? REFUSED : LATE, ending ? 503 : 504, ending ? "the server ends" : "the loop did not answer before its deadline");
     else if (c->state != READS || !c->came)
         leave(c);
-    else if (ending)
-        say(c, 503, "the server ends\n");
     else
-        say(c, 408, "the request took too long to come\n");
+        say(c, ending ? 503 : 408, ending ? "the server ends\n" : "the request took too long to come\n");
 }
 
 /* Looks whether a client must go; where the server ends, closes what isn't a client's. */

@@ -195,10 +195,8 @@ static const kind jobs = { ready_job, run_job, job_done };
 
 static void on_due(uv_timer_t *timer) {
     tenant *t = timer->data;
-    if (t->life->failed)
-        t->counted.restarts++, make_loop(t);
-    else
-        turn_soon(t);
+    if (t->life->failed) make_loop(t);
+    turn_soon(t);
 }
 
 static void clear(life *l) {
@@ -217,7 +215,7 @@ void make_loop(tenant *t) {
         l->renew = true;
         return;
     }
-    if (l) clear(l);
+    if (l) t->counted.restarts += l->failed, clear(l);
     if (!t->shape.main) {
         refuse_asks(t);
         return;
@@ -231,10 +229,8 @@ void make_loop(tenant *t) {
     l->failed = wasmloop_loop(&t->module, &limits, &l->loop) != WASMLOOP_OK;
     l->began = uv_now(uv);
     for (client *c = t->asks; c; c = c->next) c->request = 0;
-    if (l->failed)
-        uv_timer_start(&l->timer, on_due, RESTART_MS, 0);
-    else
-        turn_soon(t);
+    if (l->failed) uv_timer_start(&l->timer, on_due, RESTART_MS, 0);
+    turn_soon(t);
 }
 
 void free_loop(tenant *t) {

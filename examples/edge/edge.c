@@ -1,21 +1,16 @@
-/* An HTTP server that runs a module for each tenant, within bounds, on libuv and an HTTP parser.
+/* An HTTP server that runs a module for each tenant, within bounds, on libuv and an HTTP parser. README.md has what is asked and answered.
  *
  * usage: edge [-a ADDRESS] [-p PORT] [-w WORKERS] [-t SECONDS] [-c CLIENTS] FOLDER
  *
- *     POST /NAME[/OP]      the body to uv_work(OP) of FOLDER/NAME.wasm, on an instance of its own; the reply's bytes come back
- *     POST /NAME/ask[/OP]  a module with uv_main lives on a loop: the body as a request of OP to it, which uv_after_work is given; the answer
- *                          is the low half of the first number that it emits whose upper half is the request's number
- *     POST /NAME/send/K    sends to its async K (0 to 15)
- *     GET /-/..            numbers and pages: people.c
- *
- * A request has SECONDS (10) to come whole and its answer as many to be taken. README.md has the statuses. This part has connections and
- * requests. SIGTERM or SIGINT ends it in order. */
+ * A request has SECONDS (10) to come whole and its answer as many to be taken. SIGTERM or SIGINT ends it in order. This part has
+ * connections and requests. */
 #include <malloc.h>
 #include <signal.h>
 #include <stdarg.h>
 #include <stdlib.h>
 #include <string.h>
 #include <sys/resource.h>
+#include <sys/socket.h>
 #include <unistd.h>
 #include "edge.h"
 
@@ -33,69 +28,66 @@ static const char *address = "127.0.0.1";
 static bool starved; /* a connection waits for memory */
 static uv_tcp_t server;
 static uv_timer_t sweeper;
-static uv_signal_t signals[2];
-static uv_fs_event_t changes;
 
 static void go_on(client *c);
 
 /* ---- answers ---- */
 
-static void free_body(client *c) {
-    held -= c->room;
-    free(c->body);
-    c->body = NULL, c->room = 0;
+/* Makes more room for bytes, as far as there may be. */
+static bool hold(bytes *b, size_t more) {
+    char *at = held + more <= MOST_HELD ? realloc(b->at, b->room + more) : NULL;
+    if (at) b->at = at, b->room += more, held += more;
+    return at;
 }
 
-static void free_rest(client *c) {
-    held -= c->rest_length;
-    free(c->rest);
-    c->rest = NULL, c->rest_length = c->rest_from = 0;
+void drop_bytes(bytes *b) {
+    held -= b->room;
+    free(b->at);
+    *b = (bytes){ 0 };
 }
 
 static void on_closed(uv_handle_t *handle) {
     client *c = handle->data;
-    free_body(c), free_rest(c), free(c);
+    drop_bytes(&c->body), drop_bytes(&c->rest), free(c);
     clients--;
 }
 
 /* Ends a connection, and lets go of what it waited for. */
-void leave(client *c) {
+static void leave(client *c) {
     if (c->state == CLOSED) return;
     c->state = CLOSED;
-    if (c->task && c->asks) drop_ask(c->task, GONE);
-    else if (c->task) c->task->from = NULL, c->task->gone = true;
+    if (c->task) c->task->from = NULL, c->task->gone = true;
+    if (c->asks) count(c->asks, GONE, c->came), unask(c);
     uv_close((uv_handle_t *)&c->tcp, on_closed);
 }
-
-static void on_shutdown(uv_shutdown_t *shutdown, int status) { (void)shutdown, (void)status; }
 
 /* The answer is written. A connection that is to end lingers, so that bytes on their way don't tear the answer down. */
 static void on_written(uv_write_t *write, int status) {
     client *c = write->handle->data;
+    uv_os_fd_t fd;
     free(c->out), c->out = NULL;
     if (c->state == CLOSED) return;
     if (status == 0 && c->keep && !ending) {
-        c->state = READS, c->begun = c->whole = false, c->until = uv_now(uv) + IDLE_MS;
+        c->state = READS, c->came = 0, c->until = uv_now(uv) + IDLE_MS;
         parser_go_on(&c->parser);
         go_on(c);
         return;
     }
     c->state = LINGERS, c->until = uv_now(uv) + LINGER_MS;
-    if (status != 0 || uv_shutdown(&c->shutdown, (uv_stream_t *)&c->tcp, on_shutdown) != 0) leave(c);
+    if (status != 0 || uv_fileno((uv_handle_t *)write->handle, &fd) != 0 || shutdown(fd, SHUT_WR) != 0) leave(c);
 }
 
 /* Answers by `length` bytes at `body`, which it takes. */
 void answer(client *c, int status, const char *type, char *body, size_t length) {
-    int n = snprintf(c->head, sizeof c->head,
-        "HTTP/1.1 %d %s\r\nContent-Length: %zu\r\nContent-Type: %s\r\nWasmloop-Request: %llu\r\n%s%s%s\r\n", status, status_text(status), length, type,
-        (unsigned long long)c->number, status == 429 || status == 503 ? "Retry-After: 1\r\n" : "", c->more, c->keep && !ending ? "" : "Connection: close\r\n");
+    int n = snprintf(c->head, sizeof c->head, "HTTP/1.1 %d %s\r\nContent-Length: %zu\r\nContent-Type: %s\r\nWasmloop-Request: %llu\r\n%s%s%s\r\n",
+        status, status_text(status), length, type, U(c->number), status == 429 || status == 503 ? "Retry-After: 1\r\n" : "", c->more,
+        c->keep && !ending ? "" : "Connection: close\r\n");
     uv_buf_t parts[2] = { uv_buf_init(c->head, (unsigned)n), uv_buf_init(body, (unsigned)length) };
     log_answer(c, status, length);
-    free_body(c);
-    c->task = NULL, c->asks = false, c->out = body, c->state = ANSWERS, c->until = uv_now(uv) + patience;
-    if (uv_write(&c->write, (uv_stream_t *)&c->tcp, parts, length ? 2 : 1, on_written) == 0) return;
-    free(body);
-    leave(c);
+    drop_bytes(&c->body);
+    if (c->asks) unask(c);
+    c->task = NULL, c->out = body, c->state = ANSWERS, c->until = uv_now(uv) + patience;
+    if (uv_write(&c->write, (uv_stream_t *)&c->tcp, parts, length ? 2 : 1, on_written) != 0) free(body), leave(c);
 }
 
 /* Answers by a text, and where there is no memory for it, by 503 without one. */
@@ -105,14 +97,20 @@ void say(client *c, int status, const char *format, ...) {
     va_start(words, format);
     int n = vasprintf(&text, format, words);
     va_end(words);
-    if (n >= 0) answer(c, status, "text/plain", text, (size_t)n);
-    else answer(c, 503, "text/plain", NULL, 0);
+    if (n < 0) text = NULL, n = 0, status = 503;
+    answer(c, status, "text/plain", text, (size_t)n);
+}
+
+/* Says why a request of a tenant has no reply, and counts it. */
+void fail(client *c, tenant *t, outcome what, int status, const char *why) {
+    count(t, what, c->came);
+    say(c, status, "%s: %s\n", t->name, why);
 }
 
 /* ---- requests ---- */
 
 /* A number up to `most` that is all of a text, or UINT64_MAX. */
-static uint64_t number_of(const char *text, uint64_t most) {
+uint64_t number_of(const char *text, uint64_t most) {
     uint64_t n = 0;
     if (!*text) return UINT64_MAX;
     for (; *text; text++)
@@ -131,19 +129,25 @@ static void request(client *c) {
         return;
     }
     void (*does)(client *, tenant *, uint32_t) = work;
-    if (strncmp(rest, "ask", 3) == 0 && (!rest[3] || rest[3] == '/')) does = ask, rest += rest[3] ? 4 : 3;
-    else if (strncmp(rest, "send/", 5) == 0) does = send_to, rest += 5;
+    if (strncmp(rest, "ask", 3) == 0 && (!rest[3] || rest[3] == '/'))
+        does = ask, rest += rest[3] ? 4 : 3;
+    else if (strncmp(rest, "send/", 5) == 0)
+        does = send_to, rest += 5;
     tenant *t = tenant_of(name, true);
     uint64_t number = *rest ? number_of(rest, does == send_to ? ASYNCS - 1 : UINT32_MAX) : 0;
-    if (ending) say(c, 503, "the server ends\n");
-    else if (!t || t->absent) say(c, 404, "no such tenant\n");
-    else if (number == UINT64_MAX) say(c, 400, does == send_to ? "an async is a number from 0 to 15\n" : "an operation is a number below 2^32\n");
-    else does(c, t, (uint32_t)number);
+    if (ending)
+        say(c, 503, "the server ends\n");
+    else if (!t || (t->status == ABSENT && !t->loading))
+        say(c, 404, "no such tenant\n");
+    else if (number == UINT64_MAX)
+        say(c, 400, does == send_to ? "an async is a number from 0 to 15\n" : "an operation is a number below 2^32\n");
+    else
+        t->counted.in += c->body.length, does(c, t, (uint32_t)number);
 }
 
 static int on_begin(parser *p) {
     client *c = p->data;
-    c->path_length = c->head_length = c->length = c->fuel = 0, *c->path = *c->more = 0, c->status = 0, c->begun = true;
+    c->head_length = c->fuel = 0, *c->path = *c->more = 0, c->status = 0, c->keep = false;
     c->number = ++requests, c->came = uv_hrtime(), c->until = uv_now(uv) + patience;
     return 0;
 }
@@ -156,9 +160,10 @@ static int refused(client *c, int status, const char *why) {
 
 static int on_url(parser *p, const char *at, size_t n) {
     client *c = p->data;
-    if (n >= sizeof c->path - c->path_length) return refused(c, 414, "the path is too long");
-    memcpy(c->path + c->path_length, at, n);
-    c->path[c->path_length += n] = 0;
+    size_t had = strlen(c->path);
+    if (n >= sizeof c->path - had) return refused(c, 414, "the path is too long");
+    memcpy(c->path + had, at, n);
+    c->path[had + n] = 0;
     return 0;
 }
 
@@ -173,54 +178,53 @@ static int on_head(parser *p) {
     client *c = p->data;
     uint64_t room = p->flags & F_CHUNKED ? MOST_BYTES : p->content_length == UINT64_MAX ? 0 : p->content_length;
     if (room > MOST_BYTES) return refused(c, 413, "the body is too long: 65536 bytes at most");
-    if (room == 0) return 0;
-    if (held + room > MOST_HELD || !(c->body = malloc(room))) return refused(c, 503, "no memory for the body");
-    held += c->room = room;
-    return 0;
+    return room && !hold(&c->body, room) ? refused(c, 503, "no memory for the body") : 0;
+}
+
+static void append(bytes *b, const char *at, size_t n) {
+    memcpy(b->at + b->length, at, n);
+    b->length += n;
 }
 
 static int on_body(parser *p, const char *at, size_t n) {
     client *c = p->data;
-    if (n > c->room - c->length) return refused(c, 413, "the body is too long: 65536 bytes at most");
-    memcpy(c->body + c->length, at, n);
-    c->length += n;
+    if (n > c->body.room - c->body.length) return refused(c, 413, "the body is too long: 65536 bytes at most");
+    append(&c->body, at, n);
     return 0;
 }
 
-static int on_complete(parser *p) {
-    ((client *)p->data)->whole = true;
-    parser_pause(p);
-    return PAUSE;
-}
-
-static const parser_settings settings = { .on_message_begin = on_begin, .on_url = on_url, .on_header_field = on_header, .on_header_value = on_header,
-    .on_headers_complete = on_head, .on_body = on_body, .on_message_complete = on_complete };
+static const parser_settings settings = { .on_message_begin = on_begin,
+    .on_url = on_url,
+    .on_header_field = on_header,
+    .on_header_value = on_header,
+    .on_headers_complete = on_head,
+    .on_body = on_body,
+    .on_message_complete = parser_stop };
 
 /* ---- connections ---- */
 
 /* Parses up to the end of a request, which it lets be answered. How many bytes it took. */
 static size_t feed(client *c, const char *at, size_t n) {
-    bool good;
-    size_t took = parser_take(&c->parser, &settings, at, n, &good);
-    if (good) return n;
-    c->state = WAITS, c->until = UINT64_MAX, c->keep = c->whole && parser_keeps(&c->parser);
-    if (!c->whole && !c->begun) on_begin(&c->parser); /* its first byte is no method's */
-    if (c->whole) request(c);
-    else if (c->status) say(c, c->status, "%s\n", c->why);
-    else say(c, 400, "no request: %s\n", parser_said(&c->parser));
+    size_t took = parser_take(&c->parser, &settings, at, n);
+    int stands = parser_stands(&c->parser);
+    if (stands == HPE_OK) return n;
+    if (!c->came) on_begin(&c->parser); /* its first byte is no method's */
+    c->state = WAITS, c->until = UINT64_MAX, c->keep = stands == HPE_PAUSED && parser_keeps(&c->parser);
+    if (stands == HPE_PAUSED)
+        request(c);
+    else
+        say(c, c->status ? c->status : 400, "no request: %s\n", c->status ? c->why : parser_said(&c->parser));
     return took;
 }
 
 /* Keeps what was sent ahead, and reads no more until it is parsed. */
 static void keep_rest(client *c, const char *at, size_t n) {
     if (c->state == CLOSED || !c->keep) return;
-    char *rest = held + n <= MOST_HELD ? realloc(c->rest, c->rest_length + n) : NULL;
-    if (!rest) {
+    if (!hold(&c->rest, n)) {
         leave(c);
         return;
     }
-    memcpy(rest + c->rest_length, at, n);
-    c->rest = rest, c->rest_length += n, held += n;
+    append(&c->rest, at, n);
     uv_read_stop((uv_stream_t *)&c->tcp);
 }
 
@@ -241,10 +245,10 @@ static void on_read(uv_stream_t *stream, ssize_t n, const uv_buf_t *buf) {
 }
 
 static void go_on(client *c) {
-    if (!c->rest) return;
-    c->rest_from += feed(c, c->rest + c->rest_from, c->rest_length - c->rest_from);
-    if (c->state == CLOSED || c->rest_from < c->rest_length) return;
-    free_rest(c);
+    if (!c->rest.at) return;
+    c->parsed += feed(c, c->rest.at + c->parsed, c->rest.length - c->parsed);
+    if (c->state == CLOSED || c->parsed < c->rest.length) return;
+    drop_bytes(&c->rest), c->parsed = 0;
     uv_read_start((uv_stream_t *)&c->tcp, on_room, on_read);
 }
 
@@ -269,19 +273,21 @@ static void on_connection(uv_stream_t *stream, int status) {
 
 /* One whose patience is at its end, or that must go since the server ends. */
 static void part(client *c) {
-    bool asks = c->asks;
-    if (asks) drop_ask(c->task, ending ? REFUSED : LATE);
-    c->keep = c->keep && asks;
-    if (!asks && (c->state != READS || !c->begun)) leave(c);
-    else if (ending) say(c, 503, "the server ends\n");
-    else if (asks) say(c, 504, "the loop did not answer before its deadline\n");
-    else say(c, 408, "the request took too long to come\n");
+    if (c->asks)
+        fail(c, c->asks, ending ? REFUSED : LATE, ending ? 503 : 504, ending ? "the server ends" : "the loop did not answer before its deadline");
+    else if (c->state != READS || !c->came)
+        leave(c);
+    else
+        say(c, ending ? 503 : 408, ending ? "the server ends\n" : "the request took too long to come\n");
 }
 
-static void on_each(uv_handle_t *handle, void *all) {
+/* Looks whether a client must go; where the server ends, closes what isn't a client's. */
+static void on_each(uv_handle_t *handle, void *ends) {
     client *c = handle->data;
-    if (handle->type != UV_TCP || handle == (uv_handle_t *)&server || c->state == CLOSED) return;
-    if (uv_now(uv) >= c->until || (all && (c->asks || c->state == READS))) part(c);
+    bool is_client = handle->type == UV_TCP && handle != (uv_handle_t *)&server;
+    if (uv_is_closing(handle)) return;
+    if (!is_client && ends && handle != (uv_handle_t *)&sweeper) uv_close(handle, NULL);
+    if (is_client && (uv_now(uv) >= c->until || (ends && (c->asks || c->state == READS)))) part(c);
 }
 
 static void on_sweep(uv_timer_t *timer) {
@@ -296,9 +302,7 @@ static void on_sweep(uv_timer_t *timer) {
 static void on_signal(uv_signal_t *signal, int number) {
     (void)signal, (void)number;
     ending = true;
-    uv_close((uv_handle_t *)&server, NULL), uv_close((uv_handle_t *)&changes, NULL);
-    for (int i = 0; i < 2; i++) uv_close((uv_handle_t *)&signals[i], NULL);
-    tenants_stop();
+    schedule();
     uv_walk(uv, on_each, &ending);
 }
 
@@ -338,8 +342,10 @@ static void provide(void) {
 }
 
 int main(int argc, char **argv) {
+    static uv_signal_t signals[2];
+    static uv_fs_event_t changes;
     struct sockaddr_in at;
-    int port = options(argc, argv);
+    int port = options(argc, argv), told;
     if (port == 0) {
         fprintf(stderr, "usage: edge [-a ADDRESS] [-p PORT] [-w WORKERS] [-t SECONDS] [-c CLIENTS] FOLDER\n");
         return 2;
@@ -347,8 +353,7 @@ int main(int argc, char **argv) {
     provide();
     uv = uv_default_loop();
     uv_tcp_init(uv, &server);
-    int told = uv_ip4_addr(address, port, &at);
-    if (told == 0) told = uv_tcp_bind(&server, (struct sockaddr *)&at, 0);
+    if ((told = uv_ip4_addr(address, port, &at)) == 0) told = uv_tcp_bind(&server, (struct sockaddr *)&at, 0);
     if (told == 0) told = uv_listen((uv_stream_t *)&server, 4096, on_connection);
     if (told != 0) {
         fprintf(stderr, "edge: %s, port %d: %s\n", address, port, uv_strerror(told));
@@ -359,7 +364,6 @@ int main(int argc, char **argv) {
     uv_timer_start(&sweeper, on_sweep, SWEEP_MS, SWEEP_MS);
     uv_fs_event_init(uv, &changes);
     if (uv_fs_event_start(&changes, on_change, folder, 0) != 0) fprintf(stderr, "edge: changes in %s are not seen\n", folder);
-    tenants_start();
     uv_run(uv, UV_RUN_DEFAULT);
     tenants_free();
     return uv_loop_close(uv) == 0 ? 0 : 1;

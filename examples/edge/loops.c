@@ -2,82 +2,61 @@
  * uv_after_work is given its number; the first number that the loop emits with that one in its upper half answers it. Where the module
  * changes, its new loop is asked what wasn't answered. A loop that failed is made anew a second later. */
 #include <stdlib.h>
-#include <string.h>
 #include "edge.h"
 
 enum { RESTART_MS = 1000 };
 
 static const kind turns, jobs;
 
+static void on_due(uv_timer_t *timer);
+
 static void turn_soon(tenant *t) {
     life *l = t->life;
-    if (l->turning || l->failed || !l->loop.mark || ending) return;
+    if (!l || l->turning || l->failed || !l->loop.mark || ending) return;
     l->turning = true;
     uv_timer_stop(&l->timer);
-    memset(&l->turn, 0, sizeof l->turn);
-    l->turn.kind = &turns, l->turn.of = t, l->turn.work.data = &l->turn;
+    l->turn = (task){ .kind = &turns, .of = t, .work.data = &l->turn };
     wait_for(&l->turn, true);
 }
 
 /* ---- those who ask ---- */
 
-static void sweep(tenant *t, task **at) {
-    for (task *k; (k = *at);) {
-        if (k->from) {
-            at = &k->next;
-            continue;
-        }
-        *at = k->next, t->asked--;
-        end_task(k);
-    }
-}
-
-/* Who asked waits no more. */
-client *drop_ask(task *k, outcome what) {
-    tenant *t = k->of;
-    client *c = k->from;
-    count(t, what, k->came);
-    k->from = NULL;
-    sweep(t, &t->asks);
-    if (t->life && !t->life->turning) sweep(t, &t->life->open);
-    return c;
-}
-
-/* The first of a list for whom somebody waits, and whose request is that one, or, where `which` is 0, any. */
-static task *find(task *k, int64_t which) {
-    while (k && !(k->from && (which == 0 || k->request == which))) k = k->next;
-    return k;
-}
-
-void refuse_asks(tenant *t, int status, outcome as, const char *why) {
-    for (task *k; (k = find(t->asks, 0)) || (t->life && (k = find(t->life->open, 0)));) say(drop_ask(k, as), status, "%s: %s\n", t->name, why);
-}
-
-static const char *why_failed(const tenant *t) { return t->life->over ? "its loop is over" : t->failure ? t->failure : "no memory"; }
-
-/* Answers for a loop that there isn't, or that has failed. */
+/* Answers for a loop that there isn't, or that has failed. Whether there is none. */
 static bool answer_without(client *c, tenant *t) {
-    bool none = t->module.mark && !t->shape.main;
-    if (!none && !(t->life && t->life->failed)) return false;
-    count(t, none ? REFUSED : TRAPPED, c->came);
-    say(c, none ? 404 : 500, "%s: %s\n", t->name, none ? "it has no loop" : why_failed(t));
+    bool there = t->module.mark, failed = t->life && t->life->failed;
+    if (there ? t->shape.main && !failed : t->loading) return false;
+    if (!there)
+        refuse(c, t);
+    else if (!t->shape.main)
+        fail(c, t, REFUSED, 404, "it has no loop");
+    else
+        fail(c, t, TRAPPED, 500, t->life->last == WASMLOOP_OVER ? "its loop is over" : t->failure ? t->failure : "no memory");
     return true;
 }
 
+static void refuse_asks(tenant *t) {
+    while (t->asks && answer_without(t->asks, t)) continue;
+}
+
 void ask(client *c, tenant *t, uint32_t op) {
+    client **at = &t->asks;
+    uint64_t before = 0;
     if (answer_without(c, t)) return;
-    bool full = t->asked >= t->limits[QUEUE];
-    task *k = full ? NULL : task_of(t, NULL), **at = &t->asks;
-    if (!k) {
-        count(t, full ? REFUSED : NO_MEMORY, c->came);
-        say(c, full ? 429 : 503, "%s: %s\n", t->name, full ? "too many wait" : "no memory");
+    for (; *at; at = &(*at)->next) before++;
+    if (before >= t->limits[QUEUE]) {
+        fail(c, t, REFUSED, 429, "too many wait");
         return;
     }
-    take_body(k, c, op);
-    c->asks = true, c->until = uv_now(uv) + t->limits[DEADLINE];
-    while (*at) at = &(*at)->next;
-    *at = k, t->asked++;
-    if (t->life) turn_soon(t);
+    *at = c, c->next = NULL, c->asks = t, c->op = op, c->request = 0;
+    c->until = c->came / 1000000 + t->limits[DEADLINE];
+    turn_soon(t);
+}
+
+/* One who asked is answered, or has gone. */
+void unask(client *c) {
+    client **at = &c->asks->asks;
+    while (*at != c) at = &(*at)->next;
+    *at = c->next, c->asks = NULL;
 }
 
 /* Sends to an async of a loop, which may be still to come. */
@@ -85,37 +64,49 @@ void send_to(client *c, tenant *t, uint32_t async) {
     if (answer_without(c, t)) return;
     count(t, DONE, c->came);
     t->sends |= 1u << async;
-    if (t->life) turn_soon(t);
+    turn_soon(t);
     say(c, 202, "sent\n");
+}
+
+/* Makes the requests that weren't made, as far as more may be outstanding. Whether it has made one. */
+static bool make_requests(tenant *t) {
+    enum { AGAIN = -11, NO_ROOM = -12, NO_REQUESTS = -38 };
+    bool made = false;
+    int32_t told = 0;
+    for (client *c = t->asks, *next; c && told != AGAIN; c = next) {
+        next = c->next;
+        if (c->request || wasmloop_request(&t->life->loop, c->op, (uint8_t *)c->body.at, c->body.length, &told) != WASMLOOP_OK) continue;
+        if (told > 0) c->request = told, made = true;
+        if (told == NO_ROOM) fail(c, t, NO_MEMORY, 503, "no memory");
+        if (told == NO_REQUESTS) fail(c, t, REFUSED, 404, "it takes no requests");
+    }
+    return made;
+}
+
+/* A number that the loop has emitted answers who asked by the request in its upper half. */
+static void answer_asks(tenant *t, int64_t emitted) {
+    for (client *c = t->asks; c; c = c->next) {
+        if (!c->request || emitted >> 32 != c->request) continue;
+        count(t, DONE, c->came);
+        say(c, 200, "%u\n", (uint32_t)emitted);
+        return;
+    }
 }
 
 /* ---- a turn ---- */
 
+/* Gives the loop what came for it. */
 static bool ready_turn(task *k) {
-    life *l = k->of->life;
-    task **at = &l->open;
-    while (*at) at = &(*at)->next;
-    *at = k->of->asks, k->of->asks = NULL;
-    l->given = l->done, l->sent = k->of->sends, l->clock = uv_now(uv) - l->began;
-    l->made = l->done = NULL, k->of->sends = l->emit_count = 0, l->hint = 0;
-    return true;
-}
-
-static void put_in(life *l) {
+    tenant *t = k->of;
+    life *l = t->life;
     uint64_t now;
-    wasmloop_clock(&l->loop, l->clock, &now);
-    for (task *j = l->given; j; j = j->next) wasmloop_accept(&l->loop, &j->handle); /* a stranger's is dropped with its task */
+    wasmloop_clock(&l->loop, uv_now(uv) - l->began, &now);
+    for (task *j; (j = l->done);) l->done = j->next, wasmloop_accept(&l->loop, &j->handle), end_task(j); /* a stranger's is dropped with its task */
     for (uint32_t i = 0; i < ASYNCS; i++)
-        if (l->sent >> i & 1) wasmloop_async_send(&l->loop, i);
-}
-
-/* Makes the requests that weren't made, as far as more may be outstanding. */
-static void put_requests(life *l) {
-    enum { AGAIN = -11 };
-    for (task *k = l->open; k; k = k->next) {
-        if (k->request == 0) wasmloop_request(&l->loop, k->op, (uint8_t *)k->body, k->length, &k->request);
-        if (k->request == AGAIN) k->request = 0;
-    }
+        if (t->sends >> i & 1) wasmloop_async_send(&l->loop, i);
+    make_requests(t);
+    t->sends = l->emit_count = 0, l->hint = 0;
+    return true;
 }
 
 /* A step, which is logged. */
@@ -133,14 +124,13 @@ static void step(task *k, wasmloop_did *did) {
 }
 
 static void take_jobs(tenant *t) {
-    for (task **at = &t->life->made, *j; (j = task_of(t, &jobs)); *at = j, at = &j->next) {
-        if (wasmloop_next_job(&t->life->loop, &j->handle) != WASMLOOP_OK) {
-            end_task(j);
-            return;
-        }
-        j->op = t->life->number;
-        wasmloop_job_start(&t->life->loop, &j->handle);
+    task **at = &t->life->made;
+    while ((*at = task_of(t, &jobs)) && wasmloop_next_job(&t->life->loop, &(*at)->handle) == WASMLOOP_OK) {
+        (*at)->op = t->life->number;
+        wasmloop_job_start(&t->life->loop, &(*at)->handle);
+        at = &(*at)->next;
     }
+    free(*at), *at = NULL;
 }
 
 /* Steps until a whole turn of the loop ran no callback and it has nothing to do at this moment (a hint alone doesn't know of sends, a
@@ -150,8 +140,6 @@ static void run_turn(task *k) {
     wasmloop_did did = { 0 };
     uint32_t runs = 0, before = UINT32_MAX;
     uint64_t began = uv_hrtime();
-    put_in(l);
-    put_requests(l);
     while (did.what != WASMLOOP_OVER && did.what != WASMLOOP_FAILED && runs < MOST_RUNS && !(hurry && uv_hrtime() - began > TURN_NS)) {
         step(k, &did);
         runs += did.what == WASMLOOP_RAN;
@@ -160,38 +148,24 @@ static void run_turn(task *k) {
         before = runs, l->hint = 0;
     }
     l->last = did.what;
-    put_requests(l);
     take_jobs(k->of);
-}
-
-static void on_due(uv_timer_t *timer);
-
-/* Answers those whose request was refused, or has its number. */
-static void answer_asks(tenant *t, life *l) {
-    task *k;
-    for (uint32_t i = 0; i < l->emit_count; i++)
-        if (l->emits[i] >> 32 > 0 && (k = find(l->open, l->emits[i] >> 32))) say(drop_ask(k, DONE), 200, "%u\n", (uint32_t)l->emits[i]);
-    if ((k = find(l->open, -38))) refuse_asks(t, 404, REFUSED, "it takes no requests");
-    while ((k = find(l->open, -12))) say(drop_ask(k, NO_MEMORY), 503, "%s: no memory\n", t->name);
 }
 
 static void turned(task *k) {
     tenant *t = k->of;
     life *l = t->life;
     l->turning = false, t->counted.turns++, t->counted.used += k->about.used;
-    if (k->said) free(t->failure), t->failure = k->said, k->said = NULL;
-    for (task *j; (j = l->given);) l->given = j->next, end_task(j);
+    keep_failure(k);
     for (task *j; (j = l->made);) l->made = j->next, wait_for(j, false);
-    answer_asks(t, l);
-    sweep(t, &l->open);
+    for (uint32_t i = 0; i < l->emit_count; i++) answer_asks(t, l->emits[i]);
     if (ending) return;
     if (l->renew) {
         make_loop(t);
     } else if (l->last == WASMLOOP_OVER || l->last == WASMLOOP_FAILED) {
-        l->failed = true, l->over = l->last == WASMLOOP_OVER;
-        refuse_asks(t, 500, TRAPPED, why_failed(t));
-        if (!l->over) uv_timer_start(&l->timer, on_due, RESTART_MS, 0);
-    } else if (t->sends || l->done || t->asks || l->hint == 0) {
+        l->failed = true;
+        refuse_asks(t);
+        if (l->last == WASMLOOP_FAILED) uv_timer_start(&l->timer, on_due, RESTART_MS, 0);
+    } else if (make_requests(t) || t->sends || l->done || l->hint == 0) {
         turn_soon(t);
     } else if (l->hint != WASMLOOP_FOREVER) {
         uv_timer_start(&l->timer, on_due, l->hint, 0);
@@ -221,44 +195,46 @@ static const kind jobs = { ready_job, run_job, job_done };
 
 static void on_due(uv_timer_t *timer) {
     tenant *t = timer->data;
-    if (t->life->failed) t->counted.restarts++, make_loop(t);
-    else turn_soon(t);
-}
-
-static life *life_of(tenant *t) {
-    if (t->life || !(t->life = calloc(1, sizeof *t->life))) return t->life;
-    uv_timer_init(uv, &t->life->timer);
-    t->life->timer.data = t;
-    make_steps(t);
-    return t->life;
+    if (t->life->failed) make_loop(t);
+    turn_soon(t);
 }
 
 static void clear(life *l) {
     uv_timer_stop(&l->timer);
     wasmloop_drop(&l->loop);
     for (task *j; (j = l->done);) l->done = j->next, end_task(j);
-    l->number = 0, l->renew = l->failed = l->over = false;
+    l->number = l->last = 0, l->renew = l->failed = false;
 }
 
 /* Makes the loop of a tenant's module anew, where that has one, which is to be asked what isn't answered. */
 void make_loop(tenant *t) {
     static uint32_t loops;
-    bool wanted = t->module.mark && t->shape.main;
-    life *l = wanted && !ending ? life_of(t) : t->life;
+    life *l = t->life;
     if (ending) return;
     if (l && l->turning) {
         l->renew = true;
         return;
     }
-    if (l) clear(l);
-    if (!wanted || !l) {
-        refuse_asks(t, wanted ? 503 : 404, REFUSED, wanted ? "no memory" : "it has no loop");
+    if (l) t->counted.restarts += l->failed, clear(l);
+    if (!t->shape.main) {
+        refuse_asks(t);
+        return;
+    }
+    if (!l && (l = t->life = calloc(1, sizeof *l))) uv_timer_init(uv, &l->timer), l->timer.data = t, make_steps(t);
+    if (!l) {
+        while (t->asks) fail(t->asks, t, NO_MEMORY, 503, "no memory");
         return;
     }
     wasmloop_limits limits = { t->limits[CALLBACK], t->limits[FUEL], l->number = ++loops, (uint32_t)t->limits[DEPTH] };
     l->failed = wasmloop_loop(&t->module, &limits, &l->loop) != WASMLOOP_OK;
     l->began = uv_now(uv);
-    for (task *k = l->open; k; k = k->next) k->request = 0;
+    for (client *c = t->asks; c; c = c->next) c->request = 0;
     if (l->failed) uv_timer_start(&l->timer, on_due, RESTART_MS, 0);
-    else turn_soon(t);
+    turn_soon(t);
+}
+
+void free_loop(tenant *t) {
+    if (t->life) clear(t->life);
+    free(t->life);
+    free_steps(t);
 }

@@ -9,8 +9,6 @@
 #include <time.h>
 #include "edge.h"
 
-#define U(x) ((unsigned long long)(x))
-
 enum { LOG = 512, KEPT = 1024 };
 
 typedef struct logged {
@@ -48,10 +46,11 @@ void log_answer(client *c, int status, size_t length) {
     time_t now = time(NULL);
     struct tm parts;
     if (now != at) strftime(moment, sizeof moment, "%Y-%m-%dT%H:%M:%SZ", gmtime_r(&now, &parts)), at = now;
-    for (size_t i = 0; i <= c->path_length; i++) path[i] = c->path[i] > ' ' && c->path[i] <= '~' && c->path[i] != '"' ? c->path[i] : '?';
-    path[c->path_length] = 0;
+    size_t n = strlen(strcpy(path, c->path));
+    for (size_t i = 0; i < n; i++)
+        if (path[i] <= ' ' || path[i] > '~' || path[i] == '"') path[i] = '?';
     printf("at=%s request=%llu method=%s path=\"%s\" status=%d in=%zu out=%zu us=%llu fuel=%llu\n", moment, U(c->number), method_name(&c->parser),
-        path, status, c->length, length, U((uv_hrtime() - c->came) / 1000), U(c->fuel));
+        path, status, c->body.length, length, U((uv_hrtime() - c->came) / 1000), U(c->fuel));
 }
 
 void make_steps(tenant *t) {
@@ -77,9 +76,9 @@ void free_steps(tenant *t) {
 /* ---- numbers ---- */
 
 static const char *state_of(const tenant *t) {
-    if (t->absent) return "absent";
+    if (t->status == ABSENT) return "absent";
     if (!t->module.mark) return t->loading ? "loading" : "refused";
-    if (t->life && t->life->failed) return t->life->over ? "over" : "failed";
+    if (t->life && t->life->failed) return t->life->last == WASMLOOP_OVER ? "over" : "failed";
     return t->said ? "old" : "ready";
 }
 
@@ -101,9 +100,12 @@ static void write_type(FILE *to, const char *name, const char *type, const char 
 }
 
 static void write_server(FILE *to) {
-    const struct { const char *name, *help; size_t value; } gauges[] = { { "tenants", "Tenants that are loaded.", tenant_count },
-        { "clients", "Connections that are open.", clients }, { "threads_busy", "Threads of the pool that have a task.", running },
-        { "tasks_waiting", "Tasks that wait for a thread.", waiting }, { "held_bytes", "Bytes of bodies that are read.", held } };
+    const struct {
+        const char *name, *help;
+        size_t value;
+    } gauges[] = { { "tenants", "Tenants that are loaded.", tenant_count }, { "clients", "Connections that are open.", clients },
+        { "threads_busy", "Threads of the pool that have a task.", running }, { "tasks_waiting", "Tasks that wait for a thread.", waiting },
+        { "held_bytes", "Bytes of bodies that are read.", held } };
     for (size_t k = 0; k < sizeof gauges / sizeof *gauges; k++) {
         write_type(to, gauges[k].name, "gauge", gauges[k].help);
         fprintf(to, "edge_%s %zu\n", gauges[k].name, gauges[k].value);
@@ -111,8 +113,11 @@ static void write_server(FILE *to) {
 }
 
 static void write_numbers(FILE *to) {
-    static const struct { const char *name, *type, *help; size_t at; double unit; } numbers[] = {
-        { "fuel_units_total", "counter", "Units of fuel used.", offsetof(tenant, counted.used), 1 },
+    static const struct {
+        const char *name, *type, *help;
+        size_t at;
+        double unit;
+    } numbers[] = { { "fuel_units_total", "counter", "Units of fuel used.", offsetof(tenant, counted.used), 1 },
         { "cpu_seconds_total", "counter", "Processor time in the pool's threads.", offsetof(tenant, counted.cpu), 1e-9 },
         { "received_bytes_total", "counter", "Bytes of bodies.", offsetof(tenant, counted.in), 1 },
         { "sent_bytes_total", "counter", "Bytes of replies.", offsetof(tenant, counted.out), 1 },
@@ -141,8 +146,8 @@ static void write_requests(FILE *to) {
         for (int k = 0; k < TIMES; k++) answered += t->counted.times[k];
         fprintf(to, "edge_latency_seconds{tenant=\"%s\",quantile=\"0.5\"} %.6f\n", t->name, quantile(&t->counted, 0.5));
         fprintf(to, "edge_latency_seconds{tenant=\"%s\",quantile=\"0.99\"} %.6f\n", t->name, quantile(&t->counted, 0.99));
-        fprintf(to, "edge_latency_seconds_sum{tenant=\"%s\"} %.6f\nedge_latency_seconds_count{tenant=\"%s\"} %llu\n", t->name, (double)t->counted.lived / 1e6,
-            t->name, U(answered));
+        fprintf(to, "edge_latency_seconds_sum{tenant=\"%s\"} %.6f\nedge_latency_seconds_count{tenant=\"%s\"} %llu\n", t->name,
+            (double)t->counted.lived / 1e6, t->name, U(answered));
     }
     write_type(to, "tenant_tasks", "gauge", "Tasks of a tenant that wait or run.");
     for (tenant *t = tenants; t; t = t->next)
@@ -214,10 +219,14 @@ void page(client *c, const char *path) {
         say(c, 503, "no memory\n");
         return;
     }
-    if (numbers) write_server(to), write_numbers(to), write_requests(to);
-    else if (strcmp(path, "tenants") == 0) write_tenants(to);
-    else if (t) write_log_of(to, t);
-    else there = people && write_file(to, "dashboard.html");
+    if (numbers)
+        write_server(to), write_numbers(to), write_requests(to);
+    else if (strcmp(path, "tenants") == 0)
+        write_tenants(to);
+    else if (t)
+        write_log_of(to, t);
+    else
+        there = people && write_file(to, "dashboard.html");
     bool good = fclose(to) == 0;
     if (good && there) {
         answer(c, 200, numbers ? "text/plain; version=0.0.4" : people ? "text/html; charset=utf-8" : "text/plain", at, length);

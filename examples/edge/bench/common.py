@@ -54,7 +54,7 @@ def listening(server, port):
 
 def ask(port, path, body=b"x"):
     """Status, bytes and heads of an answer, and how many microseconds it took."""
-    link, began = http.client.HTTPConnection("127.0.0.1", port, timeout=60), time.perf_counter()
+    link, began = http.client.HTTPConnection("127.0.0.1", port, timeout=120), time.perf_counter()
     with contextlib.closing(link):
         link.request("POST", path, body)
         answer = link.getresponse()

@@ -25,7 +25,7 @@ HAPROXY = """global
 defaults
     mode http
     timeout connect 300ms
-    timeout client 10s
+    timeout client 60s
     timeout server 5s
     timeout http-keep-alive 60s
     @RETRIES@

@@ -1,6 +1,6 @@
 """The server for long under load, with tenants that come, change and go, and hostile ones beside: is an answer lost, or given twice, does memory grow?
 
-usage: soak.py [--seconds S] [--rate R] [--tenants N] EDGE LOAD GUESTS      (600 s, 1,000 a second, 100 tenants that stay)
+usage: soak.py [--seconds S] [--rate R] [--tenants N] [--threads N] EDGE LOAD GUESTS     (600 s, 1,000 a second, 100 tenants that stay, 3 threads)
 
 EDGE and LOAD are the programs of edge.c and bench/load.c, GUESTS a folder of modules. Each request of LOAD carries its number, which the guest greets; the
 server's access log must have each of its own numbers once. Ends with 1 where one is lost, strays, fails, or stands twice, and, from 100 s on, where the
@@ -18,8 +18,8 @@ import time
 import common
 from common import ask
 
-told = common.words(seconds=600, rate=1000, tenants=100)
-FOLDER = common.room()
+told = common.words(seconds=600, rate=1000, tenants=100, threads=3)
+FOLDER, PATIENCE = common.room(), 120
 over = threading.Event()
 numbers, statuses, twice = bytearray(), collections.Counter(), []
 seen = collections.Counter()
@@ -27,7 +27,7 @@ seen = collections.Counter()
 
 def patient(name):
     """A busy machine is no failure."""
-    (FOLDER / f"{name}.conf").write_text("deadline 30000\n")
+    (FOLDER / f"{name}.conf").write_text(f"deadline {PATIENCE}000\n")
 
 
 def put(name, guest):
@@ -80,11 +80,11 @@ def main():
     for name in "spin", "bomb", "flood", "limiter", "trap", "deep":
         put(name, name)
     (FOLDER / "bomb.conf").write_text("fuel 3000000\n")
-    server = subprocess.Popen([told.edge, "-p", str(port), "-w", "3", FOLDER], stdout=subprocess.PIPE, text=True)
+    server = subprocess.Popen([told.edge, "-p", str(port), "-w", str(told.threads), FOLDER], stdout=subprocess.PIPE, text=True)
     common.listening(server, port)
     threads = [threading.Thread(target=read_log, args=(server,)), threading.Thread(target=come_and_go, args=(port,)),
                *(threading.Thread(target=hostile, args=(port, path)) for path in ("/spin", "/bomb", "/trap/0", "/deep", "/flood/ask", "/limiter/ask"))]
-    load = subprocess.Popen([told.load, "-c", "64", "-d", str(told.seconds), "-r", str(told.rate), "-m", "20000", str(port), *(f"/t{n}" for n in range(told.tenants))],
+    load = subprocess.Popen([told.load, "-c", "64", "-d", str(told.seconds), "-r", str(told.rate), "-m", f"{PATIENCE}000", str(port), *(f"/t{n}" for n in range(told.tenants))],
                             stdout=subprocess.PIPE, text=True)
     for it in threads:
         it.start()

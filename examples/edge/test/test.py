@@ -195,8 +195,8 @@ def statuses(s):
     s.wants("no loop", 404, "it has no loop", "/hello/ask/1")
     s.wants("no loop to send to", 404, "it has no loop", "/hello/send/1")
     s.wants("no async", 400, "an async", "/limiter/send/16")
-    s.wants("a loop that takes no requests", 404, "it takes no requests", "/ticker/ask")
-    until("a loop that is over", lambda: s.ask("/ticker/ask")[:2] == (500, b"ticker: its loop is over\n"))
+    s.wants("a loop that takes no requests", 404, "it takes no requests", "/brief/ask")
+    until("a loop that is over", lambda: s.ask("/brief/ask")[:2] == (500, b"brief: its loop is over\n"))
     s.wants("the longest body", 200, "", "/crc32", bytes(65536))
     s.wants("a longer body", 413, "too long", "/crc32", bytes(65537))
     s.wants("a long path", 414, "too long", "/" + "a" * 300)
@@ -225,15 +225,20 @@ def deadlines(s):
 
 def slices(s):
     """Guests that never end by themselves have all threads: a neighbour is served between two of their slices. Once their clients have gone the threads are free."""
+    def neighbour():
+        """How long an answer takes, as the median of 40."""
+        times = []
+        for _ in range(40):
+            began = time.perf_counter()
+            s.wants("a neighbour", 200, "^hello, you$", "/hello", b"you")
+            times.append(time.perf_counter() - began)
+        return sorted(times)[20]
+
+    alone = neighbour()
     links = [s.connect() for _ in range(6)]
     for n, it in enumerate(links):
         it.sendall(b"POST /long%d HTTP/1.1\r\nContent-Length: 0\r\n\r\n" % (n % 3))
     until("all threads are taken", lambda: s.number("threads_busy") == 3)
-
-    def neighbour():
-        began = time.perf_counter()
-        s.wants("a neighbour", 200, "^hello, you$", "/hello", b"you")
-        return time.perf_counter() - began
 
     def dead():
         got = s.wants("a deadline that is past while it runs", 504, "not done by its deadline", "/dead")
@@ -244,7 +249,7 @@ def slices(s):
         check(us >= 200000, "what had 200 ms ends before", us)
         return us
 
-    until("a neighbour's turn comes late", lambda: sorted(neighbour() for _ in range(40))[20] < 0.05)
+    until("a neighbour's turn comes late", lambda: neighbour() < max(0.05, 4 * alone))  # a busy machine is late by itself
     until("what has 200 ms ends late", lambda: dead() < 2000000)
     for it in links:
         it.close()
@@ -348,6 +353,7 @@ def numbers(s):
 
 def broken_too():
     (GUESTS / "broken.wasm").write_text("no module")
+    shutil.copy(GUESTS / "ticker.wasm", GUESTS / "brief.wasm")
     for name in "mute", "crowd":
         shutil.copy(GUESTS / "limiter.wasm", GUESTS / f"{name}.wasm")
     for name in "slow", "late", "dead", "long0", "long1", "long2":

@@ -55,15 +55,17 @@ impl WorkHost {
         })
     }
 
-    /// The bytes of the reply.
+    /// The bytes of the reply, in a block cut to them: a reply that kept room for all that may be set would hold the block
+    /// that the next order asks for.
     pub fn into_reply(self) -> Vec<u8>
         ensures { result.items ≡ self.reply.items }
     {
         let WorkHost {
             linked: _,
             bytes: _,
-            reply,
+            mut reply,
         } = self;
+        reply.shrink_to_fit();
         reply
     }
 

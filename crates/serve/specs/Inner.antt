@@ -2,4 +2,5 @@
 pub mod Alone
 pub mod Places
 pub mod Promises
+pub mod Threads
 pub mod Turns

@@ -7,6 +7,7 @@ use limits::MAX_ASYNCS;
 use order::{Order, Outcome, Reply};
 use phases::BareDid;
 use std::alloc::{AllocError, Global};
+use std::marker::Model;
 use std::sync::Arc;
 
 /// How many orders are kept at most whose work did not return.
@@ -21,7 +22,7 @@ pub struct Callback {
     pub number: u32,
 }
 
-/// What a loop did last, and what its callbacks and its work functions used.
+/// What a loop did last, and what its callbacks and its work functions used. No clause speaks of it, so contracts see nothing of it.
 pub struct Account {
     last: Option<Callback>,
     in_row: u32,
@@ -46,6 +47,12 @@ impl Drop for Account {
             undone: _,
         } = self;
     }
+}
+
+impl Model for Account {
+    ghost Value = { Unit {0} };
+
+    ghost view = { λ a. tt };
 }
 
 /// A copy of an order.

@@ -5,21 +5,23 @@
 //!
 //! By its contract `serve` gives an answer for each loop, and the k-th reports a history of loop k of this module over its
 //! seats: what its callbacks emitted, in order, and how it ended. `laws::after_once` is the law of after-work callbacks in
-//! each such history. Begin with `specs/Histories.antt` and `specs/Answers.antt`; the code with `threads` and `turn`.
+//! each such history. Begin with `specs/Histories.antt` and `specs/Answers.antt`; the code with `threads` and `loop_thread`.
 #![tactic(auto)]
 
 mod account;
 mod job;
 pub mod laws;
+mod loop_thread;
 mod meter;
 mod place;
 mod plan;
 mod record;
+mod rooms;
 mod served;
+mod service;
 mod serving;
 mod task;
 mod threads;
-mod turn;
 mod watch;
 
 pub use account::{Account, Callback};

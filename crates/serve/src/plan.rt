@@ -4,20 +4,20 @@ ghost use Rattle.std.specs.Prelude.{◌≡◌, IfOk};
 ghost use Rattle.std.specs.Arc.{arc_value};
 ghost use Rattle.marks.specs.Counts.{new_taker};
 ghost use Rattle.serve.specs.Answers.{IsServed};
-ghost use Rattle.serve.specs.Histories.{setting_at, thread_calls};
-ghost use Rattle.serve.specs.Inner.Turns.{GoesOn};
+ghost use Rattle.serve.specs.Histories.{setting_at};
+ghost use Rattle.serve.specs.Inner.Threads.{CanGoOn};
 
+use crate::loop_thread::LoopThread;
 use crate::place::LoopPlace;
 use crate::served::Served;
+use crate::service::Serves;
 use crate::serving::Serving;
-use crate::task::Task;
-use crate::turn::Turns;
 use crate::watch::Watch;
 use imports::Linked;
 use marks::{Marks, TakeSeat};
 use std::alloc::{AllocError, Global};
+use std::sync::Arc;
 use std::sync::atomic::{AtomicBool, Ordering};
-use std::sync::{Arc, Wait};
 use std::thread::Promise;
 
 /// What all loops are made of, and whether one of them found no memory.
@@ -63,52 +63,40 @@ impl LoopPlan {
     }
 
     /// One loop, until it has ended.
-    pub fn run<R: Wait, M: Fn(Task) -> Result<J, AllocError>, J: Drop, W: Watch>(
-        &self,
-        rt: &R,
-        place: LoopPlace<'_, J>,
-        make: &M,
-        watch: &W,
-    ) -> LoopResult
-        requires make { M.IsAlwaysCallable make.now }
+    pub fn run<S: Serves<J>, J: Drop>(&self, service: &S, place: LoopPlace<'_, J>) -> LoopResult
+        requires { S.ready service.now }
         ensures { IfOk result (λ s. IsServed (setting_at (arc_value self.now.linked) self.now.serving place.entry.seat.loop_no) s) }
     {
-        let outcome = self.turns(rt, place, make, watch);
+        let outcome = self.turns(service, place);
         if outcome.is_err() {
             self.ran_out.store(true, Ordering::SeqCst);
         }
         outcome
     }
 
-    fn turns<R: Wait, M: Fn(Task) -> Result<J, AllocError>, J: Drop, W: Watch>(
-        &self,
-        rt: &R,
-        place: LoopPlace<'_, J>,
-        make: &M,
-        watch: &W,
-    ) -> LoopResult
-        requires make { M.IsAlwaysCallable make.now }
+    fn turns<S: Serves<J>, J: Drop>(&self, service: &S, place: LoopPlace<'_, J>) -> LoopResult
+        requires { S.ready service.now }
         ensures { IfOk result (λ s. IsServed (setting_at (arc_value self.now.linked) self.now.serving place.entry.seat.loop_no) s) }
     {
         let (marks, taker) = own_marks(self.alloc)?;
-        let turns = self.begin(&marks, taker, place, watch.measures_work())?;
-        turns.run(rt, make, watch)
+        let thread = self.begin(&marks, taker, place, service.watch().measures_work())?;
+        thread.run(service)
     }
 
-    /// The turns of a loop, of which none is taken yet.
+    /// A loop that has taken no turn yet.
     fn begin<'a, J: Drop>(
         &self,
         marks: &'a Marks,
         taker: TakeSeat,
         place: LoopPlace<'a, J>,
         measures_work: bool,
-    ) -> Result<Turns<'a, J>, AllocError>
+    ) -> Result<LoopThread<'a, J>, AllocError>
         requires { taker ≡ new_taker marks.now 0 }
-        ensures setting { IfOk result (λ t. t.told.core.setting ≡ setting_at (arc_value self.now.linked) self.now.serving place.entry.seat.loop_no) }
-        ensures goes { IfOk result (λ t. GoesOn thread_calls t.told.core.loop t.told.ran) }
+        ensures setting { IfOk result (λ t. t.recorded.core.setting ≡ setting_at (arc_value self.now.linked) self.now.serving place.entry.seat.loop_no) }
+        ensures goes { IfOk result (λ t. CanGoOn t.recorded) }
     {
         let linked = Arc::try_clone(&self.linked)?;
-        Turns::new(
+        LoopThread::new(
             self.alloc,
             linked,
             marks,

@@ -7,20 +7,27 @@ ghost use Rattle.order.specs.Orders.{order_of};
 ghost use Rattle.order.specs.Runnable.{CanRun};
 
 use crate::meter::Meter;
+use crate::rooms::Rooms;
 use claims::Ticket;
 use order::{Order, Reply, Told};
 use std::alloc::Global;
 use std::marker::Model;
+use std::sync::Arc;
 
 /// An order that can be run, of a loop and a slot that can be. To a contract it is the order.
 pub struct Task {
     order: Order,
     meter: Meter,
+    rooms: Arc<Rooms>,
 }
 
 impl Drop for Task {
     fn drop(self) {
-        let Task { order: _, meter: _ } = self;
+        let Task {
+            order: _,
+            meter: _,
+            rooms: _,
+        } = self;
     }
 }
 
@@ -43,13 +50,17 @@ impl Model for Task {
 }
 
 impl Task {
-    /// The order as a task, which reports what it uses to the meter.
-    pub(crate) fn new(order: Order, meter: Meter) -> Task
+    /// The order as a task, which runs in one of the rooms and reports to the meter what it uses.
+    pub(crate) fn new(order: Order, meter: Meter, rooms: Arc<Rooms>) -> Task
         requires runs { CanRun (order_of order) }
         requires there { (order.loop_no < MAX_LOOPS) × (order.slot < MAX_REQUESTS) }
         ensures { result ≡ order }
     {
-        Task { order, meter }
+        Task {
+            order,
+            meter,
+            rooms,
+        }
     }
 
     /// The ticket of its request, whose loop is below `MAX_LOOPS` and whose slot is below `MAX_REQUESTS`.
@@ -68,8 +79,12 @@ impl Task {
     pub fn run(self, alloc: Global) -> Reply
         ensures { result.order ≡ self }
     {
-        let Task { order, meter } = self;
-        let Told { reply, used, .. } = order.run_told(alloc);
+        let Task {
+            order,
+            meter,
+            rooms,
+        } = self;
+        let Told { reply, used, .. } = rooms.run(alloc, order);
         meter.saw(used);
         reply
     }

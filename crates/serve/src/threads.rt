@@ -12,7 +12,9 @@ ghost use Rattle.serve.specs.Inner.Promises.{IsThreadOf};
 use crate::job::Job;
 use crate::place::{LoopPlace, WorkerPlace, places};
 use crate::plan::{LoopPlan, LoopResult, OfLoop};
+use crate::rooms::Rooms;
 use crate::served::Served;
+use crate::service::Service;
 use crate::serving::Serving;
 use crate::task::Task;
 use crate::watch::{Nobody, Watch};
@@ -46,24 +48,32 @@ pub fn serve<R: Threads + Wait + Sync, M: Fn(Task) -> Result<J, AllocError> + Sy
 
 /// Serves as `serve` does, and reports to `watch` what the loops and the workers do, as they do it.
 pub fn serve_watched<
+    'a,
     R: Threads + Wait + Sync,
     M: Fn(Task) -> Result<J, AllocError> + Sync,
     J: Job + Send,
     W: Watch + Sync,
 >(
-    rt: &R,
+    rt: &'a R,
     alloc: Global,
     linked: Arc<Linked>,
     serving: Serving,
-    make: &M,
-    watch: &W,
+    make: &'a M,
+    watch: &'a W,
 ) -> Result<Vec<Served>, AllocError>
     requires make { M.IsAlwaysCallable make.now }
     ensures count { IfOk result (λ served. length served.items ≡ serving.loops) }
     ensures each { IfOk result (λ served. EachServed (arc_value linked) serving served.items) }
 {
     let plan = LoopPlan::new(alloc, linked, serving);
-    with_claims(rt, &plan, make, watch)
+    let rooms = Arc::new(alloc, Rooms::new(alloc, serving.workers)?)?;
+    let service = Service {
+        rt,
+        make,
+        watch,
+        rooms: &rooms,
+    };
+    with_claims(&service, &plan)
 }
 
 /// Makes the claims, then the board and the threads.
@@ -72,8 +82,8 @@ fn with_claims<
     M: Fn(Task) -> Result<J, AllocError> + Sync,
     J: Job + Send,
     W: Watch + Sync,
->(rt: &R, plan: &LoopPlan, make: &M, watch: &W) -> Result<Vec<Served>, AllocError>
-    requires make { M.IsAlwaysCallable make.now }
+>(service: &Service<'_, R, M, W>, plan: &LoopPlan) -> Result<Vec<Served>, AllocError>
+    requires make { M.IsAlwaysCallable service.now.make.now }
     ensures count { IfOk result (λ served. length served.items ≡ plan.now.serving.loops) }
     ensures each { IfOk result (λ served. EachServed (arc_value plan.now.linked) plan.now.serving served.items) }
 {
@@ -82,25 +92,23 @@ fn with_claims<
         loop_seats,
         worker_seats,
     } = Claims::new(plan.alloc, plan.serving.loops, plan.serving.workers)?;
-    with_board(rt, plan, &claims, loop_seats, worker_seats, make, watch)
+    with_board(service, plan, &claims, loop_seats, worker_seats)
 }
 
-/// With a board for them too.
+/// With a board too.
 fn with_board<
     R: Threads + Wait + Sync,
     M: Fn(Task) -> Result<J, AllocError> + Sync,
     J: Job + Send,
     W: Watch + Sync,
 >(
-    rt: &R,
+    service: &Service<'_, R, M, W>,
     plan: &LoopPlan,
     claims: &Claims,
     loop_seats: Vec<LoopSeat>,
     worker_seats: Vec<WorkerSeat>,
-    make: &M,
-    watch: &W,
 ) -> Result<Vec<Served>, AllocError>
-    requires make { M.IsAlwaysCallable make.now }
+    requires make { M.IsAlwaysCallable service.now.make.now }
     requires claims { claims.now.loops ≡ plan.now.serving.loops }
     requires loop_seats { AreNewLoops claims.now.id plan.now.serving.loops loop_seats.items }
     requires worker_seats { AreNewWorkers claims.now.id plan.now.serving.workers worker_seats.items }
@@ -110,11 +118,11 @@ fn with_board<
     let passes = (plan.serving.loops + plan.serving.workers) as usize;
     let (board, passes) = Board::new(plan.alloc, plan.serving.loops, passes)?;
     let (workers, loops) = places(plan.alloc, &board, passes, claims, worker_seats, loop_seats)?;
-    run_all(rt, plan, &board, workers, loops, make, watch)
+    run_all(service, plan, &board, workers, loops)
 }
 
-/// The thread of a loop.
-type LoopThread<'s> = PromisedHandle<LoopResult, OfLoop<'s>>;
+/// The handle of a loop's thread.
+type LoopHandle<'s> = PromisedHandle<LoopResult, OfLoop<'s>>;
 
 /// Starts the workers and then the loops, and closes the board once all loops have ended.
 fn run_all<
@@ -124,31 +132,29 @@ fn run_all<
     J: Job + Send,
     W: Watch + Sync,
 >(
-    rt: &R,
+    service: &Service<'_, R, M, W>,
     plan: &LoopPlan,
     board: &'a Board<J>,
     workers: Vec<WorkerPlace<'a, J>>,
     loops: Vec<LoopPlace<'a, J>>,
-    make: &M,
-    watch: &W,
 ) -> Result<Vec<Served>, AllocError>
-    requires make { M.IsAlwaysCallable make.now }
+    requires make { M.IsAlwaysCallable service.now.make.now }
     requires numbered { EachFrom (λ k p. p.seat.loop_no ≡ k) 0 loops.items }
     ensures count { IfOk result (λ served. length served.items ≡ length loops.entry.items) }
     ensures each { IfOk result (λ served. EachServed (arc_value plan.now.linked) plan.now.serving served.items) }
 {
     thread::scope(
         thread::scope_env(),
-        rt,
+        service.rt,
         move |scope| -> Result<Vec<Served>, AllocError>
-            requires make { M.IsAlwaysCallable make.now }
+            requires make { M.IsAlwaysCallable service.now.make.now }
             requires sync { IsSync R.row × IsSync M.row × IsSync W.row }
             requires numbered { EachFrom (λ k p. p.seat.loop_no ≡ k) 0 loops.items }
             ensures count { IfOk result (λ served. length served.items ≡ length loops.entry.items) }
             ensures each { IfOk result (λ served. EachServed (arc_value plan.entry.now.linked) plan.entry.now.serving served.items) }
         {
-            let served = match start_workers(scope, rt, workers, watch) {
-                Ok(()) => run_loops(scope, rt, plan, loops, make, watch),
+            let served = match start_workers(scope, service, workers) {
+                Ok(()) => run_loops(scope, service, plan, loops),
                 Err(AllocError) => Err(AllocError),
             };
             board.close();
@@ -158,19 +164,18 @@ fn run_all<
 }
 
 /// A thread for each worker.
-fn start_workers<'s, R: Wait + Sync, J: Job + Send, W: Watch + Sync, E>(
+fn start_workers<'s, R: Wait + Sync, M: Sync, J: Job + Send, W: Watch + Sync, E>(
     scope: &Scope<'s, E>,
-    rt: &'s R,
+    service: &'s Service<'s, R, M, W>,
     places: Vec<WorkerPlace<'s, J>>,
-    watch: &'s W,
 ) -> Result<(), AllocError>
-    requires sync { IsSync R.row × IsSync W.row }
+    requires sync { IsSync R.row × IsSync M.row × IsSync W.row }
 {
     for place in places {
         scope.spawn(
             move ||
-                requires sync { IsSync R.row × IsSync W.row }
-            { place.work(rt, watch) },
+                requires sync { IsSync R.row × IsSync M.row × IsSync W.row }
+            { place.work(service.rt, service.watch) },
         )?;
     }
     Ok(())
@@ -186,13 +191,11 @@ fn run_loops<
     E,
 >(
     scope: &Scope<'s, E>,
-    rt: &'s R,
+    service: &'s Service<'s, R, M, W>,
     plan: &'s LoopPlan,
     places: Vec<LoopPlace<'s, J>>,
-    make: &'s M,
-    watch: &'s W,
 ) -> Result<Vec<Served>, AllocError>
-    requires make { M.IsAlwaysCallable make.now }
+    requires make { M.IsAlwaysCallable service.now.make.now }
     requires sync { IsSync R.row × IsSync M.row × IsSync W.row }
     requires numbered { EachFrom (λ k p. p.seat.loop_no ≡ k) 0 places.items }
     ensures count { IfOk result (λ served. length served.items ≡ length places.entry.items) }
@@ -200,8 +203,8 @@ fn run_loops<
 {
     let mut started = Vec::with_capacity(plan.alloc, places.len())?;
     let mut served = Vec::with_capacity(plan.alloc, places.len())?;
-    let starting = start_loops(scope, rt, plan, places, make, watch, &mut started);
-    let ending = join_all(rt, plan, started, &mut served);
+    let starting = start_loops(scope, service, plan, places, &mut started);
+    let ending = join_all(service.rt, plan, started, &mut served);
     starting?;
     ending?;
     Ok(served)
@@ -217,14 +220,12 @@ fn start_loops<
     E,
 >(
     scope: &Scope<'s, E>,
-    rt: &'s R,
+    service: &'s Service<'s, R, M, W>,
     plan: &'s LoopPlan,
     places: Vec<LoopPlace<'s, J>>,
-    make: &'s M,
-    watch: &'s W,
-    started: &mut Vec<LoopThread<'s>>,
+    started: &mut Vec<LoopHandle<'s>>,
 ) -> Result<(), AllocError>
-    requires make { M.IsAlwaysCallable make.now }
+    requires make { M.IsAlwaysCallable service.now.make.now }
     requires sync { IsSync R.row × IsSync M.row × IsSync W.row }
     requires room { length places.items ≤ vec_capacity started.old }
     requires none { started.old.items ≡ [] }
@@ -234,7 +235,7 @@ fn start_loops<
     ensures promised { EachFrom (λ k h. IsThreadOf plan.now k h.promise) 0 started.new.items }
 {
     for place in places {
-        let thread = start_loop(scope, rt, plan, place, make, watch)?;
+        let thread = start_loop(scope, service, plan, place)?;
         started.push_reserved(thread);
     }
     Ok(())
@@ -250,13 +251,11 @@ fn start_loop<
     E,
 >(
     scope: &Scope<'s, E>,
-    rt: &'s R,
+    service: &'s Service<'s, R, M, W>,
     plan: &'s LoopPlan,
     place: LoopPlace<'s, J>,
-    make: &'s M,
-    watch: &'s W,
-) -> Result<LoopThread<'s>, AllocError>
-    requires make { M.IsAlwaysCallable make.now }
+) -> Result<LoopHandle<'s>, AllocError>
+    requires make { M.IsAlwaysCallable service.now.make.now }
     requires sync { IsSync R.row × IsSync M.row × IsSync W.row }
     ensures { IfOk result (λ h. IsThreadOf plan.now place.entry.seat.loop_no h.promise) }
 {
@@ -267,10 +266,10 @@ fn start_loop<
     let thread = scope.spawn_with(
         OfLoop { plan, loop_no },
         move || -> LoopResult
-            requires make { M.IsAlwaysCallable make.now }
+            requires make { M.IsAlwaysCallable service.now.make.now }
             requires sync { IsSync R.row × IsSync M.row × IsSync W.row }
             ensures { IfOk result (λ s. IsServed (setting_at (arc_value plan.entry.now.linked) plan.entry.now.serving place.entry.seat.loop_no) s) }
-        { plan.run(rt, place, make, watch) },
+        { plan.run(service, place) },
     )?;
     Ok(thread)
 }
@@ -279,7 +278,7 @@ fn start_loop<
 fn join_all<'s, R: Threads>(
     rt: &R,
     plan: &'s LoopPlan,
-    started: Vec<LoopThread<'s>>,
+    started: Vec<LoopHandle<'s>>,
     served: &mut Vec<Served>,
 ) -> Result<(), AllocError>
     requires room { length started.items ≤ vec_capacity served.old }

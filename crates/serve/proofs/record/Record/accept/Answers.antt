@@ -1,7 +1,5 @@
-use Rattle.std.proofs.Common.{sym, ap, subst}
-use Rattle.marks.specs.Counts.{Taker}
+use Rattle.std.proofs.Common.{sym, subst}
 use Rattle.pool.specs.declared.seats.Seats.{Seats}
-use Rattle.phases.specs.State.{Loop}
 use Rattle.serve.specs.Histories.{thread_calls}
 use Rattle.serve.specs.Inner.Alone.{IsAlone}
 use Rattle.serve.proofs.OneEventMore.{does_accept, accepted_leaves}

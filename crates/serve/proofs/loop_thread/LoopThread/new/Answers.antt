@@ -1,5 +1,4 @@
 use Rattle.std.proofs.Common.{◌≡◌, refl, sym, ap, subst, ◌∙◌}
-use Rattle.marks.specs.Counts.{Taker}
 use Rattle.phases.specs.View.{new_view}
 use Rattle.pool.specs.Share.{view_by}
 use Rattle.pool.specs.declared.seats.Seats.{Seats}
@@ -7,7 +6,7 @@ use Rattle.serve.specs.Histories.{thread_calls}
 use Rattle.serve.specs.Inner.Alone.{IsAlone}
 use Rattle.serve.proofs.OneEventMore.{opens_new}
 use Rattle.serve.proofs.SentAlone.{none_sent}
-use Rattle.serve.proofs.turn.Turns.new.Goals as goal
+use Rattle.serve.proofs.loop_thread.LoopThread.new.Goals as goal
 
 pub new-requires-2-clause-opens : goal.new-requires-2-clause-opens
 new-requires-2-clause-opens g c =

@@ -228,7 +228,7 @@ impl<'a, J: Drop> LoopThread<'a, J> {
         unreachable!()
     }
 
-    /// The job that was kept, or one for the next order, of which it is told that it is posted.
+    /// The job that was kept, or one for the next order, which is reported as posted.
     fn next_job<S: Serves<J>>(&mut self, service: &S) -> Result<Option<J>, AllocError>
         requires ready { S.ready service.now }
         ensures keeps { KeepsGoing self.old.recorded self.new.recorded }

@@ -1,5 +1,9 @@
 // In which section, function and operation a module is not valid, and for what.
 
+ghost use Rattle.std.specs.Prelude.{IfSome};
+ghost use Rattle.loader.specs.declared.refusal.Refusal.TheVariants.{Validate};
+ghost use Rattle.sentences.specs.RefusalPlaces.{IsPlaceOf, IsPlaceOfSite};
+
 use crate::found;
 use crate::help::{NO_TABLES, OPTIMIZED};
 use crate::reason::Reason;
@@ -10,7 +14,9 @@ use places::{Place, place_of_function, place_of_operation, place_of_section};
 use std::alloc::Global;
 use validate::{Lack, Site, ValidFault, refused_at};
 
-fn place_of(bytes: &[u8], site: Site) -> Option<Place> {
+fn place_of(bytes: &[u8], site: Site) -> Option<Place>
+    ensures { IfSome result (IsPlaceOfSite bytes.now site) }
+{
     match site {
         Site::Section(id) => place_of_section(bytes, id),
         Site::Function(function) => place_of_function(bytes, function),
@@ -55,10 +61,15 @@ fn reason_of(bytes: &[u8], fault: ValidFault, site: Site, place: &Place) -> Opti
     Some(Reason::more_than(most as u64, things).with(help))
 }
 
-/// The part of the module that is not valid, and what is found there.
-pub fn invalid(alloc: Global, bytes: &[u8]) -> Option<(Place, Option<Reason>)> {
+/// The part of the module that is not valid for this fault, and what is found there.
+pub fn invalid(alloc: Global, bytes: &[u8], fault: ValidFault) -> Option<(Place, Option<Reason>)>
+    ensures { IfSome result (λ found. IsPlaceOf (Validate fault) bytes.now found.0) }
+{
     let module = decoded(alloc, bytes).ok()?;
     let refused = refused_at(alloc, &module)?;
+    if refused.fault != fault {
+        return None;
+    }
     let place = place_of(bytes, refused.site)?;
     let reason = reason_of(bytes, refused.fault, refused.site, &place);
     Some((place, reason))

@@ -1,7 +1,8 @@
-//! What standard error says, in words: where and why bytes are refused (`explain`), where a run stopped that did not return (`tell_stopped`), what a module lacks to
-//! run on a loop (`warn`), what arguments a function takes (`Mismatch`), where and why a text is no script
-//! (`script_fault`), what a step of a script names that isn't there (`Missing`). No clause speaks of words; tests compare them.
-//! Names that come from a module are printed as a line can hold them.
+//! What standard error says, in words: where and why bytes are refused (`explain`), where a run stopped that did not return
+//! (`tell_stopped`), what a module lacks to run on a loop (`warn`), what arguments a function takes (`Mismatch`), where and why a text is
+//! no script (`script_fault`), what a step of a script names that isn't there (`Missing`). Names that come from a module are printed as a
+//! line can hold them. Clauses say that the place of a refusal is that of what the refusing stage names; of words they say nothing,
+//! and tests compare them.
 #![tactic(auto)]
 
 mod count;

@@ -1,5 +1,8 @@
 // What is said of a refusal.
 
+ghost use Rattle.std.specs.Prelude.{IfSome};
+ghost use Rattle.sentences.specs.RefusalPlaces.{IsPlaceOf};
+
 use crate::help::LINKED;
 use crate::invalid::invalid;
 use crate::meanings::meaning;
@@ -28,17 +31,21 @@ impl fmt::Display for Account {
 }
 
 /// What is found at the place at which these bytes are refused so. They are read anew; without memory for that nothing is known.
-fn found_at(refusal: Refusal, alloc: Global, bytes: &[u8]) -> Option<(Place, Option<Reason>)> {
+fn found_at(refusal: Refusal, alloc: Global, bytes: &[u8]) -> Option<(Place, Option<Reason>)>
+    ensures { IfSome result (λ found. IsPlaceOf refusal bytes.now found.0) }
+{
     match refusal {
         Refusal::Memory => None,
-        Refusal::Decode(_) => undecoded(alloc, bytes),
-        Refusal::Validate(_) => invalid(alloc, bytes),
+        Refusal::Decode(fault) => undecoded(alloc, bytes, fault),
+        Refusal::Validate(fault) => invalid(alloc, bytes, fault),
         Refusal::Link(fault) => unlinked(alloc, bytes, fault),
     }
 }
 
 /// Where these bytes are refused so, and why. It reads them anew; without memory for that the place is left out.
-pub fn explain(refusal: Refusal, alloc: Global, bytes: &[u8]) -> Account {
+pub fn explain(refusal: Refusal, alloc: Global, bytes: &[u8]) -> Account
+    ensures { IfSome result.place (IsPlaceOf refusal bytes.now) }
+{
     let (place, found) = match found_at(refusal, alloc, bytes) {
         Some((place, found)) => (Some(place), found),
         None => (None, None),
@@ -52,6 +59,8 @@ pub fn explain(refusal: Refusal, alloc: Global, bytes: &[u8]) -> Account {
 }
 
 /// Where these bytes are refused so, as `explain` says it.
-pub fn place_of(refusal: Refusal, alloc: Global, bytes: &[u8]) -> Option<Place> {
+pub fn place_of(refusal: Refusal, alloc: Global, bytes: &[u8]) -> Option<Place>
+    ensures { IfSome result (IsPlaceOf refusal bytes.now) }
+{
     explain(refusal, alloc, bytes).place
 }

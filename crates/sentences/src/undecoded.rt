@@ -1,5 +1,9 @@
 // At which byte a module is refused by its form, and for what.
 
+ghost use Rattle.std.specs.Prelude.{IfSome};
+ghost use Rattle.loader.specs.declared.refusal.Refusal.TheVariants.{Decode};
+ghost use Rattle.sentences.specs.RefusalPlaces.{IsPlaceOf};
+
 use crate::found;
 use crate::reason::Reason;
 use decode::{DecodeFault, RefusedAt, refused_at};
@@ -33,9 +37,14 @@ fn reason_of(bytes: &[u8], refused: RefusedAt, part: Option<Part>) -> Option<Rea
     }
 }
 
-/// The byte at which the bytes are refused, the part in which it or what is missing there lies, and what is found.
-pub fn undecoded(alloc: Global, bytes: &[u8]) -> Option<(Place, Option<Reason>)> {
+/// The byte at which the bytes are refused for this fault, the part in which it or what is missing there lies, and what is found.
+pub fn undecoded(alloc: Global, bytes: &[u8], fault: DecodeFault) -> Option<(Place, Option<Reason>)>
+    ensures { IfSome result (λ found. IsPlaceOf (Decode fault) bytes.now found.0) }
+{
     let refused = refused_at(alloc, bytes)?;
+    if refused.fault != fault {
+        return None;
+    }
     let at = refused.at;
     let last = match refused.fault {
         DecodeFault::End => at.saturating_sub(1),

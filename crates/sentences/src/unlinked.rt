@@ -1,5 +1,9 @@
 // Which import, export or segment doesn't fit the host, and what would.
 
+ghost use Rattle.std.specs.Prelude.{IfSome};
+ghost use Rattle.loader.specs.declared.refusal.Refusal.TheVariants.{Link};
+ghost use Rattle.sentences.specs.RefusalPlaces.{IsPlaceOf, IsPlaceOfMisfit};
+
 use crate::help::DEFINED;
 use crate::meanings::of_link;
 use crate::reason::Reason;
@@ -104,7 +108,9 @@ fn part_of(
     contents: &Contents,
     site: Site,
     fault: LinkFault,
-) -> Option<(Place, Option<String>)> {
+) -> Option<(Place, Option<String>)>
+    ensures { IfSome result (λ found. IsPlaceOfMisfit bytes.now contents.now site found.0) }
+{
     Some(match site {
         Site::Import(number) => {
             let import = contents.imports.get(number)?;
@@ -130,7 +136,9 @@ fn part_of(
 }
 
 /// What of the module doesn't fit the host, and what else is known.
-pub fn unlinked(alloc: Global, bytes: &[u8], fault: LinkFault) -> Option<(Place, Option<Reason>)> {
+pub fn unlinked(alloc: Global, bytes: &[u8], fault: LinkFault) -> Option<(Place, Option<Reason>)>
+    ensures { IfSome result (λ found. IsPlaceOf (Link fault) bytes.now found.0) }
+{
     let valid = validated(alloc, bytes).ok()?;
     let (place, told) = part_of(alloc, bytes, valid.contents(), refused_at(&valid)?, fault)?;
     Some((

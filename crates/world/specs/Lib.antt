@@ -3,4 +3,5 @@ pub mod Histories
 pub mod Laws
 pub mod Making
 pub mod Stopping
+pub mod Undone
 pub mod World

@@ -1,5 +1,7 @@
 // Work that did not return.
 
+ghost use Rattle.world.specs.Undone.{IsUndone};
+
 use order::Trail;
 use world_log::{JobEnd, JobId};
 
@@ -14,4 +16,5 @@ pub struct Undone {
     pub used: u64,
     /// Where it stopped.
     pub trail: Trail,
+    pub ghost known: { ∥ IsUndone job ending used trail ∥₁ },
 }

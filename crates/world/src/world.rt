@@ -4,6 +4,7 @@ ghost use Rattle.std.specs.Prelude.{◌≡◌, ◌++◌, ◌∷◌, [], ◌≤�
 ghost use Rattle.limits.specs.declared.TheConstants.{MAX_LOOPS, MAX_WORKERS};
 ghost use Rattle.world.specs.Making.{setting_from, settings_from, answers_of, HasDepth, MayFault, Stops};
 ghost use Rattle.world.specs.Stopping.{StopsIn};
+ghost use Rattle.world.specs.Undone.{IsUndone};
 ghost use Rattle.world.specs.World.{opening_world, opening_loop, WorldStep, WorldRun, entry_told, job_of, TellsEnd, StepsLoop, Posts, WithWorker, TakesJob, StartsJob};
 ghost use Rattle.world.specs.World.{FinishesJob, Collects, SendsTo, CancelsAt, ClocksAt};
 ghost use Rattle.order.specs.Orders.{order_of, end_of};
@@ -139,7 +140,9 @@ fn keep_undone(
     ending: JobEnd,
     used: u64,
     trail: Option<Trail>,
-) {
+)
+    requires { IfSome trail (λ t. ∥ IsUndone job ending used t ∥₁) }
+{
     let Some(trail) = trail else {
         return;
     };
@@ -242,7 +245,9 @@ impl World {
     }
 
     /// The jobs whose work did not return, in the order in which they were finished: the first 16.
-    pub fn undone(&self) -> &[Undone] {
+    pub fn undone(&self) -> &[Undone]
+        ensures { All (λ u. ∥ IsUndone u.job u.ending u.used u.trail ∥₁) result.now }
+    {
         self.undone.as_slice()
     }
 

@@ -1,0 +1,45 @@
+-- Where bytes are refused: the place that is told is that of the part which the refusing stage names.
+use Rattle.std.specs.Prelude.{◌≡◌, ◌≢◌, ℕ, ◌≤◌, List, length, Some, slice_get}
+use Rattle.syntax.specs.declared.contents.Contents.{Contents}
+use Rattle.syntax.specs.declared.contents.Import.{Import}
+use Rattle.syntax.specs.declared.contents.ModuleExport.{ModuleExport}
+use Rattle.syntax.specs.Binary.{Spells}
+use Rattle.decode.specs.Modules.{SpellsNothing}
+use Rattle.decode.specs.declared.fault.DecodeFault.TheVariants as decoding
+use Rattle.validate.specs.Valid.{ValidModule}
+use Rattle.validate.specs.Sites.{BreaksAt}
+use Rattle.validate.specs.declared.site.Site.{Site}
+use Rattle.validate.specs.declared.site.Site.TheVariants as site
+use Rattle.imports.specs.Sites.{IsMisfit}
+use Rattle.imports.specs.declared.site.Site.{Site as Misfit}
+use Rattle.imports.specs.declared.site.Site.TheVariants as misfit
+use Rattle.places.specs.declared.place.Place.{Place}
+use Rattle.places.specs.declared.place.Place.TheVariants as place
+use Rattle.places.specs.Places.{IsPlaceOfSection, IsPlaceOfFunction, IsPlaceOfOperation, IsPlaceOfImport, IsPlaceOfExport, IsPartWith}
+use Rattle.loader.specs.declared.refusal.Refusal.{Refusal}
+use Rattle.loader.specs.declared.refusal.Refusal.TheVariants.{Memory, Decode, Validate, Link}
+
+-- the place of a part that validation names
+abbrev pub IsPlaceOfSite : List ℕ → Site → Place → Type 0
+IsPlaceOfSite bytes (site.Section id) told = IsPlaceOfSection bytes id told
+IsPlaceOfSite bytes (site.Function number) told = IsPlaceOfFunction bytes number told
+IsPlaceOfSite bytes (site.Operation function number lack) told = IsPlaceOfOperation bytes function number told
+
+-- the place of a part that linking names; the ids of the sections of segments are 9 and 11
+abbrev pub IsPlaceOfMisfit : List ℕ → Contents → Misfit → Place → Type 0
+IsPlaceOfMisfit bytes m (misfit.Import number) told = (i : Import) × (slice_get m.imports number ≡ Some i) × IsPlaceOfImport number i.module i.name told
+IsPlaceOfMisfit bytes m (misfit.Export number) told = (e : ModuleExport) × (slice_get m.exports number ≡ Some e) × IsPlaceOfExport e.name told
+IsPlaceOfMisfit bytes m misfit.Elements told = IsPlaceOfSection bytes 9 told
+IsPlaceOfMisfit bytes m misfit.Data told = IsPlaceOfSection bytes 11 told
+
+-- at a byte of these, or at their end
+abbrev pub IsPlaceOfStop : List ℕ → Place → Type 0
+IsPlaceOfStop bytes (place.Byte at part) = at ≤ length bytes
+IsPlaceOfStop bytes _ = ⊥
+
+-- The stage refuses the bytes, validation by this fault, and this is the place of what it names. Want of memory has none.
+abbrev pub IsPlaceOf : Refusal → List ℕ → Place → Type 0
+IsPlaceOf Memory bytes told = ⊥
+IsPlaceOf (Decode fault) bytes told = (fault ≢ decoding.Memory → SpellsNothing bytes) × IsPlaceOfStop bytes told
+IsPlaceOf (Validate fault) bytes told = (m : Contents) × Spells bytes m × (at : Site) × BreaksAt m fault at × IsPlaceOfSite bytes at told
+IsPlaceOf (Link fault) bytes told = (m : Contents) × Spells bytes m × ValidModule m × (at : Misfit) × IsMisfit m at × IsPlaceOfMisfit bytes m at told

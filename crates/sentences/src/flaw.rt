@@ -144,6 +144,17 @@ fn write_count<W: fmt::Write>(
     }
 }
 
+/// Writes between which numbers one has to lie.
+fn write_range<W: fmt::Write, N: fmt::Display>(
+    f: &mut fmt::Formatter<W>,
+    name: &str,
+    found: &N,
+    least: u64,
+    most: u64,
+) -> fmt::Result {
+    write!(f, "{name} {found}: {least} to {most}")
+}
+
 impl fmt::Display for Wrong<'_> {
     fn fmt<W: fmt::Write>(&self, f: &mut fmt::Formatter<W>) -> fmt::Result {
         match *self {
@@ -174,13 +185,13 @@ impl fmt::Display for Wrong<'_> {
                 found,
                 least,
                 most,
-            } => write!(f, "{name} {found}: {least} to {most}"),
+            } => write_range(f, name, &found, least, most),
             Wrong::Many {
                 name,
                 found,
                 least,
                 most,
-            } => write!(f, "{name} {found}: {least} to {most}"),
+            } => write_range(f, name, &found, least, most),
             Wrong::Digits(fault) => {
                 write!(
                     f,

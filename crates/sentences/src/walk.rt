@@ -303,16 +303,23 @@ impl<'a> Walk<'a> {
         }
     }
 
+    /// The value of the key of a loop that has this number.
+    fn loop_value(&mut self, part: Part, key: usize) -> Result<(), Flaw<'a>> {
+        match key {
+            0 => self.module_number(part),
+            1 => self.number(part, Bounds::to("fuel", u64::MAX)),
+            2 => self.number(part, Bounds::to("work_fuel", u64::MAX)),
+            _ => self.number(part, DEPTH),
+        }
+    }
+
     fn one_loop(&mut self, number: usize) -> Result<(), Flaw<'a>> {
         let part = Part::Loop(number);
         self.begin(part, None, false)?;
         let mut seen = [false; KEYS];
         for _ in 0..self.room {
             match self.key(part, LOOP_KEYS, &mut seen)? {
-                Some(0) => self.module_number(part)?,
-                Some(1) => self.number(part, Bounds::to("fuel", u64::MAX))?,
-                Some(2) => self.number(part, Bounds::to("work_fuel", u64::MAX))?,
-                Some(_) => self.number(part, DEPTH)?,
+                Some(key) => self.loop_value(part, key)?,
                 None => return Ok(()),
             }
         }
@@ -377,16 +384,23 @@ impl<'a> Walk<'a> {
         Ok(())
     }
 
+    /// The value of the key of the script that has this number.
+    fn script_value(&mut self, key: usize) -> Result<(), Flaw<'a>> {
+        match key {
+            0 => self.modules(),
+            1 => self.loops(),
+            2 => self.number(Part::Script, WORKERS),
+            _ => self.steps(),
+        }
+    }
+
     /// Walks over the whole script, to the first thing that is wrong with it so.
     pub fn script(&mut self) -> Result<(), Flaw<'a>> {
         self.begin(Part::Script, None, false)?;
         let mut seen = [false; KEYS];
         for _ in 0..self.room {
             match self.key(Part::Script, SCRIPT_KEYS, &mut seen)? {
-                Some(0) => self.modules()?,
-                Some(1) => self.loops()?,
-                Some(2) => self.number(Part::Script, WORKERS)?,
-                Some(_) => self.steps()?,
+                Some(key) => self.script_value(key)?,
                 None => return Ok(()),
             }
         }

@@ -12,7 +12,7 @@ use limits::{MAX_HEIGHT, MAX_LOCALS, MAX_NESTING};
 use loader::decoded;
 use places::{Place, place_of_function, place_of_operation, place_of_section};
 use std::alloc::Global;
-use validate::{Lack, Site, ValidFault, refused_at};
+use validate::{Site, Unfit, ValidFault, refused_at};
 
 fn place_of(bytes: &[u8], site: Site) -> Option<Place>
     ensures { IfSome result (IsPlaceOfSite bytes.now site) }
@@ -29,12 +29,17 @@ fn place_of(bytes: &[u8], site: Site) -> Option<Place>
 }
 
 /// Why the operands of an operation don't fit it.
-fn of_type(name: &str, lack: Option<Lack>) -> Option<Reason> {
-    if let Some(Lack { wanted, found }) = lack {
-        return Some(Reason::operand(name_of_type(wanted), found.map(name_of_type)));
+fn of_type(name: &str, unfit: Option<Unfit>) -> Option<Reason> {
+    match unfit {
+        Some(Unfit::Wanted { wanted, found }) => {
+            return Some(Reason::operand(name_of_type(wanted), found.map(name_of_type)));
+        }
+        Some(Unfit::Left { count, last }) => {
+            return Some(Reason::left_over(count, last.map(name_of_type)));
+        }
+        None => {}
     }
     let words = match name {
-        "end" | "else" => "the block leaves more operands than its type has results",
         "br_table" => "the labels take operands of different types",
         "drop" | "select" => "an operand is wanted, and none is there",
         _ => return None,
@@ -46,8 +51,8 @@ fn of_type(name: &str, lack: Option<Lack>) -> Option<Reason> {
 fn reason_of(bytes: &[u8], fault: ValidFault, site: Site, place: &Place) -> Option<Reason> {
     let (most, things, help) = match (fault, site, place) {
         (ValidFault::Index, Site::Section(section), _) => return found::segment(bytes, section),
-        (ValidFault::BadType, Site::Operation { lack, .. }, Place::Operation { name, .. }) => {
-            return of_type(*name, lack);
+        (ValidFault::BadType, Site::Operation { unfit, .. }, Place::Operation { name, .. }) => {
+            return of_type(*name, unfit);
         }
         (ValidFault::Height, Site::Function(_), _) => {
             (MAX_LOCALS, "parameters and locals", OPTIMIZED)

@@ -36,6 +36,11 @@ enum Found {
         wanted: &'static str,
         found: Option<&'static str>,
     },
+    /// So many operands that a block leaves over, by the name of the topmost one's type.
+    Left {
+        count: usize,
+        last: Option<&'static str>,
+    },
 }
 
 /// What helps, or what else is known.
@@ -120,6 +125,11 @@ impl Reason {
         Reason::of(Found::Operand { wanted, found })
     }
 
+    /// A block leaves so many operands over, the topmost of the type of this name.
+    pub fn left_over(count: usize, last: Option<&'static str>) -> Reason {
+        Reason::of(Found::Left { count, last })
+    }
+
     /// With what helps.
     pub fn with(self, help: &'static str) -> Reason {
         Reason {
@@ -134,6 +144,22 @@ impl Reason {
             found: self.found,
             help: Help::Told(told),
         }
+    }
+}
+
+/// Writes how many operands are left over, and of which type the topmost is.
+fn write_left<W: fmt::Write>(
+    f: &mut fmt::Formatter<W>,
+    count: usize,
+    last: Option<&'static str>,
+) -> fmt::Result {
+    write!(
+        f,
+        "the block leaves more operands than its type has results; too many: {count}"
+    )?;
+    match last {
+        Some(last) => write!(f, ", the topmost of type {last}"),
+        None => Ok(()),
     }
 }
 
@@ -168,6 +194,7 @@ impl fmt::Display for Found {
                     None => f.write_str("none is there"),
                 }
             }
+            Found::Left { count, last } => write_left(f, count, last),
         }
     }
 }

@@ -73,4 +73,4 @@ BreaksNumbered m number e at =
 abbrev pub BreaksAt : Contents → ValidFault → Site → Type 0
 BreaksAt m e (site.Section id) = BreaksSection m e id
 BreaksAt m e (site.Function number) = BreaksNumbered m number e None
-BreaksAt m e (site.Operation function number lack) = BreaksNumbered m function e (Some number)
+BreaksAt m e (site.Operation function number unfit) = BreaksNumbered m function e (Some number)

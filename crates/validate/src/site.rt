@@ -10,12 +10,19 @@ use crate::fault::{BodyFault, ValidFault};
 use std::alloc::AllocFailed;
 use syntax::types::ValType;
 
-/// An operand that an operation wants, and what it finds there.
+/// What of the operands doesn't fit an operation.
 #[derive(Clone, Copy, Debug, PartialEq, Eq)]
-pub struct Lack {
-    pub wanted: ValType,
-    /// Nothing where the block has no operand left.
-    pub found: Option<ValType>,
+pub enum Unfit {
+    /// An operand of this type is wanted, and one of another type is there, or none.
+    Wanted {
+        wanted: ValType,
+        found: Option<ValType>,
+    },
+    /// So many are left over at the end of a block, the topmost of this type, if it has one: in code that is never run it may have none.
+    Left {
+        count: usize,
+        last: Option<ValType>,
+    },
 }
 
 /// The part of a module that is refused. Functions are counted from 0 among those that have a body.
@@ -25,11 +32,11 @@ pub enum Site {
     Section(u8),
     /// A function, for its type or its locals.
     Function(usize),
-    /// An operation of a function's body, counted from 0, and what it lacks where that is why.
+    /// An operation of a function's body, counted from 0, and what doesn't fit it where that is why.
     Operation {
         function: usize,
         number: usize,
-        lack: Option<Lack>,
+        unfit: Option<Unfit>,
     },
 }
 
@@ -65,7 +72,7 @@ impl<T: Drop> From<AllocFailed<T>> for RefusedAt {
 pub struct BodyRefused {
     pub fault: BodyFault,
     pub operation: Option<usize>,
-    pub lack: Option<Lack>,
+    pub unfit: Option<Unfit>,
 }
 
 impl BodyRefused {
@@ -78,7 +85,7 @@ impl BodyRefused {
             Some(number) => Site::Operation {
                 function,
                 number,
-                lack: self.lack,
+                unfit: self.unfit,
             },
             None => Site::Function(function),
         };
@@ -96,7 +103,7 @@ impl From<BodyFault> for BodyRefused {
         BodyRefused {
             fault,
             operation: None,
-            lack: None,
+            unfit: None,
         }
     }
 }

@@ -65,7 +65,8 @@ impl<T: Drop, const N: usize> Bounded<T, N> {
     /// Whether no other element has room.
     #[inline]
     pub fn is_full(&self) -> bool
-        ensures { result ≡ (length self.now == N) }
+        ensures value { result ≡ (length self.now == N) }
+        ensures fits { length self.now ≤ N }
     {
         self.items.len() == N
     }

@@ -1,6 +1,6 @@
 // What is left of a phase's list.
 
-ghost use Rattle.std.specs.Prelude.{◌≡◌, ◌≤◌, ◌+◌, [], ◌∷◌, ◌++◌, ◌==◌, length, map, filter, drop, slice_get, ◌<◌, if◌then◌else◌};
+ghost use Rattle.std.specs.Prelude.{◌≡◌, ◌≤◌, ◌+◌, [], ◌∷◌, ◌++◌, ◌==◌, length, map, filter, drop, slice_get, ◌<◌, if◌then◌else◌, IfOk};
 ghost use Rattle.handles.specs.Table.{entry};
 ghost use Rattle.limits.specs.declared.TheConstants.{MAX_REQUESTS};
 ghost use Rattle.phases.specs.PhaseList.{first_list, handle_entry, active_asyncs, is_active_handle};
@@ -9,9 +9,9 @@ ghost use Rattle.phases.specs.Requests.{is_settled};
 use crate::entry::Entry;
 use crate::request::Request;
 use crate::roster::Roster;
-use arrayvec::ArrayVec;
-use handles::{Kind, Place};
+use handles::{Bounded, Kind, Place};
 use limits::MAX_HANDLES;
+use std::alloc::{AllocError, Global};
 use std::marker::Model;
 
 /// How many entries a list has at most: a phase lists the handles of a kind, or requests and asyncs, which are fewer.
@@ -20,7 +20,7 @@ const MAX_ENTRIES: usize = MAX_HANDLES;
 /// The entries of a phase that are still to come.
 #[derive(Debug, Drop)]
 pub struct Entries {
-    items: ArrayVec<Entry, MAX_ENTRIES>,
+    items: Bounded<Entry, MAX_ENTRIES>,
     at: usize,
 }
 
@@ -30,24 +30,24 @@ impl Model for Entries {
 
     ghost Value = { List Entry };
 
-    ghost view = { λ a. drop a.at a.items.items };
+    ghost view = { λ a. drop a.at a.items };
 
-    ghost invariant = { λ a. a.at ≤ length a.items.items };
+    ghost invariant = { λ a. a.at ≤ length a.items };
 }
 
 impl Entries {
-    /// The start function, then `uv_main`, each where present.
-    pub fn first(start: bool, main: bool) -> Self
-        ensures { result ≡ first_list start main }
+    /// The start function, then `uv_main`, each where present. An error comes where memory is refused.
+    pub fn first(alloc: Global, start: bool, main: bool) -> Result<Self, AllocError>
+        ensures { IfOk result (λ made. made ≡ first_list start main) }
     {
-        let mut items = ArrayVec::new();
+        let mut items = Bounded::new(alloc)?;
         if start {
             items.push(Entry::Start);
         }
         if main {
             items.push(Entry::Main);
         }
-        Entries { items, at: 0 }
+        Ok(Entries { items, at: 0 })
     }
 
     /// Leaves no entry.
@@ -55,7 +55,7 @@ impl Entries {
         ensures { self.new ≡ [] }
     {
         self.at = 0;
-        empty(&mut self.items);
+        self.items.clear();
     }
 
     /// Lists the handles of a kind that stand at these places.
@@ -103,41 +103,32 @@ impl Entries {
     }
 }
 
-/// Leaves nothing. What is empty already isn't touched: a phase without entries costs no call.
-pub fn empty<T: Default + Drop, const N: usize>(items: &mut ArrayVec<T, N>)
-    ensures { items.new.items ≡ [] }
-{
-    if !items.is_empty() {
-        items.clear();
-    }
-}
-
-fn list_handles(items: &mut ArrayVec<Entry, MAX_ENTRIES>, kind: Kind, places: &[Place])
+fn list_handles(items: &mut Bounded<Entry, MAX_ENTRIES>, kind: Kind, places: &[Place])
     requires { length places.now ≤ MAX_HANDLES }
-    ensures { items.new.items ≡ map (λ place. handle_entry kind (entry place)) places.now }
+    ensures { items.new ≡ map (λ place. handle_entry kind (entry place)) places.now }
 {
-    empty(items);
+    items.clear();
     for place in places {
         items.push(Entry::of_handle(kind, place.handle, place.start));
     }
 }
 
-fn list_closing(items: &mut ArrayVec<Entry, MAX_ENTRIES>, handles: &[u32])
+fn list_closing(items: &mut Bounded<Entry, MAX_ENTRIES>, handles: &[u32])
     requires { length handles.now ≤ MAX_HANDLES }
-    ensures { items.new.items ≡ map (λ handle. Entry.Close handle) handles.now }
+    ensures { items.new ≡ map (λ handle. Entry.Close handle) handles.now }
 {
-    empty(items);
+    items.clear();
     for handle in handles {
         items.push(Entry::Close { handle: *handle });
     }
 }
 
-fn list_settled(items: &mut ArrayVec<Entry, MAX_ENTRIES>, requests: &[Request])
+fn list_settled(items: &mut Bounded<Entry, MAX_ENTRIES>, requests: &[Request])
     requires { length requests.now ≤ MAX_REQUESTS }
-    ensures entries { items.new.items ≡ map (λ r. Entry.After r.order.request) (filter (λ r. is_settled r.stage) requests.now) }
-    ensures few { length items.new.items ≤ MAX_REQUESTS }
+    ensures entries { items.new ≡ map (λ r. Entry.After r.order.request) (filter (λ r. is_settled r.stage) requests.now) }
+    ensures few { length items.new ≤ MAX_REQUESTS }
 {
-    empty(items);
+    items.clear();
     for request in requests {
         if request.is_settled() {
             items.push(Entry::After {
@@ -147,9 +138,9 @@ fn list_settled(items: &mut ArrayVec<Entry, MAX_ENTRIES>, requests: &[Request])
     }
 }
 
-fn push_asyncs(items: &mut ArrayVec<Entry, MAX_ENTRIES>, roster: &Roster)
-    requires { length items.old.items ≤ MAX_REQUESTS }
-    ensures { items.new.items ≡ items.old.items ++ map (λ a. Entry.Async a) (active_asyncs roster.now) }
+fn push_asyncs(items: &mut Bounded<Entry, MAX_ENTRIES>, roster: &Roster)
+    requires { length items.old ≤ MAX_REQUESTS }
+    ensures { items.new ≡ items.old ++ map (λ a. Entry.Async a) (active_asyncs roster.now) }
 {
     let asyncs = roster.asyncs();
     for async_no in 0..asyncs.len() {
@@ -158,14 +149,14 @@ fn push_asyncs(items: &mut ArrayVec<Entry, MAX_ENTRIES>, roster: &Roster)
 }
 
 fn push_if_active(
-    items: &mut ArrayVec<Entry, MAX_ENTRIES>,
+    items: &mut Bounded<Entry, MAX_ENTRIES>,
     roster: &Roster,
     handle: Option<u32>,
     async_no: u32,
 )
-    requires { length items.old.items < MAX_ENTRIES }
-    ensures entries { items.new.items ≡ items.old.items ++ (if is_active_handle roster.now.handles handle then Entry.Async async_no ∷ [] else []) }
-    ensures few { length items.new.items ≤ length items.old.items + 1 }
+    requires { length items.old < MAX_ENTRIES }
+    ensures entries { items.new ≡ items.old ++ (if is_active_handle roster.now.handles handle then Entry.Async async_no ∷ [] else []) }
+    ensures few { length items.new ≤ length items.old + 1 }
 {
     if roster.is_active(handle) {
         items.push(Entry::Async { async_no });

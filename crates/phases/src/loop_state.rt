@@ -22,10 +22,9 @@ use crate::roster::Roster;
 use crate::setting::Setting;
 use crate::shared::Shared;
 use crate::work::ask;
-use arrayvec::ArrayVec;
 use events::did::Hint;
 use events::phase::Phase;
-use handles::Kind;
+use handles::{Bounded, Kind};
 use instance::memory::Memory;
 use limits::MAX_EMITS;
 use order::uv::answers::{NONE_LEFT, NOT_HERE};
@@ -43,7 +42,7 @@ pub struct LoopState {
     pub(crate) phase: Phase,
     pub(crate) entries: Entries,
     pub(crate) reply: Option<Vec<u8>>,
-    pub(crate) emits: ArrayVec<u64, MAX_EMITS>,
+    pub(crate) emits: Bounded<u64, MAX_EMITS>,
     pub(crate) status: Status,
 }
 
@@ -83,7 +82,7 @@ impl Model for LoopState {
       phase = a.phase;
       list = a.entries;
       reply = option_map (λ v. v.items) a.reply;
-      emits = a.emits.items;
+      emits = a.emits;
       status = a.status;
     } };
 
@@ -118,15 +117,20 @@ impl LoopState {
     ) -> Result<Self, AllocError>
         ensures { IfOk result (λ made. made ≡ opening (record { handles = empty_table; asyncs = []; closing = []; callbacks = callbacks.items }) (first_list start main)) }
     {
+        // what each turn reads is taken last, so that it lies in few pages
+        let requests = Requests::new(alloc)?;
+        let emits = Bounded::new(alloc)?;
+        let roster = Roster::new(alloc, callbacks)?;
+        let entries = Entries::first(alloc, start, main)?;
         Ok(LoopState {
-            roster: Roster::new(alloc, callbacks)?,
-            requests: Requests::new(alloc)?,
+            roster,
+            requests,
             clock: 0,
             time: 0,
             phase: Phase::Begin,
-            entries: Entries::first(start, main),
+            entries,
             reply: None,
-            emits: ArrayVec::new(),
+            emits,
             status: Status::Running,
         })
     }

@@ -20,7 +20,6 @@ ghost use Rattle.phases.specs.Roster.{async_handle, with_handles, without_handle
 ghost use Rattle.phases.specs.Step.{turn, in_phase, now_in, moment_in, begun, finished, returns, is_as_listed, handle_function};
 
 use crate::did::BareDid;
-use crate::entries::empty;
 use crate::entry::{Entry, Status};
 use crate::loop_state::LoopState;
 use crate::stage::Completion;
@@ -162,7 +161,7 @@ impl LoopState {
         ensures { self.new ≡ begun self.old (option_map (λ v. v.items) reply) }
     {
         put(&mut self.reply, reply);
-        empty(&mut self.emits);
+        self.emits.clear();
     }
 
     /// A callback has ended. Where it did not return, the loop has failed.

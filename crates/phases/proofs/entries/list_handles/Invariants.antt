@@ -4,4 +4,4 @@ use Rattle.phases.specs.PhaseList.{handle_entry}
 use Rattle.phases.proofs.entries.list_handles.Given as goal
 
 abbrev pub invariant-loop-place : goal.invariant-loop-place
-invariant-loop-place l = l.items.items ≡ map (λ place. handle_entry l.kind (entry place)) (take l.place-index l.places)
+invariant-loop-place l = l.items ≡ map (λ place. handle_entry l.kind (entry place)) (take l.place-index l.places)

@@ -12,8 +12,8 @@ loop-async_no-preserved c =
     let within = c.loop-async_no-test.true in
     let more = active_more c.args.roster.now.handles xs i (get_or xs i None) None within refl (length-take-le i xs (omega arith)) in
     let t = c.args.roster.now.handles in (
-      joined c.args.items.now.items (map (λ a. Async a) (active_from t 0 (take i xs))) (cond (is_active_handle t (get_or xs i None)) (Async i ∷ []) [])
-          c.loop-async_no.items.items c.push_if_active.new.items.items (map (λ a. Async a) (active_from t 0 (take (i + 1) xs)))
+      joined c.args.items.now (map (λ a. Async a) (active_from t 0 (take i xs))) (cond (is_active_handle t (get_or xs i None)) (Async i ∷ []) [])
+          c.loop-async_no.items c.push_if_active.new.items (map (λ a. Async a) (active_from t 0 (take (i + 1) xs)))
           c.push_if_active.ensures.entries c.loop-async_no.invariant.0 more,
       (let few = c.push_if_active.ensures.few in let before = c.loop-async_no.invariant.1 in omega arith),
     )

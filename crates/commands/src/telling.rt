@@ -4,7 +4,7 @@ use events::phase::EntryKind;
 use imports::EntryPoint;
 use limits::{MAX_BYTES, MAX_DEPTH};
 use order::{Order, Told};
-use sentences::{Allowed, Ran, Stopped, What, tell_stopped, unit_of};
+use sentences::{Allowed, Ran, Stopped, What, tell_stopped, unit_of, warn_refused};
 use serve::{Account, Callback, LoopEnding, Served};
 use std::alloc::Global;
 use std::io::{self, Write};
@@ -92,6 +92,7 @@ impl Teller<'_> {
     pub fn tell_all<E: Write>(&self, served: Vec<Served>, err: &mut E) -> io::Result<()> {
         for one in served {
             self.tell_ending(&one, err)?;
+            warn_refused(one.loop_no, one.account.refused(), err)?;
             self.tell_most(&one, err)?;
             self.tell_work(one, err)?;
         }

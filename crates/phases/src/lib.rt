@@ -15,6 +15,7 @@ ghost use Rattle.phases.specs.Step.{LoopStep};
 mod callbacks;
 mod completion_kind;
 mod did;
+mod emits;
 mod entries;
 mod entry;
 pub mod laws;

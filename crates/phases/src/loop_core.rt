@@ -383,6 +383,11 @@ impl<B: Shared + Drop> LoopCore<B> {
         self.host.state.emits()
     }
 
+    /// How many numbers the loop's callbacks were refused in all, since a callback may emit `MAX_EMITS`. No clause speaks of it.
+    pub fn refused(&self) -> u64 {
+        self.host.state.refused()
+    }
+
     /// Raises the clock to a moment in milliseconds, and answers the clock after it. A smaller moment leaves it, and
     /// so does a loop that has failed.
     pub fn clock(&mut self, ms: u64) -> u64

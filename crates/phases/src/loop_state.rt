@@ -15,6 +15,7 @@ ghost use Rattle.phases.specs.Requests.{IsLowestOpen};
 ghost use Rattle.phases.specs.PhaseList.{is_alive, hint_of, until_due, first_list, IsAlive, IsHint};
 ghost use Rattle.phases.specs.State.{opening};
 
+use crate::emits::Emits;
 use crate::entries::Entries;
 use crate::entry::Status;
 use crate::requests::Requests;
@@ -24,9 +25,8 @@ use crate::shared::Shared;
 use crate::work::ask;
 use events::did::Hint;
 use events::phase::Phase;
-use handles::{Bounded, Kind};
+use handles::Kind;
 use instance::memory::Memory;
-use limits::MAX_EMITS;
 use order::uv::answers::{NONE_LEFT, NOT_HERE};
 use order::uv::calls::copy_in;
 use order::{Order, Reply};
@@ -42,7 +42,7 @@ pub struct LoopState {
     pub(crate) phase: Phase,
     pub(crate) entries: Entries,
     pub(crate) reply: Option<Vec<u8>>,
-    pub(crate) emits: Bounded<u64, MAX_EMITS>,
+    pub(crate) emits: Emits,
     pub(crate) status: Status,
 }
 
@@ -82,7 +82,7 @@ impl Model for LoopState {
       phase = a.phase;
       list = a.entries;
       reply = option_map (λ v. v.items) a.reply;
-      emits = a.emits;
+      emits = a.emits.kept;
       status = a.status;
     } };
 
@@ -119,7 +119,7 @@ impl LoopState {
     {
         // what each turn reads is taken last, so that it lies in few pages
         let requests = Requests::new(alloc)?;
-        let emits = Bounded::new(alloc)?;
+        let emits = Emits::new(alloc)?;
         let roster = Roster::new(alloc, callbacks)?;
         let entries = Entries::first(alloc, start, main)?;
         Ok(LoopState {
@@ -161,10 +161,11 @@ impl LoopState {
         ensures answer { result ≡ (emitted_in value self.old).0 }
         ensures state { self.new ≡ (emitted_in value self.old).1 }
     {
-        if self.emits.is_full() {
+        if self.emits.kept.is_full() {
+            self.emits.refuse();
             return NONE_LEFT;
         }
-        self.emits.push(value);
+        self.emits.kept.push(value);
         0
     }
 
@@ -173,7 +174,12 @@ impl LoopState {
         ensures value { result.now ≡ self.now.emits }
         ensures few { length result.now ≤ MAX_EMITS }
     {
-        self.emits.as_slice()
+        self.emits.kept.as_slice()
+    }
+
+    /// How many numbers all callbacks were refused. No clause speaks of it.
+    pub fn refused(&self) -> u64 {
+        self.emits.refused
     }
 
     /// Raises the clock to a moment, unless the loop has failed, and answers it.

@@ -161,7 +161,7 @@ impl LoopState {
         ensures { self.new ≡ begun self.old (option_map (λ v. v.items) reply) }
     {
         put(&mut self.reply, reply);
-        self.emits.clear();
+        self.emits.kept.clear();
     }
 
     /// A callback has ended. Where it did not return, the loop has failed.

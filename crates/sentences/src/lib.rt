@@ -38,4 +38,4 @@ pub use missing::{Counts, Missing};
 pub use ran::{Ran, What};
 pub use refusal::{Account, explain, place_of};
 pub use stopping::{Allowed, Reason, Stopped, ending_of, tell_place, tell_stopped, unit_of};
-pub use warning::{Warning, warn, warnings};
+pub use warning::{Warning, warn, warn_refused, warnings};

@@ -1,8 +1,9 @@
 // What an accepted module lacks to run on a loop.
 
 use imports::{Call, EntryPoint, Linked};
+use limits::MAX_EMITS;
 use std::fmt;
-use std::io::Write;
+use std::io::{self, Write};
 
 /// What an accepted module lacks to run on a loop. It prints as a sentence.
 #[derive(Clone, Copy, Debug)]
@@ -114,4 +115,17 @@ pub fn warn<E: Write>(linked: &Linked, err: &mut E) {
     for warning in warnings(linked).iter().flatten() {
         let _ = writeln!(err, "warning: {warning}");
     }
+}
+
+/// Says how many numbers of a loop's callbacks were refused, if some were.
+pub fn warn_refused<E: Write>(loop_no: u32, refused: u64, err: &mut E) -> io::Result<()> {
+    let numbers = match refused {
+        0 => return Ok(()),
+        1 => "number was",
+        _ => "numbers were",
+    };
+    writeln!(
+        err,
+        "warning: loop {loop_no}: {refused} {numbers} refused: a callback may emit {MAX_EMITS}, and each further one is answered -28"
+    )
 }

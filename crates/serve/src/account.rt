@@ -32,6 +32,7 @@ pub struct Account {
     now: u64,
     asyncs: Vec<u32>,
     undone: Vec<Order>,
+    refused: u64,
 }
 
 impl Drop for Account {
@@ -45,6 +46,7 @@ impl Drop for Account {
             now: _,
             asyncs: _,
             undone: _,
+            refused: _,
         } = self;
     }
 }
@@ -81,6 +83,7 @@ impl Account {
             now: 0,
             asyncs: Vec::with_capacity(alloc, MAX_ASYNCS)?,
             undone: Vec::with_capacity(alloc, MAX_UNDONE)?,
+            refused: 0,
         })
     }
 
@@ -191,6 +194,16 @@ impl Account {
         self.asyncs.as_slice()
     }
 
+    /// How many numbers its callbacks were refused, since a callback may emit 64.
+    pub fn refused(&self) -> u64 {
+        self.refused
+    }
+
+    /// So many numbers were refused.
+    pub(crate) fn count_refused(&mut self, refused: u64) {
+        self.refused = refused;
+    }
+
     /// The orders that are kept.
     pub(crate) fn into_undone(self) -> Vec<Order> {
         let Account {
@@ -202,6 +215,7 @@ impl Account {
             now: _,
             asyncs: _,
             undone,
+            refused: _,
         } = self;
         undone
     }

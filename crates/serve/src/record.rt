@@ -233,11 +233,13 @@ impl<'a> Record<'a> {
         ensures { IsServed self.entry.core.setting result }
     {
         let trail = last_trail(&self.core);
+        let mut account = self.account;
+        account.count_refused(self.core.refused());
         Served {
             loop_no,
             ending,
             emits: self.emits,
-            account: self.account,
+            account,
             trail,
         }
     }

@@ -190,7 +190,8 @@ def statuses(s):
     got = s.wants("fuel", 504, "spin: ", "/spin")
     check(got[2]["Wasmloop-Fuel"] == "1000000" and got[2]["Wasmloop-Outcome"] == "spent", "fuel is exact", got[2])
     s.wants("bomb", 504, "bomb: ", "/bomb")
-    s.wants("no module", 500, "broken: ", "/broken")
+    for path in "/broken", "/broken", "/broken/ask", "/broken/send/1":
+        s.wants("no module", 500, "broken: ", path)
     s.wants("no work", 404, "it exports no uv_work", "/ticker")
     s.wants("no loop", 404, "it has no loop", "/hello/ask/1")
     s.wants("no loop to send to", 404, "it has no loop", "/hello/send/1")
@@ -331,6 +332,29 @@ def changes(s):
     s.wants("and back", 200, "hello, abc", "/mine", b"abc")
 
 
+def loops_change(s):
+    """Who waits for an answer of a loop whose module changes asks the new one; where its file goes they are told so; who goes is forgotten."""
+    for name, text in ("moves", b"it takes no requests"), ("leaves", b"no such tenant"), ("stays", None):
+        put(s, f"{name}.wasm", (GUESTS / "limiter.wasm").read_bytes())
+        links = [s.connect() for _ in range(8)]
+        for it in links:
+            it.sendall(b"POST /%s/ask/1 HTTP/1.1\r\nContent-Length: 1\r\n\r\nx" % name.encode())
+        until("those who ask", lambda n=name: s.number("received_bytes_total", n) == 8 and s.number("loop_turns_total", n) > 0)
+        if name == "moves":
+            put(s, f"{name}.wasm", (GUESTS / "ticker.wasm").read_bytes())
+        elif name == "leaves":
+            (s.folder / f"{name}.wasm").unlink()
+        else:
+            for it in links:
+                it.close()
+            until("those who went", lambda n=name: s.number("requests_total", n, outcome="gone") == 8)
+            continue
+        got = [it.recv(4096) for it in links]
+        check(all(head(it) == 404 and text in it for it in got), "those who asked a loop that changes", name, got)
+        for it in links:
+            it.close()
+
+
 def many(s, count=200):
     for n in range(count):
         (s.folder / f"t{n}.conf").write_text(PATIENT)
@@ -364,8 +388,9 @@ def functions():
     broken_too()
     s = Server("-t", "30", spin="fuel 1000000\n", slow=f"{ENDLESS}queue 2\nrun 1\ndeadline 2000\n", flood="fuel 1000000\ncallback 200000\n",
                late=f"{ENDLESS}run 1\ndeadline 50\n", hello="type text/plain\n", mute="deadline 300\n", limiter="queue 4\n", crowd="queue 200\n",
-               deep="depth 32\n", mine="", dead=f"{ENDLESS}deadline 200\n", **{f"long{n}": f"{ENDLESS}deadline 3600000\n" for n in range(3)})
-    for part in statuses, queues, deadlines, slices, rests, loops, changes, many, numbers:
+               deep="depth 32\n", dead=f"{ENDLESS}deadline 200\n", **{f"long{n}": f"{ENDLESS}deadline 3600000\n" for n in range(3)},
+               **{name: "" for name in ("mine", "moves", "leaves", "stays")})
+    for part in statuses, queues, deadlines, slices, rests, loops, changes, loops_change, many, numbers:
         began = time.time()
         part(s)
         if time.time() - began > 10:

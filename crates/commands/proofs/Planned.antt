@@ -11,7 +11,7 @@ use Rattle.syntax.specs.Loaded.{Loaded}
 use Rattle.script.specs.declared.plan.LoopPlan.{LoopPlan}
 use Rattle.world.specs.declared.config.LoopConfig.{LoopConfig}
 use Rattle.world.specs.Making.{setting_from, settings_from}
-use Rattle.commands.specs.Scripting.{IsAcceptedModule, bytes_of, IsPlanned, ArePlanned}
+use Rattle.commands.specs.Scripting.{IsAcceptedModule, bytes_loaded, IsPlanned, ArePlanned}
 
 -- the front of a list, and one more
 taken : {A : Type 0} (xs : List A) (k : ℕ) (x : A) → slice_get xs k ≡ Some x → k < length xs → take (k + 1) xs ≡ take k xs ++ x ∷ []
@@ -24,13 +24,13 @@ all_more P old new x is all one = rw is (All-append P old (x ∷ []) all (All-co
 
 -- one more module, of the next text
 pub module_added : {T A : Type 0} (f : T → List ℕ) (g : A → Loaded) (texts : List T) (k : ℕ) (t : T) (old new : List A) (m : A)
-    → k < length texts → t ≡ get_or texts k t → new ≡ old ++ m ∷ [] → bytes_of (g m) ≡ f t → IsAcceptedModule (g m)
-    → map bytes_of (map g old) ≡ take k (map f texts) → All IsAcceptedModule (map g old)
-    → (map bytes_of (map g new) ≡ take (k + 1) (map f texts)) × All IsAcceptedModule (map g new)
+    → k < length texts → t ≡ get_or texts k t → new ≡ old ++ m ∷ [] → bytes_loaded (g m) ≡ f t → IsAcceptedModule (g m)
+    → map bytes_loaded (map g old) ≡ take k (map f texts) → All IsAcceptedModule (map g old)
+    → (map bytes_loaded (map g new) ≡ take (k + 1) (map f texts)) × All IsAcceptedModule (map g new)
 module_added f g texts k t old new m inside is_next is_new same good before all =
     let at : slice_get (map f texts) k ≡ Some (f t) = slice_get-map f texts k ∙ ap (option_map f) (slice_get_read texts (length texts) k t refl inside is_next) in
     let mapped : map g new ≡ map g old ++ g m ∷ [] = ap (map g) is_new ∙ map-append g old (m ∷ []) in
-    let bytes : map bytes_of (map g new) ≡ take k (map f texts) ++ f t ∷ [] = rw (mapped, map-append bytes_of (map g old) (g m ∷ []), before, same) refl in (
+    let bytes : map bytes_loaded (map g new) ≡ take k (map f texts) ++ f t ∷ [] = rw (mapped, map-append bytes_loaded (map g old) (g m ∷ []), before, same) refl in (
       bytes ∙ sym (taken (map f texts) k (f t) at (rw (length-map texts f) inside)),
       rw mapped (All-append IsAcceptedModule (map g old) (g m ∷ []) all (All-cons IsAcceptedModule (g m) [] good (All-nil IsAcceptedModule))),
     )

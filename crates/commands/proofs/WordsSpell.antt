@@ -7,10 +7,10 @@ use Rattle.std.proofs.Math.Seq.{take-suc}
 use Rattle.syntax.specs.declared.types.ValType.{ValType}
 use Rattle.syntax.specs.declared.types.Value.{Value}
 use Rattle.validate.specs.Typing.{type_of}
-use Rattle.commands.specs.Arguments.{Spells, AllSpell}
+use Rattle.commands.specs.Arguments.{SpellsValue, AllSpell}
 
 spell_one_more : (texts : List (List ℕ)) (values : List Value) (text : List ℕ) (value : Value)
-    → AllSpell texts values → Spells text value → AllSpell (texts ++ text ∷ []) (values ++ value ∷ [])
+    → AllSpell texts values → SpellsValue text value → AllSpell (texts ++ text ∷ []) (values ++ value ∷ [])
 spell_one_more [] [] text value all one = (one, tt)
 spell_one_more [] (v ∷ values) text value all one = absurd all
 spell_one_more (t ∷ texts) [] text value all one = absurd all
@@ -24,7 +24,7 @@ one_longer xs k x within at =
 -- one more value, of the next type and spelled by the next text
 pub one_more : (types : List ValType) (texts : List (List ℕ)) (values longer : List Value) (k : ℕ) (value : Value) (type : ValType) (text : List ℕ)
     → k < length types → k < length texts → slice_get types k ≡ Some type → slice_get texts k ≡ Some text
-    → (map type_of values ≡ take k types) × AllSpell (take k texts) values → type_of value ≡ type → Spells text value
+    → (map type_of values ≡ take k types) × AllSpell (take k texts) values → type_of value ≡ type → SpellsValue text value
     → longer ≡ values ++ value ∷ [] → (map type_of longer ≡ take (k + 1) types) × AllSpell (take (k + 1) texts) longer
 one_more types texts values longer k value type text kt kx et ex (typed, spelled) e s l =
     rw (l, one_longer types k type kt et, one_longer texts k text kx ex) (rw (map-append type_of values (value ∷ []), typed, e) refl, spell_one_more (take k texts) values text value spelled s)

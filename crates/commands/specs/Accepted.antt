@@ -12,8 +12,8 @@ abbrev pub enough : ℕ
 enough = MAX_MODULE_BYTES + 1
 
 -- the file of this name, as a reader gives it, spells an accepted module with these contents
-abbrev pub Holds : (List ℕ → ℕ → List ℕ → Type 0) → List ℕ → Contents → Type 0
-Holds gives name contents = (bytes : List ℕ) × gives name enough bytes × IsAccepted bytes contents
+abbrev pub HoldsModule : (List ℕ → ℕ → List ℕ → Type 0) → List ℕ → Contents → Type 0
+HoldsModule gives name contents = (bytes : List ℕ) × gives name enough bytes × IsAccepted bytes contents
 
 -- the file of this name, as a reader gives it, is of this module, which is accepted
 abbrev pub IsLoaded : (List ℕ → ℕ → List ℕ → Type 0) → List ℕ → Loaded → Type 0

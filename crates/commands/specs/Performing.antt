@@ -11,7 +11,7 @@ use Rattle.words.specs.declared.command.Command.TheVariants.{Check, Invoke, Work
 use Rattle.words.specs.declared.command.Invocation.{Invocation}
 use Rattle.commands.specs.declared.calling.Called.{Called}
 use Rattle.commands.specs.declared.calling.Called.TheVariants.{Function}
-use Rattle.commands.specs.Accepted.{Holds, HoldsNone}
+use Rattle.commands.specs.Accepted.{HoldsModule, HoldsNone}
 use Rattle.resident.specs.Calls.{HasReturned}
 use Rattle.commands.specs.Calling.{IsCalled, HasFunctionReturned}
 use Rattle.commands.specs.Arguments.{AllSpell}
@@ -36,7 +36,7 @@ Returns contents i = (called : Called) × IsCallOf contents i called × HasFunct
 -- instance, it returns.
 pub record HasInvoked (gives : List ℕ → ℕ → List ℕ → Type 0) (i : Invocation) : Type 0 where
   pub contents : Contents
-  pub held : Holds gives (string_bytes i.file) contents
+  pub held : HoldsModule gives (string_bytes i.file) contents
   pub function : ℕ
   pub named : IsFirst contents.exports (string_bytes i.name) (Some (record { kind = Func; index = function }))
   pub args : List Value
@@ -48,7 +48,7 @@ pub record HasInvoked (gives : List ℕ → ℕ → List ℕ → Type 0) (i : In
 -- Of an output whose bytes are known it is said what was appended to them.
 abbrev pub IsDone : (List ℕ → ℕ → List ℕ → Type 0) → (List ℕ → List ℕ → Type 0)
     → (out_before out_after err_before err_after : Option (List ℕ)) → Command → Type 0
-IsDone gives takes before after _ _ (Check file) = ((contents : Contents) × Holds gives (string_bytes file) contents)
+IsDone gives takes before after _ _ (Check file) = ((contents : Contents) × HoldsModule gives (string_bytes file) contents)
     × Appends before after (codes "accepted\n")
 IsDone gives takes _ _ _ _ (Invoke invocation) = HasInvoked gives invocation
 IsDone gives takes before after said_before said_after (Work order) = HasWorked gives takes before after said_before said_after order

@@ -27,8 +27,8 @@ pub record HoldsJson (gives : List ℕ → ℕ → List ℕ → Type 0) (name : 
   pub few : length text ≤ MAX_SCRIPT_BYTES
   pub json : IsJson text
 
-abbrev pub bytes_of : Loaded → List ℕ
-bytes_of loaded = loaded.bytes
+abbrev pub bytes_loaded : Loaded → List ℕ
+bytes_loaded loaded = loaded.bytes
 
 abbrev pub IsAcceptedModule : Loaded → Type 0
 IsAcceptedModule loaded = IsAccepted loaded.bytes loaded.contents
@@ -50,7 +50,7 @@ ArePlanned modules from _ _ = ⊥
 -- The world that the plan asks for: its modules are each accepted, and its loops and workers have done nothing.
 pub record IsWorldOf (plan : Plan) (world : World) : Type 0 where
   pub modules : List Loaded
-  pub spelled : map bytes_of modules ≡ map (λ t. t.items) plan.modules.items
+  pub spelled : map bytes_loaded modules ≡ map (λ t. t.items) plan.modules.items
   pub accepted : All IsAcceptedModule modules
   pub settings : List Setting
   pub loops : ArePlanned modules 0 plan.loops.items settings

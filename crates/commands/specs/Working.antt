@@ -74,9 +74,9 @@ short_line (Done value bytes) = line (done_words value (length bytes) [])
 short_line end = end_line end
 
 -- a value's bytes were made a file of this name
-abbrev pub IsTaken : (List ℕ → List ℕ → Type 0) → List ℕ → WorkEnd → Type 0
-IsTaken takes name (Done value bytes) = takes name bytes
-IsTaken takes name end = Unit {0}
+abbrev pub TakesReply : (List ℕ → List ℕ → Type 0) → List ℕ → WorkEnd → Type 0
+TakesReply takes name (Done value bytes) = takes name bytes
+TakesReply takes name end = Unit {0}
 
 -- a value's bytes were written, and of another end nothing
 abbrev pub IsRaw : (before after : Option (List ℕ)) → WorkEnd → Type 0
@@ -85,10 +85,10 @@ IsRaw before after end = after ≡ before
 
 -- Where an end goes: the line of it with its bytes to standard output; or the bytes to a file, and the line without them to
 -- standard output; or the bytes alone to standard output.
-abbrev pub IsTold : (List ℕ → List ℕ → Type 0) → WorkOutput → (before after : Option (List ℕ)) → WorkEnd → Type 0
-IsTold takes output.Line before after end = Appends before after (end_line end)
-IsTold takes (output.File name) before after end = IsTaken takes (string_bytes name) end × Appends before after (short_line end)
-IsTold takes output.Standard before after end = IsRaw before after end
+abbrev pub PutsOut : (List ℕ → List ℕ → Type 0) → WorkOutput → (before after : Option (List ℕ)) → WorkEnd → Type 0
+PutsOut takes output.Line before after end = Appends before after (end_line end)
+PutsOut takes (output.File name) before after end = TakesReply takes (string_bytes name) end × Appends before after (short_line end)
+PutsOut takes output.Standard before after end = IsRaw before after end
 
 -- what standard error gets of an end: the line, where standard output has the bytes alone, and else nothing
 abbrev pub IsSaid : WorkOutput → (before after : Option (List ℕ)) → WorkEnd → Type 0
@@ -107,7 +107,7 @@ pub record HasWorked (gives : List ℕ → ℕ → List ℕ → Type 0) (takes :
   pub value : ℕ
   pub bytes : List ℕ
   pub computed : IsTheEnd (asked_order work read loaded) (Done value bytes)
-  pub printed : IsTold takes work.output out_before out_after (Done value bytes)
+  pub printed : PutsOut takes work.output out_before out_after (Done value bytes)
   pub said : work.is_traced ≡ false → IsSaid work.output err_before err_after (Done value bytes)
 
 -- The file's module is accepted, the order's end is no value and bytes, or there was no memory, and that was written where the
@@ -121,4 +121,4 @@ pub record HasStopped (gives : List ℕ → ℕ → List ℕ → Type 0) (takes 
   pub end : WorkEnd
   pub computed : IsEndOf (asked_order work read loaded) end
   pub no_result : ¬ IsResult end
-  pub printed : IsTold takes work.output out_before out_after end
+  pub printed : PutsOut takes work.output out_before out_after end

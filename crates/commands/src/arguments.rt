@@ -2,7 +2,7 @@
 
 ghost use Rattle.std.specs.Prelude.{◌≡◌, map, string_bytes, IfOk, IfSome};
 ghost use Rattle.validate.specs.Typing.{type_of};
-ghost use Rattle.commands.specs.Arguments.{Spells, AllSpell};
+ghost use Rattle.commands.specs.Arguments.{SpellsValue, AllSpell};
 
 use crate::failure::Failure;
 use sentences::Mismatch;
@@ -13,7 +13,7 @@ use words::{decimal, small_decimal};
 /// The value of a type that a word spells, where there is one.
 fn value_of(value_type: ValType, word: &str) -> Option<Value>
     ensures typed { IfSome result (λ value. type_of value ≡ value_type) }
-    ensures spelled { IfSome result (Spells word.now) }
+    ensures spelled { IfSome result (SpellsValue word.now) }
 {
     match value_type {
         ValType::I32 => Some(Value::I32(small_decimal(word)?)),

@@ -6,7 +6,7 @@ ghost use Rattle.instance.specs.Fresh.{IsFresh};
 ghost use Rattle.instance.specs.Storing.{IsStoreOf};
 ghost use Rattle.reduction.specs.Invoking.{TakesArguments};
 ghost use Rattle.resident.specs.Calls.{HasReturned};
-ghost use Rattle.commands.specs.Calling.{Runs, Starts, IsCalled};
+ghost use Rattle.commands.specs.Calling.{RunsRefused, StartsNew, IsCalled};
 
 use crate::failure::Failure;
 use events::ended::{Ended, Ending};
@@ -46,7 +46,7 @@ fn run(
     requires store { IsStoreOf valid.now.contents instance.old.state }
     requires typed { TakesArguments valid.now.contents function args.now }
     requires depth { (1 ≤ depth) × (depth ≤ MAX_DEPTH) }
-    ensures runs { Runs valid.now.contents depth fuel instance.old.state function args.now result instance.new.state }
+    ensures runs { RunsRefused valid.now.contents depth fuel instance.old.state function args.now result instance.new.state }
     ensures within { result.used ≤ fuel }
     ensures kept { IsStoreOf valid.now.contents instance.new.state }
 {
@@ -59,7 +59,7 @@ fn start(valid: &Valid, instance: &mut Instance, fuel: u64, depth: u32) -> Ended
     requires fresh { IsFresh valid.now.contents instance.old.state }
     requires store { IsStoreOf valid.now.contents instance.old.state }
     requires depth { (1 ≤ depth) × (depth ≤ MAX_DEPTH) }
-    ensures starts { Starts valid.now.contents depth fuel valid.now.contents.start result instance.new.state }
+    ensures starts { StartsNew valid.now.contents depth fuel valid.now.contents.start result instance.new.state }
     ensures within { result.used ≤ fuel }
     ensures kept { IsStoreOf valid.now.contents instance.new.state }
 {

@@ -3,7 +3,7 @@
 ghost use Rattle.std.specs.Prelude.{◌≡◌, ◌≢◌, ◌≤◌, ◌⊎◌, Ok, OnOk, IfOk, IfErr, codes};
 ghost use Rattle.std.specs.Io.KnownBytes.{Appends};
 ghost use Rattle.syntax.specs.declared.contents.Contents.{Contents};
-ghost use Rattle.commands.specs.Accepted.{Holds, HoldsNone};
+ghost use Rattle.commands.specs.Accepted.{HoldsModule, HoldsNone};
 ghost use Rattle.resident.specs.Calls.{HasReturned};
 ghost use Rattle.commands.specs.Calling.{HasFunctionReturned};
 ghost use Rattle.commands.specs.Inner.Statuses.{status_of_failure, status_of_end, OnDone, OnEnded};
@@ -41,7 +41,7 @@ fn check<'a, R: Reader, O: Write, E: Write>(
     out: &mut O,
     err: &mut E,
 ) -> Result<Status, Failure<'a>>
-    ensures accepted { OnOk result ((contents : Contents) × Holds (R.gives reader.now) file.now contents) }
+    ensures accepted { OnOk result ((contents : Contents) × HoldsModule (R.gives reader.now) file.now contents) }
     ensures told { OnOk result (Appends (O.contents out.old) (O.contents out.new) (codes "accepted\n")) }
     ensures done { IfOk result (λ status. status ≡ Status.Done) }
     ensures refused { IfErr result (λ f. status_of_failure f ≡ Status.Refused → HoldsNone (R.gives reader.now) file.now) }

@@ -8,7 +8,7 @@ ghost use Rattle.script.specs.Fault.{IsJson};
 ghost use Rattle.script.specs.Limits.{IsWithinLimits, IsLoopWithinLimits};
 ghost use Rattle.script.specs.Text.{log_text};
 ghost use Rattle.world.specs.Making.{HasDepth, setting_from, settings_from};
-ghost use Rattle.commands.specs.Scripting.{HoldsJson, IsAcceptedModule, bytes_of, IsPlanned, ArePlanned, IsWorldOf, TellsNoFailure, HasTaken, HasRun};
+ghost use Rattle.commands.specs.Scripting.{HoldsJson, IsAcceptedModule, bytes_loaded, IsPlanned, ArePlanned, IsWorldOf, TellsNoFailure, HasTaken, HasRun};
 
 use crate::calling::has_returned;
 use crate::failure::Failure;
@@ -73,7 +73,7 @@ fn no_script(fault: ScriptFault, told: Option<String>) -> Failure<'static> {
 }
 
 fn module_of(alloc: Global, bytes: &[u8]) -> Result<Arc<Linked, Global>, Failure<'static>>
-    ensures same { IfOk result (λ linked. bytes_of (arc_value linked) ≡ bytes.now) }
+    ensures same { IfOk result (λ linked. bytes_loaded (arc_value linked) ≡ bytes.now) }
     ensures accepted { IfOk result (λ linked. IsAcceptedModule (arc_value linked)) }
 {
     let linked = accept(alloc, bytes)?;
@@ -97,7 +97,7 @@ fn modules_of(
     alloc: Global,
     texts: &[Vec<u8>],
 ) -> Result<Vec<Arc<Linked, Global>>, Failure<'static>>
-    ensures same { IfOk result (λ linked. map bytes_of (map arc_value linked.items) ≡ map (λ t. t.items) texts.now) }
+    ensures same { IfOk result (λ linked. map bytes_loaded (map arc_value linked.items) ≡ map (λ t. t.items) texts.now) }
     ensures accepted { IfOk result (λ linked. All IsAcceptedModule (map arc_value linked.items)) }
 {
     let mut linked = Vec::new(alloc);

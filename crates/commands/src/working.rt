@@ -8,7 +8,7 @@ ghost use Rattle.limits.specs.declared.TheConstants.{MAX_BYTES};
 ghost use Rattle.order.specs.Orders.{end_of};
 ghost use Rattle.order.specs.Work.{Done, Trap, Uses};
 ghost use Rattle.commands.specs.Inner.Statuses.{OnDone, OnEnded};
-ghost use Rattle.commands.specs.Working.{asked_order, enough_of_input, done_words, line, end_line, short_line, IsInput, IsRaw, IsResult, IsSaid, IsTaken, IsTold, HasWorked, HasStopped};
+ghost use Rattle.commands.specs.Working.{asked_order, enough_of_input, done_words, line, end_line, short_line, IsInput, IsRaw, IsResult, IsSaid, TakesReply, PutsOut, HasWorked, HasStopped};
 
 use crate::failure::Failure;
 use crate::file::{Reader, Writer};
@@ -188,7 +188,7 @@ fn keep_reply<'a, W: Writer>(
     name: &'a str,
     writer: &W,
 ) -> Result<(), Failure<'a>>
-    ensures { OnOk result (IsTaken (W.takes writer.now) name.now (end_of outcome.now)) }
+    ensures { OnOk result (TakesReply (W.takes writer.now) name.now (end_of outcome.now)) }
 {
     match outcome {
         Outcome::Done(_, bytes) => write_file(name, bytes.as_slice(), writer),
@@ -215,7 +215,7 @@ fn tell_outcome<'a, W: Writer, O: Write, E: Write>(
     out: &mut O,
     err: &mut E,
 ) -> Result<(), Failure<'a>>
-    ensures told { OnOk result (IsTold (W.takes writer.now) output.entry.now (O.contents out.old) (O.contents out.new) (end_of outcome.now)) }
+    ensures told { OnOk result (PutsOut (W.takes writer.now) output.entry.now (O.contents out.old) (O.contents out.new) (end_of outcome.now)) }
     ensures said { OnOk result (IsSaid output.entry.now (E.contents err.old) (E.contents err.new) (end_of outcome.now)) }
 {
     match output {

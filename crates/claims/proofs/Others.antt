@@ -7,7 +7,7 @@ use Rattle.limits.specs.declared.TheConstants.{MAX_REQUESTS, MAX_LOOPS}
 use Rattle.tallies.specs.Requests.{last_in}
 use Rattle.tallies.proofs.Lists.{part_set, part_push, set_apart}
 use Rattle.claims.specs.declared.rule.View.{View}
-use Rattle.claims.specs.Rule.{IsWorker, with_worker, spent, seat_of, maker_of, place, of_loop, IsKept, IsClaimed}
+use Rattle.claims.specs.Rule.{IsWorker, with_worker, spent_view, seat_of, maker_of, place, of_loop, IsKept, IsClaimed}
 use Rattle.claims.specs.Inner.Steps.{with_opened}
 use Rattle.claims.proofs.Moves.{begins, hit, no_list, own, opens, makes_seat, joins_worker}
 
@@ -50,13 +50,13 @@ module _ {loops : ℕ} {words : List ℕ} {views : List View} (claimed : IsClaim
       }
 
   pub joins_claimed : (other : ℕ) (o : View) → ¬ (other ≡ id) → get_elem? (set views id (with_worker v o)) other ≡ some o → IsWorker o
-      → IsClaimed loops words (set (set views id (with_worker v o)) other spent)
+      → IsClaimed loops words (set (set views id (with_worker v o)) other spent_view)
   joins_claimed other o apart there idle =
       record {
         kept = joins_worker claimed.kept id v at other o apart there idle;
         others =
             λ l far.
-            part_set (λ u. u.opened) (set views id (with_worker v o)) other (l + 1) o spent (seat_of 0) there (sym idle.opened)
+            part_set (λ u. u.opened) (set views id (with_worker v o)) other (l + 1) o spent_view (seat_of 0) there (sym idle.opened)
             ∙ part_set (λ u. u.opened) views id (l + 1) v (with_worker v o) (seat_of 0) at refl ∙ claimed.others l far;
       }
 

@@ -5,8 +5,8 @@ use lib.ListN.{get_elem?}
 use Rattle.marks.specs.declared.rule.View.{View}
 use Rattle.marks.specs.Rule.{sent, taken_from, IsCounted}
 
-abbrev pub Always : (List ℕ → List View → Type 0) → Type 0
-Always law = (words : List ℕ) (views : List View) → IsCounted words views → law words views
+abbrev pub AlwaysCounted : (List ℕ → List View → Type 0) → Type 0
+AlwaysCounted law = (words : List ℕ) (views : List View) → IsCounted words views → law words views
 
 -- to each async, the sends of all seats are what its loop took and what waits in its word
 abbrev pub SentIsTakenOrWaits : List ℕ → List View → Type 0

@@ -1,7 +1,7 @@
 -- What one turn of a worker did.
 use Rattle.std.specs.Prelude.{◌≡◌, ◌≢◌, ℕ, ◌<◌, length}
 use Rattle.claims.specs.declared.seats.Ticket.{Ticket}
-use Rattle.claims.specs.Views.{WorkerView, Starts, Notes, open_word}
+use Rattle.claims.specs.Views.{WorkerView, StartsTicket, Notes, open_word}
 use Rattle.order.specs.declared.reply.Reply.{Reply}
 use Rattle.board.specs.Jobs.{ticket_of}
 use Rattle.board.specs.Boards.{BoardView, PassView, TakesJob, Puts}
@@ -35,6 +35,6 @@ module _ {J : Type 0} (ticket : J → Ticket) where
   abbrev pub DidSo : BoardView → (old new : PassView J) → (before after : WorkerView) → Did → Type 0
   DidSo board old new before after Nothing = (new ≡ old) × (after ≡ before)
   DidSo board old new before after (Dropped t) = Takes old new t × FindsNotOpen before after t
-  DidSo board old new before after (Replied t) = TakesAndPuts old new t × Starts before after t
+  DidSo board old new before after (Replied t) = TakesAndPuts old new t × StartsTicket before after t
   DidSo board old new before after (Stuck reply) = Takes old new (ticket_of reply.order)
-      × Starts before after (ticket_of reply.order) × (reply.order.loop_no < length board.replies)
+      × StartsTicket before after (ticket_of reply.order) × (reply.order.loop_no < length board.replies)

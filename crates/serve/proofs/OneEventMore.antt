@@ -32,7 +32,7 @@ use Rattle.phases.specs.Step.{LoopStep}
 use Rattle.phases.specs.View.{new_view}
 use Rattle.pool.specs.declared.seats.Seats.{Seats}
 use Rattle.serve.specs.declared.served.LoopEnding.{LoopEnding}
-use Rattle.serve.specs.Histories.{HasDone, HasEnded, HasServed, EndsBy, ThreadHistory, thread_calls, is_callback, callbacks_in, IsByThread}
+use Rattle.serve.specs.Histories.{HasDone, HasEnded, HasServed, EndsBy, ThreadHistory, thread_calls, is_callback_event, callbacks_in, IsByThread}
 use Rattle.serve.specs.Inner.Alone.{IsAlone}
 
 module _ (g : Setting) (old new : Loop Seats) (e : Event) (step : EventStep thread_calls g e old new) (own : IsByThread e old.state) where
@@ -44,8 +44,8 @@ emitted_push : (events : List Event) (e : Event) → emitted (events ++ e ∷ []
 emitted_push [] e = append-nil (emits_in e)
 emitted_push (x ∷ events) e = ap (λ xs. emits_in x ++ xs) (emitted_push events e) ∙ sym (append_assoc (emits_in x) (emitted events) (emits_in e))
 
-callbacks_push : (events : List Event) (e : Event) → callbacks_in (events ++ e ∷ []) ≡ callbacks_in events + cond (is_callback e) 1 0
-callbacks_push events e = sum_by_push (λ x. cond (is_callback x) 1 0) events e
+callbacks_push : (events : List Event) (e : Event) → callbacks_in (events ++ e ∷ []) ≡ callbacks_in events + cond (is_callback_event e) 1 0
+callbacks_push events e = sum_by_push (λ x. cond (is_callback_event x) 1 0) events e
 
 abbrev pub Does : Setting → Loop Seats → ℕ → List ℕ → Type 0
 Does g l ran emits = ∥ HasDone thread_calls g l ran emits ∥₁
@@ -68,7 +68,7 @@ tells_other bare.Failed not kind number ended is = absurd (cc)
 -- what was done, and one event more, of a loop whose setting stays
 module _ {g g' : Setting} {l m : Loop Seats} {ran : ℕ} {emits : List ℕ} (same : g' ≡ g) (was : Does g l ran emits) (alone : IsAlone m.shared.taker) where
   does_more : (ran' : ℕ) (emits' : List ℕ) (e : Event) → EventStep thread_calls g e l m → IsByThread e l.state
-      → ran' ≡ ran + cond (is_callback e) 1 0 → emits' ≡ emits ++ emits_in e → Does g' m ran' emits'
+      → ran' ≡ ran + cond (is_callback_event e) 1 0 → emits' ≡ emits ++ emits_in e → Does g' m ran' emits'
   does_more ran' emits' e step own count more = subst (λ x. Does x m ran' emits') (sym same) (∥∥₁_map was one) where
     one : HasDone thread_calls g l ran emits → HasDone thread_calls g m ran' emits'
     one h = record {
@@ -77,15 +77,15 @@ module _ {g g' : Setting} {l m : Loop Seats} {ran : ℕ} {emits : List ℕ} (sam
       events = h.events ++ e ∷ [];
       history = push g l m e step own h.events h.start h.history;
       alone = alone.3;
-      counted = count ∙ ap (λ n. n + cond (is_callback e) 1 0) h.counted ∙ sym (callbacks_push h.events e);
+      counted = count ∙ ap (λ n. n + cond (is_callback_event e) 1 0) h.counted ∙ sym (callbacks_push h.events e);
       told = more ∙ ap (λ xs. xs ++ emits_in e) h.told ∙ sym (emitted_push h.events e);
     }
 
   -- an event that is no callback
-  does_quiet : (emits' : List ℕ) (e : Event) → is_callback e ≡ false → emits_in e ≡ [] → EventStep thread_calls g e l m → IsByThread e l.state
+  does_quiet : (emits' : List ℕ) (e : Event) → is_callback_event e ≡ false → emits_in e ≡ [] → EventStep thread_calls g e l m → IsByThread e l.state
       → emits' ≡ emits → Does g' m ran emits'
   does_quiet emits' e quiet none step own kept =
-      let count : ran ≡ ran + cond (is_callback e) 1 0 = sym (add-zero ran) ∙ ap (λ b. ran + cond b 1 0) (sym quiet) in
+      let count : ran ≡ ran + cond (is_callback_event e) 1 0 = sym (add-zero ran) ∙ ap (λ b. ran + cond b 1 0) (sym quiet) in
       does_more ran emits' e step own count (kept ∙ sym (append-nil emits) ∙ ap (λ xs. emits ++ xs) (sym none))
 
   -- a step that runs a callback
@@ -101,7 +101,7 @@ module _ {g g' : Setting} {l m : Loop Seats} {ran : ℕ} {emits : List ℕ} (sam
       let it = quiet told step.0 none in
       does_quiet emits' (Stepped told m.state.emits step.0) it.0 it.1 (step.1, refl) tt kept where
         quiet : (d : StepDid) (made : List GuestCall) → RunsNone d
-            → (is_callback (Stepped d m.state.emits made) ≡ false) × (emits_in (Stepped d m.state.emits made) ≡ [])
+            → (is_callback_event (Stepped d m.state.emits made) ≡ false) × (emits_in (Stepped d m.state.emits made) ≡ [])
         quiet (did.Ran kind number ended) made none = absurd (none kind number ended refl)
         quiet (did.Entered phase now) made none = (refl, refl)
         quiet (did.Skipped kind number) made none = (refl, refl)

@@ -43,7 +43,7 @@ use Rattle.phases.specs.declared.entry.Status.{Status}
 use Rattle.phases.specs.declared.entry.Status.TheVariants.{Running, Over, Failed}
 use Rattle.pool.specs.declared.seats.Seats.{Seats}
 use Rattle.pool.specs.SeatsLaw.{seats_lawful}
-use Rattle.serve.specs.Histories.{IsActiveAsync, IsDrained, IsWaiting, thread_calls}
+use Rattle.serve.specs.Histories.{HasActiveAsync, IsDrained, IsWaiting, thread_calls}
 use Rattle.serve.specs.Inner.Turns.{enters_timers, runs, IsAtTurn, IsListed, IsToCome, Drains, GoesOn}
 use Rattle.serve.proofs.SentAlone.{emptied}
 
@@ -75,7 +75,7 @@ active_listed t n (suc k) (x ∷ xs) h =
     listed_later (is_active_handle t x) n (n + suc k) (active_from t (n + 1) xs)
     (subst (λ m. IsListed m (map (λ a. entry.Async a) (active_from t (n + 1) xs))) same (active_listed t (n + 1) k xs h))
 
-polled : (s : State) (async_no : ℕ) → IsActiveAsync s async_no → IsListed async_no (poll_list s)
+polled : (s : State) (async_no : ℕ) → HasActiveAsync s async_no → IsListed async_no (poll_list s)
 polled s async_no h =
     let same : 0 + async_no ≡ async_no = omega arith in
     listed_behind async_no (map (λ r. entry.After r.order.request) (settled s.requests)) (map (λ a. entry.Async a) (active_asyncs s.roster))
@@ -88,7 +88,7 @@ module _ {S : Type 0} (calls : Calls S) (lawful : IsLawful calls) (g : Setting) 
   -- An entry that is skipped leaves the loop, but that an active async is taken from.
   pub record IsPassed (old : Loop S) (e : Entry) (new : Loop S) : Type 0 where
     pub state : new.state ≡ old.state
-    pub here : (a : ℕ) → e ≡ entry.Async a → IsActiveAsync old.state a → untaken new a ≡ 0
+    pub here : (a : ℕ) → e ≡ entry.Async a → HasActiveAsync old.state a → untaken new a ≡ 0
     pub still : (a : ℕ) → untaken old a ≡ 0 → untaken new a ≡ 0
 
   -- An entry runs a callback, or is skipped.
@@ -189,7 +189,7 @@ module _ {S : Type 0} (calls : Calls S) (lawful : IsLawful calls) (g : Setting) 
         (handle_function old.state.roster handle) (I32 handle ∷ []) h
 
   -- an entry that is skipped, of this phase and this list
-  comes_yet : (old new : Loop S) (e : Entry) (rest : List Entry) (a : ℕ) (p : Phase) → IsPassed (in_state old (record old.state { list = rest })) e new → IsActiveAsync old.state a
+  comes_yet : (old new : Loop S) (e : Entry) (rest : List Entry) (a : ℕ) (p : Phase) → IsPassed (in_state old (record old.state { list = rest })) e new → HasActiveAsync old.state a
       → IsToCome p (e ∷ rest) a → IsToCome p rest a ⊎ (untaken new a ≡ 0)
   comes_yet old new e rest a Timers it active h = inl tt
   comes_yet old new e rest a Idle it active h = inl tt
@@ -201,7 +201,7 @@ module _ {S : Type 0} (calls : Calls S) (lawful : IsLawful calls) (g : Setting) 
 
   passed_drains : (old new : Loop S) (e : Entry) (rest : List Entry) → old.state.list ≡ e ∷ rest → IsPassed (in_state old (record old.state { list = rest })) e new → Drains calls old → Drains calls new
   passed_drains old new e rest is it drains a active =
-      let there : IsActiveAsync old.state a = subst (λ (s : State). IsActiveAsync s a) it.state active in
+      let there : HasActiveAsync old.state a = subst (λ (s : State). HasActiveAsync s a) it.state active in
       elim (drains a there) [
         | inl come ↦ moved (comes_yet old new e rest a old.state.phase it there (subst (λ list. IsToCome old.state.phase list a) is come))
         | inr none ↦ inr (it.still a none)
@@ -212,7 +212,7 @@ module _ {S : Type 0} (calls : Calls S) (lawful : IsLawful calls) (g : Setting) 
       moved (inr h) = inr h
 
   -- a phase whose list is used up
-  enters : (s : State) (p : Phase) (a : ℕ) (none : Type 0) → IsActiveAsync s a → IsToCome p [] a ⊎ none → IsToCome (next_phase p) (phase_list (in_phase s (next_phase p)) (next_phase p)) a ⊎ none
+  enters : (s : State) (p : Phase) (a : ℕ) (none : Type 0) → HasActiveAsync s a → IsToCome p [] a ⊎ none → IsToCome (next_phase p) (phase_list (in_phase s (next_phase p)) (next_phase p)) a ⊎ none
   enters s Begin a none active h = inl tt
   enters s Closing a none active h = inl tt
   enters s Timers a none active h = inl tt
@@ -257,7 +257,7 @@ module _ {S : Type 0} (calls : Calls S) (lawful : IsLawful calls) (g : Setting) 
       timers : (now : ℕ) → did ≡ Entered Timers now → next_phase old.state.phase ≡ Timers
       timers now said = (let both = sym told ∙ said in cc)
 
-      left : Drains calls old → (a : ℕ) → IsActiveAsync old.state a → IsToCome old.state.phase [] a ⊎ (untaken old a ≡ 0)
+      left : Drains calls old → (a : ℕ) → HasActiveAsync old.state a → IsToCome old.state.phase [] a ⊎ (untaken old a ≡ 0)
       left h a active = subst (λ list. IsToCome old.state.phase list a ⊎ (untaken old a ≡ 0)) empty (h a active)
 
     -- or the loop is over
@@ -366,7 +366,7 @@ handed_phase Over s = refl
 
 -- a loop that opens goes on
 pub opening_goes : {S : Type 0} (calls : Calls S) (l : Loop S) (m : Contents) (list : List Entry) → l.state ≡ opening (opening_roster m) list → GoesOn calls l 0
-opening_goes calls l m list is = (omega arith, λ a active. absurd (let it = subst (λ (s : State). IsActiveAsync s a) is active in cc))
+opening_goes calls l m list is = (omega arith, λ a active. absurd (let it = subst (λ (s : State). HasActiveAsync s a) is active in cc))
 
 -- a loop whose turn begins comes to each async yet
 pub drains_first : {S : Type 0} (calls : Calls S) (l : Loop S) (ran : ℕ) → GoesOn calls l ran → Drains calls l

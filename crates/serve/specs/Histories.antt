@@ -33,12 +33,12 @@ setting_at loaded serving loop_no = record {
 }
 
 -- how many callbacks ran in some events
-abbrev pub is_callback : Event → Bool
-is_callback (Stepped (Ran kind number ended) emits made) = true
-is_callback _ = false
+abbrev pub is_callback_event : Event → Bool
+is_callback_event (Stepped (Ran kind number ended) emits made) = true
+is_callback_event _ = false
 
 abbrev pub callbacks_in : List Event → ℕ
-callbacks_in events = count_by is_callback events
+callbacks_in events = count_by is_callback_event events
 
 -- The clock is raised only where it stands at the loop's cached now, no request is outstanding, and the loop has nothing to do
 -- for so long; and then to the moment of that.
@@ -79,13 +79,13 @@ module _ {S : Type 0} (calls : Calls S) (g : Setting) where
     pub told : emits ≡ emitted events
 
 -- the async's handle is there and active
-abbrev pub IsActiveAsync : State → (async_no : ℕ) → Type 0
-IsActiveAsync s async_no = is_active_handle s.roster.handles (async_handle s.roster async_no) ≡ true
+abbrev pub HasActiveAsync : State → (async_no : ℕ) → Type 0
+HasActiveAsync s async_no = is_active_handle s.roster.handles (async_handle s.roster async_no) ≡ true
 
 module _ {S : Type 0} (calls : Calls S) where
   -- none of the loop's own sends waits at an active async
   abbrev pub IsDrained : Loop S → Type 0
-  IsDrained now = (async_no : ℕ) → IsActiveAsync now.state async_no → slice_index (calls.view now.shared).untaken async_no ≡ 0
+  IsDrained now = (async_no : ℕ) → HasActiveAsync now.state async_no → slice_index (calls.view now.shared).untaken async_no ≡ 0
 
   -- The loop waits for what nobody does: it stands where the timers phase was entered, and no timer is due; no request is
   -- outstanding; nothing is to do for ever; and no own send waits.

@@ -7,7 +7,7 @@ ghost use Rattle.board.specs.Boards.{IsPassOf, IsEventOf};
 ghost use Rattle.marks.specs.Counts.{new_taker};
 ghost use Rattle.serve.specs.Answers.{IsServed};
 ghost use Rattle.serve.specs.Histories.{EndsBy, IsDrained, setting_at, thread_calls};
-ghost use Rattle.serve.specs.Inner.Threads.{CanGoOn, KeepsGoing, Comes};
+ghost use Rattle.serve.specs.Inner.Threads.{CanGoOn, KeepsGoing, ComesServing};
 ghost use Rattle.serve.specs.Inner.Turns.{IsAtTurn};
 
 use crate::account::Account;
@@ -103,7 +103,7 @@ impl<'a, J: Drop> LoopThread<'a, J> {
     fn until_ended<S: Serves<J>>(&mut self, service: &S) -> Result<LoopEnding, AllocError>
         requires ready { S.ready service.now }
         requires goes { CanGoOn self.old.recorded }
-        ensures ends { IfOk result (λ ending. Comes self.old.recorded (Some ending) self.new.recorded) }
+        ensures ends { IfOk result (λ ending. ComesServing self.old.recorded (Some ending) self.new.recorded) }
     {
         for _ in service.rt().forever() {
             if let Some(ending) = self.turn(service)? {
@@ -117,7 +117,7 @@ impl<'a, J: Drop> LoopThread<'a, J> {
     fn turn<S: Serves<J>>(&mut self, service: &S) -> Result<Option<LoopEnding>, AllocError>
         requires ready { S.ready service.now }
         requires goes { CanGoOn self.old.recorded }
-        ensures comes { IfOk result (λ ended. Comes self.old.recorded ended self.new.recorded) }
+        ensures comes { IfOk result (λ ended. ComesServing self.old.recorded ended self.new.recorded) }
     {
         let board = self.board;
         let heard = self.exchange_if_any(service)?;
@@ -158,7 +158,7 @@ impl<'a, J: Drop> LoopThread<'a, J> {
     ) -> Result<Option<LoopEnding>, AllocError>
         requires goes { CanGoOn self.old.recorded }
         requires heard { IfSome heard (λ h. IsEventOf board.now h.event) }
-        ensures comes { IfOk result (λ ended. Comes self.old.recorded ended self.new.recorded) }
+        ensures comes { IfOk result (λ ended. ComesServing self.old.recorded ended self.new.recorded) }
     {
         let ran = self.recorded.ran;
         let ended = self
@@ -183,7 +183,7 @@ impl<'a, J: Drop> LoopThread<'a, J> {
         requires at_turn { IsAtTurn self.old.recorded.core.loop.state }
         requires drained { IsDrained thread_calls self.old.recorded.core.loop }
         requires heard { IfSome heard (λ h. IsEventOf board.now h.event) }
-        ensures comes { Comes self.old.recorded result self.new.recorded }
+        ensures comes { ComesServing self.old.recorded result self.new.recorded }
     {
         if self.recorded.has_requests() {
             if let Some(heard) = heard {

@@ -14,5 +14,5 @@ abbrev pub KeepsGoing : (old new : Record) → Type 0
 KeepsGoing old new = (new.core.setting ≡ old.core.setting) × (CanGoOn old → CanGoOn new)
 
 -- the setting stays, and the loop has ended so with a turn, or goes on
-abbrev pub Comes : (old : Record) → Option LoopEnding → (new : Record) → Type 0
-Comes old ended new = (new.core.setting ≡ old.core.setting) × ComesTo thread_calls ended new.core.loop new.ran
+abbrev pub ComesServing : (old : Record) → Option LoopEnding → (new : Record) → Type 0
+ComesServing old ended new = (new.core.setting ≡ old.core.setting) × ComesTo thread_calls ended new.core.loop new.ran

@@ -11,7 +11,7 @@ use Rattle.phases.specs.declared.did.BareDid.TheVariants as did
 use Rattle.phases.specs.declared.entry.Entry.{Entry}
 use Rattle.phases.specs.declared.entry.Entry.TheVariants as entry
 use Rattle.serve.specs.declared.served.LoopEnding.{LoopEnding}
-use Rattle.serve.specs.Histories.{IsActiveAsync, EndsBy}
+use Rattle.serve.specs.Histories.{HasActiveAsync, EndsBy}
 
 -- a step has entered the timers phase
 abbrev pub enters_timers : BareDid → Bool
@@ -42,12 +42,12 @@ IsToCome _ list async_no = ⊥
 module _ {S : Type 0} (calls : Calls S) where
   -- at each active async no own send waits, or the turn comes to it yet
   abbrev pub Drains : Loop S → Type 0
-  Drains l = (async_no : ℕ) → IsActiveAsync l.state async_no
+  Drains l = (async_no : ℕ) → HasActiveAsync l.state async_no
       → IsToCome l.state.phase l.state.list async_no ⊎ (slice_index (calls.view l.shared).untaken async_no ≡ 0)
 
   -- the loop may run callbacks yet, and a turn begins: it stands in the timers phase, unless it has no asyncs yet
   abbrev pub GoesOn : (now : Loop S) → (ran : ℕ) → Type 0
-  GoesOn now ran = (ran < MAX_CALLBACKS) × ((async_no : ℕ) → IsActiveAsync now.state async_no → now.state.phase ≡ Timers)
+  GoesOn now ran = (ran < MAX_CALLBACKS) × ((async_no : ℕ) → HasActiveAsync now.state async_no → now.state.phase ≡ Timers)
 
   -- the loop has ended so with a step, or may run callbacks yet
   abbrev pub StepsTo : Option LoopEnding → (now : Loop S) → (ran : ℕ) → Type 0

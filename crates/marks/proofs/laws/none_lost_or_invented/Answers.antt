@@ -1,17 +1,17 @@
 use Rattle.std.proofs.Common.{◌≡◌, ◌+◌, ◌*◌, ◌≤◌, slice_index, sum_by, arith}
 use Rattle.limits.specs.declared.TheConstants.{MAX_SEND_SEATS, MAX_SENDS}
 use Rattle.marks.specs.Rule.{sent, taken_from}
-use Rattle.marks.specs.Laws.{Always, EachIsCounted, WordsFit}
+use Rattle.marks.specs.Laws.{AlwaysCounted, EachIsCounted, WordsFit}
 use Rattle.marks.proofs.Moves.{at-le-sum_by, sent-within}
 use Rattle.marks.proofs.laws.none_lost_or_invented.Goals as goal
 
-each : Always EachIsCounted
+each : AlwaysCounted EachIsCounted
 each words views kept a seat v at =
     let all : sum_by (sent a) views ≡ taken_from a views + slice_index words a = kept.sends a in
     let part : sent a v ≤ sum_by (sent a) views = at-le-sum_by (sent a) views seat v at in
     omega arith
 
-fit : Always WordsFit
+fit : AlwaysCounted WordsFit
 fit words views kept a =
     let all : sum_by (sent a) views ≡ taken_from a views + slice_index words a = kept.sends a in
     let most : sum_by (sent a) views ≤ (MAX_SEND_SEATS + 1) * MAX_SENDS = sent-within words views kept a in

@@ -1,6 +1,7 @@
 // The state of a loop, and what it answers to its guest.
 
 ghost use Rattle.std.specs.Prelude.{◌≡◌, ◌↔◌, ◌≤◌, ◌<◌, ◌^◌, ◌||◌, if◌then◌else◌, [], Some, None, true, false, length, max, IsTrue, IfOk, IfErr, IfSome, OnOk, option_map};
+ghost use Rattle.limits.specs.declared.TheConstants.{MAX_EMITS};
 ghost use Rattle.handles.specs.Table.{empty_table};
 ghost use Rattle.instance.specs.Reads.{with_bytes};
 ghost use Rattle.order.specs.Uv.Bytes.{input_length, copied_in};

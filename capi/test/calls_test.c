@@ -4,43 +4,8 @@
  * usage: calls_test FOLDER      (examples/ of this repository)
  */
 #include <pthread.h>
-#include <stdio.h>
-#include <stdlib.h>
 #include <string.h>
-#include "wasmloop.h"
-
-static unsigned checks, failed;
-static const char *folder;
-
-#define IS(got, want) is(__LINE__, #got, (long long)(got), (long long)(want))
-static void is(int line, const char *what, long long got, long long want) {
-    checks++;
-    if (got == want) return;
-    failed++;
-    printf("line %d: %s is %lld, not %lld\n", line, what, got, want);
-}
-
-static uint8_t bytes[1 << 21];
-
-static size_t read_file(const char *name) {
-    char path[4096];
-    snprintf(path, sizeof path, "%s/%s", folder, name);
-    FILE *file = fopen(path, "rb");
-    if (!file) {
-        printf("%s can't be read\n", path);
-        exit(1);
-    }
-    size_t length = fread(bytes, 1, sizeof bytes, file);
-    fclose(file);
-    return length;
-}
-
-static wasmloop_handle module_of(const char *name) {
-    wasmloop_handle module = WASMLOOP_HANDLE_INIT;
-    wasmloop_fault fault;
-    IS(wasmloop_load(bytes, read_file(name), &module, &fault), WASMLOOP_OK);
-    return module;
-}
+#include "checks.h"
 
 static const wasmloop_limits usual = { 1000000, 1000000, 0, 64 };
 
@@ -797,7 +762,5 @@ int main(int argc, char **argv) {
     requests();
     turns();
     orders();
-    if (failed) printf("%u of %u checks fail\n", failed, checks);
-    else printf("all %u checks hold\n", checks);
-    return failed != 0;
+    return all_hold();
 }

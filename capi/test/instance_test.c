@@ -1,27 +1,6 @@
 /* Instances that are kept, right and wrong calls. usage: instance_test FOLDER (kv.wasm, start.wasm, fails.wasm, plain.wasm) */
-#include "wasmloop.h"
-#include <stdio.h>
-#include <stdlib.h>
 #include <string.h>
-
-static const char *folder;
-static int wrong, checks;
-#define IS(got, wanted) do { checks++; long long g_ = (long long)(got), w_ = (long long)(wanted); \
-    if (g_ != w_) { wrong++; printf("%s:%d: %s is %lld, not %lld\n", __FILE__, __LINE__, #got, g_, w_); } } while (0)
-
-static wasmloop_handle module_of(const char *name) {
-    static uint8_t bytes[1 << 20];
-    char path[512];
-    wasmloop_handle module = WASMLOOP_HANDLE_INIT;
-    wasmloop_fault fault;
-    snprintf(path, sizeof path, "%s/%s", folder, name);
-    FILE *file = fopen(path, "rb");
-    if (!file) { perror(path); exit(1); }
-    size_t length = fread(bytes, 1, sizeof bytes, file);
-    fclose(file);
-    IS(wasmloop_load(bytes, length, &module, &fault), WASMLOOP_OK);
-    return module;
-}
+#include "checks.h"
 
 static const wasmloop_call_limits limits = { 1000000, 64, 0 };
 static wasmloop_ended ended;
@@ -49,7 +28,7 @@ static void returns(wasmloop_handle *it, const char *name, size_t count, uint64_
 
 static void stateful(void) {
     wasmloop_handle module = module_of("kv.wasm"), it = WASMLOOP_HANDLE_INIT, two = WASMLOOP_HANDLE_INIT;
-    uint64_t bytes;
+    uint64_t size;
     blank();
     IS(wasmloop_instance(&module, &limits, &it, &ended), WASMLOOP_OK);
     IS(ended.ending, WASMLOOP_RETURN);
@@ -120,26 +99,26 @@ static void stateful(void) {
     IS(ended.ending, WASMLOOP_SPENT);
     IS(ended.used, 0);
     /* memory */
-    IS(wasmloop_size(&it, &bytes), WASMLOOP_OK);
-    uint64_t first = bytes;
+    IS(wasmloop_size(&it, &size), WASMLOOP_OK);
+    uint64_t first = size;
     IS(call(&it, "grow", 1, 1, 0), WASMLOOP_OK);
     IS(ended.result[0], first / 65536);
-    IS(wasmloop_size(&it, &bytes), WASMLOOP_OK);
-    IS(bytes, first + 65536);
+    IS(wasmloop_size(&it, &size), WASMLOOP_OK);
+    IS(size, first + 65536);
     memcpy(text, "abcdefgh", 8);
-    IS(wasmloop_write(&it, (uint32_t)bytes - 8, text, 8), WASMLOOP_OK);
+    IS(wasmloop_write(&it, (uint32_t)size - 8, text, 8), WASMLOOP_OK);
     memset(text, 0, 8);
-    IS(wasmloop_read(&it, (uint32_t)bytes - 8, text, 8), WASMLOOP_OK);
+    IS(wasmloop_read(&it, (uint32_t)size - 8, text, 8), WASMLOOP_OK);
     IS(memcmp(text, "abcdefgh", 8), 0);
     memset(text, '.', 8);
-    IS(wasmloop_read(&it, (uint32_t)bytes - 7, text, 8), WASMLOOP_RANGE);
+    IS(wasmloop_read(&it, (uint32_t)size - 7, text, 8), WASMLOOP_RANGE);
     IS(memcmp(text, "........", 8), 0);
-    IS(wasmloop_write(&it, (uint32_t)bytes - 7, text, 8), WASMLOOP_RANGE);
-    IS(wasmloop_read(&it, (uint32_t)bytes - 8, text, 8), WASMLOOP_OK);
+    IS(wasmloop_write(&it, (uint32_t)size - 7, text, 8), WASMLOOP_RANGE);
+    IS(wasmloop_read(&it, (uint32_t)size - 8, text, 8), WASMLOOP_OK);
     IS(memcmp(text, "abcdefgh", 8), 0);
-    IS(wasmloop_read(&it, (uint32_t)bytes, NULL, 0), WASMLOOP_OK);
-    IS(wasmloop_read(&it, (uint32_t)bytes + 1, NULL, 0), WASMLOOP_RANGE);
-    IS(wasmloop_write(&it, (uint32_t)bytes, NULL, 0), WASMLOOP_OK);
+    IS(wasmloop_read(&it, (uint32_t)size, NULL, 0), WASMLOOP_OK);
+    IS(wasmloop_read(&it, (uint32_t)size + 1, NULL, 0), WASMLOOP_RANGE);
+    IS(wasmloop_write(&it, (uint32_t)size, NULL, 0), WASMLOOP_OK);
     IS(wasmloop_read(&it, UINT32_MAX, text, 8), WASMLOOP_RANGE);
     IS(wasmloop_write(&it, UINT32_MAX, text, 8), WASMLOOP_RANGE);
     IS(wasmloop_read(&it, 0, text, SIZE_MAX), WASMLOOP_RANGE);
@@ -326,6 +305,5 @@ int main(int argc, char **argv) {
     IS(strcmp(wasmloop_status_name(WASMLOOP_NOT_STARTED), "NOT_STARTED"), 0);
     IS(strcmp(wasmloop_status_name(WASMLOOP_ARGUMENTS), "ARGUMENTS"), 0);
     IS(wasmloop_status_name(13) == NULL, 1);
-    printf("instance_test: %d checks, %d wrong\n", checks, wrong);
-    return wrong != 0;
+    return all_hold();
 }

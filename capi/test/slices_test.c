@@ -3,38 +3,8 @@
  *
  * usage: slices_test FOLDER      (examples/ of this repository)
  */
-#include <stdio.h>
-#include <stdlib.h>
 #include <string.h>
-#include "wasmloop.h"
-
-static unsigned checks, failed;
-static const char *folder;
-
-#define IS(got, want) is(__LINE__, #got, (long long)(got), (long long)(want))
-static void is(int line, const char *what, long long got, long long want) {
-    checks++;
-    if (got == want) return;
-    failed++;
-    printf("line %d: %s is %lld, not %lld\n", line, what, got, want);
-}
-
-static wasmloop_handle module_of(const char *name) {
-    static uint8_t bytes[1 << 20];
-    char path[4096];
-    wasmloop_handle module = WASMLOOP_HANDLE_INIT;
-    wasmloop_fault fault;
-    snprintf(path, sizeof path, "%s/%s", folder, name);
-    FILE *file = fopen(path, "rb");
-    if (!file) {
-        printf("%s can't be read\n", path);
-        exit(1);
-    }
-    size_t length = fread(bytes, 1, sizeof bytes, file);
-    fclose(file);
-    IS(wasmloop_load(bytes, length, &module, &fault), WASMLOOP_OK);
-    return module;
-}
+#include "checks.h"
 
 /* what is told of a job that is over */
 struct told {
@@ -167,7 +137,5 @@ int main(int argc, char **argv) {
     }
     paused();
     dropped();
-    if (failed) return 1;
-    printf("all %u checks hold\n", checks);
-    return 0;
+    return all_hold();
 }

@@ -163,6 +163,8 @@ def other_numbers(sources):
         yield CRATE, name, int(value)
     for kind, variant, value in re.findall(rf"\b({'|'.join(VARIANTS)})::(\w+)(?:\([^()]*\))? => \(?(\d+)\b", crate):
         yield CRATE, VARIANTS[kind] + snake(variant).upper().removeprefix("NO_"), int(value)
+    for kind, variant, name in re.findall(rf"\b({'|'.join(VARIANTS)})::(\w+)(?:\([^()]*\))? => \(?([A-Z_]+)\b", crate):
+        yield CRATE, VARIANTS[kind] + snake(variant).upper(), c_numbers(sources).get(name)
     for names, numbers in re.findall(r"^([A-Z_]+(?:, [A-Z_]+)+) = range\(([\d, ]+)\)", sources.text(PYTHON), re.M):
         yield from ((PYTHON, name, value) for name, value in zip(names.split(", "), range(*map(int, numbers.split(",")))))
     for name, value in re.findall(r"const ([A-Z_]+): [ui]32 = (\d+);", sources.plain(RUST)):
@@ -380,7 +382,8 @@ PLANTED = [
     ("a width in Rust", RUST, r"pub fuel: u64", "pub fuel: u32"),
     ("a word of a call in Rust", RUST, r"(fn wasmloop_clock\(handle: \*mut Handle, ms: )u64", r"\1u32"),
     ("a status of the crate", f"{CRATE}/src/status.rt", r"(pub const RANGE: u32 = )\d+", r"\g<1>7"),
-    ("the number of a kind in the crate", f"{CRATE}/src/did.rt", r"(EntryKind::Timer => )\d", r"\g<1>9"),
+    ("the number of a kind in the crate", f"{CRATE}/src/did.rt", r"(pub const RUN_TIMER: u32 = )\d", r"\g<1>9"),
+    ("the kind of a number in the crate", f"{CRATE}/src/did.rt", r"(EntryKind::Timer => )RUN_TIMER", r"\g<1>RUN_IDLE"),
     ("the name of a field in the crate", f"{CRATE}/src/work.rt", r"pub slot: u32", "pub place: u32"),
     ("the version in Rust", "capi/rust/Cargo.toml", r'(?m)(^version = ")', r"\g<1>1"),
     ("the version of the program", None, r'(\.version\(")', r"\g<1>1"),

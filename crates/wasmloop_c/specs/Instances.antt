@@ -19,7 +19,7 @@ use Rattle.wasmloop_c.specs.declared.thing.Thing.TheVariants as thing
 
 -- the instance that a thing is
 abbrev pub resident_of : Thing → Option Kept
-resident_of (thing.Resident resident) = Some resident.value
+resident_of (thing.Resident resident) = Some resident
 resident_of _ = None
 
 -- a call on what a handle has: where that is no instance it stays, and the status says so, and `Same` holds
@@ -46,15 +46,17 @@ OpensOver m limits told b = (ended : Ended) × Opens m limits told ended b × Ha
 abbrev pub OpensNone : Loaded → CallLimits → CallEnded → Type 0
 OpensNone m limits told = (ended : Ended) × (b : Kept) × Opens m limits told ended b × ¬ HasReturned ended.ending
 
--- the function of this name, which takes these numbers, is called
-pub record CallsNamed (a : Kept) (name numbers : List ℕ) (limits : CallLimits) (ended : Ended) (b : Kept) : Type 0 where
-  pub function : ℕ
+-- the function of this name takes these numbers, as these arguments
+pub record TakesNumbers (a : Kept) (name numbers : List ℕ) (function : ℕ) (args : List Value) : Type 0 where
   pub type : FuncType
-  pub args : List Value
   pub named : ExportsFirst a.loaded.contents name function
   pub typed : HasFunctionType a.loaded.contents function type
   pub given : values_of type.params numbers ≡ Some args
-  pub calls : Calls a limits.depth limits.fuel function args ended b
+
+-- the function of this name, which takes these numbers, is called
+abbrev pub CallsNamed : Kept → (name numbers : List ℕ) → CallLimits → Ended → Kept → Type 0
+CallsNamed a name numbers limits ended b =
+    (function : ℕ) × (args : List Value) × TakesNumbers a name numbers function args × Calls a limits.depth limits.fuel function args ended b
 
 -- the function of this name takes other numbers
 pub record TakesOthers (a : Kept) (name numbers : List ℕ) : Type 0 where
@@ -64,13 +66,18 @@ pub record TakesOthers (a : Kept) (name numbers : List ℕ) : Type 0 where
   pub typed : HasFunctionType a.loaded.contents function type
   pub others : values_of type.params numbers ≡ None
 
+-- why there is no such call: no function of this name, or one that takes other numbers, or no memory
+abbrev pub IsNoCall : Kept → (name numbers : List ℕ) → (status : ℕ) → Type 0
+IsNoCall a name numbers status =
+    ((status ≡ NONE) × ExportsNoFunction a.loaded.contents name)
+    ⊎ ((status ≡ ARGUMENTS) × TakesOthers a name numbers)
+    ⊎ (status ≡ MEMORY)
+
 -- A call by name. Where it is not made, nothing changes.
 abbrev pub CallsBy : Kept → (name numbers : List ℕ) → CallLimits → (old told : CallEnded) → (status : ℕ) → Kept → Type 0
 CallsBy a name numbers limits old told status b =
     ((status ≡ OK) × ((ended : Ended) × CallsNamed a name numbers limits ended b × (told ≡ call_numbers ended)))
-    ⊎ ((status ≡ NONE) × ExportsNoFunction a.loaded.contents name × (b ≡ a) × (told ≡ old))
-    ⊎ ((status ≡ ARGUMENTS) × TakesOthers a name numbers × (b ≡ a) × (told ≡ old))
-    ⊎ ((status ≡ MEMORY) × (b ≡ a) × (told ≡ old))
+    ⊎ (IsNoCall a name numbers status × (b ≡ a) × (told ≡ old))
 
 -- bytes of its memory, as many as there is room for, where they are all there
 abbrev pub ReadsMemory : Kept → (at : ℕ) → (old new : List ℕ) → (status : ℕ) → Kept → Type 0

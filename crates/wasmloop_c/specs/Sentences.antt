@@ -1,7 +1,9 @@
 -- What is said in words: where something stopped, and what a module lacks. No clause says which words.
-use Rattle.std.specs.Prelude.{◌≡◌, ◌≢◌, ◌⊎◌, ℕ, List, length, MatchOption}
+use Rattle.std.specs.Prelude.{◌≡◌, ◌≢◌, ◌⊎◌, ℕ, Bool, true, false, List, length, Option, is_some, MatchOption}
 use Rattle.std.specs.Arc.{arc_value}
+use Rattle.order.specs.Trails.{Innermost}
 use Rattle.wasmloop_c.specs.Calls.{copied, module_of}
+use Rattle.wasmloop_c.specs.Sites.{IsStopOf}
 use Rattle.wasmloop_c.specs.declared.status.TheConstants.{OK, NONE, KIND, MEMORY, REFUSED}
 use Rattle.wasmloop_c.specs.declared.thing.Thing.{Thing}
 use Rattle.wasmloop_c.specs.declared.thing.Thing.TheVariants as thing
@@ -14,18 +16,24 @@ CopiesWords old new count = (words : List ℕ) × (new ≡ copied words old) × 
 abbrev pub Untold : (old new : List ℕ) → (before count : ℕ) → Type 0
 Untold old new before count = (new ≡ old) × (count ≡ before)
 
--- A place in a module of its own bytes is said where these are they; REFUSED says that they are others.
-abbrev pub TellsPlaceIn : (own bytes old new : List ℕ) → (before count status : ℕ) → Type 0
-TellsPlaceIn own bytes old new before count status =
-    ((status ≡ OK) × (bytes ≡ own) × CopiesWords old new count)
-    ⊎ ((status ≡ REFUSED) × (bytes ≢ own) × Untold old new before count)
-    ⊎ (((status ≡ NONE) ⊎ (status ≡ MEMORY)) × Untold old new before count)
+-- NONE says that nothing stopped, and is answered nowhere else. A place in a module of its own bytes is said where these are they; REFUSED
+-- says that they are others.
+abbrev pub TellsPlaceIn : (has_stopped : Bool) → (own bytes old new : List ℕ) → (before count status : ℕ) → Type 0
+TellsPlaceIn has_stopped own bytes old new before count status =
+    ((has_stopped ≡ false) × (status ≡ NONE) × Untold old new before count)
+    ⊎ ((has_stopped ≡ true) × (status ≡ OK) × (bytes ≡ own) × CopiesWords old new count)
+    ⊎ ((has_stopped ≡ true) × (status ≡ REFUSED) × (bytes ≢ own) × Untold old new before count)
+    ⊎ ((has_stopped ≡ true) × (status ≡ MEMORY) × Untold old new before count)
 
 -- the bytes are those of a loop's module, of a job's that was run, or of an instance's
 abbrev pub TellsPlace : Thing → (bytes old new : List ℕ) → (before count status : ℕ) → Type 0
-TellsPlace (thing.Loop held) bytes old new before count status = TellsPlaceIn held.core.value.setting.loaded.bytes bytes old new before count status
-TellsPlace (thing.Answered told) bytes old new before count status = TellsPlaceIn (arc_value told.reply.order.module).bytes bytes old new before count status
-TellsPlace (thing.Resident resident) bytes old new before count status = TellsPlaceIn resident.value.loaded.bytes bytes old new before count status
+TellsPlace (thing.Loop held) bytes old new before count status =
+    (stop : Option Innermost) × IsStopOf held.core.value.setting held.core.value.loop.store stop
+    × TellsPlaceIn (is_some stop) held.core.value.setting.loaded.bytes bytes old new before count status
+TellsPlace (thing.Answered told) bytes old new before count status =
+    TellsPlaceIn (is_some told.trail) (arc_value told.reply.order.module).bytes bytes old new before count status
+TellsPlace (thing.Resident resident) bytes old new before count status =
+    TellsPlaceIn (is_some resident.stop) resident.loaded.bytes bytes old new before count status
 TellsPlace (thing.Asked order) bytes old new before count status = (status ≡ NONE) × Untold old new before count
 TellsPlace other bytes old new before count status = (status ≡ KIND) × Untold old new before count
 

@@ -42,6 +42,6 @@ abbrev pub ReadsStop : Thing → (old new : List Site) → (before count status 
 ReadsStop (thing.Loop held) old new before count status =
     (stop : Option Innermost) × IsStopOf held.core.value.setting held.core.value.loop.store stop × TellsStop stop old new before count status
 ReadsStop (thing.Answered told) old new before count status = TellsStop told.trail old new before count status
-ReadsStop (thing.Resident resident) old new before count status = TellsStop (option_map whole resident.value.stop) old new before count status
+ReadsStop (thing.Resident resident) old new before count status = TellsStop (option_map whole resident.stop) old new before count status
 ReadsStop (thing.Asked order) old new before count status = TellsStop None old new before count status
 ReadsStop other old new before count status = (status ≡ KIND) × (new ≡ old) × (count ≡ before)

@@ -1,11 +1,12 @@
 // Instances that are kept from call to call.
 
-ghost use Rattle.std.specs.Prelude.{◌≡◌, ◌≤◌, ◌<◌, ◌↔◌, ◌⊎◌, Some, None, length, IfOk, IsSomeAnd, MatchOption};
+ghost use Rattle.std.specs.Prelude.{◌≡◌, ◌≤◌, ◌<◌, ◌↔◌, ◌⊎◌, Some, None, length, IfOk, IfErr, IsSomeAnd, MatchOption};
 ghost use Rattle.std.specs.Arc.{arc_value};
 ghost use Rattle.limits.specs.declared.TheConstants.{MAX_DEPTH};
+ghost use Rattle.reduction.specs.Invoking.{TakesArguments};
 ghost use Rattle.resident.specs.Calls.{IsNew};
 ghost use Rattle.wasmloop_c.specs.Calls.{AnswersIn, IsDepth, ReadsHandle, module_of};
-ghost use Rattle.wasmloop_c.specs.Instances.{OnResident, OnHeldResident, OpensOver, OpensNone, CallsBy, ReadsMemory, WritesMemory, resident_of};
+ghost use Rattle.wasmloop_c.specs.Instances.{OnResident, OnHeldResident, OpensOver, OpensNone, TakesNumbers, IsNoCall, CallsBy, ReadsMemory, WritesMemory, resident_of};
 
 use crate::ended::{CallEnded, values};
 use crate::handle::{Handle, on};
@@ -17,6 +18,7 @@ use limits::MAX_DEPTH;
 use resident::Resident;
 use std::alloc::{AllocError, Global};
 use std::sync::Arc;
+use syntax::types::Value;
 
 /// What a call may use.
 #[repr(C)]
@@ -34,12 +36,12 @@ pub struct CallLimits {
 fn opened(
     alloc: Global,
     linked: &Arc<Linked, Global>,
-) -> Result<(Box<Thing, Global>, Box<Resident, Global>), AllocError>
-    ensures { IfOk result (λ made. IsNew (arc_value linked.now) made.1.value) }
+) -> Result<(Box<Thing, Global>, Resident), AllocError>
+    ensures { IfOk result (λ made. IsNew (arc_value linked.now) made.1) }
 {
     let room = Box::new(alloc, Thing::Gone)?;
     let resident = Resident::new(alloc, Arc::try_clone(linked)?)?;
-    Ok((room, Box::new(alloc, resident)?))
+    Ok((room, resident))
 }
 
 fn open(
@@ -100,6 +102,30 @@ pub extern "C" fn wasmloop_rt_instance(
     on!(module, alloc, held => open(alloc, &held, limits, handle, told))
 }
 
+/// The function of this name with these arguments, or the status that says why there is no such call.
+#[tactic(auto, using(crate::proofs::ValuesRead::takes))]
+pub fn named(
+    alloc: Global,
+    resident: &Resident,
+    name: &[u8],
+    numbers: &[u64],
+) -> Result<(u32, Vec<Value>), u32>
+    ensures named { IfOk result (λ found. TakesNumbers resident.now name.now numbers.now found.0 found.1.items) }
+    ensures typed { IfOk result (λ found. TakesArguments resident.now.loaded.contents found.0 found.1.items) }
+    ensures refused { IfErr result (IsNoCall resident.now name.now numbers.now) }
+{
+    let Some((function, func_type)) = resident.function(name) else {
+        return Err(NONE);
+    };
+    let Ok(made) = values(alloc, func_type.params.as_slice(), numbers) else {
+        return Err(MEMORY);
+    };
+    match made {
+        Some(args) => Ok((function, args)),
+        None => Err(ARGUMENTS),
+    }
+}
+
 fn call_on(
     alloc: Global,
     resident: &mut Resident,
@@ -111,14 +137,9 @@ fn call_on(
     requires { (1 ≤ limits.depth) × (limits.depth ≤ MAX_DEPTH) }
     ensures { CallsBy resident.old name.now numbers.now limits told.old told.new result resident.new }
 {
-    let Some((function, func_type)) = resident.function(name) else {
-        return NONE;
-    };
-    let Ok(made) = values(alloc, func_type.params.as_slice(), numbers) else {
-        return MEMORY;
-    };
-    let Some(args) = made else {
-        return ARGUMENTS;
+    let (function, args) = match named(alloc, resident, name, numbers) {
+        Ok(found) => found,
+        Err(status) => return status,
     };
     let ended = resident.call(function, args.as_slice(), limits.fuel, limits.depth);
     *told = CallEnded::of(&ended);

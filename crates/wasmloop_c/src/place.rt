@@ -1,6 +1,6 @@
 // Where a loop's last callback stopped, or a job, or an instance's last call, in words.
 
-ghost use Rattle.std.specs.Prelude.{◌≡◌};
+ghost use Rattle.std.specs.Prelude.{◌≡◌, is_some};
 ghost use Rattle.wasmloop_c.specs.Calls.{ReadsHandle};
 ghost use Rattle.wasmloop_c.specs.Sentences.{Untold, TellsPlace, TellsPlaceIn};
 
@@ -13,7 +13,9 @@ use order::Trail;
 use sentences::tell_place;
 use std::alloc::{AllocError, Global};
 
-fn trail_of(stop: Option<Stop<'_>>) -> Option<Trail> {
+fn trail_of(stop: Option<Stop<'_>>) -> Option<Trail>
+    ensures { is_some result ≡ is_some stop.entry }
+{
     Some(Trail::of(&stop?))
 }
 
@@ -35,7 +37,7 @@ fn tell(
     into: &mut [u8],
     count: &mut u64,
 ) -> u32
-    ensures { TellsPlaceIn own.now bytes.now into.old into.new count.old count.new result }
+    ensures { TellsPlaceIn (is_some trail.entry) own.now bytes.now into.old into.new count.old count.new result }
 {
     let Some(trail) = trail else {
         return NONE;

@@ -5,13 +5,12 @@ ghost use Rattle.order.specs.Slices.{Goes};
 ghost use Rattle.wasmloop_c.specs.Calls.{OnHandle};
 ghost use Rattle.wasmloop_c.specs.Slices.{Begins, LeftBy, RunsFor};
 
-use crate::handle::Handle;
+use crate::handle::{Handle, through};
 use crate::job::Job;
-use crate::status::{EMPTY, KIND, OK, RANGE};
+use crate::status::{KIND, OK, RANGE};
 use crate::thing::Thing;
 use order::{Going, Told};
 use std::alloc::Global;
-use std::mem::replace;
 
 /// The first slice of a job.
 fn begin(alloc: Global, job: Job, units: u64) -> Going
@@ -66,11 +65,5 @@ pub extern "C" fn wasmloop_rt_job_run_for(
     if units < 1 {
         return RANGE;
     }
-    let Some(mut held) = job.take(alloc) else {
-        return EMPTY;
-    };
-    let (thing, status) = run_for(alloc, replace(&mut *held, Thing::Gone), units, over);
-    *held = thing;
-    job.put(alloc, held);
-    status
+    through!(job, alloc, thing => run_for(alloc, thing, units, over))
 }

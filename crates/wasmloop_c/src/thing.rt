@@ -22,7 +22,7 @@ pub enum Thing {
     /// A job with the reply, what its run used and where it stopped.
     Answered(Told),
     /// An instance that is kept from call to call.
-    Resident(Box<Resident, Global>),
+    Resident(Resident),
     /// Nothing, while a call is at work.
     Gone,
 }

@@ -1,17 +1,18 @@
 // Jobs: what a loop asks for, and in time the reply.
 
-ghost use Rattle.std.specs.Prelude.{◌≡◌, ◌⊎◌, None, IsNone, IsSomeAnd, IfSome};
+ghost use Rattle.std.specs.Prelude.{◌≡◌, ◌≢◌, ◌⊎◌, [], None, IsNone, IsSomeAnd, IfSome, IfOk, IfErr};
 ghost use Rattle.wasmloop_c.specs.Calls.{OnHandle, OnLoop, OnHeldLoop, ReadsHandle, HandsOut, Runs, Starts, Offers, OffersHeld, Tells, left_in};
 ghost use Rattle.wasmloop_c.specs.declared.thing.Thing.TheVariants.{Gone};
 ghost use Rattle.wasmloop_c.specs.Numbers.{about_order, about_told, outcome_numbers};
 
-use crate::handle::{Handle, on};
+use crate::handle::{Handle, on, through};
 use crate::job::Job;
 use crate::status::{EMPTY, KIND, MEMORY, NONE, OK, STRANGER};
 use crate::thing::Thing;
+use desk::Desk;
 use order::{Order, Outcome, Told};
-use phases::Accepted;
-use std::alloc::Global;
+use phases::{Accepted, LoopCore};
+use std::alloc::{AllocFailed, Global};
 use std::mem::replace;
 
 /// What a job is about.
@@ -79,6 +80,31 @@ fn of_told(told: &Told) -> About
     }
 }
 
+/// Hands out the next request in the room that was made for it. `MEMORY` where that was refused, and nowhere else.
+fn hand_out(
+    alloc: Global,
+    core: &mut LoopCore<Desk>,
+    made: Result<Box<Thing, Global>, AllocFailed<Thing>>,
+    job: &mut Handle,
+) -> u32
+    requires outstanding { core.old.loop.state.requests.outstanding ≢ [] }
+    requires empty { job.old.raw.value ≡ None }
+    ensures hands_out { HandsOut core.old core.new job.new.raw.value result }
+    ensures setting { core.new.setting ≡ core.old.setting }
+    ensures made { IfOk made (λ _. result ≢ MEMORY) }
+    ensures refused { IfErr made (λ _. result ≡ MEMORY) }
+{
+    let Ok(mut room) = made else {
+        return MEMORY;
+    };
+    let Some(order) = core.next_order() else {
+        return NONE;
+    };
+    *room = Thing::Asked(Job::new(order));
+    job.put(alloc, room);
+    OK
+}
+
 fn next_job(alloc: Global, thing: &mut Thing, job: &mut Handle) -> u32
     requires { job.old.raw.value ≡ None }
     ensures { OnLoop thing.old thing.new result (job.new.raw.value ≡ None) (λ c d. HandsOut c d job.new.raw.value result) }
@@ -89,15 +115,8 @@ fn next_job(alloc: Global, thing: &mut Thing, job: &mut Handle) -> u32
     if held.core.outstanding() == 0 {
         return NONE;
     }
-    let Ok(mut room) = Box::new(alloc, Thing::Gone) else {
-        return MEMORY;
-    };
-    let Some(order) = held.core.next_order() else {
-        return NONE;
-    };
-    *room = Thing::Asked(Job::new(order));
-    job.put(alloc, room);
-    OK
+    let room = Box::new(alloc, Thing::Gone);
+    hand_out(alloc, &mut held.core, room, job)
 }
 
 /// Takes the loop's lowest request that is not handed out yet, as a job in an empty handle.
@@ -121,20 +140,12 @@ fn run(alloc: Global, thing: Thing) -> (Thing, u32)
     }
 }
 
-fn run_in_place(alloc: Global, thing: &mut Thing) -> u32
-    ensures { Runs thing.old thing.new result }
-{
-    let (left, status) = run(alloc, replace(thing, Thing::Gone));
-    *thing = left;
-    status
-}
-
 /// Runs a job.
 #[unsafe(no_mangle)]
 pub extern "C" fn wasmloop_rt_job_run(alloc: Global, job: &mut Handle) -> u32
     ensures { OnHandle job.old.raw.value job.new.raw.value result (Unit {0}) (λ t u. Runs t u result) }
 {
-    on!(job, alloc, held => run_in_place(alloc, &mut held))
+    through!(job, alloc, thing => run(alloc, thing))
 }
 
 fn tell_about(thing: &Thing, about: &mut About) -> u32

@@ -16,7 +16,7 @@ use Rattle.events.specs.declared.phase.EntryKind.TheVariants as kind
 use Rattle.phases.specs.Guests.{GuestCall}
 use Rattle.phases.specs.History.{Event, History, IsOpening}
 use Rattle.phases.specs.Laws.{WasAsked, AreDue}
-use Rattle.phases.specs.Laws.{IsAfterOnce as LoopOnce, IsAfterOwn as LoopOwn, IsAfterLast as LoopLast, IsCancelledInLog as LoopCancelled}
+use Rattle.phases.specs.Laws.{IsAfterOnce as LoopOnce, IsAfterOwn as LoopOwn, IsAfterLast as LoopLast, WasCancelled as LoopCancelled}
 use Rattle.phases.specs.Outside.{is_failed, next_order_of}
 use Rattle.phases.specs.Requests.{Completion}
 use Rattle.phases.specs.State.{Setting, State, Loop, Core}

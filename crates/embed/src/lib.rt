@@ -4,6 +4,7 @@
 //! refused them. A guest lives on a `LoopCore`: over a `Desk` where the embedder drives it in one thread, `step` by `step`, runs
 //! its orders and brings back the replies; `serve` runs loops and workers in threads of their own. A `World` takes the steps of
 //! several loops and workers one by one, for tests. Where a callback stopped that did not return, `LoopCore::last_stop` answers.
+//! A `Resident` is an instance that is kept, whose functions are called by name, with no loop.
 //!
 //! Each contract is that of the crate which the name comes from. Begin with `load`, and with docs/EMBEDDING.md.
 #![tactic(auto)]
@@ -27,6 +28,7 @@ pub use loader::{Refusal, load};
 pub use order::{Order, Outcome, Reply, Told, Trail};
 pub use phases::{Accepted, Beside, LoopCore, Shared};
 pub use places::{Part, Place, function_name, place_of_operation};
+pub use resident::Resident;
 pub use sentences::{explain, meaning};
 pub use serve::{
     Account, Callback, Job, LoopEnding, Served, Serving, Task, Watch, serve, serve_watched,

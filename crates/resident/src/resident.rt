@@ -19,6 +19,7 @@ use imports::Linked;
 use instance::fault::InstFault;
 use instance::stack::{Stack, Stop};
 use instance::state::{Instance, State};
+use interp::conditions::takes_arguments;
 use interp::invoke::invoke_on;
 use std::alloc::{AllocError, Global};
 use std::marker::Model;
@@ -91,6 +92,13 @@ impl Resident {
         ensures typed { IfSome result (λ found. HasFunctionType self.now.loaded.contents found.0 found.1.now) }
     {
         exported_function(self.linked.valid(), name)
+    }
+
+    /// Whether the module has this function, and it takes these arguments.
+    pub fn takes(&self, function: u32, args: &[Value]) -> bool
+        ensures { IsTrue result ↔ TakesArguments self.now.loaded.contents function args.now }
+    {
+        takes_arguments(self.linked.valid(), function, args)
     }
 
     /// Calls a function with these arguments and so much fuel, while at most so many calls stand open. However it ends, the instance

@@ -16,7 +16,7 @@ returns c =
     let i = c.args.invocation.now in
     let contents = c.args.valid.now.contents in
     let named : IsFirst contents.exports (string_bytes i.name) (Some (record { kind = Func; index = c.in-Some.function })) =
-    rw (← c.as_str-name.ensures.value) c.in-Some.ensures.named in
+    rw (← c.as_str-name.ensures.value, ← c.as_bytes.ensures.value) c.in-Some.ensures.named in
     let spelled : AllSpell (map string_bytes i.arguments.items) c.as_slice-3.result.now =
     rw (c.as_slice-3.ensures.value, ← c.as_slice-2.ensures.value) c.in_ok-args.ensures.spelled in
     IfOk-weaker c.call.result _ _

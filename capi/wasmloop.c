@@ -36,6 +36,8 @@ uint32_t wasmloop_rt_job_reply(wasmloop_handle *, uint8_t *, size_t, uint64_t *)
 uint32_t wasmloop_rt_function(wasmloop_handle *, const uint8_t *, size_t, wasmloop_type *);
 uint32_t wasmloop_rt_instance(wasmloop_handle *, const wasmloop_call_limits *, wasmloop_handle *, wasmloop_ended *);
 uint32_t wasmloop_rt_call(wasmloop_handle *, const uint8_t *, size_t, const uint64_t *, size_t, const wasmloop_call_limits *, wasmloop_ended *);
+uint32_t wasmloop_rt_call_begin(wasmloop_handle *, const uint8_t *, size_t, const uint64_t *, size_t, const wasmloop_call_limits *);
+uint32_t wasmloop_rt_call_run_for(wasmloop_handle *, uint64_t, uint32_t *, wasmloop_ended *);
 uint32_t wasmloop_rt_read(wasmloop_handle *, uint32_t, uint8_t *, size_t);
 uint32_t wasmloop_rt_write(wasmloop_handle *, uint32_t, const uint8_t *, size_t);
 uint32_t wasmloop_rt_size(wasmloop_handle *, uint64_t *);
@@ -245,6 +247,16 @@ int wasmloop_call(wasmloop_handle *instance, const char *name, const uint64_t *a
     if (!instance || !name || !limits || !ended || (!arguments && count)) return WASMLOOP_NULL;
     if (count > PTRDIFF_MAX / sizeof *arguments) return WASMLOOP_RANGE;
     return (int)wasmloop_rt_call(instance, (const uint8_t *)name, length_of(name), count ? arguments : &nothing, count, limits, ended);
+}
+
+int wasmloop_call_begin(wasmloop_handle *instance, const char *name, const uint64_t *arguments, size_t count, const wasmloop_call_limits *limits) {
+    if (!instance || !name || !limits || (!arguments && count)) return WASMLOOP_NULL;
+    if (count > PTRDIFF_MAX / sizeof *arguments) return WASMLOOP_RANGE;
+    return (int)wasmloop_rt_call_begin(instance, (const uint8_t *)name, length_of(name), count ? arguments : &nothing, count, limits);
+}
+
+int wasmloop_call_run_for(wasmloop_handle *instance, uint64_t units, uint32_t *over, wasmloop_ended *ended) {
+    return instance && over && ended ? (int)wasmloop_rt_call_run_for(instance, units, over, ended) : WASMLOOP_NULL;
 }
 
 int wasmloop_size(wasmloop_handle *instance, uint64_t *bytes) {

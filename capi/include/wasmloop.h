@@ -258,6 +258,16 @@ int wasmloop_instance(const wasmloop_handle *module, const wasmloop_call_limits 
  * arguments, or one is past its type. RANGE: the depth is not 1 to 128. Where it is not OK nothing changes, and *ended is not written. */
 int wasmloop_call(wasmloop_handle *instance, const char *name, const uint64_t *args, size_t count, const wasmloop_call_limits *limits, wasmloop_ended *ended);
 
+/* Begins such a call, to be made in slices: nothing of it runs yet, and all memory that it takes is taken here. NONE, ARGUMENTS, RANGE: as
+ * of wasmloop_call. Until the call is over the instance may be dropped at any time, and every other call but the next one answers KIND of it. */
+int wasmloop_call_begin(wasmloop_handle *instance, const char *name, const uint64_t *args, size_t count, const wasmloop_call_limits *limits);
+
+/* Goes on with a call that wasmloop_call_begin has begun, in any thread, for at most `units` units of fuel, at least 1, and writes to *over
+ * whether it is over: 1 where it is, and *ended says how it ended, as if wasmloop_call had made it, with the same results, fuel and memory, so
+ * that the instance may be called again; 0 where it has used all the units and some of its fuel is left, so that it may go on, in this
+ * thread or another. RANGE: `units` is 0. KIND: no call is under way. Nothing else writes *over or *ended. */
+int wasmloop_call_run_for(wasmloop_handle *instance, uint64_t units, uint32_t *over, wasmloop_ended *ended);
+
 /* Writes how many bytes the memory of an instance has to *bytes. A call may let it grow. */
 int wasmloop_size(wasmloop_handle *instance, uint64_t *bytes);
 

@@ -181,7 +181,7 @@ class _Signature(_Struct):
 _SAYS = {
     NONE: "there is none",
     EMPTY: "it was closed, or its job was accepted",
-    KIND: "the job was run already, or was not run yet",
+    KIND: "the job was run already, or was not run yet; of an instance: a call is under way, or none is",
     MEMORY: "memory was refused",
     USED_UP: "2^32 sends were made",
     NO_WORK: "the module exports no uv_work",
@@ -574,21 +574,34 @@ class Instance(_Held):
     def call(self, name: str, *args: int, fuel: int = 1_000_000, depth: int = 64) -> Union[None, int, Tuple[int, ...]]:
         """Calls the function that is exported as `name`, with whole numbers, negative or not. Its results as signed numbers: nothing where it has
         none, the one where it has one, else a tuple. A call that doesn't return raises Stopped, and the instance stays as it is then."""
+        numbers, limits, ended = self._words(name, args), _call_limits(fuel, depth), _Ended()
+        _call("call", self.handle, _export(name), numbers, c.c_size_t(len(args)), limits, ended)
+        return self._results(name, ended)
+
+    def begin(self, name: str, *args: int, fuel: int = 1_000_000, depth: int = 64) -> Call:
+        """Begins such a call, to be made in slices: nothing of it runs yet. Until it is over the instance may be closed, and does nothing else."""
+        numbers, limits = self._words(name, args), _call_limits(fuel, depth)
+        _call("call_begin", self.handle, _export(name), numbers, c.c_size_t(len(args)), limits)
+        return Call(self, name)
+
+    def _kinds(self, name: str) -> Tuple[List[int], List[int]]:
         kinds = self._types.get(name)
         if kinds is None:
             kinds = self._types[name] = self.module.function(name)
-        if len(args) != len(kinds[0]):
-            raise TypeError(f"{name} takes {len(kinds[0])} numbers, not {len(args)}")
-        words = [_number(number + 1, it, bits) for number, (it, bits) in enumerate(zip(args, kinds[0]))]
-        numbers, ended, called = (c.c_uint64 * len(args))(*words), _Ended(), _export(name)
-        limits = _call_limits(fuel, depth)
-        status = _lib.wasmloop_call(c.byref(self.handle), called, numbers, c.c_size_t(len(args)), c.byref(limits), c.byref(ended))
-        if status != OK:
-            raise Error(status)
+        return kinds  # type: ignore[no-any-return]
+
+    def _words(self, name: str, args: Tuple[int, ...]) -> Any:
+        """The arguments of a call as C has them."""
+        kinds = self._kinds(name)[0]
+        if len(args) != len(kinds):
+            raise TypeError(f"{name} takes {len(kinds)} numbers, not {len(args)}")
+        return (c.c_uint64 * len(args))(*(_number(number + 1, it, bits) for number, (it, bits) in enumerate(zip(args, kinds))))
+
+    def _results(self, name: str, ended: _Ended) -> Union[None, int, Tuple[int, ...]]:
         self.used = ended.used
         if ended.ending:
             raise Stopped(name, ended)
-        told = tuple(_signed(it, bits) for it, bits in zip(ended.result[: ended.results], kinds[1]))
+        told = tuple(_signed(it, bits) for it, bits in zip(ended.result[: ended.results], self._kinds(name)[1]))
         return told[0] if len(told) == 1 else told or None
 
     def stop(self) -> List[Site]:
@@ -598,6 +611,29 @@ class Instance(_Held):
     def stop_told(self, data: Buffer) -> Optional[str]:
         """The same in the words of the program, by the bytes of the module; None where it returned."""
         return _stop_told(self, data)
+
+
+class Call:
+    """A call of an instance in slices, which Instance.begin has begun."""
+
+    def __init__(self, instance: Instance, name: str):
+        self._instance, self._name, self._ended = instance, name, None  # type: Instance, str, Optional[_Ended]
+
+    def run_for(self, units: int) -> bool:
+        """Goes on with it for at most so many units of fuel; True where it is over, as if Instance.call had made it."""
+        if self._ended is not None:
+            raise Error(KIND, "the call is over")
+        over, ended = c.c_uint32(), _Ended()
+        _call("call_run_for", self._instance.handle, c.c_uint64(_whole("units", units, 1, 2**64 - 1)), c.byref(over), ended)
+        if over.value:
+            self._ended = ended
+        return bool(over.value)
+
+    def result(self) -> Union[None, int, Tuple[int, ...]]:
+        """What Instance.call answers, once it is over, or Stopped."""
+        if self._ended is None:
+            raise Error(KIND, "the call is not over")
+        return self._instance._results(self._name, self._ended)
 
 
 def _signed(value: int, bits: int) -> int:

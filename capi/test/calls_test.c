@@ -588,6 +588,7 @@ static void orders(void) {
     wasmloop_call_limits no_calls = { 1, 0, 0 };
     wasmloop_task task = { 1, 0, 0 };
     wasmloop_ended ended;
+    uint32_t count;
     wasmloop_handle copy = module;
     IS(wasmloop_loop(&module, NULL, &module), WASMLOOP_NULL);
     IS(wasmloop_job_new(&none, &task, bytes, SIZE_MAX, &none), WASMLOOP_KIND);
@@ -602,6 +603,9 @@ static void orders(void) {
     IS(wasmloop_job_new(&none, &task, bytes, 1, &into), WASMLOOP_RANGE);
     IS(wasmloop_instance(&loop, &no_calls, &into, &ended), WASMLOOP_RANGE);
     IS(wasmloop_call(&none, "uv_work", NULL, 0, &no_calls, &ended), WASMLOOP_RANGE);
+    IS(wasmloop_call_begin(&none, "uv_work", NULL, 0, &no_calls), WASMLOOP_RANGE);
+    IS(wasmloop_call_run_for(&none, 0, &count, &ended), WASMLOOP_RANGE);
+    IS(wasmloop_call_run_for(&none, 0, NULL, &ended), WASMLOOP_NULL);
     IS(wasmloop_accept(&module, &none), WASMLOOP_EMPTY);
     IS(wasmloop_accept(&none, &module), WASMLOOP_EMPTY);
     IS(wasmloop_job_start(&module, &none), WASMLOOP_EMPTY);

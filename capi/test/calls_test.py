@@ -153,7 +153,7 @@ def wrong_words():
         (lambda: loop.send("1"), "TypeError: number: a whole number is wanted, and str is there"),
         (lambda: loop.turn(0), "OutOfRange: most 0: from 1 to 4294967295"),
         (lambda: job.run_for(0), f"OutOfRange: units 0: from 1 to {most}"),
-        (job.reply, "Error: the job was run already, or was not run yet"),
+        (job.reply, "Error: the job was run already, or was not run yet; of an instance: a call is under way, or none is"),
         (lambda: job.reply_into(b"abc"), "TypeError: a buffer that can be written is wanted, and bytes is there"),
         (lambda: plugin.call("nothing"), "Error: no function is exported as 'nothing'"),
         (lambda: plugin.call("uv_work\0", 0), r"Error: no function is exported as 'uv_work\x00'"),

@@ -9,7 +9,7 @@
 #include "wasmloop.h"
 
 enum { SLOTS = 10, STEPS = 200, FILES = 64, GUARD = 0xa5, NAMES = 13 };
-enum { NOTHING, MODULE, LOOP, JOB, PAUSED, INSTANCE }; /* PAUSED: a job between two slices */
+enum { NOTHING, MODULE, LOOP, JOB, PAUSED, INSTANCE, CALLING }; /* PAUSED: a job between two slices; CALLING: an instance, between two of a call */
 
 typedef struct slot {
     wasmloop_handle handle;
@@ -17,7 +17,7 @@ typedef struct slot {
     unsigned long loop, id; /* a job's loop, by the slot's id, or 0 */
     uint32_t number;        /* the number of a loop, or of a job's loop */
     int file;               /* of which it was loaded, or -1 */
-    uint64_t used;          /* of a paused job */
+    uint64_t used, fuel;    /* of a paused job or call, and of such a call */
 } slot;
 
 typedef struct file {
@@ -30,7 +30,7 @@ typedef struct file {
 static slot slots[SLOTS];
 static file files[FILES];
 static int file_count;
-static unsigned long ids, calls, pauses, given, answered[16], wrong;
+static unsigned long ids, calls, pauses, paused_calls, given, answered[16], wrong;
 static uint64_t state;
 static const char *const names[NAMES] = { "uv_work", "uv_main", "uv_after_work", "memory", "add", "put", "get", "divide", "spin", "deep", "grow", "count", "" };
 
@@ -459,6 +459,37 @@ static void call(slot *it) {
     stop(it, told_of.ending != WASMLOOP_RETURN);
 }
 
+/* Begins a call, and makes it in slices: one that leaves it paused has used its units, and the last one no more. */
+static void begin_call(slot *it) {
+    wasmloop_call_limits limits = { below(100000), depth(), 0 };
+    uint64_t args[4] = { draw(), draw(), draw(), (uint64_t)draw() << 20 };
+    int wanted = is_depth(limits.depth) ? of_kind(it, INSTANCE) : WASMLOOP_RANGE;
+    int status = CALL(wasmloop_call_begin(&it->handle, names[below(NAMES)], args, below(5), &limits));
+    if (wanted == WASMLOOP_OK && (status == WASMLOOP_NONE || status == WASMLOOP_ARGUMENTS)) wanted = status;
+    if (told("call_begin", status, wanted)) it->kind = CALLING, it->used = 0, it->fuel = limits.fuel;
+}
+
+static void call_for(slot *it) {
+    for (uint32_t more = below(6); more < 6; more++) {
+        uint64_t units = below(16) ? below(4000) : UINT64_MAX;
+        uint32_t over = GUARD;
+        wasmloop_ended told_of;
+        memset(&told_of, GUARD, sizeof told_of);
+        int status = CALL(wasmloop_call_run_for(&it->handle, units, &over, &told_of));
+        if (status == WASMLOOP_MEMORY) fail("a slice of a call takes no memory", status, WASMLOOP_OK);
+        if (!told("call_run_for", status, units ? of_kind(it, CALLING) : WASMLOOP_RANGE)) is("over", over, GUARD);
+        if (status != WASMLOOP_OK || !over) untouched("ended", &told_of, sizeof told_of);
+        if (status != WASMLOOP_OK) return;
+        is("over", over <= 1, 1);
+        if (!over) { paused_calls++, it->used += units; is("a paused call's fuel", it->used < it->fuel, 1); continue; }
+        it->kind = INSTANCE;
+        ended_right(&told_of, it->fuel);
+        is("the units of its slices", told_of.used >= it->used && told_of.used - it->used <= units, 1);
+        stop(it, told_of.ending != WASMLOOP_RETURN);
+        return;
+    }
+}
+
 static void memory(slot *it) {
     uint64_t bytes = 0;
     uint8_t written[64], *into = room_for(64);
@@ -505,6 +536,8 @@ static void tells(slot *a, slot *b) { (void)b, stop_told(a), warnings(a); }
 static void asks(slot *a, slot *b) { (void)b, requests(a); }
 static void globals(slot *a, slot *b) { (void)b, global(a); }
 static void call_of(slot *a, slot *b) { (void)b, call(a); }
+static void begins(slot *a, slot *b) { (void)b, begin_call(a); }
+static void calls_for(slot *a, slot *b) { (void)b, call_for(a); }
 static void memories(slot *a, slot *b) { (void)b, memory(a); }
 
 /* The calls, and of what kind the two handles are mostly given. */
@@ -522,7 +555,10 @@ static const struct { void (*call)(slot *, slot *); int first, second; } all[] =
     { memories, INSTANCE, NOTHING }, { globals, INSTANCE, NOTHING }, { asks, LOOP, NOTHING }, { asks, LOOP, NOTHING },
     { slices, JOB, NOTHING }, { slices, JOB, NOTHING }, { slices, PAUSED, NOTHING }, { slices, PAUSED, NOTHING },
     { drops, PAUSED, NOTHING }, { runs, PAUSED, NOTHING }, { reads_job, PAUSED, NOTHING }, { accept, LOOP, PAUSED },
-    { tells, LOOP, NOTHING }, { tells, INSTANCE, NOTHING }, { tells, JOB, NOTHING }, { tells, MODULE, NOTHING },
+    { begins, INSTANCE, NOTHING }, { begins, INSTANCE, NOTHING }, { calls_for, CALLING, NOTHING }, { calls_for, CALLING, NOTHING },
+    { begins, CALLING, NOTHING }, { call_of, CALLING, NOTHING }, { memories, CALLING, NOTHING }, { globals, CALLING, NOTHING },
+    { looks, CALLING, NOTHING }, { drops, CALLING, NOTHING },
+    { tells, CALLING, NOTHING }, { tells, LOOP, NOTHING }, { tells, INSTANCE, NOTHING }, { tells, JOB, NOTHING }, { tells, MODULE, NOTHING },
 };
 
 /* A handle's words change only where the model's kind does. */
@@ -570,7 +606,7 @@ int main(int count, char **words) {
     state = strtoull(words[1], NULL, 10) * 0x9e3779b97f4a7c15u + 1;
     for (int i = 3; i < count; i++) read_file(words[i]);
     for (unsigned long more = strtoul(words[2], NULL, 10); more; more--) sequence();
-    printf("fuzz: %lu calls, %lu not as foretold; %lu slices that paused, %lu requests of the owner;", calls, wrong, pauses, given);
+    printf("fuzz: %lu calls, %lu not as foretold; %lu slices of jobs and %lu of calls that paused, %lu requests of the owner;", calls, wrong, pauses, paused_calls, given);
     for (int i = 0; i < 13; i++) printf(" %s %lu", wasmloop_status_name(i), answered[i]);
     puts("");
     return wrong != 0;

@@ -139,6 +139,19 @@ static void stateful(void) {
     args[0] = (uint64_t)-1;
     IS(wasmloop_call(&it, "deep", args, 1, &limits, &ended), WASMLOOP_ARGUMENTS);
     wasmloop_call_limits flat = { 1000, 0, 0 }, high = { 1000, 129, 0 };
+    args[0] = UINT64_C(1) << 32;
+    IS(wasmloop_call_begin(&it, "nobody", NULL, 0, &limits), WASMLOOP_NONE);
+    IS(wasmloop_call_begin(&it, "memory", NULL, 0, &limits), WASMLOOP_NONE);
+    IS(wasmloop_call_begin(&it, "add", args, 0, &limits), WASMLOOP_ARGUMENTS);
+    IS(wasmloop_call_begin(&it, "add", args, 300, &limits), WASMLOOP_ARGUMENTS);
+    IS(wasmloop_call_begin(&it, "deep", args, 1, &limits), WASMLOOP_ARGUMENTS);
+    IS(wasmloop_call_begin(&it, "add", args, SIZE_MAX, &limits), WASMLOOP_RANGE);
+    IS(wasmloop_call_begin(&it, "add", args, 1, &flat), WASMLOOP_RANGE);
+    IS(wasmloop_call_begin(&it, "add", args, 1, &high), WASMLOOP_RANGE);
+    IS(wasmloop_call_begin(NULL, "add", args, 1, &limits), WASMLOOP_NULL);
+    IS(wasmloop_call_begin(&it, NULL, args, 1, &limits), WASMLOOP_NULL);
+    IS(wasmloop_call_begin(&it, "add", NULL, 1, &limits), WASMLOOP_NULL);
+    IS(wasmloop_call_begin(&it, "add", args, 1, NULL), WASMLOOP_NULL);
     IS(wasmloop_call(&it, "add", args, 1, &flat, &ended), WASMLOOP_RANGE);
     IS(wasmloop_call(&it, "add", args, 1, &high, &ended), WASMLOOP_RANGE);
     IS(wasmloop_call(NULL, "add", args, 1, &limits, &ended), WASMLOOP_NULL);
@@ -262,6 +275,51 @@ static void starts(void) {
     IS(wasmloop_drop(&module), WASMLOOP_OK);
 }
 
+/* calls in slices: each ends as one that is made at once, over what those before have left */
+static void in_slices(void) {
+    static const struct { const char *name; size_t count; uint64_t args[2], fuel; } all[] = {
+        { "add", 1, { 5 }, 1000000 }, { "divide", 2, { 1, 0 }, 1000000 }, { "deep", 1, { 200 }, 1000000 }, { "deep", 1, { 9 }, 1000000 },
+        { "spin", 0, { 0 }, 777 }, { "spin", 0, { 0 }, 0 }, { "grow", 1, { 1 }, 1000 }, { "count", 0, { 0 }, 1000 }, { "nothing", 0, { 0 }, 1000 },
+    };
+    static const uint64_t cuts[] = { 1, 2, 5, 100, UINT64_MAX };
+    wasmloop_handle module = module_of("kv.wasm");
+    for (size_t k = 0; k < sizeof cuts / sizeof *cuts; k++) {
+        wasmloop_handle it = WASMLOOP_HANDLE_INIT, once = WASMLOOP_HANDLE_INIT;
+        IS(wasmloop_instance(&module, &limits, &it, &ended), WASMLOOP_OK);
+        IS(wasmloop_instance(&module, &limits, &once, &ended), WASMLOOP_OK);
+        for (size_t i = 0; i < sizeof all / sizeof *all; i++) {
+            wasmloop_call_limits few = { all[i].fuel, 64, 0 };
+            wasmloop_ended wanted;
+            wasmloop_site sites[64] = { { 0, 0 } }, sliced[64] = { { 0, 0 } };
+            uint64_t open = 0, open_too = 0;
+            uint32_t over = 0;
+            IS(wasmloop_call(&once, all[i].name, all[i].args, all[i].count, &few, &wanted), WASMLOOP_OK);
+            IS(wasmloop_call_begin(&it, all[i].name, all[i].args, all[i].count, &few), WASMLOOP_OK);
+            while (!over) IS(wasmloop_call_run_for(&it, cuts[k], &over, &ended), WASMLOOP_OK);
+            IS(memcmp(&wanted, &ended, sizeof ended), 0);
+            IS(wasmloop_stop(&it, sites, 64, &open), wasmloop_stop(&once, sliced, 64, &open_too));
+            IS(open == open_too && !memcmp(sites, sliced, sizeof sites), 1);
+        }
+        IS(wasmloop_drop(&it), WASMLOOP_OK);
+        IS(wasmloop_drop(&once), WASMLOOP_OK);
+    }
+    IS(wasmloop_drop(&module), WASMLOOP_OK);
+    /* an import is asked in the first slice, and its instance is as it was */
+    module = module_of("start.wasm");
+    wasmloop_handle it = WASMLOOP_HANDLE_INIT;
+    uint64_t wide = 9;
+    uint32_t over = 0;
+    IS(wasmloop_instance(&module, &limits, &it, &ended), WASMLOOP_OK);
+    IS(wasmloop_drop(&module), WASMLOOP_OK);
+    IS(wasmloop_call_begin(&it, "imported", &wide, 1, &limits), WASMLOOP_OK);
+    IS(wasmloop_call(&it, "global", NULL, 0, &limits, &ended), WASMLOOP_KIND);
+    IS(wasmloop_call_run_for(&it, 1, &over, &ended), WASMLOOP_OK);
+    IS(over == 1 && ended.ending == WASMLOOP_RETURN && ended.used == 0 && ended.results == 1, 1);
+    IS(ended.result[0], 0xffffffffu);
+    returns(&it, "global", 0, 0, 0, 7);
+    IS(wasmloop_drop(&it), WASMLOOP_OK);
+}
+
 static void reads_global(wasmloop_handle *it, const char *name, uint32_t type, uint64_t wanted) {
     wasmloop_number value;
     memset(&value, 0xab, sizeof value);
@@ -302,6 +360,7 @@ int main(int argc, char **argv) {
     stateful();
     starts();
     globals();
+    in_slices();
     IS(strcmp(wasmloop_status_name(WASMLOOP_NOT_STARTED), "NOT_STARTED"), 0);
     IS(strcmp(wasmloop_status_name(WASMLOOP_ARGUMENTS), "ARGUMENTS"), 0);
     IS(wasmloop_status_name(13) == NULL, 1);

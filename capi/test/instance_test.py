@@ -57,6 +57,26 @@ print(fails(w.Error, lambda: it.call("add", 1, depth=129), status=w.RANGE))
 print(fails(w.Error, lambda: it.memory[len(it.memory):len(it.memory) + 1], status=w.RANGE))
 print(fails(ValueError, lambda: it.memory.__setitem__(slice(0, 4), b"abc")))
 print(fails(TypeError, lambda: it.memory[0]))
+
+def in_slices(units, name, *args, **limits):
+    """How a call ends in slices of so many units, and how many pauses it makes."""
+    call, pauses = two.begin(name, *args, **limits), 0
+    while not call.run_for(units):
+        fails(w.Error, lambda: two.call("count"), status=w.KIND)
+        fails(w.Error, lambda: len(two.memory), status=w.KIND)
+        fails(w.Error, call.result, status=w.KIND)
+        pauses += 1
+    fails(w.Error, lambda: call.run_for(1), status=w.KIND)
+    return call.result(), pauses
+
+
+assert in_slices(2, "add", 9) == (10, 3), in_slices(2, "add", 0)
+assert in_slices(2**64 - 1, "add", 5) == (15, 0) and two.used == 8 and two.call("add", 0) == 15
+print(fails(w.Stopped, lambda: in_slices(100, "spin", fuel=1000), ending="spent", used=1000))
+print(fails(w.Error, lambda: two.begin("absent"), status=w.NONE))
+print(fails(w.Error, lambda: two.begin("add", 1, depth=129), status=w.RANGE))
+print(fails(w.Error, lambda: in_slices(0, "add", 1), status=w.RANGE))
+two.close()
 before = len(it.memory)
 assert it.call("grow", 1) == before // 65536 and len(it.memory) == before + 65536
 start = w.Module(open(f"{folder}/start.wasm", "rb").read())

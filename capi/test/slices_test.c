@@ -1,4 +1,4 @@
-/* Jobs in slices: each length of slice gives what one run gives, and a paused job is neither read, started nor accepted. Prints
+/* Jobs and calls of instances in slices: each length of slice gives what one run gives, and what is paused answers nothing else. Prints
  * "all N checks hold", or the lines that don't. Run it under AddressSanitizer, which also looks for leaks.
  *
  * usage: slices_test FOLDER      (examples/ of this repository)
@@ -126,6 +126,123 @@ static void dropped(void) {
     }
 }
 
+/* what is told of a call of an instance that is over, and what it leaves */
+struct left {
+    wasmloop_ended ended;
+    uint64_t size, sum, sites;
+    wasmloop_site site[128];
+    int stopped;
+};
+
+static void look(wasmloop_handle *it, struct left *left) {
+    static uint8_t memory[64 << 16];
+    left->stopped = wasmloop_stop(it, left->site, 128, &left->sites);
+    IS(wasmloop_size(it, &left->size), WASMLOOP_OK);
+    IS(wasmloop_read(it, 0, memory, left->size), WASMLOOP_OK);
+    for (uint64_t at = 0; at < left->size; at++) left->sum = left->sum * 31 + memory[at];
+}
+
+static wasmloop_handle instance_of(const char *name) {
+    static const wasmloop_call_limits limits = { 1000000, 64, 0 };
+    wasmloop_handle module = module_of(name), it = WASMLOOP_HANDLE_INIT;
+    wasmloop_ended ended;
+    IS(wasmloop_instance(&module, &limits, &it, &ended), WASMLOOP_OK);
+    IS(wasmloop_drop(&module), WASMLOOP_OK);
+    return it;
+}
+
+static struct left called(wasmloop_handle *it, const char *name, size_t count, const wasmloop_call_limits *limits) {
+    static const uint64_t args[1] = { 3 };
+    struct left left;
+    memset(&left, 0, sizeof left);
+    IS(wasmloop_call(it, name, args, count, limits, &left.ended), WASMLOOP_OK);
+    look(it, &left);
+    return left;
+}
+
+static struct left called_for(wasmloop_handle *it, const char *name, size_t count, const wasmloop_call_limits *limits, uint64_t units) {
+    static const uint64_t args[1] = { 3 };
+    struct left left;
+    uint32_t over = 7;
+    uint64_t used = 0;
+    memset(&left, 0, sizeof left);
+    IS(wasmloop_call_begin(it, name, args, count, limits), WASMLOOP_OK);
+    while (IS(wasmloop_call_run_for(it, units, &over, &left.ended), WASMLOOP_OK), over == 0) used += units;
+    IS(over, 1);
+    IS(used <= left.ended.used && left.ended.used - used <= units, 1);
+    IS(wasmloop_call_run_for(it, units, &over, &left.ended), WASMLOOP_KIND);
+    look(it, &left);
+    return left;
+}
+
+/* two calls, the second over what the first one has left */
+static void calls_agree(const char *file, const char *name, size_t count, uint64_t fuel, uint32_t depth) {
+    static const uint64_t lengths[] = { 1, 2, 3, 7, 64, 1000, 1000000, UINT64_MAX };
+    wasmloop_call_limits limits = { fuel, depth, 0 };
+    wasmloop_handle once = instance_of(file);
+    struct left first = called(&once, name, count, &limits), second = called(&once, name, count, &limits);
+    for (size_t k = 0; k < sizeof lengths / sizeof *lengths; k++) {
+        wasmloop_handle it = instance_of(file);
+        struct left left = called_for(&it, name, count, &limits, lengths[k]);
+        IS(memcmp(&first, &left, sizeof left), 0);
+        left = called_for(&it, name, count, &limits, lengths[k]);
+        IS(memcmp(&second, &left, sizeof left), 0);
+        IS(wasmloop_drop(&it), WASMLOOP_OK);
+    }
+    IS(wasmloop_drop(&once), WASMLOOP_OK);
+}
+
+/* what is answered of an instance between two slices */
+static void paused_call(void) {
+    static const wasmloop_call_limits limits = { 1000000, 64, 0 };
+    wasmloop_handle it = instance_of("sha256.wasm"), none = WASMLOOP_HANDLE_INIT, module = module_of("sha256.wasm");
+    wasmloop_ended ended;
+    wasmloop_number value;
+    wasmloop_site site;
+    uint64_t args[1] = { 0 }, count = 7;
+    uint32_t over = 7;
+    uint8_t byte = 7;
+    IS(wasmloop_call_run_for(&it, 5, &over, &ended), WASMLOOP_KIND);
+    IS(wasmloop_call_begin(&it, "uv_work", args, 1, &limits), WASMLOOP_OK);
+    memset(&ended, 0xab, sizeof ended);
+    for (int slice = 0; slice < 2; slice++) {
+        IS(wasmloop_call_begin(&it, "uv_work", args, 1, &limits), WASMLOOP_KIND);
+        IS(wasmloop_call(&it, "uv_work", args, 1, &limits, &ended), WASMLOOP_KIND);
+        IS(wasmloop_read(&it, 0, &byte, 1), WASMLOOP_KIND);
+        IS(wasmloop_write(&it, 0, &byte, 1), WASMLOOP_KIND);
+        IS(wasmloop_size(&it, &count), WASMLOOP_KIND);
+        IS(wasmloop_global(&it, "memory", &value), WASMLOOP_KIND);
+        IS(wasmloop_stop(&it, &site, 1, &count), WASMLOOP_KIND);
+        IS(wasmloop_job_run_for(&it, 1, &over), WASMLOOP_KIND);
+        IS(wasmloop_instance(&module, &limits, &it, &ended), WASMLOOP_KIND);
+        IS(wasmloop_instance(&it, &limits, &none, &ended), WASMLOOP_KIND);
+        IS(wasmloop_call_run_for(&it, 0, &over, &ended), WASMLOOP_RANGE);
+        IS(wasmloop_call_run_for(&none, 1, &over, &ended), WASMLOOP_EMPTY);
+        IS(wasmloop_call_run_for(&module, 1, &over, &ended), WASMLOOP_KIND);
+        IS(wasmloop_call_run_for(NULL, 1, &over, &ended), WASMLOOP_NULL);
+        IS(wasmloop_call_run_for(&it, 1, NULL, &ended), WASMLOOP_NULL);
+        IS(wasmloop_call_run_for(&it, 1, &over, NULL), WASMLOOP_NULL);
+        IS(over, slice ? 0 : 7);
+        IS(wasmloop_call_run_for(&it, 10, &over, &ended), WASMLOOP_OK);
+        IS(over, 0);
+    }
+    for (size_t k = 0; k < sizeof ended; k++) IS(((uint8_t *)&ended)[k], 0xab);
+    IS(byte == 7 && count == 7, 1);
+    IS(wasmloop_call_run_for(&it, UINT64_MAX, &over, &ended), WASMLOOP_OK);
+    IS(over, 1);
+    IS(ended.ending, WASMLOOP_RETURN);
+    IS(wasmloop_drop(&it), WASMLOOP_OK);
+    IS(wasmloop_call_run_for(&it, 1, &over, &ended), WASMLOOP_EMPTY);
+    /* one that is paused, and one of which nothing has run, may be dropped */
+    for (int slices = 0; slices < 2; slices++) {
+        it = instance_of("sha256.wasm");
+        IS(wasmloop_call_begin(&it, "uv_work", args, 1, &limits), WASMLOOP_OK);
+        if (slices) IS(wasmloop_call_run_for(&it, 1, &over, &ended), WASMLOOP_OK);
+        IS(wasmloop_drop(&it), WASMLOOP_OK);
+    }
+    IS(wasmloop_drop(&module), WASMLOOP_OK);
+}
+
 int main(int argc, char **argv) {
     if (argc != 2) return 2;
     folder = argv[1];
@@ -135,7 +252,15 @@ int main(int argc, char **argv) {
         agrees(names[k], 20000, 1);
         for (uint64_t fuel = 0; fuel < 12; fuel++) agrees(names[k], fuel, 64);
     }
+    static const char *const files[] = { "crc32.wasm", "sha256.wasm", "adds_one.wasm", "copies.wasm" };
+    for (size_t k = 0; k < sizeof files / sizeof *files; k++) {
+        calls_agree(files[k], "uv_work", 1, 20000, 64);
+        calls_agree(files[k], "uv_work", 1, 20000, 1);
+        for (uint64_t fuel = 0; fuel < 12; fuel++) calls_agree(files[k], "uv_work", 1, fuel, 64);
+    }
+    calls_agree("countdown.wasm", "uv_main", 0, 20000, 64);
     paused();
     dropped();
+    paused_call();
     return all_hold();
 }

@@ -205,6 +205,10 @@ impl Ended {
         &self.result[..self.results as usize]
     }
 
+    fn returned(self) -> Result<Ended, Error> {
+        if self.ending == RETURN { Ok(self) } else { Err(self.stopped()) }
+    }
+
     fn stopped(&self) -> Error {
         Error::Stopped { ending: self.ending, trap: self.trap, used: self.used }
     }
@@ -263,6 +267,8 @@ extern "C" {
         limits: *const CallLimits,
         ended: *mut Ended,
     ) -> i32;
+    fn wasmloop_call_begin(instance: *mut Handle, name: *const c_char, args: *const u64, count: usize, limits: *const CallLimits) -> i32;
+    fn wasmloop_call_run_for(instance: *mut Handle, units: u64, over: *mut u32, ended: *mut Ended) -> i32;
     fn wasmloop_size(instance: *mut Handle, bytes: *mut u64) -> i32;
     fn wasmloop_read(instance: *mut Handle, at: u32, into: *mut u8, length: usize) -> i32;
     fn wasmloop_write(instance: *mut Handle, at: u32, from: *const u8, length: usize) -> i32;
@@ -362,7 +368,7 @@ fn sentence(status: i32) -> &'static str {
     match status {
         NONE => "there is none",
         EMPTY => "the handle is empty",
-        KIND => "the job was run already, or was not run yet",
+        KIND => "the job was run already, or was not run yet; of an instance: a call is under way, or none is",
         MEMORY => "memory was refused",
         USED_UP => "2^32 sends were made",
         NO_WORK => "the module exports no uv_work",
@@ -527,7 +533,21 @@ impl Instance {
         let (told, limits, mut ended) = (export(name)?, call_limits(fuel, depth)?, Ended::default());
         let status = unsafe { wasmloop_call(&mut self.0, told.as_ptr(), args.as_ptr(), args.len(), &limits, &mut ended) };
         exported(status, name)?;
-        if ended.ending == RETURN { Ok(ended) } else { Err(ended.stopped()) }
+        ended.returned()
+    }
+
+    /// Begins such a call, to be made in slices: nothing of it runs yet. Until it is over the instance may be dropped, and does nothing else.
+    pub fn begin(&mut self, name: &str, args: &[u64], fuel: u64, depth: u32) -> Result<(), Error> {
+        let (told, limits) = (export(name)?, call_limits(fuel, depth)?);
+        exported(unsafe { wasmloop_call_begin(&mut self.0, told.as_ptr(), args.as_ptr(), args.len(), &limits) }, name)
+    }
+
+    /// Goes on with that call for at most so many units of fuel; `None` where it is not over. Else the answer is that of `call`.
+    pub fn run_for(&mut self, units: u64) -> Result<Option<Ended>, Error> {
+        let (mut over, mut ended) = (0, Ended::default());
+        within("units", units, 1, u64::MAX)?;
+        done(unsafe { wasmloop_call_run_for(&mut self.0, units, &mut over, &mut ended) })?;
+        if over == 1 { ended.returned().map(Some) } else { Ok(None) }
     }
 
     /// The value of the global that is exported under a name; `None` where there is none.

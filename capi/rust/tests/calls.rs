@@ -96,7 +96,7 @@ fn a_wrong_number_is_told_with_its_range() {
     let mut job = crc.job(task(1_000_000), b"").unwrap();
     assert_eq!(said(job.run_for(0)), "units 0: from 1 to 18446744073709551615");
     job.run().unwrap();
-    assert_eq!(said(job.run()), "the job was run already, or was not run yet");
+    assert_eq!(said(job.run()), "the job was run already, or was not run yet; of an instance: a call is under way, or none is");
 }
 
 #[test]
@@ -138,6 +138,13 @@ fn an_instance_keeps_its_memory() {
     assert!(!it.stop().unwrap().is_empty());
     assert_eq!(said(it.call("absent", &[], 1, 64)), "no function is exported as \"absent\"");
     assert!(matches!(it.call("add", &[], 1, 64), Err(Error::Status(wasmloop::ARGUMENTS))));
+    it.begin("add", &[10], 1_000_000, 64).unwrap();
+    assert!(it.run_for(1).unwrap().is_none());
+    assert!(matches!(it.call("count", &[], 1, 64), Err(Error::Status(wasmloop::KIND))));
+    assert_eq!(said(it.run_for(0)), "units 0: from 1 to 18446744073709551615");
+    assert_eq!(it.run_for(1_000).unwrap().unwrap().results(), &[1022]);
+    assert!(matches!(it.run_for(1), Err(Error::Status(wasmloop::KIND))));
+    assert_eq!(said(it.begin("absent", &[], 1, 64)), "no function is exported as \"absent\"");
     assert!(it.global("absent").unwrap().is_none());
     assert!(it.call("add", &[0], 1_000_000, 64).is_ok() && it.stop().unwrap().is_empty());
 }

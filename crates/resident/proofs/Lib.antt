@@ -1,3 +1,5 @@
+mod AnyHost
 mod NoHostNames
 mod Refused
+mod SlicesAreOneCall
 mod Written

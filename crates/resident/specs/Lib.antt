@@ -1,2 +1,5 @@
+pub mod Inner
 pub mod Calls
 pub mod NoHost
+pub mod Slices
+pub mod Underway

@@ -1,10 +1,10 @@
 // A host that answers every import with -1.
 
-ghost use Rattle.std.specs.Prelude.{◌≡◌, ◌≤◌, [], length, map};
+ghost use Rattle.std.specs.Prelude.{◌≡◌, ◌≤◌, [], length, map, slice_get};
 ghost use Rattle.validate.specs.Stack.{pushed};
 ghost use Rattle.validate.specs.Typing.{type_of};
-ghost use Rattle.reduction.specs.Run.{as_operands};
-ghost use Rattle.reduction.specs.Hosting.{Names};
+ghost use Rattle.reduction.specs.Run.{as_operands, IsImported};
+ghost use Rattle.reduction.specs.Hosting.{Names, Answers};
 ghost use Rattle.resident.specs.NoHost.{IsMinusOne, types_of_imports};
 
 use instance::memory::Memory;
@@ -42,6 +42,19 @@ fn minus_one(results: &[ValType]) -> Option<Value>
     }
 }
 
+/// The answer of an import.
+pub(crate) fn answer(valid: &Valid, import: u32) -> Option<Value>
+    requires { IsImported valid.now.contents import }
+    ensures value { IsMinusOne result }
+    ensures typed { Answers (slice_get (types_of_imports valid.now.contents) import) result }
+    ensures names { Names valid.now.contents (types_of_imports valid.now.contents) }
+{
+    let contents = valid.contents();
+    let import = contents.imports.get(import as usize)?;
+    let func_type = type_at(contents, import.type_index)?;
+    minus_one(func_type.results.as_slice())
+}
+
 impl Host for NoHost<'_> {
     ghost use Rattle.std.specs.Prelude.{◌≡◌};
     ghost use Rattle.resident.specs.NoHost.{Refuses, types_of_imports};
@@ -51,9 +64,6 @@ impl Host for NoHost<'_> {
     ghost moves = { λ old call new. Refuses call × (new ≡ old) };
 
     fn call(&mut self, import: u32, _args: &Args, _memory: &mut Memory) -> Option<Value> {
-        let contents = self.valid.contents();
-        let import = contents.imports.get(import as usize)?;
-        let func_type = type_at(contents, import.type_index)?;
-        minus_one(func_type.results.as_slice())
+        answer(self.valid, import)
     }
 }

@@ -9,8 +9,10 @@ ghost use Rattle.instance.specs.Reads.{WritesAt};
 ghost use Rattle.instance.specs.Fresh.{IsFresh};
 ghost use Rattle.instance.specs.Storing.{IsStoreOf};
 ghost use Rattle.reduction.specs.Invoking.{TakesArguments};
+ghost use Rattle.resident.specs.Inner.Going.{Runs};
 ghost use Rattle.resident.specs.Calls.{Calls, IsNew, Starts, ExportsFirst, ExportsNoFunction, ExportsGlobal, ExportsNoGlobal};
 
+use crate::calling::Machine;
 use crate::exported::{export, exported_function};
 use crate::no_host::NoHost;
 use events::ended::{Ended, Ending};
@@ -99,6 +101,39 @@ impl Resident {
         ensures { IsTrue result ↔ TakesArguments self.now.loaded.contents function args.now }
     {
         takes_arguments(self.linked.valid(), function, args)
+    }
+
+    /// A machine for a call in slices.
+    pub(crate) fn machine(&self, alloc: Global) -> Result<Machine, AllocError>
+        ensures { IfOk result (λ m. Runs self.now.loaded m) }
+    {
+        Machine::new(alloc, self.linked.valid())
+    }
+
+    /// Its module, and its state.
+    pub(crate) fn into_parts(self) -> (Arc<Linked, Global>, State)
+        ensures linked { arc_value result.0 ≡ self.loaded }
+        ensures state { result.1 ≡ self.store }
+        ensures store { IsStoreOf self.loaded.contents self.store }
+    {
+        let Resident {
+            linked,
+            state,
+            stack: _,
+        } = self;
+        (linked, state)
+    }
+
+    /// An instance of this state, and this stack.
+    pub(crate) fn of_parts(linked: Arc<Linked, Global>, state: State, stack: Stack) -> Resident
+        requires { IsStoreOf (arc_value linked).contents state }
+        ensures { result ≡ record { loaded = arc_value linked; store = state; stop = stack } }
+    {
+        Resident {
+            linked,
+            state,
+            stack,
+        }
     }
 
     /// Calls a function with these arguments and so much fuel, while at most so many calls stand open. However it ends, the instance

@@ -8,6 +8,7 @@
 //! The raw pointers are in `raw`, and in the crate `slot`.
 #![tactic(auto)]
 
+mod call_slices;
 mod contents;
 mod copying;
 mod did;

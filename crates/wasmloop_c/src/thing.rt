@@ -4,7 +4,7 @@ use crate::held::HeldLoop;
 use crate::job::Job;
 use imports::Linked;
 use order::{Running, Told};
-use resident::Resident;
+use resident::{Calling, Resident};
 use std::alloc::Global;
 use std::sync::Arc;
 
@@ -23,6 +23,8 @@ pub enum Thing {
     Answered(Told),
     /// An instance that is kept from call to call.
     Resident(Resident),
+    /// The same, between two slices of a call.
+    Calling(Calling),
     /// Nothing, while a call is at work.
     Gone,
 }

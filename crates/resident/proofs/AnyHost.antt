@@ -1,0 +1,92 @@
+-- A run whose host answers every import with -1 is one whatever else is seen of the host.
+use Rattle.std.proofs.Common.{◌≡◌, ℕ, List, [], ◌∷◌, refl}
+use Rattle.syntax.specs.declared.types.Value.{Value}
+use Rattle.syntax.specs.declared.types.ValType.{ValType}
+use Rattle.syntax.specs.declared.contents.Contents.{Contents}
+use Rattle.validate.specs.declared.side_table.SideTable.{SideTable}
+use Rattle.instance.specs.Store.{Store}
+use Rattle.instance.specs.declared.stack.Caller.{Caller}
+use Rattle.reduction.specs.Run.{HostCall}
+use Rattle.reduction.specs.Hosting.{Lawful}
+use Rattle.engine.specs.declared.at.At.{At}
+use Rattle.engine.specs.Programs.{Program}
+use Rattle.engine.specs.Stepping.{State}
+use Rattle.interp.specs.Slots.Hosted.{Comes}
+use Rattle.interp.specs.Slices.{IsPaused}
+use Rattle.resident.specs.NoHost.{Refuses}
+use Rattle.resident.specs.Underway.{answers}
+
+module _ {H : Type 0} where
+  abbrev pub refuses : H → HostCall → H → Type 0
+  refuses a call b = Refuses call × (b ≡ a)
+
+  unseen : (trace : List HostCall) (old new : H) → Lawful refuses trace old new → Lawful answers trace tt tt
+  unseen [] old new lawful = refl
+  unseen (call ∷ trace) old new (mid, moved, lawful) = (tt, moved.0, unseen trace mid new lawful)
+
+  seen : (trace : List HostCall) (any more : Unit {0}) (h : H) → Lawful answers trace any more → Lawful refuses trace h h
+  seen [] any more h lawful = refl
+  seen (call ∷ trace) any more h (mid, answered, lawful) = (h, (answered, refl), seen trace mid more h lawful)
+
+  module _ (m : Contents) (p : Program) (depth : ℕ) (types : List ValType) (first st : State) where
+    comes_unseen : (old new : H) → Comes m p depth refuses types first old st new → Comes m p depth answers types first tt st tt
+    comes_unseen old new comes body contexts places bodies program represents =
+        let come = comes body contexts places bodies program represents in
+        record {
+          trace = come.trace;
+          lawful = unseen come.trace old new come.lawful;
+          there = come.there;
+          now = come.now;
+          represents = come.represents;
+          cost = come.cost;
+          paid = come.paid;
+          leads = come.leads;
+        }
+
+    comes_seen : (h : H) → Comes m p depth answers types first tt st tt → Comes m p depth refuses types first h st h
+    comes_seen h comes body contexts places bodies program represents =
+        let come = comes body contexts places bodies program represents in
+        record {
+          trace = come.trace;
+          lawful = seen come.trace tt tt h come.lawful;
+          there = come.there;
+          now = come.now;
+          represents = come.represents;
+          cost = come.cost;
+          paid = come.paid;
+          leads = come.leads;
+        }
+
+  module _ (m : Contents) (tables : List SideTable) (depth function : ℕ) (s t : Store) (args : List Value) (fuel : ℕ) (at : At) (used left : ℕ) (slots : List ℕ)
+      (frames : List Caller) where
+    pub paused_unseen : (old new : H) → IsPaused m tables depth refuses function s old args fuel at used left slots frames t new
+        → IsPaused m tables depth answers function s tt args fuel at used left slots frames t tt
+    paused_unseen old new q = record {
+      takes = q.takes;
+      defined = q.defined;
+      fit = q.fit;
+      start = q.start;
+      first_slots = q.first_slots;
+      first_frames = q.first_frames;
+      opened = q.opened;
+      small = q.small;
+      deep = q.deep;
+      paid = q.paid;
+      comes = comes_unseen m _ depth q.takes.type.results _ _ old new q.comes;
+    }
+
+    pub paused_seen : (h : H) → IsPaused m tables depth answers function s tt args fuel at used left slots frames t tt
+        → IsPaused m tables depth refuses function s h args fuel at used left slots frames t h
+    paused_seen h q = record {
+      takes = q.takes;
+      defined = q.defined;
+      fit = q.fit;
+      start = q.start;
+      first_slots = q.first_slots;
+      first_frames = q.first_frames;
+      opened = q.opened;
+      small = q.small;
+      deep = q.deep;
+      paid = q.paid;
+      comes = comes_seen m _ depth q.takes.type.results _ _ h q.comes;
+    }

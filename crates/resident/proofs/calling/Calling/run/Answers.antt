@@ -1,0 +1,33 @@
+use Rattle.std.proofs.Common.{◌≡◌, Option, Some, sym, ap, ◌∙◌, subst}
+use Rattle.std.specs.Arc.{arc_value}
+use Rattle.syntax.specs.Loaded.{Loaded}
+use Rattle.interp.specs.declared.slices.Paused.{Paused}
+use Rattle.resident.specs.Underway.{Called, IsSomeCall}
+use Rattle.resident.specs.Inner.Going.{Runs, called}
+use Rattle.resident.proofs.calling.Calling.run.Goals as goal
+
+pub go_on-requires-clause-some : goal.go_on-requires-clause-some
+go_on-requires-clause-some c =
+    let i = c.self.inside in
+    let place : i.place ≡ Some c.args.paused = ap (λ (x : Called). x.place) c.self.view_is ∙ c.requires.place in
+    subst (λ (p : Option Paused). IsSomeCall (called c.valid.result.now i.state i.machine i.function i.depth p)) place
+    (subst (λ (l : Loaded). IsSomeCall (called l i.state i.machine i.function i.depth i.place)) (sym (c.valid.ensures.same ∙ c.deref.ensures)) c.self.invariant.some)
+
+pub invariant_of-result : goal.invariant_of-result
+invariant_of-result c =
+    let i = c.self.inside in
+    let n = c.go_on.new in
+    let loaded : c.valid.result.now ≡ arc_value i.linked = c.valid.ensures.same ∙ c.deref.ensures in
+    let place : i.place ≡ Some c.args.paused = ap (λ (x : Called). x.place) c.self.view_is ∙ c.requires.place in
+    let q : IsSomeCall (called c.valid.result.now i.state i.machine i.function i.depth (Some c.args.paused)) =
+    subst (λ (p : Option Paused). IsSomeCall (called c.valid.result.now i.state i.machine i.function i.depth p)) place
+    (subst (λ (l : Loaded). IsSomeCall (called l i.state i.machine i.function i.depth i.place)) (sym loaded) c.self.invariant.some) in
+    let again = c.go_on.ensures.paused c.in-None.is in
+    let some : IsSomeCall (called c.valid.result.now n.state n.self i.function i.depth (Some n.paused)) =
+    (q.0, q.1, q.2, q.3, q.4, (again.goes_on q.0 q.1 q.2 q.3 q.4 q.5).0) in
+    record {
+      runs = subst (λ (l : Loaded). Runs l n.self) loaded c.go_on.ensures.runs;
+      fit = rw (← loaded) c.go_on.ensures.store;
+      deep = c.self.invariant.deep;
+      some = subst (λ (l : Loaded). IsSomeCall (called l n.state n.self i.function i.depth (Some n.paused))) loaded some;
+    }

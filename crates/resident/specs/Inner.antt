@@ -1,0 +1,2 @@
+-- No public clause reaches these.
+pub mod Going

@@ -7,7 +7,7 @@
 #include <string.h>
 #include "wasmloop.h"
 
-enum { STACK = 1 << 20, PAINT = 0xa5, MOST_LOOP = 62 << 10, MOST = 18 << 10 };
+enum { STACK = 1 << 20, PAINT = 0xa5, MOST = 18 << 10 };
 
 static uint8_t bytes[1 << 20], *stack;
 static size_t length;
@@ -84,11 +84,11 @@ static void drops(void) {
     wasmloop_drop(&module);
 }
 
-static const struct { const char *name; void (*call)(void); size_t most; } all[] = {
-    { "load", loads, MOST }, { "explain", explains, MOST }, { "loop", makes_loop, MOST_LOOP },
-    { "loop of nothing", makes_none, MOST_LOOP }, { "request", asks, MOST }, { "warning", warns, MOST }, { "turn", turns, MOST }, { "next_job", hands_out, MOST }, { "job_run", runs, MOST },
-    { "accept", accepts, MOST }, { "job_new", makes_job, MOST }, { "job_run", runs, MOST }, { "stop", stops, MOST }, { "stop_told", stops_told, MOST },
-    { "instance", makes_instance, MOST }, { "call", calls, MOST }, { "drop", drops, MOST },
+static const struct { const char *name; void (*call)(void); } all[] = {
+    { "load", loads }, { "explain", explains }, { "loop", makes_loop },
+    { "loop of nothing", makes_none }, { "request", asks }, { "warning", warns }, { "turn", turns }, { "next_job", hands_out }, { "job_run", runs },
+    { "accept", accepts }, { "job_new", makes_job }, { "job_run", runs }, { "stop", stops }, { "stop_told", stops_told },
+    { "instance", makes_instance }, { "call", calls }, { "drop", drops },
 };
 enum { CALLS = sizeof all / sizeof *all };
 
@@ -136,8 +136,8 @@ int main(int argc, char **argv) {
     printf("stack:");
     for (size_t i = 0; i < CALLS; i++) {
         printf("%s %s %zu", i ? "," : "", all[i].name, most[i]);
-        if (most[i] <= all[i].most) continue;
-        printf(" (more than %zu)", all[i].most);
+        if (most[i] <= MOST) continue;
+        printf(" (more than %d)", MOST);
         is_over = 1;
     }
     puts(" bytes at most");

@@ -21,7 +21,7 @@ returns-then-is_over-clause-over c =
     let e = c.go_on-is_over.ensures in
     record {
       calls = over_calls v c.args.tables.now c.args.self.now.function d c.args.slots.now all c.args.state.now c.args.paused.now
-    c.contents.result.now c.args.tables.now all c.contents.ensures.same refl refl (front_is_deep d all c.requires.deep.0 c.requires.deep.1 c.requires.room) c.new-host.result n.host n.ended n.state
+          c.contents.result.now c.args.tables.now all c.contents.ensures.same refl refl (front_is_deep d all c.requires.deep.0 c.requires.deep.1 c.requires.room) c.new-host.result n.host n.ended n.state
           (stop_of n.last n.frames) _ (stop_first n.last n.frames (drop (d - 1) all) e.callers) (e.over c.if-is_over.true) (e.results c.if-is_over.true);
       since = (e.last c.if-is_over.true).0;
       slice = (e.last c.if-is_over.true).1;
@@ -36,7 +36,7 @@ returns-else-is_over-clause-paused c none =
     let e = c.go_on-is_over.ensures in
     record {
       goes_on = goes_on v c.args.tables.now c.args.self.now.function d c.args.slots.now all c.args.state.now c.args.paused.now
-    c.contents.result.now c.args.tables.now all c.contents.ensures.same refl refl (front_is_deep d all c.requires.deep.0 c.requires.deep.1 c.requires.room) c.new-host.result n.host
+          c.contents.result.now c.args.tables.now all c.contents.ensures.same refl refl (front_is_deep d all c.requires.deep.0 c.requires.deep.1 c.requires.room) c.new-host.result n.host
           n.paused n.slots n.frames (drop (d - 1) all) _ refl n.state (e.paused c.if-is_over.false) c.go_on-is_over.auto.frames (e.slice c.if-is_over.false).1;
       used = (e.slice c.if-is_over.false).0;
     }

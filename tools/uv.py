@@ -21,7 +21,6 @@ HEAD = """# The calls of module "uv"
 These are all the functions that a module may import; [examples/uv.h](../examples/uv.h) declares them for C,
 [examples/uv.rs](../examples/uv.rs) for Rust. This page is made of the header, whose words are those of C: in a module the names stand
 without `uv_`, and a callback is an index of the table, of a function of type [i32] to [].
-
 """
 
 
@@ -35,6 +34,18 @@ def wasm(kind):
 
 def type_of(words, answer):
     return f"[{' '.join(word for kind in words for word in wasm(kind))}] to [{' '.join(wasm(answer))}]"
+
+
+def listed(words):
+    return ", ".join(words[:-1]) + " and " + words[-1]
+
+
+def widths(header):
+    """The sentence about the types of the calls' words and answers."""
+    wide = {word: None for _, words, _ in header.calls() for kind, word in words if wasm(kind) == ["i64"]}
+    wide |= {f"the answer of {name}": None for name, _, answer in header.calls() if wasm(answer) == ["i64"]}
+    marks = [f"`{it}`" if " " not in it else re.sub(r"(\w+)$", r"`\1`", it) for it in wide]
+    return f"Every word and every answer is an i32; but {listed(marks)} are i64."
 
 
 def one_line(comment):
@@ -80,24 +91,23 @@ class Header:
 def page_of(text):
     header, lines = Header(text), [HEAD]
     words = {name: ", ".join(word for _, word in words) for name, words, _ in header.calls()}
-    types = header.types()
+    lines.append(wrapped(widths(header)) + "\n\n")
     first = re.match(r"/\*(.*?)\*/", text, re.S).group(1)
     for paragraph in re.split(r"\n\n", first)[1:]:
         code = paragraph.startswith("       ")
         lines.append(re.sub(r"(?m)^       ", "    ", paragraph) + "\n\n" if code else wrapped(marked(one_line(paragraph))) + "\n\n")
-    lines.append("| Export | Type |\n|---|---|\n" + "".join(f"| `{name}` | {told} |\n" for name, told in entries_of(text).items()) + "\n")
+    lines.append("Their types: " + ", ".join(f"`{name}` {told}" for name, told in entries_of(text).items()) + ".\n\n")
     for comment, rows in header.enums():
-        lines.append(wrapped(marked(comment)) + "\n\n| Name | Number | |\n|---|---|---|\n")
-        lines += [f"| `UV_{name}` | {value} | {marked(about)} |\n" for name, value, about in rows]
+        lines.append(wrapped(marked(comment)) + "\n\n")
+        lines += [f"- `UV_{name}` {value}: {marked(about)}\n" for name, value, about in rows]
         lines.append("\n")
     for title, about, calls in header.sections():
         heading, _, rest = title.partition(":")
         lines.append(f"## {heading.capitalize()}\n\n")
         lines += [wrapped(marked(it.strip()[:1].upper() + it.strip()[1:])) + "\n\n" for it in (rest, about) if it]
-        lines.append("| Call | Type | |\n|---|---|---|\n")
         for comment, names in calls:
-            told = ", ".join(f"`{name}` ({words[name]})" if words[name] else f"`{name}`" for name in names)
-            lines.append(f"| {told} | {types[names[0]]} | {marked(comment)} |\n")
+            told = ", ".join(f"`{name}({words[name]})`" for name in names)
+            lines.append(f"- {told}: {marked(comment)}\n")
         lines.append("\n")
     return "".join(lines).rstrip("\n") + "\n"
 

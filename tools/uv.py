@@ -20,7 +20,7 @@ HEAD = """# The calls of module "uv"
 
 These are all the functions that a module may import; [examples/uv.h](../examples/uv.h) declares them for C,
 [examples/uv.rs](../examples/uv.rs) for Rust. This page is made of the header, whose words are those of C: in a module the names stand
-without `uv_`, and a callback is an index of the table, of a function of type [i32] to [].
+without `uv_`, and a callback is of type [i32] to [].
 """
 
 

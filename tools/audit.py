@@ -368,7 +368,7 @@ def unexcused(tree, page):
 
 
 KINDS = 'definition', 'clause'
-ROW = re.compile(r"^\| ([a-z_]+/(?:specs|src)(?:/\w+)*: [^|]*) \| (\d+ of \d+) \|", re.M)
+ROW = re.compile(r"^\| ([a-z_]+/(?:specs|src)(?:/\w+)*: [^|]*) \| (\d+) \|", re.M)
 
 
 def files_of(cell):
@@ -379,8 +379,7 @@ def files_of(cell):
 
 
 def lines_of(cell, counts):
-    found = [counts.get(file, (0, 0)) for file in files_of(cell)]
-    return f"{sum(some for some, _ in found)} of {sum(all for _, all in found)}"
+    return str(sum(counts.get(file, (0, 0))[0] for file in files_of(cell)))
 
 
 def compare(page, counts):

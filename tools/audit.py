@@ -408,7 +408,7 @@ def renew(page, counts):
 def totals(counts):
     for suffix, what in (('.antt', 'definitions'), ('.rt', 'Rust')):
         some = [count for file, count in counts.items() if file.endswith(suffix)]
-        yield f"{sum(n for n, _ in some)} of {sum(m for _, m in some)} lines of {what} in {len(some)} files"
+        yield f"{sum(n for n, _ in some)} lines of {what} in {len(some)} files"
 
 
 def main():

@@ -1,6 +1,6 @@
 // Calls of functions from outside (WebAssembly Core 1.0, 4.5.5).
 
-ghost use Rattle.std.specs.Prelude.{◌≡◌, ◌+◌, ◌≤◌, ◌<◌, [], length, None, IfSome};
+ghost use Rattle.std.specs.Prelude.{◌≡◌, ◌≤◌, ◌<◌, [], length, None, IfSome};
 ghost use Rattle.events.specs.Bare.{whole};
 ghost use Rattle.validate.specs.Valid.{ValidModule};
 ghost use Rattle.validate.specs.Targets.{AreTables};
@@ -12,9 +12,10 @@ ghost use Rattle.reduction.specs.Leading.{Leads, calling, scene};
 ghost use Rattle.instance.specs.Stops.{stop_of};
 ghost use Rattle.interp.specs.Inner.Calling.{CanCall, CallDoes};
 
+use crate::call::{Code, FunctionCall};
 use crate::host::{Args, Host};
 use crate::opening::open;
-use crate::over_host::run_over_host;
+use crate::over_host::{Outermost, run_within};
 use engine::{Flow, Program, Stopped};
 use events::ended::{BareEnded, BareEnding, Ended, Ending};
 use events::values::Values;
@@ -23,7 +24,7 @@ use instance::state::{Instance, State};
 use limits::MAX_DEPTH;
 use syntax::contents::Contents;
 use syntax::types::Value;
-use validate::{SideTable, Valid, type_of_function};
+use validate::{Valid, type_of_function};
 
 /// The results that an answer of the host makes.
 fn answered(answer: Option<Value>) -> Values
@@ -42,102 +43,59 @@ fn invoke_import<H: Host>(
     state: &mut State,
     host: &mut H,
     ended: &mut Ended,
-    import: u32,
-    args: &[Value],
-    fuel: u64,
-    depth: u32,
+    call: &FunctionCall,
 )
-    requires can { CanCall contents.now state.old (H.types host.old) import args.now }
-    requires imported { import < length contents.now.imports }
-    ensures does { CallDoes contents.now depth fuel H.moves state.old host.old import args.now ended.new state.new host.new None }
+    requires can { CanCall contents.now state.old (H.types host.old) call.now.function call.now.args.now }
+    requires imported { call.now.function < length contents.now.imports }
+    ensures does { CallDoes contents.now call.now.depth call.now.fuel H.moves state.old host.old call.now.function call.now.args.now ended.new state.new host.new None }
     ensures types { H.types host.new ≡ H.types host.old }
 {
-    let answer = host.call(import, &Args::new(args), state.memory_mut());
+    let answer = host.call(call.function, &Args::new(call.args), state.memory_mut());
     *ended = Ended {
         ending: Ending::Return(answered(answer)),
         used: 0,
     };
 }
 
-/// Calls a defined function.
+/// Calls a defined function, whose callers may take the first `depth` - 1 places of `frames`, and returns where the call stopped, unless
+/// it returned.
 #[inline(always)]
 fn invoke_defined<H: Host>(
-    contents: &Contents,
-    tables: &[SideTable],
+    code: &Code,
     state: &mut State,
     host: &mut H,
     slots: &mut Slots,
     frames: &mut [Caller],
-    last: &mut Option<Last>,
     ended: &mut Ended,
-    function: u32,
-    args: &[Value],
-    fuel: u64,
-)
-    requires valid { ValidModule contents.now }
-    requires agree { AreTables contents.now tables.now }
-    requires can { CanCall contents.now state.old (H.types host.old) function args.now }
-    requires defined { length contents.now.imports ≤ function }
-    requires deep { length frames.old + 1 ≤ MAX_DEPTH }
-    ensures does { CallDoes contents.now (length frames.old + 1) fuel H.moves state.old host.old function args.now ended.new state.new host.new (stop_of last.new frames.new) }
+    call: &FunctionCall,
+) -> Option<Last>
+    requires valid { ValidModule code.now.contents.now }
+    requires agree { AreTables code.now.contents.now code.now.tables.now }
+    requires can { CanCall code.now.contents.now state.old (H.types host.old) call.now.function call.now.args.now }
+    requires defined { length code.now.contents.now.imports ≤ call.now.function }
+    requires depth { (1 ≤ call.now.depth) × (call.now.depth ≤ MAX_DEPTH) }
+    requires room { MAX_DEPTH ≤ length frames.old }
+    ensures does { CallDoes code.now.contents.now call.now.depth call.now.fuel H.moves state.old host.old call.now.function call.now.args.now
+        ended.new state.new host.new (stop_of result frames.new) }
     ensures types { H.types host.new ≡ H.types host.old }
-    ensures callers { IfSome last.new (λ l. l.depth ≤ length frames.new) }
+    ensures callers { IfSome result (λ l. l.depth ≤ MAX_DEPTH) }
 {
-    let Some(func_type) = type_of_function(contents, function) else {
+    let Some(func_type) = type_of_function(code.contents, call.function) else {
         unreachable!()
     };
-    let program = Program::new(contents, tables);
-    let at = open(contents, slots, function, args);
+    let at = open(code.contents, slots, call.function, call.args);
+    let outermost = Outermost {
+        contents: code.contents,
+        program: Program::new(code.contents, code.tables),
+        types: func_type.results.as_slice(),
+        depth: call.depth,
+    };
     let mut place = Stopped {
         flow: Flow::Spent,
         at,
-        fuel,
+        fuel: call.fuel,
     };
-    run_over_host(
-        contents,
-        &program,
-        func_type.results.as_slice(),
-        slots,
-        frames,
-        state,
-        host,
-        &mut place,
-        last,
-        ended,
-    );
-}
-
-/// Calls a defined function, whose callers may take the first `depth` - 1 places of `frames`.
-#[inline(always)]
-fn invoke_below<H: Host>(
-    contents: &Contents,
-    tables: &[SideTable],
-    state: &mut State,
-    host: &mut H,
-    slots: &mut Slots,
-    frames: &mut [Caller],
-    last: &mut Option<Last>,
-    ended: &mut Ended,
-    function: u32,
-    args: &[Value],
-    fuel: u64,
-    depth: u32,
-)
-    requires valid { ValidModule contents.now }
-    requires agree { AreTables contents.now tables.now }
-    requires can { CanCall contents.now state.old (H.types host.old) function args.now }
-    requires defined { length contents.now.imports ≤ function }
-    requires depth { (1 ≤ depth) × (depth ≤ MAX_DEPTH) }
-    requires room { MAX_DEPTH ≤ length frames.old }
-    ensures does { CallDoes contents.now depth fuel H.moves state.old host.old function args.now ended.new state.new host.new (stop_of last.new frames.new) }
-    ensures types { H.types host.new ≡ H.types host.old }
-    ensures callers { IfSome last.new (λ l. l.depth ≤ MAX_DEPTH) }
-    ensures room { length frames.new ≡ length frames.old }
-{
-    let callers = &mut frames[..depth as usize - 1];
-    invoke_defined(
-        contents, tables, state, host, slots, callers, last, ended, function, args, fuel,
-    );
+    run_within(&outermost, slots, frames, state, host, &mut place, ended)
 }
 
 /// Calls a function of a module on one of its instances, with these arguments and so much fuel. At most `depth`, 1 to `MAX_DEPTH`,
@@ -164,7 +122,13 @@ pub fn invoke<H: Host>(
     ensures types { H.types host.new ≡ H.types host.old }
 {
     let Instance { state, stack } = instance;
-    invoke_on(valid, state, stack, host, function, args, fuel, depth)
+    let call = FunctionCall {
+        function,
+        args,
+        fuel,
+        depth,
+    };
+    invoke_on(valid, state, stack, host, &call)
 }
 
 /// Calls it on the state and the stack of an instance. The stack then has where the call stopped, unless it ended by
@@ -174,25 +138,20 @@ pub fn invoke_on<H: Host>(
     state: &mut State,
     stack: &mut Stack,
     host: &mut H,
-    function: u32,
-    args: &[Value],
-    fuel: u64,
-    depth: u32,
+    call: &FunctionCall,
 ) -> Ended
     requires store { IsStoreOf valid.now.contents state.old }
     requires names { Names valid.now.contents (H.types host.old) }
-    requires typed { TakesArguments valid.now.contents function args.now }
-    requires depth { (1 ≤ depth) × (depth ≤ MAX_DEPTH) }
-    ensures runs { Leads H.moves (calling valid.now.contents function args.now fuel depth) (scene state.old host.old) result stack.new (scene state.new host.new) }
-    ensures within { result.used ≤ fuel }
-    ensures results { ReturnsTyped valid.now.contents function result.ending }
+    requires typed { TakesArguments valid.now.contents call.now.function call.now.args.now }
+    requires depth { (1 ≤ call.now.depth) × (call.now.depth ≤ MAX_DEPTH) }
+    ensures runs { Leads H.moves (calling valid.now.contents call.now.function call.now.args.now call.now.fuel call.now.depth) (scene state.old host.old) result stack.new (scene state.new host.new) }
+    ensures within { result.used ≤ call.now.fuel }
+    ensures results { ReturnsTyped valid.now.contents call.now.function result.ending }
     ensures kept { IsStoreOf valid.now.contents state.new }
     ensures types { H.types host.new ≡ H.types host.old }
 {
     let mut ended = unwritten();
-    invoke_into(
-        valid, state, stack, host, &mut ended, function, args, fuel, depth,
-    );
+    invoke_into(valid, state, stack, host, &mut ended, call);
     ended
 }
 
@@ -204,24 +163,20 @@ pub fn invoke_bare<H: Host>(
     stack: &mut Stack,
     host: &mut H,
     place: &mut Ended,
-    function: u32,
-    args: &[Value],
-    fuel: u64,
-    depth: u32,
+    call: &FunctionCall,
 ) -> BareEnded
     requires store { IsStoreOf valid.now.contents state.old }
     requires names { Names valid.now.contents (H.types host.old) }
-    requires typed { TakesArguments valid.now.contents function args.now }
-    requires bare { HasNoResults valid.now.contents function }
-    requires depth { (1 ≤ depth) × (depth ≤ MAX_DEPTH) }
-    ensures runs { Leads H.moves (calling valid.now.contents function args.now fuel depth) (scene state.old host.old) (whole result) stack.new (scene state.new host.new) }
-    ensures within { result.used ≤ fuel }
+    requires typed { TakesArguments valid.now.contents call.now.function call.now.args.now }
+    requires bare { HasNoResults valid.now.contents call.now.function }
+    requires depth { (1 ≤ call.now.depth) × (call.now.depth ≤ MAX_DEPTH) }
+    ensures runs { Leads H.moves (calling valid.now.contents call.now.function call.now.args.now call.now.fuel call.now.depth) (scene state.old host.old)
+        (whole result) stack.new (scene state.new host.new) }
+    ensures within { result.used ≤ call.now.fuel }
     ensures kept { IsStoreOf valid.now.contents state.new }
     ensures types { H.types host.new ≡ H.types host.old }
 {
-    invoke_into(
-        valid, state, stack, host, place, function, args, fuel, depth,
-    );
+    invoke_into(valid, state, stack, host, place, call);
     BareEnded {
         ending: BareEnding::of(&place.ending),
         used: place.used,
@@ -246,14 +201,11 @@ fn invoke_into<H: Host>(
     stack: &mut Stack,
     host: &mut H,
     ended: &mut Ended,
-    function: u32,
-    args: &[Value],
-    fuel: u64,
-    depth: u32,
+    call: &FunctionCall,
 )
-    requires can { CanCall valid.now.contents state.old (H.types host.old) function args.now }
-    requires depth { (1 ≤ depth) × (depth ≤ MAX_DEPTH) }
-    ensures does { CallDoes valid.now.contents depth fuel H.moves state.old host.old function args.now ended.new state.new host.new stack.new }
+    requires can { CanCall valid.now.contents state.old (H.types host.old) call.now.function call.now.args.now }
+    requires depth { (1 ≤ call.now.depth) × (call.now.depth ≤ MAX_DEPTH) }
+    ensures does { CallDoes valid.now.contents call.now.depth call.now.fuel H.moves state.old host.old call.now.function call.now.args.now ended.new state.new host.new stack.new }
     ensures types { H.types host.new ≡ H.types host.old }
 {
     let contents = valid.contents();
@@ -262,14 +214,15 @@ fn invoke_into<H: Host>(
         frames,
         last,
     } = stack;
-    if (function as usize) < contents.imports.len() {
+    if (call.function as usize) < contents.imports.len() {
         *last = None;
-        invoke_import(contents, state, host, ended, function, args, fuel, depth);
+        invoke_import(contents, state, host, ended, call);
         return;
     }
-    let tables = valid.tables();
+    let code = Code {
+        contents,
+        tables: valid.tables(),
+    };
     let callers = frames.as_mut_slice();
-    invoke_below(
-        contents, tables, state, host, slots, callers, last, ended, function, args, fuel, depth,
-    );
+    *last = invoke_defined(&code, state, host, slots, callers, ended, call);
 }

@@ -1,6 +1,6 @@
 // Calls in slices.
 
-ghost use Rattle.std.specs.Prelude.{◌≡◌, ℕ, List, ◌+◌, ◌^◌, ◌<◌, ◌≤◌, ◌↔◌, IsTrue, true, false, length, IfSome};
+ghost use Rattle.std.specs.Prelude.{◌≡◌, ℕ, List, ◌+◌, ◌<◌, ◌≤◌, ◌↔◌, IsTrue, length, None, IfSome};
 ghost use Rattle.syntax.specs.declared.types.Value.{Value as Argument};
 ghost use Rattle.validate.specs.Valid.{ValidModule};
 ghost use Rattle.validate.specs.Targets.{AreTables};
@@ -10,40 +10,37 @@ ghost use Rattle.instance.specs.Storing.{IsStoreOf};
 ghost use Rattle.instance.specs.Stops.{stop_of};
 ghost use Rattle.reduction.specs.Hosting.{Names};
 ghost use Rattle.reduction.specs.Invoking.{TakesArguments, ReturnsTyped};
-ghost use Rattle.interp.specs.Slices.{IsPaused, IsSomePaused, IsOver};
+ghost use Rattle.interp.specs.Slices.{IsPaused, IsSomePaused, IsOver, UsesAll, UsesSome};
 
+use crate::call::FunctionCall;
 use crate::host::Host;
+use crate::invoke::unwritten;
 use crate::opening::open;
-use crate::over_host::run_over_host;
-use engine::{At, Flow, Program, Stopped};
+use crate::over_host::{Outermost, run_within};
+pub use crate::paused::Paused;
+use engine::{Flow, Program, Stopped};
 use events::ended::{Ended, Ending};
 use instance::stack::{Caller, Last, Slots};
 use instance::state::State;
 use limits::MAX_DEPTH;
 use syntax::contents::Contents;
-use syntax::types::Value;
 use validate::{SideTable, type_of_function};
 
-/// A call of a defined function between two slices: where it goes on, how much fuel it has used, and how much is left. What it
-/// works on stays in the slots, the callers and the state of its instance.
+/// A call that is under way, and how many units of fuel it may use until it is paused again.
 #[derive(Clone, Copy)]
-pub struct Paused {
-    at: At,
-    used: u64,
-    left: u64,
-    pub ghost sum: { used + left < 2 ^ 64 },
+pub struct Slice {
+    pub paused: Paused,
+    pub units: u64,
 }
 
-impl Paused {
-    /// The units of fuel that it has used.
-    pub fn used(&self) -> u64
-        ensures { result ≡ self.now.used }
-    {
-        self.used
-    }
+/// How a call was over, with all fuel that it has used since it began, and where, unless it returned.
+#[derive(Drop)]
+pub struct CallEnd {
+    pub ended: Ended,
+    pub last: Option<Last>,
 }
 
-/// Begins a call of a defined function on this state, with these callers' room, over this host: nothing runs yet.
+/// Begins a call of a defined function on this state, with room for these callers, over this host: nothing runs yet.
 pub fn begin<H: Host>(
     contents: &Contents,
     tables: &[SideTable],
@@ -51,25 +48,28 @@ pub fn begin<H: Host>(
     host: &H,
     slots: &mut Slots,
     frames: &[Caller],
-    function: u32,
-    args: &[Value],
-    fuel: u64,
+    call: &FunctionCall,
 ) -> Paused
     requires valid { ValidModule contents.now }
     requires agree { AreTables contents.now tables.now }
     requires store { IsStoreOf contents.now state.now }
-    requires typed { TakesArguments contents.now function args.now }
-    requires defined { length contents.now.imports ≤ function }
-    ensures paused { IsPaused contents.now tables.now (length frames.now + 1) H.moves function state.now host.now args.now fuel
-        result.at result.used result.left slots.new frames.now state.now host.now }
+    requires typed { TakesArguments contents.now call.now.function call.now.args.now }
+    requires defined { length contents.now.imports ≤ call.now.function }
+    requires depth { (1 ≤ call.now.depth) × (call.now.depth ≤ MAX_DEPTH) }
+    requires room { MAX_DEPTH ≤ length frames.now }
+    ensures paused { IsPaused contents.now tables.now H.moves state.now host.now call.now.args.now call.now.fuel result slots.new frames.now state.now host.now }
+    ensures function { result.function ≡ call.now.function }
+    ensures depth { result.depth ≡ call.now.depth }
     ensures used { result.used ≡ 0 }
-    ensures left { result.left ≡ fuel }
+    ensures left { result.left ≡ call.now.fuel }
 {
-    let at = open(contents, slots, function, args);
+    let at = open(contents, slots, call.function, call.args);
     Paused {
+        function: call.function,
+        depth: call.depth,
         at,
         used: 0,
-        left: fuel,
+        left: call.fuel,
     }
 }
 
@@ -80,8 +80,8 @@ fn is_paused(ending: &Ending, granted: u64, left: u64) -> bool
     granted < left && matches!(ending, Ending::Spent)
 }
 
-/// Goes on with a call for at most so many units of fuel, and returns whether it is over. Then its ending is written, with all fuel that
-/// it has used since it began; else it has used exactly so many units more, and some are left.
+/// Goes on with a call for at most the units of the slice. If it is over then, its ending is returned, with all fuel that it has used
+/// since it began; else it has used exactly so many units more, and some are left.
 pub fn go_on<H: Host>(
     contents: &Contents,
     tables: &[SideTable],
@@ -89,56 +89,57 @@ pub fn go_on<H: Host>(
     host: &mut H,
     slots: &mut Slots,
     frames: &mut [Caller],
-    last: &mut Option<Last>,
-    ended: &mut Ended,
-    function: u32,
-    paused: &mut Paused,
-    units: u64,
-) -> bool
+    slice: &mut Slice,
+) -> Option<CallEnd>
     requires valid { ValidModule contents.now }
     requires agree { AreTables contents.now tables.now }
     requires names { Names contents.now (H.types host.old) }
-    requires deep { length frames.old + 1 ≤ MAX_DEPTH }
-    requires paused { IsSomePaused contents.now tables.now (length frames.old + 1) H.moves function
-        paused.old.at paused.old.used paused.old.left slots.old frames.old state.old host.old }
-    ensures over { result ≡ true → (s : Store) (before : H) (args : List Argument) (fuel : ℕ)
-        → IsPaused contents.now tables.now (length frames.old + 1) H.moves function s before args fuel
-        paused.old.at paused.old.used paused.old.left slots.old frames.old state.old host.old
-        → IsOver contents.now (length frames.old + 1) H.moves function s before args fuel ended.new state.new host.new (stop_of last.new frames.new) }
-    ensures paused { result ≡ false → (s : Store) (before : H) (args : List Argument) (fuel : ℕ)
-        → IsPaused contents.now tables.now (length frames.old + 1) H.moves function s before args fuel
-        paused.old.at paused.old.used paused.old.left slots.old frames.old state.old host.old
-        → IsPaused contents.now tables.now (length frames.old + 1) H.moves function s before args fuel
-        paused.new.at paused.new.used paused.new.left slots.new frames.new state.new host.new }
-    ensures slice { result ≡ false → (paused.new.used ≡ paused.old.used + units) × (1 ≤ paused.new.left) × (paused.new.used + paused.new.left ≡ paused.old.used + paused.old.left) }
-    ensures last { result ≡ true → (paused.old.used ≤ ended.new.used) × (ended.new.used ≤ paused.old.used + units) × (ended.new.used ≤ paused.old.used + paused.old.left) }
-    ensures results { result ≡ true → ReturnsTyped contents.now function ended.new.ending }
-    ensures callers { IfSome last.new (λ l. l.depth ≤ length frames.new) }
+    requires room { MAX_DEPTH ≤ length frames.old }
+    requires paused { IsSomePaused contents.now tables.now H.moves slice.old.paused slots.old frames.old state.old host.old }
+    ensures over { IfSome result (λ o. (s : Store) (before : H) (args : List Argument) (fuel : ℕ)
+        → IsPaused contents.now tables.now H.moves s before args fuel slice.old.paused slots.old frames.old state.old host.old
+        → IsOver contents.now slice.old.paused.depth H.moves slice.old.paused.function s before args fuel o.ended state.new host.new (stop_of o.last frames.new)) }
+    ensures paused { result ≡ None → (s : Store) (before : H) (args : List Argument) (fuel : ℕ)
+        → IsPaused contents.now tables.now H.moves s before args fuel slice.old.paused slots.old frames.old state.old host.old
+        → IsPaused contents.now tables.now H.moves s before args fuel slice.new.paused slots.new frames.new state.new host.new }
+    ensures call { (slice.new.paused.function ≡ slice.old.paused.function) × (slice.new.paused.depth ≡ slice.old.paused.depth) }
+    ensures slice { result ≡ None → UsesAll slice.old.paused slice.old.units slice.new.paused }
+    ensures last { IfSome result (λ o. UsesSome slice.old.paused slice.old.units o.ended.used) }
+    ensures results { IfSome result (λ o. ReturnsTyped contents.now slice.old.paused.function o.ended.ending) }
+    ensures callers { IfSome result (λ o. IfSome o.last (λ l. l.depth ≤ MAX_DEPTH)) }
     ensures kept { IsStoreOf contents.now state.new }
     ensures types { H.types host.new ≡ H.types host.old }
 {
-    let Some(func_type) = type_of_function(contents, function) else {
+    let Slice { paused, units } = *slice;
+    let Some(func_type) = type_of_function(contents, paused.function) else {
         unreachable!()
     };
-    let program = Program::new(contents, tables);
+    let outermost = Outermost {
+        contents,
+        program: Program::new(contents, tables),
+        types: func_type.results.as_slice(),
+        depth: paused.depth,
+    };
     let granted = units.min(paused.left);
     let mut place = Stopped {
         flow: Flow::Spent,
         at: paused.at,
         fuel: granted,
     };
-    let types = func_type.results.as_slice();
-    run_over_host(
-        contents, &program, types, slots, frames, state, host, &mut place, last, ended,
+    let mut ended = unwritten();
+    let last = run_within(
+        &outermost, slots, frames, state, host, &mut place, &mut ended,
     );
     if is_paused(&ended.ending, granted, paused.left) {
-        *paused = Paused {
+        slice.paused = Paused {
+            function: paused.function,
+            depth: paused.depth,
             at: place.at,
             used: paused.used + granted,
             left: paused.left - granted,
         };
-        return false;
+        return None;
     }
     ended.used += paused.used;
-    true
+    Some(CallEnd { ended, last })
 }

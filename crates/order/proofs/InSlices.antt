@@ -32,7 +32,7 @@ use Rattle.validate.specs.Valid.{ValidModule}
 use Rattle.validate.specs.Targets.{AreTables}
 use Rattle.validate.specs.declared.side_table.SideTable.{SideTable}
 use Rattle.instance.specs.declared.stack.Caller.{Caller}
-use Rattle.engine.specs.declared.at.At.{At}
+use Rattle.interp.specs.declared.paused.Paused.{Paused}
 use Rattle.engine.specs.Programs.{program_of}
 use Rattle.engine.specs.Stepping.{standing}
 use Rattle.interp.specs.Slots.Hosted.{IsUnderWay}
@@ -173,16 +173,25 @@ no_results ending.Depth not types = tt
 no_results ending.Spent not types = tt
 
 -- a call that is under way has come to its host by a lawful trace
-pub came_to : (o : WorkOrder) → ValidModule o.loaded.contents → (tables : List SideTable) → AreTables o.loaded.contents tables → (function : ℕ) (s t : Store) (old new : WorkHost)
-    (args : List Value) (fuel : ℕ) (at : At) (used left : ℕ) (slots : List ℕ) (callers : List Caller) → Serves old o
-    → IsPaused o.loaded.contents tables o.depth Answered function s old args fuel at used left slots callers t new → Serves new o
-came_to o valid tables agree function s t old new args fuel at used left slots callers serves c =
+pub came_to : (o : WorkOrder) → ValidModule o.loaded.contents → (tables : List SideTable) → AreTables o.loaded.contents tables → (s t : Store) (old new : WorkHost)
+    (args : List Value) (fuel : ℕ) (paused : Paused) (slots : List ℕ) (frames : List Caller) → Serves old o
+    → IsPaused o.loaded.contents tables Answered s old args fuel paused slots frames t new → Serves new o
+came_to o valid tables agree s t old new args fuel paused slots frames serves c =
     let m = o.loaded.contents in
     let p = program_of m tables in
     let types = c.takes.type.results in
     let first = standing c.start c.first_slots c.first_frames s fuel in
-    let u : IsUnderWay m p o.depth types first =
+    let u : IsUnderWay m p paused.depth types first =
     subst (λ (k : ℕ). IsUnderWay m p k types first) c.deep
-    (under_way m function args c.takes valid c.defined tables agree p refl c.start c.first_slots c.opened c.small c.first_frames s fuel c.fit types refl) in
+    (under_way m paused.function args c.takes valid c.defined tables agree p refl c.start c.first_slots c.opened c.small c.first_frames s fuel c.fit types refl) in
     let come = c.comes u.body u.contexts u.places u.bodies u.program u.represents in
     (served o come.trace old new serves come.lawful).serves
+
+-- the same of an equal module, tables and callers
+pub paused_in : (m m' : Contents) (tables tables' : List SideTable) (frames frames' : List Caller) → m ≡ m' → tables ≡ tables' → frames ≡ frames'
+    → (s t : Store) (old new : WorkHost) (args : List Value) (fuel : ℕ) (paused : Paused) (slots : List ℕ)
+    → IsPaused m tables Answered s old args fuel paused slots frames t new → IsPaused m' tables' Answered s old args fuel paused slots frames' t new
+paused_in m m' tables tables' frames frames' em et ef s t old new args fuel paused slots k =
+    subst (λ (x : Contents). IsPaused x tables' Answered s old args fuel paused slots frames' t new) em
+    (subst (λ (x : List SideTable). IsPaused m x Answered s old args fuel paused slots frames' t new) et
+    (subst (λ (x : List Caller). IsPaused m tables Answered s old args fuel paused slots x t new) ef k))

@@ -1,27 +1,28 @@
 // What an order under way runs on.
 
-ghost use Rattle.std.specs.Prelude.{◌≡◌, ◌+◌, ◌-◌, ◌<◌, ◌≤◌, ℕ, List, [], ◌∷◌, length, take, true, false, IfOk, IfSome};
+ghost use Rattle.std.specs.Prelude.{◌≡◌, ◌<◌, ◌≤◌, ℕ, List, length, None, IfOk, IfSome};
 ghost use Rattle.std.specs.Arc.{arc_value};
 ghost use Rattle.limits.specs.declared.TheConstants.{MAX_DEPTH};
 ghost use Rattle.syntax.specs.declared.types.Value.{Value as Argument};
-ghost use Rattle.validate.specs.Targets.{AreTables};
 ghost use Rattle.instance.specs.Store.{Store};
 ghost use Rattle.instance.specs.Storing.{IsStoreOf};
 ghost use Rattle.instance.specs.Stops.{stop_of};
 ghost use Rattle.reduction.specs.Invoking.{TakesArguments, ReturnsTyped};
+ghost use Rattle.interp.specs.Slices.{UsesAll, UsesSome};
 ghost use Rattle.order.specs.declared.host.WorkHost.{WorkHost as Answering};
 ghost use Rattle.order.specs.Orders.{order_of};
 ghost use Rattle.order.specs.Runnable.{CanRun};
 ghost use Rattle.order.specs.Stopping.{WorkStop};
 ghost use Rattle.order.specs.Inner.Serving.{Serves};
-ghost use Rattle.order.specs.Inner.Going.{IsCalling, IsSomeCalling, IsCallingOn, IsUnbegun, Runs, callers};
+ghost use Rattle.order.specs.Inner.Going.{IsCallingOn, IsUnbegun, Runs};
 
 use crate::host::WorkHost;
 use crate::order::Order;
 use events::ended::Ended;
 use instance::stack::{Caller, Last, Slots, Stack};
 use instance::state::State;
-use interp::slices::{Paused, begin, go_on};
+use interp::call::FunctionCall;
+use interp::slices::{Paused, Slice, begin, go_on};
 use limits::MAX_DEPTH;
 use std::alloc::{AllocError, Global};
 use std::sync::Arc;
@@ -80,44 +81,6 @@ impl Order {
             tables,
         })
     }
-
-    /// Goes on with a call of a function of the order's module for at most so many units of fuel, and returns whether it is over.
-    fn slice(
-        &self,
-        tables: &[SideTable],
-        state: &mut State,
-        slots: &mut Slots,
-        frames: &mut [Caller],
-        last: &mut Option<Last>,
-        host: &mut WorkHost,
-        ended: &mut Ended,
-        function: u32,
-        paused: &mut Paused,
-        units: u64,
-    ) -> bool
-        requires runs { CanRun (order_of self.now) }
-        requires agree { AreTables (arc_value self.now.module).contents tables.now }
-        requires room { MAX_DEPTH ≤ length frames.old }
-        requires paused { IsSomeCalling (order_of self.now) tables.now function paused.old slots.old (take (self.now.depth - 1) frames.old) state.old host.old }
-        ensures over { result ≡ true → (s : Store) (old : Answering) (args : List Argument) (fuel : ℕ)
-            → IsCalling (order_of self.now) tables.now function s old paused.old slots.old (take (self.now.depth - 1) frames.old) state.old host.old fuel args
-            → WorkStop (order_of self.now) fuel s old.reply.items function args ended.new state.new host.new.reply.items (stop_of last.new frames.new) × Serves host.new (order_of self.now) × (ended.new.used ≤ fuel) }
-        ensures paused { result ≡ false → (s : Store) (old : Answering) (args : List Argument) (fuel : ℕ)
-            → IsCalling (order_of self.now) tables.now function s old paused.old slots.old (take (self.now.depth - 1) frames.old) state.old host.old fuel args
-            → IsCalling (order_of self.now) tables.now function s old paused.new slots.new (take (self.now.depth - 1) frames.new) state.new host.new fuel args }
-        ensures slice { result ≡ false → (paused.new.used ≡ paused.old.used + units) × (1 ≤ paused.new.left) × (paused.new.used + paused.new.left ≡ paused.old.used + paused.old.left) }
-        ensures last { result ≡ true → (paused.old.used ≤ ended.new.used) × (ended.new.used ≤ paused.old.used + units) × (ended.new.used ≤ paused.old.used + paused.old.left) }
-        ensures results { result ≡ true → ReturnsTyped (arc_value self.now.module).contents function ended.new.ending }
-        ensures callers { IfSome last.new (λ l. l.depth ≤ MAX_DEPTH) }
-        ensures room { length frames.new ≡ length frames.old }
-        ensures store { IsStoreOf (arc_value self.now.module).contents state.new }
-    {
-        let contents = self.module.valid().contents();
-        let callers = &mut frames[..self.depth as usize - 1];
-        go_on(
-            contents, tables, state, host, slots, callers, last, ended, function, paused, units,
-        )
-    }
 }
 
 impl Machine {
@@ -134,7 +97,8 @@ impl Machine {
         requires serves { Serves self.old.host (order_of order.now) }
         requires typed { TakesArguments (arc_value order.now.module).contents function args.now }
         requires defined { length (arc_value order.now.module).contents.imports ≤ function }
-        ensures calling { IsCallingOn (order_of order.now) self.new function self.old.state self.old.host result fuel args.now }
+        ensures calling { IsCallingOn (order_of order.now) self.new self.old.state self.old.host result fuel args.now }
+        ensures function { result.function ≡ function }
         ensures runs { Runs (order_of order.now) self.new }
         ensures used { result.used ≡ 0 }
     {
@@ -147,7 +111,13 @@ impl Machine {
             tables,
         } = self;
         let contents = order.module.valid().contents();
-        let callers = &frames.as_slice()[..order.depth as usize - 1];
+        let call = FunctionCall {
+            function,
+            args,
+            fuel,
+            depth: order.depth,
+        };
+        let callers = frames.as_slice();
         begin(
             contents,
             tables.as_slice(),
@@ -155,34 +125,26 @@ impl Machine {
             host,
             slots,
             callers,
-            function,
-            args,
-            fuel,
+            &call,
         )
     }
 
-    /// Goes on with a call of a function of the order's module for at most so many units of fuel, and returns whether it is over. Then
-    /// its ending is written.
-    pub(crate) fn go_on(
-        &mut self,
-        order: &Order,
-        ended: &mut Ended,
-        function: u32,
-        paused: &mut Paused,
-        units: u64,
-    ) -> bool
+    /// Goes on with a call of a function of the order's module for at most the units of the slice, and returns its ending, if it is
+    /// over then.
+    pub(crate) fn go_on(&mut self, order: &Order, slice: &mut Slice) -> Option<Ended>
         requires runs { Runs (order_of order.now) self.old }
-        requires calling { (s : Store) × (old : Answering) × (args : List Argument) × (fuel : ℕ) × IsCallingOn (order_of order.now) self.old function s old paused.old fuel args }
-        ensures over { result ≡ true → (s : Store) (old : Answering) (args : List Argument) (fuel : ℕ)
-            → IsCallingOn (order_of order.now) self.old function s old paused.old fuel args
-            → WorkStop (order_of order.now) fuel s old.reply.items function args ended.new self.new.state self.new.host.reply.items (stop_of self.new.last self.new.frames.items)
-            × Serves self.new.host (order_of order.now) × (ended.new.used ≤ fuel) }
-        ensures paused { result ≡ false → (s : Store) (old : Answering) (args : List Argument) (fuel : ℕ)
-            → IsCallingOn (order_of order.now) self.old function s old paused.old fuel args
-            → IsCallingOn (order_of order.now) self.new function s old paused.new fuel args }
-        ensures slice { result ≡ false → (paused.new.used ≡ paused.old.used + units) × (1 ≤ paused.new.left) × (paused.new.used + paused.new.left ≡ paused.old.used + paused.old.left) }
-        ensures last { result ≡ true → (paused.old.used ≤ ended.new.used) × (ended.new.used ≤ paused.old.used + units) × (ended.new.used ≤ paused.old.used + paused.old.left) }
-        ensures results { result ≡ true → ReturnsTyped (arc_value order.now.module).contents function ended.new.ending }
+        requires calling { (s : Store) × (old : Answering) × (args : List Argument) × (fuel : ℕ) × IsCallingOn (order_of order.now) self.old s old slice.old.paused fuel args }
+        ensures over { IfSome result (λ ended. (s : Store) (old : Answering) (args : List Argument) (fuel : ℕ)
+            → IsCallingOn (order_of order.now) self.old s old slice.old.paused fuel args
+            → WorkStop (order_of order.now) fuel s old.reply.items slice.old.paused.function args ended self.new.state self.new.host.reply.items
+            (stop_of self.new.last self.new.frames.items) × Serves self.new.host (order_of order.now) × (ended.used ≤ fuel)) }
+        ensures paused { result ≡ None → (s : Store) (old : Answering) (args : List Argument) (fuel : ℕ)
+            → IsCallingOn (order_of order.now) self.old s old slice.old.paused fuel args
+            → IsCallingOn (order_of order.now) self.new s old slice.new.paused fuel args }
+        ensures function { slice.new.paused.function ≡ slice.old.paused.function }
+        ensures slice { result ≡ None → UsesAll slice.old.paused slice.old.units slice.new.paused }
+        ensures last { IfSome result (λ e. UsesSome slice.old.paused slice.old.units e.used) }
+        ensures results { IfSome result (λ e. ReturnsTyped (arc_value order.now.module).contents slice.old.paused.function e.ending) }
         ensures store { IsStoreOf (arc_value order.now.module).contents self.new.state }
         ensures runs { Runs (order_of order.now) self.new }
     {
@@ -194,19 +156,21 @@ impl Machine {
             host,
             tables,
         } = self;
+        let contents = order.module.valid().contents();
         let callers = frames.as_mut_slice();
-        order.slice(
+        let Some(end) = go_on(
+            contents,
             tables.as_slice(),
             state,
+            host,
             slots,
             callers,
-            last,
-            host,
-            ended,
-            function,
-            paused,
-            units,
-        )
+            slice,
+        ) else {
+            return None;
+        };
+        *last = end.last;
+        Some(end.ended)
     }
 
     /// The stack and the host, where the order is over.

@@ -29,6 +29,7 @@ use instance::fault::InstFault;
 use instance::room::Room;
 use instance::stack::Stack;
 use instance::state::{Instance, State};
+use interp::call::FunctionCall;
 use interp::invoke::invoke_on;
 use limits::MAX_BYTES;
 use std::alloc::{AllocError, Global};
@@ -315,6 +316,12 @@ impl Order {
         ensures serves { Serves host.new (order_of self.now) }
     {
         let valid = self.module.valid();
-        invoke_on(valid, state, stack, host, function, args, fuel, self.depth)
+        let call = FunctionCall {
+            function,
+            args,
+            fuel,
+            depth: self.depth,
+        };
+        invoke_on(valid, state, stack, host, &call)
     }
 }

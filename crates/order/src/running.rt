@@ -26,12 +26,11 @@ use crate::reply::Reply;
 use crate::run::{Told, outcome_from};
 use crate::stage::Stage;
 use crate::trail::Trail;
-use events::ended::{Ended, Ending};
+use events::ended::Ending;
 use imports::EntryPoint;
 use imports::laws::names_are_apart;
 use instance::stack::Stack;
-use interp::invoke::unwritten;
-use interp::slices::Paused;
+use interp::slices::{Paused, Slice};
 use std::alloc::{AllocError, Global};
 use std::marker::Model;
 use syntax::types::Value;
@@ -117,10 +116,8 @@ impl Running {
         } = self;
         match stage {
             Stage::Fresh => begin_start(order, machine, units),
-            Stage::Starting(function, paused) => start_on(order, machine, function, paused, units),
-            Stage::Working(function, first, paused) => {
-                work_on(order, machine, function, first, paused, units)
-            }
+            Stage::Starting(paused) => start_on(order, machine, paused, units),
+            Stage::Working(first, paused) => work_on(order, machine, first, paused, units),
         }
     }
 }
@@ -150,7 +147,8 @@ fn tell(order: Order, host: WorkHost, stack: Stack, ending: Ending, used: u64) -
 /// The answer for an order whose machine is at its end.
 fn over(order: Order, machine: Machine, ending: Ending, used: u64) -> Told
     requires runs { Runs (order_of order) machine }
-    requires computes { (end : WorkEnd) → EndsAs (end_of_run ending) machine.host.reply.items end → Computes (order_of order) end used × ComputesTo (order_of order) end used (stop_of machine.last machine.frames.items) }
+    requires computes { (end : WorkEnd) → EndsAs (end_of_run ending) machine.host.reply.items end
+        → Computes (order_of order) end used × ComputesTo (order_of order) end used (stop_of machine.last machine.frames.items) }
     requires results { AreResults ending (valtype.I32 ∷ []) }
     ensures order { order_of result.reply.order ≡ order_of order }
     ensures memory { end_of result.reply.outcome ≢ NoMemory }
@@ -173,25 +171,24 @@ fn begin_start(order: Order, machine: Machine, units: u64) -> Going
     };
     let mut machine = machine;
     let paused = machine.begin(&order, function, &[], order.fuel);
-    start_on(order, machine, function, paused, units)
+    start_on(order, machine, paused, units)
 }
 
 /// Goes on with the start function, and with `uv_work`, where that returns within the slice.
-fn start_on(order: Order, machine: Machine, function: u32, paused: Paused, units: u64) -> Going
+fn start_on(order: Order, machine: Machine, paused: Paused, units: u64) -> Going
     requires runs { Runs (order_of order) machine }
-    requires starting { IsStarting (order_of order) machine function paused }
+    requires starting { IsStarting (order_of order) machine paused }
     ensures { Goes (record { order = order_of order; used = paused.used }) units result }
 {
     let mut machine = machine;
-    let mut next = paused;
-    let mut ended = unwritten();
-    if !machine.go_on(&order, &mut ended, function, &mut next, units) {
+    let mut slice = Slice { paused, units };
+    let Some(ended) = machine.go_on(&order, &mut slice) else {
         return Going::Paused(Running {
             order,
             machine,
-            stage: Stage::Starting(function, next),
+            stage: Stage::Starting(slice.paused),
         });
-    }
+    };
     let Ending::Return(_) = ended.ending else {
         return Going::Over(over(order, machine, ended.ending, ended.used));
     };
@@ -216,32 +213,24 @@ fn begin_work(order: Order, machine: Machine, first: u64, units: u64) -> Going
     let mut machine = machine;
     let args = [Value::I32(order.op)];
     let paused = machine.begin(&order, function, &args, order.fuel - first);
-    work_on(order, machine, function, first, paused, units)
+    work_on(order, machine, first, paused, units)
 }
 
 /// Goes on with `uv_work`, after a start function that used so much, or none.
-fn work_on(
-    order: Order,
-    machine: Machine,
-    function: u32,
-    first: u64,
-    paused: Paused,
-    units: u64,
-) -> Going
+fn work_on(order: Order, machine: Machine, first: u64, paused: Paused, units: u64) -> Going
     requires runs { Runs (order_of order) machine }
-    requires working { IsWorking (order_of order) machine function first paused }
+    requires working { IsWorking (order_of order) machine first paused }
     ensures { Goes (record { order = order_of order; used = first + paused.used }) units result }
 {
     let mut machine = machine;
-    let mut next = paused;
-    let mut ended = unwritten();
-    if !machine.go_on(&order, &mut ended, function, &mut next, units) {
+    let mut slice = Slice { paused, units };
+    let Some(ended) = machine.go_on(&order, &mut slice) else {
         return Going::Paused(Running {
             order,
             machine,
-            stage: Stage::Working(function, first, next),
+            stage: Stage::Working(first, slice.paused),
         });
-    }
+    };
     let used = first + ended.used;
     Going::Over(over(order, machine, ended.ending, used))
 }

@@ -7,8 +7,8 @@ use interp::slices::Paused;
 pub(crate) enum Stage {
     /// Nothing has run.
     Fresh,
-    /// This start function is under way.
-    Starting(u32, Paused),
-    /// `uv_work`, which is this function, is under way, after a start function that used so much, or none.
-    Working(u32, u64, Paused),
+    /// The start function is under way.
+    Starting(Paused),
+    /// `uv_work` is under way, after a start function that used so much, or none.
+    Working(u64, Paused),
 }

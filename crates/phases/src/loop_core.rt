@@ -39,6 +39,7 @@ use handles::Kind;
 use imports::{EntryPoint, Linked};
 use instance::stack::{Stack, Stop};
 use instance::state::State;
+use interp::call::FunctionCall;
 use interp::invoke::{invoke_bare, unwritten};
 use order::laws::imports_are_named;
 use order::{Order, Reply};
@@ -349,16 +350,19 @@ impl<B: Shared + Drop> LoopCore<B> {
         let LoopSettings { fuel, depth, .. } = self.host.setting.settings;
         imports_are_named(&self.linked);
         let valid = self.linked.valid();
+        let call = FunctionCall {
+            function,
+            args,
+            fuel,
+            depth,
+        };
         let ended = invoke_bare(
             valid,
             &mut self.store,
             &mut self.stack,
             &mut self.host,
             &mut self.place,
-            function,
-            args,
-            fuel,
-            depth,
+            &call,
         );
         self.host.state.end_callback(ended);
         BareDid::Ran {

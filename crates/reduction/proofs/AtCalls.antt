@@ -88,7 +88,7 @@ After m marks (Calls callee args below) = Awaits m callee below marks
 After m marks _ = Unit {0}
 
 -- an instruction that neither branches nor calls leads to the next operation
-behind-plain : (i : Instr) (values : List Value) (at : ℕ) (marks : List Mark) → StaysInBlock i → behind_instruction i values at marks ≡ moved (at + 1) marks
+pub behind-plain : (i : Instr) (values : List Value) (at : ℕ) (marks : List Mark) → StaysInBlock i → behind_instruction i values at marks ≡ moved (at + 1) marks
 behind-plain (Br label) values at marks still = absurd still
 behind-plain (BrIf label) values at marks still = absurd still
 behind-plain (BrTable labels default) values at marks still = absurd still

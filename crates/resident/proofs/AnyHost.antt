@@ -8,9 +8,9 @@ use Rattle.instance.specs.Store.{Store}
 use Rattle.instance.specs.declared.stack.Caller.{Caller}
 use Rattle.reduction.specs.Run.{HostCall}
 use Rattle.reduction.specs.Hosting.{Lawful}
-use Rattle.engine.specs.declared.at.At.{At}
 use Rattle.engine.specs.Programs.{Program}
 use Rattle.engine.specs.Stepping.{State}
+use Rattle.interp.specs.declared.paused.Paused.{Paused}
 use Rattle.interp.specs.Slots.Hosted.{Comes}
 use Rattle.interp.specs.Slices.{IsPaused}
 use Rattle.resident.specs.NoHost.{Refuses}
@@ -57,10 +57,8 @@ module _ {H : Type 0} where
           leads = come.leads;
         }
 
-  module _ (m : Contents) (tables : List SideTable) (depth function : ℕ) (s t : Store) (args : List Value) (fuel : ℕ) (at : At) (used left : ℕ) (slots : List ℕ)
-      (frames : List Caller) where
-    pub paused_unseen : (old new : H) → IsPaused m tables depth refuses function s old args fuel at used left slots frames t new
-        → IsPaused m tables depth answers function s tt args fuel at used left slots frames t tt
+  module _ (m : Contents) (tables : List SideTable) (s t : Store) (args : List Value) (fuel : ℕ) (paused : Paused) (slots : List ℕ) (frames : List Caller) where
+    pub paused_unseen : (old new : H) → IsPaused m tables refuses s old args fuel paused slots frames t new → IsPaused m tables answers s tt args fuel paused slots frames t tt
     paused_unseen old new q = record {
       takes = q.takes;
       defined = q.defined;
@@ -72,11 +70,10 @@ module _ {H : Type 0} where
       small = q.small;
       deep = q.deep;
       paid = q.paid;
-      comes = comes_unseen m _ depth q.takes.type.results _ _ old new q.comes;
+      comes = comes_unseen m _ paused.depth q.takes.type.results _ _ old new q.comes;
     }
 
-    pub paused_seen : (h : H) → IsPaused m tables depth answers function s tt args fuel at used left slots frames t tt
-        → IsPaused m tables depth refuses function s h args fuel at used left slots frames t h
+    pub paused_seen : (h : H) → IsPaused m tables answers s tt args fuel paused slots frames t tt → IsPaused m tables refuses s h args fuel paused slots frames t h
     paused_seen h q = record {
       takes = q.takes;
       defined = q.defined;
@@ -88,5 +85,5 @@ module _ {H : Type 0} where
       small = q.small;
       deep = q.deep;
       paid = q.paid;
-      comes = comes_seen m _ depth q.takes.type.results _ _ h q.comes;
+      comes = comes_seen m _ paused.depth q.takes.type.results _ _ h q.comes;
     }

@@ -1,40 +1,35 @@
 -- A call of an instance in slices is a call of it.
-use Rattle.std.proofs.Common.{◌≡◌, ℕ, ◌+◌, ◌-◌, ◌<◌, ◌≤◌, List, ◌++◌, length, take, Option, Some, None, refl, sym, ap, ◌∙◌, subst, arith}
+use Rattle.std.proofs.Common.{◌≡◌, ℕ, ◌<◌, ◌≤◌, List, ◌++◌, length, take, Option, Some, None, refl, sym, ap, ◌∙◌, subst, arith}
 use Rattle.std.specs.Prelude.{slice_get}
-use Rattle.std.proofs.lemmas.List.{length-take-le}
 use Rattle.std.proofs.Math.Seq.{take-append_seam}
-use Rattle.limits.specs.declared.TheConstants.{MAX_DEPTH}
 use Rattle.syntax.specs.Loaded.{Loaded}
 use Rattle.syntax.specs.declared.types.Value.{Value}
 use Rattle.syntax.specs.declared.contents.Contents.{Contents}
-use Rattle.validate.specs.declared.side_table.SideTable.{SideTable}
 use Rattle.instance.specs.Store.{Store, memory_of}
 use Rattle.instance.specs.declared.stack.Caller.{Caller}
 use Rattle.instance.specs.declared.stack.Site.{Site}
+use Rattle.validate.specs.declared.side_table.SideTable.{SideTable}
 use Rattle.events.specs.declared.ended.Ended.{Ended}
 use Rattle.events.specs.declared.ended.Ending.TheVariants.{Return}
 use Rattle.reduction.specs.Run.{as_operands}
 use Rattle.reduction.specs.Hosting.{Answers, Names}
 use Rattle.reduction.specs.Invoking.{ReturnsTyped}
 use Rattle.reduction.proofs.Outside.{invoked_import, answer_returns}
-use Rattle.interp.specs.declared.slices.Paused.{Paused}
+use Rattle.interp.specs.declared.paused.Paused.{Paused}
 use Rattle.interp.specs.Slices.{IsPaused, IsSomePaused, IsOver}
 use Rattle.resident.specs.NoHost.{IsMinusOne, types_of_imports}
 use Rattle.resident.specs.Calls.{Kept, Calls}
 use Rattle.resident.specs.Underway.{Called, HasCome, ComesTo, IsSomeCall, used_at, used_by, answers}
 use Rattle.resident.specs.Slices.{IsOver as IsOverCall}
+use Rattle.resident.specs.Inner.Going.{place_of}
+use Rattle.resident.specs.declared.calling.Place.{Place}
+use Rattle.resident.specs.declared.calling.Place.TheVariants.{Import, Inside}
 use Rattle.resident.proofs.AnyHost.{refuses, paused_seen, paused_unseen}
 use Rattle.resident.proofs.Refused.{called}
 
--- room for the callers of so deep a call
-pub front_is_deep : (depth : ℕ) (frames : List Caller) → 1 ≤ depth → depth ≤ MAX_DEPTH → MAX_DEPTH ≤ length frames → length (take (depth - 1) frames) + 1 ≡ depth
-front_is_deep depth frames least most room =
-    let size : length (take (depth - 1) frames) ≡ depth - 1 = length-take-le (depth - 1) frames (omega (arith, least, most, room)) in
-    omega (arith, size, least)
-
--- the front of a list of two parts
-pub front_of : {A : Type 0} (n : ℕ) (xs ys : List A) → length xs ≡ n → take n (xs ++ ys) ≡ xs
-front_of n xs ys e = subst (λ (k : ℕ). take k (xs ++ ys) ≡ xs) e (take-append_seam xs ys)
+pub inside_of : (place : Place) (paused : Paused) → place_of place ≡ Some paused → place ≡ Inside paused
+inside_of (Import function depth) paused is = absurd (cc)
+inside_of (Inside at) paused is = cc
 
 -- a call of this function, with so many calls opened, is one of that function, with as many opened
 module _ (loaded : Loaded) (function depth : ℕ) (ended : Ended) (b : Kept) (fuel : ℕ) (args : List Value) where
@@ -45,89 +40,92 @@ module _ (loaded : Loaded) (function depth : ℕ) (ended : Ended) (b : Kept) (fu
       (subst (λ (n : ℕ). Calls (record { loaded = loaded; store = a.store; stop = a.stop }) n fuel f args ended b) deep
       (subst (λ (n : ℕ). Calls (record { loaded = loaded; store = a.store; stop = a.stop }) depth fuel n args ended b) named calls))
 
+-- the front of a list of two parts
+pub take_seam : {A : Type 0} (n : ℕ) (xs ys : List A) → length xs ≡ n → take n (xs ++ ys) ≡ xs
+take_seam n xs ys e = subst (λ (k : ℕ). take k (xs ++ ys) ≡ xs) e (take-append_seam xs ys)
+
+-- a call is paused over an equal module, equal tables and equal callers
+module _ {H : Type 0} (m m' : Contents) (ts ts' : List SideTable) (fs fs' : List Caller) (em : m ≡ m') (et : ts ≡ ts') (ef : fs ≡ fs') where
+  paused_in : (s t : Store) (old new : H) (args : List Value) (fuel : ℕ) (paused : Paused) (slots : List ℕ)
+      → IsPaused m ts refuses s old args fuel paused slots fs t new → IsPaused m' ts' refuses s old args fuel paused slots fs' t new
+  paused_in s t old new args fuel paused slots k =
+      subst (λ (x : Contents). IsPaused x ts' refuses s old args fuel paused slots fs' t new) em
+      (subst (λ (x : List SideTable). IsPaused m x refuses s old args fuel paused slots fs' t new) et
+      (subst (λ (x : List Caller). IsPaused m ts refuses s old args fuel paused slots x t new) ef k))
+
+  -- a call that begins is under way, whatever is seen of the host
+  pub begun : (s : Store) (args : List Value) (fuel : ℕ) (paused : Paused) (slots : List ℕ) (h : H) → IsPaused m ts refuses s h args fuel paused slots fs s h
+      → IsPaused m' ts' answers s tt args fuel paused slots fs' s tt
+  begun s args fuel paused slots h q = paused_unseen m' ts' s s args fuel paused slots fs' h h (paused_in s s h h args fuel paused slots q)
+
 -- A call over a host of whatever state, at a place. The module's parts are told beside what they are the same as.
-module _ (loaded : Loaded) (tables : List SideTable) (function depth : ℕ) (slots : List ℕ) (frames : List Caller) (store : Store) (paused : Paused) where
-  abbrev pub front : List Caller
-  front = take (depth - 1) frames
-
+module _ (loaded : Loaded) (tables : List SideTable) (slots : List ℕ) (frames : List Caller) (store : Store) (paused : Paused) where
   abbrev pub now : Called
-  now = record { loaded = loaded; tables = tables; function = function; depth = depth; place = Some paused; slots = slots; callers = frames; store = store }
+  now = record {
+    loaded = loaded;
+    tables = tables;
+    function = paused.function;
+    depth = paused.depth;
+    place = Some paused;
+    slots = slots;
+    callers = frames;
+    store = store;
+  }
 
-  module _ {H : Type 0} (m : Contents) (ts : List SideTable) (fs : List Caller) (same : m ≡ loaded.contents) (same_tables : ts ≡ tables) (same_frames : fs ≡ frames)
-      (deep : length (take (depth - 1) fs) + 1 ≡ depth) (h : H) where
-    abbrev pub opened : List Caller
-    opened = take (depth - 1) fs
-
+  module _ {H : Type 0} (m : Contents) (ts : List SideTable) (fs : List Caller) (same : m ≡ loaded.contents) (same_tables : ts ≡ tables) (same_frames : fs ≡ frames) (h : H) where
     -- a call that has come here is paused here, over whatever host
-    here : (a : Kept) (d fuel f : ℕ) (args : List Value) → HasCome a d fuel f args now
-        → IsPaused m ts (length opened + 1) refuses function a.store h args fuel paused.at paused.used paused.left slots opened store h
+    here : (a : Kept) (d fuel f : ℕ) (args : List Value) → HasCome a d fuel f args now → IsPaused m ts refuses a.store h args fuel paused slots fs store h
     here a d fuel f args come =
-        let first : IsPaused loaded.contents tables depth refuses function a.store h args fuel paused.at paused.used paused.left slots front store h =
-        paused_seen loaded.contents tables depth function a.store store args fuel paused.at paused.used paused.left slots front h come.comes in
-        let at_depth : IsPaused m ts depth refuses function a.store h args fuel paused.at paused.used paused.left slots front store h =
-        subst (λ (x : Contents). IsPaused x ts depth refuses function a.store h args fuel paused.at paused.used paused.left slots front store h) (sym same)
-        (subst (λ (x : List SideTable). IsPaused loaded.contents x depth refuses function a.store h args fuel paused.at paused.used paused.left slots front store h) (sym same_tables) first) in
-        subst (λ (n : ℕ). IsPaused m ts n refuses function a.store h args fuel paused.at paused.used paused.left slots opened store h) (sym deep)
-        (subst (λ (x : List Caller). IsPaused m ts depth refuses function a.store h args fuel paused.at paused.used paused.left slots (take (depth - 1) x) store h) (sym same_frames) at_depth)
+        paused_in loaded.contents m tables ts frames fs (sym same) (sym same_tables) (sym same_frames) a.store store h h args fuel paused slots
+        (paused_seen loaded.contents tables a.store store args fuel paused slots frames h come.comes.2)
 
-    pub some_paused : IsSomeCall now → IsSomePaused m ts (length opened + 1) refuses function paused.at paused.used paused.left slots opened store h
+    pub some_paused : IsSomeCall now → IsSomePaused m ts refuses paused slots fs store h
     some_paused (a, d, fuel, f, args, come) = (a.store, h, args, fuel, here a d fuel f args come)
 
     module _ (h' : H) where
       pub over_calls : (ended : Ended) (t : Store) (stop whole : Option (List Site)) → whole ≡ stop
-          → ((s : Store) (before : H) (args : List Value) (fuel : ℕ)
-          → IsPaused m ts (length opened + 1) refuses function s before args fuel paused.at paused.used paused.left slots opened store h
-          → IsOver m (length opened + 1) refuses function s before args fuel ended t h' stop)
-          → ReturnsTyped m function ended.ending
+          → ((s : Store) (before : H) (args : List Value) (fuel : ℕ) → IsPaused m ts refuses s before args fuel paused slots fs store h
+          → IsOver m paused.depth refuses paused.function s before args fuel ended t h' stop)
+          → ReturnsTyped m paused.function ended.ending
           → (a : Kept) (d fuel f : ℕ) (args : List Value) → HasCome a d fuel f args now
           → Calls a d fuel f args ended (record { loaded = loaded; store = t; stop = whole })
       over_calls ended t stop whole e over typed a d fuel f args come =
-          let it : IsOver loaded.contents depth refuses function a.store h args fuel ended t h' whole =
-          subst (λ (x : Option (List Site)). IsOver loaded.contents depth refuses function a.store h args fuel ended t h' x) (sym e)
-          (subst (λ (x : Contents). IsOver x depth refuses function a.store h args fuel ended t h' stop) same
-          (subst (λ (n : ℕ). IsOver m n refuses function a.store h args fuel ended t h' stop) deep (over a.store h args fuel (here a d fuel f args come)))) in
+          let it : IsOver loaded.contents paused.depth refuses paused.function a.store h args fuel ended t h' whole =
+          subst (λ (x : Option (List Site)). IsOver loaded.contents paused.depth refuses paused.function a.store h args fuel ended t h' x) (sym e)
+          (subst (λ (x : Contents). IsOver x paused.depth refuses paused.function a.store h args fuel ended t h' stop) same (over a.store h args fuel (here a d fuel f args come))) in
           let b : Kept = record { loaded = loaded; store = t; stop = whole } in
           let own : Kept = record { loaded = loaded; store = a.store; stop = a.stop } in
-          as_told loaded function depth ended b fuel args a d f come.same come.named come.deep
-          (called own depth fuel function args h h' ended b refl it.leads it.within (subst (λ (x : Contents). ReturnsTyped x function ended.ending) same typed))
+          as_told loaded paused.function paused.depth ended b fuel args a d f come.same come.named come.deep
+          (called own paused.depth fuel paused.function args h h' ended b refl it.leads it.within (subst (λ (x : Contents). ReturnsTyped x paused.function ended.ending) same typed))
 
-      pub goes_on : (next : Paused) (after : List ℕ) (callers back whole : List Caller) → whole ≡ callers ++ back → (t : Store)
-          → ((s : Store) (before : H) (args : List Value) (fuel : ℕ)
-          → IsPaused m ts (length opened + 1) refuses function s before args fuel paused.at paused.used paused.left slots opened store h
-          → IsPaused m ts (length opened + 1) refuses function s before args fuel next.at next.used next.left after callers t h')
-          → length callers ≡ length opened → 1 ≤ next.left
+      pub goes_on : (next : Paused) (after : List ℕ) (callers whole : List Caller) → whole ≡ callers → (t : Store)
+          → (next.function ≡ paused.function) × (next.depth ≡ paused.depth)
+          → ((s : Store) (before : H) (args : List Value) (fuel : ℕ) → IsPaused m ts refuses s before args fuel paused slots fs store h
+          → IsPaused m ts refuses s before args fuel next after callers t h')
+          → 1 ≤ next.left
           → (a : Kept) (d fuel f : ℕ) (args : List Value) → HasCome a d fuel f args now
-          → HasCome a d fuel f args (record { loaded = loaded; tables = tables; function = function; depth = depth; place = Some next; slots = after; callers = whole; store = t })
+          → HasCome a d fuel f args (record {
+            loaded = loaded;
+            tables = tables;
+            function = next.function;
+            depth = next.depth;
+            place = Some next;
+            slots = after;
+            callers = whole;
+            store = t;
+          })
           × (next.used < fuel)
-      goes_on next after callers back whole e t going size left a d fuel f args come =
-          let there : IsPaused loaded.contents tables depth refuses function a.store h args fuel next.at next.used next.left after callers t h' =
-          subst (λ (x : Contents). IsPaused x tables depth refuses function a.store h args fuel next.at next.used next.left after callers t h') same
-          (subst (λ (x : List SideTable). IsPaused m x depth refuses function a.store h args fuel next.at next.used next.left after callers t h') same_tables
-          (subst (λ (n : ℕ). IsPaused m ts n refuses function a.store h args fuel next.at next.used next.left after callers t h') deep
-          (going a.store h args fuel (here a d fuel f args come)))) in
-          let unseen = paused_unseen loaded.contents tables depth function a.store t args fuel next.at next.used next.left after callers h h' there in
-          let short : length callers ≡ depth - 1 = omega (arith, size, deep) in (
+      goes_on next after callers whole e t call going left a d fuel f args come =
+          let there : IsPaused loaded.contents tables refuses a.store h args fuel next after whole t h' =
+          paused_in m loaded.contents ts tables callers whole same same_tables (sym e) a.store t h h' args fuel next after (going a.store h args fuel (here a d fuel f args come)) in (
             record {
               same = come.same;
-              named = come.named;
-              deep = come.deep;
-              comes = subst (λ (c : List Caller). IsPaused loaded.contents tables depth answers function a.store tt args fuel next.at next.used next.left after c t tt)
-                  (sym (ap (λ (c : List Caller). take (depth - 1) c) e ∙ front_of (depth - 1) callers back short)) unseen;
+              named = call.0 ∙ come.named;
+              deep = call.1 ∙ come.deep;
+              comes = (refl, refl, paused_unseen loaded.contents tables a.store t args fuel next after whole h h' there);
             },
             omega (arith, there.paid, left),
           )
-
--- a call that begins is under way, whatever is seen of the host
-pub begun : {H : Type 0} (m loaded : Contents) (ts tables : List SideTable) (depth function : ℕ) (s : Store) (args : List Value) (fuel : ℕ) (paused : Paused) (slots : List ℕ)
-    (fs frames : List Caller) (h : H) → m ≡ loaded → ts ≡ tables → fs ≡ frames → length (take (depth - 1) fs) + 1 ≡ depth
-    → IsPaused m ts (length (take (depth - 1) fs) + 1) refuses function s h args fuel paused.at paused.used paused.left slots (take (depth - 1) fs) s h
-    → IsPaused loaded tables depth answers function s tt args fuel paused.at paused.used paused.left slots (take (depth - 1) frames) s tt
-begun m loaded ts tables depth function s args fuel paused slots fs frames h same same_tables same_frames deep q =
-    paused_unseen loaded tables depth function s s args fuel paused.at paused.used paused.left slots (take (depth - 1) frames) h h
-    (subst (λ (x : Contents). IsPaused x tables depth refuses function s h args fuel paused.at paused.used paused.left slots (take (depth - 1) frames) s h) same
-    (subst (λ (x : List SideTable). IsPaused m x depth refuses function s h args fuel paused.at paused.used paused.left slots (take (depth - 1) frames) s h) same_tables
-    (subst (λ (x : List Caller). IsPaused m ts depth refuses function s h args fuel paused.at paused.used paused.left slots (take (depth - 1) x) s h) same_frames
-    (subst (λ (n : ℕ). IsPaused m ts n refuses function s h args fuel paused.at paused.used paused.left slots (take (depth - 1) fs) s h) deep q))))
 
 -- An import is asked. Its instance stays as it was.
 module _ (c : Called) (none : c.place ≡ None) (v : Loaded) (same : v ≡ c.loaded) (number : ℕ) (is : number ≡ c.function)

@@ -1,5 +1,5 @@
 -- A call of an instance under way, between two slices.
-use Rattle.std.specs.Prelude.{◌≡◌, ℕ, ◌-◌, List, take, Option, Some, None}
+use Rattle.std.specs.Prelude.{◌≡◌, ℕ, List, Option, Some, None}
 use Rattle.syntax.specs.Loaded.{Loaded}
 use Rattle.syntax.specs.declared.types.Value.{Value}
 use Rattle.validate.specs.declared.side_table.SideTable.{SideTable}
@@ -7,7 +7,7 @@ use Rattle.instance.specs.Store.{Store}
 use Rattle.instance.specs.declared.stack.Caller.{Caller}
 use Rattle.reduction.specs.Run.{HostCall, IsImported}
 use Rattle.reduction.specs.Invoking.{TakesArguments}
-use Rattle.interp.specs.declared.slices.Paused.{Paused}
+use Rattle.interp.specs.declared.paused.Paused.{Paused}
 use Rattle.interp.specs.Slices.{IsPaused}
 use Rattle.resident.specs.NoHost.{Refuses}
 use Rattle.resident.specs.Calls.{Kept}
@@ -41,8 +41,8 @@ used_by c = used_at c.place
 abbrev pub ComesTo : Called → Option Paused → Store → (fuel : ℕ) → List Value → Type 0
 ComesTo c None s fuel args = TakesArguments c.loaded.contents c.function args × IsImported c.loaded.contents c.function × (c.store ≡ s)
 ComesTo c (Some paused) s fuel args =
-    IsPaused c.loaded.contents c.tables c.depth answers c.function s tt args fuel paused.at paused.used paused.left c.slots
-    (take (c.depth - 1) c.callers) c.store tt
+    (paused.function ≡ c.function) × (paused.depth ≡ c.depth)
+    × IsPaused c.loaded.contents c.tables answers s tt args fuel paused c.slots c.callers c.store tt
 
 -- The call of this function that began on the instance as it stood has come to there.
 pub record HasCome (a : Kept) (depth fuel function : ℕ) (args : List Value) (c : Called) : Type 0 where

@@ -1,7 +1,6 @@
 // A call of an instance in slices.
 
 ghost use Rattle.std.specs.Prelude.{◌≡◌, ◌≤◌, ℕ, length, Some, None, IfOk, IfErr, IfSome};
-ghost use Rattle.std.specs.Arc.{arc_value};
 ghost use Rattle.limits.specs.declared.TheConstants.{MAX_DEPTH};
 ghost use Rattle.events.specs.declared.ended.Ending.TheVariants.{Return};
 ghost use Rattle.instance.specs.Storing.{IsStoreOf};
@@ -9,9 +8,8 @@ ghost use Rattle.instance.specs.Stops.{stop_of};
 ghost use Rattle.reduction.specs.Invoking.{TakesArguments};
 ghost use Rattle.reduction.specs.Run.{as_operands};
 ghost use Rattle.resident.specs.Slices.{Goes, IsOver, IsPausedAgain};
-ghost use Rattle.resident.specs.Underway.{HasCome, ComesTo, IsSomeCall, used_at, used_by};
-ghost use Rattle.validate.specs.Targets.{AreTables};
-ghost use Rattle.resident.specs.Inner.Going.{Runs, called, come_to, kept};
+ghost use Rattle.resident.specs.Underway.{HasCome, ComesTo, IsSomeCall, used_by};
+ghost use Rattle.resident.specs.Inner.Going.{Runs, called, inside, kept, place_of};
 
 use crate::no_host::{NoHost, answer};
 use crate::resident::Resident;
@@ -20,8 +18,8 @@ use events::values::Values;
 use imports::Linked;
 use instance::stack::{Caller, Last, Slots, Stack};
 use instance::state::State;
-use interp::invoke::unwritten;
-use interp::slices::{Paused, begin, go_on};
+use interp::call::FunctionCall;
+use interp::slices::{Paused, Slice, begin, go_on};
 use limits::MAX_DEPTH;
 use std::alloc::{AllocError, Global};
 use std::marker::Model;
@@ -50,15 +48,22 @@ impl Drop for Machine {
     }
 }
 
+/// Where a call goes on.
+#[derive(Clone, Copy)]
+pub(crate) enum Place {
+    /// This import is asked, in a call with which so many calls may stand open.
+    Import(u32, u32),
+    /// In a function of the module.
+    Inside(Paused),
+}
+
 /// A call of an instance under way, between two slices, with the instance. It may be kept, given to another thread, or dropped at any
 /// time. An import is asked in the first slice.
 pub struct Calling {
     linked: Arc<Linked, Global>,
     state: State,
     machine: Machine,
-    function: u32,
-    depth: u32,
-    place: Option<Paused>,
+    place: Place,
 }
 
 impl Drop for Calling {
@@ -67,8 +72,6 @@ impl Drop for Calling {
             linked: _,
             state: _,
             machine: _,
-            function: _,
-            depth: _,
             place: _,
         } = self;
     }
@@ -85,9 +88,9 @@ impl Model for Calling {
 
     ghost coded = { Prim.hlevel (codes, loaded_coded) };
 
-    ghost view = { λ c. called (arc_value c.linked) c.state c.machine c.function c.depth c.place };
+    ghost view = { λ c. called (arc_value c.linked) c.state c.machine c.place };
 
-    ghost invariant = { λ c. IsGoing (arc_value c.linked) c.state c.machine c.function c.depth c.place };
+    ghost invariant = { λ c. IsGoing (arc_value c.linked) c.state c.machine c.place };
 }
 
 /// What a slice leaves of a call.
@@ -113,58 +116,6 @@ fn returned(answer: Option<Value>) -> Ended
     }
 }
 
-/// A slice of a call of a defined function: for at most so many units of fuel.
-#[derive(Drop)]
-struct Slice<'a> {
-    valid: &'a Valid,
-    function: u32,
-    depth: u32,
-    units: u64,
-}
-
-impl Slice<'_> {
-    /// Goes on with the call. Where it is over then, its ending is told.
-    fn run(
-        &self,
-        tables: &[SideTable],
-        state: &mut State,
-        slots: &mut Slots,
-        frames: &mut [Caller],
-        last: &mut Option<Last>,
-        paused: &mut Paused,
-    ) -> Option<Ended>
-        requires agree { AreTables self.now.valid.now.contents tables.now }
-        requires room { MAX_DEPTH ≤ length frames.old }
-        requires deep { (1 ≤ self.now.depth) × (self.now.depth ≤ MAX_DEPTH) }
-        requires some { IsSomeCall (come_to self.now.valid.now tables.now self.now.function self.now.depth slots.old frames.old state.old paused.old) }
-        ensures over { IfSome result (IsOver (come_to self.now.valid.now tables.now self.now.function self.now.depth slots.old frames.old state.old paused.old) self.now.units
-            (record { loaded = self.now.valid.now; store = state.new; stop = stop_of last.new frames.new })) }
-        ensures paused { result ≡ None → IsPausedAgain (come_to self.now.valid.now tables.now self.now.function self.now.depth slots.old frames.old state.old paused.old) self.now.units
-            (come_to self.now.valid.now tables.now self.now.function self.now.depth slots.new frames.new state.new paused.new) }
-        ensures callers { IfSome last.new (λ l. l.depth ≤ MAX_DEPTH) }
-        ensures room { length frames.new ≡ length frames.old }
-        ensures store { IsStoreOf self.now.valid.now.contents state.new }
-    {
-        let mut host = NoHost::new(self.valid);
-        let mut ended = unwritten();
-        let callers = &mut frames[..self.depth as usize - 1];
-        let is_over = go_on(
-            self.valid.contents(),
-            tables,
-            state,
-            &mut host,
-            slots,
-            callers,
-            last,
-            &mut ended,
-            self.function,
-            paused,
-            self.units,
-        );
-        if is_over { Some(ended) } else { None }
-    }
-}
-
 impl Machine {
     /// One on which nothing has run. An error comes where memory is refused.
     pub(crate) fn new(alloc: Global, valid: &Valid) -> Result<Machine, AllocError>
@@ -187,27 +138,21 @@ impl Machine {
         })
     }
 
-    /// Begins a call. Nothing of it runs yet. There is no place where an import goes on.
-    fn begin(
-        &mut self,
-        valid: &Valid,
-        state: &State,
-        function: u32,
-        args: &[Value],
-        fuel: u64,
-        depth: u32,
-    ) -> Option<Paused>
+    /// Begins a call. Nothing of it runs yet.
+    fn begin(&mut self, valid: &Valid, state: &State, call: &FunctionCall) -> Place
         requires runs { Runs valid.now self.old }
         requires store { IsStoreOf valid.now.contents state.now }
-        requires typed { TakesArguments valid.now.contents function args.now }
-        requires deep { (1 ≤ depth) × (depth ≤ MAX_DEPTH) }
-        ensures comes { ComesTo (called valid.now state.now self.new function depth result) result state.now fuel args.now }
-        ensures unused { used_at result ≡ 0 }
+        requires typed { TakesArguments valid.now.contents call.now.function call.now.args.now }
+        requires deep { (1 ≤ call.now.depth) × (call.now.depth ≤ MAX_DEPTH) }
+        ensures comes { ComesTo (called valid.now state.now self.new result) (place_of result) state.now call.now.fuel call.now.args.now }
+        ensures function { (called valid.now state.now self.new result).function ≡ call.now.function }
+        ensures depth { (called valid.now state.now self.new result).depth ≡ call.now.depth }
+        ensures unused { used_by (called valid.now state.now self.new result) ≡ 0 }
         ensures runs { Runs valid.now self.new }
     {
         let contents = valid.contents();
-        if (function as usize) < contents.imports.len() {
-            return None;
+        if (call.function as usize) < contents.imports.len() {
+            return Place::Import(call.function, call.depth);
         }
         let Machine {
             tables,
@@ -216,30 +161,18 @@ impl Machine {
             last: _,
         } = self;
         let host = NoHost::new(valid);
-        let callers = &frames.as_slice()[..depth as usize - 1];
         let tables = tables.as_slice();
-        Some(begin(
-            contents, tables, state, &host, slots, callers, function, args, fuel,
-        ))
+        let callers = frames.as_slice();
+        Place::Inside(begin(contents, tables, state, &host, slots, callers, call))
     }
 
-    /// Goes on with a call of a defined function for at most so many units of fuel. Where it is over then, its ending is told.
-    fn go_on(
-        &mut self,
-        valid: &Valid,
-        state: &mut State,
-        function: u32,
-        depth: u32,
-        paused: &mut Paused,
-        units: u64,
-    ) -> Option<Ended>
+    /// Goes on with a call of a function of the module for at most the units of the slice. Where it is over then, its ending is told.
+    fn go_on(&mut self, valid: &Valid, state: &mut State, slice: &mut Slice) -> Option<Ended>
         requires runs { Runs valid.now self.old }
-        requires store { IsStoreOf valid.now.contents state.old }
-        requires deep { (1 ≤ depth) × (depth ≤ MAX_DEPTH) }
-        requires some { IsSomeCall (called valid.now state.old self.old function depth (Some paused.old)) }
-        ensures over { IfSome result (IsOver (called valid.now state.old self.old function depth (Some paused.old)) units (kept valid.now state.new self.new)) }
-        ensures paused { result ≡ None → IsPausedAgain (called valid.now state.old self.old function depth (Some paused.old)) units
-            (called valid.now state.new self.new function depth (Some paused.new)) }
+        requires some { IsSomeCall (inside valid.now state.old self.old slice.old.paused) }
+        ensures over { IfSome result (IsOver (inside valid.now state.old self.old slice.old.paused) slice.old.units (kept valid.now state.new self.new)) }
+        ensures paused { result ≡ None → IsPausedAgain (inside valid.now state.old self.old slice.old.paused) slice.old.units
+            (inside valid.now state.new self.new slice.new.paused) }
         ensures runs { Runs valid.now self.new }
         ensures store { IsStoreOf valid.now.contents state.new }
     {
@@ -249,14 +182,15 @@ impl Machine {
             frames,
             last,
         } = self;
-        let slice = Slice {
-            valid,
-            function,
-            depth,
-            units,
-        };
+        let mut host = NoHost::new(valid);
+        let contents = valid.contents();
+        let tables = tables.as_slice();
         let callers = frames.as_mut_slice();
-        slice.run(tables.as_slice(), state, slots, callers, last, paused)
+        let Some(end) = go_on(contents, tables, state, &mut host, slots, callers, slice) else {
+            return None;
+        };
+        *last = end.last;
+        Some(end.ended)
     }
 
     /// The stack, where the call is over.
@@ -295,35 +229,32 @@ impl Resident {
         ensures begun { IfOk result (λ c. HasCome self depth fuel function args.now c × (used_by c ≡ 0)) }
         ensures refused { IfErr result (λ same. same ≡ self) }
     {
+        let call = FunctionCall {
+            function,
+            args,
+            fuel,
+            depth,
+        };
         match self.machine(alloc) {
-            Ok(machine) => Ok(self.begin_on(machine, function, args, fuel, depth)),
+            Ok(machine) => Ok(self.begin_on(machine, &call)),
             Err(AllocError) => Err(self),
         }
     }
 
     /// Begins it on this machine.
-    fn begin_on(
-        self,
-        machine: Machine,
-        function: u32,
-        args: &[Value],
-        fuel: u64,
-        depth: u32,
-    ) -> Calling
+    fn begin_on(self, machine: Machine, call: &FunctionCall) -> Calling
         requires runs { Runs self.loaded machine }
-        requires typed { TakesArguments self.loaded.contents function args.now }
-        requires depth { (1 ≤ depth) × (depth ≤ MAX_DEPTH) }
-        ensures { HasCome self depth fuel function args.now result × (used_by result ≡ 0) }
+        requires typed { TakesArguments self.loaded.contents call.now.function call.now.args.now }
+        requires depth { (1 ≤ call.now.depth) × (call.now.depth ≤ MAX_DEPTH) }
+        ensures { HasCome self call.now.depth call.now.fuel call.now.function call.now.args.now result × (used_by result ≡ 0) }
     {
         let (linked, state) = self.into_parts();
         let mut machine = machine;
-        let place = machine.begin(linked.valid(), &state, function, args, fuel, depth);
+        let place = machine.begin(linked.valid(), &state, call);
         Calling {
             linked,
             state,
             machine,
-            function,
-            depth,
             place,
         }
     }
@@ -337,31 +268,28 @@ impl Calling {
         ensures { Goes self units result }
     {
         match self.place {
-            Some(paused) => self.run(paused, units),
-            None => self.ask(),
+            Place::Import(function, _) => self.ask(function),
+            Place::Inside(paused) => self.run(paused, units),
         }
     }
 
-    /// Asks an import.
-    fn ask(self) -> Going
-        requires { self.place ≡ None }
+    /// Asks the import of which it is.
+    fn ask(self, function: u32) -> Going
+        requires place { self.place ≡ None }
+        requires function { self.function ≡ function }
         ensures { (units : ℕ) → Goes self units result }
     {
         let Calling {
             linked,
             state,
             machine,
-            function,
-            depth: _,
             place: _,
         } = self;
         let ended = returned(answer(linked.valid(), function));
         let mut machine = machine;
         machine.last = None;
-        Going::Over(
-            Resident::of_parts(linked, state, machine.into_stack()),
-            ended,
-        )
+        let stack = machine.into_stack();
+        Going::Over(Resident::of_parts(linked, state, stack), ended)
     }
 
     /// Goes on with a function of the module, from this place.
@@ -374,30 +302,20 @@ impl Calling {
             linked,
             state,
             machine,
-            function,
-            depth,
             place: _,
         } = self;
-        let (mut state, mut machine, mut next) = (state, machine, paused);
-        match machine.go_on(
-            linked.valid(),
-            &mut state,
-            function,
-            depth,
-            &mut next,
-            units,
-        ) {
-            Some(ended) => Going::Over(
-                Resident::of_parts(linked, state, machine.into_stack()),
-                ended,
-            ),
+        let (mut state, mut machine) = (state, machine);
+        let mut slice = Slice { paused, units };
+        match machine.go_on(linked.valid(), &mut state, &mut slice) {
+            Some(ended) => {
+                let stack = machine.into_stack();
+                Going::Over(Resident::of_parts(linked, state, stack), ended)
+            }
             None => Going::Paused(Calling {
                 linked,
                 state,
                 machine,
-                function,
-                depth,
-                place: Some(next),
+                place: Place::Inside(slice.paused),
             }),
         }
     }

@@ -21,6 +21,7 @@ use imports::Linked;
 use instance::fault::InstFault;
 use instance::stack::{Stack, Stop};
 use instance::state::{Instance, State};
+use interp::call::FunctionCall;
 use interp::conditions::takes_arguments;
 use interp::invoke::invoke_on;
 use std::alloc::{AllocError, Global};
@@ -145,16 +146,13 @@ impl Resident {
     {
         let valid = self.linked.valid();
         let mut host = NoHost::new(valid);
-        invoke_on(
-            valid,
-            &mut self.state,
-            &mut self.stack,
-            &mut host,
+        let call = FunctionCall {
             function,
             args,
             fuel,
             depth,
-        )
+        };
+        invoke_on(valid, &mut self.state, &mut self.stack, &mut host, &call)
     }
 
     /// Runs the start function, where there is one.

@@ -1,5 +1,5 @@
 -- An order under way, between two slices.
-use Rattle.std.specs.Prelude.{◌≡◌, ℕ, ◌+◌, ◌-◌, ◌≤◌, List, [], ◌∷◌, length, take, Some, codes, IfSome}
+use Rattle.std.specs.Prelude.{◌≡◌, ℕ, ◌+◌, ◌-◌, ◌≤◌, List, [], ◌∷◌, length, Some, codes, IfSome}
 use Rattle.std.specs.Arc.{arc_value}
 use Rattle.limits.specs.declared.TheConstants.{MAX_DEPTH}
 use Rattle.syntax.specs.declared.types.Value.{Value}
@@ -16,7 +16,7 @@ use Rattle.validate.specs.Typing.{type_of_function}
 use Rattle.imports.specs.Linking.{ExportsFunction}
 use Rattle.imports.specs.Uv.{type_of_entry}
 use Rattle.imports.specs.declared.entry_point.EntryPoint.TheVariants.{Work}
-use Rattle.interp.specs.declared.slices.Paused.{Paused}
+use Rattle.interp.specs.declared.paused.Paused.{Paused}
 use Rattle.interp.specs.Slices.{IsPaused}
 use Rattle.order.specs.declared.host.WorkHost.{WorkHost}
 use Rattle.order.specs.declared.machine.Machine.{Machine}
@@ -28,23 +28,15 @@ use Rattle.order.specs.Runnable.{CanRun}
 use Rattle.order.specs.Work.{WorkOrder, StartRun}
 
 -- A call of a function of the order's module is under way, which began with this store and these bytes of the reply.
-pub record IsCalling (o : WorkOrder) (tables : List SideTable) (function : ℕ) (s : Store) (old : WorkHost) (paused : Paused) (slots : List ℕ) (callers : List Caller)
+pub record IsCalling (o : WorkOrder) (tables : List SideTable) (s : Store) (old : WorkHost) (paused : Paused) (slots : List ℕ) (frames : List Caller)
     (t : Store) (host : WorkHost) (fuel : ℕ) (args : List Value) : Type 0 where
   pub serves : Serves old o
-  pub under_way : IsPaused o.loaded.contents tables o.depth Answered function s old args fuel paused.at paused.used paused.left slots callers t host
+  pub deep : paused.depth ≡ o.depth
+  pub under_way : IsPaused o.loaded.contents tables Answered s old args fuel paused slots frames t host
 
--- some call is
-abbrev pub IsSomeCalling : WorkOrder → (tables : List SideTable) → (function : ℕ) → Paused → (slots : List ℕ) → List Caller → Store → WorkHost → Type 0
-IsSomeCalling o tables function paused slots callers t host =
-    (s : Store) × (old : WorkHost) × (args : List Value) × (fuel : ℕ) × IsCalling o tables function s old paused slots callers t host fuel args
-
--- the callers for which the order has room
-abbrev pub callers : WorkOrder → Machine → List Caller
-callers o m = take (o.depth - 1) m.frames.items
-
--- a machine that calls the function so
-abbrev pub IsCallingOn : WorkOrder → Machine → (function : ℕ) → Store → WorkHost → Paused → (fuel : ℕ) → List Value → Type 0
-IsCallingOn o m function s old paused fuel args = IsCalling o (arc_value m.tables) function s old paused m.slots (callers o m) m.state m.host fuel args
+-- a machine on which it is under way
+abbrev pub IsCallingOn : WorkOrder → Machine → Store → WorkHost → Paused → (fuel : ℕ) → List Value → Type 0
+IsCallingOn o m s old paused fuel args = IsCalling o (arc_value m.tables) s old paused m.slots m.frames.items m.state m.host fuel args
 
 -- a machine that runs the order: its module is valid, and has these tables; there is room for all callers
 pub record Runs (o : WorkOrder) (m : Machine) : Type 0 where
@@ -62,13 +54,13 @@ pub record IsUnbegun (o : WorkOrder) (m : Machine) : Type 0 where
   pub empty : m.host.reply.items ≡ []
 
 -- the start function is under way
-pub record IsStarting (o : WorkOrder) (m : Machine) (function : ℕ) (paused : Paused) : Type 0 where
+pub record IsStarting (o : WorkOrder) (m : Machine) (paused : Paused) : Type 0 where
   pub s : Store
   pub old : WorkHost
   pub fresh : IsFresh o.loaded.contents s
-  pub is_start : o.loaded.contents.start ≡ Some function
+  pub is_start : o.loaded.contents.start ≡ Some paused.function
   pub empty : old.reply.items ≡ []
-  pub calling : IsCallingOn o m function s old paused o.fuel []
+  pub calling : IsCallingOn o m s old paused o.fuel []
 
 -- the start function is over, or there is none, and so much fuel is used
 pub record IsStarted (o : WorkOrder) (first : ℕ) (t : Store) (reply : List ℕ) : Type 0 where
@@ -79,18 +71,18 @@ pub record IsStarted (o : WorkOrder) (first : ℕ) (t : Store) (reply : List ℕ
   pub within : first ≤ o.fuel
 
 -- then `uv_work` is under way, with the fuel that was left
-pub record IsWorking (o : WorkOrder) (m : Machine) (function first : ℕ) (paused : Paused) : Type 0 where
+pub record IsWorking (o : WorkOrder) (m : Machine) (first : ℕ) (paused : Paused) : Type 0 where
   pub t : Store
   pub old : WorkHost
   pub started : IsStarted o first t old.reply.items
-  pub exported : ExportsFunction o.loaded.contents (codes "uv_work") function
-  pub typed : type_of_function o.loaded.contents function ≡ Some (type_of_entry Work)
-  pub calling : IsCallingOn o m function t old paused (o.fuel - first) (I32 o.op ∷ [])
+  pub exported : ExportsFunction o.loaded.contents (codes "uv_work") paused.function
+  pub typed : type_of_function o.loaded.contents paused.function ≡ Some (type_of_entry Work)
+  pub calling : IsCallingOn o m t old paused (o.fuel - first) (I32 o.op ∷ [])
 
 abbrev pub IsAt : WorkOrder → Machine → Stage → Type 0
 IsAt o m Fresh = IsUnbegun o m
-IsAt o m (Starting function paused) = IsStarting o m function paused
-IsAt o m (Working function first paused) = IsWorking o m function first paused
+IsAt o m (Starting paused) = IsStarting o m paused
+IsAt o m (Working first paused) = IsWorking o m first paused
 
 pub record IsGoing (o : WorkOrder) (m : Machine) (stage : Stage) : Type 0 where
   pub runs : Runs o m
@@ -99,5 +91,5 @@ pub record IsGoing (o : WorkOrder) (m : Machine) (stage : Stage) : Type 0 where
 -- the fuel that is used
 abbrev pub used_at : Stage → ℕ
 used_at Fresh = 0
-used_at (Starting function paused) = paused.used
-used_at (Working function first paused) = first + paused.used
+used_at (Starting paused) = paused.used
+used_at (Working first paused) = first + paused.used

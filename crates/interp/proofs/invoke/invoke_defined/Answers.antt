@@ -1,53 +1,68 @@
-use Rattle.interp.proofs.Words.{◌≡◌, length, ap, ◌∙◌, arith, List, ValType, FuncType, ◌≤◌, ◌+◌, Option, subst, sym}
-use Rattle.interp.proofs.Slots.CallsBegin.{found_type, can_open, few_results, under_way, call_does, callers_within}
+use Rattle.interp.proofs.Words.{◌≡◌, length, ap, ◌∙◌, arith, ℕ, List, ValType, FuncType, ◌-◌, Option, subst, sym}
+use Rattle.std.proofs.Common.{take}
+use Rattle.interp.proofs.CallersRoom.{deep}
+use Rattle.interp.proofs.Slots.CallsBegin.{found_type, can_open, few_results, under_way, call_does}
 use Rattle.interp.proofs.invoke.invoke_defined.Goals as goal
-use Rattle.std.specs.Prelude.{IfSome}
+use Rattle.instance.specs.declared.stack.Caller.{Caller}
 use Rattle.instance.specs.declared.stack.Last.{Last}
+use Rattle.instance.specs.declared.stack.Site.{Site}
 use Rattle.instance.specs.Stops.{stop_of}
+use Rattle.engine.specs.Stepping.{standing}
 use Rattle.interp.specs.Inner.Calling.{CallDoes}
+use Rattle.interp.specs.Slots.Hosted.{IsUnderWay, EndsSo, last_of}
 
 pub open-at-requires : goal.open-at-requires
 open-at-requires g c =
-    can_open c.args.contents.now c.args.function c.args.args.now c.requires.can.typed c.requires.valid c.requires.defined
+    let call = c.args.call.now in
+    can_open c.args.code.now.contents.now call.function call.args.now c.requires.can.typed c.requires.valid c.requires.defined
 
-pub run_over_host-requires-clause-few : goal.run_over_host-requires-clause-few
-run_over_host-requires-clause-few g c =
+pub run_within-requires-clause-can : goal.run_within-requires-clause-can
+run_within-requires-clause-can g c =
     let can = c.requires.can in
-    let type = found_type c.args.contents.now c.args.function c.args.args.now can.typed c.in-Some.func_type.now c.in-Some.ensures in
+    let call = c.args.call.now in
+    let m = c.args.code.now.contents.now in
+    let type = found_type m call.function call.args.now can.typed c.in-Some.func_type.now c.in-Some.ensures in
     let same : c.as_slice.result.now ≡ can.typed.type.results = c.as_slice.ensures ∙ ap (λ (t : FuncType). t.results) type in
-    omega (arith, few_results c.args.contents.now c.args.function c.args.args.now can.typed c.requires.valid c.requires.defined, ap (λ (ts : List ValType). length ts) same)
+    record {
+      valid = c.requires.valid;
+      names = can.names;
+      few = omega (arith, few_results m call.function call.args.now can.typed c.requires.valid c.requires.defined, ap (λ (ts : List ValType). length ts) same);
+    }
 
-pub run_over_host-requires-clause-under_way : goal.run_over_host-requires-clause-under_way
-run_over_host-requires-clause-under_way g c =
+pub run_within-requires-clause-under_way : goal.run_within-requires-clause-under_way
+run_within-requires-clause-under_way g c =
     let can = c.requires.can in
-    let type = found_type c.args.contents.now c.args.function c.args.args.now can.typed c.in-Some.func_type.now c.in-Some.ensures in
+    let call = c.args.call.now in
+    let m = c.args.code.now.contents.now in
+    let callers : List Caller = take (call.depth - 1) c.args.frames.now in
+    let type = found_type m call.function call.args.now can.typed c.in-Some.func_type.now c.in-Some.ensures in
     let same : c.as_slice.result.now ≡ can.typed.type.results = c.as_slice.ensures ∙ ap (λ (t : FuncType). t.results) type in
-    under_way c.args.contents.now c.args.function c.args.args.now can.typed c.requires.valid c.requires.defined
-    c.args.tables.now c.requires.agree c.new-program.result c.new-program.ensures c.open-at.result c.open-at.new.slots c.open-at.ensures.opened c.open-at.ensures.small
-    c.args.frames.now c.args.state.now c.args.fuel can.store c.as_slice.result.now same
+    subst (λ (d : ℕ). IsUnderWay m c.new.result d c.as_slice.result.now (standing c.open-at.result c.open-at.new.slots callers c.args.state.now call.fuel))
+    (deep call.depth c.requires.depth c.args.frames.now c.requires.room)
+    (under_way m call.function call.args.now can.typed c.requires.valid c.requires.defined
+    c.args.code.now.tables.now c.requires.agree c.new.result c.new.ensures c.open-at.result c.open-at.new.slots c.open-at.ensures.opened c.open-at.ensures.small
+    callers c.args.state.now call.fuel can.store c.as_slice.result.now same)
 
 pub returns-clause-does : goal.returns-clause-does
 returns-clause-does g c =
     let can = c.requires.can in
-    let type = found_type c.args.contents.now c.args.function c.args.args.now can.typed c.in-Some.func_type.now c.in-Some.ensures in
+    let call = c.args.call.now in
+    let m = c.args.code.now.contents.now in
+    let n = c.run_within.new in
+    let ends = c.run_within.ensures.ends in
+    let callers : List Caller = take (call.depth - 1) c.args.frames.now in
+    let kept : List Caller = take (call.depth - 1) n.frames in
+    let d = deep call.depth c.requires.depth c.args.frames.now c.requires.room in
+    let type = found_type m call.function call.args.now can.typed c.in-Some.func_type.now c.in-Some.ensures in
     let same : c.as_slice.result.now ≡ can.typed.type.results = c.as_slice.ensures ∙ ap (λ (t : FuncType). t.results) type in
-    subst (λ (x : Option Last). CallDoes c.args.contents.now (length c.args.frames.now + 1) c.args.fuel g.H.Host.moves c.args.state.now c.args.host.now
-    c.args.function c.args.args.now c.run_over_host.new.ended c.run_over_host.new.state c.run_over_host.new.host (stop_of x c.run_over_host.new.frames))
-    (sym c.run_over_host.ensures.ends.1)
-    (call_does c.args.contents.now c.args.function c.args.args.now can.typed c.requires.valid c.requires.defined
-    c.args.tables.now c.requires.agree c.new-program.result c.new-program.ensures c.open-at.result c.open-at.new.slots c.open-at.ensures.opened c.open-at.ensures.small
-    c.args.frames.now c.args.state.now c.args.fuel can.store c.as_slice.result.now same
-    g.H.Host.moves c.args.host.now c.run_over_host.new.host c.run_over_host.new.ended c.run_over_host.ensures.ends.0
-    c.run_over_host.new.frames c.run_over_host.new.state c.run_over_host.ensures.ends.2)
-
-pub returns-clause-callers : goal.returns-clause-callers
-returns-clause-callers g c =
-    let can = c.requires.can in
-    let type = found_type c.args.contents.now c.args.function c.args.args.now can.typed c.in-Some.func_type.now c.in-Some.ensures in
-    let same : c.as_slice.result.now ≡ can.typed.type.results = c.as_slice.ensures ∙ ap (λ (t : FuncType). t.results) type in
-    subst (λ (x : Option Last). IfSome x (λ l. l.depth ≤ length c.run_over_host.new.frames)) (sym c.run_over_host.ensures.ends.1)
-    (callers_within c.args.contents.now c.args.function c.args.args.now can.typed c.requires.valid c.requires.defined
-    c.args.tables.now c.requires.agree c.new-program.result c.new-program.ensures c.open-at.result c.open-at.new.slots c.open-at.ensures.opened c.open-at.ensures.small
-    c.args.frames.now c.args.state.now c.args.fuel can.store c.as_slice.result.now same
-    g.H.Host.moves c.args.host.now c.run_over_host.new.host c.run_over_host.new.ended c.run_over_host.ensures.ends.0
-    c.run_over_host.new.frames c.run_over_host.new.state c.run_over_host.ensures.ends.2)
+    let so =
+    subst (λ (k : ℕ). EndsSo m c.new.result k g.H.Host.moves c.as_slice.result.now (standing c.open-at.result c.open-at.new.slots callers c.args.state.now call.fuel)
+    c.args.host.now n.ended ends.0 kept n.state n.host) (sym d) ends.2 in
+    let does =
+    call_does m call.function call.args.now can.typed c.requires.valid c.requires.defined
+    c.args.code.now.tables.now c.requires.agree c.new.result c.new.ensures c.open-at.result c.open-at.new.slots c.open-at.ensures.opened c.open-at.ensures.small
+    callers c.args.state.now call.fuel can.store c.as_slice.result.now same
+    g.H.Host.moves c.args.host.now n.host n.ended ends.0 kept n.state so in
+    let stop : stop_of c.run_within.result n.frames ≡ stop_of (last_of n.ended.ending ends.0) kept = c.run_within.ensures.stop ∙ ap (λ (l : Option Last). stop_of l kept) ends.1 in
+    subst (λ (o : Option (List Site)). CallDoes m call.depth call.fuel g.H.Host.moves c.args.state.now c.args.host.now call.function call.args.now n.ended n.state n.host o) (sym stop)
+    (subst (λ (k : ℕ). CallDoes m k call.fuel g.H.Host.moves c.args.state.now c.args.host.now call.function call.args.now n.ended n.state n.host (stop_of (last_of n.ended.ending ends.0) kept)) d does)

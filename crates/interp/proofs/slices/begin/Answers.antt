@@ -1,25 +1,33 @@
-use Rattle.std.proofs.Common.{◌≡◌, ◌+◌, ℕ, length, refl, arith}
+use Rattle.std.proofs.Common.{◌-◌, List, take, arith}
+use Rattle.instance.specs.declared.stack.Caller.{Caller}
 use Rattle.engine.specs.Programs.{program_of}
 use Rattle.engine.specs.Stepping.{standing}
+use Rattle.interp.proofs.CallersRoom.{deep}
 use Rattle.interp.proofs.Slots.CallsBegin.{can_open}
 use Rattle.interp.proofs.Slots.Hosted.{comes_nowhere}
 use Rattle.interp.proofs.slices.begin.Goals as goal
 
 pub open-at-requires : goal.open-at-requires
-open-at-requires g c = can_open c.args.contents.now c.args.function c.args.args.now c.requires.typed c.requires.valid c.requires.defined
+open-at-requires g c =
+    let call = c.args.call.now in
+    can_open c.args.contents.now call.function call.args.now c.requires.typed c.requires.valid c.requires.defined
 
 pub returns-clause-paused : goal.returns-clause-paused
-returns-clause-paused g c = record {
-  takes = c.requires.typed;
-  defined = c.requires.defined;
-  fit = c.requires.store;
-  start = c.open-at.result;
-  first_slots = c.open-at.new.slots;
-  first_frames = c.args.frames.now;
-  opened = c.open-at.ensures.opened;
-  small = c.open-at.ensures.small;
-  deep = refl;
-  paid = omega arith;
-  comes = comes_nowhere c.args.contents.now (program_of c.args.contents.now c.args.tables.now) (length c.args.frames.now + 1) g.H.Host.moves c.requires.typed.type.results
-      (standing c.open-at.result c.open-at.new.slots c.args.frames.now c.args.state.now c.args.fuel) c.args.host.now;
-}
+returns-clause-paused g c =
+    let m = c.args.contents.now in
+    let call = c.args.call.now in
+    let callers : List Caller = take (call.depth - 1) c.args.frames.now in
+    record {
+      takes = c.requires.typed;
+      defined = c.requires.defined;
+      fit = c.requires.store;
+      start = c.open-at.result;
+      first_slots = c.open-at.new.slots;
+      first_frames = callers;
+      opened = c.open-at.ensures.opened;
+      small = c.open-at.ensures.small;
+      deep = deep call.depth c.requires.depth c.args.frames.now c.requires.room;
+      paid = omega arith;
+      comes = comes_nowhere m (program_of m c.args.tables.now) call.depth g.H.Host.moves c.requires.typed.type.results
+          (standing c.open-at.result c.open-at.new.slots callers c.args.state.now call.fuel) c.args.host.now;
+    }

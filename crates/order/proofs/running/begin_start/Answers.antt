@@ -1,4 +1,4 @@
-use Rattle.std.proofs.Common.{◌≡◌, ap, ◌∙◌, subst, Some, None}
+use Rattle.std.proofs.Common.{◌≡◌, ℕ, sym, ap, ◌∙◌, subst, Some, None}
 use Rattle.std.specs.Arc.{arc_value}
 use Rattle.syntax.specs.Loaded.{Loaded}
 use Rattle.syntax.specs.declared.contents.Contents.{Contents}
@@ -32,7 +32,7 @@ start_on-requires-clause-starting c =
       s = c.args.machine.state;
       old = c.args.machine.host;
       fresh = fresh.fresh;
-      is_start = subst (λ (m : Contents). m.start ≡ Some c.in-Some.function) same c.in-Some.is;
+      is_start = subst (λ (m : Contents). m.start ≡ Some c.in-Some.function) same c.in-Some.is ∙ ap (λ (f : ℕ). Some f) (sym c.begin-paused.ensures.function);
       empty = fresh.empty;
       calling = c.begin-paused.ensures.calling;
     }

@@ -1,4 +1,4 @@
-use Rattle.std.proofs.Common.{◌≡◌, subst, codes}
+use Rattle.std.proofs.Common.{◌≡◌, ℕ, sym, subst, codes}
 use Rattle.std.specs.Arc.{arc_value}
 use Rattle.syntax.specs.Loaded.{Loaded}
 use Rattle.imports.specs.Linking.{ExportsFunction}
@@ -18,11 +18,15 @@ begin-paused-requires-clause-typed c =
     (subst (λ (l : Loaded). type_of_function l.contents c.in-Some.function ≡ Some (type_of_entry Work)) c.deref.ensures c.in-Some.ensures.typed)
 
 pub work_on-requires-clause-working : goal.work_on-requires-clause-working
-work_on-requires-clause-working c = record {
-  t = c.args.machine.state;
-  old = c.args.machine.host;
-  started = c.requires.started;
-  exported = subst (λ (l : Loaded). ExportsFunction l.contents (codes "uv_work") c.in-Some.function) c.deref.ensures c.in-Some.ensures.found;
-  typed = subst (λ (l : Loaded). type_of_function l.contents c.in-Some.function ≡ Some (type_of_entry Work)) c.deref.ensures c.in-Some.ensures.typed;
-  calling = c.begin-paused.ensures.calling;
-}
+work_on-requires-clause-working c =
+    let same = sym c.begin-paused.ensures.function in
+    let exported = subst (λ (l : Loaded). ExportsFunction l.contents (codes "uv_work") c.in-Some.function) c.deref.ensures c.in-Some.ensures.found in
+    let typed = subst (λ (l : Loaded). type_of_function l.contents c.in-Some.function ≡ Some (type_of_entry Work)) c.deref.ensures c.in-Some.ensures.typed in
+    record {
+      t = c.args.machine.state;
+      old = c.args.machine.host;
+      started = c.requires.started;
+      exported = subst (λ (f : ℕ). ExportsFunction (arc_value c.args.order.module).contents (codes "uv_work") f) same exported;
+      typed = subst (λ (f : ℕ). type_of_function (arc_value c.args.order.module).contents f ≡ Some (type_of_entry Work)) same typed;
+      calling = c.begin-paused.ensures.calling;
+    }

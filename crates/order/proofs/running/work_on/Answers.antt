@@ -1,8 +1,10 @@
-use Rattle.std.proofs.Common.{◌-◌, [], ◌∷◌}
+use Rattle.std.proofs.Common.{◌≡◌, ◌-◌, ℕ, [], ◌∷◌, Some, codes, sym, subst}
 use Rattle.std.specs.Arc.{arc_value}
 use Rattle.syntax.specs.declared.types.Value.TheVariants.{I32}
 use Rattle.imports.specs.declared.entry_point.EntryPoint.TheVariants.{Work}
 use Rattle.imports.specs.Uv.{type_of_entry}
+use Rattle.imports.specs.Linking.{ExportsFunction}
+use Rattle.validate.specs.Typing.{type_of_function}
 use Rattle.instance.specs.Stops.{stop_of}
 use Rattle.order.specs.Orders.{order_of}
 use Rattle.order.proofs.FunctionTypes.{has_type}
@@ -18,9 +20,9 @@ invariant_of-result c =
         t = w.t;
         old = w.old;
         started = w.started;
-        exported = w.exported;
-        typed = w.typed;
-        calling = c.go_on.ensures.paused c.if-not-go_on.true w.t w.old (I32 c.args.order.op ∷ []) (c.args.order.fuel - c.args.first) w.calling;
+        exported = subst (λ (f : ℕ). ExportsFunction (arc_value c.args.order.module).contents (codes "uv_work") f) (sym c.go_on.ensures.function) w.exported;
+        typed = subst (λ (f : ℕ). type_of_function (arc_value c.args.order.module).contents f ≡ Some (type_of_entry Work)) (sym c.go_on.ensures.function) w.typed;
+        calling = c.go_on.ensures.paused c.in_default.is w.t w.old (I32 c.args.order.op ∷ []) (c.args.order.fuel - c.args.first) w.calling;
       };
     }
 
@@ -28,11 +30,11 @@ pub over-requires-clause-computes : goal.over-requires-clause-computes
 over-requires-clause-computes c end reads =
     let w = c.requires.working in
     let n = c.go_on.new in
-    let done = c.go_on.ensures.over c.if-not-go_on.false w.t w.old (I32 c.args.order.op ∷ []) (c.args.order.fuel - c.args.first) w.calling in
-    work_computes (order_of c.args.order) w.t n.self.state w.old.reply.items n.self.host.reply.items c.args.first c.args.function n.ended
+    let done = c.in-Some.ensures.over w.t w.old (I32 c.args.order.op ∷ []) (c.args.order.fuel - c.args.first) w.calling in
+    work_computes (order_of c.args.order) w.t n.self.state w.old.reply.items n.self.host.reply.items c.args.first c.args.paused.function c.in-Some.ended
     (stop_of n.self.last n.self.frames.items) w.started w.exported done.0 end reads
 
 pub over-requires-clause-results : goal.over-requires-clause-results
 over-requires-clause-results c =
     let w = c.requires.working in
-    c.go_on.ensures.results c.if-not-go_on.false (type_of_entry Work) (has_type (arc_value c.args.order.module).contents c.args.function (type_of_entry Work) w.typed)
+    c.in-Some.ensures.results (type_of_entry Work) (has_type (arc_value c.args.order.module).contents c.args.paused.function (type_of_entry Work) w.typed)

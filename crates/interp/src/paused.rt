@@ -1,0 +1,28 @@
+// A call between two slices.
+
+ghost use Rattle.std.specs.Prelude.{◌≡◌, ◌+◌, ◌^◌, ◌<◌, ◌≤◌};
+ghost use Rattle.limits.specs.declared.TheConstants.{MAX_DEPTH};
+
+use engine::At;
+
+/// A call of a defined function between two slices: of which, and with how many calls open at most, where it goes on, how much fuel it has
+/// used, and how much is left. What it works on stays in the slots, the callers and the state of its instance.
+#[derive(Clone, Copy)]
+pub struct Paused {
+    pub(crate) function: u32,
+    pub(crate) depth: u32,
+    pub(crate) at: At,
+    pub(crate) used: u64,
+    pub(crate) left: u64,
+    pub ghost deep: { (1 ≤ depth) × (depth ≤ MAX_DEPTH) },
+    pub ghost sum: { used + left < 2 ^ 64 },
+}
+
+impl Paused {
+    /// The units of fuel that it has used.
+    pub fn used(&self) -> u64
+        ensures { result ≡ self.now.used }
+    {
+        self.used
+    }
+}

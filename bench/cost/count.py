@@ -1,6 +1,6 @@
 #!/usr/bin/env python3
-"""count.py PROGRAM..: instructions of a callback and of a request, by valgrind's callgrind, which don't swing as times do
-(those of a request by a tenth, since two threads meet).
+"""count.py PROGRAM..: instructions of a callback, of a call of the host and of a request, by valgrind's callgrind, which don't swing as
+times do (those of a request by a tenth, since two threads meet).
 
 Each is the difference of two runs of `serve`, the second with more callbacks or requests, divided by them: a start of the
 process is in neither. The C library fills memory without `rep stosb`, of which valgrind counts each byte as an instruction."""
@@ -16,6 +16,8 @@ import work
 
 SCENES = [("IDLE", 1), ("IDLE", 60), ("IDLE_CHECK", 1), ("TIMER", 1), ("TIMER", 60), ("ASYNC", 1), ("CLOSE", 1)]
 CALLBACKS, REQUESTS = (1_000, 5_000), (500, 2_500)
+# Scenes whose callbacks call the host 1,000 times; those of PLAIN have as many turns without a call.
+CALLS, CALLING = ["NOW", "ACTIVE"], (5, 15)
 VALGRIND = ["valgrind", "--tool=callgrind", "--callgrind-out-file=/dev/null"]
 WITHOUT_REP = {**os.environ, "GLIBC_TUNABLES": "glibc.cpu.x86_rep_stosb_threshold=100000000"}
 
@@ -40,6 +42,9 @@ def main(program, folder):
     for scene, handles in SCENES:
         took = each(CALLBACKS, lambda it: counted(program, by_loop.guest(scene, it, it, handles), "--fuel"))
         print(f"{scene.lower():12} {handles:3} {took:8.0f}", flush=True)
+    plain, *calls = (each(CALLING, lambda it: counted(program, by_loop.guest(scene, it, it), "--fuel")) for scene in ["PLAIN", *CALLS])
+    for scene, took in zip(CALLS, calls):
+        print(f"call of {scene.lower():8} {(took - plain) / loop.TURNS:8.0f}", flush=True)
     took = each(REQUESTS, lambda it: counted(program, by_work.guest(it, work.Request()), "--work-fuel"))
     print(f"{'request':16} {took:8.0f}", flush=True)
 

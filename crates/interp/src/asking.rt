@@ -1,7 +1,8 @@
 // The host is asked for an import.
 
-ghost use Rattle.std.specs.Prelude.{◌≡◌, ◌≤◌, ◌<◌, ◌+◌, ◌^◌, drop, length};
-ghost use Rattle.reduction.specs.Run.{as_operands};
+ghost use Rattle.std.specs.Prelude.{◌≡◌, ◌≤◌, ◌<◌, ◌+◌, ◌^◌, drop, length, option_copied};
+ghost use Rattle.validate.specs.Typing.{type_of_function};
+ghost use Rattle.reduction.specs.Run.{IsImported, as_operands};
 ghost use Rattle.reduction.specs.Hosting.{Names};
 ghost use Rattle.interp.specs.Slots.Holding.{AreSmall};
 ghost use Rattle.interp.specs.Slots.Resuming.{laid};
@@ -12,9 +13,9 @@ use crate::reading::number_of;
 use engine::At;
 use instance::stack::Slots;
 use instance::state::State;
-use syntax::contents::Contents;
+use syntax::contents::{Contents, FuncType};
 use syntax::types::Value;
-use validate::type_of_function;
+use validate::type_at;
 
 /// Lays an answer down, where there is one, and returns how many slots it takes.
 fn lay_answer(slots: &mut [u64], place: usize, answer: Option<Value>) -> usize
@@ -30,6 +31,15 @@ fn lay_answer(slots: &mut [u64], place: usize, answer: Option<Value>) -> usize
             1
         }
     }
+}
+
+/// The type of an import.
+#[inline(always)]
+fn type_of_import(contents: &Contents, import: usize) -> Option<&FuncType>
+    requires { IsImported contents.now import }
+    ensures { option_copied result ≡ type_of_function contents.now import }
+{
+    type_at(contents, contents.imports.as_slice()[import].type_index)
 }
 
 /// Asks the host for an import, whose arguments are the topmost slots up to a height. Its answer takes their place, and
@@ -50,7 +60,7 @@ fn ask_host<H: Host>(
     ensures asked { Asks contents.now H.moves import height at.old slots.old state.old host.old at.new slots.new state.new host.new }
     ensures types { H.types host.new ≡ H.types host.old }
 {
-    let Some(import_type) = type_of_function(contents, import as u32) else {
+    let Some(import_type) = type_of_import(contents, import) else {
         unreachable!()
     };
     let params = import_type.params.as_slice();

@@ -68,6 +68,7 @@ fn start(roster: &mut Roster, kind: Kind, args: (u32, u32)) -> u32
 }
 
 /// What a loop answers to a function of "uv".
+#[inline(always)]
 fn answer<B: Shared>(
     alloc: Global,
     setting: &Setting,
@@ -135,6 +136,7 @@ impl<B: Shared + Drop> Host for LoopHost<B> {
 
     ghost moves = { Answered B.calls (λ g. setting_of g.setting) (λ g. (g.state, g.shared)) };
 
+    #[inline(always)]
     fn call(&mut self, import: u32, args: &Args, memory: &mut Memory) -> Option<Value> {
         let call = called(&self.setting.linked, import, args);
         let answer = answer(

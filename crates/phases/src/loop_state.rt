@@ -147,6 +147,7 @@ impl LoopState {
     }
 
     /// Copies bytes of a reply into the guest's memory.
+    #[inline(never)]
     pub fn copy_in(&self, to: u32, from: u32, count: u32, memory: &mut Memory) -> u32
         ensures answer { result ≡ (copied_in self.now.reply to from count memory.old.bytes).0 }
         ensures memory { memory.new ≡ with_bytes (copied_in self.now.reply to from count memory.old.bytes).1 memory.old }

@@ -117,6 +117,7 @@ impl Roster {
     }
 
     /// Makes a handle that is inactive, under a free number, and answers the number.
+    #[inline(never)]
     pub fn init(&mut self, kind: Kind) -> u32
         requires { kind ≢ Kind.Async }
         ensures { Makes (with_made kind) self.old result self.new }
@@ -128,6 +129,7 @@ impl Roster {
     }
 
     /// Makes an async that is active, under a free number, and answers the number.
+    #[inline(never)]
     pub fn init_async(&mut self, callback: u32) -> u32
         ensures { MakesAsync callback self.old result self.new }
     {
@@ -146,6 +148,7 @@ impl Roster {
     }
 
     /// Starts a handle.
+    #[inline(never)]
     pub fn start(&mut self, kind: Kind, handle: u32, callback: u32, due: u64, repeat: u64) -> u32
         ensures answer { result ≡ (started_in kind handle callback due repeat self.old).0 }
         ensures roster { self.new ≡ (started_in kind handle callback due repeat self.old).1 }
@@ -161,6 +164,7 @@ impl Roster {
     }
 
     /// Stops a handle.
+    #[inline(never)]
     pub fn stop(&mut self, kind: Kind, handle: u32) -> u32
         ensures answer { result ≡ (stopped_in kind handle self.old).0 }
         ensures roster { self.new ≡ (stopped_in kind handle self.old).1 }
@@ -173,6 +177,7 @@ impl Roster {
     }
 
     /// Starts a timer again by its repeat.
+    #[inline(never)]
     pub fn again(&mut self, handle: u32, now: u64) -> u32
         ensures answer { result ≡ (again_in handle now self.old).0 }
         ensures roster { self.new ≡ (again_in handle now self.old).1 }
@@ -187,6 +192,7 @@ impl Roster {
     }
 
     /// Closes a handle.
+    #[inline(never)]
     pub fn close(&mut self, handle: u32, callback: u32) -> u32
         ensures answer { result ≡ (closed_in handle callback self.old).0 }
         ensures roster { self.new ≡ (closed_in handle callback self.old).1 }

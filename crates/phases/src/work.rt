@@ -18,6 +18,7 @@ use order::uv::answers::{INVALID, NO_MEMORY, NO_ROOM, NO_SUCH_EXPORT, NONE_LEFT,
 use std::alloc::Global;
 
 /// Sends to an async of the loop: -22 where the handle is none, -28 where the loop's sends are used up.
+#[inline(never)]
 pub fn send<B: Shared>(roster: &Roster, shared: &mut B, handle: u32) -> u32
     ensures { Sends B.calls roster.now shared.old handle result shared.new }
 {
@@ -47,6 +48,7 @@ fn exports(linked: &Linked, entry: EntryPoint) -> bool
 /// Asks for work: -38 where `uv_work` or `uv_after_work` is not exported, -22 where the bytes are more than `MAX_BYTES`,
 /// -14 where they lie outside the memory, -11 where `MAX_REQUESTS` requests are outstanding, -28 where the numbers are used
 /// up, and -12 if memory is refused. Nothing is changed then. Else the request's number.
+#[inline(always)]
 pub fn queue_work<B: Shared>(
     alloc: Global,
     setting: &Setting,
@@ -95,6 +97,7 @@ pub fn ask<B: Shared>(
     open_next(alloc, setting, requests, shared, op, bytes)
 }
 
+#[inline(never)]
 fn open_next<B: Shared>(
     alloc: Global,
     setting: &Setting,

@@ -18,6 +18,7 @@ use interp::host::Args;
 use syntax::types::Value;
 
 /// The function of "uv" that a linked module imports under this number, which is called with these arguments.
+#[inline(always)]
 pub fn called(linked: &Linked, import: u32, args: &Args) -> Call
     requires { Takes (slice_get (import_types linked.now.contents) import) args.now }
     ensures imported { Imports linked.now.contents import result }
@@ -30,6 +31,7 @@ pub fn called(linked: &Linked, import: u32, args: &Args) -> Call
     call
 }
 
+#[inline(always)]
 fn number_at(args: &Args, index: usize) -> u32
     requires { slice_get (map type_of args.now) index ≡ Some valtype.I32 }
     ensures { slice_get args.now index ≡ Some (value.I32 result) }
@@ -40,6 +42,7 @@ fn number_at(args: &Args, index: usize) -> u32
     }
 }
 
+#[inline(always)]
 fn wide_at(args: &Args, index: usize) -> u64
     requires { slice_get (map type_of args.now) index ≡ Some valtype.I64 }
     ensures { slice_get args.now index ≡ Some (value.I64 result) }
@@ -51,6 +54,7 @@ fn wide_at(args: &Args, index: usize) -> u64
 }
 
 /// The argument of a call that takes one i32.
+#[inline(always)]
 pub fn one(args: &Args) -> u32
     requires { map type_of args.now ≡ valtype.I32 ∷ [] }
     ensures { args.now ≡ value.I32 result ∷ [] }
@@ -59,6 +63,7 @@ pub fn one(args: &Args) -> u32
 }
 
 /// The arguments of a call that takes two i32.
+#[inline(always)]
 pub fn two(args: &Args) -> (u32, u32)
     requires { map type_of args.now ≡ valtype.I32 ∷ valtype.I32 ∷ [] }
     ensures { args.now ≡ value.I32 result.0 ∷ value.I32 result.1 ∷ [] }
@@ -67,6 +72,7 @@ pub fn two(args: &Args) -> (u32, u32)
 }
 
 /// The arguments of a call that takes three i32.
+#[inline(always)]
 pub fn three(args: &Args) -> (u32, u32, u32)
     requires { map type_of args.now ≡ valtype.I32 ∷ valtype.I32 ∷ valtype.I32 ∷ [] }
     ensures { args.now ≡ value.I32 result.0 ∷ value.I32 result.1 ∷ value.I32 result.2 ∷ [] }
@@ -75,6 +81,7 @@ pub fn three(args: &Args) -> (u32, u32, u32)
 }
 
 /// The argument of a call that takes one i64.
+#[inline(always)]
 pub fn one_wide(args: &Args) -> u64
     requires { map type_of args.now ≡ valtype.I64 ∷ [] }
     ensures { args.now ≡ value.I64 result ∷ [] }
@@ -83,6 +90,7 @@ pub fn one_wide(args: &Args) -> u64
 }
 
 /// The arguments of a call that takes two i32 and then two i64.
+#[inline(always)]
 pub fn two_and_two_wide(args: &Args) -> (u32, u32, u64, u64)
     requires { map type_of args.now ≡ valtype.I32 ∷ valtype.I32 ∷ valtype.I64 ∷ valtype.I64 ∷ [] }
     ensures { args.now ≡ value.I32 result.0 ∷ value.I32 result.1 ∷ value.I64 result.2 ∷ value.I64 result.3 ∷ [] }

@@ -26,7 +26,7 @@ use crate::shared::Shared;
 use crate::work::ask;
 use events::did::Hint;
 use events::phase::Phase;
-use handles::Kind;
+use handles::{Handles, Kind};
 use instance::memory::Memory;
 use order::uv::answers::{NONE_LEFT, NOT_HERE};
 use order::uv::calls::copy_in;
@@ -109,23 +109,22 @@ fn until(busy: bool, due: Option<u64>, now: u64) -> Hint
 }
 
 impl LoopState {
-    /// A loop that has done nothing, over the functions that callbacks name.
+    /// A loop that has done nothing, over an empty table and the functions that callbacks name.
     pub fn new(
         alloc: Global,
+        handles: Handles,
         callbacks: Vec<Option<u32>>,
         start: bool,
         main: bool,
     ) -> Result<Self, AllocError>
+        requires { handles ≡ empty_table }
         ensures { IfOk result (λ made. made ≡ opening (record { handles = empty_table; asyncs = []; closing = []; callbacks = callbacks.items }) (first_list start main)) }
     {
-        // what each turn reads is taken last, so that it lies in few pages
-        let requests = Requests::new(alloc)?;
         let emits = Emits::new(alloc)?;
-        let roster = Roster::new(alloc, callbacks)?;
         let entries = Entries::first(alloc, start, main)?;
         Ok(LoopState {
-            roster,
-            requests,
+            roster: Roster::new(handles, callbacks),
+            requests: Requests::new(alloc),
             clock: 0,
             time: 0,
             phase: Phase::Begin,

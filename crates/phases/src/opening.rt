@@ -9,6 +9,7 @@ ghost use Rattle.phases.specs.State.{opening};
 
 use crate::callbacks::callbacks_of;
 use crate::loop_state::LoopState;
+use handles::Handles;
 use imports::{EntryPoint, Linked};
 use instance::fault::InstFault;
 use instance::state::Instance;
@@ -41,8 +42,10 @@ fn machine_of(alloc: Global, linked: &Linked, instance: &Instance) -> Result<Loo
     ensures { IfOk result (λ made. made ≡ opening (opening_roster linked.now.contents) (begin_list linked.now.contents)) }
 {
     let contents = linked.valid().contents();
+    // what each turn reads is taken last, so that it lies in few pages
+    let handles = Handles::new(alloc)?;
     let callbacks = callbacks_of(alloc, contents, instance)?;
     let start = contents.start.is_some();
     let main = linked.entry(EntryPoint::Main).is_some();
-    LoopState::new(alloc, callbacks, start, main)
+    LoopState::new(alloc, handles, callbacks, start, main)
 }

@@ -1,7 +1,7 @@
 // The outstanding requests of a loop.
 
 ghost use Rattle.std.specs.Prelude.{◌≡◌, ◌≢◌, ◌+◌, ◌<◌, ◌≤◌, ◌==◌, ◌↔◌, [], Some, None, true, false, length, find, filter, slice_get, not};
-ghost use Rattle.std.specs.Prelude.{IfOk, IfErr, OnOk, IfSome, IfNone, MatchOption, MatchResult, option_map};
+ghost use Rattle.std.specs.Prelude.{IfErr, OnOk, OnErr, IfSome, IfNone, MatchOption, MatchResult, option_map};
 ghost use Rattle.std.specs.List.{list_any};
 ghost use Rattle.limits.specs.declared.TheConstants.{MAX_BYTES, MAX_REQUEST_NUMBER};
 ghost use Rattle.order.specs.Orders.{order_of, end_of};
@@ -35,8 +35,6 @@ impl Drop for Requests {
 }
 
 impl Model for Requests {
-    ghost use Rattle.std.specs.Prelude.{◌≤◌, vec_capacity};
-    ghost use Rattle.limits.specs.declared.TheConstants.{MAX_REQUESTS};
     ghost use Rattle.phases.specs.Requests.{Requests as Value_of};
     ghost use Rattle.phases.specs.Inner.Codes.{requests_code};
     ghost use Rattle.phases.specs.Fitting.{AreKept};
@@ -47,7 +45,7 @@ impl Model for Requests {
 
     ghost view = { λ a. record { outstanding = a.items.items; last = a.last } };
 
-    ghost invariant = { λ a. AreKept (record { outstanding = a.items.items; last = a.last }) × (MAX_REQUESTS ≤ vec_capacity a.items) };
+    ghost invariant = { λ a. AreKept (record { outstanding = a.items.items; last = a.last }) };
 }
 
 /// Where the request of a number stands.
@@ -115,14 +113,14 @@ fn free_slot(items: &[Request]) -> u32
 }
 
 impl Requests {
-    /// No request, with room for `MAX_REQUESTS`.
-    pub fn new(alloc: Global) -> Result<Self, AllocError>
-        ensures { IfOk result (λ rs. rs ≡ no_requests) }
+    /// No request. Nor is there room for any: most loops of a process ask for nothing.
+    pub fn new(alloc: Global) -> Self
+        ensures { result ≡ no_requests }
     {
-        Ok(Requests {
-            items: Vec::with_capacity(alloc, MAX_REQUESTS)?,
+        Requests {
+            items: Vec::new(alloc),
             last: 0,
-        })
+        }
     }
 
     /// What the requests keep. Nothing is done: this is a law.
@@ -186,19 +184,21 @@ impl Requests {
         next
     }
 
-    /// Opens a request under the next number, with the copy of its order that will be handed out.
-    pub fn open(&mut self, order: Order, copy: Order)
+    /// Opens a request under the next number, with the copy of its order that will be handed out. An error comes where memory is
+    /// refused, and then nothing is changed.
+    pub fn open(&mut self, order: Order, copy: Order) -> Result<(), AllocError>
         requires room { length self.old.outstanding < MAX_REQUESTS }
         requires number { order.request ≡ self.old.last + 1 }
         requires slot { order.slot < MAX_REQUESTS }
         requires last { self.old.last + 1 ≤ MAX_REQUEST_NUMBER }
         requires same { order_of copy ≡ order_of order }
-        ensures { self.new ≡ with_work self.old (order_of order) }
+        ensures opened { OnOk result (self.new ≡ with_work self.old (order_of order)) }
+        ensures refused { OnErr result (self.new ≡ self.old) }
     {
-        self.last = order.request;
-        let Ok(()) = self.items.push(Request::new(order, copy)) else {
-            unreachable!();
-        };
+        let number = order.request;
+        self.items.push(Request::new(order, copy))?;
+        self.last = number;
+        Ok(())
     }
 
     /// Cancels a request: -22 where it is not outstanding or cancelled already, -16 where it is answered or started.

@@ -1,6 +1,6 @@
 // The handles of a loop.
 
-ghost use Rattle.std.specs.Prelude.{◌≡◌, ◌≢◌, ◌<◌, ◌≤◌, [], Some, None, true, false, length, map, slice_get, IfOk, IfSome, IfNone, MatchOption, IsSomeAnd, ◌⊎◌, ◌==◌, filter, not};
+ghost use Rattle.std.specs.Prelude.{◌≡◌, ◌≢◌, ◌<◌, ◌≤◌, [], Some, None, true, false, length, map, slice_get, IfSome, IfNone, MatchOption, IsSomeAnd, ◌⊎◌, ◌==◌, filter, not};
 ghost use Rattle.std.specs.List.{list_any, position_or_len};
 ghost use Rattle.handles.specs.Table.{empty_table, record_of, IsOpen, IsClosing, after_again, entry, due_list, kind_list, nearest_due};
 ghost use Rattle.phases.specs.Roster.{callback_function, is_callback, is_open, is_open_of, async_number, async_handle, with_handles, with_made, without_handle};
@@ -14,25 +14,24 @@ use arrayvec::ArrayVec;
 use handles::{Handles, Kind, Place, Record};
 use limits::{MAX_ASYNCS, MAX_HANDLES};
 use order::uv::answers::{INVALID, NO_ROOM, NONE_LEFT};
-use std::alloc::{AllocError, Global};
 use std::marker::Model;
 
-/// The handles of a loop: the table, the asyncs by number, the closing handles in the order of their closing, and the
-/// functions that callbacks name.
+/// The handles of a loop: the closing ones in the order of their closing, the table, the functions that callbacks name, and the asyncs
+/// by number. The fields stand so that what each turn reads lies side by side: the lengths of both arrays, but not their places.
 pub struct Roster {
-    handles: Handles,
-    asyncs: ArrayVec<Option<u32>, MAX_ASYNCS>,
     closing: ArrayVec<u32, MAX_HANDLES>,
+    handles: Handles,
     callbacks: Vec<Option<u32>>,
+    asyncs: ArrayVec<Option<u32>, MAX_ASYNCS>,
 }
 
 impl Drop for Roster {
     fn drop(self) {
         let Roster {
-            handles: _,
-            asyncs: _,
             closing: _,
+            handles: _,
             callbacks: _,
+            asyncs: _,
         } = self;
     }
 }
@@ -53,15 +52,16 @@ impl Model for Roster {
 
 impl Roster {
     /// No handle, over the functions that callbacks name.
-    pub fn new(alloc: Global, callbacks: Vec<Option<u32>>) -> Result<Self, AllocError>
-        ensures { IfOk result (λ r. r ≡ record { handles = empty_table; asyncs = []; closing = []; callbacks = callbacks.items }) }
+    pub fn new(handles: Handles, callbacks: Vec<Option<u32>>) -> Self
+        requires { handles ≡ empty_table }
+        ensures { result ≡ record { handles = empty_table; asyncs = []; closing = []; callbacks = callbacks.items } }
     {
-        Ok(Roster {
-            handles: Handles::new(alloc)?,
-            asyncs: ArrayVec::new(),
+        Roster {
             closing: ArrayVec::new(),
+            handles,
             callbacks,
-        })
+            asyncs: ArrayVec::new(),
+        }
     }
 
     /// What the handles keep. Nothing is done: this is a law.

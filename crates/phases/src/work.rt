@@ -136,7 +136,9 @@ fn open<B: Shared>(
     let Ok((order, copy)) = setting.orders(alloc, request, slot, op, bytes) else {
         return NO_MEMORY;
     };
+    let Ok(()) = requests.open(order, copy) else {
+        return NO_MEMORY;
+    };
     shared.open(slot, request);
-    requests.open(order, copy);
     request
 }

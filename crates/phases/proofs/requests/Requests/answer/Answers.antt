@@ -16,14 +16,14 @@ use Rattle.phases.specs.Outside.{IsOneOf}
 there : (c : goal.After-self-2-1) → Staged c.self.inside.items.items c.self.inside.last (has_number c.args.reply.order.request) c.in-Some.at
     c.index_mut-item.result.now c.answer.new.self (Answered (end_of c.args.reply.outcome))
 there c =
-    staged_there c.self.inside.items.items c.self.inside.last c.self.invariant.0 (has_number c.args.reply.order.request) c.as_slice.result.now
+    staged_there c.self.inside.items.items c.self.inside.last c.self.invariant (has_number c.args.reply.order.request) c.as_slice.result.now
     c.in-Some.at c.index_mut-item.result.now c.answer.new.self (Answered (end_of c.args.reply.outcome))
     c.as_slice.ensures.value c.in-Some.ensures.some c.index_mut-item.ensures.value (rw c.into_outcome.ensures at c.answer.ensures) (rw (is_it c) c.args.reply.computed) where
       is_it : (c : goal.After-self-2-1) → c.index_mut-item.result.now.order ≡ order_of c.args.reply.order
       is_it c = c.if-not-is_for.ensures.0 refl
 
 pub invariant_of-self-2 : goal.invariant_of-self-2
-invariant_of-self-2 c = ((there c).kept, c.self.invariant.1)
+invariant_of-self-2 c = (there c).kept
 
 pub returns-clause-taken : goal.returns-clause-taken
 returns-clause-taken c = rw (← c.self.view_is) (record {

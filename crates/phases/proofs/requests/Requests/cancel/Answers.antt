@@ -11,10 +11,10 @@ use Rattle.phases.proofs.requests.Requests.cancel.Goals as goal
 pub invariant_of-self : goal.invariant_of-self
 invariant_of-self g c =
     let there =
-    staged_there c.self.inside.items.items c.self.inside.last c.self.invariant.0 (has_number c.args.number) c.as_slice.result.now c.in-Some.at
+    staged_there c.self.inside.items.items c.self.inside.last c.self.invariant (has_number c.args.number) c.as_slice.result.now c.in-Some.at
     c.index_mut-request.result.now c.cancel-in-Pending.new.self Cancelled
     c.as_slice.ensures.value c.in-Some.ensures.some c.index_mut-request.ensures.value c.cancel-in-Pending.ensures tt in
-    (there.kept, c.self.invariant.1)
+    there.kept
 
 pub returns-in-Unknown : goal.returns-in-Unknown
 returns-in-Unknown g c =
@@ -39,7 +39,7 @@ returns-else-not-cancel g c =
     same_item (has_number c.args.number) items c.as_slice.result.now c.in-Some.at c.index.result.now
     c.as_slice.ensures.value c.in-Some.ensures.some c.index.ensures in
     let there =
-    staged_there items c.self.inside.last c.self.invariant.0 (has_number c.args.number) c.as_slice.result.now c.in-Some.at
+    staged_there items c.self.inside.last c.self.invariant (has_number c.args.number) c.as_slice.result.now c.in-Some.at
     c.index_mut-request.result.now c.cancel-in-Pending.new.self Cancelled
     c.as_slice.ensures.value c.in-Some.ensures.some c.index_mut-request.ensures.value c.cancel-in-Pending.ensures tt in
     rw (← c.self.view_is)

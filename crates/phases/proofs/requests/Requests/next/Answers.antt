@@ -23,11 +23,11 @@ hand_out-requires c = found_passes test c.self.inside.items.items c.index_mut-it
 
 there : (c : goal.After-self-1) → Staged c.self.inside.items.items c.self.inside.last test c.in_ok-at.at c.index_mut-item.result.now c.hand_out.new.self HandedOut
 there c =
-    staged_there c.self.inside.items.items c.self.inside.last c.self.invariant.0 test c.as_slice.result.now c.in_ok-at.at c.index_mut-item.result.now c.hand_out.new.self HandedOut
+    staged_there c.self.inside.items.items c.self.inside.last c.self.invariant test c.as_slice.result.now c.in_ok-at.at c.index_mut-item.result.now c.hand_out.new.self HandedOut
     c.as_slice.ensures.value c.in_ok-at.ensures.some c.index_mut-item.ensures.value c.hand_out.ensures.request tt
 
 pub invariant_of-self : goal.invariant_of-self
-invariant_of-self c = ((there c).kept, c.self.invariant.1)
+invariant_of-self c = (there c).kept
 
 matched : (o : Option Order) (w : WorkOrder) → MatchOption o ⊥ (λ x. order_of x ≡ w) → option_map order_of o ≡ Some w
 matched None w h = absurd h

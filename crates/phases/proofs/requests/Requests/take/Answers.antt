@@ -4,16 +4,16 @@ use Rattle.phases.specs.Requests.{Request, Requests, has_number}
 use Rattle.phases.specs.Inner.Stage.{completion_in}
 use Rattle.phases.proofs.RequestsRise.{Removed, removed_there, short_completion}
 use Rattle.phases.proofs.requests.Requests.take.Goals as goal
-use Rattle.std.proofs.Common.{arith, not}
+use Rattle.std.proofs.Common.{not}
 
 there : (c : goal.After-into_completion) → Removed c.self.inside.items.items c.self.inside.last (has_number c.args.number) c.in-Some.at c.remove.result
 there c =
-    removed_there c.self.inside.items.items c.self.inside.last c.self.invariant.0 (has_number c.args.number) c.as_slice.result.now c.in-Some.at c.remove.result
+    removed_there c.self.inside.items.items c.self.inside.last c.self.invariant (has_number c.args.number) c.as_slice.result.now c.in-Some.at c.remove.result
     c.as_slice.ensures.value c.in-Some.ensures.some c.remove.ensures.value
 
 pub invariant_of-self : goal.invariant_of-self
 invariant_of-self c =
-    (rw c.remove.ensures.items (there c).kept, (let before = c.self.invariant.1 in let same = c.remove.ensures.capacity in omega arith))
+    rw c.remove.ensures.items (there c).kept
 
 pub returns-clause-completion : goal.returns-clause-completion
 returns-clause-completion c = rw (← c.self.view_is, (there c).there) c.into_completion.ensures

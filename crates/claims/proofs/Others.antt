@@ -7,7 +7,7 @@ use Rattle.limits.specs.declared.TheConstants.{MAX_REQUESTS, MAX_LOOPS}
 use Rattle.tallies.specs.Requests.{last_in}
 use Rattle.tallies.proofs.Lists.{part_set, part_push, set_apart}
 use Rattle.claims.specs.declared.rule.View.{View}
-use Rattle.claims.specs.Rule.{IsWorker, with_worker, spent_view, seat_of, maker_of, place, of_loop, IsKept, IsClaimed}
+use Rattle.claims.specs.Rule.{IsWorker, with_worker, spent_view, seat_of, maker_of, next_maker, next_seat, place, of_loop, IsKept, IsClaimed}
 use Rattle.claims.specs.Inner.Steps.{with_opened}
 use Rattle.claims.proofs.Moves.{begins, hit, no_list, own, opens, makes_seat, joins_worker}
 
@@ -39,14 +39,14 @@ module _ {loops : ℕ} {words : List ℕ} {views : List View} (claimed : IsClaim
             ap (λ (u : View). u.opened) (set_apart views id (m + 1) (with_opened v (slot, r)) (seat_of 0) (λ e. omega arith)) ∙ claimed.others m far;
       }
 
-  pub makes_claimed : (n : ℕ) → v ≡ maker_of n → 0 < n → IsClaimed loops words (set views id (maker_of (n + 1)) ++ seat_of n ∷ [])
-  makes_claimed n is some_made =
+  pub makes_claimed : 0 < v.made → IsClaimed loops words (set views id (next_maker v) ++ next_seat v ∷ [])
+  makes_claimed some_made =
       record {
-        kept = makes_seat claimed.kept id v at n is some_made;
+        kept = makes_seat claimed.kept id v at some_made;
         others =
             λ l far.
-            part_push (λ u. u.opened) (set views id (maker_of (n + 1))) (seat_of n) (seat_of 0) (l + 1) refl
-            ∙ part_set (λ u. u.opened) views id (l + 1) v (maker_of (n + 1)) (seat_of 0) at (sym (ap (λ u. u.opened) is)) ∙ claimed.others l far;
+            part_push (λ u. u.opened) (set views id (next_maker v)) (next_seat v) (seat_of 0) (l + 1) refl
+            ∙ part_set (λ u. u.opened) views id (l + 1) v (next_maker v) (seat_of 0) at refl ∙ claimed.others l far;
       }
 
   pub joins_claimed : (other : ℕ) (o : View) → ¬ (other ≡ id) → get_elem? (set views id (with_worker v o)) other ≡ some o → IsWorker o

@@ -12,11 +12,11 @@ done_of status.Usage h = cc
 done_of status.Refused h = cc
 done_of status.Ended h = cc
 
-pub at_done : {E : Type 0} (r : Result Status E) (P : Status → Type 0) → IfOk r P → r ≡ Ok status.Done → P status.Done
-at_done (Ok s) P h is =
-    let same : s ≡ status.Done = cc in
+pub at_ok : {E : Type 0} (r : Result Status E) (P : Status → Type 0) (s : Status) → IfOk r P → r ≡ Ok s → P s
+at_ok (Ok t) P s h is =
+    let same : t ≡ s = cc in
     rw same at h
-at_done (Err e) P h is = cc
+at_ok (Err e) P s h is = cc
 
 -- two facts of what is Ok
 pub both : {E : Type 0} (r : Result Status E) (A B : Type 0) → OnOk r A → OnOk r B → IfOk r (λ (s : Status). s ≡ status.Done → A × B)
@@ -36,12 +36,6 @@ ended_of status.Failed h = cc
 ended_of status.Usage h = cc
 ended_of status.Refused h = cc
 ended_of status.Ended h = refl
-
-pub at_ended : {E : Type 0} (r : Result Status E) (P : Status → Type 0) → IfOk r P → r ≡ Ok status.Ended → P status.Ended
-at_ended (Ok s) P h is =
-    let same : s ≡ status.Ended = cc in
-    rw same at h
-at_ended (Err e) P h is = cc
 
 -- what is done unless it fails is refused by its failure
 pub at_refused : (r : Result Status Failure) (A : Type 0) → IfOk r (λ (s : Status). s ≡ status.Done)

@@ -1,6 +1,7 @@
 // What each command does.
 
 ghost use Rattle.std.specs.Prelude.{◌≡◌, ◌≢◌, ◌≤◌, ◌⊎◌, Ok, OnOk, IfOk, IfErr, codes};
+ghost use Rattle.std.specs.Arc.{arc_value};
 ghost use Rattle.std.specs.Io.KnownBytes.{Appends};
 ghost use Rattle.syntax.specs.declared.contents.Contents.{Contents};
 ghost use Rattle.commands.specs.Accepted.{HoldsModule, HoldsNone};
@@ -20,17 +21,16 @@ use crate::status::Status;
 use crate::tracing::tell_used;
 use crate::working::work;
 use events::ended::{Ended, Ending};
-use instance::state::Instance;
+use imports::Linked;
 use order::Trail;
 use places::Shown;
-use resident::exported_function;
+use resident::{Resident, exported_function};
 use sentences::{Allowed, EndedLine, Stopped, tell_stopped, warn};
 use serve::{Job, Task};
 use std::alloc::{AllocError, Global};
 use std::io::{self, Write};
-use std::sync::Wait;
+use std::sync::{Arc, Wait};
 use std::thread::Threads;
-use validate::Valid;
 use words::{Command, Invocation, WorkOutput, WorkRequest};
 
 /// Tells whether the module of the file is accepted.
@@ -55,12 +55,13 @@ fn check<'a, R: Reader, O: Write, E: Write>(
 /// Calls the function of the module that the words name, with the arguments that they spell.
 fn call_named<'a>(
     alloc: Global,
-    valid: &Valid,
+    linked: Arc<Linked>,
     invocation: &'a Invocation,
-) -> Result<(Called, Instance), Failure<'a>>
-    ensures { IfOk result (λ done. IsCallOf valid.now.contents invocation.now done.0) }
+) -> Result<(Called, Resident), Failure<'a>>
+    ensures { IfOk result (λ done. IsCallOf (arc_value linked).contents invocation.now done.0) }
 {
     let name = invocation.name.as_str();
+    let valid = linked.valid();
     let Some((function, func_type)) = exported_function(valid, name.as_bytes()) else {
         return Err(Failure::no_function(alloc, valid.contents(), name));
     };
@@ -71,7 +72,7 @@ fn call_named<'a>(
     )?;
     call(
         alloc,
-        valid,
+        linked,
         function,
         args.as_slice(),
         invocation.fuel,
@@ -119,11 +120,11 @@ fn explain<E: Write>(
     invocation: &Invocation,
     bytes: &[u8],
     called: &Called,
-    instance: &Instance,
+    resident: &Resident,
     err: &mut E,
 ) -> io::Result<()> {
     let (what, ended) = ended_call(invocation.name.as_str(), called);
-    let Some(stop) = instance.last_stop() else {
+    let Some(stop) = resident.last_stop() else {
         return Ok(());
     };
     let allowed = Allowed::by_options(invocation.depth);
@@ -145,18 +146,18 @@ fn trace<E: Write>(invocation: &Invocation, called: &Called, err: &mut E) -> io:
 /// Calls the function of the module that the words name, and reports how it ended.
 fn call_and_tell<'a, O: Write, E: Write>(
     alloc: Global,
-    valid: &Valid,
+    linked: Arc<Linked>,
     bytes: &[u8],
     invocation: &'a Invocation,
     out: &mut O,
     err: &mut E,
 ) -> Result<Status, Failure<'a>>
-    ensures { IfOk result (λ status. status ≡ Status.Done → Returns valid.now.contents invocation.now) }
+    ensures { IfOk result (λ status. status ≡ Status.Done → Returns (arc_value linked).contents invocation.now) }
 {
-    let (called, instance) = call_named(alloc, valid, invocation)?;
+    let (called, resident) = call_named(alloc, linked, invocation)?;
     let status = tell_called(&called, out)?;
     // a sentence that can't be written changes nothing
-    let _ = explain(invocation, bytes, &called, &instance, err);
+    let _ = explain(invocation, bytes, &called, &resident, err);
     let _ = trace(invocation, &called, err);
     Ok(status)
 }
@@ -172,8 +173,8 @@ fn invoke<'a, R: Reader, O: Write, E: Write>(
     ensures { IfOk result (λ status. status ≡ Status.Done → HasInvoked (R.gives reader.now) invocation.entry.now) }
 {
     let loaded = load_whole(alloc, reader, invocation.file.as_str())?;
-    let bytes = loaded.1.as_slice();
-    call_and_tell(alloc, loaded.0.valid(), bytes, invocation, out, err)
+    let linked = Arc::new(alloc, loaded.0)?;
+    call_and_tell(alloc, linked, loaded.1.as_slice(), invocation, out, err)
 }
 
 /// Tells to `err` that what should be printed can't be.

@@ -4,6 +4,7 @@
  *
  * A request has SECONDS (10) to come whole and its answer as many to be taken. SIGTERM or SIGINT ends it in order. This part has
  * connections and requests. */
+#include <ctype.h>
 #include <malloc.h>
 #include <signal.h>
 #include <stdarg.h>
@@ -52,11 +53,6 @@ void drop_bytes(bytes *b) {
     b->room = 0;
     free(b->at);
     b->at = NULL;
-}
-
-static void append(bytes *b, const char *at, size_t n) {
-    memcpy(b->at + b->length, at, n);
-    b->length += n;
 }
 
 /* ---- answers ---- */
@@ -119,6 +115,7 @@ void answer(client *c, int status, const char *type, const void *body, size_t le
     uv_buf_t parts[2] = { uv_buf_init(c->head, (unsigned)n), uv_buf_init((char *)body, (unsigned)length) };
     log_answer(c, status, length);
     unwait(&c->task);
+    c->busy = true;
     c->until = in_ms(patience);
     if (uv_write(&c->write, (uv_stream_t *)&c->tcp, parts, length ? 2 : 1, on_written) != 0) leave(c);
 }
@@ -142,51 +139,16 @@ void fail(client *c, outcome what, int status, const char *why) {
 
 /* A number up to `most` that is all of a text, or UINT64_MAX. */
 uint64_t number_of(const char *text, uint64_t most) {
-    uint64_t n = 0;
-    if (!*text) return UINT64_MAX;
-    for (; *text; text++)
-        if (*text < '0' || *text > '9' || (n = n * 10 + (uint64_t)(*text - '0')) > most) return UINT64_MAX;
-    return n;
-}
-
-/* What a tenant is asked for, by the rest of a path, of which the number is left. */
-static void (*verb_of(char **rest))(client *, tenant *, uint32_t) {
-    bool asks = strncmp(*rest, "ask", 3) == 0 && (!(*rest)[3] || (*rest)[3] == '/'), sends = strncmp(*rest, "send/", 5) == 0;
-    if (asks) *rest += (*rest)[3] ? 4 : 3;
-    if (sends) *rest += 5;
-    return asks ? ask : sends ? send_to : work;
-}
-
-static void request(client *c) {
-    char path[sizeof c->path];
-    strcpy(path, c->path);
-    path[strcspn(path, "?")] = 0;
-    char *name = path + (*path == '/'), *rest = name + strcspn(name, "/");
-    if (*rest) *rest++ = 0;
-    if (strcmp(name, "-") == 0) {
-        page(c, rest);
-        return;
-    }
-    void (*verb)(client *, tenant *, uint32_t) = verb_of(&rest);
-    tenant *t = c->task.of = tenant_of(name, true);
-    uint64_t number = *rest ? number_of(rest, verb == send_to ? ASYNCS - 1 : UINT32_MAX) : 0;
-    if (ending) {
-        say(c, 503, "the server ends\n");
-    } else if (!t || (t->status == ABSENT && !t->load)) {
-        say(c, 404, "no such tenant\n");
-    } else if (number == UINT64_MAX) {
-        say(c, 400, verb == send_to ? "an async is a number from 0 to 15\n" : "an operation is a number below 2^32\n");
-    } else {
-        t->counted.in += c->body.length;
-        c->until = c->came + t->limits[DEADLINE] * MS;
-        verb(c, t, (uint32_t)number);
-    }
+    char *end;
+    uint64_t n = strtoull(text, &end, 10);
+    return isdigit((unsigned char)*text) && !*end && n <= most ? n : UINT64_MAX;
 }
 
 static int on_begin(http_parser *p) {
     client *c = p->data;
     c->task = (task){ .work.data = &c->task };
     c->head_length = c->body.length = 0;
+    c->keep = false;
     *c->path = 0;
     c->number = ++requests;
     c->came = uv_hrtime();
@@ -197,8 +159,6 @@ static int on_begin(http_parser *p) {
 /* Answers what is no request, after which its connection ends. */
 static int refused(client *c, int status, const char *why) {
     if (!c->came) on_begin(&c->parser); /* its first byte is no method's */
-    c->busy = true;
-    c->keep = false;
     say(c, status, "no request: %s\n", why);
     return -1;
 }
@@ -229,8 +189,42 @@ static int on_head(http_parser *p) {
 static int on_body(http_parser *p, const char *at, size_t n) {
     client *c = p->data;
     if (n > c->body.room - c->body.length) return refused(c, 413, "the body is too long: 65536 bytes at most");
-    append(&c->body, at, n);
+    memcpy(c->body.at + c->body.length, at, n);
+    c->body.length += n;
     return 0;
+}
+
+/* A request is whole: finds out whom it is for and what it asks. */
+static void request(client *c) {
+    void (*verb)(client *, tenant *, uint32_t) = work;
+    char path[sizeof c->path];
+    strcpy(path, c->path);
+    path[strcspn(path, "?")] = 0;
+    char *name = path + (*path == '/'), *rest = name + strcspn(name, "/");
+    if (*rest) *rest++ = 0;
+    if (strncmp(rest, "send/", 5) == 0) {
+        verb = send_to;
+        rest += 5;
+    } else if (strcmp(rest, "ask") == 0 || strncmp(rest, "ask/", 4) == 0) {
+        verb = ask;
+        rest += rest[3] ? 4 : 3;
+    }
+    bool people = strcmp(name, "-") == 0;
+    tenant *t = c->task.of = people ? NULL : tenant_of(name, true);
+    uint64_t number = *rest ? number_of(rest, verb == send_to ? ASYNCS - 1 : UINT32_MAX) : 0;
+    if (people) {
+        page(c, rest);
+    } else if (ending) {
+        say(c, 503, "the server ends\n");
+    } else if (!t) {
+        say(c, 404, "no such tenant\n");
+    } else if (number == UINT64_MAX) {
+        say(c, 400, verb == send_to ? "an async is a number from 0 to 15\n" : "an operation is a number below 2^32\n");
+    } else {
+        t->counted.in += c->body.length;
+        c->until = c->came + t->limits[DEADLINE] * MS;
+        verb(c, t, (uint32_t)number);
+    }
 }
 
 static int on_end(http_parser *p) {
@@ -262,11 +256,13 @@ static size_t feed(client *c, const char *at, size_t n) {
 /* Keeps what was sent ahead, and reads no more until it is parsed. */
 static void keep_rest(client *c, const char *at, size_t n) {
     if (closes(c) || !c->keep) return;
-    uv_read_stop((uv_stream_t *)&c->tcp);
-    if (hold(&c->rest, n))
-        append(&c->rest, at, n);
-    else
+    if (!hold(&c->rest, n)) {
         leave(c);
+        return;
+    }
+    memcpy(c->rest.at, at, n);
+    c->rest.length = n;
+    uv_read_stop((uv_stream_t *)&c->tcp);
 }
 
 static void on_room(uv_handle_t *handle, size_t want, uv_buf_t *buf) {
@@ -311,48 +307,45 @@ static void on_connection(uv_stream_t *stream, int status) {
     uv_read_start((uv_stream_t *)&c->tcp, on_room, on_read);
     if (clients <= most_clients) return;
     on_begin(&c->parser);
-    c->busy = true;
     say(c, 503, "too many clients\n");
 }
 
-/* One whose patience is at its end, or that must go since the server ends; what is begun goes on, and a thread sees to its deadline. */
+/* One whose time is over, or that must go since the server ends; what is begun goes on, and a thread sees to its deadline. */
 static void part(client *c) {
     task *k = &c->task;
     bool begun = k->state == RUNS || (k->state == WAITS && k->handle.mark);
-    if (begun) return;
-    if (k->state != IDLE)
-        fail(c, ending ? REFUSED : LATE, ending ? 503 : 504,
-            ending               ? "the server ends"
-            : k->state == ASKS ? "the loop did not answer before its deadline"
-                               : "not begun by its deadline");
-    else if (c->busy || !c->came)
+    const char *late = k->state == ASKS ? "the loop did not answer before its deadline" : "not begun by its deadline";
+    if (k->state != IDLE && !begun)
+        fail(c, ending ? REFUSED : LATE, ending ? 503 : 504, ending ? "the server ends" : late);
+    else if (k->state == IDLE && (c->busy || !c->came))
         leave(c);
-    else
+    else if (k->state == IDLE)
         say(c, ending ? 503 : 408, ending ? "the server ends\n" : "the request took too long to come\n");
 }
 
-/* Looks whether a client must go; where the server ends, closes what isn't a client's. */
-static void on_each(uv_handle_t *handle, void *now) {
+/* Looks whether a client must go. Its patience counts until the sweep before this one, since when all that it sent was read. */
+static void on_each(uv_handle_t *handle, void *swept) {
     client *c = handle->data;
-    bool is_client = handle->type == UV_TCP && handle != (uv_handle_t *)&server;
-    if (uv_is_closing(handle)) return;
-    if (!is_client && ending && handle != (uv_handle_t *)&sweeper) uv_close(handle, NULL);
-    if (is_client && (*(uint64_t *)now >= c->until || (ending && (!c->busy || c->task.state != IDLE)))) part(c);
+    if (handle->type != UV_TCP || handle == (uv_handle_t *)&server || uv_is_closing(handle)) return;
+    bool stands = c->task.state == IDLE, late = c->until <= (stands ? *(uint64_t *)swept : uv_hrtime());
+    if (late || (ending && !(stands && c->busy))) part(c);
 }
 
 /* Where the server ends, what runs is finished, what waits is answered 503, and the loop ends when nothing is left. */
 static void on_sweep(uv_timer_t *timer) {
-    uint64_t now = uv_hrtime();
+    static uint64_t swept;
     if (starved && !ending) on_connection((uv_stream_t *)&server, 0);
-    uv_walk(uv, on_each, &now);
-    tenants_sweep();
+    uv_walk(uv, on_each, &swept);
+    swept = uv_hrtime();
     schedule();
+    tenants_sweep();
     fflush(stdout);
-    if (ending && clients == 0 && running == 0 && waiting == 0) uv_close((uv_handle_t *)timer, NULL);
+    if (ending && clients == 0 && LIST_EMPTY(&tenants)) uv_timer_stop(timer);
 }
 
 static void on_signal(uv_signal_t *signal, int number) {
     (void)signal, (void)number;
+    if (!ending) uv_close((uv_handle_t *)&server, NULL);
     ending = true;
     on_sweep(&sweeper);
 }
@@ -413,12 +406,12 @@ int main(int argc, char **argv) {
     for (int i = 0; i < 2; i++) {
         uv_signal_init(uv, &signals[i]);
         uv_signal_start(&signals[i], on_signal, i ? SIGTERM : SIGINT);
+        uv_unref((uv_handle_t *)&signals[i]);
     }
     uv_timer_init(uv, &sweeper);
     uv_timer_start(&sweeper, on_sweep, SWEEP_MS, SWEEP_MS);
     uv_fs_event_init(uv, &changes);
+    uv_unref((uv_handle_t *)&changes);
     if (uv_fs_event_start(&changes, on_change, folder, 0) != 0) fprintf(stderr, "edge: changes in %s are not seen\n", folder);
-    uv_run(uv, UV_RUN_DEFAULT);
-    tenants_free();
-    return uv_loop_close(uv) == 0 ? 0 : 1;
+    return uv_run(uv, UV_RUN_DEFAULT);
 }

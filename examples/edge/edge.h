@@ -16,7 +16,7 @@
 
 enum { MOST_BYTES = 65536, MOST_HEAD = 16384, MOST_HELD = 64 << 20, MOST_MODULE = 1 << 20, MOST_WAITING = 4096 };
 enum { ABSENT = -1, ASYNCS = 16, MOST_RUNS = 32, MOST_EMITS = MOST_RUNS * 64, MS = 1000000, TURN_NS = 500000, TIMES = 32 };
-typedef enum limit { FUEL, CALLBACK, DEADLINE, DEPTH, QUEUE, RUN, REST, OUT, LIMITS } limit; /* the numbers in NAME.conf */
+typedef enum limit { FUEL, CALLBACK, DEADLINE, DEPTH, QUEUE, RUN, REST, OUT, LIMITS } limit;           /* the numbers in NAME.conf */
 typedef enum outcome { GONE, DONE, TRAPPED, DEEP, SPENT, NO_MEMORY, LATE, REFUSED, OUTCOMES } outcome; /* the first as WASMLOOP_WORK_* */
 typedef struct tenant tenant;
 typedef struct task task;
@@ -63,7 +63,7 @@ typedef struct client {
     bytes body, rest;                     /* rest: what came behind the request that is being answered, */
     size_t parsed, head_length;           /* and how much of that is parsed */
     uint64_t number, came, until;         /* came: 0 before a request's first byte; until: when patience ends */
-    int32_t request; /* the loop's number of what it asks; 0: it isn't made */
+    int32_t request;                      /* the loop's number of what it asks; 0: it isn't made */
 } client;
 
 /* A loop that lives. While its turn runs, that alone touches the handle, the hint and the emits. */
@@ -129,7 +129,7 @@ void explain(task *k, wasmloop_handle *of, const char *how, uint32_t trap, uint6
 /* tenants.c */
 tenant *tenant_of(const char *name, bool make);
 void tenant_changed(const char *file), refuse(client *c);
-void tenants_sweep(void), tenants_free(void);
+void tenants_sweep(void);
 
 /* loops.c */
 void ask(client *c, tenant *t, uint32_t op), send_to(client *c, tenant *t, uint32_t async);

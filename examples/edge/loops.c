@@ -80,8 +80,7 @@ static bool make_requests(tenant *t) {
 
 /* A number that the loop has emitted answers who asked by the request in its upper half. */
 static void answer_ask(tenant *t, int64_t emitted) {
-    task *k;
-    TAILQ_FOREACH (k, &t->asks, next) {
+    for (task *k = TAILQ_FIRST(&t->asks); k; k = TAILQ_NEXT(k, next)) {
         client *c = (client *)k;
         if (!c->request || emitted >> 32 != c->request) continue;
         count(t, DONE, c->came);
@@ -215,16 +214,6 @@ static void on_due(uv_timer_t *timer) {
     turn_soon(t);
 }
 
-static loop *new_loop(tenant *t) {
-    loop *l = calloc(1, sizeof *l);
-    if (!l) return NULL;
-    TAILQ_INIT(&l->done);
-    uv_timer_init(uv, &l->timer);
-    l->timer.data = t;
-    make_steps(t);
-    return l;
-}
-
 static void clear(loop *l) {
     uv_timer_stop(&l->timer);
     unwait(&l->turn);
@@ -238,7 +227,6 @@ static void clear(loop *l) {
 void make_loop(tenant *t) {
     static uint32_t number;
     loop *l = t->loop;
-    task *k;
     if (ending) return;
     if (l && l->turn.state == RUNS) {
         l->renew = true;
@@ -248,12 +236,17 @@ void make_loop(tenant *t) {
         t->counted.restarts += l->last >= WASMLOOP_OVER;
         clear(l);
     }
-    if (t->shape.main && !l) l = t->loop = new_loop(t);
+    if (t->shape.main && !l && (l = t->loop = calloc(1, sizeof *l))) {
+        TAILQ_INIT(&l->done);
+        uv_timer_init(uv, &l->timer);
+        l->timer.data = t;
+        make_steps(t);
+    }
     if (t->shape.main && l) {
         wasmloop_limits limits = { t->limits[CALLBACK], t->limits[FUEL], l->number = ++number, (uint32_t)t->limits[DEPTH] };
         l->began = uv_now(uv);
         if (wasmloop_loop(&t->module, &limits, &l->handle) != WASMLOOP_OK) restart_later(l);
-        TAILQ_FOREACH (k, &t->asks, next) ((client *)k)->request = 0;
+        for (task *k = TAILQ_FIRST(&t->asks); k; k = TAILQ_NEXT(k, next)) ((client *)k)->request = 0;
         turn_soon(t);
     }
     refuse_asks(t);

@@ -49,8 +49,8 @@ void log_answer(client *c, int status, size_t length) {
     size_t n = strlen(strcpy(path, c->path));
     for (size_t i = 0; i < n; i++)
         if (path[i] <= ' ' || path[i] > '~' || path[i] == '"') path[i] = '?';
-    printf("at=%s request=%llu method=%s path=\"%s\" status=%d in=%zu out=%zu us=%llu fuel=%llu\n", moment, U(c->number), http_method_str(c->parser.method),
-        path, status, c->body.length, length, U((uv_hrtime() - c->came) / 1000), U(c->task.about.used));
+    printf("at=%s request=%llu method=%s path=\"%s\" status=%d in=%zu out=%zu us=%llu fuel=%llu\n", moment, U(c->number),
+        http_method_str(c->parser.method), path, status, c->body.length, length, U((uv_hrtime() - c->came) / 1000), U(c->task.about.used));
 }
 
 void make_steps(tenant *t) {
@@ -100,9 +100,8 @@ static void write_type(FILE *to, const char *name, const char *type, const char 
 }
 
 static void write_server(FILE *to) {
-    tenant *t;
     size_t loaded = 0;
-    LIST_FOREACH (t, &tenants, next) loaded++;
+    for (tenant *t = LIST_FIRST(&tenants); t; t = LIST_NEXT(t, next)) loaded++;
     const struct {
         const char *name, *help;
         size_t value;
@@ -116,7 +115,6 @@ static void write_server(FILE *to) {
 }
 
 static void write_numbers(FILE *to) {
-    tenant *t;
     static const struct {
         const char *name, *type, *help;
         size_t at;
@@ -131,7 +129,7 @@ static void write_numbers(FILE *to) {
         { "latency_worst_seconds", "gauge", "The longest time of a request.", offsetof(tenant, counted.worst), 1e-6 } };
     for (size_t k = 0; k < sizeof numbers / sizeof *numbers; k++) {
         write_type(to, numbers[k].name, numbers[k].type, numbers[k].help);
-        LIST_FOREACH (t, &tenants, next) {
+        for (tenant *t = LIST_FIRST(&tenants); t; t = LIST_NEXT(t, next)) {
             uint64_t value = *(uint64_t *)((char *)t + numbers[k].at);
             fprintf(to, "edge_%s{tenant=\"%s\"} %.15g\n", numbers[k].name, t->name, (double)value * numbers[k].unit);
         }
@@ -139,14 +137,13 @@ static void write_numbers(FILE *to) {
 }
 
 static void write_requests(FILE *to) {
-    tenant *t;
     static const char *const names[] = { "gone", "done", "trap", "depth", "spent", "memory", "late", "refused" };
     write_type(to, "requests_total", "counter", "Requests by what became of them.");
-    LIST_FOREACH (t, &tenants, next)
+    for (tenant *t = LIST_FIRST(&tenants); t; t = LIST_NEXT(t, next))
         for (int k = 0; k < OUTCOMES; k++)
             fprintf(to, "edge_requests_total{tenant=\"%s\",outcome=\"%s\"} %llu\n", t->name, names[k], U(t->counted.of[k]));
     write_type(to, "latency_seconds", "summary", "From a request's first byte to its answer.");
-    LIST_FOREACH (t, &tenants, next) {
+    for (tenant *t = LIST_FIRST(&tenants); t; t = LIST_NEXT(t, next)) {
         uint64_t answered = 0;
         for (int k = 0; k < TIMES; k++) answered += t->counted.times[k];
         fprintf(to, "edge_latency_seconds{tenant=\"%s\",quantile=\"0.5\"} %.6f\n", t->name, quantile(&t->counted, 0.5));
@@ -155,11 +152,12 @@ static void write_requests(FILE *to) {
             (double)t->counted.lived / 1e6, t->name, U(answered));
     }
     write_type(to, "tenant_tasks", "gauge", "Tasks of a tenant that wait or run.");
-    LIST_FOREACH (t, &tenants, next)
+    for (tenant *t = LIST_FIRST(&tenants); t; t = LIST_NEXT(t, next))
         fprintf(to, "edge_tenant_tasks{tenant=\"%s\",are=\"waiting\"} %u\nedge_tenant_tasks{tenant=\"%s\",are=\"running\"} %u\n", t->name, t->waiting,
             t->name, t->running);
     write_type(to, "tenant_state", "gauge", "1 for the state that a tenant is in.");
-    LIST_FOREACH (t, &tenants, next) fprintf(to, "edge_tenant_state{tenant=\"%s\",state=\"%s\"} 1\n", t->name, state_of(t));
+    for (tenant *t = LIST_FIRST(&tenants); t; t = LIST_NEXT(t, next))
+        fprintf(to, "edge_tenant_state{tenant=\"%s\",state=\"%s\"} 1\n", t->name, state_of(t));
 }
 
 static void write_plain(FILE *to, const char *said) {
@@ -167,8 +165,7 @@ static void write_plain(FILE *to, const char *said) {
 }
 
 static void write_tenants(FILE *to) {
-    tenant *t;
-    LIST_FOREACH (t, &tenants, next) {
+    for (tenant *t = LIST_FIRST(&tenants); t; t = LIST_NEXT(t, next)) {
         fprintf(to, "%s\t%s\t%u", t->name, state_of(t), t->shape.main);
         write_plain(to, t->said), write_plain(to, t->failure);
         fputc('\n', to);

@@ -160,24 +160,17 @@ static void free_tenant(tenant *t) {
 
 static void on_gone(uv_handle_t *timer) { free_tenant(timer->data); }
 
-/* Those go whose file is gone, and of whom nobody wants anything. */
+/* Those go whose file is gone, and where the server ends all, once nobody wants anything of them. */
 void tenants_sweep(void) {
-    for (tenant *t = LIST_FIRST(&tenants), *next; t && !ending; t = next) {
+    for (tenant *t = LIST_FIRST(&tenants), *next; t; t = next) {
         next = LIST_NEXT(t, next);
         if (t->changed) load(t);
-        if (t->status != ABSENT || t->waiting || t->running || t->load) continue;
+        if ((t->status != ABSENT && !(ending && clients == 0)) || t->waiting || t->running || t->asking || t->load) continue;
         LIST_REMOVE(t, next);
         tdelete(t->name, &names, by_name);
         if (t->loop)
             uv_close((uv_handle_t *)&t->loop->timer, on_gone);
         else
             free_tenant(t);
-    }
-}
-
-void tenants_free(void) {
-    for (tenant *t; (t = LIST_FIRST(&tenants));) {
-        LIST_REMOVE(t, next);
-        free_tenant(t);
     }
 }

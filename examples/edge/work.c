@@ -87,9 +87,9 @@ static bool can_run(const tenant *t) {
 }
 
 static tenant *next_in_turn(void) {
-    tenant *best = NULL, *t;
+    tenant *best = NULL;
     uint64_t now = uv_hrtime();
-    LIST_FOREACH (t, &active, active) {
+    for (tenant *t = LIST_FIRST(&active); t; t = LIST_NEXT(t, active)) {
         if (now < t->rests && !ending)
             look_again();
         else if (can_run(t) && (!best || t->share < best->share))
@@ -114,20 +114,19 @@ static void on_done(uv_work_t *work, int cancelled) {
     schedule();
 }
 
-static void start(tenant *t) {
-    task *k = TAILQ_FIRST(&t->waits);
-    unwait(k);
-    pace = t->share;
-    if (k->kind->ready && !k->kind->ready(k)) return;
-    t->share += t->mean;
-    running++, t->running++;
-    k->state = RUNS;
-    uv_queue_work(uv, &k->work, do_task, on_done);
-}
-
+/* Starts what may be started. */
 void schedule(void) {
     tenant *t;
-    while ((t = next_in_turn()) && running < workers) start(t);
+    while ((t = next_in_turn()) && running < workers) {
+        task *k = TAILQ_FIRST(&t->waits);
+        unwait(k);
+        pace = t->share;
+        if (k->kind->ready && !k->kind->ready(k)) continue;
+        t->share += t->mean;
+        running++, t->running++;
+        k->state = RUNS;
+        uv_queue_work(uv, &k->work, do_task, on_done);
+    }
     hurry = t != NULL;
 }
 

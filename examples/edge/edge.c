@@ -92,13 +92,13 @@ static void on_written(uv_write_t *write, int status) {
     if (status == 0 && c->keep && !ending) {
         c->busy = false;
         c->came = 0;
-        c->until = in_ms(IDLE_MS);
+        c->task.until = in_ms(IDLE_MS);
         http_parser_pause(&c->parser, 0);
         go_on(c);
         return;
     }
     c->keep = false;
-    c->until = in_ms(LINGER_MS);
+    c->task.until = in_ms(LINGER_MS);
     if (status != 0 || uv_fileno((uv_handle_t *)&c->tcp, &fd) != 0 || shutdown(fd, SHUT_WR) != 0) leave(c);
 }
 
@@ -116,7 +116,7 @@ void answer(client *c, int status, const char *type, const void *body, size_t le
     log_answer(c, status, length);
     unwait(&c->task);
     c->busy = true;
-    c->until = in_ms(patience);
+    c->task.until = in_ms(patience);
     if (uv_write(&c->write, (uv_stream_t *)&c->tcp, parts, length ? 2 : 1, on_written) != 0) leave(c);
 }
 
@@ -152,7 +152,7 @@ static int on_begin(http_parser *p) {
     *c->path = 0;
     c->number = ++requests;
     c->came = uv_hrtime();
-    c->until = in_ms(patience);
+    c->task.until = in_ms(patience);
     return 0;
 }
 
@@ -222,7 +222,7 @@ static void request(client *c) {
         say(c, 400, verb == send_to ? "an async is a number from 0 to 15\n" : "an operation is a number below 2^32\n");
     } else {
         t->counted.in += c->body.length;
-        c->until = c->came + t->limits[DEADLINE] * MS;
+        c->task.until = c->came + t->limits[DEADLINE] * MS;
         verb(c, t, (uint32_t)number);
     }
 }
@@ -298,7 +298,7 @@ static void on_connection(uv_stream_t *stream, int status) {
     uv_tcp_init(uv, &c->tcp);
     http_parser_init(&c->parser, HTTP_REQUEST);
     c->tcp.data = c->parser.data = c;
-    c->until = in_ms(patience);
+    c->task.until = in_ms(patience);
     if (uv_accept(stream, (uv_stream_t *)&c->tcp) != 0) {
         leave(c);
         return;
@@ -327,7 +327,7 @@ static void part(client *c) {
 static void on_each(uv_handle_t *handle, void *swept) {
     client *c = handle->data;
     if (handle->type != UV_TCP || handle == (uv_handle_t *)&server || uv_is_closing(handle)) return;
-    bool stands = c->task.state == IDLE, late = c->until <= (stands ? *(uint64_t *)swept : uv_hrtime());
+    bool stands = c->task.state == IDLE, late = c->task.until <= (stands ? *(uint64_t *)swept : uv_hrtime());
     if (late || (ending && !(stands && c->busy))) part(c);
 }
 

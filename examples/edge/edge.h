@@ -41,8 +41,8 @@ struct task {
     int status;             /* of a load: the library's, or ABSENT; of a turn: what its last step did */
     wasmloop_handle handle; /* its job, or the module */
     wasmloop_about about;
-    uint64_t units, cpu, until;
-    char *said; /* why it failed */
+    uint64_t units, cpu, until; /* until: its deadline, or when patience with a client ends */
+    char *said;                 /* why it failed */
 };
 
 /* Bytes of a client, of which all together hold MOST_HELD at most. */
@@ -62,7 +62,7 @@ typedef struct client {
     char *page;                           /* or bytes for people in the text's place */
     bytes body, rest;                     /* rest: what came behind the request that is being answered, */
     size_t parsed, head_length;           /* and how much of that is parsed */
-    uint64_t number, came, until;         /* came: 0 before a request's first byte; until: when patience ends */
+    uint64_t number, came;                /* came: 0 before a request's first byte */
     int32_t request;                      /* the loop's number of what it asks; 0: it isn't made */
 } client;
 

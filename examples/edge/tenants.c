@@ -141,13 +141,10 @@ tenant *tenant_of(const char *name, bool make) {
 
 /* A file of the folder was written, or is gone. */
 void tenant_changed(const char *file) {
-    char name[sizeof(tenant){ 0 }.name];
-    const char *dot = strrchr(file, '.');
-    if (!dot || (size_t)(dot - file) >= sizeof name) return;
-    snprintf(name, sizeof name, "%.*s", (int)(dot - file), file);
-    tenant *t = tenant_of(name, false);
-    if (t && strcmp(dot, ".wasm") == 0) load(t);
-    if (t && strcmp(dot, ".conf") == 0) read_limits(t);
+    char name[64], kind[8];
+    tenant *t = sscanf(file, "%63[^.].%7s", name, kind) == 2 ? tenant_of(name, false) : NULL;
+    if (t && strcmp(kind, "wasm") == 0) load(t);
+    if (t && strcmp(kind, "conf") == 0) read_limits(t);
 }
 
 static void free_tenant(tenant *t) {

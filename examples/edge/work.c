@@ -1,5 +1,6 @@
 /* Work in the threads of libuv's pool, and whose turn it is: among tenants that wait the one goes first that has used the least processor
  * time. A job runs in slices, so that it makes room for others, and ends when it must. */
+#include <sched.h>
 #include <stdlib.h>
 #include <sys/resource.h>
 #include <time.h>
@@ -60,11 +61,21 @@ void run_job(task *k) {
         explain(k, &k->handle, wasmloop_outcome_name(a->outcome), a->outcome == WASMLOOP_WORK_TRAP ? a->value : 0, a->used);
 }
 
-/* The threads have a lower priority than the main one, which on Linux each has for itself. */
+/* The threads have a lower priority than the main one, in whatever class of the scheduler that is: on Linux each has its own. */
+static void lower_priority(void) {
+    struct sched_param own;
+    sched_getparam(0, &own);
+    if (own.sched_priority-- > 1)
+        sched_setparam(0, &own);
+    else
+        setpriority(PRIO_PROCESS, (id_t)gettid(), getpriority(PRIO_PROCESS, 0) + 1);
+}
+
 static void do_task(uv_work_t *work) {
     static _Thread_local bool low;
     task *k = work->data;
-    if (!low) setpriority(PRIO_PROCESS, (id_t)gettid(), getpriority(PRIO_PROCESS, 0) + 1), low = true;
+    if (!low) lower_priority();
+    low = true;
     uint64_t began = cpu_now();
     k->kind->run(k);
     k->cpu = cpu_now() - began;
@@ -188,16 +199,13 @@ static bool ready_work(task *k) {
     client *c = (client *)k;
     wasmloop_task what = { t->limits[FUEL], k->about.op, (uint32_t)t->limits[DEPTH] };
     if (k->handle.mark) return true;
-    int told = t->module.mark ? wasmloop_job_new(&t->module, &what, (uint8_t *)c->body.at, c->body.length, &k->handle) : WASMLOOP_EMPTY;
-    if (told == WASMLOOP_OK)
-        drop_bytes(&c->body);
-    else if (told == WASMLOOP_EMPTY)
-        refuse(c);
-    else if (told == WASMLOOP_MEMORY)
-        fail(c, NO_MEMORY, 503, "no memory");
-    else
-        fail(c, REFUSED, 404, "it exports no uv_work");
-    return told == WASMLOOP_OK;
+    switch (wasmloop_job_new(&t->module, &what, (uint8_t *)c->body.at, c->body.length, &k->handle)) {
+    case WASMLOOP_OK: drop_bytes(&c->body); return true;
+    case WASMLOOP_EMPTY: refuse(c); break;
+    case WASMLOOP_MEMORY: fail(c, NO_MEMORY, 503, "no memory"); break;
+    default: fail(c, REFUSED, 404, "it exports no uv_work");
+    }
+    return false;
 }
 
 /* A tenant whose request failed rests for a while, and has one thread until one is done: its failures must not be its neighbours' loss. One
@@ -248,6 +256,5 @@ void work(client *c, tenant *t, uint32_t op) {
     if (!may_wait(c, t->waiting)) return;
     c->task.kind = &works;
     c->task.about.op = op;
-    c->task.until = c->until;
     wait_for(&c->task, false);
 }

@@ -13,7 +13,7 @@ static void on_due(uv_timer_t *timer);
 /* Lets a loop have a turn, unless it has one, or has failed. */
 static void turn_soon(tenant *t) {
     loop *l = t->loop;
-    if (!l || !l->handle.mark || l->turn.state != IDLE || l->last >= WASMLOOP_OVER || ending) return;
+    if (!l || l->turn.state != IDLE || l->last >= WASMLOOP_OVER || ending) return;
     uv_timer_stop(&l->timer);
     l->turn = (task){ .kind = &turns, .of = t, .work.data = &l->turn };
     wait_for(&l->turn, true);
@@ -91,11 +91,11 @@ static void answer_ask(tenant *t, int64_t emitted) {
 
 /* ---- a turn ---- */
 
-/* A job that is done goes to its loop; a stranger's is dropped. */
+/* A job that is done goes to its loop; a stranger's is dropped, as are all where the loop is. */
 static void accept_jobs(loop *l) {
     for (task *k; (k = TAILQ_FIRST(&l->done));) {
         TAILQ_REMOVE(&l->done, k, next);
-        if (l->handle.mark) wasmloop_accept(&l->handle, &k->handle);
+        wasmloop_accept(&l->handle, &k->handle);
         end_task(k);
     }
 }
@@ -193,15 +193,20 @@ static const kind turns = { ready_turn, run_turn, turned };
 /* One of a loop that isn't there any more need not be run. */
 static bool ready_job(task *k) {
     const loop *l = k->of->loop;
-    bool wanted = k->about.loop == l->number && l->last < WASMLOOP_OVER && !ending;
+    bool wanted = l && k->about.loop == l->number && l->last < WASMLOOP_OVER && !ending;
     if (!wanted) end_task(k);
     return wanted;
 }
 
 static void job_done(task *k) {
-    k->of->counted.used += k->about.used;
-    TAILQ_INSERT_TAIL(&k->of->loop->done, k, next);
-    turn_soon(k->of);
+    tenant *t = k->of;
+    t->counted.used += k->about.used;
+    if (!t->loop) {
+        end_task(k);
+        return;
+    }
+    TAILQ_INSERT_TAIL(&t->loop->done, k, next);
+    turn_soon(t);
 }
 
 static const kind jobs = { ready_job, run_job, job_done };
@@ -209,51 +214,48 @@ static const kind jobs = { ready_job, run_job, job_done };
 /* ---- a loop ---- */
 
 static void on_due(uv_timer_t *timer) {
-    tenant *t = timer->data;
-    if (t->loop->last == WASMLOOP_FAILED) make_loop(t);
+    const loop *l = timer->data;
+    tenant *t = l->turn.of;
+    if (l->last == WASMLOOP_FAILED) make_loop(t);
     turn_soon(t);
 }
 
-static void clear(loop *l) {
-    uv_timer_stop(&l->timer);
+static void on_closed(uv_handle_t *timer) { free(timer->data); }
+
+/* Ends a loop that has no turn now. */
+void free_loop(tenant *t) {
+    loop *l = t->loop;
+    if (!l) return;
+    t->loop = NULL;
     unwait(&l->turn);
     wasmloop_drop(&l->handle);
     accept_jobs(l);
-    l->number = l->last = 0;
-    l->renew = false;
+    uv_close((uv_handle_t *)&l->timer, on_closed);
 }
 
 /* Makes the loop of a tenant's module anew, where that has one, which is to be asked what isn't answered. */
 void make_loop(tenant *t) {
-    static uint32_t number;
+    static uint32_t loops;
     loop *l = t->loop;
     if (ending) return;
     if (l && l->turn.state == RUNS) {
         l->renew = true;
         return;
     }
-    if (l) {
-        t->counted.restarts += l->last >= WASMLOOP_OVER;
-        clear(l);
-    }
-    if (t->shape.main && !l && (l = t->loop = calloc(1, sizeof *l))) {
-        TAILQ_INIT(&l->done);
-        uv_timer_init(uv, &l->timer);
-        l->timer.data = t;
-        make_steps(t);
-    }
-    if (t->shape.main && l) {
-        wasmloop_limits limits = { t->limits[CALLBACK], t->limits[FUEL], l->number = ++number, (uint32_t)t->limits[DEPTH] };
+    if (l) t->counted.restarts += l->last >= WASMLOOP_OVER;
+    free_loop(t);
+    if (t->shape.main && (l = t->loop = calloc(1, sizeof *l))) {
+        wasmloop_limits limits = { t->limits[CALLBACK], t->limits[FUEL], ++loops, (uint32_t)t->limits[DEPTH] };
+        l->turn.of = t;
+        l->number = loops;
         l->began = uv_now(uv);
+        l->timer.data = l;
+        uv_timer_init(uv, &l->timer);
+        TAILQ_INIT(&l->done);
+        if (!t->steps) make_steps(t);
         if (wasmloop_loop(&t->module, &limits, &l->handle) != WASMLOOP_OK) restart_later(l);
         for (task *k = TAILQ_FIRST(&t->asks); k; k = TAILQ_NEXT(k, next)) ((client *)k)->request = 0;
         turn_soon(t);
     }
     refuse_asks(t);
-}
-
-void free_loop(tenant *t) {
-    if (t->loop) clear(t->loop);
-    free(t->loop);
-    free_steps(t);
 }

@@ -147,16 +147,6 @@ void tenant_changed(const char *file) {
     if (t && strcmp(kind, "conf") == 0) read_limits(t);
 }
 
-static void free_tenant(tenant *t) {
-    wasmloop_drop(&t->module);
-    free_loop(t);
-    free(t->said);
-    free(t->failure);
-    free(t);
-}
-
-static void on_gone(uv_handle_t *timer) { free_tenant(timer->data); }
-
 /* Those go whose file is gone, and where the server ends all, once nobody wants anything of them. */
 void tenants_sweep(void) {
     for (tenant *t = LIST_FIRST(&tenants), *next; t; t = next) {
@@ -165,9 +155,11 @@ void tenants_sweep(void) {
         if ((t->status != ABSENT && !(ending && clients == 0)) || t->waiting || t->running || t->asking || t->load) continue;
         LIST_REMOVE(t, next);
         tdelete(t->name, &names, by_name);
-        if (t->loop)
-            uv_close((uv_handle_t *)&t->loop->timer, on_gone);
-        else
-            free_tenant(t);
+        free_loop(t);
+        free_steps(t);
+        wasmloop_drop(&t->module);
+        free(t->said);
+        free(t->failure);
+        free(t);
     }
 }

@@ -54,11 +54,10 @@ void run_job(task *k) {
         from = now;
     }
     k->goes_on = !over && !k->late;
-    wasmloop_about *a = &k->about;
-    if (over) wasmloop_job_about(&k->handle, a);
-    if (k->late && asprintf(&k->said, "not done by its deadline, after %llu units", U(a->used)) < 0) k->said = NULL;
-    if (a->outcome != WASMLOOP_NOT_RUN && a->outcome != WASMLOOP_WORK_DONE)
-        explain(k, &k->handle, wasmloop_outcome_name(a->outcome), a->outcome == WASMLOOP_WORK_TRAP ? a->value : 0, a->used);
+    if (over) wasmloop_job_about(&k->handle, &k->about);
+    const wasmloop_about *a = &k->about;
+    const char *how = k->late ? "not done by its deadline" : wasmloop_outcome_name(a->outcome);
+    if (k->late || a->outcome > WASMLOOP_WORK_DONE) explain(k, &k->handle, how, a->outcome == WASMLOOP_WORK_TRAP ? a->value : 0, a->used);
 }
 
 /* The threads have a lower priority than the main one, in whatever class of the scheduler that is: on Linux each has its own. */

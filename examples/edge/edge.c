@@ -4,6 +4,7 @@
  *
  * A request has SECONDS (10) to come whole and its answer as many to be taken. SIGTERM or SIGINT ends it in order. This part has
  * connections and requests. */
+#include <ctype.h>
 #include <malloc.h>
 #include <signal.h>
 #include <stdarg.h>
@@ -31,33 +32,54 @@ static uv_timer_t sweeper;
 
 static void go_on(client *c);
 
-/* ---- answers ---- */
+static uint64_t in_ms(uint64_t ms) { return uv_hrtime() + ms * MS; }
 
-/* Makes more room for bytes, as far as there may be. */
-static bool hold(bytes *b, size_t more) {
-    char *at = held + more <= MOST_HELD ? realloc(b->at, b->room + more) : NULL;
-    if (at) b->at = at, b->room += more, held += more;
-    return at;
+static bool closes(client *c) { return uv_is_closing((uv_handle_t *)&c->tcp); }
+
+/* ---- bytes ---- */
+
+/* Makes room for bytes, as far as there may be. */
+static bool hold(bytes *b, size_t room) {
+    *b = (bytes){ .at = held + room <= MOST_HELD ? malloc(room) : NULL };
+    if (!b->at) return false;
+    b->room = room;
+    held += room;
+    return true;
 }
 
+/* Their length stays, for the log. */
 void drop_bytes(bytes *b) {
     held -= b->room;
+    b->room = 0;
     free(b->at);
-    *b = (bytes){ 0 };
+    b->at = NULL;
+}
+
+/* ---- answers ---- */
+
+/* Lets go of what a request and its answer were made of. */
+static void clear(client *c) {
+    wasmloop_drop(&c->task.handle);
+    drop_bytes(&c->body);
+    free(c->page);
+    c->page = NULL;
 }
 
 static void on_closed(uv_handle_t *handle) {
     client *c = handle->data;
-    drop_bytes(&c->body), drop_bytes(&c->rest), free(c);
+    clear(c);
+    drop_bytes(&c->rest);
+    free(c);
     clients--;
 }
 
-/* Ends a connection, and lets go of what it waited for. */
-static void leave(client *c) {
-    if (c->state == CLOSED) return;
-    c->state = CLOSED;
-    if (c->task) c->task->from = NULL, c->task->gone = true;
-    if (c->asks) count(c->asks, GONE, c->came), unask(c);
+/* Ends a connection: where its work runs, once the slice is over. */
+void leave(client *c) {
+    task *k = &c->task;
+    k->gone = true;
+    if (k->state == RUNS || closes(c)) return;
+    if (k->state != IDLE) count(k->of, GONE, c->came);
+    unwait(k);
     uv_close((uv_handle_t *)&c->tcp, on_closed);
 }
 
@@ -65,100 +87,83 @@ static void leave(client *c) {
 static void on_written(uv_write_t *write, int status) {
     client *c = write->handle->data;
     uv_os_fd_t fd;
-    free(c->out), c->out = NULL;
-    if (c->state == CLOSED) return;
+    clear(c);
+    if (closes(c)) return;
     if (status == 0 && c->keep && !ending) {
-        c->state = READS, c->came = 0, c->until = uv_now(uv) + IDLE_MS;
-        parser_go_on(&c->parser);
+        c->busy = false;
+        c->came = 0;
+        c->task.until = in_ms(IDLE_MS);
+        http_parser_pause(&c->parser, 0);
         go_on(c);
         return;
     }
-    c->state = LINGERS, c->until = uv_now(uv) + LINGER_MS;
-    if (status != 0 || uv_fileno((uv_handle_t *)write->handle, &fd) != 0 || shutdown(fd, SHUT_WR) != 0) leave(c);
+    c->keep = false;
+    c->task.until = in_ms(LINGER_MS);
+    if (status != 0 || uv_fileno((uv_handle_t *)&c->tcp, &fd) != 0 || shutdown(fd, SHUT_WR) != 0) leave(c);
 }
 
-/* Answers by `length` bytes at `body`, which it takes. */
-void answer(client *c, int status, const char *type, char *body, size_t length) {
+/* Answers by `length` bytes, which stay until they are written. */
+void answer(client *c, int status, const char *type, const void *body, size_t length) {
+    const wasmloop_about *a = &c->task.about;
+    char more[128] = "";
+    if (a->outcome || c->task.late)
+        snprintf(more, sizeof more, "Wasmloop-Outcome: %s\r\nWasmloop-Value: %d\r\nWasmloop-Fuel: %llu\r\n",
+            c->task.late ? "late" : wasmloop_outcome_name(a->outcome), (int32_t)a->value, U(a->used));
     int n = snprintf(c->head, sizeof c->head, "HTTP/1.1 %d %s\r\nContent-Length: %zu\r\nContent-Type: %s\r\nWasmloop-Request: %llu\r\n%s%s%s\r\n",
-        status, status_text(status), length, type, U(c->number), status == 429 || status == 503 ? "Retry-After: 1\r\n" : "", c->more,
+        status, http_status_str(status), length, type, U(c->number), status == 429 || status == 503 ? "Retry-After: 1\r\n" : "", more,
         c->keep && !ending ? "" : "Connection: close\r\n");
-    uv_buf_t parts[2] = { uv_buf_init(c->head, (unsigned)n), uv_buf_init(body, (unsigned)length) };
+    uv_buf_t parts[2] = { uv_buf_init(c->head, (unsigned)n), uv_buf_init((char *)body, (unsigned)length) };
     log_answer(c, status, length);
-    drop_bytes(&c->body);
-    if (c->asks) unask(c);
-    c->task = NULL, c->out = body, c->state = ANSWERS, c->until = uv_now(uv) + patience;
-    if (uv_write(&c->write, (uv_stream_t *)&c->tcp, parts, length ? 2 : 1, on_written) != 0) free(body), leave(c);
+    unwait(&c->task);
+    c->busy = true;
+    c->task.until = in_ms(patience);
+    if (uv_write(&c->write, (uv_stream_t *)&c->tcp, parts, length ? 2 : 1, on_written) != 0) leave(c);
 }
 
-/* Answers by a text, and where there is no memory for it, by 503 without one. */
+/* Answers by a text. */
 void say(client *c, int status, const char *format, ...) {
-    char *text = NULL;
     va_list words;
     va_start(words, format);
-    int n = vasprintf(&text, format, words);
+    vsnprintf(c->text, sizeof c->text, format, words);
     va_end(words);
-    if (n < 0) text = NULL, n = 0, status = 503;
-    answer(c, status, "text/plain", text, (size_t)n);
+    answer(c, status, "text/plain", c->text, strlen(c->text));
 }
 
 /* Says why a request of a tenant has no reply, and counts it. */
-void fail(client *c, tenant *t, outcome what, int status, const char *why) {
-    count(t, what, c->came);
-    say(c, status, "%s: %s\n", t->name, why);
+void fail(client *c, outcome what, int status, const char *why) {
+    count(c->task.of, what, c->came);
+    say(c, status, "%s: %s\n", c->task.of->name, why);
 }
 
 /* ---- requests ---- */
 
 /* A number up to `most` that is all of a text, or UINT64_MAX. */
 uint64_t number_of(const char *text, uint64_t most) {
-    uint64_t n = 0;
-    if (!*text) return UINT64_MAX;
-    for (; *text; text++)
-        if (*text < '0' || *text > '9' || (n = n * 10 + (uint64_t)(*text - '0')) > most) return UINT64_MAX;
-    return n;
+    char *end;
+    uint64_t n = strtoull(text, &end, 10);
+    return isdigit((unsigned char)*text) && !*end && n <= most ? n : UINT64_MAX;
 }
 
-static void request(client *c) {
-    char path[sizeof c->path];
-    strcpy(path, c->path);
-    path[strcspn(path, "?")] = 0;
-    char *name = path + (*path == '/'), *rest = name + strcspn(name, "/");
-    if (*rest) *rest++ = 0;
-    if (strcmp(name, "-") == 0) {
-        page(c, rest);
-        return;
-    }
-    void (*does)(client *, tenant *, uint32_t) = work;
-    if (strncmp(rest, "ask", 3) == 0 && (!rest[3] || rest[3] == '/'))
-        does = ask, rest += rest[3] ? 4 : 3;
-    else if (strncmp(rest, "send/", 5) == 0)
-        does = send_to, rest += 5;
-    tenant *t = tenant_of(name, true);
-    uint64_t number = *rest ? number_of(rest, does == send_to ? ASYNCS - 1 : UINT32_MAX) : 0;
-    if (ending)
-        say(c, 503, "the server ends\n");
-    else if (!t || (t->status == ABSENT && !t->loading))
-        say(c, 404, "no such tenant\n");
-    else if (number == UINT64_MAX)
-        say(c, 400, does == send_to ? "an async is a number from 0 to 15\n" : "an operation is a number below 2^32\n");
-    else
-        t->counted.in += c->body.length, does(c, t, (uint32_t)number);
-}
-
-static int on_begin(parser *p) {
+static int on_begin(http_parser *p) {
     client *c = p->data;
-    c->head_length = c->fuel = 0, *c->path = *c->more = 0, c->status = 0, c->keep = false;
-    c->number = ++requests, c->came = uv_hrtime(), c->until = uv_now(uv) + patience;
+    c->task = (task){ .work.data = &c->task };
+    c->head_length = c->body.length = 0;
+    c->keep = false;
+    *c->path = 0;
+    c->number = ++requests;
+    c->came = uv_hrtime();
+    c->task.until = in_ms(patience);
     return 0;
 }
 
-/* Why a head or a body is refused. */
+/* Answers what is no request, after which its connection ends. */
 static int refused(client *c, int status, const char *why) {
-    c->status = status, c->why = why;
+    if (!c->came) on_begin(&c->parser); /* its first byte is no method's */
+    say(c, status, "no request: %s\n", why);
     return -1;
 }
 
-static int on_url(parser *p, const char *at, size_t n) {
+static int on_url(http_parser *p, const char *at, size_t n) {
     client *c = p->data;
     size_t had = strlen(c->path);
     if (n >= sizeof c->path - had) return refused(c, 414, "the path is too long");
@@ -167,64 +172,96 @@ static int on_url(parser *p, const char *at, size_t n) {
     return 0;
 }
 
-static int on_header(parser *p, const char *at, size_t n) {
+static int on_header(http_parser *p, const char *at, size_t n) {
     client *c = p->data;
     (void)at;
     return (c->head_length += n) > MOST_HEAD ? refused(c, 431, "the head is too long") : 0;
 }
 
 /* A body has all its room from the first, so that what is promised to clients is never more than there may be. */
-static int on_head(parser *p) {
+static int on_head(http_parser *p) {
     client *c = p->data;
     uint64_t room = p->flags & F_CHUNKED ? MOST_BYTES : p->content_length == UINT64_MAX ? 0 : p->content_length;
     if (room > MOST_BYTES) return refused(c, 413, "the body is too long: 65536 bytes at most");
     return room && !hold(&c->body, room) ? refused(c, 503, "no memory for the body") : 0;
 }
 
-static void append(bytes *b, const char *at, size_t n) {
-    memcpy(b->at + b->length, at, n);
-    b->length += n;
-}
-
-static int on_body(parser *p, const char *at, size_t n) {
+static int on_body(http_parser *p, const char *at, size_t n) {
     client *c = p->data;
     if (n > c->body.room - c->body.length) return refused(c, 413, "the body is too long: 65536 bytes at most");
-    append(&c->body, at, n);
+    memcpy(c->body.at + c->body.length, at, n);
+    c->body.length += n;
     return 0;
 }
 
-static const parser_settings settings = { .on_message_begin = on_begin,
+/* A request is whole: finds out whom it is for and what it asks. */
+static void request(client *c) {
+    void (*verb)(client *, tenant *, uint32_t) = work;
+    char path[sizeof c->path];
+    strcpy(path, c->path);
+    path[strcspn(path, "?")] = 0;
+    char *name = path + (*path == '/'), *rest = name + strcspn(name, "/");
+    if (*rest) *rest++ = 0;
+    if (strncmp(rest, "send/", 5) == 0) {
+        verb = send_to;
+        rest += 5;
+    } else if (strcmp(rest, "ask") == 0 || strncmp(rest, "ask/", 4) == 0) {
+        verb = ask;
+        rest += rest[3] ? 4 : 3;
+    }
+    bool people = strcmp(name, "-") == 0;
+    tenant *t = c->task.of = people ? NULL : tenant_of(name, true);
+    uint64_t number = *rest ? number_of(rest, verb == send_to ? ASYNCS - 1 : UINT32_MAX) : 0;
+    if (people) {
+        page(c, rest);
+    } else if (ending) {
+        say(c, 503, "the server ends\n");
+    } else if (!t) {
+        say(c, 404, "no such tenant\n");
+    } else if (number == UINT64_MAX) {
+        say(c, 400, verb == send_to ? "an async is a number from 0 to 15\n" : "an operation is a number below 2^32\n");
+    } else {
+        t->counted.in += c->body.length;
+        c->task.until = c->came + t->limits[DEADLINE] * MS;
+        verb(c, t, (uint32_t)number);
+    }
+}
+
+static int on_end(http_parser *p) {
+    client *c = p->data;
+    c->busy = true;
+    c->keep = http_should_keep_alive(p) && !p->upgrade;
+    request(c);
+    return HTTP_STOP(p);
+}
+
+static const http_parser_settings settings = { .on_message_begin = on_begin,
     .on_url = on_url,
     .on_header_field = on_header,
     .on_header_value = on_header,
     .on_headers_complete = on_head,
     .on_body = on_body,
-    .on_message_complete = parser_stop };
+    .on_message_complete = on_end };
 
 /* ---- connections ---- */
 
-/* Parses up to the end of a request, which it lets be answered. How many bytes it took. */
+/* Parses up to the end of a request, which is done then. How many bytes it took. */
 static size_t feed(client *c, const char *at, size_t n) {
-    size_t took = parser_take(&c->parser, &settings, at, n);
-    int stands = parser_stands(&c->parser);
-    if (stands == HPE_OK) return n;
-    if (!c->came) on_begin(&c->parser); /* its first byte is no method's */
-    c->state = WAITS, c->until = UINT64_MAX, c->keep = stands == HPE_PAUSED && parser_keeps(&c->parser);
-    if (stands == HPE_PAUSED)
-        request(c);
-    else
-        say(c, c->status ? c->status : 400, "no request: %s\n", c->status ? c->why : parser_said(&c->parser));
+    size_t took = http_parser_execute(&c->parser, &settings, at, n);
+    int stands = HTTP_PARSER_ERRNO(&c->parser);
+    if (stands != HPE_OK && !c->busy) refused(c, 400, http_errno_description(stands));
     return took;
 }
 
 /* Keeps what was sent ahead, and reads no more until it is parsed. */
 static void keep_rest(client *c, const char *at, size_t n) {
-    if (c->state == CLOSED || !c->keep) return;
+    if (closes(c) || !c->keep) return;
     if (!hold(&c->rest, n)) {
         leave(c);
         return;
     }
-    append(&c->rest, at, n);
+    memcpy(c->rest.at, at, n);
+    c->rest.length = n;
     uv_read_stop((uv_stream_t *)&c->tcp);
 }
 
@@ -240,15 +277,16 @@ static void on_read(uv_stream_t *stream, ssize_t n, const uv_buf_t *buf) {
         leave(c);
         return;
     }
-    size_t took = c->state == READS && n > 0 ? feed(c, buf->base, (size_t)n) : 0;
+    size_t took = c->busy || n == 0 ? 0 : feed(c, buf->base, (size_t)n);
     if (took < (size_t)n) keep_rest(c, buf->base + took, (size_t)n - took);
 }
 
 static void go_on(client *c) {
     if (!c->rest.at) return;
     c->parsed += feed(c, c->rest.at + c->parsed, c->rest.length - c->parsed);
-    if (c->state == CLOSED || c->parsed < c->rest.length) return;
-    drop_bytes(&c->rest), c->parsed = 0;
+    if (closes(c) || c->parsed < c->rest.length) return;
+    drop_bytes(&c->rest);
+    c->parsed = 0;
     uv_read_start((uv_stream_t *)&c->tcp, on_room, on_read);
 }
 
@@ -256,10 +294,11 @@ static void on_connection(uv_stream_t *stream, int status) {
     client *c = status < 0 ? NULL : calloc(1, sizeof *c);
     starved = status == 0 && !c;
     if (!c) return;
+    clients++;
     uv_tcp_init(uv, &c->tcp);
-    c->tcp.data = c, c->until = uv_now(uv) + patience, clients++;
-    parser_start(&c->parser, &settings);
-    c->parser.data = c;
+    http_parser_init(&c->parser, HTTP_REQUEST);
+    c->tcp.data = c->parser.data = c;
+    c->task.until = in_ms(patience);
     if (uv_accept(stream, (uv_stream_t *)&c->tcp) != 0) {
         leave(c);
         return;
@@ -271,39 +310,44 @@ static void on_connection(uv_stream_t *stream, int status) {
     say(c, 503, "too many clients\n");
 }
 
-/* One whose patience is at its end, or that must go since the server ends. */
+/* One whose time is over, or that must go since the server ends; what is begun goes on, and a thread sees to its deadline. */
 static void part(client *c) {
-    if (c->asks)
-        fail(c, c->asks, ending ? REFUSED : LATE, ending ? 503 : 504, ending ? "the server ends" : "the loop did not answer before its deadline");
-    else if (c->state != READS || !c->came)
+    task *k = &c->task;
+    bool begun = k->state == RUNS || (k->state == WAITS && k->handle.mark);
+    const char *late = k->state == ASKS ? "the loop did not answer before its deadline" : "not begun by its deadline";
+    if (k->state != IDLE && !begun)
+        fail(c, ending ? REFUSED : LATE, ending ? 503 : 504, ending ? "the server ends" : late);
+    else if (k->state == IDLE && (c->busy || !c->came))
         leave(c);
-    else
+    else if (k->state == IDLE)
         say(c, ending ? 503 : 408, ending ? "the server ends\n" : "the request took too long to come\n");
 }
 
-/* Looks whether a client must go; where the server ends, closes what isn't a client's. */
-static void on_each(uv_handle_t *handle, void *ends) {
+/* Looks whether a client must go. Its patience counts until the sweep before this one, since when all that it sent was read. */
+static void on_each(uv_handle_t *handle, void *swept) {
     client *c = handle->data;
-    bool is_client = handle->type == UV_TCP && handle != (uv_handle_t *)&server;
-    if (uv_is_closing(handle)) return;
-    if (!is_client && ends && handle != (uv_handle_t *)&sweeper) uv_close(handle, NULL);
-    if (is_client && (uv_now(uv) >= c->until || (ends && (c->asks || c->state == READS)))) part(c);
+    if (handle->type != UV_TCP || handle == (uv_handle_t *)&server || uv_is_closing(handle)) return;
+    bool stands = c->task.state == IDLE, late = c->task.until <= (stands ? *(uint64_t *)swept : uv_hrtime());
+    if (late || (ending && !(stands && c->busy))) part(c);
 }
 
+/* Where the server ends, what runs is finished, what waits is answered 503, and the loop ends when nothing is left. */
 static void on_sweep(uv_timer_t *timer) {
+    static uint64_t swept;
     if (starved && !ending) on_connection((uv_stream_t *)&server, 0);
-    uv_walk(uv, on_each, NULL);
+    uv_walk(uv, on_each, &swept);
+    swept = uv_hrtime();
+    schedule();
     tenants_sweep();
     fflush(stdout);
-    if (ending && clients == 0 && running == 0) uv_close((uv_handle_t *)timer, NULL);
+    if (ending && clients == 0 && LIST_EMPTY(&tenants)) uv_timer_stop(timer);
 }
 
-/* What runs is finished, what waits is answered 503, and the loop ends when nothing is left. */
 static void on_signal(uv_signal_t *signal, int number) {
     (void)signal, (void)number;
+    if (!ending) uv_close((uv_handle_t *)&server, NULL);
     ending = true;
-    schedule();
-    uv_walk(uv, on_each, &ending);
+    on_sweep(&sweeper);
 }
 
 static void on_change(uv_fs_event_t *event, const char *file, int events, int status) {
@@ -359,12 +403,15 @@ int main(int argc, char **argv) {
         fprintf(stderr, "edge: %s, port %d: %s\n", address, port, uv_strerror(told));
         return 1;
     }
-    for (int i = 0; i < 2; i++) uv_signal_init(uv, &signals[i]), uv_signal_start(&signals[i], on_signal, i ? SIGTERM : SIGINT);
+    for (int i = 0; i < 2; i++) {
+        uv_signal_init(uv, &signals[i]);
+        uv_signal_start(&signals[i], on_signal, i ? SIGTERM : SIGINT);
+        uv_unref((uv_handle_t *)&signals[i]);
+    }
     uv_timer_init(uv, &sweeper);
     uv_timer_start(&sweeper, on_sweep, SWEEP_MS, SWEEP_MS);
     uv_fs_event_init(uv, &changes);
+    uv_unref((uv_handle_t *)&changes);
     if (uv_fs_event_start(&changes, on_change, folder, 0) != 0) fprintf(stderr, "edge: changes in %s are not seen\n", folder);
-    uv_run(uv, UV_RUN_DEFAULT);
-    tenants_free();
-    return uv_loop_close(uv) == 0 ? 0 : 1;
+    return uv_run(uv, UV_RUN_DEFAULT);
 }

@@ -7,6 +7,7 @@
 #include <stdatomic.h>
 #include <stdbool.h>
 #include <stdio.h>
+#include <sys/queue.h>
 #include <uv.h>
 #include "parse.h"
 #include "wasmloop.h"
@@ -14,12 +15,35 @@
 #define U(x) ((unsigned long long)(x))
 
 enum { MOST_BYTES = 65536, MOST_HEAD = 16384, MOST_HELD = 64 << 20, MOST_MODULE = 1 << 20, MOST_WAITING = 4096 };
-enum { ABSENT = -1, ASYNCS = 16, MOST_RUNS = 32, MOST_EMITS = MOST_RUNS * 64, TURN_NS = 500000, TIMES = 32 };
-typedef enum limit { FUEL, CALLBACK, DEADLINE, DEPTH, QUEUE, RUN, REST, OUT, LIMITS } limit; /* the numbers in NAME.conf */
-typedef enum outcome { DONE, TRAPPED, DEEP, SPENT, LATE, NO_MEMORY, REFUSED, GONE, OUTCOMES } outcome;
-typedef struct client client;
+enum { ABSENT = -1, ASYNCS = 16, MOST_RUNS = 32, MOST_EMITS = MOST_RUNS * 64, MS = 1000000, TURN_NS = 500000, TIMES = 32 };
+typedef enum limit { FUEL, CALLBACK, DEADLINE, DEPTH, QUEUE, RUN, REST, OUT, LIMITS } limit;           /* the numbers in NAME.conf */
+typedef enum outcome { GONE, DONE, TRAPPED, DEEP, SPENT, NO_MEMORY, LATE, REFUSED, OUTCOMES } outcome; /* the first as WASMLOOP_WORK_* */
 typedef struct tenant tenant;
 typedef struct task task;
+typedef TAILQ_HEAD(tasks, task) tasks;
+
+/* What a task is: `ready`, in the main thread, makes what it needs, or ends it unrun; `run` is in a thread of the pool; `after`, in the
+ * main thread, takes what came of it. */
+typedef struct kind {
+    bool (*ready)(task *);
+    void (*run)(task *), (*after)(task *);
+} kind;
+
+/* What a tenant has to do: a request, the load of its module, a turn of its loop, or a job that its loop asks for. */
+struct task {
+    uv_work_t work;
+    const kind *kind;
+    tenant *of;
+    enum { IDLE, WAITS, RUNS, ASKS } state; /* ASKS: a request that the tenant's loop is to answer */
+    TAILQ_ENTRY(task) next;                 /* of those who wait, or ask */
+    atomic_bool gone;                       /* nobody wants it any more: a slice is its last */
+    bool goes_on, late;
+    int status;             /* of a load: the library's, or ABSENT; of a turn: what its last step did */
+    wasmloop_handle handle; /* its job, or the module */
+    wasmloop_about about;
+    uint64_t units, cpu, until; /* until: its deadline, or when patience with a client ends */
+    char *said;                 /* why it failed */
+};
 
 /* Bytes of a client, of which all together hold MOST_HELD at most. */
 typedef struct bytes {
@@ -27,63 +51,32 @@ typedef struct bytes {
     size_t length, room;
 } bytes;
 
-struct client {
+/* A connection, and its request, which comes (is not `busy`), waits or runs as a task, and is answered. */
+typedef struct client {
+    task task; /* the first, so that a request's task is its client */
     uv_tcp_t tcp;
     uv_write_t write;
-    parser parser;
-    enum { READS, WAITS, ANSWERS, LINGERS, CLOSED } state;
-    char path[256], head[512], more[128]; /* more: heads of its answer */
+    http_parser parser;
+    bool busy, keep;
+    char path[256], head[512], text[400]; /* head and text: of its answer */
+    char *page;                           /* or bytes for people in the text's place */
     bytes body, rest;                     /* rest: what came behind the request that is being answered, */
-    size_t head_length, parsed;           /* and how much of that is parsed */
-    char *out;
-    uint64_t number, came, until, fuel; /* came: 0 before a request's first byte; until: when patience ends, in libuv's milliseconds */
-    int status;                         /* what its head or its body has earned, and why */
-    const char *why;
-    bool keep;
-    task *task;      /* its work, which waits or runs */
-    tenant *asks;    /* or whose loop it asks, */
-    uint32_t op;     /* for this operation, */
-    int32_t request; /* as the loop's request of this number; 0: it isn't made */
-    client *next;
-};
+    size_t parsed, head_length;           /* and how much of that is parsed */
+    uint64_t number, came;                /* came: 0 before a request's first byte */
+    int32_t request;                      /* the loop's number of what it asks; 0: it isn't made */
+} client;
 
-/* What a task is: `ready`, in the main thread, makes what it needs, or says that it isn't to be run; `run` is in a thread of the pool;
- * `after`, in the main thread, takes what came of it. */
-typedef struct kind {
-    bool (*ready)(task *);
-    void (*run)(task *), (*after)(task *);
-} kind;
-
-struct task {
-    uv_work_t work;
-    const kind *kind;
-    tenant *of;
-    client *from;     /* who waits for it, unless they have gone */
-    atomic_bool gone; /* they have: a slice is its last */
-    bool goes_on, late;
-    int status;  /* of a load */
-    uint32_t op; /* of a loop's job: the loop's number */
-    bytes body;
-    char *out, *said;       /* said: why it failed */
-    wasmloop_handle handle; /* the module or the job */
-    wasmloop_about about;
-    uint64_t units, cpu, came, until;
-    task *next;
-};
-
-/* A loop that lives. What stands first is the main thread's; from `turn` on it is the turn's while `turning`. */
-typedef struct life {
+/* A loop that lives. While its turn runs, that alone touches the handle, the hint and the emits. */
+typedef struct loop {
+    task turn;
+    tasks done; /* jobs, for the next turn */
     uv_timer_t timer;
-    task *done;     /* jobs that are done, for the next turn */
-    uint64_t began; /* the moment at which its clock is 0 */
-    uint32_t number;
-    bool turning, renew, failed;
-    task turn, *made; /* made: the jobs that it asks for */
-    wasmloop_handle loop;
-    uint64_t hint;
-    uint32_t emit_count, last; /* last: its last step */
+    uint64_t began, hint; /* began: the moment at which its clock is 0, in milliseconds */
+    uint32_t number, last, emit_count;
+    bool renew;
+    wasmloop_handle handle;
     int64_t emits[MOST_EMITS];
-} life;
+} loop;
 
 /* What is counted for people. */
 typedef struct counted {
@@ -93,59 +86,53 @@ typedef struct counted {
 
 struct tenant {
     char name[64], type[64]; /* the name is the first: people look for it by strings */
-    char *said, *failure;    /* why its file was refused, and how its guest failed last */
+    LIST_ENTRY(tenant) next, active;
     uint64_t limits[LIMITS];
     wasmloop_handle module;
     wasmloop_shape shape;
-    int status; /* of its last load: WASMLOOP_OK and so on, or ABSENT */
-    bool loading, again, active;
-    bool fails;           /* its last request did */
-    uint64_t rests, sent; /* the moments until which it rests, and until which its replies may be sent at its rate */
-    uint32_t waiting, running;
-    double share, mean; /* the processor time that it has used beside the others', and of a task, in nanoseconds */
-    task *first, **end;
-    life *life;          /* NULL: it never had a loop */
-    client *asks;        /* who asks its loop, */
-    uint32_t sends;      /* and a bit for each async that was sent to */
+    task *load;
+    int status;           /* of its last load */
+    bool changed, fails;  /* its file is newer than the load; its last request failed */
+    char *said, *failure; /* why its file was refused, and how its guest failed last */
+    tasks waits, asks;
+    uint32_t waiting, running, asking, sends; /* sends: a bit for each async of its loop that was sent to */
+    uint64_t rests, sent;                     /* the moments until which it rests, and until which its replies may be sent at its rate */
+    double share, mean;                       /* the processor time that it has used beside the others', and of a task, in nanoseconds */
+    loop *loop;
     struct steps *steps; /* its loop's last ones: people.c */
     counted counted;
-    tenant *next, *next_active;
 };
 
 extern uv_loop_t *uv;
 extern const char *folder;
-extern uint32_t workers, running, waiting, clients, tenant_count;
+extern uint32_t workers, running, waiting, clients;
 extern size_t held;
 extern bool ending;
-extern tenant *tenants;
+extern LIST_HEAD(tenants, tenant) tenants;
 extern atomic_bool hurry; /* a tenant waits that could run, and all threads are taken */
 
 /* edge.c */
-void answer(client *c, int status, const char *type, char *body, size_t length);
+void answer(client *c, int status, const char *type, const void *body, size_t length);
 void say(client *c, int status, const char *format, ...) __attribute__((format(printf, 3, 4)));
-void fail(client *c, tenant *t, outcome what, int status, const char *why);
-void drop_bytes(bytes *b);
+void fail(client *c, outcome what, int status, const char *why);
+void leave(client *c), drop_bytes(bytes *b);
 uint64_t number_of(const char *text, uint64_t most);
 
 /* work.c */
 void work(client *c, tenant *t, uint32_t op);
+bool may_wait(client *c, uint32_t before);
 task *task_of(tenant *t, const kind *kind);
-void wait_for(task *k, bool front), end_task(task *k);
-void run_job(task *k);
+void wait_for(task *k, bool front), unwait(task *k), end_task(task *k);
+void run_job(task *k), keep_failure(task *k), schedule(void);
 void explain(task *k, wasmloop_handle *of, const char *how, uint32_t trap, uint64_t used);
-void keep_failure(task *k);
-void schedule(void);
 
 /* tenants.c */
 tenant *tenant_of(const char *name, bool make);
-void tenant_changed(const char *file);
-void refuse(client *c, tenant *t);
-void tenants_sweep(void), tenants_free(void);
+void tenant_changed(const char *file), refuse(client *c);
+void tenants_sweep(void);
 
 /* loops.c */
-void ask(client *c, tenant *t, uint32_t op);
-void send_to(client *c, tenant *t, uint32_t async);
-void unask(client *c);
+void ask(client *c, tenant *t, uint32_t op), send_to(client *c, tenant *t, uint32_t async);
 void make_loop(tenant *t), free_loop(tenant *t);
 
 /* people.c */

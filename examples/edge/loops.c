@@ -10,10 +10,10 @@ static const kind turns, jobs;
 
 static void on_due(uv_timer_t *timer);
 
+/* Lets a loop have a turn, unless it has one, or has failed. */
 static void turn_soon(tenant *t) {
-    life *l = t->life;
-    if (!l || l->turning || l->failed || !l->loop.mark || ending) return;
-    l->turning = true;
+    loop *l = t->loop;
+    if (!l || l->turn.state != IDLE || l->last >= WASMLOOP_OVER || ending) return;
     uv_timer_stop(&l->timer);
     l->turn = (task){ .kind = &turns, .of = t, .work.data = &l->turn };
     wait_for(&l->turn, true);
@@ -21,47 +21,41 @@ static void turn_soon(tenant *t) {
 
 /* ---- those who ask ---- */
 
-/* Answers for a loop that there isn't, or that has failed. Whether there is none. */
-static bool answer_without(client *c, tenant *t) {
-    bool there = t->module.mark, failed = t->life && t->life->failed;
-    if (there ? t->shape.main && !failed : t->loading) return false;
-    if (!there)
-        refuse(c, t);
+/* Answers one who asks a loop that there isn't. Whether there is none. */
+static bool answer_without(client *c) {
+    const tenant *t = c->task.of;
+    const loop *l = t->loop;
+    if (!t->module.mark && t->load) return false; /* it comes */
+    if (!t->module.mark)
+        refuse(c);
     else if (!t->shape.main)
-        fail(c, t, REFUSED, 404, "it has no loop");
+        fail(c, REFUSED, 404, "it has no loop");
+    else if (!l)
+        fail(c, NO_MEMORY, 503, "no memory");
+    else if (l->last >= WASMLOOP_OVER)
+        fail(c, TRAPPED, 500, l->last == WASMLOOP_OVER ? "its loop is over" : t->failure ? t->failure : "no memory");
     else
-        fail(c, t, TRAPPED, 500, t->life->last == WASMLOOP_OVER ? "its loop is over" : t->failure ? t->failure : "no memory");
+        return false;
     return true;
 }
 
 static void refuse_asks(tenant *t) {
-    while (t->asks && answer_without(t->asks, t)) continue;
+    for (task *k; (k = TAILQ_FIRST(&t->asks)) && answer_without((client *)k);) continue;
 }
 
 void ask(client *c, tenant *t, uint32_t op) {
-    client **at = &t->asks;
-    uint64_t before = 0;
-    if (answer_without(c, t)) return;
-    for (; *at; at = &(*at)->next) before++;
-    if (before >= t->limits[QUEUE]) {
-        fail(c, t, REFUSED, 429, "too many wait");
-        return;
-    }
-    *at = c, c->next = NULL, c->asks = t, c->op = op, c->request = 0;
-    c->until = c->came / 1000000 + t->limits[DEADLINE];
+    if (answer_without(c) || !may_wait(c, t->asking)) return;
+    c->task.about.op = op;
+    c->task.state = ASKS;
+    c->request = 0;
+    TAILQ_INSERT_TAIL(&t->asks, &c->task, next);
+    t->asking++;
     turn_soon(t);
-}
-
-/* One who asked is answered, or has gone. */
-void unask(client *c) {
-    client **at = &c->asks->asks;
-    while (*at != c) at = &(*at)->next;
-    *at = c->next, c->asks = NULL;
 }
 
 /* Sends to an async of a loop, which may be still to come. */
 void send_to(client *c, tenant *t, uint32_t async) {
-    if (answer_without(c, t)) return;
+    if (answer_without(c)) return;
     count(t, DONE, c->came);
     t->sends |= 1u << async;
     turn_soon(t);
@@ -73,19 +67,21 @@ static bool make_requests(tenant *t) {
     enum { AGAIN = -11, NO_ROOM = -12, NO_REQUESTS = -38 };
     bool made = false;
     int32_t told = 0;
-    for (client *c = t->asks, *next; c && told != AGAIN; c = next) {
-        next = c->next;
-        if (c->request || wasmloop_request(&t->life->loop, c->op, (uint8_t *)c->body.at, c->body.length, &told) != WASMLOOP_OK) continue;
+    for (task *k = TAILQ_FIRST(&t->asks), *next; k && told != AGAIN; k = next) {
+        client *c = (client *)k;
+        next = TAILQ_NEXT(k, next);
+        if (c->request || wasmloop_request(&t->loop->handle, k->about.op, (uint8_t *)c->body.at, c->body.length, &told) != WASMLOOP_OK) continue;
         if (told > 0) c->request = told, made = true;
-        if (told == NO_ROOM) fail(c, t, NO_MEMORY, 503, "no memory");
-        if (told == NO_REQUESTS) fail(c, t, REFUSED, 404, "it takes no requests");
+        if (told == NO_ROOM) fail(c, NO_MEMORY, 503, "no memory");
+        if (told == NO_REQUESTS) fail(c, REFUSED, 404, "it takes no requests");
     }
     return made;
 }
 
 /* A number that the loop has emitted answers who asked by the request in its upper half. */
-static void answer_asks(tenant *t, int64_t emitted) {
-    for (client *c = t->asks; c; c = c->next) {
+static void answer_ask(tenant *t, int64_t emitted) {
+    for (task *k = TAILQ_FIRST(&t->asks); k; k = TAILQ_NEXT(k, next)) {
+        client *c = (client *)k;
         if (!c->request || emitted >> 32 != c->request) continue;
         count(t, DONE, c->came);
         say(c, 200, "%u\n", (uint32_t)emitted);
@@ -95,77 +91,95 @@ static void answer_asks(tenant *t, int64_t emitted) {
 
 /* ---- a turn ---- */
 
+/* A job that is done goes to its loop; a stranger's is dropped, as are all where the loop is. */
+static void accept_jobs(loop *l) {
+    for (task *k; (k = TAILQ_FIRST(&l->done));) {
+        TAILQ_REMOVE(&l->done, k, next);
+        wasmloop_accept(&l->handle, &k->handle);
+        end_task(k);
+    }
+}
+
 /* Gives the loop what came for it. */
 static bool ready_turn(task *k) {
     tenant *t = k->of;
-    life *l = t->life;
+    loop *l = t->loop;
     uint64_t now;
-    wasmloop_clock(&l->loop, uv_now(uv) - l->began, &now);
-    for (task *j; (j = l->done);) l->done = j->next, wasmloop_accept(&l->loop, &j->handle), end_task(j); /* a stranger's is dropped with its task */
+    wasmloop_clock(&l->handle, uv_now(uv) - l->began, &now);
+    accept_jobs(l);
     for (uint32_t i = 0; i < ASYNCS; i++)
-        if (t->sends >> i & 1) wasmloop_async_send(&l->loop, i);
+        if (t->sends >> i & 1) wasmloop_async_send(&l->handle, i);
     make_requests(t);
-    t->sends = l->emit_count = 0, l->hint = 0;
+    t->sends = l->emit_count = 0;
     return true;
 }
 
 /* A step, which is logged. */
 static void step(task *k, wasmloop_did *did) {
-    life *l = k->of->life;
+    loop *l = k->of->loop;
     int64_t *emits = l->emits + l->emit_count;
     uint32_t n = 0;
-    if (wasmloop_step(&l->loop, did) != WASMLOOP_OK) did->what = WASMLOOP_FAILED;
+    if (wasmloop_step(&l->handle, did) != WASMLOOP_OK) did->what = WASMLOOP_FAILED;
     if (did->what == WASMLOOP_RAN) {
-        if (did->ending != WASMLOOP_RETURN) explain(k, &l->loop, wasmloop_ending_name(did->ending), did->trap, did->used);
-        wasmloop_emits(&l->loop, emits, 64, &n);
-        k->about.used += did->used, l->emit_count += n;
+        if (did->ending != WASMLOOP_RETURN) explain(k, &l->handle, wasmloop_ending_name(did->ending), did->trap, did->used);
+        wasmloop_emits(&l->handle, emits, 64, &n);
+        k->about.used += did->used;
+        l->emit_count += n;
     }
     log_step(k->of, did, emits, n);
-}
-
-static void take_jobs(tenant *t) {
-    task **at = &t->life->made;
-    while ((*at = task_of(t, &jobs)) && wasmloop_next_job(&t->life->loop, &(*at)->handle) == WASMLOOP_OK) {
-        (*at)->op = t->life->number;
-        wasmloop_job_start(&t->life->loop, &(*at)->handle);
-        at = &(*at)->next;
-    }
-    free(*at), *at = NULL;
 }
 
 /* Steps until a whole turn of the loop ran no callback and it has nothing to do at this moment (a hint alone doesn't know of sends, a
  * guest's own among them); at most MOST_RUNS callbacks, and none after half a millisecond where another tenant waits. */
 static void run_turn(task *k) {
-    life *l = k->of->life;
+    loop *l = k->of->loop;
     wasmloop_did did = { 0 };
     uint32_t runs = 0, before = UINT32_MAX;
     uint64_t began = uv_hrtime();
-    while (did.what != WASMLOOP_OVER && did.what != WASMLOOP_FAILED && runs < MOST_RUNS && !(hurry && uv_hrtime() - began > TURN_NS)) {
+    l->hint = 0;
+    while (did.what < WASMLOOP_OVER && runs < MOST_RUNS && !(hurry && uv_hrtime() - began > TURN_NS)) {
         step(k, &did);
         runs += did.what == WASMLOOP_RAN;
         if (did.what != WASMLOOP_ENTERED || did.phase != WASMLOOP_TIMERS) continue;
-        if (runs == before && wasmloop_hint(&l->loop, &l->hint) == WASMLOOP_OK && l->hint) break;
-        before = runs, l->hint = 0;
+        if (runs == before && wasmloop_hint(&l->handle, &l->hint) == WASMLOOP_OK && l->hint) break;
+        before = runs;
+        l->hint = 0;
     }
-    l->last = did.what;
-    take_jobs(k->of);
+    k->status = (int)did.what;
+}
+
+static void restart_later(loop *l) {
+    l->last = WASMLOOP_FAILED;
+    uv_timer_start(&l->timer, on_due, RESTART_MS, 0);
+}
+
+/* Lets the jobs that a loop asks for wait for their turns. */
+static void take_jobs(tenant *t) {
+    for (task *k; (k = task_of(t, &jobs)); wait_for(k, false)) {
+        if (wasmloop_next_job(&t->loop->handle, &k->handle) != WASMLOOP_OK) {
+            end_task(k);
+            return;
+        }
+        wasmloop_job_about(&k->handle, &k->about);
+        wasmloop_job_start(&t->loop->handle, &k->handle);
+    }
 }
 
 static void turned(task *k) {
     tenant *t = k->of;
-    life *l = t->life;
-    l->turning = false, t->counted.turns++, t->counted.used += k->about.used;
+    loop *l = t->loop;
+    t->counted.turns++;
+    t->counted.used += k->about.used;
+    l->last = (uint32_t)k->status;
     keep_failure(k);
-    for (task *j; (j = l->made);) l->made = j->next, wait_for(j, false);
-    for (uint32_t i = 0; i < l->emit_count; i++) answer_asks(t, l->emits[i]);
-    if (ending) return;
+    take_jobs(t);
+    for (uint32_t i = 0; i < l->emit_count; i++) answer_ask(t, l->emits[i]);
     if (l->renew) {
         make_loop(t);
-    } else if (l->last == WASMLOOP_OVER || l->last == WASMLOOP_FAILED) {
-        l->failed = true;
+    } else if (l->last >= WASMLOOP_OVER) {
         refuse_asks(t);
-        if (l->last == WASMLOOP_FAILED) uv_timer_start(&l->timer, on_due, RESTART_MS, 0);
-    } else if (make_requests(t) || t->sends || l->done || l->hint == 0) {
+        if (l->last == WASMLOOP_FAILED) restart_later(l);
+    } else if (make_requests(t) || t->sends || !TAILQ_EMPTY(&l->done) || l->hint == 0) {
         turn_soon(t);
     } else if (l->hint != WASMLOOP_FOREVER) {
         uv_timer_start(&l->timer, on_due, l->hint, 0);
@@ -176,17 +190,23 @@ static const kind turns = { ready_turn, run_turn, turned };
 
 /* ---- jobs that a loop asks for ---- */
 
-static bool ready_job(task *k) { return k->op == k->of->life->number && !k->of->life->failed && !ending; }
+/* One of a loop that isn't there any more need not be run. */
+static bool ready_job(task *k) {
+    const loop *l = k->of->loop;
+    bool wanted = l && k->about.loop == l->number && l->last < WASMLOOP_OVER && !ending;
+    if (!wanted) end_task(k);
+    return wanted;
+}
 
 static void job_done(task *k) {
-    life *l = k->of->life;
-    k->of->counted.used += k->about.used;
-    if (!ready_job(k)) {
+    tenant *t = k->of;
+    t->counted.used += k->about.used;
+    if (!t->loop) {
         end_task(k);
         return;
     }
-    k->next = l->done, l->done = k;
-    turn_soon(k->of);
+    TAILQ_INSERT_TAIL(&t->loop->done, k, next);
+    turn_soon(t);
 }
 
 static const kind jobs = { ready_job, run_job, job_done };
@@ -194,47 +214,48 @@ static const kind jobs = { ready_job, run_job, job_done };
 /* ---- a loop ---- */
 
 static void on_due(uv_timer_t *timer) {
-    tenant *t = timer->data;
-    if (t->life->failed) make_loop(t);
+    const loop *l = timer->data;
+    tenant *t = l->turn.of;
+    if (l->last == WASMLOOP_FAILED) make_loop(t);
     turn_soon(t);
 }
 
-static void clear(life *l) {
-    uv_timer_stop(&l->timer);
-    wasmloop_drop(&l->loop);
-    for (task *j; (j = l->done);) l->done = j->next, end_task(j);
-    l->number = l->last = 0, l->renew = l->failed = false;
+static void on_closed(uv_handle_t *timer) { free(timer->data); }
+
+/* Ends a loop that has no turn now. */
+void free_loop(tenant *t) {
+    loop *l = t->loop;
+    if (!l) return;
+    t->loop = NULL;
+    unwait(&l->turn);
+    wasmloop_drop(&l->handle);
+    accept_jobs(l);
+    uv_close((uv_handle_t *)&l->timer, on_closed);
 }
 
 /* Makes the loop of a tenant's module anew, where that has one, which is to be asked what isn't answered. */
 void make_loop(tenant *t) {
     static uint32_t loops;
-    life *l = t->life;
+    loop *l = t->loop;
     if (ending) return;
-    if (l && l->turning) {
+    if (l && l->turn.state == RUNS) {
         l->renew = true;
         return;
     }
-    if (l) t->counted.restarts += l->failed, clear(l);
-    if (!t->shape.main) {
-        refuse_asks(t);
-        return;
+    if (l) t->counted.restarts += l->last >= WASMLOOP_OVER;
+    free_loop(t);
+    if (t->shape.main && (l = t->loop = calloc(1, sizeof *l))) {
+        wasmloop_limits limits = { t->limits[CALLBACK], t->limits[FUEL], ++loops, (uint32_t)t->limits[DEPTH] };
+        l->turn.of = t;
+        l->number = loops;
+        l->began = uv_now(uv);
+        l->timer.data = l;
+        uv_timer_init(uv, &l->timer);
+        TAILQ_INIT(&l->done);
+        if (!t->steps) make_steps(t);
+        if (wasmloop_loop(&t->module, &limits, &l->handle) != WASMLOOP_OK) restart_later(l);
+        for (task *k = TAILQ_FIRST(&t->asks); k; k = TAILQ_NEXT(k, next)) ((client *)k)->request = 0;
+        turn_soon(t);
     }
-    if (!l && (l = t->life = calloc(1, sizeof *l))) uv_timer_init(uv, &l->timer), l->timer.data = t, make_steps(t);
-    if (!l) {
-        while (t->asks) fail(t->asks, t, NO_MEMORY, 503, "no memory");
-        return;
-    }
-    wasmloop_limits limits = { t->limits[CALLBACK], t->limits[FUEL], l->number = ++loops, (uint32_t)t->limits[DEPTH] };
-    l->failed = wasmloop_loop(&t->module, &limits, &l->loop) != WASMLOOP_OK;
-    l->began = uv_now(uv);
-    for (client *c = t->asks; c; c = c->next) c->request = 0;
-    if (l->failed) uv_timer_start(&l->timer, on_due, RESTART_MS, 0);
-    turn_soon(t);
-}
-
-void free_loop(tenant *t) {
-    if (t->life) clear(t->life);
-    free(t->life);
-    free_steps(t);
+    refuse_asks(t);
 }

@@ -33,7 +33,7 @@ void count(tenant *t, outcome what, uint64_t came) {
     uint64_t us = (uv_hrtime() - came) / 1000;
     int power = 0;
     n->of[what]++;
-    if (what >= NO_MEMORY) return;
+    if (what == GONE || what == NO_MEMORY || what == REFUSED) return;
     while (us >> power) power++;
     n->lived += us, n->times[power < TIMES ? power : TIMES - 1]++;
     if (us > n->worst) n->worst = us;
@@ -49,8 +49,8 @@ void log_answer(client *c, int status, size_t length) {
     size_t n = strlen(strcpy(path, c->path));
     for (size_t i = 0; i < n; i++)
         if (path[i] <= ' ' || path[i] > '~' || path[i] == '"') path[i] = '?';
-    printf("at=%s request=%llu method=%s path=\"%s\" status=%d in=%zu out=%zu us=%llu fuel=%llu\n", moment, U(c->number), method_name(&c->parser),
-        path, status, c->body.length, length, U((uv_hrtime() - c->came) / 1000), U(c->fuel));
+    printf("at=%s request=%llu method=%s path=\"%s\" status=%d in=%zu out=%zu us=%llu fuel=%llu\n", moment, U(c->number),
+        http_method_str(c->parser.method), path, status, c->body.length, length, U((uv_hrtime() - c->came) / 1000), U(c->task.about.used));
 }
 
 void make_steps(tenant *t) {
@@ -77,8 +77,8 @@ void free_steps(tenant *t) {
 
 static const char *state_of(const tenant *t) {
     if (t->status == ABSENT) return "absent";
-    if (!t->module.mark) return t->loading ? "loading" : "refused";
-    if (t->life && t->life->failed) return t->life->last == WASMLOOP_OVER ? "over" : "failed";
+    if (!t->module.mark) return t->load ? "loading" : "refused";
+    if (t->loop && t->loop->last >= WASMLOOP_OVER) return t->loop->last == WASMLOOP_OVER ? "over" : "failed";
     return t->said ? "old" : "ready";
 }
 
@@ -100,10 +100,12 @@ static void write_type(FILE *to, const char *name, const char *type, const char 
 }
 
 static void write_server(FILE *to) {
+    size_t loaded = 0;
+    for (tenant *t = LIST_FIRST(&tenants); t; t = LIST_NEXT(t, next)) loaded++;
     const struct {
         const char *name, *help;
         size_t value;
-    } gauges[] = { { "tenants", "Tenants that are loaded.", tenant_count }, { "clients", "Connections that are open.", clients },
+    } gauges[] = { { "tenants", "Tenants that are loaded.", loaded }, { "clients", "Connections that are open.", clients },
         { "threads_busy", "Threads of the pool that have a task.", running }, { "tasks_waiting", "Tasks that wait for a thread.", waiting },
         { "held_bytes", "Bytes of bodies that are read.", held } };
     for (size_t k = 0; k < sizeof gauges / sizeof *gauges; k++) {
@@ -127,7 +129,7 @@ static void write_numbers(FILE *to) {
         { "latency_worst_seconds", "gauge", "The longest time of a request.", offsetof(tenant, counted.worst), 1e-6 } };
     for (size_t k = 0; k < sizeof numbers / sizeof *numbers; k++) {
         write_type(to, numbers[k].name, numbers[k].type, numbers[k].help);
-        for (tenant *t = tenants; t; t = t->next) {
+        for (tenant *t = LIST_FIRST(&tenants); t; t = LIST_NEXT(t, next)) {
             uint64_t value = *(uint64_t *)((char *)t + numbers[k].at);
             fprintf(to, "edge_%s{tenant=\"%s\"} %.15g\n", numbers[k].name, t->name, (double)value * numbers[k].unit);
         }
@@ -135,13 +137,13 @@ static void write_numbers(FILE *to) {
 }
 
 static void write_requests(FILE *to) {
-    static const char *const names[] = { "done", "trap", "depth", "spent", "late", "memory", "refused", "gone" };
+    static const char *const names[] = { "gone", "done", "trap", "depth", "spent", "memory", "late", "refused" };
     write_type(to, "requests_total", "counter", "Requests by what became of them.");
-    for (tenant *t = tenants; t; t = t->next)
+    for (tenant *t = LIST_FIRST(&tenants); t; t = LIST_NEXT(t, next))
         for (int k = 0; k < OUTCOMES; k++)
             fprintf(to, "edge_requests_total{tenant=\"%s\",outcome=\"%s\"} %llu\n", t->name, names[k], U(t->counted.of[k]));
     write_type(to, "latency_seconds", "summary", "From a request's first byte to its answer.");
-    for (tenant *t = tenants; t; t = t->next) {
+    for (tenant *t = LIST_FIRST(&tenants); t; t = LIST_NEXT(t, next)) {
         uint64_t answered = 0;
         for (int k = 0; k < TIMES; k++) answered += t->counted.times[k];
         fprintf(to, "edge_latency_seconds{tenant=\"%s\",quantile=\"0.5\"} %.6f\n", t->name, quantile(&t->counted, 0.5));
@@ -150,11 +152,12 @@ static void write_requests(FILE *to) {
             (double)t->counted.lived / 1e6, t->name, U(answered));
     }
     write_type(to, "tenant_tasks", "gauge", "Tasks of a tenant that wait or run.");
-    for (tenant *t = tenants; t; t = t->next)
+    for (tenant *t = LIST_FIRST(&tenants); t; t = LIST_NEXT(t, next))
         fprintf(to, "edge_tenant_tasks{tenant=\"%s\",are=\"waiting\"} %u\nedge_tenant_tasks{tenant=\"%s\",are=\"running\"} %u\n", t->name, t->waiting,
             t->name, t->running);
     write_type(to, "tenant_state", "gauge", "1 for the state that a tenant is in.");
-    for (tenant *t = tenants; t; t = t->next) fprintf(to, "edge_tenant_state{tenant=\"%s\",state=\"%s\"} 1\n", t->name, state_of(t));
+    for (tenant *t = LIST_FIRST(&tenants); t; t = LIST_NEXT(t, next))
+        fprintf(to, "edge_tenant_state{tenant=\"%s\",state=\"%s\"} 1\n", t->name, state_of(t));
 }
 
 static void write_plain(FILE *to, const char *said) {
@@ -162,7 +165,7 @@ static void write_plain(FILE *to, const char *said) {
 }
 
 static void write_tenants(FILE *to) {
-    for (tenant *t = tenants; t; t = t->next) {
+    for (tenant *t = LIST_FIRST(&tenants); t; t = LIST_NEXT(t, next)) {
         fprintf(to, "%s\t%s\t%u", t->name, state_of(t), t->shape.main);
         write_plain(to, t->said), write_plain(to, t->failure);
         fputc('\n', to);
@@ -229,6 +232,7 @@ void page(client *c, const char *path) {
         there = people && write_file(to, "dashboard.html");
     bool good = fclose(to) == 0;
     if (good && there) {
+        c->page = at;
         answer(c, 200, numbers ? "text/plain; version=0.0.4" : people ? "text/html; charset=utf-8" : "text/plain", at, length);
         return;
     }

@@ -10,8 +10,7 @@
 enum { SAID = 256 };
 #define MOST_FUEL 1000000000000000000u
 
-uint32_t tenant_count;
-tenant *tenants;
+struct tenants tenants;
 static void *names; /* the tree of all, by name */
 
 static FILE *open_file(const tenant *t, const char *kind) {
@@ -48,31 +47,37 @@ static void load(tenant *t);
 static void loaded(task *k) {
     tenant *t = k->of;
     bool anew = k->status == ABSENT || k->status == WASMLOOP_OK;
-    t->loading = false, t->status = k->status;
-    free(t->said), t->said = k->said, k->said = NULL;
+    t->load = NULL;
+    t->status = k->status;
+    free(t->said);
+    t->said = k->said;
+    k->said = NULL;
     if (anew) {
         wasmloop_drop(&t->module);
-        t->module = k->handle, k->handle = (wasmloop_handle)WASMLOOP_HANDLE_INIT;
-        t->shape = (wasmloop_shape){ 0 }, wasmloop_shape_of(&t->module, &t->shape);
+        t->module = k->handle;
+        k->handle = (wasmloop_handle)WASMLOOP_HANDLE_INIT;
+        t->shape = (wasmloop_shape){ 0 };
+        wasmloop_shape_of(&t->module, &t->shape);
         t->counted.loads += k->status == WASMLOOP_OK;
     }
     end_task(k);
     if (anew || !t->module.mark) make_loop(t);
-    if (t->again) load(t);
+    if (t->changed) load(t);
+}
+
+/* Loads its module, and once more where it changes meanwhile. */
+static void load(tenant *t) {
+    static const kind loads = { NULL, do_load, loaded };
+    t->changed = true;
+    if (t->load || ending || !(t->load = task_of(t, &loads))) return;
+    t->changed = false;
+    wait_for(t->load, true);
 }
 
 /* Answers where there is no module. */
-void refuse(client *c, tenant *t) {
-    fail(c, t, REFUSED, t->status == ABSENT ? 404 : t->status == WASMLOOP_MEMORY ? 503 : 500, t->said ? t->said : "no memory");
-}
-
-static void load(tenant *t) {
-    static const kind loads = { NULL, do_load, loaded };
-    task *k = t->loading || ending ? NULL : task_of(t, &loads);
-    t->again = !k;
-    if (!k) return;
-    t->loading = true;
-    wait_for(k, true);
+void refuse(client *c) {
+    const tenant *t = c->task.of;
+    fail(c, REFUSED, t->status == ABSENT ? 404 : t->status == WASMLOOP_MEMORY ? 503 : 500, t->said ? t->said : "no memory");
 }
 
 /* ---- its limits ---- */
@@ -126,7 +131,9 @@ tenant *tenant_of(const char *name, bool make) {
         free(t);
         return NULL;
     }
-    t->end = &t->first, t->next = tenants, tenants = t, tenant_count++;
+    TAILQ_INIT(&t->waits);
+    TAILQ_INIT(&t->asks);
+    LIST_INSERT_HEAD(&tenants, t, next);
     read_limits(t);
     load(t);
     return t;
@@ -134,39 +141,25 @@ tenant *tenant_of(const char *name, bool make) {
 
 /* A file of the folder was written, or is gone. */
 void tenant_changed(const char *file) {
-    char name[sizeof tenants->name];
-    const char *dot = strrchr(file, '.');
-    if (!dot || (size_t)(dot - file) >= sizeof name) return;
-    snprintf(name, sizeof name, "%.*s", (int)(dot - file), file);
-    tenant *t = tenant_of(name, false);
-    if (t && strcmp(dot, ".wasm") == 0) load(t);
-    if (t && strcmp(dot, ".conf") == 0) read_limits(t);
+    char name[64], kind[8];
+    tenant *t = sscanf(file, "%63[^.].%7s", name, kind) == 2 ? tenant_of(name, false) : NULL;
+    if (t && strcmp(kind, "wasm") == 0) load(t);
+    if (t && strcmp(kind, "conf") == 0) read_limits(t);
 }
 
-static void free_tenant(tenant *t) {
-    wasmloop_drop(&t->module);
-    free_loop(t);
-    free(t->said), free(t->failure), free(t);
-}
-
-static void on_gone(uv_handle_t *timer) { free_tenant(timer->data); }
-
-/* Those go whose file is gone, and of whom nobody wants anything. */
+/* Those go whose file is gone, and where the server ends all, once nobody wants anything of them. */
 void tenants_sweep(void) {
-    for (tenant **at = &tenants, *t; (t = *at) && !ending;) {
-        if (t->status != ABSENT || t->active || t->running || t->loading || (t->life && t->life->turning)) {
-            at = &t->next;
-            continue;
-        }
-        *at = t->next, tenant_count--;
+    for (tenant *t = LIST_FIRST(&tenants), *next; t; t = next) {
+        next = LIST_NEXT(t, next);
+        if (t->changed) load(t);
+        if ((t->status != ABSENT && !(ending && clients == 0)) || t->waiting || t->running || t->asking || t->load) continue;
+        LIST_REMOVE(t, next);
         tdelete(t->name, &names, by_name);
-        if (t->life)
-            uv_close((uv_handle_t *)&t->life->timer, on_gone);
-        else
-            free_tenant(t);
+        free_loop(t);
+        free_steps(t);
+        wasmloop_drop(&t->module);
+        free(t->said);
+        free(t->failure);
+        free(t);
     }
-}
-
-void tenants_free(void) {
-    for (tenant *t = tenants, *next; t; t = next) next = t->next, free_tenant(t);
 }

@@ -1,17 +1,18 @@
 /* Work in the threads of libuv's pool, and whose turn it is: among tenants that wait the one goes first that has used the least processor
- * time. A request of a tenant is a task whose job runs in slices, so that it makes room for others, and ends when it must. */
+ * time. A job runs in slices, so that it makes room for others, and ends when it must. */
+#include <sched.h>
 #include <stdlib.h>
 #include <sys/resource.h>
 #include <time.h>
 #include <unistd.h>
 #include "edge.h"
 
-enum { SLICE_NS = 25000, FIRST = 5000, FEWEST = 50, MOST = 50000, MS = 1000000 };
+enum { SLICE_NS = 25000, FIRST = 5000, FEWEST = 50, MOST = 50000 };
 
 uint32_t running, waiting;
 atomic_bool hurry;
-static tenant *active; /* those that have something to do */
-static double pace;    /* the share of the tenant that was served last */
+static LIST_HEAD(, tenant) active; /* those that have a task that waits */
+static double pace;                /* the share of the tenant that was served last */
 
 /* ---- in a thread of the pool ---- */
 
@@ -32,41 +33,48 @@ void explain(task *k, wasmloop_handle *of, const char *how, uint32_t trap, uint6
     if (asprintf(&k->said, "%s%s%s, after %llu units%s", how, trap ? ", " : "", name, U(used), where) < 0) k->said = NULL;
 }
 
-/* Runs a job in slices of some 25 us, as long as its turn lasts: to its end, to its deadline, until its client has gone, or, after half a
- * millisecond, until another tenant's turn has come. */
+/* How many units the next slice has, by what the last took: some 25 us, and none goes much past the deadline. */
+static uint64_t units_of(const task *k, uint64_t took, uint64_t now) {
+    uint64_t wish = k->until - now < SLICE_NS ? k->until - now : SLICE_NS, units = k->units * wish / (took + SLICE_NS / 8);
+    return units < FEWEST ? FEWEST : units > MOST ? MOST : units;
+}
+
+/* Runs a job in slices, as long as its turn lasts: to its end, to its deadline, until its client has gone, or, after half a millisecond, until
+ * another tenant's turn has come. */
 void run_job(task *k) {
     uint32_t over = 0;
     uint64_t began = uv_hrtime(), from = began, now;
     if (k->units == 0) k->units = FIRST;
     while (!over && !k->late && !k->gone && !(hurry && from - began >= TURN_NS)) {
         if (wasmloop_job_run_for(&k->handle, k->units, &over) != WASMLOOP_OK) over = 1;
-        k->about.used += k->units, now = uv_hrtime();
+        k->about.used += k->units;
+        now = uv_hrtime();
         k->late = !over && now >= k->until;
-        k->units = k->units * SLICE_NS / (now - from + SLICE_NS / 8), from = now;
-        k->units = k->units < FEWEST ? FEWEST : k->units > MOST ? MOST : k->units;
+        if (!k->late) k->units = units_of(k, now - from, now);
+        from = now;
     }
-    k->goes_on = !over && !k->late && !k->gone;
+    k->goes_on = !over && !k->late;
     if (over) wasmloop_job_about(&k->handle, &k->about);
+    const wasmloop_about *a = &k->about;
+    const char *how = k->late ? "not done by its deadline" : wasmloop_outcome_name(a->outcome);
+    if (k->late || a->outcome > WASMLOOP_WORK_DONE) explain(k, &k->handle, how, a->outcome == WASMLOOP_WORK_TRAP ? a->value : 0, a->used);
 }
 
-static void run_work(task *k) {
-    uint64_t n;
-    wasmloop_about *a = &k->about;
-    run_job(k);
-    if (k->late && asprintf(&k->said, "not done by its deadline, after %llu units", U(a->used)) < 0) k->said = NULL;
-    if (a->outcome == WASMLOOP_NOT_RUN) return;
-    if (a->outcome != WASMLOOP_WORK_DONE)
-        explain(k, &k->handle, wasmloop_outcome_name(a->outcome), a->outcome == WASMLOOP_WORK_TRAP ? a->value : 0, a->used);
-    else if ((k->out = malloc(a->reply + 1)))
-        wasmloop_job_reply(&k->handle, (uint8_t *)k->out, a->reply, &n);
-    wasmloop_drop(&k->handle);
+/* The threads have a lower priority than the main one, in whatever class of the scheduler that is: on Linux each has its own. */
+static void lower_priority(void) {
+    struct sched_param own;
+    sched_getparam(0, &own);
+    if (own.sched_priority-- > 1)
+        sched_setparam(0, &own);
+    else
+        setpriority(PRIO_PROCESS, (id_t)gettid(), getpriority(PRIO_PROCESS, 0) + 1);
 }
 
-/* The threads have a lower priority than the main one, which on Linux each has for itself. */
 static void do_task(uv_work_t *work) {
     static _Thread_local bool low;
     task *k = work->data;
-    if (!low) setpriority(PRIO_PROCESS, (id_t)gettid(), getpriority(PRIO_PROCESS, 0) + 1), low = true;
+    if (!low) lower_priority();
+    low = true;
     uint64_t began = cpu_now();
     k->kind->run(k);
     k->cpu = cpu_now() - began;
@@ -82,39 +90,20 @@ static void look_again(void) {
     uv_timer_start(&rests, on_rested, 1, 0);
 }
 
-task *task_of(tenant *t, const kind *kind) {
-    task *k = calloc(1, sizeof *k);
-    if (k) k->kind = kind, k->of = t, k->came = uv_hrtime(), k->until = UINT64_MAX, k->work.data = k;
-    return k;
-}
-
-void end_task(task *k) {
-    wasmloop_drop(&k->handle), drop_bytes(&k->body);
-    free(k->out), free(k->said), free(k);
-}
-
-static const kind works;
-
-/* A request that isn't begun waits for its module, where that is being loaded. */
+/* A request waits for its tenant's first module; one whose request failed has one thread. */
 static bool can_run(const tenant *t) {
-    bool comes = t->loading && !t->module.mark && t->first->kind == &works && !t->first->handle.mark;
-    return ending || (!comes && t->running < (t->fails ? 1 : t->limits[RUN]));
+    bool comes = t->load && t->load->state == RUNS && !t->module.mark;
+    return !comes && t->running < (t->fails ? 1 : t->limits[RUN]);
 }
 
-/* Whose turn it is; those without a task leave the list. */
 static tenant *next_in_turn(void) {
-    tenant *best = NULL, **at = &active;
+    tenant *best = NULL;
     uint64_t now = uv_hrtime();
-    for (tenant *t; (t = *at);) {
-        if (!t->first) {
-            *at = t->next_active, t->active = false;
-            continue;
-        }
+    for (tenant *t = LIST_FIRST(&active); t; t = LIST_NEXT(t, active)) {
         if (now < t->rests && !ending)
             look_again();
         else if (can_run(t) && (!best || t->share < best->share))
             best = t;
-        at = &t->next_active;
     }
     return best;
 }
@@ -123,53 +112,82 @@ static void on_done(uv_work_t *work, int cancelled) {
     task *k = work->data;
     tenant *t = k->of;
     (void)cancelled;
+    k->state = IDLE;
     running--, t->running--;
     t->counted.cpu += k->cpu;
     t->share += (double)k->cpu - t->mean; /* the mean was paid before */
     t->mean += ((double)k->cpu - t->mean) / 8;
-    if (k->goes_on)
+    if (k->goes_on && !k->gone)
         wait_for(k, true);
     else
         k->kind->after(k);
     schedule();
 }
 
-static void start(tenant *t) {
-    task *k = t->first;
-    if (!(t->first = k->next)) t->end = &t->first;
-    t->waiting--, waiting--;
-    pace = t->share;
-    if (k->kind->ready && !k->kind->ready(k)) {
-        end_task(k);
-        return;
-    }
-    t->share += t->mean;
-    t->running++, running++;
-    uv_queue_work(uv, &k->work, do_task, on_done);
-}
-
-/* Starts what may be started: where the server ends, all, since what isn't begun is only answered. */
+/* Starts what may be started. */
 void schedule(void) {
-    static bool inside;
     tenant *t;
-    if (inside) return;
-    for (inside = true; (t = next_in_turn()) && (running < workers || ending);) start(t);
+    while ((t = next_in_turn()) && running < workers) {
+        task *k = TAILQ_FIRST(&t->waits);
+        unwait(k);
+        pace = t->share;
+        if (k->kind->ready && !k->kind->ready(k)) continue;
+        t->share += t->mean;
+        running++, t->running++;
+        k->state = RUNS;
+        uv_queue_work(uv, &k->work, do_task, on_done);
+    }
     hurry = t != NULL;
-    inside = false;
 }
 
 /* Lets a task wait for its tenant's turn, as the last, or as the first. */
 void wait_for(task *k, bool front) {
     tenant *t = k->of;
-    if (!t->active) {
-        t->active = true, t->next_active = active, active = t;
+    if (TAILQ_EMPTY(&t->waits)) {
+        LIST_INSERT_HEAD(&active, t, active);
         if (t->share < pace) t->share = pace; /* what it left unused is not saved up */
     }
-    task **at = front ? &t->first : t->end;
-    if (!(k->next = *at)) t->end = &k->next;
-    *at = k;
-    t->waiting++, waiting++;
+    if (front)
+        TAILQ_INSERT_HEAD(&t->waits, k, next);
+    else
+        TAILQ_INSERT_TAIL(&t->waits, k, next);
+    k->state = WAITS;
+    waiting++, t->waiting++;
     schedule();
+}
+
+/* Takes a task out of where it waits. */
+void unwait(task *k) {
+    tenant *t = k->of;
+    if (k->state == ASKS) {
+        TAILQ_REMOVE(&t->asks, k, next);
+        t->asking--;
+    } else if (k->state == WAITS) {
+        TAILQ_REMOVE(&t->waits, k, next);
+        if (TAILQ_EMPTY(&t->waits)) LIST_REMOVE(t, active);
+        waiting--, t->waiting--;
+    }
+    k->state = IDLE;
+}
+
+task *task_of(tenant *t, const kind *kind) {
+    task *k = calloc(1, sizeof *k);
+    if (k) *k = (task){ .kind = kind, .of = t, .until = UINT64_MAX, .work.data = k };
+    return k;
+}
+
+void end_task(task *k) {
+    wasmloop_drop(&k->handle);
+    free(k->said);
+    free(k);
+}
+
+/* Keeps why a task failed as its tenant's last failure. */
+void keep_failure(task *k) {
+    if (!k->said) return;
+    free(k->of->failure);
+    k->of->failure = k->said;
+    k->said = NULL;
 }
 
 /* ---- requests ---- */
@@ -177,22 +195,15 @@ void wait_for(task *k, bool front) {
 /* Makes the job. */
 static bool ready_work(task *k) {
     tenant *t = k->of;
-    wasmloop_task what = { t->limits[FUEL], k->op, (uint32_t)t->limits[DEPTH] };
+    client *c = (client *)k;
+    wasmloop_task what = { t->limits[FUEL], k->about.op, (uint32_t)t->limits[DEPTH] };
     if (k->handle.mark) return true;
-    if (!k->from)
-        count(t, GONE, k->came);
-    else if (ending)
-        fail(k->from, t, REFUSED, 503, "the server ends");
-    else if (!t->module.mark)
-        refuse(k->from, t);
-    else if (uv_hrtime() >= k->until)
-        fail(k->from, t, LATE, 504, "not begun by its deadline");
-    else
-        switch (wasmloop_job_new(&t->module, &what, (uint8_t *)k->body.at, k->body.length, &k->handle)) {
-        case WASMLOOP_OK: drop_bytes(&k->body); return true;
-        case WASMLOOP_MEMORY: fail(k->from, t, NO_MEMORY, 503, "no memory"); break;
-        default: fail(k->from, t, REFUSED, 404, "it exports no uv_work");
-        }
+    switch (wasmloop_job_new(&t->module, &what, (uint8_t *)c->body.at, c->body.length, &k->handle)) {
+    case WASMLOOP_OK: drop_bytes(&c->body); return true;
+    case WASMLOOP_EMPTY: refuse(c); break;
+    case WASMLOOP_MEMORY: fail(c, NO_MEMORY, 503, "no memory"); break;
+    default: fail(c, REFUSED, 404, "it exports no uv_work");
+    }
     return false;
 }
 
@@ -203,50 +214,46 @@ static void note_end(tenant *t, outcome what, uint64_t bytes) {
     t->sent = (t->sent > now ? t->sent : now) + bytes * MS / t->limits[OUT];
     if (t->sent > now + MS) t->rests = t->sent - MS;
     if (what == DONE) t->fails = false;
-    if (what >= TRAPPED && what <= LATE) t->fails = true, t->rests = now + t->limits[REST] * MS;
-}
-
-/* Keeps why a task failed as its tenant's last failure. */
-void keep_failure(task *k) {
-    if (k->said) free(k->of->failure), k->of->failure = k->said, k->said = NULL;
+    if (what == DONE || what == GONE || what == NO_MEMORY) return;
+    t->fails = true;
+    t->rests = now + t->limits[REST] * MS;
 }
 
 static void worked(task *k) {
-    static const outcome ends[] = { GONE, DONE, TRAPPED, DEEP, SPENT, NO_MEMORY };
-    static const int status_of[OUTCOMES] = { 200, 500, 500, 504, 504, 503 };
+    static const int status_of[OUTCOMES] = { [TRAPPED] = 500, [DEEP] = 500, [SPENT] = 504, [NO_MEMORY] = 503, [LATE] = 504 };
     tenant *t = k->of;
-    client *c = k->from;
-    wasmloop_about *a = &k->about;
-    outcome what = k->late ? LATE : a->outcome == WASMLOOP_WORK_DONE && !k->out ? NO_MEMORY : ends[a->outcome];
-    t->counted.used += a->used, t->counted.out += a->reply;
-    note_end(t, what, a->reply);
-    if (c) {
-        c->fuel = a->used;
-        snprintf(c->more, sizeof c->more, "Wasmloop-Outcome: %s\r\nWasmloop-Value: %d\r\nWasmloop-Fuel: %llu\r\n",
-            what == LATE ? "late" : wasmloop_outcome_name(a->outcome), (int32_t)a->value, U(a->used));
+    client *c = (client *)k;
+    const uint8_t *reply = NULL;
+    uint64_t length = 0;
+    outcome what = k->late ? LATE : (outcome)k->about.outcome;
+    wasmloop_job_view(&k->handle, &reply, &length);
+    t->counted.used += k->about.used;
+    t->counted.out += length;
+    note_end(t, what, length);
+    if (k->gone) {
+        count(t, GONE, c->came);
+        leave(c);
+    } else if (what == DONE) {
+        count(t, DONE, c->came);
+        answer(c, 200, t->type, reply, length);
+    } else {
+        fail(c, what, status_of[what], k->said ? k->said : "no memory");
     }
-    if (c && what != DONE)
-        fail(c, t, what, status_of[what], k->said ? k->said : "no memory");
-    else
-        count(t, c ? DONE : GONE, k->came);
-    if (c && what == DONE) answer(c, 200, t->type, k->out, a->reply), k->out = NULL;
     keep_failure(k);
-    end_task(k);
 }
 
-static const kind works = { ready_work, run_work, worked };
+/* Whether one more request may wait beside those before, within the bounds; else it is answered. */
+bool may_wait(client *c, uint32_t before) {
+    bool room = waiting < MOST_WAITING, may = room && before < c->task.of->limits[QUEUE];
+    if (!may) fail(c, REFUSED, room ? 429 : 503, room ? "too many wait" : "the server: too many wait");
+    return may;
+}
 
-/* Lets a request wait for its tenant's turn, within the bounds of those that may. */
+/* Lets a request wait for its tenant's turn. */
 void work(client *c, tenant *t, uint32_t op) {
-    task *k = NULL;
-    if (waiting >= MOST_WAITING)
-        fail(c, t, REFUSED, 503, "the server: too many wait");
-    else if (t->waiting >= t->limits[QUEUE])
-        fail(c, t, REFUSED, 429, "too many wait");
-    else if (!(k = task_of(t, &works)))
-        fail(c, t, NO_MEMORY, 503, "no memory");
-    if (!k) return;
-    k->from = c, c->task = k, k->op = op, k->came = c->came, k->until = c->came + t->limits[DEADLINE] * MS;
-    k->body = c->body, c->body = (bytes){ .length = c->body.length }; /* as the log has it */
-    wait_for(k, false);
+    static const kind works = { ready_work, run_job, worked };
+    if (!may_wait(c, t->waiting)) return;
+    c->task.kind = &works;
+    c->task.about.op = op;
+    wait_for(&c->task, false);
 }

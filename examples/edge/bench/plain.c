@@ -42,10 +42,10 @@ int wasmloop_job_about(wasmloop_handle *handle, wasmloop_about *about) {
     return WASMLOOP_OK;
 }
 
-int wasmloop_job_reply(wasmloop_handle *handle, uint8_t *into, size_t room, uint64_t *count) {
+int wasmloop_job_view(wasmloop_handle *handle, const uint8_t **bytes, uint64_t *count) {
     job *j = handle->at;
+    *bytes = j->text;
     *count = j->length + 7;
-    memcpy(into, j->text, room < *count ? room : *count);
     return WASMLOOP_OK;
 }
 

@@ -254,6 +254,7 @@ def wish(_):
         with alone() as (port, _):
             for _ in range(200):
                 ask(port, "/wish")
+                time.sleep(0.02)  # else a real-time class has had its share of a processor, and the kernel stops it
             time.sleep(0.3)
         us = sorted(int(it) - 20000 for it in re.findall(r'path="/wish" status=504 .* us=(\d+)', (ROOM / "access").read_text()))
         rows[guest] = [f"{us[len(us) // 2]}, {us[len(us) * 99 // 100]}, {us[-1]} ({len(us)})"]

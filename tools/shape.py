@@ -1,6 +1,6 @@
 #!/usr/bin/env python3
 """Whether functions are short: at most seven arguments, 40 lines of body, three levels of control in one another; lines of at most 200
-columns.
+columns; and whether a name is one crate's: a definition of specs/, and a public struct, enum or trait.
 
     python3 tools/shape.py               status 1 if something is more than that and not in tools/shape.txt, or less than what stands there
     python3 tools/shape.py --renew       takes out of tools/shape.txt what is no longer so, and lowers numbers; it adds nothing
@@ -9,7 +9,7 @@ columns.
 
 Counted are the functions of crates/*/src. `self` is an argument; an allocator too. The body has the lines between its braces that are
 neither blank nor a comment nor ghost. A level of control is an `if`, `match`, `for`, `while`, `loop`, `let .. else` or closure with braces;
-an `else if` goes on where its `if` stands. Each line of tools/shape.txt is one exception: how many, of what, where. The list may only shrink.
+an `else if` goes on where its `if` stands. A definition that another crate defines too has two crates, a type likewise. Each line of tools/shape.txt is one exception: how many, of what, where. The list may only shrink.
 """
 import re
 import sys
@@ -17,10 +17,14 @@ from pathlib import Path
 
 TOP = Path(__file__).resolve().parent.parent
 LIST = TOP / "tools" / "shape.txt"
-MOST = {"arguments": 7, "lines": 40, "levels": 3, "columns": 200}
+MOST = {"arguments": 7, "lines": 40, "levels": 3, "columns": 200, "crates": 1}
 HEAD = """# What is more than tools/shape.py allows: how many, of what, in which file and function. This list may only shrink.
 """
 FN = re.compile(r"^( *)(?:pub(?:\([a-z]+\))? )?(?:const )?(?:unsafe )?(?:extern \"C\" )?fn (\w+)", re.M)
+NAMED = {
+    "definition": re.compile(r"^ *(?:(?:abbrev|unfoldable)(?: pub)?|(?:pub )?(?:record|data)) «?([A-Za-z_][\w'-]*)", re.M),
+    "type": re.compile(r"^pub(?:\([a-z]+\))? (?:struct|enum|trait) (\w+)", re.M),
+}
 CLAUSE = re.compile(r"\b(requires|ensures|measure|decreases|invariant)\*?(?: \w+)?\s*$")
 CONTROL = re.compile(r"\b(if|match|for|while|loop|else)\b|\|[^|]*\| *(?:-> [\w<>]+ *)?$")
 
@@ -118,14 +122,26 @@ def functions(text):
         yield Function(text, plain, found)
 
 
-def sources():
-    return {str(file.relative_to(TOP)): file.read_text(encoding="utf-8") for file in sorted(TOP.glob("crates/*/src/**/*.rt"))}
+def sources(which="src/**/*.rt"):
+    return {str(file.relative_to(TOP)): file.read_text(encoding="utf-8") for file in sorted(TOP.glob(f"crates/*/{which}"))}
+
+
+def homonyms(texts):
+    """The names that two crates or more give to a definition, or to a type, and how many."""
+    crates = {}
+    for file, text in texts.items():
+        kind = "type" if file.endswith(".rt") else "definition"
+        for name in NAMED[kind].findall(text):
+            crates.setdefault(("crates", kind, name), set()).add(file.split("/")[1])
+    return {key: len(those) for key, those in crates.items() if len(those) > MOST["crates"]}
 
 
 def over(texts):
     """What is more than it may be: for each place and measure its number."""
-    found = {}
+    found = homonyms(texts)
     for name, text in texts.items():
+        if name.endswith(".antt"):
+            continue
         for function in functions(text):
             for measure in ("arguments", "lines", "levels"):
                 number = getattr(function, measure)
@@ -165,7 +181,7 @@ def faults(texts, exceptions):
 
 
 def renew():
-    now = over(sources())
+    now = over(sources() | sources("specs/**/*.antt"))
     LIST.write_text(written({key: min(number, now[key]) for key, number in listed().items() if key in now}))
 
 
@@ -222,6 +238,11 @@ def self_test():
         same(f"{what}: found", len(list(faults({where: text}, {}))), 1)
         same(f"{what}: an exception", list(faults({where: text}, over({where: text}))), [])
         same(f"{what}: an exception that is gone", len(list(faults({where: clean}, over({where: text})))), 1)
+    for kind, text, end in ("definition", "abbrev pub Fits : Type 0\n", "specs/F.antt"), ("type", "pub(crate) enum Fits {\n}\n", "src/f.rt"):
+        two = {f"crates/x/{end}": text, f"crates/y/{end}": text}
+        same(f"a {kind} of one crate", list(faults({where: clean, f"crates/x/{end}": text, f"crates/x/more/{end}": text}, {})), [])
+        same(f"a {kind} of two crates: found", len(list(faults(two, {}))), 1)
+        same(f"a {kind} of two crates: an exception", list(faults(two, over(two))), [])
     return wrong
 
 
@@ -240,7 +261,7 @@ def main():
     if "--renew" in sys.argv[1:]:
         return renew()
     texts, exceptions = sources(), listed()
-    found = list(faults(texts, exceptions))
+    found = list(faults(texts | sources("specs/**/*.antt"), exceptions))
     for fault in found:
         print(fault, file=sys.stderr)
     print(f"{sum(len(list(functions(text))) for text in texts.values())} functions, {len(exceptions)} exceptions, {len(found)} faults")

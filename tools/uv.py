@@ -125,7 +125,7 @@ def host_types(sources):
     for file, kind in ((CALLS, "Call"), (ENTRIES, "EntryPoint")):
         text = sources.text(file)
         names = dict(re.findall(rf'{kind}::(\w+) => "(\w+)"', text))
-        for variants, words, results in re.findall(rf"((?:\|? *{kind}::\w+\s*)+)=> Signature::new\(\s*&\[([^\]]*)\],\s*&\[([^\]]*)\]", text):
+        for variants, words, results in re.findall(rf"((?:\|? *{kind}::\w+\s*)+)=> CallType::new\(\s*&\[([^\]]*)\],\s*&\[([^\]]*)\]", text):
             told = f"[{' '.join(words.lower().replace(',', ' ').split())}] to [{results.strip().lower()}]"
             found.update({names[variant]: told for variant in re.findall(rf"{kind}::(\w+)", variants)})
     return found
@@ -171,7 +171,7 @@ PLANTED = [
     ("a comment", HEADER, r"Answers its handle, or UV_EAGAIN with 64 handles", "Answers its handle, or UV_EAGAIN with 65 handles"),
     ("a word in Rust", RUST, r"(pub fn emit\(value: )i64", r"\1i32"),
     ("a number in Rust", RUST, r"(ENOSPC: i32 = -)28", r"\g<1>29"),
-    ("a type of the host", CALLS, r"(Call::Emit => Signature::new\(&\[)I64", r"\1I32"),
+    ("a type of the host", CALLS, r"(Call::Emit => CallType::new\(&\[)I64", r"\1I32"),
     ("an export", HEADER, r"\(int32_t request, int32_t kind, int32_t code\)", "(int32_t request, int32_t kind)"),
 ]
 

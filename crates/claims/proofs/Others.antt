@@ -6,16 +6,16 @@ use lib.ListN.{get_elem?}
 use Rattle.limits.specs.declared.TheConstants.{MAX_REQUESTS, MAX_LOOPS}
 use Rattle.tallies.specs.Requests.{last_in}
 use Rattle.tallies.proofs.Lists.{part_set, part_push, set_apart}
-use Rattle.claims.specs.declared.rule.View.{View}
-use Rattle.claims.specs.Rule.{IsWorker, with_worker, spent_view, seat_of, maker_of, next_maker, next_seat, place, of_loop, IsKept, IsClaimed}
+use Rattle.claims.specs.declared.rule.SeatView.{SeatView}
+use Rattle.claims.specs.Rule.{IsWorker, with_worker, spent_view, seat_of, making_seat, next_making_seat, next_seat, place, of_loop, WordsAreKept, IsClaimed}
 use Rattle.claims.specs.Inner.Steps.{with_opened}
 use Rattle.claims.proofs.Moves.{begins, hit, no_list, own, opens, makes_seat, joins_worker}
 
-no_last : (views : List View) (l slot : ℕ) → (of_loop views l).opened ≡ [] → last_in slot (of_loop views l).opened ≡ 0
+no_last : (views : List SeatView) (l slot : ℕ) → (of_loop views l).opened ≡ [] → last_in slot (of_loop views l).opened ≡ 0
 no_last views l slot none = ap (λ cs. last_in slot cs) none
 
 -- a loop whose request can be started is there
-pub hit_there : {loops : ℕ} {words : List ℕ} {views : List View} → IsClaimed loops words views → (l slot r : ℕ) → l < MAX_LOOPS → slot < MAX_REQUESTS
+pub hit_there : {loops : ℕ} {words : List ℕ} {views : List SeatView} → IsClaimed loops words views → (l slot r : ℕ) → l < MAX_LOOPS → slot < MAX_REQUESTS
     → get_or words (place l slot) 0 ≡ 4 * r + 1 → l < loops
 hit_there {loops} {words} {views} claimed l slot r real low found =
     let facts = hit claimed.kept l slot r real low found in
@@ -23,9 +23,9 @@ hit_there {loops} {words} {views} claimed l slot r real low found =
     let above = facts.above in
     lt_of_not-le (λ (far : loops ≤ l). let none = no_last views l slot (claimed.others l far) in omega arith)
 
-module _ {loops : ℕ} {words : List ℕ} {views : List View} (claimed : IsClaimed loops words views) (id : ℕ) (v : View) (at : get_elem? views id ≡ some v) where
+module _ {loops : ℕ} {words : List ℕ} {views : List SeatView} (claimed : IsClaimed loops words views) (id : ℕ) (v : SeatView) (at : get_elem? views id ≡ some v) where
   -- a step after which the seat has opened no more
-  pub still_claimed : {ws : List ℕ} (w : View) → w.opened ≡ v.opened → IsKept MAX_LOOPS ws (set views id w) → IsClaimed loops ws (set views id w)
+  pub still_claimed : {ws : List ℕ} (w : SeatView) → w.opened ≡ v.opened → WordsAreKept MAX_LOOPS ws (set views id w) → IsClaimed loops ws (set views id w)
   still_claimed w same kept = record { kept = kept; others = λ l far. part_set (λ u. u.opened) views id (l + 1) v w (seat_of 0) at same ∙ claimed.others l far }
 
   pub opens_claimed : (l slot r : ℕ) → v.number ≡ l + 1 → l < loops → l < MAX_LOOPS → slot < MAX_REQUESTS → 0 < r → All (λ c. c.1 < r) v.opened
@@ -36,20 +36,20 @@ module _ {loops : ℕ} {words : List ℕ} {views : List View} (claimed : IsClaim
         others =
             λ m far.
             let here = own claimed.kept id v at l number in
-            ap (λ (u : View). u.opened) (set_apart views id (m + 1) (with_opened v (slot, r)) (seat_of 0) (λ e. omega arith)) ∙ claimed.others m far;
+            ap (λ (u : SeatView). u.opened) (set_apart views id (m + 1) (with_opened v (slot, r)) (seat_of 0) (λ e. omega arith)) ∙ claimed.others m far;
       }
 
-  pub makes_claimed : 0 < v.made → IsClaimed loops words (set views id (next_maker v) ++ next_seat v ∷ [])
+  pub makes_claimed : 0 < v.made → IsClaimed loops words (set views id (next_making_seat v) ++ next_seat v ∷ [])
   makes_claimed some_made =
       record {
         kept = makes_seat claimed.kept id v at some_made;
         others =
             λ l far.
-            part_push (λ u. u.opened) (set views id (next_maker v)) (next_seat v) (seat_of 0) (l + 1) refl
-            ∙ part_set (λ u. u.opened) views id (l + 1) v (next_maker v) (seat_of 0) at refl ∙ claimed.others l far;
+            part_push (λ u. u.opened) (set views id (next_making_seat v)) (next_seat v) (seat_of 0) (l + 1) refl
+            ∙ part_set (λ u. u.opened) views id (l + 1) v (next_making_seat v) (seat_of 0) at refl ∙ claimed.others l far;
       }
 
-  pub joins_claimed : (other : ℕ) (o : View) → ¬ (other ≡ id) → get_elem? (set views id (with_worker v o)) other ≡ some o → IsWorker o
+  pub joins_claimed : (other : ℕ) (o : SeatView) → ¬ (other ≡ id) → get_elem? (set views id (with_worker v o)) other ≡ some o → IsWorker o
       → IsClaimed loops words (set (set views id (with_worker v o)) other spent_view)
   joins_claimed other o apart there idle =
       record {
@@ -61,5 +61,5 @@ module _ {loops : ℕ} {words : List ℕ} {views : List View} (claimed : IsClaim
       }
 
 -- the words at first
-pub begins_claimed : (loops : ℕ) → IsClaimed loops (replicate (MAX_LOOPS * MAX_REQUESTS) 0) (maker_of 1 ∷ [])
+pub begins_claimed : (loops : ℕ) → IsClaimed loops (replicate (MAX_LOOPS * MAX_REQUESTS) 0) (making_seat 1 ∷ [])
 begins_claimed loops = record { kept = begins MAX_LOOPS; others = λ l far. no_list (λ u. u.opened) refl l }

@@ -1,36 +1,36 @@
 -- What the statuses 0, 3 and 4 come from.
 use Rattle.std.proofs.Common.{◌≡◌, refl, Result, Ok, Err, IfOk, IfErr, OnOk}
 use Rattle.commands.specs.declared.failure.Failure.{Failure}
-use Rattle.commands.specs.declared.status.Status.{Status}
-use Rattle.commands.specs.declared.status.Status.TheVariants as status
-use Rattle.commands.specs.Inner.Statuses.{number_of, status_of_failure, status_of_end}
+use Rattle.commands.specs.declared.status.ExitStatus.{ExitStatus}
+use Rattle.commands.specs.declared.status.ExitStatus.TheVariants as status
+use Rattle.commands.specs.Inner.Statuses.{number_of_status, status_of_failure, status_of_end}
 
-pub done_of : (s : Status) → number_of s ≡ 0 → s ≡ status.Done
+pub done_of : (s : ExitStatus) → number_of_status s ≡ 0 → s ≡ status.Done
 done_of status.Done h = refl
 done_of status.Failed h = cc
 done_of status.Usage h = cc
 done_of status.Refused h = cc
 done_of status.Ended h = cc
 
-pub at_ok : {E : Type 0} (r : Result Status E) (P : Status → Type 0) (s : Status) → IfOk r P → r ≡ Ok s → P s
+pub at_ok : {E : Type 0} (r : Result ExitStatus E) (P : ExitStatus → Type 0) (s : ExitStatus) → IfOk r P → r ≡ Ok s → P s
 at_ok (Ok t) P s h is =
     let same : t ≡ s = cc in
     rw same at h
 at_ok (Err e) P s h is = cc
 
 -- two facts of what is Ok
-pub both : {E : Type 0} (r : Result Status E) (A B : Type 0) → OnOk r A → OnOk r B → IfOk r (λ (s : Status). s ≡ status.Done → A × B)
+pub both : {E : Type 0} (r : Result ExitStatus E) (A B : Type 0) → OnOk r A → OnOk r B → IfOk r (λ (s : ExitStatus). s ≡ status.Done → A × B)
 both (Ok s) A B a b = λ _. (a, b)
 both (Err e) A B a b = tt
 
-pub refused_of : (s : Status) → number_of s ≡ 3 → s ≡ status.Refused
+pub refused_of : (s : ExitStatus) → number_of_status s ≡ 3 → s ≡ status.Refused
 refused_of status.Done h = cc
 refused_of status.Failed h = cc
 refused_of status.Usage h = cc
 refused_of status.Refused h = refl
 refused_of status.Ended h = cc
 
-pub ended_of : (s : Status) → number_of s ≡ 4 → s ≡ status.Ended
+pub ended_of : (s : ExitStatus) → number_of_status s ≡ 4 → s ≡ status.Ended
 ended_of status.Done h = cc
 ended_of status.Failed h = cc
 ended_of status.Usage h = cc
@@ -38,14 +38,14 @@ ended_of status.Refused h = cc
 ended_of status.Ended h = refl
 
 -- what is done unless it fails is refused by its failure
-pub at_refused : (r : Result Status Failure) (A : Type 0) → IfOk r (λ (s : Status). s ≡ status.Done)
+pub at_refused : (r : Result ExitStatus Failure) (A : Type 0) → IfOk r (λ (s : ExitStatus). s ≡ status.Done)
     → IfErr r (λ (f : Failure). status_of_failure f ≡ status.Refused → A) → status_of_end r ≡ status.Refused → A
 at_refused (Ok s) A done refused is = cc
 at_refused (Err f) A done refused is = refused is
 
-pub not_done : {s : Status} → s ≡ status.Done → s ≡ status.Ended → ⊥
+pub not_done : {s : ExitStatus} → s ≡ status.Done → s ≡ status.Ended → ⊥
 not_done done ended = cc
 
-pub nothing_ended : {E : Type 0} (r : Result Status E) → IfOk r (λ (s : Status). s ≡ status.Ended → Unit {0})
+pub nothing_ended : {E : Type 0} (r : Result ExitStatus E) → IfOk r (λ (s : ExitStatus). s ≡ status.Ended → Unit {0})
 nothing_ended (Ok s) = λ _. tt
 nothing_ended (Err e) = tt

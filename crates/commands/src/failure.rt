@@ -3,13 +3,13 @@
 ghost use Rattle.std.specs.Prelude.{◌≡◌};
 
 use crate::file::ReadFault;
-use crate::status::Status;
+use crate::status::ExitStatus;
 use instance::fault::InstFault;
 use limits::{MAX_BYTES, MAX_MODULE_BYTES};
 use loader::Refusal;
 use places::Shown;
 use script::ScriptFault;
-use sentences::{Account, Grouped, Listing, Mismatch};
+use sentences::{Grouped, Listing, Mismatch, RefusalAccount};
 use std::alloc::{AllocError, AllocFailed, Global};
 use std::io::{self, ErrorKind, Write};
 use std::{fmt, str};
@@ -18,11 +18,11 @@ use world::WorldFault;
 
 /// What is known of a refusal beside its own words.
 #[derive(Drop)]
-pub enum Site {
+pub enum RefusalDetail {
     /// The module has more bytes than one may have.
     TooLong,
     /// Where it is, and why.
-    Told(Account),
+    Told(RefusalAccount),
 }
 
 /// Why a command has no result.
@@ -46,7 +46,7 @@ pub enum Failure<'a> {
     Refused {
         module: Option<usize>,
         refusal: Refusal,
-        site: Site,
+        site: RefusalDetail,
     },
     /// The file is no script. Where and why is said if that is known, and if there is memory for it.
     Script {
@@ -77,7 +77,7 @@ fn exported_functions(alloc: Global, contents: &Contents) -> Result<String, Allo
 
 impl<'a> Failure<'a> {
     ghost use Rattle.commands.specs.Inner.Statuses.{status_of_failure};
-    ghost use Rattle.commands.specs.declared.status.Status.TheVariants as status;
+    ghost use Rattle.commands.specs.declared.status.ExitStatus.TheVariants as status;
 
     /// The file of this name is not read.
     pub fn unread(name: &'a str, fault: ReadFault) -> Failure<'a>
@@ -108,7 +108,7 @@ impl<'a> Failure<'a> {
     }
 
     /// What the program ends with.
-    pub fn status(&self) -> Status
+    pub fn status(&self) -> ExitStatus
         ensures { result ≡ status_of_failure self.now }
     {
         match self {
@@ -116,10 +116,10 @@ impl<'a> Failure<'a> {
             | Failure::Memory
             | Failure::Output(_)
             | Failure::Unwritten { .. }
-            | Failure::Script { .. } => Status::Failed,
-            Failure::Refused { .. } => Status::Refused,
+            | Failure::Script { .. } => ExitStatus::Failed,
+            Failure::Refused { .. } => ExitStatus::Refused,
             Failure::NoFunction { .. } | Failure::Arguments(_) | Failure::TooLong(_) =>
-                Status::Usage,
+                ExitStatus::Usage,
         }
     }
 
@@ -160,14 +160,14 @@ fn tell_functions<E: Write>(there: &Option<String>, err: &mut E) -> io::Result<(
     }
 }
 
-fn tell_site<E: Write>(what: &str, site: &Site, err: &mut E) -> io::Result<()> {
+fn tell_site<E: Write>(what: &str, site: &RefusalDetail, err: &mut E) -> io::Result<()> {
     match site {
-        Site::TooLong => writeln!(
+        RefusalDetail::TooLong => writeln!(
             err,
             "the {what} has more than {} bytes (strip its debug names)",
             Grouped(MAX_MODULE_BYTES as u64)
         ),
-        Site::Told(account) => writeln!(err, "{account}"),
+        RefusalDetail::Told(account) => writeln!(err, "{account}"),
     }
 }
 
@@ -223,7 +223,7 @@ impl<T: Drop> From<AllocFailed<T>> for Failure<'_> {
 impl From<io::Error> for Failure<'_> {
     ghost use Rattle.std.specs.Prelude.{◌≡◌};
     ghost use Rattle.commands.specs.Inner.Statuses.{status_of_failure};
-    ghost use Rattle.commands.specs.declared.status.Status.TheVariants.{Failed};
+    ghost use Rattle.commands.specs.declared.status.ExitStatus.TheVariants.{Failed};
 
     ghost from_gives = { λ _ failure. status_of_failure failure ≡ Failed };
 

@@ -36,7 +36,7 @@ pub trait Reader {
 }
 
 /// Writes files by their names.
-pub trait Writer {
+pub trait FileWriter {
     // The file of this name was made of these bytes.
     ghost takes: { Self → List ℕ → List ℕ → Type 0 };
 
@@ -69,7 +69,7 @@ impl<'a, R: Files> Reader for SystemFiles<'a, R> {
     }
 }
 
-impl<'a, R: Files> Writer for SystemFiles<'a, R> {
+impl<'a, R: Files> FileWriter for SystemFiles<'a, R> {
     ghost takes = { λ _ _ _. Unit {0} };
 
     fn write(&self, name: &str, bytes: &[u8]) -> io::Result<()> {

@@ -23,5 +23,5 @@ mod telling;
 mod tracing;
 mod working;
 
-pub use file::{ReadFault, Reader, SystemFiles, Writer};
+pub use file::{FileWriter, ReadFault, Reader, SystemFiles};
 pub use performing::perform;

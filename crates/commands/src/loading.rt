@@ -4,9 +4,9 @@ ghost use Rattle.std.specs.Prelude.{◌≡◌, ◌≢◌, IfOk, IfErr};
 ghost use Rattle.loader.specs.Loading.{IsAccepted};
 ghost use Rattle.commands.specs.Accepted.{enough, AreRefused, HoldsNone};
 ghost use Rattle.commands.specs.Inner.Statuses.{status_of_failure};
-ghost use Rattle.commands.specs.declared.status.Status.TheVariants as status;
+ghost use Rattle.commands.specs.declared.status.ExitStatus.TheVariants as status;
 
-use crate::failure::{Failure, Site};
+use crate::failure::{Failure, RefusalDetail};
 use crate::file::Reader;
 use imports::Linked;
 use limits::MAX_MODULE_BYTES;
@@ -17,11 +17,11 @@ use std::alloc::Global;
 /// One byte more than a module may have: whatever comes after it changes no answer.
 const ENOUGH: usize = MAX_MODULE_BYTES + 1;
 
-fn site_of(alloc: Global, bytes: &[u8], refusal: Refusal) -> Site {
+fn site_of(alloc: Global, bytes: &[u8], refusal: Refusal) -> RefusalDetail {
     if bytes.len() > MAX_MODULE_BYTES {
-        return Site::TooLong;
+        return RefusalDetail::TooLong;
     }
-    Site::Told(explain(refusal, alloc, bytes))
+    RefusalDetail::Told(explain(refusal, alloc, bytes))
 }
 
 fn refused(alloc: Global, bytes: &[u8], refusal: Refusal) -> Failure<'static>

@@ -13,11 +13,11 @@ ghost use Rattle.commands.specs.Performing.{HasInvoked, IsCallOf, Returns, IsDon
 use crate::arguments::values;
 use crate::calling::{Called, call, has_returned};
 use crate::failure::Failure;
-use crate::file::{Reader, Writer};
+use crate::file::{FileWriter, Reader};
 use crate::loading::{load, load_whole};
 use crate::scripting::script;
 use crate::serving::serve_file;
-use crate::status::Status;
+use crate::status::ExitStatus;
 use crate::tracing::tell_used;
 use crate::working::work;
 use events::ended::{Ended, Ending};
@@ -25,7 +25,7 @@ use imports::Linked;
 use order::Trail;
 use places::Shown;
 use resident::{Resident, exported_function};
-use sentences::{Allowed, EndedLine, Stopped, tell_stopped, warn};
+use sentences::{Allowed, EndedLine, Unfinished, tell_stopped, warn};
 use serve::{Job, Task};
 use std::alloc::{AllocError, Global};
 use std::io::{self, Write};
@@ -40,16 +40,16 @@ fn check<'a, R: Reader, O: Write, E: Write>(
     reader: &R,
     out: &mut O,
     err: &mut E,
-) -> Result<Status, Failure<'a>>
+) -> Result<ExitStatus, Failure<'a>>
     ensures accepted { OnOk result ((contents : Contents) × HoldsModule (R.gives reader.now) file.now contents) }
     ensures told { OnOk result (Appends (O.contents out.old) (O.contents out.new) (codes "accepted\n")) }
-    ensures done { IfOk result (λ status. status ≡ Status.Done) }
-    ensures refused { IfErr result (λ f. status_of_failure f ≡ Status.Refused → HoldsNone (R.gives reader.now) file.now) }
+    ensures done { IfOk result (λ status. status ≡ ExitStatus.Done) }
+    ensures refused { IfErr result (λ f. status_of_failure f ≡ ExitStatus.Refused → HoldsNone (R.gives reader.now) file.now) }
 {
     let linked = load(alloc, reader, file)?;
     out.write_all(b"accepted\n")?;
     warn(&linked, err);
-    Ok(Status::Done)
+    Ok(ExitStatus::Done)
 }
 
 /// Calls the function of the module that the words name, with the arguments that they spell.
@@ -81,14 +81,14 @@ fn call_named<'a>(
 }
 
 /// Tells how a call ended. Done, where the function was called and returned.
-fn tell_called<O: Write>(called: &Called, out: &mut O) -> io::Result<Status>
-    ensures { IfOk result (λ status. status ≡ Status.Done → HasFunctionReturned called.now) }
+fn tell_called<O: Write>(called: &Called, out: &mut O) -> io::Result<ExitStatus>
+    ensures { IfOk result (λ status. status ≡ ExitStatus.Done → HasFunctionReturned called.now) }
 {
     match called {
         Called::Start(ended) => {
             let line = EndedLine(ended);
             writeln!(out, "start {line}")?;
-            Ok(Status::Ended)
+            Ok(ExitStatus::Ended)
         }
         Called::Function(ended) => {
             let line = EndedLine(ended);
@@ -98,13 +98,13 @@ fn tell_called<O: Write>(called: &Called, out: &mut O) -> io::Result<Status>
     }
 }
 
-fn status_of(ending: &Ending) -> Status
-    ensures { result ≡ Status.Done → HasReturned ending.now }
+fn status_of(ending: &Ending) -> ExitStatus
+    ensures { result ≡ ExitStatus.Done → HasReturned ending.now }
 {
     if has_returned(ending) {
-        return Status::Done;
+        return ExitStatus::Done;
     }
-    Status::Ended
+    ExitStatus::Ended
 }
 
 /// What was called, and how it ended.
@@ -128,7 +128,7 @@ fn explain<E: Write>(
         return Ok(());
     };
     let allowed = Allowed::by_options(invocation.depth);
-    match Stopped::of_call(ended, &Trail::of(&stop), allowed) {
+    match Unfinished::of_call(ended, &Trail::of(&stop), allowed) {
         Some(stopped) => tell_stopped(&Shown(what), bytes, &stopped, err),
         None => Ok(()),
     }
@@ -151,8 +151,8 @@ fn call_and_tell<'a, O: Write, E: Write>(
     invocation: &'a Invocation,
     out: &mut O,
     err: &mut E,
-) -> Result<Status, Failure<'a>>
-    ensures { IfOk result (λ status. status ≡ Status.Done → Returns (arc_value linked).contents invocation.now) }
+) -> Result<ExitStatus, Failure<'a>>
+    ensures { IfOk result (λ status. status ≡ ExitStatus.Done → Returns (arc_value linked).contents invocation.now) }
 {
     let (called, resident) = call_named(alloc, linked, invocation)?;
     let status = tell_called(&called, out)?;
@@ -169,8 +169,8 @@ fn invoke<'a, R: Reader, O: Write, E: Write>(
     reader: &R,
     out: &mut O,
     err: &mut E,
-) -> Result<Status, Failure<'a>>
-    ensures { IfOk result (λ status. status ≡ Status.Done → HasInvoked (R.gives reader.now) invocation.entry.now) }
+) -> Result<ExitStatus, Failure<'a>>
+    ensures { IfOk result (λ status. status ≡ ExitStatus.Done → HasInvoked (R.gives reader.now) invocation.entry.now) }
 {
     let loaded = load_whole(alloc, reader, invocation.file.as_str())?;
     let linked = Arc::new(alloc, loaded.0)?;
@@ -185,27 +185,32 @@ fn tell_unprinted<E: Write>(reason: io::Error, err: &mut E) -> io::Result<()> {
 }
 
 /// Tells that a module is refused. Where that can't be written, the output is what failed.
-fn tell_refused<O: Write, E: Write>(failure: &Failure<'_>, out: &mut O, err: &mut E) -> Status
-    ensures { (result ≡ Status.Refused) ⊎ (result ≡ Status.Failed) }
+fn tell_refused<O: Write, E: Write>(failure: &Failure<'_>, out: &mut O, err: &mut E) -> ExitStatus
+    ensures { (result ≡ ExitStatus.Refused) ⊎ (result ≡ ExitStatus.Failed) }
 {
     match writeln!(out, "{failure}") {
-        Ok(()) => Status::Refused,
+        Ok(()) => ExitStatus::Refused,
         Err(reason) => {
             // a sentence that can't be written changes nothing
             let _ = tell_unprinted(reason, err);
-            Status::Failed
+            ExitStatus::Failed
         }
     }
 }
 
 /// Tells why there is no result: everything to `err`, but where results go to `out` a refused module.
-fn tell<O: Write, E: Write>(failure: &Failure<'_>, is_raw: bool, out: &mut O, err: &mut E) -> Status
-    ensures done { result ≢ Status.Done }
-    ensures ended { result ≢ Status.Ended }
-    ensures refused { result ≡ Status.Refused → status_of_failure failure.now ≡ Status.Refused }
+fn tell<O: Write, E: Write>(
+    failure: &Failure<'_>,
+    is_raw: bool,
+    out: &mut O,
+    err: &mut E,
+) -> ExitStatus
+    ensures done { result ≢ ExitStatus.Done }
+    ensures ended { result ≢ ExitStatus.Ended }
+    ensures refused { result ≡ ExitStatus.Refused → status_of_failure failure.now ≡ ExitStatus.Refused }
 {
     let status = match failure.status() {
-        Status::Refused if !is_raw => tell_refused(failure, out, err),
+        ExitStatus::Refused if !is_raw => tell_refused(failure, out, err),
         status => {
             // a sentence that can't be written changes nothing
             let _ = writeln!(err, "{failure}");
@@ -218,16 +223,16 @@ fn tell<O: Write, E: Write>(failure: &Failure<'_>, is_raw: bool, out: &mut O, er
 
 /// What the program ends with. Why there is no result is reported.
 fn status_from<O: Write, E: Write>(
-    ended: Result<Status, Failure<'_>>,
+    ended: Result<ExitStatus, Failure<'_>>,
     is_raw: bool,
     out: &mut O,
     err: &mut E,
-) -> Status
-    ensures done { result ≡ Status.Done → ended.entry ≡ Ok Status.Done }
-    ensures kept { result ≡ Status.Done → (out.new ≡ out.old) × (err.new ≡ err.old) }
-    ensures ended { result ≡ Status.Ended → ended.entry ≡ Ok Status.Ended }
-    ensures kept_ended { result ≡ Status.Ended → (out.new ≡ out.old) × (err.new ≡ err.old) }
-    ensures refused { result ≡ Status.Refused → status_of_end ended.entry ≡ Status.Refused }
+) -> ExitStatus
+    ensures done { result ≡ ExitStatus.Done → ended.entry ≡ Ok ExitStatus.Done }
+    ensures kept { result ≡ ExitStatus.Done → (out.new ≡ out.old) × (err.new ≡ err.old) }
+    ensures ended { result ≡ ExitStatus.Ended → ended.entry ≡ Ok ExitStatus.Ended }
+    ensures kept_ended { result ≡ ExitStatus.Ended → (out.new ≡ out.old) × (err.new ≡ err.old) }
+    ensures refused { result ≡ ExitStatus.Refused → status_of_end ended.entry ≡ ExitStatus.Refused }
 {
     match ended {
         Ok(status) => status,
@@ -252,7 +257,7 @@ fn run<
     H: Threads + Wait + Sync,
     M: Fn(Task) -> Result<J, AllocError> + Sync,
     J: Job + Send,
-    F: Reader + Writer,
+    F: Reader + FileWriter,
     O: Write,
     E: Write + Send,
 >(
@@ -263,10 +268,10 @@ fn run<
     out: &mut O,
     err: &mut E,
     make: &M,
-) -> Result<Status, Failure<'a>>
+) -> Result<ExitStatus, Failure<'a>>
     requires make { M.IsAlwaysCallable make.now }
     ensures done { OnDone result (IsDone (F.gives files.now) (F.takes files.now) (O.contents out.old) (O.contents out.new) (E.contents err.old) (E.contents err.new) command.now) }
-    ensures refused { status_of_end result ≡ Status.Refused → IsRefusedBy (F.gives files.now) command.now }
+    ensures refused { status_of_end result ≡ ExitStatus.Refused → IsRefusedBy (F.gives files.now) command.now }
     ensures ended { OnEnded result (IsEnded (F.gives files.now) (F.takes files.now) (O.contents out.old) (O.contents out.new) command.now) }
 {
     match command {
@@ -286,7 +291,7 @@ pub fn perform<
     H: Threads + Wait + Sync,
     M: Fn(Task) -> Result<J, AllocError> + Sync,
     J: Job + Send,
-    F: Reader + Writer,
+    F: Reader + FileWriter,
     O: Write,
     E: Write + Send,
 >(rt: &H, alloc: Global, command: &Command, files: &F, out: &mut O, err: &mut E, make: &M) -> u8

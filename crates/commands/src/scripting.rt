@@ -14,14 +14,14 @@ use crate::calling::has_returned;
 use crate::failure::Failure;
 use crate::file::Reader;
 use crate::loading::accept;
-use crate::status::Status;
+use crate::status::ExitStatus;
 use events::ended::Ended;
 use imports::Linked;
 use limits::{MAX_DEPTH, MAX_SCRIPT_BYTES};
 use order::Trail;
 use script::{LoopPlan, Plan, ScriptFault, print, read};
 use sentences::{
-    Allowed, Counts, Grouped, Missing, Ran, Reason, Stopped, script_fault, tell_stopped,
+    Allowed, Counts, Grouped, Missing, Ran, Reason, Unfinished, script_fault, tell_stopped,
 };
 use std::alloc::{AllocError, Global};
 use std::io::{self, Write};
@@ -165,13 +165,13 @@ fn tells_no_failure(entry: &LogEntry) -> bool
 }
 
 /// Done, if every callback returned.
-fn status_of(log: &Log) -> Status
-    ensures { (result ≡ Status.Done) ↔ All TellsNoFailure log.now.entries }
+fn status_of(log: &Log) -> ExitStatus
+    ensures { (result ≡ ExitStatus.Done) ↔ All TellsNoFailure log.now.entries }
 {
     if log.entries().iter().all(tells_no_failure) {
-        return Status::Done;
+        return ExitStatus::Done;
     }
-    Status::Ended
+    ExitStatus::Ended
 }
 
 /// Prints what each step did.
@@ -183,12 +183,12 @@ fn tell_log<O: Write>(alloc: Global, log: &Log, out: &mut O) -> Result<(), Failu
     Ok(())
 }
 
-fn tell_fault<O: Write>(fault: WorldFault, out: &mut O) -> Result<Status, Failure<'static>>
-    ensures { IfOk result (λ status. status ≡ Status.Failed) }
+fn tell_fault<O: Write>(fault: WorldFault, out: &mut O) -> Result<ExitStatus, Failure<'static>>
+    ensures { IfOk result (λ status. status ≡ ExitStatus.Failed) }
 {
     let code = fault.code();
     writeln!(out, "fault {code}")?;
-    Ok(Status::Failed)
+    Ok(ExitStatus::Failed)
 }
 
 /// Says why this step, counted from 0, was not taken.
@@ -252,7 +252,7 @@ fn explain_callback<E: Write>(
     };
     let bytes = module_bytes(plan, ran.loop_no);
     let allowed = Allowed::by_keys(depth_of(plan, ran.loop_no));
-    match Stopped::of_call(ended, &Trail::of(&stop), allowed) {
+    match Unfinished::of_call(ended, &Trail::of(&stop), allowed) {
         Some(stopped) => tell_stopped(&ran, bytes, &stopped, err),
         None => Ok(()),
     }
@@ -266,7 +266,7 @@ fn explain_work<E: Write>(world: &World, plan: &Plan, job: JobId, err: &mut E) -
     let Some(reason) = Reason::of_work(undone.ending) else {
         return Ok(());
     };
-    let stopped = Stopped {
+    let stopped = Unfinished {
         reason,
         used: undone.used,
         trail: &undone.trail,
@@ -308,8 +308,8 @@ fn take_steps<O: Write, E: Write>(
     plan: &Plan,
     out: &mut O,
     err: &mut E,
-) -> Result<Status, Failure<'static>>
-    ensures { IfOk result (λ status. status ≡ Status.Done → HasTaken plan.now.steps.items world.old (O.contents out.old) (O.contents out.new)) }
+) -> Result<ExitStatus, Failure<'static>>
+    ensures { IfOk result (λ status. status ≡ ExitStatus.Done → HasTaken plan.now.steps.items world.old (O.contents out.old) (O.contents out.new)) }
 {
     let mut log = Log::new(alloc);
     let ran = world.run(plan.steps.as_slice(), &mut log);
@@ -342,8 +342,8 @@ pub fn script<'a, R: Reader, O: Write, E: Write>(
     reader: &R,
     out: &mut O,
     err: &mut E,
-) -> Result<Status, Failure<'a>>
-    ensures { IfOk result (λ status. status ≡ Status.Done → HasRun (R.gives reader.now) (O.contents out.old) (O.contents out.new) file.now) }
+) -> Result<ExitStatus, Failure<'a>>
+    ensures { IfOk result (λ status. status ≡ ExitStatus.Done → HasRun (R.gives reader.now) (O.contents out.old) (O.contents out.new) file.now) }
 {
     let plan = plan_of(alloc, file, reader)?;
     let mut world = world_of(alloc, &plan)?;

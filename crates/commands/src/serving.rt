@@ -9,7 +9,7 @@ ghost use Rattle.commands.specs.Serving.{HasNotFailed, AreServed, HasServedAll};
 use crate::failure::Failure;
 use crate::file::Reader;
 use crate::loading::load;
-use crate::status::Status;
+use crate::status::ExitStatus;
 use crate::telling::Teller;
 use crate::tracing::Trace;
 use imports::Linked;
@@ -19,10 +19,10 @@ use std::alloc::{AllocError, Global};
 use std::io::{self, BufWriter, Write};
 use std::sync::{Arc, Wait};
 use std::thread::Threads;
-use words::Service;
+use words::ServeCommand;
 
 /// How many threads there are, and what each loop may spend.
-fn serving_of(service: &Service) -> Serving
+fn serving_of(service: &ServeCommand) -> Serving
     ensures loops { result.loops ≡ service.now.loops }
     ensures settings { result.settings ≡ service.now.settings }
 {
@@ -48,13 +48,13 @@ fn has_not_failed(served: &Served) -> bool
 }
 
 /// Done, where no loop failed.
-fn status_of(served: &[Served]) -> Status
-    ensures { (result ≡ Status.Done) ↔ All HasNotFailed served.now }
+fn status_of(served: &[Served]) -> ExitStatus
+    ensures { (result ≡ ExitStatus.Done) ↔ All HasNotFailed served.now }
 {
     if served.iter().all(has_not_failed) {
-        return Status::Done;
+        return ExitStatus::Done;
     }
-    Status::Ended
+    ExitStatus::Ended
 }
 
 /// The module of the file, to be shared. What it lacks is reported.
@@ -108,13 +108,13 @@ fn serve_module<
     rt: &H,
     alloc: Global,
     linked: Arc<Linked>,
-    service: &Service,
+    service: &ServeCommand,
     lines: &mut O,
     err: &mut E,
     make: &M,
-) -> Result<Status, Failure<'static>>
+) -> Result<ExitStatus, Failure<'static>>
     requires { M.IsAlwaysCallable make.now }
-    ensures { IfOk result (λ status. status ≡ Status.Done → AreServed service.now (arc_value linked)) }
+    ensures { IfOk result (λ status. status ≡ ExitStatus.Done → AreServed service.now (arc_value linked)) }
 {
     let same = Arc::try_clone(&linked)?;
     let serving = serving_of(service);
@@ -144,14 +144,14 @@ pub fn serve_file<
 >(
     rt: &H,
     alloc: Global,
-    service: &'a Service,
+    service: &'a ServeCommand,
     reader: &R,
     out: &mut O,
     err: &mut E,
     make: &M,
-) -> Result<Status, Failure<'a>>
+) -> Result<ExitStatus, Failure<'a>>
     requires make { M.IsAlwaysCallable make.now }
-    ensures { IfOk result (λ status. status ≡ Status.Done → HasServedAll (R.gives reader.now) service.now) }
+    ensures { IfOk result (λ status. status ≡ ExitStatus.Done → HasServedAll (R.gives reader.now) service.now) }
 {
     let linked = shared(alloc, reader, service.file.as_str(), err)?;
     let mut lines = BufWriter::new(alloc, out)?;

@@ -4,18 +4,18 @@ use events::phase::EntryKind;
 use imports::EntryPoint;
 use limits::{MAX_BYTES, MAX_DEPTH};
 use order::{Order, Told};
-use sentences::{Allowed, Ran, Stopped, What, tell_stopped, unit_of, warn_refused};
+use sentences::{Allowed, Ran, Unfinished, What, tell_stopped, unit_of, warn_refused};
 use serve::{Account, Callback, LoopEnding, Served};
 use std::alloc::Global;
 use std::io::{self, Write};
-use words::Service;
+use words::ServeCommand;
 
 /// Tells why loops of a module of these bytes, which were served so, ended as they did.
 #[derive(Drop)]
 pub struct Teller<'a> {
     pub alloc: Global,
     pub bytes: &'a [u8],
-    pub service: &'a Service,
+    pub service: &'a ServeCommand,
 }
 
 /// Runs an order once more, which ends as it did the first time.
@@ -33,10 +33,10 @@ fn run_again(alloc: Global, order: Order) -> Option<Told> {
 }
 
 /// How the last callback of a loop ended, if it did not return.
-fn last_stopped(served: &Served, depth: u32) -> Option<(Ran, Stopped<'_>)> {
+fn last_stopped(served: &Served, depth: u32) -> Option<(Ran, Unfinished<'_>)> {
     let Callback { kind, number } = served.account.last()?;
     let (ended, trail) = (served.account.stopped()?, served.trail.as_ref()?);
-    let stopped = Stopped::of_call(ended, trail, Allowed::by_options(depth))?;
+    let stopped = Unfinished::of_call(ended, trail, Allowed::by_options(depth))?;
     Some((Ran::callback(served.loop_no, kind, number), stopped))
 }
 
@@ -150,7 +150,7 @@ impl Teller<'_> {
 
     fn tell_undone<E: Write>(&self, ran: Ran, told: &Told, err: &mut E) -> io::Result<()> {
         let allowed = Allowed::of_work_by_options(self.service.settings.depth);
-        match Stopped::of_told(told, allowed) {
+        match Unfinished::of_told(told, allowed) {
             Some(stopped) => tell_stopped(&ran, self.bytes, &stopped, err),
             None => Ok(()),
         }

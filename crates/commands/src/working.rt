@@ -11,16 +11,16 @@ ghost use Rattle.commands.specs.Inner.Statuses.{OnDone, OnEnded};
 ghost use Rattle.commands.specs.Working.{asked_order, enough_of_input, done_words, line, end_line, short_line, IsInput, IsRaw, IsResult, IsSaid, TakesReply, PutsOut, HasWorked, HasStopped};
 
 use crate::failure::Failure;
-use crate::file::{Reader, Writer};
+use crate::file::{FileWriter, Reader};
 use crate::loading::load;
-use crate::status::Status;
+use crate::status::ExitStatus;
 use crate::tracing::tell_used;
 use events::trap::TrapCode;
 use imports::{EntryPoint, Linked};
 use limits::MAX_BYTES;
 use order::laws::one_end;
 use order::{Order, Outcome, Told, Trail};
-use sentences::{Allowed, Stopped, tell_stopped};
+use sentences::{Allowed, Unfinished, tell_stopped};
 use std::alloc::{AllocError, Global};
 use std::io::{self, Write};
 use std::sync::Arc;
@@ -173,7 +173,7 @@ fn tell_whole<O: Write>(
 }
 
 /// Makes a file of these bytes.
-fn write_file<'a, W: Writer>(name: &'a str, bytes: &[u8], writer: &W) -> Result<(), Failure<'a>>
+fn write_file<'a, W: FileWriter>(name: &'a str, bytes: &[u8], writer: &W) -> Result<(), Failure<'a>>
     ensures { OnOk result (W.takes writer.now name.now bytes.now) }
 {
     match writer.write(name, bytes) {
@@ -183,7 +183,7 @@ fn write_file<'a, W: Writer>(name: &'a str, bytes: &[u8], writer: &W) -> Result<
 }
 
 /// Makes a file of a result's bytes, and of another end none.
-fn keep_reply<'a, W: Writer>(
+fn keep_reply<'a, W: FileWriter>(
     outcome: &Outcome,
     name: &'a str,
     writer: &W,
@@ -207,7 +207,7 @@ fn write_raw<O: Write>(outcome: &Outcome, out: &mut O) -> Result<(), Failure<'st
 }
 
 /// Writes an end where the words say.
-fn tell_outcome<'a, W: Writer, O: Write, E: Write>(
+fn tell_outcome<'a, W: FileWriter, O: Write, E: Write>(
     alloc: Global,
     outcome: &Outcome,
     output: &'a WorkOutput,
@@ -231,12 +231,12 @@ fn tell_outcome<'a, W: Writer, O: Write, E: Write>(
     }
 }
 
-fn status_of(outcome: &Outcome) -> Status
-    ensures { (result ≡ Status.Done) ↔ IsResult (end_of outcome.now) }
+fn status_of(outcome: &Outcome) -> ExitStatus
+    ensures { (result ≡ ExitStatus.Done) ↔ IsResult (end_of outcome.now) }
 {
     match outcome {
-        Outcome::Done(_, _) => Status::Done,
-        Outcome::Trap(_) | Outcome::Depth | Outcome::Spent | Outcome::NoMemory => Status::Ended,
+        Outcome::Done(_, _) => ExitStatus::Done,
+        Outcome::Trap(_) | Outcome::Depth | Outcome::Spent | Outcome::NoMemory => ExitStatus::Ended,
     }
 }
 
@@ -284,7 +284,7 @@ fn name_of_run(contents: &Contents, trail: &Trail) -> &'static str {
 fn explain<E: Write>(told: &Told, err: &mut E) -> io::Result<()> {
     let module = told.reply.order.module.valid().module();
     let allowed = Allowed::by_options(told.reply.order.depth);
-    match Stopped::of_told(told, allowed) {
+    match Unfinished::of_told(told, allowed) {
         Some(stopped) => {
             let what = name_of_run(module.contents(), stopped.trail);
             tell_stopped(&what, module.bytes(), &stopped, err)
@@ -326,13 +326,13 @@ fn say_more<E: Write>(told: &Told, work: &WorkRequest, err: &mut E)
 
 /// Lets the module of the file compute the reply of a work order, and reports what came of it. Done, where that is a value
 /// and bytes. The input is read first.
-pub fn work<'a, F: Reader + Writer, O: Write, E: Write>(
+pub fn work<'a, F: Reader + FileWriter, O: Write, E: Write>(
     alloc: Global,
     work: &'a WorkRequest,
     files: &F,
     out: &mut O,
     err: &mut E,
-) -> Result<Status, Failure<'a>>
+) -> Result<ExitStatus, Failure<'a>>
     ensures done { OnDone result (HasWorked (F.gives files.now) (F.takes files.now) (O.contents out.old) (O.contents out.new) (E.contents err.old) (E.contents err.new) work.entry.now) }
     ensures ended { OnEnded result (HasStopped (F.gives files.now) (F.takes files.now) (O.contents out.old) (O.contents out.new) work.entry.now) }
 {

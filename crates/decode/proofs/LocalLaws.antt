@@ -7,8 +7,8 @@ use Rattle.syntax.specs.Language.{Language, items, u32, Leaves, IsPrefixFree}
 use Rattle.syntax.specs.Binary.{Locals, group, ungrouped}
 use Rattle.syntax.proofs.Joins.{joined, apart, items_none, free_u32, items_few}
 use Rattle.syntax.proofs.ModuleLaws.{free_group, leaves_locals}
-use Rattle.decode.specs.declared.stop.Stop.{Stop}
-use Rattle.decode.specs.Inner.Reading.{NoneLeaves, Reads}
+use Rattle.decode.specs.declared.stop.ReadingStop.{ReadingStop}
+use Rattle.decode.specs.Inner.Reading.{NoneLeaves, ReadsText}
 use Rattle.decode.specs.Inner.Locals.{LocalsOf}
 use Rattle.decode.proofs.Exits.{past}
 use Rattle.decode.proofs.ItemLaws.{items_push, none_beyond}
@@ -91,8 +91,8 @@ too_many {count} {read} {types} {bytes} {mid} {behind} g l h k long all rest w =
     omega (arith, types_all, types_now, pushed, length-append (ungrouped gs) (ungrouped b.more), length-append (ungrouped h.groups) (replicate g.0 g.1), length-replicate g.0 g.1)
 
 -- a count, and the locals of so many groups
-pub locals_counted : {count : ℕ} {bytes mid : List ℕ} → Leaves (u32 count) bytes mid → (result : Result (List ValType × Bor (List ℕ)) Stop)
-    → Reads (LocalsOf count) mid result → Reads Locals bytes result
+pub locals_counted : {count : ℕ} {bytes mid : List ℕ} → Leaves (u32 count) bytes mid → (result : Result (List ValType × Bor (List ℕ)) ReadingStop)
+    → ReadsText (LocalsOf count) mid result → ReadsText Locals bytes result
 locals_counted {count} {bytes} {mid} h (Ok r) k =
     let s = k.spelled in
     let all = joined (subst (λ n. Leaves (u32 n) bytes mid) (sym s.as_many) h) (record { front = k.front; spelled = s.spelled; split = k.split }) in

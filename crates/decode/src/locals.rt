@@ -2,13 +2,13 @@
 
 ghost use Rattle.std.specs.Prelude.{List, ℕ};
 ghost use Rattle.syntax.specs.Binary.{Locals, group as spells_group};
-ghost use Rattle.decode.specs.Inner.Reading.{Reads, ReadsBy};
+ghost use Rattle.decode.specs.Inner.Reading.{ReadsText, ReadsBy};
 ghost use Rattle.decode.specs.Inner.Locals.{LocalsOf, as_pair};
 
 use crate::fault::DecodeFault;
 use crate::integers::unsigned;
 use crate::spelled::Spelled;
-use crate::stop::Stop;
+use crate::stop::ReadingStop;
 use limits::MAX_LOCALS;
 use std::alloc::Global;
 use syntax::items::Items;
@@ -22,26 +22,30 @@ pub(crate) struct LocalGroup {
 }
 
 /// The locals of a body, which stand in groups.
-pub(crate) fn locals(alloc: Global, bytes: &[u8]) -> Result<(Items<ValType>, &[u8]), Stop>
-    ensures { Reads Locals bytes.now result }
+pub(crate) fn locals(alloc: Global, bytes: &[u8]) -> Result<(Items<ValType>, &[u8]), ReadingStop>
+    ensures { ReadsText Locals bytes.now result }
 {
     let (groups, rest) = unsigned(bytes)?;
     if groups as usize > rest.len() {
-        return Err(Stop::at_end(DecodeFault::End));
+        return Err(ReadingStop::at_end(DecodeFault::End));
     }
     read_groups(alloc, rest, groups)
 }
 
 /// The locals of so many groups. No group takes memory before its count is known to fit.
-fn read_groups(alloc: Global, bytes: &[u8], groups: u32) -> Result<(Items<ValType>, &[u8]), Stop>
-    ensures { Reads (LocalsOf groups) bytes.now result }
+fn read_groups(
+    alloc: Global,
+    bytes: &[u8],
+    groups: u32,
+) -> Result<(Items<ValType>, &[u8]), ReadingStop>
+    ensures { ReadsText (LocalsOf groups) bytes.now result }
 {
     let mut all = Vec::new(alloc);
     let mut rest = bytes;
     for _ in 0..groups {
         let (next, behind) = group(alloc, rest)?;
         if next.count as usize > MAX_LOCALS - all.len() {
-            return Err(Stop::behind(DecodeFault::Limit, behind));
+            return Err(ReadingStop::behind(DecodeFault::Limit, behind));
         }
         all.resize(all.len() + next.count as usize, next.value_type)?;
         rest = behind;
@@ -49,7 +53,7 @@ fn read_groups(alloc: Global, bytes: &[u8], groups: u32) -> Result<(Items<ValTyp
     Ok((Items::from_vec(all), rest))
 }
 
-fn group(alloc: Global, bytes: &[u8]) -> Result<(LocalGroup, &[u8]), Stop>
+fn group(alloc: Global, bytes: &[u8]) -> Result<(LocalGroup, &[u8]), ReadingStop>
     ensures { ReadsBy as_pair spells_group bytes.now result }
 {
     let (count, rest) = unsigned(bytes)?;

@@ -9,42 +9,42 @@ use std::alloc::{AllocError, AllocFailed};
 
 /// Why reading stops, and where.
 #[derive(Clone, Copy)]
-pub(crate) struct Stop {
+pub(crate) struct ReadingStop {
     pub fault: DecodeFault,
     /// How many bytes of the text there are from the place on.
     pub left: usize,
 }
 
-impl Stop {
+impl ReadingStop {
     /// At the end of the text.
-    pub(crate) fn at_end(fault: DecodeFault) -> Stop
+    pub(crate) fn at_end(fault: DecodeFault) -> ReadingStop
         ensures { result.fault ≡ fault }
     {
-        Stop { fault, left: 0 }
+        ReadingStop { fault, left: 0 }
     }
 
     /// At the first of the bytes that are left.
-    pub(crate) fn before(fault: DecodeFault, rest: &[u8]) -> Stop
+    pub(crate) fn before(fault: DecodeFault, rest: &[u8]) -> ReadingStop
         ensures { result.fault ≡ fault }
     {
-        Stop {
+        ReadingStop {
             fault,
             left: rest.len(),
         }
     }
 
     /// At the byte before those that are left.
-    pub(crate) fn behind(fault: DecodeFault, rest: &[u8]) -> Stop
+    pub(crate) fn behind(fault: DecodeFault, rest: &[u8]) -> ReadingStop
         ensures { result.fault ≡ fault }
     {
-        Stop::before(fault, rest).followed_by(1)
+        ReadingStop::before(fault, rest).followed_by(1)
     }
 
     /// At the last byte of an integer at the start, which has at most `longest` bytes.
-    pub(crate) fn in_integer(fault: LebFault, bytes: &[u8], longest: usize) -> Stop {
+    pub(crate) fn in_integer(fault: LebFault, bytes: &[u8], longest: usize) -> ReadingStop {
         match fault {
-            LebFault::End => Stop::at_end(DecodeFault::End),
-            LebFault::TooLong | LebFault::Range => Stop {
+            LebFault::End => ReadingStop::at_end(DecodeFault::End),
+            LebFault::TooLong | LebFault::Range => ReadingStop {
                 fault: DecodeFault::Leb,
                 left: bytes.len().saturating_sub(longest).saturating_add(1),
             },
@@ -52,36 +52,36 @@ impl Stop {
     }
 
     /// This stop in a text after which so many more bytes are read.
-    pub(crate) fn followed_by(self, bytes: usize) -> Stop
+    pub(crate) fn followed_by(self, bytes: usize) -> ReadingStop
         ensures { result.fault ≡ self.fault }
     {
-        Stop {
+        ReadingStop {
             fault: self.fault,
             left: self.left.saturating_add(bytes),
         }
     }
 }
 
-impl From<AllocError> for Stop {
+impl From<AllocError> for ReadingStop {
     ghost from_gives = { λ _ stop. stop.fault ≡ Memory };
 
-    fn from(_failed: AllocError) -> Stop {
-        Stop::at_end(DecodeFault::Memory)
+    fn from(_failed: AllocError) -> ReadingStop {
+        ReadingStop::at_end(DecodeFault::Memory)
     }
 }
 
-impl<T: Drop> From<AllocFailed<T>> for Stop {
+impl<T: Drop> From<AllocFailed<T>> for ReadingStop {
     ghost from_gives = { λ _ stop. stop.fault ≡ Memory };
 
-    fn from(_failed: AllocFailed<T>) -> Stop {
-        Stop::at_end(DecodeFault::Memory)
+    fn from(_failed: AllocFailed<T>) -> ReadingStop {
+        ReadingStop::at_end(DecodeFault::Memory)
     }
 }
 
-impl From<Stop> for DecodeFault {
+impl From<ReadingStop> for DecodeFault {
     ghost from_gives = { λ stop fault. fault ≡ stop.fault };
 
-    fn from(stop: Stop) -> DecodeFault {
+    fn from(stop: ReadingStop) -> DecodeFault {
         stop.fault
     }
 }

@@ -9,7 +9,7 @@ use Rattle.phases.proofs.Asyncs.{Few, event_few, async_below}
 use Rattle.phases.proofs.Mirroring.{Anyhow, step_mirrors, cancel_mirrors, request_mirrors}
 use Rattle.desk.specs.Desk.{Desk, new_desk}
 use Rattle.desk.specs.Others.{busy_calls}
-use Rattle.desk.specs.Laws.{Passed, Passes, GoesAtDesk, PassesAtDesk, IsAtDesk}
+use Rattle.desk.specs.Laws.{Passed, PassesThrough, GoesAtDesk, PassesAtDesk, IsAtDesk}
 use Rattle.desk.proofs.Standing.{Stands, standing, stands_moved}
 
 module _ {S : Type 0} (calls : Calls S) (lawful : IsLawful calls) (g : Setting) where
@@ -43,7 +43,7 @@ module _ {S : Type 0} (calls : Calls S) (lawful : IsLawful calls) (g : Setting) 
       (one.0, (one.1, h.1), one.2)
   follows (ClockRaised ms) old new d few r h = (d, ap (over d) h, kept old new d (ap (λ (l : Loop S). l.shared) h) r)
 
-  goes : (passed : List (Passed S)) (old now : Loop S) (d : Desk) → Few old.state → Stands calls lawful old.shared d → Passes calls g old passed now
+  goes : (passed : List (Passed S)) (old now : Loop S) (d : Desk) → Few old.state → Stands calls lawful old.shared d → PassesThrough calls g old passed now
       → (e : Desk) × PassesAtDesk g old passed d e × Stands calls lawful now.shared e
   goes [] old now d few r h = (d, refl, subst (λ (l : Loop S). Stands calls lawful l.shared d) (sym h) r)
   goes (p ∷ passed) old now d few r h =
@@ -55,7 +55,7 @@ module _ {S : Type 0} (calls : Calls S) (lawful : IsLawful calls) (g : Setting) 
   begins : (l : Loop S) → IsOpening calls g l → Stands calls lawful l.shared (new_desk g.loop_no)
   begins l h = record { known = sym h.shared; waits = refl; wide = refl; found = λ c none. none }
 
-  pub at_desk : (start now : Loop S) (passed : List (Passed S)) → IsOpening calls g start → Passes calls g start passed now → IsAtDesk calls g start passed now
+  pub at_desk : (start now : Loop S) (passed : List (Passed S)) → IsOpening calls g start → PassesThrough calls g start passed now → IsAtDesk calls g start passed now
   at_desk start now passed opens h =
       let few : Few start.state = subst Few (sym opens.state) (omega arith) in
       let it = goes passed start now (new_desk g.loop_no) few (begins start opens) h in

@@ -7,10 +7,10 @@ use Rattle.limits.specs.declared.TheConstants.{MAX_ASYNCS, MAX_REQUESTS, MAX_SEN
 use Rattle.tallies.specs.Counts.{raised}
 use Rattle.tallies.proofs.Counts.{raised-there, raised-elsewhere, at-le-sum, sum-raised, length-raised}
 use Rattle.desk.specs.Desk.{Desk, sent_own, taken, sent_by_another}
-use Rattle.desk.specs.Inner.Rule.{AreCounts, IsCounted, IsSized, waiting_place}
+use Rattle.desk.specs.Inner.Rule.{AreCounts, SendsAreCounted, DeskIsSized, waiting_place}
 
 -- the lists keep their lengths
-pub own-sized : (d : Desk) (a : ℕ) → IsSized d → IsSized (sent_own d a)
+pub own-sized : (d : Desk) (a : ℕ) → DeskIsSized d → DeskIsSized (sent_own d a)
 own-sized d a is = record {
   own = length-raised d.view.own a 1 ∙ is.own;
   untaken = length-raised d.view.untaken a 1 ∙ is.untaken;
@@ -19,10 +19,10 @@ own-sized d a is = record {
   sent = is.sent;
 }
 
-pub others-sized : (d : Desk) (a : ℕ) → IsSized d → IsSized (sent_by_another d a)
+pub others-sized : (d : Desk) (a : ℕ) → DeskIsSized d → DeskIsSized (sent_by_another d a)
 others-sized d a is = record { own = is.own; untaken = is.untaken; taken = is.taken; waiting = length-raised d.waiting a 1 ∙ is.waiting; sent = length-raised d.sent a 1 ∙ is.sent }
 
-pub taken-sized : (d : Desk) (a : ℕ) → IsSized d → IsSized (taken d a)
+pub taken-sized : (d : Desk) (a : ℕ) → DeskIsSized d → DeskIsSized (taken d a)
 taken-sized d a is = record {
   own = is.own;
   untaken = length-set d.view.untaken a 0 ∙ is.untaken;
@@ -32,7 +32,7 @@ taken-sized d a is = record {
 }
 
 -- and the sums are counted
-pub own-counted : (d : Desk) (n m a : ℕ) → IsSized d → IsCounted d n m → a < MAX_ASYNCS → n < MAX_SENDS → IsCounted (sent_own d a) (n + 1) m
+pub own-counted : (d : Desk) (n m a : ℕ) → DeskIsSized d → SendsAreCounted d n m → a < MAX_ASYNCS → n < MAX_SENDS → SendsAreCounted (sent_own d a) (n + 1) m
 own-counted d n m a sized is there few = record {
   own = (let size = sized.own in let old = is.own in let more = sum-raised d.view.own a 1 (omega arith) in omega arith);
   own_most = omega arith;
@@ -40,7 +40,7 @@ own-counted d n m a sized is there few = record {
   others_most = is.others_most;
 }
 
-pub others-counted : (d : Desk) (n m a : ℕ) → IsSized d → IsCounted d n m → a < MAX_ASYNCS → m < MAX_SENDS → IsCounted (sent_by_another d a) n (m + 1)
+pub others-counted : (d : Desk) (n m a : ℕ) → DeskIsSized d → SendsAreCounted d n m → a < MAX_ASYNCS → m < MAX_SENDS → SendsAreCounted (sent_by_another d a) n (m + 1)
 others-counted d n m a sized is there few = record {
   own = is.own;
   own_most = is.own_most;
@@ -48,10 +48,10 @@ others-counted d n m a sized is there few = record {
   others_most = omega arith;
 }
 
-pub taken-counted : (d : Desk) (n m a : ℕ) → IsCounted d n m → IsCounted (taken d a) n m
+pub taken-counted : (d : Desk) (n m a : ℕ) → SendsAreCounted d n m → SendsAreCounted (taken d a) n m
 taken-counted d n m a is = record { own = is.own; own_most = is.own_most; others = is.others; others_most = is.others_most }
 
-module _ (words : List ℕ) (d : Desk) (a : ℕ) (size : length words ≡ MAX_REQUESTS + MAX_ASYNCS) (is : AreCounts words d) (sized : IsSized d) (there : a < MAX_ASYNCS) where
+module _ (words : List ℕ) (d : Desk) (a : ℕ) (size : length words ≡ MAX_REQUESTS + MAX_ASYNCS) (is : AreCounts words d) (sized : DeskIsSized d) (there : a < MAX_ASYNCS) where
   abbrev i : ℕ
   i = waiting_place a
 
@@ -126,7 +126,7 @@ module _ (words : List ℕ) (d : Desk) (a : ℕ) (size : length words ≡ MAX_RE
               omega arith
 
   -- what waits is within all sends, so that one more fits in a word
-  pub within : (n m : ℕ) → IsCounted d n m → slice_index words i ≤ MAX_SENDS + MAX_SENDS
+  pub within : (n m : ℕ) → SendsAreCounted d n m → slice_index words i ≤ MAX_SENDS + MAX_SENDS
   within n m counted =
       let own = sized.own in
       let sent = sized.sent in

@@ -9,7 +9,7 @@ use Rattle.limits.specs.declared.TheConstants.{MAX_ASYNCS, MAX_REQUESTS}
 use Rattle.tallies.specs.Requests.{is_request, times, last_in, is_pending}
 use Rattle.tallies.proofs.Requests.{by_test, is_request_itself, same_request, times_grow, times_hit, times_miss, pushed, last_in-push_same, last_in-push_other, last_counts}
 use Rattle.phases.specs.View.{IsAbove}
-use Rattle.desk.specs.Desk.{Desk, is_open, opened, cancelled, found_started, started}
+use Rattle.desk.specs.Desk.{Desk, is_open_request, opened, cancelled, found_started, started}
 use Rattle.desk.specs.Inner.Rule.{AreSlots}
 
 -- what an open request is: by its number, the last one of its slot, and how often it was cancelled and started
@@ -47,14 +47,14 @@ module _ (words : List ℕ) (d : Desk) (slot r : ℕ) (size : length words ≡ M
           | no ne ↦ absurd (none (omega arith))
         ]
 
-    opened-word : (s q : ℕ) → s < MAX_REQUESTS → 0 < q → (slice_index (set words slot r) s == q) ≡ is_open (opened d (slot, r)) (s, q)
+    opened-word : (s q : ℕ) → s < MAX_REQUESTS → 0 < q → (slice_index (set words slot r) s == q) ≡ is_open_request (opened d (slot, r)) (s, q)
     opened-word s q low some_number = elim (ℕ_discrete s slot) [
-      | yes e ↦ subst (λ (k : ℕ). (slice_index (set words slot r) k == q) ≡ is_open (opened d (slot, r)) (k, q)) (sym e) here
+      | yes e ↦ subst (λ (k : ℕ). (slice_index (set words slot r) k == q) ≡ is_open_request (opened d (slot, r)) (k, q)) (sym e) here
       | no ne ↦ ap (λ n. n == q) (elsewhere r s ne) ∙ is.word s q low some_number
           ∙ ap (λ n. tests q n (times (s, q) d.view.cancelled) (times (s, q) d.started)) (sym (last_in-push_other s d.view.opened (slot, r) (λ k. ne (sym k))))
     ]
       where
-        here : (slice_index (set words slot r) slot == q) ≡ is_open (opened d (slot, r)) (slot, q)
+        here : (slice_index (set words slot r) slot == q) ≡ is_open_request (opened d (slot, r)) (slot, q)
         here = elim (ℕ_discrete r q) [
           | yes e ↦ ap (λ n. n == q) (written r) ∙ eq-eqb r q e
               ∙ sym (holds q _ _ _ some_number (last_in-push_same slot r d.view.opened ∙ e)
@@ -71,15 +71,15 @@ module _ (words : List ℕ) (d : Desk) (slot r : ℕ) (size : length words ≡ M
     }
 
   -- the request is cancelled or started where it is open
-  module _ (open_there : is_open d (slot, r) ≡ true) where
+  module _ (open_there : is_open_request d (slot, r) ≡ true) where
     at : (last_in slot d.view.opened ≡ r) × (times (slot, r) d.view.cancelled ≡ 0) × (times (slot, r) d.started ≡ 0)
     at = parts r _ _ _ open_there
 
     -- where no request of the slot is open any more, and those of others are as they were
-    shut : (e : Desk) → ((q : ℕ) → 0 < q → is_open e (slot, q) ≡ false) → ((s q : ℕ) → s ≢ slot → is_open e (s, q) ≡ is_open d (s, q))
-        → (s q : ℕ) → s < MAX_REQUESTS → 0 < q → (slice_index (set words slot 0) s == q) ≡ is_open e (s, q)
+    shut : (e : Desk) → ((q : ℕ) → 0 < q → is_open_request e (slot, q) ≡ false) → ((s q : ℕ) → s ≢ slot → is_open_request e (s, q) ≡ is_open_request d (s, q))
+        → (s q : ℕ) → s < MAX_REQUESTS → 0 < q → (slice_index (set words slot 0) s == q) ≡ is_open_request e (s, q)
     shut e none same s q low some_number = elim (ℕ_discrete s slot) [
-      | yes k ↦ subst (λ (i : ℕ). (slice_index (set words slot 0) i == q) ≡ is_open e (i, q)) (sym k) (ap (λ n. n == q) (written 0) ∙ ne_eqb 0 q (λ z. omega arith) ∙ sym (none q some_number))
+      | yes k ↦ subst (λ (i : ℕ). (slice_index (set words slot 0) i == q) ≡ is_open_request e (i, q)) (sym k) (ap (λ n. n == q) (written 0) ∙ ne_eqb 0 q (λ z. omega arith) ∙ sym (none q some_number))
       | no ne ↦ ap (λ n. n == q) (elsewhere 0 s ne) ∙ is.word s q low some_number ∙ sym (same s q ne)
     ]
 
@@ -93,7 +93,7 @@ module _ (words : List ℕ) (d : Desk) (slot r : ℕ) (size : length words ≡ M
       found = is.found;
     }
       where
-        none : (q : ℕ) → 0 < q → is_open (cancelled d (slot, r)) (slot, q) ≡ false
+        none : (q : ℕ) → 0 < q → is_open_request (cancelled d (slot, r)) (slot, q) ≡ false
         none q some_number = fails q _ _ _ (λ last zero _. let more = times_hit (slot, r) (slot, r) d.view.cancelled (is_request_itself (slot, r)) in
             let here : times (slot, r) (d.view.cancelled ++ (slot, r) ∷ []) ≡ 0 = subst (λ k. times (slot, k) (d.view.cancelled ++ (slot, r) ∷ []) ≡ 0) (sym last ∙ at.0) zero in omega arith)
 
@@ -109,7 +109,7 @@ module _ (words : List ℕ) (d : Desk) (slot r : ℕ) (size : length words ≡ M
       found = λ c h. times_grow c (slot, r) d.started (is.found c h);
     }
       where
-        none : (q : ℕ) → 0 < q → is_open (started d (slot, r)) (slot, q) ≡ false
+        none : (q : ℕ) → 0 < q → is_open_request (started d (slot, r)) (slot, q) ≡ false
         none q some_number = fails q _ _ _ (λ last _ zero. let more = times_hit (slot, r) (slot, r) d.started (is_request_itself (slot, r)) in
             let here : times (slot, r) (d.started ++ (slot, r) ∷ []) ≡ 0 = subst (λ k. times (slot, k) (d.started ++ (slot, r) ∷ []) ≡ 0) (sym last ∙ at.0) zero in omega arith)
 
@@ -120,7 +120,7 @@ module _ (words : List ℕ) (d : Desk) (slot r : ℕ) (size : length words ≡ M
 
   -- a try to cancel finds another word, and the words are as they were
   module _ (other_word : slice_index words slot ≢ r) where
-    pub not_open : is_open d (slot, r) ≡ false
+    pub not_open : is_open_request d (slot, r) ≡ false
     not_open = sym (is.word slot r there some_request) ∙ ne_eqb (slice_index words slot) r other_word
 
     pub found-slots : AreSlots words (found_started d (slot, r))

@@ -12,11 +12,11 @@ use Rattle.tallies.proofs.Requests.{times_grow, times_hit, is_request_itself, pu
 use Rattle.phases.specs.Calls.{Calls, IsLawful}
 use Rattle.phases.specs.View.{View, Cancelled, Sent, Taken}
 use Rattle.phases.proofs.Mirroring.{IsMirrored, Anyhow}
-use Rattle.desk.specs.Desk.{Desk, is_open, opened, cancelled, found_started, sent_own, taken, started, sent_by_another}
-use Rattle.desk.specs.Others.{Move, Start, Send, MoveSteps, busy_calls}
+use Rattle.desk.specs.Desk.{Desk, is_open_request, opened, cancelled, found_started, sent_own, taken, started, sent_by_another}
+use Rattle.desk.specs.Others.{OthersMove, Start, Send, MoveSteps, busy_calls}
 
 -- so many sends to an async, one after another
-abbrev sends : ℕ → ℕ → List Move
+abbrev sends : ℕ → ℕ → List OthersMove
 sends a zero = []
 sends a (suc k) = Send a ∷ sends a k
 
@@ -60,11 +60,11 @@ module _ (d : Desk) (c : ℕ × ℕ) where
   abbrev pending : Bool
   pending = is_pending d.view.opened d.view.cancelled c
 
-  open_is : (a b : Bool) → pending ≡ a → (times c d.started == 0) ≡ b → is_open d c ≡ (a && b)
+  open_is : (a b : Bool) → pending ≡ a → (times c d.started == 0) ≡ b → is_open_request d c ≡ (a && b)
   open_is a b p q = λ i. p i && q i
 
   -- once it is started, it is not open
-  shut : is_open (started d c) c ≡ false
+  shut : is_open_request (started d c) c ≡ false
   shut =
       let more = times_hit c c d.started (is_request_itself c) in
       and_false pending (times c (d.started ++ c ∷ []) == 0) (ne_eqb (times c (d.started ++ c ∷ [])) 0 (λ none. omega (arith, more, none)))
@@ -117,7 +117,7 @@ module _ {S : Type 0} (calls : Calls S) (lawful : IsLawful calls) where
         )
 
     -- it is not open, and so the cancel is lost
-    lost_shut : is_open d c ≡ false → calls.view s' ≡ (found_started d c).view → Tried false
+    lost_shut : is_open_request d c ≡ false → calls.view s' ≡ (found_started d c).view → Tried false
     lost_shut none h = (
       found_started d c,
       ([], d, refl, (sym none, refl)),
@@ -130,7 +130,7 @@ module _ {S : Type 0} (calls : Calls S) (lawful : IsLawful calls) where
     )
 
     -- a worker starts it first
-    lost_started : pending d c ≡ true → is_open d c ≡ true → calls.view s' ≡ (found_started d c).view → Tried false
+    lost_started : pending d c ≡ true → is_open_request d c ≡ true → calls.view s' ≡ (found_started d c).view → Tried false
     lost_started is here h = (
       found_started (started d c) c,
       (Start slot request ∷ [], started d c, (started d c, (here, refl), refl), (sym (shut d c), refl)),

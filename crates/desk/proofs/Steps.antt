@@ -13,23 +13,23 @@ use Rattle.tallies.specs.Requests.{times, is_pending}
 use Rattle.tallies.proofs.Counts.{zeros}
 use Rattle.phases.specs.View.{IsAbove}
 use Rattle.desk.specs.declared.rule.History.{History}
-use Rattle.desk.specs.Desk.{Desk, new_desk, is_open, opened, cancelled, found_started, started, sent_own, sent_by_another, taken, DeskCancels, DeskStarts, DeskTakes}
-use Rattle.desk.specs.Inner.Rule.{desk_of, history_of, waiting_place, AreSlots, AreCounts, Agrees, IsKept, IsCounted, IsSized}
+use Rattle.desk.specs.Desk.{Desk, new_desk, is_open_request, opened, cancelled, found_started, started, sent_own, sent_by_another, taken, DeskCancels, DeskStarts, DeskTakes}
+use Rattle.desk.specs.Inner.Rule.{desk_of, history_of, waiting_place, AreSlots, AreCounts, WordsAgree, DeskIsKept, SendsAreCounted, DeskIsSized}
 use Rattle.desk.proofs.Slots.{opened-slots, cancelled-slots, started-slots, found-slots, not_open, parts, fails}
 use Rattle.desk.proofs.Counts.{own-counts, others-counts, taken-counts, within, own-taken}
 
 abbrev pub Kept : {S : Type 0} → State S History → Type 0
-Kept s = IsKept s.words s.views
+Kept s = DeskIsKept s.words s.views
 
 -- what a step has to give, wherever the words agree with what was done
 abbrev Moves : ℕ → Desk → (ℕ → ℕ) → (ℕ → Desk → Type 0) → Type 0
-Moves i d f told = (words : List ℕ) → Agrees words d → (e : Desk) × Agrees (set words i (f (slice_index words i))) e × told (slice_index words i) e
+Moves i d f told = (words : List ℕ) → WordsAgree words d → (e : Desk) × WordsAgree (set words i (f (slice_index words i))) e × told (slice_index words i) e
 
 moved : {S : Type 0} (slots i : ℕ) (v : History) (held : List (ℕ × S)) (f : ℕ → ℕ) (told : ℕ → Desk → Type 0)
     → Moves i (desk_of v) f told → Allows Kept slots 0 (v, held) i f (λ found after. told found (desk_of after.0))
 moved slots i v held f told moves s kept homes at fits =
     let same : kept.0 ≡ v = some-injective kept.0 v (subst (λ vs. get_elem? vs 0 ≡ some v) kept.1 at) in
-    let given = moves s.words (subst (λ h. Agrees s.words (desk_of h)) same kept.2) in
+    let given = moves s.words (subst (λ h. WordsAgree s.words (desk_of h)) same kept.2) in
     let h = history_of given.0 in
     (h, keeps, tt, (h, ap (λ vs. set vs 0 h) kept.1, given.1), given.2)
 
@@ -65,7 +65,7 @@ opens_allowed slots slot r v held there above rises = moved slots slot v held (�
     d = desk_of v
 
 -- a compare-exchange of a request's number for 0
-module _ (slot r : ℕ) (d : Desk) (words : List ℕ) (is : Agrees words d) (there : slot < MAX_REQUESTS) (above : 0 < r) where
+module _ (slot r : ℕ) (d : Desk) (words : List ℕ) (is : WordsAgree words d) (there : slot < MAX_REQUESTS) (above : 0 < r) where
   abbrev found : ℕ
   found = slice_index words slot
 
@@ -73,7 +73,7 @@ module _ (slot r : ℕ) (d : Desk) (words : List ℕ) (is : Agrees words d) (the
   size = length-set words slot 0 ∙ is.size
 
   -- it was found
-  hit : found ≡ r → is_open d (slot, r) ≡ true
+  hit : found ≡ r → is_open_request d (slot, r) ≡ true
   hit e = sym (is.slots.word slot r there above) ∙ eq-eqb found r e
 
   none_found : found ≡ r → times (slot, r) d.view.found_started ≡ 0
@@ -82,14 +82,14 @@ module _ (slot r : ℕ) (d : Desk) (words : List ℕ) (is : Agrees words d) (the
     | no ne ↦ (let idle = (parts r _ _ _ (hit e)).2 in let busy = is.slots.found (slot, r) (omega arith) in absurd (omega arith))
   ]
 
-  cancelled_agrees : found ≡ r → Agrees (set words slot 0) (cancelled d (slot, r))
+  cancelled_agrees : found ≡ r → WordsAgree (set words slot 0) (cancelled d (slot, r))
   cancelled_agrees e = let counts = counts-kept words d slot 0 is.counts there in record {
     size = size;
     slots = cancelled-slots words d slot r is.size is.slots there above (hit e);
     counts = record { word = counts.word; sends = counts.sends; untaken = counts.untaken };
   }
 
-  started_agrees : found ≡ r → Agrees (set words slot 0) (started d (slot, r))
+  started_agrees : found ≡ r → WordsAgree (set words slot 0) (started d (slot, r))
   started_agrees e = let counts = counts-kept words d slot 0 is.counts there in record {
     size = size;
     slots = started-slots words d slot r is.size is.slots there above (hit e);
@@ -100,7 +100,7 @@ module _ (slot r : ℕ) (d : Desk) (words : List ℕ) (is : Agrees words d) (the
   same : set words slot found ≡ words
   same = set-get_or words slot 0
 
-  found_agrees : found ≢ r → Agrees words (found_started d (slot, r))
+  found_agrees : found ≢ r → WordsAgree words (found_started d (slot, r))
   found_agrees ne = record { size = is.size; slots = found-slots words d slot r is.size is.slots there above ne; counts = by_pending (is_pending d.view.opened d.view.cancelled (slot, r)) refl }
     where
       by_pending : (b : Bool) → is_pending d.view.opened d.view.cancelled (slot, r) ≡ b → AreCounts words (found_started d (slot, r))
@@ -108,19 +108,19 @@ module _ (slot r : ℕ) (d : Desk) (words : List ℕ) (is : Agrees words d) (the
       by_pending false p = rw p (record { word = is.counts.word; sends = is.counts.sends; untaken = is.counts.untaken })
 
   abbrev Goes : (Bool → Desk → Type 0) → Bool → Type 0
-  Goes told b = (e : Desk) × Agrees (set words slot (either b 0 found)) e × told b e
+  Goes told b = (e : Desk) × WordsAgree (set words slot (either b 0 found)) e × told b e
 
   cancel_goes : Goes (DeskCancels d (slot, r)) (found == r)
   cancel_goes = elim (ℕ_discrete found r) [
     | yes e ↦ subst (Goes (DeskCancels d (slot, r))) (sym (eq-eqb found r e)) (cancelled d (slot, r), cancelled_agrees e, (sym (hit e), (none_found e, refl)))
     | no ne ↦ subst (Goes (DeskCancels d (slot, r))) (sym (ne_eqb found r ne))
-        (found_started d (slot, r), subst (λ ws. Agrees ws (found_started d (slot, r))) (sym same) (found_agrees ne), (sym (not_open words d slot r is.size is.slots there above ne), refl))
+        (found_started d (slot, r), subst (λ ws. WordsAgree ws (found_started d (slot, r))) (sym same) (found_agrees ne), (sym (not_open words d slot r is.size is.slots there above ne), refl))
   ]
 
   start_goes : Goes (DeskStarts d (slot, r)) (found == r)
   start_goes = elim (ℕ_discrete found r) [
     | yes e ↦ subst (Goes (DeskStarts d (slot, r))) (sym (eq-eqb found r e)) (started d (slot, r), started_agrees e, (sym (hit e), refl))
-    | no ne ↦ subst (Goes (DeskStarts d (slot, r))) (sym (ne_eqb found r ne)) (d, subst (λ ws. Agrees ws d) (sym same) is, (sym (not_open words d slot r is.size is.slots there above ne), refl))
+    | no ne ↦ subst (Goes (DeskStarts d (slot, r))) (sym (ne_eqb found r ne)) (d, subst (λ ws. WordsAgree ws d) (sym same) is, (sym (not_open words d slot r is.size is.slots there above ne), refl))
   ]
 
 pub cancels_allowed : {S : Type 0} (slots slot r : ℕ) (v : History) (held : List (ℕ × S)) → slot < MAX_REQUESTS → 0 < r
@@ -134,7 +134,7 @@ starts_allowed slots slot r v held there above =
     moved slots slot v held (λ n. either (n == r) 0 n) (λ found e. DeskStarts (desk_of v) (slot, r) (found == r) e) (λ words is. start_goes slot r (desk_of v) words is there above)
 
 -- the sends and the takes of an async, whose word has the place i
-module _ {S : Type 0} (slots a i : ℕ) (v : History) (held : List (ℕ × S)) (sized : IsSized (desk_of v)) (there : a < MAX_ASYNCS) (place : i ≡ waiting_place a) where
+module _ {S : Type 0} (slots a i : ℕ) (v : History) (held : List (ℕ × S)) (sized : DeskIsSized (desk_of v)) (there : a < MAX_ASYNCS) (place : i ≡ waiting_place a) where
   abbrev d : Desk
   d = desk_of v
 
@@ -142,35 +142,35 @@ module _ {S : Type 0} (slots a i : ℕ) (v : History) (held : List (ℕ × S)) (
   told_there : (F : ℕ → Desk) (e : Desk) → e ≡ F a → (b : ℕ) → i ≡ waiting_place b → e ≡ F b
   told_there F e is b other = let same : a ≡ b = omega arith in is ∙ ap F same
 
-  one_more : (n m : ℕ) → IsCounted d n m → (words : List ℕ) → Agrees words d → (slice_index words (waiting_place a) + 1) % 2 ^ 64 ≡ slice_index words (waiting_place a) + 1
+  one_more : (n m : ℕ) → SendsAreCounted d n m → (words : List ℕ) → WordsAgree words d → (slice_index words (waiting_place a) + 1) % 2 ^ 64 ≡ slice_index words (waiting_place a) + 1
   one_more n m counted words is = mod-eq_of_lt (let few = within words d a is.size is.counts sized there n m counted in omega arith)
 
-  pub sends_allowed : (n m : ℕ) → IsCounted d n m
+  pub sends_allowed : (n m : ℕ) → SendsAreCounted d n m
       → Allows Kept slots 0 (v, held) i (λ k. (k + 1) % 2 ^ 64) (λ _ after. (b : ℕ) → i ≡ waiting_place b → desk_of after.0 ≡ sent_own d b)
   sends_allowed n m counted = moved slots i v held (λ k. (k + 1) % 2 ^ 64) (λ _ e. (b : ℕ) → i ≡ waiting_place b → e ≡ sent_own d b) (λ words is. (
     sent_own d a,
-    subst (λ j. Agrees (set words j ((slice_index words j + 1) % 2 ^ 64)) (sent_own d a)) (sym place)
-        (subst (λ k. Agrees (set words (waiting_place a) k) (sent_own d a)) (sym (one_more n m counted words is)) (agrees words is)),
+    subst (λ j. WordsAgree (set words j ((slice_index words j + 1) % 2 ^ 64)) (sent_own d a)) (sym place)
+        (subst (λ k. WordsAgree (set words (waiting_place a) k) (sent_own d a)) (sym (one_more n m counted words is)) (agrees words is)),
     told_there (sent_own d) (sent_own d a) refl,
   ))
     where
-      agrees : (words : List ℕ) → Agrees words d → Agrees (set words (waiting_place a) (slice_index words (waiting_place a) + 1)) (sent_own d a)
+      agrees : (words : List ℕ) → WordsAgree words d → WordsAgree (set words (waiting_place a) (slice_index words (waiting_place a) + 1)) (sent_own d a)
       agrees words is = let slots_are = slots-kept words d a (slice_index words (waiting_place a) + 1) is.slots there in record {
         size = length-set words (waiting_place a) (slice_index words (waiting_place a) + 1) ∙ is.size;
         slots = record { word = slots_are.word; opened = slots_are.opened; found = slots_are.found };
         counts = own-counts words d a is.size is.counts sized there;
       }
 
-  pub gets_allowed : (n m : ℕ) → IsCounted d n m
+  pub gets_allowed : (n m : ℕ) → SendsAreCounted d n m
       → Allows Kept slots 0 (v, held) i (λ k. (k + 1) % 2 ^ 64) (λ _ after. (b : ℕ) → i ≡ waiting_place b → desk_of after.0 ≡ sent_by_another d b)
   gets_allowed n m counted = moved slots i v held (λ k. (k + 1) % 2 ^ 64) (λ _ e. (b : ℕ) → i ≡ waiting_place b → e ≡ sent_by_another d b) (λ words is. (
     sent_by_another d a,
-    subst (λ j. Agrees (set words j ((slice_index words j + 1) % 2 ^ 64)) (sent_by_another d a)) (sym place)
-        (subst (λ k. Agrees (set words (waiting_place a) k) (sent_by_another d a)) (sym (one_more n m counted words is)) (agrees words is)),
+    subst (λ j. WordsAgree (set words j ((slice_index words j + 1) % 2 ^ 64)) (sent_by_another d a)) (sym place)
+        (subst (λ k. WordsAgree (set words (waiting_place a) k) (sent_by_another d a)) (sym (one_more n m counted words is)) (agrees words is)),
     told_there (sent_by_another d) (sent_by_another d a) refl,
   ))
     where
-      agrees : (words : List ℕ) → Agrees words d → Agrees (set words (waiting_place a) (slice_index words (waiting_place a) + 1)) (sent_by_another d a)
+      agrees : (words : List ℕ) → WordsAgree words d → WordsAgree (set words (waiting_place a) (slice_index words (waiting_place a) + 1)) (sent_by_another d a)
       agrees words is = let slots_are = slots-kept words d a (slice_index words (waiting_place a) + 1) is.slots there in record {
         size = length-set words (waiting_place a) (slice_index words (waiting_place a) + 1) ∙ is.size;
         slots = record { word = slots_are.word; opened = slots_are.opened; found = slots_are.found };
@@ -180,25 +180,25 @@ module _ {S : Type 0} (slots a i : ℕ) (v : History) (held : List (ℕ × S)) (
   pub takes_allowed : Allows Kept slots 0 (v, held) i (λ _. 0) (λ found after. (b : ℕ) → i ≡ waiting_place b → DeskTakes d b found (desk_of after.0))
   takes_allowed = moved slots i v held (λ _. 0) (λ found e. (b : ℕ) → i ≡ waiting_place b → DeskTakes d b found e) (λ words is. (
     taken d a,
-    subst (λ j. Agrees (set words j 0) (taken d a)) (sym place) (agrees words is),
+    subst (λ j. WordsAgree (set words j 0) (taken d a)) (sym place) (agrees words is),
     told words is,
   ))
     where
-      agrees : (words : List ℕ) → Agrees words d → Agrees (set words (waiting_place a) 0) (taken d a)
+      agrees : (words : List ℕ) → WordsAgree words d → WordsAgree (set words (waiting_place a) 0) (taken d a)
       agrees words is = let slots_are = slots-kept words d a 0 is.slots there in record {
         size = length-set words (waiting_place a) 0 ∙ is.size;
         slots = record { word = slots_are.word; opened = slots_are.opened; found = slots_are.found };
         counts = taken-counts words d a is.size is.counts sized there;
       }
 
-      told : (words : List ℕ) → Agrees words d → (b : ℕ) → i ≡ waiting_place b → DeskTakes d b (slice_index words i) (taken d a)
+      told : (words : List ℕ) → WordsAgree words d → (b : ℕ) → i ≡ waiting_place b → DeskTakes d b (slice_index words i) (taken d a)
       told words is b other =
           let same : a ≡ b = omega arith in
           let is_found : slice_index words i ≡ slice_index d.waiting a = ap (slice_index words) place ∙ is.counts.word a there in
           subst (λ k. DeskTakes d k (slice_index words i) (taken d a)) same (is_found, refl, own-taken words d a is.size is.counts sized there, (let waits = is.counts.untaken a there in omega arith))
 
 -- a table on which nothing was done
-pub begins : (loop_no : ℕ) → IsKept (replicate (MAX_REQUESTS + MAX_ASYNCS) 0) (history_of (new_desk loop_no) ∷ [])
+pub begins : (loop_no : ℕ) → DeskIsKept (replicate (MAX_REQUESTS + MAX_ASYNCS) 0) (history_of (new_desk loop_no) ∷ [])
 begins loop_no = (
   history_of (new_desk loop_no),
   refl,
@@ -209,5 +209,5 @@ begins loop_no = (
   },
 )
   where
-    word : (slot request : ℕ) → slot < MAX_REQUESTS → 0 < request → (slice_index (replicate (MAX_REQUESTS + MAX_ASYNCS) 0) slot == request) ≡ is_open (new_desk loop_no) (slot, request)
+    word : (slot request : ℕ) → slot < MAX_REQUESTS → 0 < request → (slice_index (replicate (MAX_REQUESTS + MAX_ASYNCS) 0) slot == request) ≡ is_open_request (new_desk loop_no) (slot, request)
     word slot request low above = ap (λ k. k == request) (zeros (MAX_REQUESTS + MAX_ASYNCS) slot) ∙ ne_eqb 0 request (λ z. omega arith) ∙ sym (fails request 0 0 0 (λ z _ _. omega arith))

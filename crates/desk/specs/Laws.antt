@@ -14,9 +14,9 @@ pub record Passed (S : Type 0) : Type 0 where
 
 module _ {S : Type 0} (calls : Calls S) (g : Setting) where
   -- a history, with the loop as it stands after each event
-  abbrev pub Passes : (old : Loop S) → List (Passed S) → (now : Loop S) → Type 0
-  Passes old [] now = now ≡ old
-  Passes old (p ∷ passed) now = EventStep calls g p.event old p.new × Passes p.new passed now
+  abbrev pub PassesThrough : (old : Loop S) → List (Passed S) → (now : Loop S) → Type 0
+  PassesThrough old [] now = now ≡ old
+  PassesThrough old (p ∷ passed) now = EventStep calls g p.event old p.new × PassesThrough p.new passed now
 
 -- the event of a loop, over the desk at which it stands. What others do to its object in an event of their own they do at the
 -- desk between the loop's calls
@@ -39,5 +39,5 @@ pub record IsAtDesk {S : Type 0} (calls : Calls S) (g : Setting) (start : Loop S
 -- in every history of a loop from its opening
 abbrev pub IsAsAtDesk : {S : Type 0} → Calls S → Type 0
 IsAsAtDesk {S} calls =
-    (g : Setting) (start now : Loop S) (passed : List (Passed S)) → IsOpening calls g start → Passes calls g start passed now
+    (g : Setting) (start now : Loop S) (passed : List (Passed S)) → IsOpening calls g start → PassesThrough calls g start passed now
     → IsAtDesk calls g start passed now

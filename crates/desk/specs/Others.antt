@@ -2,26 +2,26 @@
 use Rattle.std.specs.Prelude.{◌≡◌, ℕ, ◌<◌, true, List, [], ◌∷◌}
 use Rattle.limits.specs.declared.TheConstants.{MAX_ASYNCS}
 use Rattle.phases.specs.Calls.{Calls}
-use Rattle.desk.specs.Desk.{Desk, is_open, started, sent_by_another, desk_calls}
+use Rattle.desk.specs.Desk.{Desk, is_open_request, started, sent_by_another, desk_calls}
 
 -- a worker starts a request; another thread sends to an async
-pub data Move : Type 0 where
-  Start : (slot request : ℕ) → Move
-  Send : (async_no : ℕ) → Move
+pub data OthersMove : Type 0 where
+  Start : (slot request : ℕ) → OthersMove
+  Send : (async_no : ℕ) → OthersMove
 
 -- Only an open request is started. Any number of threads send, so that no bound is on their sends together.
-abbrev pub MoveStep : Move → Desk → Desk → Type 0
-MoveStep (Start slot request) d e = (is_open d (slot, request) ≡ true) × (e ≡ started d (slot, request))
+abbrev pub MoveStep : OthersMove → Desk → Desk → Type 0
+MoveStep (Start slot request) d e = (is_open_request d (slot, request) ≡ true) × (e ≡ started d (slot, request))
 MoveStep (Send async_no) d e = (async_no < MAX_ASYNCS) × (e ≡ sent_by_another d async_no)
 
 -- some moves, one after another
-abbrev pub MoveSteps : List Move → Desk → Desk → Type 0
+abbrev pub MoveSteps : List OthersMove → Desk → Desk → Type 0
 MoveSteps [] d e = e ≡ d
 MoveSteps (m ∷ moves) d e = (mid : Desk) × MoveStep m d mid × MoveSteps moves mid e
 
 -- others move, and then the loop calls
 abbrev pub AfterMoves : (Desk → Desk → Type 0) → Desk → Desk → Type 0
-AfterMoves calls d e = (moves : List Move) × (mid : Desk) × MoveSteps moves d mid × calls mid e
+AfterMoves calls d e = (moves : List OthersMove) × (mid : Desk) × MoveSteps moves d mid × calls mid e
 
 -- the calls of a loop at such a desk
 abbrev pub busy_calls : Calls Desk

@@ -12,7 +12,9 @@ ghost use Rattle.desk.specs.Desk.{new_desk};
 pub mod laws;
 mod rule;
 
-use crate::rule::{Agreement, Cancelling, Getting, History, Opening, Sending, Starting, Taking};
+use crate::rule::{
+    Agreement, Cancelling, Getting, History, LoopSending, LoopTaking, Opening, Starting,
+};
 use atomic_table::{Seat, Table};
 use limits::{MAX_ASYNCS, MAX_REQUESTS, MAX_SENDS};
 use phases::{Beside, Shared};
@@ -46,7 +48,7 @@ impl Model for Desk {
     ghost use Rattle.std.specs.Prelude.{◌≡◌, ◌+◌};
     ghost use Rattle.limits.specs.declared.TheConstants.{MAX_REQUESTS, MAX_ASYNCS};
     ghost use Rattle.desk.specs.Desk as told;
-    ghost use Rattle.desk.specs.Inner.Rule.{desk_of, IsCounted, IsSized};
+    ghost use Rattle.desk.specs.Inner.Rule.{desk_of, SendsAreCounted, DeskIsSized};
 
     ghost Value = { told.Desk };
 
@@ -56,8 +58,8 @@ impl Model for Desk {
         (d.seat.table_id ≡ d.table.shared.table_id)
         × (d.seat.id ≡ 0)
         × (d.table.shared.table_id.words ≡ MAX_REQUESTS + MAX_ASYNCS)
-        × IsSized (desk_of d.seat.me.0)
-        × IsCounted (desk_of d.seat.me.0) d.own_sends d.other_sends };
+        × DeskIsSized (desk_of d.seat.me.0)
+        × SendsAreCounted (desk_of d.seat.me.0) d.own_sends d.other_sends };
 }
 
 /// The place of an async's word.
@@ -112,7 +114,7 @@ impl Shared for Desk {
         }
         let table = &self.table;
         let words = &table.shared;
-        words.fetch_add::<Sending>(&mut self.seat, waiting_place(async_no), 1);
+        words.fetch_add::<LoopSending>(&mut self.seat, waiting_place(async_no), 1);
         self.own_sends += 1;
         true
     }
@@ -120,7 +122,7 @@ impl Shared for Desk {
     fn take(&mut self, async_no: u32) -> u64 {
         let table = &self.table;
         let words = &table.shared;
-        words.swap::<Taking>(&mut self.seat, waiting_place(async_no), 0)
+        words.swap::<LoopTaking>(&mut self.seat, waiting_place(async_no), 0)
     }
 
     ghost lawful = { desk_lawful };

@@ -5,7 +5,7 @@
 //! threads: no answer depends on whether a request that isn't open was started or cancelled.
 ghost use Rattle.std.specs.Prelude.{◌≡◌, ◌==◌, ℕ};
 ghost use Rattle.desk.specs.Desk.{new_desk, opened, DeskCancels, DeskTakes, DeskStarts, sent_own, sent_by_another};
-ghost use Rattle.desk.specs.Inner.Rule.{desk_of, history_of, waiting_place, IsKept};
+ghost use Rattle.desk.specs.Inner.Rule.{desk_of, history_of, waiting_place, DeskIsKept};
 
 use atomic_table::{Play, TableRule};
 use limits::MAX_ASYNCS;
@@ -34,7 +34,7 @@ pub(crate) struct History {
 pub(crate) struct Agreement;
 
 impl TableRule<(), History, u32> for Agreement {
-    ghost holds = { λ _ s. IsKept s.words s.views };
+    ghost holds = { λ _ s. DeskIsKept s.words s.views };
 
     ghost first = { λ loop_no. history_of (new_desk loop_no) };
 }
@@ -61,9 +61,9 @@ impl Play<(), History> for Starting {
 }
 
 /// An addition of 1 is a send of the loop.
-pub(crate) struct Sending;
+pub(crate) struct LoopSending;
 
-impl Play<(), History> for Sending {
+impl Play<(), History> for LoopSending {
     ghost then = { λ step before _ after. (a : ℕ) → step.word ≡ waiting_place a → desk_of after.0 ≡ sent_own (desk_of before.0) a };
 }
 
@@ -75,8 +75,8 @@ impl Play<(), History> for Getting {
 }
 
 /// A swap with 0 is a take.
-pub(crate) struct Taking;
+pub(crate) struct LoopTaking;
 
-impl Play<(), History> for Taking {
+impl Play<(), History> for LoopTaking {
     ghost then = { λ step before found after. (a : ℕ) → step.word ≡ waiting_place a → DeskTakes (desk_of before.0) a found (desk_of after.0) };
 }

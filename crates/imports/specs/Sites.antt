@@ -5,8 +5,8 @@ use Rattle.syntax.specs.declared.contents.Import.{Import}
 use Rattle.syntax.specs.declared.contents.ModuleExport.{ModuleExport}
 use Rattle.validate.specs.Segments.{ElementFits, DataFits}
 use Rattle.imports.specs.Linking.{IsKnown, IsCallable}
-use Rattle.imports.specs.declared.site.Site.{Site}
-use Rattle.imports.specs.declared.site.Site.TheVariants as site
+use Rattle.imports.specs.declared.site.UnlinkedPart.{UnlinkedPart}
+use Rattle.imports.specs.declared.site.UnlinkedPart.TheVariants as site
 
 -- the import of this number is no function of the host with its type, and all before it are
 abbrev pub FirstUnknown : Contents → ℕ → Type 0
@@ -17,7 +17,7 @@ abbrev pub FirstUncallable : Contents → ℕ → Type 0
 FirstUncallable m at = (e : ModuleExport) × (slice_get m.exports at ≡ Some e) × All (IsCallable m) (take at m.exports) × (IsCallable m e → ⊥)
 
 -- this is the first part that doesn't fit: imports come first, then exports, then the segments
-abbrev pub IsMisfit : Contents → Site → Type 0
+abbrev pub IsMisfit : Contents → UnlinkedPart → Type 0
 IsMisfit m (site.Import at) = FirstUnknown m at
 IsMisfit m (site.Export at) = All (IsKnown m) m.imports × FirstUncallable m at
 IsMisfit m site.Elements = All (IsKnown m) m.imports × All (IsCallable m) m.exports × (All (ElementFits m) m.elements → ⊥)

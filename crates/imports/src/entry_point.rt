@@ -1,10 +1,10 @@
 // The functions that the host calls by name.
 
 ghost use Rattle.std.specs.Prelude.{◌≡◌, ◌↔◌, Some};
-ghost use Rattle.imports.specs.Signatures.{func_type};
+ghost use Rattle.imports.specs.Signatures.{type_of_signature};
 ghost use Rattle.imports.specs.Uv.{name_of_entry, type_of_entry};
 
-use crate::signature::Signature;
+use crate::signature::CallType;
 use syntax::types::ValType::I32;
 
 /// A function that a guest may export for the host to call.
@@ -34,13 +34,13 @@ impl EntryPoint {
     }
 
     /// The type.
-    pub fn signature(self) -> Signature
-        ensures { func_type result ≡ type_of_entry self }
+    pub fn signature(self) -> CallType
+        ensures { type_of_signature result ≡ type_of_entry self }
     {
         match self {
-            EntryPoint::Main => Signature::new(&[], &[]),
-            EntryPoint::Work => Signature::new(&[I32], &[I32]),
-            EntryPoint::AfterWork => Signature::new(&[I32, I32, I32], &[]),
+            EntryPoint::Main => CallType::new(&[], &[]),
+            EntryPoint::Work => CallType::new(&[I32], &[I32]),
+            EntryPoint::AfterWork => CallType::new(&[I32, I32, I32], &[]),
         }
     }
 

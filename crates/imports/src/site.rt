@@ -10,7 +10,7 @@ use validate::Valid;
 
 /// The part of a valid module that doesn't fit the host.
 #[derive(Clone, Copy, Debug, PartialEq, Eq)]
-pub enum Site {
+pub enum UnlinkedPart {
     /// The import with this number.
     Import(usize),
     /// The export with this number.
@@ -51,21 +51,21 @@ fn first_uncallable(contents: &Contents) -> Option<usize>
 }
 
 /// The first part for which `link` refuses the module; nothing where it takes it.
-pub fn refused_at(valid: &Valid) -> Option<Site>
+pub fn refused_at(valid: &Valid) -> Option<UnlinkedPart>
     ensures { MatchOption result (IsLinked valid.now.contents) (IsMisfit valid.now.contents) }
 {
     let contents = valid.contents();
     if let Some(number) = first_unknown(contents) {
-        return Some(Site::Import(number));
+        return Some(UnlinkedPart::Import(number));
     }
     if let Some(number) = first_uncallable(contents) {
-        return Some(Site::Export(number));
+        return Some(UnlinkedPart::Export(number));
     }
     if !valid.elements_fit() {
-        return Some(Site::Elements);
+        return Some(UnlinkedPart::Elements);
     }
     if !valid.data_fits() {
-        return Some(Site::Data);
+        return Some(UnlinkedPart::Data);
     }
     None
 }

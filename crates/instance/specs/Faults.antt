@@ -12,7 +12,7 @@ number_of_fault Memory = 3
 
 -- An element segment doesn't fit; or all of them do, and a data segment doesn't; or all segments fit: then nothing but memory
 -- was wanting.
-abbrev pub Explains : Contents → InstFault → Type 0
-Explains m ElementRange = ¬ (All (ElementFits m) m.elements)
-Explains m DataRange = All (ElementFits m) m.elements × ¬ (All (DataFits m) m.«data»)
-Explains m Memory = SegmentsFit m
+abbrev pub ExplainsInstFault : Contents → InstFault → Type 0
+ExplainsInstFault m ElementRange = ¬ (All (ElementFits m) m.elements)
+ExplainsInstFault m DataRange = All (ElementFits m) m.elements × ¬ (All (DataFits m) m.«data»)
+ExplainsInstFault m Memory = SegmentsFit m

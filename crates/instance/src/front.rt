@@ -1,7 +1,7 @@
 // The front of a memory: the bytes that are kept. After it all are zero.
 
 ghost use Rattle.std.specs.Prelude.{◌≡◌, ◌+◌, ◌*◌, ◌≤◌, ◌<◌, nat_le, length, true, vec_capacity};
-ghost use Rattle.instance.specs.Inner.Room.{all_bytes, rounded, lengthened};
+ghost use Rattle.instance.specs.Inner.Room.{all_bytes, rounded, lengthened_front};
 
 use limits::PAGE_SIZE;
 
@@ -22,7 +22,7 @@ pub fn bytes_of_pages(pages: u32) -> usize
 fn lengthen(front: &mut Vec<u8>, end: usize)
     requires more { length front.old.items < end }
     requires room { rounded end ≤ vec_capacity front.old }
-    ensures items { front.new.items ≡ lengthened end front.old.items }
+    ensures items { front.new.items ≡ lengthened_front end front.old.items }
     ensures capacity { vec_capacity front.old ≤ vec_capacity front.new }
 {
     let Ok(()) = front.resize(end.next_multiple_of(STEP), 0) else {

@@ -2,7 +2,7 @@
 
 ghost use Rattle.std.specs.Prelude.{◌≡◌, None, IfOk};
 
-use crate::stack::Stack;
+use crate::stack::CallStack;
 use crate::state::State;
 use std::alloc::{AllocError, Global};
 
@@ -10,7 +10,7 @@ use std::alloc::{AllocError, Global};
 /// anew where it suffices.
 pub struct Room {
     front: Option<Vec<u8>>,
-    stack: Option<Stack>,
+    stack: Option<CallStack>,
 }
 
 impl Drop for Room {
@@ -29,7 +29,7 @@ impl Room {
     }
 
     /// Keeps the memory of an instance that is over.
-    pub fn keep(&mut self, state: State, stack: Stack) {
+    pub fn keep(&mut self, state: State, stack: CallStack) {
         self.front = Some(state.into_front());
         self.stack = Some(stack);
     }
@@ -40,12 +40,12 @@ impl Room {
     }
 
     /// A stack, as a new one.
-    pub(crate) fn take_stack(&mut self, alloc: Global) -> Result<Stack, AllocError>
+    pub(crate) fn take_stack(&mut self, alloc: Global) -> Result<CallStack, AllocError>
         ensures { IfOk result (λ s. s ≡ None) }
     {
         match self.stack.take() {
             Some(stack) => Ok(stack.afresh()),
-            None => Stack::new(alloc),
+            None => CallStack::new(alloc),
         }
     }
 }

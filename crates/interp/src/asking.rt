@@ -6,7 +6,7 @@ ghost use Rattle.reduction.specs.Run.{IsImported, as_operands};
 ghost use Rattle.reduction.specs.Hosting.{Names};
 ghost use Rattle.interp.specs.Slots.Holding.{AreSmall};
 ghost use Rattle.interp.specs.Slots.Resuming.{laid};
-ghost use Rattle.interp.specs.Inner.Slots.HostAsked.{CanAsk, Asks};
+ghost use Rattle.interp.specs.Inner.Slots.HostAsked.{CanAsk, AsksImport};
 
 use crate::host::{Args, Host};
 use crate::reading::number_of;
@@ -57,7 +57,7 @@ fn ask_host<H: Host>(
     requires can { CanAsk contents.now import height (length slots.old) }
     requires names { Names contents.now (H.types host.old) }
     requires steps { at.old.pc + 1 < 2 ^ 64 }
-    ensures asked { Asks contents.now H.moves import height at.old slots.old state.old host.old at.new slots.new state.new host.new }
+    ensures asked { AsksImport contents.now H.moves import height at.old slots.old state.old host.old at.new slots.new state.new host.new }
     ensures types { H.types host.new ≡ H.types host.old }
 {
     let Some(import_type) = type_of_import(contents, import) else {
@@ -87,7 +87,7 @@ fn ask_above<H: Host>(
     requires can { CanAsk contents.now import height (length (drop 1 slots.old)) }
     requires names { Names contents.now (H.types host.old) }
     requires steps { at.old.pc + 1 < 2 ^ 64 }
-    ensures asked { Asks contents.now H.moves import height at.old (drop 1 slots.old) state.old host.old at.new (drop 1 slots.new) state.new host.new }
+    ensures asked { AsksImport contents.now H.moves import height at.old (drop 1 slots.old) state.old host.old at.new (drop 1 slots.new) state.new host.new }
     ensures types { H.types host.new ≡ H.types host.old }
 {
     ask_host(contents, state, host, &mut slots[1..], at, import, height);
@@ -107,7 +107,7 @@ pub fn ask_on<H: Host>(
     requires can { CanAsk contents.now import height (length slots.old) }
     requires names { Names contents.now (H.types host.old) }
     requires steps { at.old.pc + 1 < 2 ^ 64 }
-    ensures asked { Asks contents.now H.moves import height at.old slots.old state.old host.old at.new slots.new state.new host.new }
+    ensures asked { AsksImport contents.now H.moves import height at.old slots.old state.old host.old at.new slots.new state.new host.new }
     ensures types { H.types host.new ≡ H.types host.old }
 {
     ask_above(

@@ -6,7 +6,7 @@ use validate::SideTable;
 
 /// What a module runs: its contents, and the side tables that its validation wrote.
 #[derive(Clone, Copy)]
-pub struct Code<'a> {
+pub struct ModuleCode<'a> {
     pub contents: &'a Contents,
     pub tables: &'a [SideTable],
 }

@@ -12,14 +12,14 @@ ghost use Rattle.reduction.specs.Leading.{Leads, calling, scene};
 ghost use Rattle.instance.specs.Stops.{stop_of};
 ghost use Rattle.interp.specs.Inner.Calling.{CanCall, CallDoes};
 
-use crate::call::{Code, FunctionCall};
+use crate::call::{FunctionCall, ModuleCode};
 use crate::host::{Args, Host};
 use crate::opening::open;
 use crate::over_host::{Outermost, run_within};
 use engine::{Flow, Program, Stopped};
 use events::ended::{BareEnded, BareEnding, Ended, Ending};
 use events::values::Values;
-use instance::stack::{Caller, Last, Slots, Stack};
+use instance::stack::{CallStack, Caller, Last, Slots};
 use instance::state::{Instance, State};
 use limits::MAX_DEPTH;
 use syntax::contents::Contents;
@@ -61,7 +61,7 @@ fn invoke_import<H: Host>(
 /// it returned.
 #[inline(always)]
 fn invoke_defined<H: Host>(
-    code: &Code,
+    code: &ModuleCode,
     state: &mut State,
     host: &mut H,
     slots: &mut Slots,
@@ -136,7 +136,7 @@ pub fn invoke<H: Host>(
 pub fn invoke_on<H: Host>(
     valid: &Valid,
     state: &mut State,
-    stack: &mut Stack,
+    stack: &mut CallStack,
     host: &mut H,
     call: &FunctionCall,
 ) -> Ended
@@ -160,7 +160,7 @@ pub fn invoke_on<H: Host>(
 pub fn invoke_bare<H: Host>(
     valid: &Valid,
     state: &mut State,
-    stack: &mut Stack,
+    stack: &mut CallStack,
     host: &mut H,
     place: &mut Ended,
     call: &FunctionCall,
@@ -198,7 +198,7 @@ pub fn unwritten() -> Ended
 fn invoke_into<H: Host>(
     valid: &Valid,
     state: &mut State,
-    stack: &mut Stack,
+    stack: &mut CallStack,
     host: &mut H,
     ended: &mut Ended,
     call: &FunctionCall,
@@ -209,7 +209,7 @@ fn invoke_into<H: Host>(
     ensures types { H.types host.new ≡ H.types host.old }
 {
     let contents = valid.contents();
-    let Stack {
+    let CallStack {
         slots,
         frames,
         last,
@@ -219,7 +219,7 @@ fn invoke_into<H: Host>(
         invoke_import(contents, state, host, ended, call);
         return;
     }
-    let code = Code {
+    let code = ModuleCode {
         contents,
         tables: valid.tables(),
     };

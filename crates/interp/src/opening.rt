@@ -2,7 +2,7 @@
 
 ghost use Rattle.std.specs.Prelude.{◌≡◌, ◌≤◌, ◌+◌, ◌++◌, length, drop, replicate};
 ghost use Rattle.interp.specs.Slots.Holding.{AreSmall, erased};
-ghost use Rattle.interp.specs.Slots.CallsBegun.{CanOpen, Opened};
+ghost use Rattle.interp.specs.Slots.CallsBegun.{CanOpen, CallOpened};
 
 use crate::reading::number_of;
 use engine::{At, zero};
@@ -58,7 +58,7 @@ fn lay_on(slots: &mut Slots, args: &[Value], zeros: usize)
 /// Lays the locals of a call from outside in the lowest slots, and returns where its run begins.
 pub fn open(contents: &Contents, slots: &mut Slots, function: u32, args: &[Value]) -> At
     requires { CanOpen contents.now function args.now }
-    ensures opened { Opened contents.now function args.now result slots.new }
+    ensures opened { CallOpened contents.now function args.now result slots.new }
     ensures small { AreSmall args.now }
 {
     let index = function as usize - contents.imports.len();

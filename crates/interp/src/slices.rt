@@ -10,7 +10,7 @@ ghost use Rattle.instance.specs.Storing.{IsStoreOf};
 ghost use Rattle.instance.specs.Stops.{stop_of};
 ghost use Rattle.reduction.specs.Hosting.{Names};
 ghost use Rattle.reduction.specs.Invoking.{TakesArguments, ReturnsTyped};
-ghost use Rattle.interp.specs.Slices.{IsPaused, IsSomePaused, IsOver, UsesAll, UsesSome};
+ghost use Rattle.interp.specs.Slices.{RunIsPaused, IsSomePaused, RunIsOver, UsesAll, UsesSome};
 
 use crate::call::FunctionCall;
 use crate::host::Host;
@@ -57,7 +57,7 @@ pub fn begin<H: Host>(
     requires defined { length contents.now.imports ≤ call.now.function }
     requires depth { (1 ≤ call.now.depth) × (call.now.depth ≤ MAX_DEPTH) }
     requires room { MAX_DEPTH ≤ length frames.now }
-    ensures paused { IsPaused contents.now tables.now H.moves state.now host.now call.now.args.now call.now.fuel result slots.new frames.now state.now host.now }
+    ensures paused { RunIsPaused contents.now tables.now H.moves state.now host.now call.now.args.now call.now.fuel result slots.new frames.now state.now host.now }
     ensures function { result.function ≡ call.now.function }
     ensures depth { result.depth ≡ call.now.depth }
     ensures used { result.used ≡ 0 }
@@ -97,11 +97,11 @@ pub fn go_on<H: Host>(
     requires room { MAX_DEPTH ≤ length frames.old }
     requires paused { IsSomePaused contents.now tables.now H.moves slice.old.paused slots.old frames.old state.old host.old }
     ensures over { IfSome result (λ o. (s : Store) (before : H) (args : List Argument) (fuel : ℕ)
-        → IsPaused contents.now tables.now H.moves s before args fuel slice.old.paused slots.old frames.old state.old host.old
-        → IsOver contents.now slice.old.paused.depth H.moves slice.old.paused.function s before args fuel o.ended state.new host.new (stop_of o.last frames.new)) }
+        → RunIsPaused contents.now tables.now H.moves s before args fuel slice.old.paused slots.old frames.old state.old host.old
+        → RunIsOver contents.now slice.old.paused.depth H.moves slice.old.paused.function s before args fuel o.ended state.new host.new (stop_of o.last frames.new)) }
     ensures paused { result ≡ None → (s : Store) (before : H) (args : List Argument) (fuel : ℕ)
-        → IsPaused contents.now tables.now H.moves s before args fuel slice.old.paused slots.old frames.old state.old host.old
-        → IsPaused contents.now tables.now H.moves s before args fuel slice.new.paused slots.new frames.new state.new host.new }
+        → RunIsPaused contents.now tables.now H.moves s before args fuel slice.old.paused slots.old frames.old state.old host.old
+        → RunIsPaused contents.now tables.now H.moves s before args fuel slice.new.paused slots.new frames.new state.new host.new }
     ensures call { (slice.new.paused.function ≡ slice.old.paused.function) × (slice.new.paused.depth ≡ slice.old.paused.depth) }
     ensures slice { result ≡ None → UsesAll slice.old.paused slice.old.units slice.new.paused }
     ensures last { IfSome result (λ o. UsesSome slice.old.paused slice.old.units o.ended.used) }

@@ -9,7 +9,7 @@ use Rattle.syntax.specs.declared.contents.Import.{Import}
 use Rattle.syntax.specs.declared.types.Value.{Value}
 use Rattle.syntax.specs.declared.types.ValType.{ValType}
 use Rattle.validate.specs.Typing.{function_types, type_of_function, type_of}
-use Rattle.reduction.specs.Hosting.{Takes, Names}
+use Rattle.reduction.specs.Hosting.{TakesParams, Names}
 use Rattle.imports.specs.declared.call.Call.{Call}
 use Rattle.imports.specs.Uv.{type_of_call}
 use Rattle.imports.specs.Linking.{IsLinked, IsKnown, Imports}
@@ -26,7 +26,7 @@ pub named : (m : Contents) (import : ℕ) (c : Call) → Imports m import c → 
 named m import c h = at_map (import_type m) m.imports import h.0 h.1 ∙ ap Some (known_type m h.0 (type_of_call c) h.2.typed)
 
 -- what has a type is imported
-takes_within : (o : Option FuncType) (args : List Value) → Takes o args → (type : FuncType) × (o ≡ Some type)
+takes_within : (o : Option FuncType) (args : List Value) → TakesParams o args → (type : FuncType) × (o ≡ Some type)
 takes_within None args h = absurd h
 takes_within (Some type) args h = (type, refl)
 
@@ -35,13 +35,13 @@ map_within f [] k y h = absurd (cc)
 map_within f (x ∷ xs) zero y h = omega arith
 map_within f (x ∷ xs) (suc k) y h = let rest = map_within f xs k y h in omega arith
 
-pub imported : (m : Contents) (import : ℕ) (args : List Value) → Takes (slice_get (import_types m) import) args → import < length m.imports
+pub imported : (m : Contents) (import : ℕ) (args : List Value) → TakesParams (slice_get (import_types m) import) args → import < length m.imports
 imported m import args h =
     let it = takes_within (slice_get (import_types m) import) args h in
     map_within (import_type m) m.imports import it.0 it.1
 
-pub arguments_of : (m : Contents) (import : ℕ) (c : Call) (args : List Value) → Imports m import c → Takes (slice_get (import_types m) import) args → map type_of args ≡ (type_of_call c).params
-arguments_of m import c args is h = subst (λ (o : Option FuncType). Takes o args) (named m import c is) h
+pub arguments_of : (m : Contents) (import : ℕ) (c : Call) (args : List Value) → Imports m import c → TakesParams (slice_get (import_types m) import) args → map type_of args ≡ (type_of_call c).params
+arguments_of m import c args is h = subst (λ (o : Option FuncType). TakesParams o args) (named m import c is) h
 
 -- these are the types of the imports, as a run knows them
 at_front : (xs ys : List ℕ) (k n : ℕ) → slice_get xs k ≡ Some n → slice_get (xs ++ ys) k ≡ Some n

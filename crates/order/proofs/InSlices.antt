@@ -27,7 +27,7 @@ use Rattle.imports.specs.declared.call.Call.{Call}
 use Rattle.imports.specs.declared.call.Call.TheVariants.{Now, TimerInit, IdleInit, CheckInit, TimerStart, TimerStop, IdleStop, CheckStop}
 use Rattle.imports.specs.declared.call.Call.TheVariants.{TimerAgain, IdleStart, CheckStart, AsyncInit, AsyncSend, IsActive, Close}
 use Rattle.imports.specs.declared.call.Call.TheVariants.{QueueWork, Cancel, InLen, InCopy, OutSet, Emit}
-use Rattle.interp.specs.Slices.{IsOver}
+use Rattle.interp.specs.Slices.{RunIsOver}
 use Rattle.validate.specs.Valid.{ValidModule}
 use Rattle.validate.specs.Targets.{AreTables}
 use Rattle.validate.specs.declared.side_table.SideTable.{SideTable}
@@ -36,22 +36,22 @@ use Rattle.interp.specs.declared.paused.Paused.{Paused}
 use Rattle.engine.specs.Programs.{program_of}
 use Rattle.engine.specs.Stepping.{standing}
 use Rattle.interp.specs.Slots.Hosted.{IsUnderWay}
-use Rattle.interp.specs.Slices.{IsPaused}
+use Rattle.interp.specs.Slices.{RunIsPaused}
 use Rattle.interp.proofs.Slots.CallsBegin.{under_way}
 use Rattle.order.specs.declared.host.WorkHost.{WorkHost}
 use Rattle.order.specs.Inner.Serving.{Serves}
-use Rattle.order.specs.Inner.WorkHosting.{Answered}
+use Rattle.order.specs.Inner.WorkHosting.{WorkAnswered}
 use Rattle.order.specs.Stopping.{WorkStop, ComputesTo}
 use Rattle.order.specs.Work.{WorkOrder, WorkEnd, Computes, WorkRun, StartRun, EndsAs}
 use Rattle.order.specs.Work as work
 use Rattle.order.specs.Stopping as stopping
-use Rattle.order.specs.Inner.Going.{IsStarted}
+use Rattle.order.specs.Inner.Going.{StartIsOver}
 use Rattle.order.proofs.ImportTypes.{import_known}
 use Rattle.order.proofs.FunctionTypes.{has_type, known_as}
 use Rattle.order.proofs.WorkHostAnswers.{work_stops, work_serves, not_returned, served}
 
 module _ (o : WorkOrder) (fuel : ℕ) (s t : Store) (old new : WorkHost) (serves : Serves old o) (function : ℕ) (args : List Value) (ended : Ended) (stop : Option (List Site))
-    (over : IsOver o.loaded.contents o.depth Answered function s old args fuel ended t new stop) where
+    (over : RunIsOver o.loaded.contents o.depth WorkAnswered function s old args fuel ended t new stop) where
   -- a call in slices is a call of the order's
   pub over_stops : WorkStop o fuel s old.reply.items function args ended t new.reply.items stop
   over_stops = work_stops o fuel o.loaded refl s t old new serves function args ended stop over.leads
@@ -83,7 +83,7 @@ module _ (o : WorkOrder) (s t : Store) (old reply : List ℕ) (function : ℕ) (
   )
 
   -- it returns
-  pub start_returns : (values : List Value) → ended.ending ≡ Return values → ended.used ≤ o.fuel → IsStarted o ended.used t reply
+  pub start_returns : (values : List Value) → ended.ending ≡ Return values → ended.used ≤ o.fuel → StartIsOver o ended.used t reply
   start_returns values returned within = record {
     s = s;
     results = reverse values;
@@ -93,7 +93,7 @@ module _ (o : WorkOrder) (s t : Store) (old reply : List ℕ) (function : ℕ) (
   }
 
 -- there is none
-pub no_start : (o : WorkOrder) (s : Store) (reply : List ℕ) → IsFresh o.loaded.contents s → o.loaded.contents.start ≡ None → reply ≡ [] → IsStarted o 0 s reply
+pub no_start : (o : WorkOrder) (s : Store) (reply : List ℕ) → IsFresh o.loaded.contents s → o.loaded.contents.start ≡ None → reply ≡ [] → StartIsOver o 0 s reply
 no_start o s reply fresh none empty = record {
   s = s;
   results = [];
@@ -103,7 +103,7 @@ no_start o s reply fresh none empty = record {
 }
 
 -- `uv_work`, in slices, is over: so the order is computed
-pub work_computes : (o : WorkOrder) (mid t : Store) (old reply : List ℕ) (first function : ℕ) (ended : Ended) (stop : Option (List Site)) → IsStarted o first mid old
+pub work_computes : (o : WorkOrder) (mid t : Store) (old reply : List ℕ) (first function : ℕ) (ended : Ended) (stop : Option (List Site)) → StartIsOver o first mid old
     → ExportsFunction o.loaded.contents (codes "uv_work") function
     → WorkStop o (o.fuel - first) mid old function (I32 o.op ∷ []) ended t reply stop
     → (e : WorkEnd) → EndsAs (end_of_run ended.ending) reply e
@@ -175,7 +175,7 @@ no_results ending.Spent not types = tt
 -- a call that is under way has come to its host by a lawful trace
 pub came_to : (o : WorkOrder) → ValidModule o.loaded.contents → (tables : List SideTable) → AreTables o.loaded.contents tables → (s t : Store) (old new : WorkHost)
     (args : List Value) (fuel : ℕ) (paused : Paused) (slots : List ℕ) (frames : List Caller) → Serves old o
-    → IsPaused o.loaded.contents tables Answered s old args fuel paused slots frames t new → Serves new o
+    → RunIsPaused o.loaded.contents tables WorkAnswered s old args fuel paused slots frames t new → Serves new o
 came_to o valid tables agree s t old new args fuel paused slots frames serves c =
     let m = o.loaded.contents in
     let p = program_of m tables in
@@ -190,8 +190,8 @@ came_to o valid tables agree s t old new args fuel paused slots frames serves c 
 -- the same of an equal module, tables and callers
 pub paused_in : (m m' : Contents) (tables tables' : List SideTable) (frames frames' : List Caller) → m ≡ m' → tables ≡ tables' → frames ≡ frames'
     → (s t : Store) (old new : WorkHost) (args : List Value) (fuel : ℕ) (paused : Paused) (slots : List ℕ)
-    → IsPaused m tables Answered s old args fuel paused slots frames t new → IsPaused m' tables' Answered s old args fuel paused slots frames' t new
+    → RunIsPaused m tables WorkAnswered s old args fuel paused slots frames t new → RunIsPaused m' tables' WorkAnswered s old args fuel paused slots frames' t new
 paused_in m m' tables tables' frames frames' em et ef s t old new args fuel paused slots k =
-    subst (λ (x : Contents). IsPaused x tables' Answered s old args fuel paused slots frames' t new) em
-    (subst (λ (x : List SideTable). IsPaused m x Answered s old args fuel paused slots frames' t new) et
-    (subst (λ (x : List Caller). IsPaused m tables Answered s old args fuel paused slots x t new) ef k))
+    subst (λ (x : Contents). RunIsPaused x tables' WorkAnswered s old args fuel paused slots frames' t new) em
+    (subst (λ (x : List SideTable). RunIsPaused m x WorkAnswered s old args fuel paused slots frames' t new) et
+    (subst (λ (x : List Caller). RunIsPaused m tables WorkAnswered s old args fuel paused slots x t new) ef k))

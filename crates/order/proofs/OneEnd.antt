@@ -18,7 +18,7 @@ use Rattle.imports.specs.declared.call.Call.TheVariants.{Now, InLen, InCopy, Out
 use Rattle.imports.specs.Linking.{Imports, ExportsFunction}
 use Rattle.imports.specs.Uv.{AreNamedApart}
 use Rattle.order.specs.Uv.Bytes.{copied_in, set_out}
-use Rattle.order.specs.Work.{WorkOrder, WorkEnd, EndsAs, Gives, WorkAnswers, WorkCall, WorkRun, StartRun, Computes, Works, stops, works}
+use Rattle.order.specs.Work.{WorkOrder, WorkEnd, EndsAs, GivesAnswer, WorkAnswers, WorkCall, WorkRun, StartRun, Computes, Works, stops, works}
 
 -- an import is one function of the host
 pub one_import : AreNamedApart → (m : Contents) (number : ℕ) (f g : Call) → Imports m number f → Imports m number g → f ≡ g
@@ -42,7 +42,7 @@ record SameAnswers (call call' : HostCall) (new new' : List ℕ) : Type 0 where
   reply : new ≡ new'
 
 gives_one : (call call' : HostCall) (new new' : List ℕ) (answer answer' : ℕ) (memory memory' reply reply' : List ℕ)
-    → answer ≡ answer' → memory ≡ memory' → reply ≡ reply' → Gives call new answer memory reply → Gives call' new' answer' memory' reply'
+    → answer ≡ answer' → memory ≡ memory' → reply ≡ reply' → GivesAnswer call new answer memory reply → GivesAnswer call' new' answer' memory' reply'
     → SameAnswers call call' new new'
 gives_one call call' new new' answer answer' memory memory' reply reply' a m r (ga, gm, gr) (ga', gm', gr') =
     record { answer = cc; after = cc; reply = cc }

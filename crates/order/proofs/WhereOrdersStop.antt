@@ -12,8 +12,8 @@ use Rattle.events.specs.declared.ended.Ended.{Ended}
 use Rattle.events.specs.declared.ended.Ending.{Ending}
 use Rattle.events.specs.declared.ended.Ending.TheVariants.{Return}
 use Rattle.imports.specs.Linking.{ExportsFunction}
-use Rattle.order.specs.Stopping.{WorkStop, ComputesTo, Leaves, StoppedIsComputed, stops, works}
-use Rattle.order.specs.Trails.{Innermost, innermost}
+use Rattle.order.specs.Stopping.{WorkStop, ComputesTo, LeavesTrail, StoppedIsComputed, stops, works}
+use Rattle.order.specs.Trails.{Innermost, innermost_sites}
 use Rattle.order.specs.Work.{WorkOrder, WorkEnd, Done, Trap, Depth, Spent, NoMemory, StartRun, Computes, EndsAs}
 use Rattle.order.specs.Work as work
 use Rattle.order.proofs.WorkHostAnswers.{not_returned}
@@ -48,8 +48,8 @@ is_computed o end used stop (works s t u results ended first reply reply' functi
     work.works s t u results (end_of_run ended.ending) first ended.used reply reply' function fresh started exported ran.run all ends
 
 -- the trail is what is kept of that
-pub leaves : (o : WorkOrder) (e : WorkEnd) (used : ℕ) (stop : Option (List Site)) (trail : Option Innermost) → e ≢ NoMemory → ComputesTo o e used stop → trail ≡ option_map innermost stop
-    → Leaves o e used trail
+pub leaves : (o : WorkOrder) (e : WorkEnd) (used : ℕ) (stop : Option (List Site)) (trail : Option Innermost) → e ≢ NoMemory → ComputesTo o e used stop → trail ≡ option_map innermost_sites stop
+    → LeavesTrail o e used trail
 leaves o (Done value bytes) used stop trail told h is = (stop, h, is)
 leaves o (Trap code) used stop trail told h is = (stop, h, is)
 leaves o Depth used stop trail told h is = (stop, h, is)

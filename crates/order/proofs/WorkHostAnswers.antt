@@ -7,7 +7,7 @@ use Rattle.reduction.specs.Hosting.{Lawful}
 use Rattle.imports.specs.Linking.{Imports}
 use Rattle.order.specs.declared.host.WorkHost.{WorkHost}
 use Rattle.order.specs.Work.{WorkOrder, WorkEnd, Done, Trap, Depth, Spent, NoMemory, WorkAnswers, WorkCall, Works, IsTheEnd, IsEndOf}
-use Rattle.order.specs.Inner.WorkHosting.{Answered}
+use Rattle.order.specs.Inner.WorkHosting.{WorkAnswered}
 use Rattle.order.specs.Inner.Serving.{Serves}
 use Rattle.std.proofs.Common.{reverse, ◌+◌, ◌-◌, Option, codes}
 use Rattle.syntax.specs.declared.types.Value.TheVariants.{I32}
@@ -38,14 +38,14 @@ pub record Served (o : WorkOrder) (trace : List HostCall) (old new : WorkHost) :
   pub answers : Lawful (WorkCall o) trace old.reply.items new.reply.items
   pub serves : Serves new o
 
-pub served : (o : WorkOrder) (trace : List HostCall) (old new : WorkHost) → Serves old o → Lawful Answered trace old new → Served o trace old new
+pub served : (o : WorkOrder) (trace : List HostCall) (old new : WorkHost) → Serves old o → Lawful WorkAnswered trace old new → Served o trace old new
 served o [] old new serves same = record {
   answers = ap (λ (h : WorkHost). h.reply.items) same;
   serves = subst (λ (h : WorkHost). Serves h o) (sym same) serves;
 }
 served o (call ∷ trace) old new serves h =
     let mid : WorkHost = h.0 in
-    let answered : Answered old call mid = h.1 in
+    let answered : WorkAnswered old call mid = h.1 in
     let mid_serves : Serves mid o = record {
       linked = answered.same_module ∙ serves.linked;
       bytes = ap (λ v. v.items) answered.same_bytes ∙ serves.bytes;
@@ -71,7 +71,7 @@ names_of v l h same linked other = rw (same, other) (names l.contents linked)
 
 -- a call of a function, as the order's
 module _ (o : WorkOrder) (fuel : ℕ) (v : Loaded) (is : v ≡ o.loaded) (s t : Store) (old new : WorkHost) (serves : Serves old o) (function : ℕ) (args : List Value) (ended : Ended) where
-  pub work_stops : (stop : Option (List Site)) → Leads Answered (calling v.contents function args fuel o.depth) (scene s old) ended stop (scene t new)
+  pub work_stops : (stop : Option (List Site)) → Leads WorkAnswered (calling v.contents function args fuel o.depth) (scene s old) ended stop (scene t new)
       → WorkStop o fuel s old.reply.items function args ended t new.reply.items stop
   work_stops stop h = record {
     run = record {
@@ -82,7 +82,7 @@ module _ (o : WorkOrder) (fuel : ℕ) (v : Loaded) (is : v ≡ o.loaded) (s t : 
     stops = subst (λ (l : Loaded). StopsAt l.contents o.depth s function args h.asked ended.ending ended.used t stop) is h.stopped;
   }
 
-  pub work_serves : (stop : Option (List Site)) → Leads Answered (calling v.contents function args fuel o.depth) (scene s old) ended stop (scene t new) → Serves new o
+  pub work_serves : (stop : Option (List Site)) → Leads WorkAnswered (calling v.contents function args fuel o.depth) (scene s old) ended stop (scene t new) → Serves new o
   work_serves stop h = (served o h.asked old new serves h.answered).serves
 
 pub not_returned : (how : Ending) → ((values : List Value) → how ≡ Return values → ⊥) → (results : List Value) → end_of_run how ≢ Returned results

@@ -1,31 +1,31 @@
 -- What a slice leaves of an order under way.
 use Rattle.std.specs.Prelude.{◌≡◌, ◌≢◌, ℕ, ◌+◌, ◌<◌, ◌≤◌}
 use Rattle.order.specs.declared.run.Told.{Told}
-use Rattle.order.specs.declared.running.Going.{Going}
-use Rattle.order.specs.declared.running.Going.TheVariants.{Over, Paused}
+use Rattle.order.specs.declared.running.OrderGoing.{OrderGoing}
+use Rattle.order.specs.declared.running.OrderGoing.TheVariants.{Over, Paused}
 use Rattle.order.specs.Orders.{order_of, end_of}
-use Rattle.order.specs.Stopping.{Leaves}
+use Rattle.order.specs.Stopping.{LeavesTrail}
 use Rattle.order.specs.Underway.{Underway}
 use Rattle.order.specs.Work.{WorkOrder, NoMemory, Uses}
 
 -- The order is over, and there was memory. What is answered is what is answered for a run of the whole order: its reply's type says of what becomes
 -- of it that one thread computes it, and so much fuel is used for it in all, of which the slice used at most its units.
-pub record IsOver (o : WorkOrder) (before units : ℕ) (told : Told) : Type 0 where
+pub record OrderIsOver (o : WorkOrder) (before units : ℕ) (told : Told) : Type 0 where
   pub order : order_of told.reply.order ≡ o
   pub memory : end_of told.reply.outcome ≢ NoMemory
   pub uses : Uses o (end_of told.reply.outcome) told.used
-  pub leaves : Leaves o (end_of told.reply.outcome) told.used told.trail
+  pub leaves : LeavesTrail o (end_of told.reply.outcome) told.used told.trail
   pub since : before ≤ told.used
   pub slice : told.used ≤ before + units
   pub within : told.used ≤ o.fuel
 
 -- it is under way, has used exactly the slice's units more, and some are left
-pub record IsPaused (o : WorkOrder) (before units : ℕ) (r : Underway) : Type 0 where
+pub record OrderIsPaused (o : WorkOrder) (before units : ℕ) (r : Underway) : Type 0 where
   pub order : r.order ≡ o
   pub used : r.used ≡ before + units
   pub left : r.used < o.fuel
 
 -- an order that had used so much goes on for so many units
-abbrev pub Goes : Underway → (units : ℕ) → Going → Type 0
-Goes r units (Over told) = IsOver r.order r.used units told
-Goes r units (Paused after) = IsPaused r.order r.used units after
+abbrev pub OrderGoesOn : Underway → (units : ℕ) → OrderGoing → Type 0
+OrderGoesOn r units (Over told) = OrderIsOver r.order r.used units told
+OrderGoesOn r units (Paused after) = OrderIsPaused r.order r.used units after

@@ -11,7 +11,7 @@ use Rattle.reduction.specs.Running.{end_of_run}
 use Rattle.reduction.specs.Stopping.{StopsAt}
 use Rattle.events.specs.declared.ended.Ended.{Ended}
 use Rattle.imports.specs.Linking.{ExportsFunction}
-use Rattle.order.specs.Trails.{Innermost, innermost}
+use Rattle.order.specs.Trails.{Innermost, innermost_sites}
 use Rattle.order.specs.Work.{WorkOrder, WorkEnd, NoMemory, WorkRun, StartRun, EndsAs, Computes}
 
 -- a function of the order's module runs so, and that run stops there if it does not return
@@ -43,6 +43,6 @@ StoppedIsComputed =
     (o : WorkOrder) (end : WorkEnd) (used : ℕ) (stop : Option (List Site)) → ComputesTo o end used stop → Computes o end used
 
 -- the trail of a run of the order: what is kept of where it stopped; where there is no memory, nothing runs
-abbrev pub Leaves : WorkOrder → WorkEnd → (used : ℕ) → (trail : Option Innermost) → Type 0
-Leaves o NoMemory used trail = trail ≡ None
-Leaves o end used trail = (stop : Option (List Site)) × ComputesTo o end used stop × (trail ≡ option_map innermost stop)
+abbrev pub LeavesTrail : WorkOrder → WorkEnd → (used : ℕ) → (trail : Option Innermost) → Type 0
+LeavesTrail o NoMemory used trail = trail ≡ None
+LeavesTrail o end used trail = (stop : Option (List Site)) × ComputesTo o end used stop × (trail ≡ option_map innermost_sites stop)

@@ -8,5 +8,5 @@ pub record Innermost : Type 0 where
   pub sites : List Site
   pub calls : ℕ
 
-abbrev pub innermost : List Site → Innermost
-innermost stop = record { sites = take MAX_TRAIL stop; calls = length stop }
+abbrev pub innermost_sites : List Site → Innermost
+innermost_sites stop = record { sites = take MAX_TRAIL stop; calls = length stop }

@@ -43,23 +43,23 @@ EndsAs TooDeep reply end = end ≡ Depth
 EndsAs OutOfFuel reply end = end ≡ Spent
 
 -- an answer of a number
-abbrev pub Says : HostCall → ℕ → Type 0
-Says call answer = call.answer ≡ Some (I32 answer)
+abbrev pub SaysNumber : HostCall → ℕ → Type 0
+SaysNumber call answer = call.answer ≡ Some (I32 answer)
 
 -- the call answers this, and leaves the memory and the bytes of the reply so
-abbrev pub Gives : HostCall → List ℕ → (answer : ℕ) → (memory reply : List ℕ) → Type 0
-Gives call reply' answer memory reply = Says call answer × (call.after ≡ memory) × (reply' ≡ reply)
+abbrev pub GivesAnswer : HostCall → List ℕ → (answer : ℕ) → (memory reply : List ℕ) → Type 0
+GivesAnswer call reply' answer memory reply = SaysNumber call answer × (call.after ≡ memory) × (reply' ≡ reply)
 
 -- what the host of a work function answers to a function of "uv", of these arguments
 abbrev pub WorkAnswers : (bytes reply : List ℕ) → HostCall → (reply' : List ℕ) → Call → List Value → Type 0
-WorkAnswers bytes reply call reply' InLen [] = Gives call reply' (input_length (Some bytes)) call.before reply
+WorkAnswers bytes reply call reply' InLen [] = GivesAnswer call reply' (input_length (Some bytes)) call.before reply
 WorkAnswers bytes reply call reply' InCopy (I32 to ∷ I32 from ∷ I32 count ∷ []) =
-    let copied = copied_in (Some bytes) to from count call.before in Gives call reply' copied.0 copied.1 reply
+    let copied = copied_in (Some bytes) to from count call.before in GivesAnswer call reply' copied.0 copied.1 reply
 WorkAnswers bytes reply call reply' OutSet (I32 place ∷ I32 count ∷ []) =
-    let set = set_out place count call.before reply in Gives call reply' set.0 call.before set.1
+    let set = set_out place count call.before reply in GivesAnswer call reply' set.0 call.before set.1
 -- every other call is not here, `now` by its own type
 WorkAnswers bytes reply call reply' Now args = (call.answer ≡ Some (I64 (2 ^ 64 - 1))) × (call.after ≡ call.before) × (reply' ≡ reply)
-WorkAnswers bytes reply call reply' _ args = Gives call reply' NOT_HERE call.before reply
+WorkAnswers bytes reply call reply' _ args = GivesAnswer call reply' NOT_HERE call.before reply
 
 -- one call of the host of a work function
 abbrev pub WorkCall : WorkOrder → List ℕ → HostCall → List ℕ → Type 0

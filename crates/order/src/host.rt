@@ -91,11 +91,11 @@ impl WorkHost {
 }
 
 impl Host for WorkHost {
-    ghost use Rattle.order.specs.Inner.WorkHosting.{types_of_host, Answered};
+    ghost use Rattle.order.specs.Inner.WorkHosting.{types_of_host, WorkAnswered};
 
     ghost types = { types_of_host };
 
-    ghost moves = { Answered };
+    ghost moves = { WorkAnswered };
 
     fn call(&mut self, import: u32, args: &Args, memory: &mut Memory) -> Option<Value> {
         let call = called(&self.linked, import, args);

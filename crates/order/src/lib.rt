@@ -24,5 +24,5 @@ pub mod uv;
 pub use order::{Order, Outcome};
 pub use reply::Reply;
 pub use run::Told;
-pub use running::{Going, Running};
+pub use running::{OrderGoing, Running};
 pub use trail::{MAX_TRAIL, Trail};

@@ -14,12 +14,12 @@ ghost use Rattle.order.specs.Orders.{order_of};
 ghost use Rattle.order.specs.Runnable.{CanRun};
 ghost use Rattle.order.specs.Stopping.{WorkStop};
 ghost use Rattle.order.specs.Inner.Serving.{Serves};
-ghost use Rattle.order.specs.Inner.Going.{IsCallingOn, IsUnbegun, Runs};
+ghost use Rattle.order.specs.Inner.Going.{IsCallingOn, IsUnbegun, RunsOrder};
 
 use crate::host::WorkHost;
 use crate::order::Order;
 use events::ended::Ended;
-use instance::stack::{Caller, Last, Slots, Stack};
+use instance::stack::{CallStack, Caller, Last, Slots};
 use instance::state::State;
 use interp::call::FunctionCall;
 use interp::slices::{Paused, Slice, begin, go_on};
@@ -58,7 +58,7 @@ impl Order {
     /// Reserves all that the order runs on.
     pub(crate) fn machine(&self, alloc: Global) -> Result<Machine, AllocError>
         requires { CanRun (order_of self.now) }
-        ensures runs { IfOk result (λ m. Runs (order_of self.now) m) }
+        ensures runs { IfOk result (λ m. RunsOrder (order_of self.now) m) }
         ensures unbegun { IfOk result (λ m. IsUnbegun (order_of self.now) m) }
     {
         let (state, _) = self.new_instance(alloc)?.into_parts();
@@ -92,14 +92,14 @@ impl Machine {
         args: &[Value],
         fuel: u64,
     ) -> Paused
-        requires runs { Runs (order_of order.now) self.old }
+        requires runs { RunsOrder (order_of order.now) self.old }
         requires store { IsStoreOf (arc_value order.now.module).contents self.old.state }
         requires serves { Serves self.old.host (order_of order.now) }
         requires typed { TakesArguments (arc_value order.now.module).contents function args.now }
         requires defined { length (arc_value order.now.module).contents.imports ≤ function }
         ensures calling { IsCallingOn (order_of order.now) self.new self.old.state self.old.host result fuel args.now }
         ensures function { result.function ≡ function }
-        ensures runs { Runs (order_of order.now) self.new }
+        ensures runs { RunsOrder (order_of order.now) self.new }
         ensures used { result.used ≡ 0 }
     {
         let Machine {
@@ -132,7 +132,7 @@ impl Machine {
     /// Goes on with a call of a function of the order's module for at most the units of the slice, and returns its ending, if it is
     /// over then.
     pub(crate) fn go_on(&mut self, order: &Order, slice: &mut Slice) -> Option<Ended>
-        requires runs { Runs (order_of order.now) self.old }
+        requires runs { RunsOrder (order_of order.now) self.old }
         requires calling { (s : Store) × (old : Answering) × (args : List Argument) × (fuel : ℕ) × IsCallingOn (order_of order.now) self.old s old slice.old.paused fuel args }
         ensures over { IfSome result (λ ended. (s : Store) (old : Answering) (args : List Argument) (fuel : ℕ)
             → IsCallingOn (order_of order.now) self.old s old slice.old.paused fuel args
@@ -146,7 +146,7 @@ impl Machine {
         ensures last { IfSome result (λ e. UsesSome slice.old.paused slice.old.units e.used) }
         ensures results { IfSome result (λ e. ReturnsTyped (arc_value order.now.module).contents slice.old.paused.function e.ending) }
         ensures store { IsStoreOf (arc_value order.now.module).contents self.new.state }
-        ensures runs { Runs (order_of order.now) self.new }
+        ensures runs { RunsOrder (order_of order.now) self.new }
     {
         let Machine {
             state,
@@ -174,7 +174,7 @@ impl Machine {
     }
 
     /// The stack and the host, where the order is over.
-    pub(crate) fn into_parts(self) -> (Stack, WorkHost)
+    pub(crate) fn into_parts(self) -> (CallStack, WorkHost)
         requires room { MAX_DEPTH ≤ length self.frames.items }
         requires shallow { IfSome self.last (λ l. l.depth ≤ MAX_DEPTH) }
         ensures stack { result.0 ≡ stop_of self.last self.frames.items }
@@ -188,7 +188,7 @@ impl Machine {
             host,
             tables: _,
         } = self;
-        let stack = Stack {
+        let stack = CallStack {
             slots,
             frames,
             last,
@@ -203,8 +203,8 @@ impl Machine {
         function: u32,
         args: &[Value],
         fuel: u64,
-    ) -> (Ended, Stack, WorkHost)
-        requires runs { Runs (order_of order.now) self }
+    ) -> (Ended, CallStack, WorkHost)
+        requires runs { RunsOrder (order_of order.now) self }
         requires store { IsStoreOf (arc_value order.now.module).contents self.state }
         requires serves { Serves self.host (order_of order.now) }
         requires typed { TakesArguments (arc_value order.now.module).contents function args.now }
@@ -222,7 +222,7 @@ impl Machine {
             tables: _,
         } = self;
         let (mut state, mut host) = (state, host);
-        let mut stack = Stack {
+        let mut stack = CallStack {
             slots,
             frames,
             last,

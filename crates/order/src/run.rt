@@ -11,10 +11,10 @@ ghost use Rattle.reduction.specs.Invoking.{TakesArguments, ReturnsTyped};
 ghost use Rattle.reduction.specs.Running.{end_of_run, AreResults};
 ghost use Rattle.imports.specs.Linking.{ExportsFunction};
 ghost use Rattle.order.specs.Orders.{order_of, end_of};
-ghost use Rattle.order.specs.Inner.Ready.{IsReady};
+ghost use Rattle.order.specs.Inner.Ready.{IsReadyToRun};
 ghost use Rattle.order.specs.Inner.Serving.{Serves};
 ghost use Rattle.order.specs.Runnable.{CanRun};
-ghost use Rattle.order.specs.Stopping.{WorkStop, ComputesTo, Leaves};
+ghost use Rattle.order.specs.Stopping.{WorkStop, ComputesTo, LeavesTrail};
 ghost use Rattle.order.specs.Work.{WorkEnd, NoMemory, StartRun, Computes, Uses, IsEndOf, EndsAs};
 
 use crate::host::WorkHost;
@@ -27,7 +27,7 @@ use imports::laws::names_are_apart;
 use imports::{EntryPoint, Linked};
 use instance::fault::InstFault;
 use instance::room::Room;
-use instance::stack::Stack;
+use instance::stack::CallStack;
 use instance::state::{Instance, State};
 use interp::call::FunctionCall;
 use interp::invoke::invoke_on;
@@ -86,7 +86,7 @@ struct Reserved<T> {
 
 /// A new instance of a module, in the room that another one had.
 fn instance_of(alloc: Global, linked: &Linked, room: &mut Room) -> Result<Instance, AllocError>
-    ensures { IfOk result (λ i. IsReady linked.now.contents i.state) }
+    ensures { IfOk result (λ i. IsReadyToRun linked.now.contents i.state) }
 {
     let valid = linked.valid();
     // by its contract the module is valid
@@ -106,7 +106,7 @@ fn reserve<T: Drop>(
     input: &Arc<T, Global>,
     room: &mut Room,
 ) -> Result<Reserved<T>, AllocError>
-    ensures ready { IfOk result (λ r. IsReady (arc_value linked.now).contents r.instance.state) }
+    ensures ready { IfOk result (λ r. IsReadyToRun (arc_value linked.now).contents r.instance.state) }
     ensures linked { IfOk result (λ r. arc_value r.linked ≡ arc_value linked.now) }
     ensures input { IfOk result (λ r. arc_value r.input ≡ arc_value input.now) }
 {
@@ -140,7 +140,7 @@ impl Order {
         ensures order { result.reply.order ≡ self }
         ensures used { Uses (order_of self) (end_of result.reply.outcome) result.used }
         ensures within { result.used ≤ self.fuel }
-        ensures trail { Leaves (order_of self) (end_of result.reply.outcome) result.used result.trail }
+        ensures trail { LeavesTrail (order_of self) (end_of result.reply.outcome) result.used result.trail }
     {
         self.run_in(alloc, &mut Room::empty())
     }
@@ -153,7 +153,7 @@ impl Order {
         ensures order { result.reply.order ≡ self }
         ensures used { Uses (order_of self) (end_of result.reply.outcome) result.used }
         ensures within { result.used ≤ self.fuel }
-        ensures trail { Leaves (order_of self) (end_of result.reply.outcome) result.used result.trail }
+        ensures trail { LeavesTrail (order_of self) (end_of result.reply.outcome) result.used result.trail }
     {
         let reserved = reserve(alloc, &self.module, &self.bytes, room);
         self.run_reserved(reserved, room)
@@ -162,7 +162,7 @@ impl Order {
     /// Runs the order in what was reserved for it. There was no memory where that was refused, and nowhere else.
     fn run_reserved(self, reserved: Result<Reserved<Vec<u8>>, AllocError>, room: &mut Room) -> Told
         requires runs { CanRun (order_of self) }
-        requires ready { IfOk reserved (λ r. IsReady (arc_value self.module).contents r.instance.state) }
+        requires ready { IfOk reserved (λ r. IsReadyToRun (arc_value self.module).contents r.instance.state) }
         requires linked { IfOk reserved (λ r. arc_value r.linked ≡ arc_value self.module) }
         requires input { IfOk reserved (λ r. arc_value r.input ≡ arc_value self.bytes) }
         ensures order { result.reply.order ≡ self }
@@ -170,7 +170,7 @@ impl Order {
         ensures refused { IfErr reserved (λ _. end_of result.reply.outcome ≡ NoMemory) }
         ensures used { Uses (order_of self) (end_of result.reply.outcome) result.used }
         ensures within { result.used ≤ self.fuel }
-        ensures trail { Leaves (order_of self) (end_of result.reply.outcome) result.used result.trail }
+        ensures trail { LeavesTrail (order_of self) (end_of result.reply.outcome) result.used result.trail }
     {
         let computed = match reserved {
             Ok(reserved) => self.compute(reserved, room),
@@ -193,14 +193,14 @@ impl Order {
     /// Runs the order on a new instance, for a host that has set no bytes. Nothing is reserved.
     fn compute(&self, reserved: Reserved<Vec<u8>>, room: &mut Room) -> Computed
         requires runs { CanRun (order_of self.now) }
-        requires ready { IsReady (arc_value self.now.module).contents reserved.instance.state }
+        requires ready { IsReadyToRun (arc_value self.now.module).contents reserved.instance.state }
         requires linked { arc_value reserved.linked ≡ arc_value self.now.module }
         requires input { arc_value reserved.input ≡ arc_value self.now.bytes }
         ensures end { IsEndOf (order_of self.now) (end_of result.outcome) }
         ensures told { end_of result.outcome ≢ NoMemory }
         ensures used { Uses (order_of self.now) (end_of result.outcome) result.used }
         ensures within { result.used ≤ self.now.fuel }
-        ensures trail { Leaves (order_of self.now) (end_of result.outcome) result.used result.trail }
+        ensures trail { LeavesTrail (order_of self.now) (end_of result.outcome) result.used result.trail }
     {
         names_are_apart();
         let Reserved {
@@ -226,7 +226,7 @@ impl Order {
     }
 
     /// The start function and, where it returns, `uv_work`.
-    fn start_and_work(&self, state: &mut State, stack: &mut Stack, host: &mut WorkHost) -> Ended
+    fn start_and_work(&self, state: &mut State, stack: &mut CallStack, host: &mut WorkHost) -> Ended
         requires runs { CanRun (order_of self.now) }
         requires fresh { IsFresh (arc_value self.now.module).contents state.old }
         requires store { IsStoreOf (arc_value self.now.module).contents state.old }
@@ -257,7 +257,7 @@ impl Order {
     }
 
     /// The start function, where there is one.
-    fn start(&self, state: &mut State, stack: &mut Stack, host: &mut WorkHost) -> Ended
+    fn start(&self, state: &mut State, stack: &mut CallStack, host: &mut WorkHost) -> Ended
         requires store { IsStoreOf (arc_value self.now.module).contents state.old }
         requires serves { Serves host.old (order_of self.now) }
         requires empty { host.old.reply.items ≡ [] }
@@ -280,7 +280,13 @@ impl Order {
     }
 
     /// `uv_work`, with the fuel that is left.
-    fn work(&self, state: &mut State, stack: &mut Stack, host: &mut WorkHost, fuel: u64) -> Ended
+    fn work(
+        &self,
+        state: &mut State,
+        stack: &mut CallStack,
+        host: &mut WorkHost,
+        fuel: u64,
+    ) -> Ended
         requires runs { CanRun (order_of self.now) }
         requires store { IsStoreOf (arc_value self.now.module).contents state.old }
         requires serves { Serves host.old (order_of self.now) }
@@ -299,7 +305,7 @@ impl Order {
     pub(crate) fn call(
         &self,
         state: &mut State,
-        stack: &mut Stack,
+        stack: &mut CallStack,
         host: &mut WorkHost,
         function: u32,
         args: &[Value],

@@ -14,22 +14,22 @@ ghost use Rattle.imports.specs.Uv.{type_of_entry};
 ghost use Rattle.imports.specs.declared.entry_point.EntryPoint.TheVariants.{Work};
 ghost use Rattle.order.specs.Orders.{order_of, end_of};
 ghost use Rattle.order.specs.Work.{WorkEnd, NoMemory, EndsAs, Computes, Uses};
-ghost use Rattle.order.specs.Stopping.{ComputesTo, Leaves};
-ghost use Rattle.order.specs.Slices.{Goes};
+ghost use Rattle.order.specs.Stopping.{ComputesTo, LeavesTrail};
+ghost use Rattle.order.specs.Slices.{OrderGoesOn};
 ghost use Rattle.order.specs.Inner.Serving.{Serves};
-ghost use Rattle.order.specs.Inner.Going.{Runs, IsUnbegun, IsStarting, IsStarted, IsWorking};
+ghost use Rattle.order.specs.Inner.Going.{RunsOrder, IsUnbegun, IsStarting, StartIsOver, IsWorking};
 
 use crate::host::WorkHost;
 use crate::machine::Machine;
 use crate::order::{Order, Outcome};
 use crate::reply::Reply;
 use crate::run::{Told, outcome_from};
-use crate::stage::Stage;
+use crate::stage::RunStage;
 use crate::trail::Trail;
 use events::ended::Ending;
 use imports::EntryPoint;
 use imports::laws::names_are_apart;
-use instance::stack::Stack;
+use instance::stack::CallStack;
 use interp::slices::{Paused, Slice};
 use std::alloc::{AllocError, Global};
 use std::marker::Model;
@@ -40,7 +40,7 @@ use syntax::types::Value;
 pub struct Running {
     order: Order,
     machine: Machine,
-    stage: Stage,
+    stage: RunStage,
 }
 
 impl Drop for Running {
@@ -58,20 +58,20 @@ impl Model for Running {
     ghost use Rattle.syntax.specs.Loaded.{loaded_coded};
     ghost use Rattle.order.specs.Orders.{order_of};
     ghost use Rattle.order.specs.Underway.{Underway};
-    ghost use Rattle.order.specs.Inner.Going.{IsGoing, used_at};
+    ghost use Rattle.order.specs.Inner.Going.{IsGoing, used_in_stage};
 
     ghost Value = { Underway };
 
     ghost coded = { Prim.hlevel (codes, loaded_coded) };
 
-    ghost view = { λ r. record { order = order_of r.order; used = used_at r.stage } };
+    ghost view = { λ r. record { order = order_of r.order; used = used_in_stage r.stage } };
 
     ghost invariant = { λ r. IsGoing (order_of r.order) r.machine r.stage };
 }
 
 /// What a slice leaves of an order.
 #[derive(Drop)]
-pub enum Going {
+pub enum OrderGoing {
     /// It is over: the order with what became of it, as `Order::run_told` answers it.
     Over(Told),
     /// It goes on from here.
@@ -92,7 +92,7 @@ impl Order {
             Ok(machine) => Ok(Running {
                 order: self,
                 machine,
-                stage: Stage::Fresh,
+                stage: RunStage::Fresh,
             }),
             Err(AllocError) => Err(Reply {
                 order: self,
@@ -105,9 +105,9 @@ impl Order {
 impl Running {
     /// Goes on for at most so many units of fuel, at least one. Where the order is over then, the reply is that of `Order::run`, beside
     /// all fuel that it has used; else it has used exactly so many units more, and some are left. No memory is taken.
-    pub fn go_on(self, units: u64) -> Going
+    pub fn go_on(self, units: u64) -> OrderGoing
         requires { 1 ≤ units }
-        ensures { Goes self units result }
+        ensures { OrderGoesOn self units result }
     {
         let Running {
             order,
@@ -115,15 +115,15 @@ impl Running {
             stage,
         } = self;
         match stage {
-            Stage::Fresh => begin_start(order, machine, units),
-            Stage::Starting(paused) => start_on(order, machine, paused, units),
-            Stage::Working(first, paused) => work_on(order, machine, first, paused, units),
+            RunStage::Fresh => begin_start(order, machine, units),
+            RunStage::Starting(paused) => start_on(order, machine, paused, units),
+            RunStage::Working(first, paused) => work_on(order, machine, first, paused, units),
         }
     }
 }
 
 /// The answer for an order that is over.
-fn tell(order: Order, host: WorkHost, stack: Stack, ending: Ending, used: u64) -> Told
+fn tell(order: Order, host: WorkHost, stack: CallStack, ending: Ending, used: u64) -> Told
     requires valid { ValidModule (arc_value order.module).contents }
     requires computes { (end : WorkEnd) → EndsAs (end_of_run ending) host.reply.items end → Computes (order_of order) end used }
     requires stops { (end : WorkEnd) → EndsAs (end_of_run ending) host.reply.items end → ComputesTo (order_of order) end used stack }
@@ -131,7 +131,7 @@ fn tell(order: Order, host: WorkHost, stack: Stack, ending: Ending, used: u64) -
     ensures order { order_of result.reply.order ≡ order_of order }
     ensures memory { end_of result.reply.outcome ≢ NoMemory }
     ensures uses { Uses (order_of order) (end_of result.reply.outcome) result.used }
-    ensures leaves { Leaves (order_of order) (end_of result.reply.outcome) result.used result.trail }
+    ensures leaves { LeavesTrail (order_of order) (end_of result.reply.outcome) result.used result.trail }
     ensures used { result.used ≡ used }
 {
     names_are_apart();
@@ -146,14 +146,14 @@ fn tell(order: Order, host: WorkHost, stack: Stack, ending: Ending, used: u64) -
 
 /// The answer for an order whose machine is at its end.
 fn over(order: Order, machine: Machine, ending: Ending, used: u64) -> Told
-    requires runs { Runs (order_of order) machine }
+    requires runs { RunsOrder (order_of order) machine }
     requires computes { (end : WorkEnd) → EndsAs (end_of_run ending) machine.host.reply.items end
         → Computes (order_of order) end used × ComputesTo (order_of order) end used (stop_of machine.last machine.frames.items) }
     requires results { AreResults ending (valtype.I32 ∷ []) }
     ensures order { order_of result.reply.order ≡ order_of order }
     ensures memory { end_of result.reply.outcome ≢ NoMemory }
     ensures uses { Uses (order_of order) (end_of result.reply.outcome) result.used }
-    ensures leaves { Leaves (order_of order) (end_of result.reply.outcome) result.used result.trail }
+    ensures leaves { LeavesTrail (order_of order) (end_of result.reply.outcome) result.used result.trail }
     ensures used { result.used ≡ used }
 {
     let (stack, host) = machine.into_parts();
@@ -161,10 +161,10 @@ fn over(order: Order, machine: Machine, ending: Ending, used: u64) -> Told
 }
 
 /// Begins the start function, where there is one, and goes on.
-fn begin_start(order: Order, machine: Machine, units: u64) -> Going
-    requires runs { Runs (order_of order) machine }
+fn begin_start(order: Order, machine: Machine, units: u64) -> OrderGoing
+    requires runs { RunsOrder (order_of order) machine }
     requires unbegun { IsUnbegun (order_of order) machine }
-    ensures { Goes (record { order = order_of order; used = 0 }) units result }
+    ensures { OrderGoesOn (record { order = order_of order; used = 0 }) units result }
 {
     let Some(function) = order.module.valid().contents().start else {
         return begin_work(order, machine, 0, units);
@@ -175,40 +175,40 @@ fn begin_start(order: Order, machine: Machine, units: u64) -> Going
 }
 
 /// Goes on with the start function, and with `uv_work`, where that returns within the slice.
-fn start_on(order: Order, machine: Machine, paused: Paused, units: u64) -> Going
-    requires runs { Runs (order_of order) machine }
+fn start_on(order: Order, machine: Machine, paused: Paused, units: u64) -> OrderGoing
+    requires runs { RunsOrder (order_of order) machine }
     requires starting { IsStarting (order_of order) machine paused }
-    ensures { Goes (record { order = order_of order; used = paused.used }) units result }
+    ensures { OrderGoesOn (record { order = order_of order; used = paused.used }) units result }
 {
     let mut machine = machine;
     let mut slice = Slice { paused, units };
     let Some(ended) = machine.go_on(&order, &mut slice) else {
-        return Going::Paused(Running {
+        return OrderGoing::Paused(Running {
             order,
             machine,
-            stage: Stage::Starting(slice.paused),
+            stage: RunStage::Starting(slice.paused),
         });
     };
     let Ending::Return(_) = ended.ending else {
-        return Going::Over(over(order, machine, ended.ending, ended.used));
+        return OrderGoing::Over(over(order, machine, ended.ending, ended.used));
     };
     let rest = units - (ended.used - paused.used());
     begin_work(order, machine, ended.used, rest)
 }
 
 /// Begins `uv_work`, after a start function that used so much, or none, and goes on.
-fn begin_work(order: Order, machine: Machine, first: u64, units: u64) -> Going
-    requires runs { Runs (order_of order) machine }
+fn begin_work(order: Order, machine: Machine, first: u64, units: u64) -> OrderGoing
+    requires runs { RunsOrder (order_of order) machine }
     requires store { IsStoreOf (arc_value order.module).contents machine.state }
     requires serves { Serves machine.host (order_of order) }
-    requires started { IsStarted (order_of order) first machine.state machine.host.reply.items }
-    ensures { Goes (record { order = order_of order; used = first }) units result }
+    requires started { StartIsOver (order_of order) first machine.state machine.host.reply.items }
+    ensures { OrderGoesOn (record { order = order_of order; used = first }) units result }
 {
     let Some(function) = order.module.entry(EntryPoint::Work) else {
         unreachable!();
     };
     if (function as usize) < order.module.valid().contents().imports.len() {
-        return Going::Over(ask(order, machine, function, first));
+        return OrderGoing::Over(ask(order, machine, function, first));
     }
     let mut machine = machine;
     let args = [Value::I32(order.op)];
@@ -217,37 +217,37 @@ fn begin_work(order: Order, machine: Machine, first: u64, units: u64) -> Going
 }
 
 /// Goes on with `uv_work`, after a start function that used so much, or none.
-fn work_on(order: Order, machine: Machine, first: u64, paused: Paused, units: u64) -> Going
-    requires runs { Runs (order_of order) machine }
+fn work_on(order: Order, machine: Machine, first: u64, paused: Paused, units: u64) -> OrderGoing
+    requires runs { RunsOrder (order_of order) machine }
     requires working { IsWorking (order_of order) machine first paused }
-    ensures { Goes (record { order = order_of order; used = first + paused.used }) units result }
+    ensures { OrderGoesOn (record { order = order_of order; used = first + paused.used }) units result }
 {
     let mut machine = machine;
     let mut slice = Slice { paused, units };
     let Some(ended) = machine.go_on(&order, &mut slice) else {
-        return Going::Paused(Running {
+        return OrderGoing::Paused(Running {
             order,
             machine,
-            stage: Stage::Working(first, slice.paused),
+            stage: RunStage::Working(first, slice.paused),
         });
     };
     let used = first + ended.used;
-    Going::Over(over(order, machine, ended.ending, used))
+    OrderGoing::Over(over(order, machine, ended.ending, used))
 }
 
 /// Asks the host for a `uv_work` that is an import, after a start function that used so much, or none.
 fn ask(order: Order, machine: Machine, function: u32, first: u64) -> Told
-    requires runs { Runs (order_of order) machine }
+    requires runs { RunsOrder (order_of order) machine }
     requires store { IsStoreOf (arc_value order.module).contents machine.state }
     requires serves { Serves machine.host (order_of order) }
-    requires started { IsStarted (order_of order) first machine.state machine.host.reply.items }
+    requires started { StartIsOver (order_of order) first machine.state machine.host.reply.items }
     requires exported { ExportsFunction (arc_value order.module).contents (codes "uv_work") function }
     requires typed { type_of_function (arc_value order.module).contents function ≡ Some (type_of_entry Work) }
     requires imported { function < length (arc_value order.module).contents.imports }
     ensures order { order_of result.reply.order ≡ order_of order }
     ensures memory { end_of result.reply.outcome ≢ NoMemory }
     ensures uses { Uses (order_of order) (end_of result.reply.outcome) result.used }
-    ensures leaves { Leaves (order_of order) (end_of result.reply.outcome) result.used result.trail }
+    ensures leaves { LeavesTrail (order_of order) (end_of result.reply.outcome) result.used result.trail }
     ensures used { result.used ≡ first }
 {
     let args = [Value::I32(order.op)];

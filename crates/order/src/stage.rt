@@ -4,7 +4,7 @@ use interp::slices::Paused;
 
 /// How far an order under way has come.
 #[derive(Drop)]
-pub(crate) enum Stage {
+pub(crate) enum RunStage {
     /// Nothing has run.
     Fresh,
     /// The start function is under way.

@@ -1,9 +1,9 @@
 // Where a run stopped, kept beyond its instance.
 
 ghost use Rattle.std.specs.Prelude.{◌≡◌, ◌-◌, ◌≤◌, length, take, slice_get, option_map};
-ghost use Rattle.order.specs.Trails.{innermost};
+ghost use Rattle.order.specs.Trails.{innermost_sites};
 
-use instance::stack::{Site, Stack, Stop};
+use instance::stack::{CallStack, Site, Stop};
 use std::marker::Model;
 
 /// How many sites a trail has at most: the operation at which the run stopped, and 16 calls around it.
@@ -46,7 +46,7 @@ fn copy_sites(stop: &Stop<'_>, sites: &mut [Site])
 impl Trail {
     /// What is kept of a stop.
     pub fn of(stop: &Stop<'_>) -> Trail
-        ensures { result ≡ innermost stop.now }
+        ensures { result ≡ innermost_sites stop.now }
     {
         let nowhere = Site {
             function: 0,
@@ -64,8 +64,8 @@ impl Trail {
     }
 
     /// What is kept of where the last run on a stack stopped, unless it returned.
-    pub fn of_last(stack: &Stack) -> Option<Trail>
-        ensures { result ≡ option_map innermost stack.now }
+    pub fn of_last(stack: &CallStack) -> Option<Trail>
+        ensures { result ≡ option_map innermost_sites stack.now }
     {
         Some(Trail::of(&stack.last_stop()?))
     }

@@ -12,11 +12,11 @@ use Rattle.phases.specs.Requests.{settled}
 use Rattle.handles.specs.declared.handle.Kind.{Kind}
 use Rattle.handles.specs.declared.handle.Kind.TheVariants.{Timer, Idle, Check, Async}
 use Rattle.handles.specs.declared.handle.Record.{Record}
-use Rattle.handles.specs.declared.sorted.Place.{Place}
+use Rattle.handles.specs.declared.sorted.ListPlace.{ListPlace}
 use Rattle.handles.specs.Table.{Table, record_of, same_kind, place_of, place_in, in_order, entry, kind_list, nearest_due, listed}
 use Rattle.handles.proofs.Dues.{first_is_least}
 use Rattle.handles.proofs.Laws.{in_order-place, place-in_order}
-use Rattle.phases.specs.Fitting.{IsKept}
+use Rattle.phases.specs.Fitting.{RosterIsKept}
 use Rattle.phases.specs.PhaseList.{is_empty, is_active_handle, active_from, active_asyncs, has_active, is_alive, HasActive, IsAlive, IsActive, HasActiveOf}
 use Rattle.phases.specs.PhaseList.{IsNextDue, IsAtOnce, IsHint, until_due, hint_of}
 use Rattle.phases.specs.Roster.{Roster, is_handle}
@@ -56,14 +56,14 @@ the_same Async Idle h = absurd (cc)
 the_same Async Check h = absurd (cc)
 the_same Async Async h = refl
 
-abbrev place_at : Kind → ℕ → Record → Place
+abbrev place_at : Kind → ℕ → Record → ListPlace
 place_at k handle r = record { due = cond (same_kind k Timer) r.due 0; start = r.start; handle = handle }
 
 -- what is listed is active
-abbrev Placed : Kind → Table → ℕ → Place → Type 0
+abbrev Placed : Kind → Table → ℕ → ListPlace → Type 0
 Placed k t handle place = (r : Record) × IsActive t k handle r × (place_at k handle r ≡ place)
 
-of_place : (k : Kind) (t : Table) (handle : ℕ) (place : Place) → place_in k t.records handle ≡ Some place → Placed k t handle place
+of_place : (k : Kind) (t : Table) (handle : ℕ) (place : ListPlace) → place_in k t.records handle ≡ Some place → Placed k t handle place
 of_place k t handle place is = by (record_of t handle) refl is where
   by : (o : Option Record) → record_of t handle ≡ o → option_and_then (place_of k handle) o ≡ Some place → Placed k t handle place
   by None there e = absurd (cc)
@@ -72,12 +72,12 @@ of_place k t handle place is = by (record_of t handle) refl is where
       let both = and_parts r.active (same_kind r.kind k) it.0 in
       (r, record { there = there; active = both.0; kind = the_same r.kind k both.1 }, it.1)
 
-first_placed : (k : Kind) (t : Table) (p : Place) (ps : List Place) → in_order k t ≡ p ∷ ps → Placed k t p.handle p
+first_placed : (k : Kind) (t : Table) (p : ListPlace) (ps : List ListPlace) → in_order k t ≡ p ∷ ps → Placed k t p.handle p
 first_placed k t p ps e = of_place k t p.handle p (in_order-place k t p (subst (λ xs. Contains xs p) (sym e) (0, omega arith, refl)))
 
 listed_of : (k : Kind) (t : Table) → in_order k t ≢ [] → HasActiveOf k t
 listed_of k t some = by (in_order k t) refl where
-  by : (xs : List Place) → in_order k t ≡ xs → HasActiveOf k t
+  by : (xs : List ListPlace) → in_order k t ≡ xs → HasActiveOf k t
   by [] e = absurd (some e)
   by (p ∷ ps) e = let it = first_placed k t p ps e in (p.handle, it.0, it.1)
 
@@ -106,11 +106,11 @@ kind_active k t h = listed_active k t (λ none. filled (kind_list k t) h (ap (ma
 active_kind : (k : Kind) (t : Table) (h : HasActive t) → same_kind h.it.kind k ≡ true → not (is_empty (kind_list k t)) ≡ true
 active_kind k t h same = is_filled (kind_list k t) (λ none. active_listed k t h.handle h.it h.there h.active same (map_none entry (in_order k t) none))
 
-first_due : (xs : List Place) → is_some (option_map (λ (p : Place). p.due) (slice_get xs 0)) ≡ true → xs ≢ []
+first_due : (xs : List ListPlace) → is_some (option_map (λ (p : ListPlace). p.due) (slice_get xs 0)) ≡ true → xs ≢ []
 first_due [] h = absurd (cc)
 first_due (x ∷ xs) h = λ e. (cc)
 
-has_first_due : (xs : List Place) → xs ≢ [] → is_some (option_map (λ (p : Place). p.due) (slice_get xs 0)) ≡ true
+has_first_due : (xs : List ListPlace) → xs ≢ [] → is_some (option_map (λ (p : ListPlace). p.due) (slice_get xs 0)) ≡ true
 has_first_due [] h = absurd (h refl)
 has_first_due (x ∷ xs) h = refl
 
@@ -156,7 +156,7 @@ module _ (r : Roster) where
     ]
   ]
 
-  of_kind : IsKept r → (h : HasActive r.handles) → (k : Kind) → h.it.kind ≡ k → has_active r ≡ true
+  of_kind : RosterIsKept r → (h : HasActive r.handles) → (k : Kind) → h.it.kind ≡ k → has_active r ≡ true
   of_kind kept h Timer e = or_left _ _ (has_first_due (in_order Timer r.handles) (active_listed Timer r.handles h.handle h.it h.there h.active (ap (λ k. same_kind k Timer) e)))
   of_kind kept h Idle e = or_right _ _ (or_left _ _ (active_kind Idle r.handles h (ap (λ k. same_kind k Idle) e)))
   of_kind kept h Check e = or_right _ _ (or_right _ _ (or_left _ _ (active_kind Check r.handles h (ap (λ k. same_kind k Check) e))))
@@ -164,7 +164,7 @@ module _ (r : Roster) where
       or_right (is_some (nearest_due r.handles)) _ (or_right (not (is_empty (kind_list Idle r.handles))) _ (or_right (not (is_empty (kind_list Check r.handles))) _
       (is_filled (active_asyncs r) (active_async r.handles h.handle h.it h.there h.active 0 r.asyncs (kept.numbered h.handle h.it h.there e)))))
 
-  is_any_active : IsKept r → HasActive r.handles → has_active r ≡ true
+  is_any_active : RosterIsKept r → HasActive r.handles → has_active r ≡ true
   is_any_active kept h = of_kind kept h h.it.kind refl
 
 alive_is : (s : State) → is_alive s ≡ true → IsAlive s
@@ -177,13 +177,13 @@ alive_is s h = elim (or_cases (has_active s.roster) _ h) [
   ]
 ]
 
-is_alive_by : (s : State) → IsKept s.roster → IsAlive s → is_alive s ≡ true
+is_alive_by : (s : State) → RosterIsKept s.roster → IsAlive s → is_alive s ≡ true
 unfolding is_alive
 is_alive_by s kept (inl active) = or_left _ _ (is_any_active s.roster kept active)
 is_alive_by s kept (inr (inl requests)) = or_right _ _ (or_left _ _ (is_filled s.requests.outstanding requests))
 is_alive_by s kept (inr (inr closing)) = or_right _ _ (or_right _ _ (is_filled s.roster.closing closing))
 
-pub alive_means : (s : State) → IsKept s.roster → IsTrue (is_alive s) ↔ IsAlive s
+pub alive_means : (s : State) → RosterIsKept s.roster → IsTrue (is_alive s) ↔ IsAlive s
 alive_means s kept = (alive_is s, is_alive_by s kept)
 
 -- the hint
@@ -209,18 +209,18 @@ is_false false h = refl
 -- no active timer is earlier than the first of the list
 no_earlier : (t : Table) (due : ℕ) → nearest_due t ≡ Some due → (other : ℕ) (r : Record) → IsActive t Timer other r → due ≤ r.due
 no_earlier t due is other r timer =
-    let least : All (λ (p : Place). due ≤ p.due) (in_order Timer t) = subst (λ o. IfSome o (λ d. All (λ (p : Place). d ≤ p.due) (in_order Timer t))) is (first_is_least (listed Timer t.records)) in
-    All-contains (λ (p : Place). due ≤ p.due) (in_order Timer t) (place_at Timer other r) least
+    let least : All (λ (p : ListPlace). due ≤ p.due) (in_order Timer t) = subst (λ o. IfSome o (λ d. All (λ (p : ListPlace). d ≤ p.due) (in_order Timer t))) is (first_is_least (listed Timer t.records)) in
+    All-contains (λ (p : ListPlace). due ≤ p.due) (in_order Timer t) (place_at Timer other r) least
     (is_listed Timer t other r timer.there timer.active (ap (λ a. same_kind a Timer) timer.kind))
 
 next_due : (t : Table) (due : ℕ) → nearest_due t ≡ Some due → IsNextDue t due
 next_due t due is = by (in_order Timer t) refl is where
-  by : (xs : List Place) → in_order Timer t ≡ xs → option_map (λ (p : Place). p.due) (slice_get xs 0) ≡ Some due → IsNextDue t due
+  by : (xs : List ListPlace) → in_order Timer t ≡ xs → option_map (λ (p : ListPlace). p.due) (slice_get xs 0) ≡ Some due → IsNextDue t due
   by [] e h = absurd (cc)
   by (p ∷ ps) e h =
       let it = first_placed Timer t p ps e in
       let at : p.due ≡ due = cc in
-      record { handle = p.handle; it = it.0; timer = it.1; is_due = ap (λ (q : Place). q.due) it.2 ∙ at; least = no_earlier t due is }
+      record { handle = p.handle; it = it.0; timer = it.1; is_due = ap (λ (q : ListPlace). q.due) it.2 ∙ at; least = no_earlier t due is }
 
 no_timer : (t : Table) → nearest_due t ≡ None → HasActiveOf Timer t → ⊥
 no_timer t none h =
@@ -228,7 +228,7 @@ no_timer t none h =
     let it : is_some (nearest_due t) ≡ false = ap is_some none in
     (cc)
 
-module _ (s : State) (kept : IsKept s.roster) where
+module _ (s : State) (kept : RosterIsKept s.roster) where
   abbrev at_once : Bool
   at_once =
       not (is_alive s) || (not (is_empty (kind_list Idle s.roster.handles)) || (not (is_empty s.roster.closing) || not (is_empty (settled s.requests))))
@@ -273,6 +273,6 @@ module _ (s : State) (kept : IsKept s.roster) where
   hint_by true is = inl (is_at_once is)
   hint_by false is = until (nearest_due s.roster.handles) refl (not_at_once is)
 
-pub hint_means : (s : State) → IsKept s.roster → IsHint s (hint_of s)
+pub hint_means : (s : State) → RosterIsKept s.roster → IsHint s (hint_of s)
 unfolding hint_of
 hint_means s kept = hint_by s kept (at_once s kept) refl

@@ -28,7 +28,7 @@ use Rattle.phases.specs.Host.{with_roster, with_requests}
 use Rattle.phases.specs.History.{Event, Stepped, OrderAsked, EndOffered, CancelAnswered, RequestAnswered, ClockRaised, MovedBeside, EventStep, Offers}
 use Rattle.phases.specs.Outside.{CancelIn, RequestIn, next_in}
 use Rattle.phases.specs.Step.{StepIn, ListStep, EntryStep, RunsFrom, CallsBack, CallsHandle, Skips, TakesFirst, AfterWork, in_state}
-use Rattle.phases.specs.Step.{sharing, begun, entered, now_in, turn, is_as_listed, handle_function}
+use Rattle.phases.specs.Step.{sharing, begun, phase_entered, now_in, turn, is_as_listed, handle_function}
 use Rattle.phases.proofs.GuestCallsKeepListed.{guest_grows}
 
 abbrev pub Few : State → Type 0
@@ -114,7 +114,7 @@ module _ {S : Type 0} (calls : Calls S) (g : Setting) where
     turned_roster : (s : State) → (turn s).1.roster ≡ s.roster
     turned_roster s = by (may_end s.phase && not (is_alive s)) where
       by : (b : Bool) → (cond {A = StepDid × State} b (step.Over, record s { status = Over })
-          (Entered (next_phase s.phase) (now_in s (next_phase s.phase)), entered s (next_phase s.phase))).1.roster ≡ s.roster
+          (Entered (next_phase s.phase) (now_in s (next_phase s.phase)), phase_entered s (next_phase s.phase))).1.roster ≡ s.roster
       by true = refl
       by false = refl
 

@@ -11,7 +11,7 @@ use Rattle.phases.specs.declared.stage.CancelState.TheVariants as cancel_state
 use Rattle.phases.specs.Requests.{Cancelled, Request, Requests, request_of, with_stage}
 use Rattle.phases.specs.State.{State}
 use Rattle.phases.specs.Calls.{Calls}
-use Rattle.phases.specs.Host.{Cancels, CancelsAt, cancel_state_of, request_cancel_state}
+use Rattle.phases.specs.Host.{Cancels, CancelsFrom, cancel_state_of, request_cancel_state}
 use Rattle.phases.specs.Outside.{CancelIn}
 use Rattle.phases.proofs.FoundCancels.{in_slot}
 
@@ -53,7 +53,7 @@ module _ {S : Type 0} (calls : Calls S) where
   fate old n answer new (leaves refused is beside) = stayed refused is
 
   moves_at : (st : CancelState) (old : Requests × S) (n answer : ℕ) (new : Requests × S) → cancel_state_of old.0 n ≡ st
-      → CancelsAt calls st old n answer new → CancelMoves calls old n answer new
+      → CancelsFrom calls st old n answer new → CancelMoves calls old n answer new
   moves_at Unknown old n answer new is h = leaves (refusal answer INVALID h.0 refl refl) (ap (λ p. p.0) h.1) (unmoved (ap (λ p. p.1) h.1))
   moves_at cancel_state.Answered old n answer new is h = leaves (refusal answer BUSY h.0 refl refl) (ap (λ p. p.0) h.1) (unmoved (ap (λ p. p.1) h.1))
   moves_at (Pending slot) old n answer new is h = won h.0 h.1 h.2 h.3 where

@@ -4,7 +4,7 @@ use Rattle.phases.specs.declared.stage.CancelState.{CancelState}
 use Rattle.phases.specs.declared.stage.CancelState.TheVariants.{Pending}
 use Rattle.phases.specs.Requests.{Stage, Open, HandedOut, Answered, Cancelled, Request, Requests, request_of}
 use Rattle.phases.specs.Calls.{Calls}
-use Rattle.phases.specs.Host.{Cancels, CancelsAt, request_cancel_state, stage_cancel_state}
+use Rattle.phases.specs.Host.{Cancels, CancelsFrom, request_cancel_state, stage_cancel_state}
 
 -- a request that can be cancelled is told with its slot
 pub in_slot : (q : Request) (slot : ℕ) (st : Stage) → stage_cancel_state q.order.slot st ≡ Pending slot → slot ≡ q.order.slot
@@ -15,7 +15,7 @@ in_slot q slot Cancelled e = absurd (cc)
 
 -- a cancel of the request with a number is one of the request that was found
 pub cancels_found : {S : Type 0} (calls : Calls S) (old : Requests × S) (number answer : ℕ) (new : Requests × S) (q : Request) (state : CancelState)
-    → request_of old.0 number ≡ Some q → stage_cancel_state q.order.slot q.stage ≡ state → CancelsAt calls state old number answer new
+    → request_of old.0 number ≡ Some q → stage_cancel_state q.order.slot q.stage ≡ state → CancelsFrom calls state old number answer new
     → Cancels calls old number answer new
 cancels_found calls old number answer new q state there is h =
-    subst (λ s. CancelsAt calls s old number answer new) (sym (ap request_cancel_state there ∙ is)) h
+    subst (λ s. CancelsFrom calls s old number answer new) (sym (ap request_cancel_state there ∙ is)) h

@@ -25,7 +25,7 @@ use Rattle.phases.specs.PhaseList.{exports}
 use Rattle.phases.specs.Roster.{Roster, is_open_of, async_number}
 use Rattle.phases.specs.State.{Setting, State}
 use Rattle.phases.specs.Guests.{GuestCall, GuestSteps, trace_of}
-use Rattle.phases.specs.Host.{HostStep, CallStep, cancel_state_of, CancelsAt, Opens, QueuesWork, Sends, emitted_in}
+use Rattle.phases.specs.Host.{HostStep, CallStep, cancel_state_of, CancelsFrom, Opens, QueuesWork, Sends, emitted_in}
 use Rattle.phases.specs.Inner.Hosting.{Answered, Replies}
 
 -- the calls of a whole run are those of the loop that the host stands for
@@ -113,7 +113,7 @@ module _ {S : Type 0} (calls : Calls S) (lawful : IsLawful calls) where
     either_way true = refl
     either_way false = refl
 
-  pub cancels_at_upto : (stands : CancelState) (old new : Requests × S) (number answer : ℕ) → CancelsAt calls stands old number answer new → UpTo old → UpTo new
+  pub cancels_at_upto : (stands : CancelState) (old new : Requests × S) (number answer : ℕ) → CancelsFrom calls stands old number answer new → UpTo old → UpTo new
   cancels_at_upto Unknown old new number answer h upto = upto_same old new h.1 upto
   cancels_at_upto cancel_state.Answered old new number answer h upto = upto_same old new h.1 upto
   cancels_at_upto (Pending slot) old new number answer h upto =

@@ -32,7 +32,7 @@ use Rattle.phases.specs.Roster.{Roster, in_table, async_handle, is_open, is_open
 use Rattle.phases.specs.State.{Setting, State}
 use Rattle.phases.specs.Calls.{Calls}
 use Rattle.phases.specs.Guests.{GuestCall, GuestSteps}
-use Rattle.phases.specs.Host.{with_roster, with_requests, emitted_in, next_work, CancelsAt, Cancels, Opens, QueuesWork, Relates, RelatesWork, Does, DoesTo, CallStep, HostStep}
+use Rattle.phases.specs.Host.{with_roster, with_requests, emitted_in, next_work, CancelsFrom, Cancels, Opens, QueuesWork, Relates, RelatesWork, Does, DoesTo, CallStep, HostStep}
 use Rattle.phases.specs.Inner.Ready.{IsSettledIn, Grows}
 use Rattle.phases.proofs.RosterKeeps.{choose, changed, still_closing, closing_there}
 
@@ -264,7 +264,7 @@ module _ {S : Type 0} (calls : Calls S) where
   won_or_not rs us number true e = subst (Settles rs) (sym e) (settles_stage rs number Cancelled refl)
   won_or_not rs us number false e = settles_same rs us e
 
-  cancels_at : (at : CancelState) (old : Requests × S) (number answer : ℕ) (new : Requests × S) → CancelsAt calls at old number answer new → Settles old.0 new.0
+  cancels_at : (at : CancelState) (old : Requests × S) (number answer : ℕ) (new : Requests × S) → CancelsFrom calls at old number answer new → Settles old.0 new.0
   cancels_at Unknown old number answer new h = settles_same old.0 new.0 (ap (λ p. p.0) h.1)
   cancels_at cancel_state.Answered old number answer new h = settles_same old.0 new.0 (ap (λ p. p.0) h.1)
   cancels_at (Pending slot) old number answer new h = won_or_not old.0 new.0 number h.0 h.3

@@ -42,7 +42,7 @@ use Rattle.phases.specs.View.{AreOpenedUpTo}
 use Rattle.phases.specs.Guests.{GuestCall}
 use Rattle.phases.specs.Host.{HostStep, Cancels, cancel_state_of, with_requests}
 use Rattle.phases.specs.Inner.Hosting.{Answered}
-use Rattle.phases.specs.Inner.Keeping.{Keeps, IsOrderOf, AreOrdersOf}
+use Rattle.phases.specs.Inner.Keeping.{KeepsLoop, IsOrderOf, AreOrdersOf}
 use Rattle.events.specs.Phases.{may_end}
 use Rattle.phases.specs.PhaseList.{is_alive, exports, first_list, begin_list}
 use Rattle.phases.specs.Inner.Ready.{AreReady, Grows}
@@ -58,7 +58,7 @@ use Rattle.phases.proofs.ListedStaysReady.{ready_on}
 use Rattle.phases.proofs.Runnable.{orders_run, cancelled_orders, handed_order}
 
 -- as the state grows
-pub kept_on : (l : Loaded) (g : Setting) (s u : State) (t : Store) → Keeps l g s t → Grows s u → AreOrdersOf g u.requests → Keeps l g u t
+pub kept_on : (l : Loaded) (g : Setting) (s u : State) (t : Store) → KeepsLoop l g s t → Grows s u → AreOrdersOf g u.requests → KeepsLoop l g u t
 kept_on l g s u t keeps grows orders = record {
   same = keeps.same;
   depth = keeps.depth;
@@ -74,7 +74,7 @@ pub still_upto : {S : Type 0} (calls : Calls S) (shared : S) (old new : State) �
 still_upto calls shared old new same upto = subst (λ (s : State). AreOpenedUpTo s.requests.last (calls.view shared)) (sym same) upto
 
 -- with another list
-pub kept_with : (l : Loaded) (g : Setting) (s u : State) (t : Store) → Keeps l g s t → u.roster.callbacks ≡ s.roster.callbacks → AreReady g.loaded.contents u → AreOrdersOf g u.requests → Keeps l g u t
+pub kept_with : (l : Loaded) (g : Setting) (s u : State) (t : Store) → KeepsLoop l g s t → u.roster.callbacks ≡ s.roster.callbacks → AreReady g.loaded.contents u → AreOrdersOf g u.requests → KeepsLoop l g u t
 kept_with l g s u t keeps callbacks ready orders = record {
   same = keeps.same;
   depth = keeps.depth;
@@ -180,7 +180,7 @@ module _ (m : Contents) (f n : ℕ) where
 
 -- a callback that ran on the host of a loop
 module _ {G S : Type 0} (calls : Calls S) (setting : G → Setting) (standing : G → State × S) (l v : Loaded) (is : v ≡ l) (g : Setting) (old : Loop S)
-    (keeps : Keeps l g old.state old.store) (before after : G) (made : setting before ≡ g) (reply : Option (List ℕ))
+    (keeps : KeepsLoop l g old.state old.store) (before after : G) (made : setting before ≡ g) (reply : Option (List ℕ))
     (begins : standing before ≡ (begun old.state reply, old.shared)) (t : Store) (function : ℕ) (args : List Value) (ended : Ended)
     (stop : Option (List Site)) (h : Leads (Answered calls setting standing) (calling v.contents function args g.fuel g.depth) (scene old.store before) ended stop (scene t after)) where
   answered : Lawful (HostStep calls g) h.asked (begun old.state reply, old.shared) (standing after)
@@ -208,15 +208,15 @@ module _ {G S : Type 0} (calls : Calls S) (setting : G → Setting) (standing : 
         },
       )
 
-  pub kept_after : IsLinked v.contents → IsStoreOf v.contents t → (last : State) → last ≡ finished (standing after).0 ended → Keeps l g last t
+  pub kept_after : IsLinked v.contents → IsStoreOf v.contents t → (last : State) → last ≡ finished (standing after).0 ended → KeepsLoop l g last t
   kept_after linked fits last e =
       let u : State = (standing after).0 in
       let grows : Grows old.state (finished u ended) = grows_on old.state (begun old.state reply) (finished u ended) (grows_begun old.state reply)
       (grows_on (begun old.state reply) u (finished u ended) (trace_grows calls g h.asked (begun old.state reply, old.shared) (standing after) answered) (grows_finished u ended)) in
       let orders : AreOrdersOf g u.requests =
       orders_run g (subst (λ (x : Loaded). IsLinked x.contents) (is ∙ keeps.same) linked) keeps.depth calls h.asked (begun old.state reply, old.shared) (standing after) answered keeps.orders in
-      let there : Keeps l g (finished u ended) old.store = kept_on l g old.state (finished u ended) old.store keeps grows orders in
-      subst (λ (s : State). Keeps l g s t) (sym e) (record {
+      let there : KeepsLoop l g (finished u ended) old.store = kept_on l g old.state (finished u ended) old.store keeps grows orders in
+      subst (λ (s : State). KeepsLoop l g s t) (sym e) (record {
         same = there.same;
         depth = there.depth;
         store = subst (λ (x : Loaded). IsStoreOf x.contents t) (is ∙ keeps.same) fits;
@@ -296,10 +296,10 @@ new_state m s callbacks start main e a b d =
     e ∙ (λ i. opening (record { handles = empty_table; asyncs = []; closing = []; callbacks = a i }) (first_list (b i) (d i)))
 
 pub kept_new : (l : Loaded) (g : Setting) (s : State) (t : Store) → l ≡ g.loaded → (1 ≤ g.depth) × (g.depth ≤ MAX_DEPTH) → IsStoreOf l.contents t
-    → s ≡ opening (opening_roster l.contents) (begin_list l.contents) → Keeps l g s t
+    → s ≡ opening (opening_roster l.contents) (begin_list l.contents) → KeepsLoop l g s t
 kept_new l g s t same depth fits is =
     let opened : s ≡ opening (opening_roster g.loaded.contents) (begin_list g.loaded.contents) = is ∙ ap (λ (x : Loaded). opening (opening_roster x.contents) (begin_list x.contents)) same in
-    subst (λ (u : State). Keeps l g u t) (sym opened) (record {
+    subst (λ (u : State). KeepsLoop l g u t) (sym opened) (record {
       same = same;
       depth = depth;
       store = subst (λ (x : Loaded). IsStoreOf x.contents t) same fits;

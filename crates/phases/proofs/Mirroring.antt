@@ -28,7 +28,7 @@ use Rattle.phases.specs.State.{Setting, State, Loop}
 use Rattle.phases.specs.PhaseList.{exports, is_active_handle}
 use Rattle.phases.specs.Calls.{Calls}
 use Rattle.phases.specs.Guests.{GuestCall, GuestSteps}
-use Rattle.phases.specs.Host.{CallStep, CancelsAt, QueuesWork, Opens, cancel_state_of, with_roster, with_requests}
+use Rattle.phases.specs.Host.{CallStep, CancelsFrom, QueuesWork, Opens, cancel_state_of, with_roster, with_requests}
 use Rattle.phases.specs.Outside.{CancelIn, RequestIn}
 use Rattle.phases.specs.Step.{StepsWith, StepIn, ListStep, EntryStep, RunsFrom, CallsBack, CallsHandle, Skips, TakesFirst, AfterWork, in_state, sharing, over, begun, is_as_listed, handle_function}
 
@@ -59,9 +59,9 @@ module _ {S T : Type 0} (calls : Calls S) (other : Calls T) (g : Setting) (Comes
   -- a cancel
   module _ (old : Requests × S) (t : T) (r : R old.1 t) (number answer : ℕ) (requests : Requests) (s' : S) (c : Comes s') where
     abbrev CancelsHere : CancelState → T → Type 0
-    CancelsHere st t' = CancelsAt other st (old.0, t) number answer (requests, t')
+    CancelsHere st t' = CancelsFrom other st (old.0, t) number answer (requests, t')
 
-    cancels_at : (st : CancelState) → CancelsAt calls st old number answer (requests, s') → After (CancelsHere st) s'
+    cancels_at : (st : CancelState) → CancelsFrom calls st old number answer (requests, s') → After (CancelsHere st) s'
     cancels_at Unknown h = (t, (h.0, ap (λ p. (p.0, t)) h.1), stays old.1 s' t (ap (λ p. p.1) h.1) r)
     cancels_at cancel_state.Answered h = (t, (h.0, ap (λ p. (p.0, t)) h.1), stays old.1 s' t (ap (λ p. p.1) h.1) r)
     cancels_at (Pending slot) h =

@@ -12,12 +12,12 @@ use Rattle.events.specs.declared.phase.Phase.{Phase}
 use Rattle.events.specs.declared.phase.Phase.TheVariants.{Begin, Timers, Idle, Poll, Check, Closing}
 use Rattle.phases.specs.declared.entry.Entry.{Entry}
 use Rattle.phases.specs.declared.entry.Entry.TheVariants as entry
-use Rattle.phases.specs.Fitting.{IsKept, AreClosing, AreKept, AreRising}
+use Rattle.phases.specs.Fitting.{RosterIsKept, AreClosing, AreKept, AreRising}
 use Rattle.phases.specs.PhaseList.{exports, first_list, begin_list, handle_entry, is_active_handle, active_from, active_asyncs}
 use Rattle.phases.specs.Requests.{Requests, Request, has_number, is_settled, settled}
 use Rattle.phases.specs.Roster.{Roster, in_table, async_handle}
 use Rattle.phases.specs.State.{State, opening}
-use Rattle.phases.specs.Step.{entered}
+use Rattle.phases.specs.Step.{phase_entered}
 use Rattle.phases.specs.Inner.Ready.{IsSettledIn, IsReady, Spares, AreApart, AreReady}
 use Rattle.phases.proofs.RequestsRise.{number_of, rising_filter}
 use Rattle.phases.proofs.RosterKeeps.{choose, both_false}
@@ -115,23 +115,23 @@ closing_apart t (x ∷ xs) all =
     (closing_apart t xs all.2)
 
 -- each phase
-module _ (m : Contents) (s : State) (kept : IsKept s.roster) (requests_kept : AreKept s.requests) where
-  pub ready_entered : (phase : Phase) → AreReady m (entered s phase)
-  ready_entered Begin = none_listed m (entered s Begin) refl
+module _ (m : Contents) (s : State) (kept : RosterIsKept s.roster) (requests_kept : AreKept s.requests) where
+  pub ready_entered : (phase : Phase) → AreReady m (phase_entered s phase)
+  ready_entered Begin = none_listed m (phase_entered s Begin) refl
   ready_entered Timers =
       let es = due_list s.roster.handles s.clock in
       record {
-        ready = All-map (IsReady m (entered s Timers)) (handle_entry kind.Timer) es (λ k d within. tt);
+        ready = All-map (IsReady m (phase_entered s Timers)) (handle_entry kind.Timer) es (λ k d within. tt);
         apart = free_apart (map (handle_entry kind.Timer) es) (All-map SparesAll (handle_entry kind.Timer) es (λ k d within other. tt));
       }
   ready_entered Idle =
       let es = kind_list kind.Idle s.roster.handles in
       record {
-        ready = All-map (IsReady m (entered s Idle)) (handle_entry kind.Idle) es (λ k d within. tt);
+        ready = All-map (IsReady m (phase_entered s Idle)) (handle_entry kind.Idle) es (λ k d within. tt);
         apart = free_apart (map (handle_entry kind.Idle) es) (All-map SparesAll (handle_entry kind.Idle) es (λ k d within other. tt));
       }
   ready_entered Poll =
-      let P = IsReady m (entered s Poll) in
+      let P = IsReady m (phase_entered s Poll) in
       record {
         ready =
             All-append P (map (λ r. entry.After r.order.request) (settled s.requests)) (map (λ a. entry.Async a) (active_asyncs s.roster))
@@ -145,11 +145,11 @@ module _ (m : Contents) (s : State) (kept : IsKept s.roster) (requests_kept : Ar
   ready_entered Check =
       let es = kind_list kind.Check s.roster.handles in
       record {
-        ready = All-map (IsReady m (entered s Check)) (handle_entry kind.Check) es (λ k d within. tt);
+        ready = All-map (IsReady m (phase_entered s Check)) (handle_entry kind.Check) es (λ k d within. tt);
         apart = free_apart (map (handle_entry kind.Check) es) (All-map SparesAll (handle_entry kind.Check) es (λ k d within other. tt));
       }
   ready_entered Closing = record {
-    ready = All-map (IsReady m (entered s Closing)) (λ handle. entry.Close handle) s.roster.closing (closing_there s.roster.handles s.roster.closing kept.closing_handles);
+    ready = All-map (IsReady m (phase_entered s Closing)) (λ handle. entry.Close handle) s.roster.closing (closing_there s.roster.handles s.roster.closing kept.closing_handles);
     apart = closing_apart s.roster.handles s.roster.closing kept.closing_handles;
   }
 

@@ -16,7 +16,7 @@ use Rattle.handles.specs.declared.handle.Kind.TheVariants as kind
 use Rattle.handles.specs.Table.{Table, record_of, IsClosing, IsOpen, new_record, with_record, with_started, saturated, stopped, closed}
 use Rattle.handles.specs.Table.{after_start, after_stop, after_again, after_close, after_remove, same_kind}
 use Rattle.phases.specs.Roster.{Roster, is_callback, is_handle, unless_handle, with_handles, with_made, with_async, without_handle}
-use Rattle.phases.specs.Fitting.{IsKept, AreClosing, has_duty}
+use Rattle.phases.specs.Fitting.{RosterIsKept, AreClosing, has_duty}
 
 pub choose : {X : Type 0} (P : X → Type 0) (b : Bool) (x y : X) → (b ≡ true → P x) → (b ≡ false → P y) → P (cond b x y)
 choose P true x y f g = f refl
@@ -58,13 +58,13 @@ module _ (t : Table) (handle : ℕ) (r' : Record) (n : ℕ) where
     abbrev renewed : Roster
     renewed = record { handles = changed; asyncs = asyncs; closing = closings; callbacks = old.callbacks }
 
-    pub kept_change : IsKept old
+    pub kept_change : RosterIsKept old
         → finite.len (finite.insert t.records handle r') ≤ MAX_HANDLES
         → (has_duty r' ≡ true → is_callback old r'.callback ≡ true)
         → AreClosing changed closings
         → ((other : ℕ) → list_any (is_handle other) old.asyncs ≡ true → list_any (is_handle other) asyncs ≡ true)
         → (r'.kind ≡ kind.Async → list_any (is_handle handle) asyncs ≡ true)
-        → IsKept renewed
+        → RosterIsKept renewed
     kept_change kept few duty closing stays numbered = record {
       few = few;
       callbacks = λ other s got has. elim (here_or_there other) [
@@ -90,9 +90,9 @@ len_more : (m : FinMap nat_cmp Record) (handle : ℕ) (r' : Record) → finite.g
 len_more m handle r' is = finite.len-insert nat_cmp_total m handle r' ∙ ap (λ o. cond (is_some o) (finite.len m) (finite.len m + 1)) is
 
 -- a record of a handle that is there is changed, which keeps its kind and whether it is closing
-pub kept_in_place : (old : Roster) (handle : ℕ) (r r' : Record) (n : ℕ) → IsKept old → record_of old.handles handle ≡ Some r
+pub kept_in_place : (old : Roster) (handle : ℕ) (r r' : Record) (n : ℕ) → RosterIsKept old → record_of old.handles handle ≡ Some r
     → r'.kind ≡ r.kind → r'.closing ≡ r.closing → (has_duty r' ≡ true → is_callback old r'.callback ≡ true)
-    → IsKept (with_handles old (record { records = finite.insert old.handles.records handle r'; last_start = n }))
+    → RosterIsKept (with_handles old (record { records = finite.insert old.handles.records handle r'; last_start = n }))
 kept_in_place old handle r r' n kept is same_kind same_closing duty =
     kept_change old.handles handle r' n old refl old.asyncs old.closing kept
     (rw (len_same old.handles.records handle r r' is) kept.few)
@@ -106,35 +106,35 @@ kept_in_place old handle r r' n kept is same_kind same_closing duty =
       was_closing other was here = subst (λ (o : Option Record). IsSomeAnd o (λ s. s.closing ≡ true)) (ap (record_of old.handles) here ∙ is) was
 
 -- stops and starts
-pub kept_stop : (old : Roster) (handle : ℕ) → IsKept old → IsOpen old.handles handle → IsKept (with_handles old (after_stop old.handles handle))
+pub kept_stop : (old : Roster) (handle : ℕ) → RosterIsKept old → IsOpen old.handles handle → RosterIsKept (with_handles old (after_stop old.handles handle))
 kept_stop old handle kept there =
     let it = some_of (record_of old.handles handle) _ there in
     rw it.1
     (kept_in_place old handle it.0 (stopped it.0) old.handles.last_start kept it.1 refl refl
     (λ has. kept.callbacks handle it.0 it.1 (or_right it.0.active _ has)))
 
-pub kept_start : (old : Roster) (handle callback due repeat : ℕ) → IsKept old → IsOpen old.handles handle → is_callback old callback ≡ true
-    → IsKept (with_handles old (after_start old.handles handle callback due repeat))
+pub kept_start : (old : Roster) (handle callback due repeat : ℕ) → RosterIsKept old → IsOpen old.handles handle → is_callback old callback ≡ true
+    → RosterIsKept (with_handles old (after_start old.handles handle callback due repeat))
 kept_start old handle callback due repeat kept there good =
     let it = some_of (record_of old.handles handle) _ there in
     let r = it.0 in
     let n = saturated (old.handles.last_start + 1) in
     let started : Record = record r { callback = callback; due = due; repeat = repeat } in
     let active : Record = record started { active = true; start = n } in
-    let P : Table → Type 0 = λ u. IsKept (with_handles old u) in
+    let P : Table → Type 0 = λ u. RosterIsKept (with_handles old u) in
     rw it.1
     (choose P _ old.handles (with_started old.handles handle started)
     (λ _. kept)
     (λ _. kept_in_place old handle r active n kept it.1 refl refl (λ _. good)))
 
-pub kept_again : (old : Roster) (handle now : ℕ) → IsKept old → IsOpen old.handles handle → IsKept (with_handles old (after_again old.handles handle now))
+pub kept_again : (old : Roster) (handle now : ℕ) → RosterIsKept old → IsOpen old.handles handle → RosterIsKept (with_handles old (after_again old.handles handle now))
 kept_again old handle now kept there =
     let it = some_of (record_of old.handles handle) _ there in
     let r = it.0 in
     let n = saturated (old.handles.last_start + 1) in
     let started : Record = record r { due = saturated (now + r.repeat) } in
     let active : Record = record started { active = true; start = n } in
-    let P : Table → Type 0 = λ u. IsKept (with_handles old u) in
+    let P : Table → Type 0 = λ u. RosterIsKept (with_handles old u) in
     rw it.1
     (choose P (r.start == 0) old.handles (cond (r.repeat == 0) (with_record old.handles handle (stopped r)) (with_started old.handles handle started))
     (λ e. kept)
@@ -148,8 +148,8 @@ pub closing_there : (t : Table) (handle other : ℕ) → record_of t handle ≡ 
 closing_there t handle other none was here =
     let it : IsSomeAnd None (λ (s : Record). s.closing ≡ true) = subst (λ (o : Option Record). IsSomeAnd o (λ s. s.closing ≡ true)) (ap (record_of t) here ∙ none) was in it
 
-pub kept_made : (old : Roster) (handle : ℕ) (k : Kind) → IsKept old → record_of old.handles handle ≡ None → finite.len old.handles.records ≢ MAX_HANDLES → (k ≡ kind.Async → ⊥)
-    → IsKept (with_made k old handle)
+pub kept_made : (old : Roster) (handle : ℕ) (k : Kind) → RosterIsKept old → record_of old.handles handle ≡ None → finite.len old.handles.records ≢ MAX_HANDLES → (k ≡ kind.Async → ⊥)
+    → RosterIsKept (with_made k old handle)
 kept_made old handle k kept none room other_kind =
     kept_change old.handles handle (new_record k) old.handles.last_start old refl old.asyncs old.closing kept
     (rw (len_more old.handles.records handle (new_record k) none) (let few = kept.few in omega arith))
@@ -176,12 +176,12 @@ any_last handle asyncs =
 pub made_async_open : (t : Table) (handle : ℕ) → IsOpen (with_record t handle (new_record kind.Async)) handle
 made_async_open t handle = subst (λ (o : Option Record). IsSomeAnd o (λ r. r.closing ≡ false)) (sym (here_is t handle (new_record kind.Async) t.last_start)) refl
 
-pub kept_async : (old : Roster) (handle callback : ℕ) → IsKept old → record_of old.handles handle ≡ None → finite.len old.handles.records ≢ MAX_HANDLES → is_callback old callback ≡ true
-    → IsKept (with_async callback old handle)
+pub kept_async : (old : Roster) (handle callback : ℕ) → RosterIsKept old → record_of old.handles handle ≡ None → finite.len old.handles.records ≢ MAX_HANDLES → is_callback old callback ≡ true
+    → RosterIsKept (with_async callback old handle)
 kept_async old handle callback kept none room good =
     let asyncs = old.asyncs ++ Some handle ∷ [] in
     let made : Roster = record { handles = with_record old.handles handle (new_record kind.Async); asyncs = asyncs; closing = old.closing; callbacks = old.callbacks } in
-    let kept_first : IsKept made =
+    let kept_first : RosterIsKept made =
     kept_change old.handles handle (new_record kind.Async) old.handles.last_start old refl asyncs old.closing kept
     (rw (len_more old.handles.records handle (new_record kind.Async) none) (let few = kept.few in omega arith))
     (λ has. absurd (cc))
@@ -241,7 +241,7 @@ open_record : (t : Table) (handle : ℕ) → IsOpen t handle → (r : Record) ×
 open_record t handle there = some_of (record_of t handle) _ there
 
 -- there is room for one more closing handle
-pub closing_room : (old : Roster) (handle : ℕ) → IsKept old → IsOpen old.handles handle → length old.closing < MAX_HANDLES
+pub closing_room : (old : Roster) (handle : ℕ) → RosterIsKept old → IsOpen old.handles handle → length old.closing < MAX_HANDLES
 closing_room old handle kept there =
     let it = open_record old.handles handle there in
     let apart = not_among old.handles handle it.0 it.1 it.2 old.closing kept.closing_handles in
@@ -258,8 +258,8 @@ closing_push t (x ∷ xs) handle all it apart =
     list_any-append (λ other. other == x) xs (handle ∷ []) ∙ rw (all.1, ne_eqb handle x (λ same. (let e = eq-eqb x handle (sym same) in let f = each.0 in cc))) refl in
     (all.0, alone, closing_push t xs handle all.2 it each.1)
 
-pub kept_close : (old : Roster) (handle callback : ℕ) → IsKept old → IsOpen old.handles handle → is_callback old callback ≡ true
-    → IsKept (record old { handles = after_close old.handles handle callback; closing = old.closing ++ handle ∷ [] })
+pub kept_close : (old : Roster) (handle callback : ℕ) → RosterIsKept old → IsOpen old.handles handle → is_callback old callback ≡ true
+    → RosterIsKept (record old { handles = after_close old.handles handle callback; closing = old.closing ++ handle ∷ [] })
 kept_close old handle callback kept there good =
     let it = open_record old.handles handle there in
     let r = it.0 in
@@ -319,7 +319,7 @@ still_numbered handle other (Some x ∷ asyncs) apart h =
           or_right (is_handle other (unless_handle handle (Some x))) _ rest
     ]
 
-pub kept_remove : (old : Roster) (handle : ℕ) → IsKept old → IsKept (without_handle old handle)
+pub kept_remove : (old : Roster) (handle : ℕ) → RosterIsKept old → RosterIsKept (without_handle old handle)
 kept_remove old handle kept = record {
   few = (
       let it = finite.len-remove nat_cmp_total old.handles.records handle in
@@ -337,7 +337,7 @@ kept_remove old handle kept = record {
   ];
 }
 
-pub kept_empty : (callbacks : List (Option ℕ)) → IsKept (record { handles = record { records = finite.empty; last_start = 0 }; asyncs = []; closing = []; callbacks = callbacks })
+pub kept_empty : (callbacks : List (Option ℕ)) → RosterIsKept (record { handles = record { records = finite.empty; last_start = 0 }; asyncs = []; closing = []; callbacks = callbacks })
 kept_empty callbacks = record {
   few = rw (finite.len-empty nat_cmp Record) (omega arith);
   callbacks = λ other r got has. absurd (let none = finite.get-empty {X = Record} nat_cmp other in cc);

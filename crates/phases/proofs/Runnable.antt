@@ -33,7 +33,7 @@ use Rattle.phases.specs.Calls.{Calls}
 use Rattle.phases.specs.declared.entry.Status.{Status}
 use Rattle.phases.specs.declared.entry.Status.TheVariants.{Running, Over, Failed}
 use Rattle.phases.specs.Outside.{handing, next_in, next_order_of}
-use Rattle.phases.specs.Host.{next_work, CancelsAt, Cancels, Opens, QueuesWork, RelatesWork, CallStep, HostStep}
+use Rattle.phases.specs.Host.{next_work, CancelsFrom, Cancels, Opens, QueuesWork, RelatesWork, CallStep, HostStep}
 use Rattle.phases.specs.Inner.Ready.{IsSettledIn}
 use Rattle.order.specs.Runnable.{CanRun}
 use Rattle.phases.specs.Inner.Keeping.{IsOrderOf, AreOrdersOf}
@@ -57,7 +57,7 @@ module _ {S : Type 0} (calls : Calls S) (g : Setting) (P : Requests → Type 0)
     won_or_not rs us number true e h = subst P (sym e) (cancelled rs number h)
     won_or_not rs us number false e h = subst P (sym e) h
 
-    cancels_at : (at : CancelState) (old : Requests × S) (number answer : ℕ) (new : Requests × S) → CancelsAt calls at old number answer new → P old.0 → P new.0
+    cancels_at : (at : CancelState) (old : Requests × S) (number answer : ℕ) (new : Requests × S) → CancelsFrom calls at old number answer new → P old.0 → P new.0
     cancels_at Unknown old number answer new h = same old.0 new.0 (ap (λ p. p.0) h.1)
     cancels_at cancel_state.Answered old number answer new h = same old.0 new.0 (ap (λ p. p.0) h.1)
     cancels_at (Pending slot) old number answer new h = won_or_not old.0 new.0 number h.0 h.3
@@ -178,7 +178,7 @@ module _ (g : Setting) where
   won_orders rs us number false e h = subst (AreOrdersOf g) (sym e) h
 
   pub cancelled_orders : {S : Type 0} (calls : Calls S) (at : CancelState) (old new : Requests × S) (number answer : ℕ)
-      → CancelsAt calls at old number answer new → AreOrdersOf g old.0 → AreOrdersOf g new.0
+      → CancelsFrom calls at old number answer new → AreOrdersOf g old.0 → AreOrdersOf g new.0
   cancelled_orders calls Unknown old new number answer h k = subst (AreOrdersOf g) (sym (ap (λ p. p.0) h.1)) k
   cancelled_orders calls cancel_state.Answered old new number answer h k = subst (AreOrdersOf g) (sym (ap (λ p. p.0) h.1)) k
   cancelled_orders calls (Pending slot) old new number answer h k = won_orders old.0 new.0 number h.0 h.3 k

@@ -27,7 +27,7 @@ use Rattle.phases.specs.PhaseList.{is_alive, is_active_handle}
 use Rattle.phases.specs.Calls.{Calls}
 use Rattle.phases.specs.Host.{next_work, with_roster, with_requests}
 use Rattle.phases.specs.Step.{StepsWith, StepIn, ListStep, EntryStep, NextPhase, RunsFrom, CallsBack, CallsHandle, Skips, TakesFirst, AfterWork, in_state}
-use Rattle.phases.specs.Step.{sharing, begun, entered, now_in, is_as_listed, handle_function}
+use Rattle.phases.specs.Step.{sharing, begun, phase_entered, now_in, is_as_listed, handle_function}
 use Rattle.phases.specs.Guests.{GuestCall, GuestSteps}
 use Rattle.phases.specs.Laws.{WasAsked, IsCancel}
 use Rattle.phases.proofs.StepsByCalls.{CallFate, changes_nothing, opens_one, cancels_one, call_fate}
@@ -260,7 +260,7 @@ module _ {S : Type 0} (calls : Calls S) (g : Setting) (r : ℕ) (L : Type 0) whe
       let it = turned (may_end old.state.phase && not (is_alive old.state)) in
       nothing_ran ran early made more old did new (ap (λ l. l.state.requests) h.1 ∙ it.1) h.2 (ap after_of h.0 ∙ it.0) f where
         turned : (b : Bool) → Keeps old.state.requests (cond b (step.Over, record old.state { status = Over })
-            (Entered (next_phase old.state.phase) (now_in old.state (next_phase old.state.phase)), entered old.state (next_phase old.state.phase)))
+            (Entered (next_phase old.state.phase) (now_in old.state (next_phase old.state.phase)), phase_entered old.state (next_phase old.state.phase)))
         turned true = (refl, refl)
         turned false = (refl, refl)
 

@@ -32,7 +32,7 @@ use Rattle.phases.specs.PhaseList.{exports, is_alive, is_active_handle}
 use Rattle.phases.specs.Calls.{Calls}
 use Rattle.phases.specs.Host.{CallStep, QueuesWork, Opens, next_work, with_roster, with_requests}
 use Rattle.phases.specs.Step.{StepsWith, StepIn, ListStep, EntryStep, NextPhase, RunsFrom, CallsBack, CallsHandle, Skips, TakesFirst, AfterWork, in_state}
-use Rattle.phases.specs.Step.{sharing, begun, entered, now_in, is_as_listed, handle_function}
+use Rattle.phases.specs.Step.{sharing, begun, phase_entered, now_in, is_as_listed, handle_function}
 use Rattle.phases.specs.Guests.{GuestCall, GuestSteps}
 use Rattle.phases.specs.History.{Event, Stepped, OrderAsked, EndOffered, CancelAnswered, RequestAnswered, ClockRaised, MovedBeside, EventStep, Offers, History, owners_call, calls_in, guest_calls}
 use Rattle.phases.specs.Laws.{asks_for, IsCancel}
@@ -264,7 +264,7 @@ module _ {S : Type 0} (calls : Calls S) (g : Setting) (P : List GuestCall → Re
         (nothing made old.state.requests new.state.requests old.shared new.shared
         (ap (λ l. l.state.requests) h.1 ∙ turned (may_end old.state.phase && not (is_alive old.state))) (ap (λ l. l.shared) h.1) p) where
           turned : (b : Bool) → (cond {A = StepDid × State} b (step.Over, record old.state { status = Over })
-              (Entered (next_phase old.state.phase) (now_in old.state (next_phase old.state.phase)), entered old.state (next_phase old.state.phase))).1.requests
+              (Entered (next_phase old.state.phase) (now_in old.state (next_phase old.state.phase)), phase_entered old.state (next_phase old.state.phase))).1.requests
               ≡ old.state.requests
           turned true = refl
           turned false = refl

@@ -11,18 +11,18 @@ use Rattle.phases.specs.Calls.{Calls}
 use Rattle.phases.specs.Host.{HostStep}
 use Rattle.phases.specs.Inner.Hosting.{Answered}
 use Rattle.phases.specs.State.{Setting, State}
-use Rattle.phases.specs.Stopping.{StopsAt}
+use Rattle.phases.specs.Stopping.{LoopStopsAt}
 use Rattle.phases.proofs.GuestCallsKeep.{served}
 
 -- where a call on the host of a loop stopped, if it did
 pub stops_at : {G S : Type 0} (calls : Calls S) (setting : G → Setting) (standing : G → State × S) (v : Loaded) (g : Setting) → v ≡ g.loaded
     → (before after : G) → setting before ≡ g → (s t : Store) (function : ℕ) (args : List Value) (ended : Ended) (stop : Option (List Site))
     → Leads (Answered calls setting standing) (calling v.contents function args g.fuel g.depth) (scene s before) ended stop (scene t after)
-    → IfSome stop (λ sites. ∥ StopsAt calls (setting after) t sites ∥₁)
+    → IfSome stop (λ sites. ∥ LoopStopsAt calls (setting after) t sites ∥₁)
 stops_at calls setting standing v g is before after made s t function args ended None w = tt
 stops_at calls setting standing v g is before after made s t function args ended (Some sites) w =
     let it = served calls setting standing w.asked before after w.answered in
-    subst (λ (x : Setting). ∥ StopsAt calls x t sites ∥₁) (sym (it.same ∙ made))
+    subst (λ (x : Setting). ∥ LoopStopsAt calls x t sites ∥₁) (sym (it.same ∙ made))
     ∣ record {
       function = function;
       args = args;

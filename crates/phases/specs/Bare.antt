@@ -6,9 +6,9 @@ use Rattle.phases.specs.declared.did.BareDid.{BareDid}
 use Rattle.phases.specs.declared.did.BareDid.TheVariants as bare
 
 -- as the owner gets it
-abbrev pub whole : BareDid → StepDid
-whole (bare.Entered phase now) = Entered phase now
-whole (bare.Ran kind number ended) = Ran kind number (whole_ended ended)
-whole (bare.Skipped kind number) = Skipped kind number
-whole bare.Over = Over
-whole bare.Failed = Failed
+abbrev pub whole_did : BareDid → StepDid
+whole_did (bare.Entered phase now) = Entered phase now
+whole_did (bare.Ran kind number ended) = Ran kind number (whole_ended ended)
+whole_did (bare.Skipped kind number) = Skipped kind number
+whole_did bare.Over = Over
+whole_did bare.Failed = Failed

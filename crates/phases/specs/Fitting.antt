@@ -22,7 +22,7 @@ AreClosing t (handle ∷ handles) = IsClosing t handle × (list_any (λ other. o
 
 -- There are MAX_HANDLES handles at most. The callback of each that has a duty is there, what is listed as closing is
 -- closing, and each async has its number.
-pub record IsKept (r : Roster) : Type 0 where
+pub record RosterIsKept (r : Roster) : Type 0 where
   pub few : finite.len r.handles.records ≤ MAX_HANDLES
   pub callbacks : (handle : ℕ) (it : Record) → record_of r.handles handle ≡ Some it → has_duty it ≡ true → is_callback r it.callback ≡ true
   pub closing_handles : AreClosing r.handles r.closing

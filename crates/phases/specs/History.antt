@@ -9,7 +9,7 @@ use Rattle.events.specs.declared.did.StepDid.TheVariants.{Ran}
 use Rattle.phases.specs.Calls.{Calls}
 use Rattle.phases.specs.Guests.{GuestCall}
 use Rattle.phases.specs.Host.{with_requests}
-use Rattle.phases.specs.Outside.{Takes, CancelsLoop, RequestsLoop, next_order_of, answered, after_clock}
+use Rattle.phases.specs.Outside.{TakesReplyTo, CancelsLoop, RequestsLoop, next_order_of, answered, after_clock}
 use Rattle.phases.specs.PhaseList.{begin_list}
 use Rattle.phases.specs.Roster.{opening_roster}
 use Rattle.phases.specs.State.{Setting, Loop, opening}
@@ -73,8 +73,8 @@ module _ {S : Type 0} (calls : Calls S) (g : Setting) where
   Offers o end taken old new =
       ∥ IsEndOf o end ∥₁
       × MatchBool taken
-      (Takes o old.state × (new ≡ in_state old (with_requests old.state (answered old.state.requests o end))))
-      ((Takes o old.state → ⊥) × (new ≡ old))
+      (TakesReplyTo o old.state × (new ≡ in_state old (with_requests old.state (answered old.state.requests o end))))
+      ((TakesReplyTo o old.state → ⊥) × (new ≡ old))
 
   -- Others leave the loop, and all that it knows of the shared object.
   pub record Moves (old new : Loop S) : Type 0 where

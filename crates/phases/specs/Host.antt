@@ -69,16 +69,16 @@ cancel_state_of rs number = request_cancel_state (request_of rs number)
 
 module _ {S : Type 0} (calls : Calls S) where
   -- A pending request is cancelled where the shared object says so; else a worker has started it.
-  abbrev pub CancelsAt : CancelState → Requests × S → (number answer : ℕ) → Requests × S → Type 0
-  CancelsAt Unknown old number answer new = (answer ≡ INVALID) × (new ≡ old)
-  CancelsAt cancel_state.Answered old number answer new = (answer ≡ BUSY) × (new ≡ old)
-  CancelsAt (Pending slot) old number answer new =
+  abbrev pub CancelsFrom : CancelState → Requests × S → (number answer : ℕ) → Requests × S → Type 0
+  CancelsFrom Unknown old number answer new = (answer ≡ INVALID) × (new ≡ old)
+  CancelsFrom cancel_state.Answered old number answer new = (answer ≡ BUSY) × (new ≡ old)
+  CancelsFrom (Pending slot) old number answer new =
       (won : Bool) × calls.cancels old.1 slot number won new.1
       × (answer ≡ (if won then 0 else BUSY))
       × (new.0 ≡ (if won then with_stage old.0 number Cancelled else old.0))
 
   abbrev pub Cancels : Requests × S → (number answer : ℕ) → Requests × S → Type 0
-  Cancels old number answer new = CancelsAt (cancel_state_of old.0 number) old number answer new
+  Cancels old number answer new = CancelsFrom (cancel_state_of old.0 number) old number answer new
 
   -- the request is opened in any free slot
   pub record Opens (g : Setting) (old : Requests × S) (op : ℕ) (bytes : List ℕ) (answer : ℕ) (new : Requests × S) : Type 0 where

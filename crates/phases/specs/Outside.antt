@@ -45,7 +45,7 @@ pub record IsOneOf (o : WorkOrder) (rs : Requests) : Type 0 where
   pub unsettled : is_settled request.stage ≡ false
 
 -- a reply is taken by a loop that has not failed, if its order is one of the loop's
-pub record Takes (o : WorkOrder) (s : State) : Type 0 where
+pub record TakesReplyTo (o : WorkOrder) (s : State) : Type 0 where
   pub goes_on : is_failed s.status ≡ false
   pub one : IsOneOf o s.requests
 

@@ -65,15 +65,15 @@ now_in s phase = moment_in phase s.clock s.now
 abbrev pub in_phase : State → Phase → State
 in_phase s phase = record s { now = now_in s phase; phase = phase }
 
-abbrev pub entered : State → Phase → State
-entered s phase = record (in_phase s phase) { list = phase_list (in_phase s phase) phase }
+abbrev pub phase_entered : State → Phase → State
+phase_entered s phase = record (in_phase s phase) { list = phase_list (in_phase s phase) phase }
 
 -- A list is used up: the loop is over, or the next phase is entered.
 abbrev pub turn : State → StepDid × State
 turn s =
     if may_end s.phase && not (is_alive s)
     then (step.Over, record s { status = Over })
-    else (Entered (next_phase s.phase) (now_in s (next_phase s.phase)), entered s (next_phase s.phase))
+    else (Entered (next_phase s.phase) (now_in s (next_phase s.phase)), phase_entered s (next_phase s.phase))
 
 module _ {S : Type 0} where
   -- the loop in another state

@@ -11,7 +11,7 @@ use Rattle.phases.specs.State.{Setting, State}
 
 -- A call of a function of the loop's module, within the loop's fuel and depth and answered as the loop answers its guest, led to
 -- this store and stopped there: at this operation, within these calls.
-pub record StopsAt {S : Type 0} (calls : Calls S) (g : Setting) (store : Store) (sites : List Site) : Type 0 where
+pub record LoopStopsAt {S : Type 0} (calls : Calls S) (g : Setting) (store : Store) (sites : List Site) : Type 0 where
   pub function : ℕ
   pub args : List Value
   pub ended : Ended

@@ -1,7 +1,7 @@
 // What a step did, without room for results.
 
 ghost use Rattle.std.specs.Prelude.{◌≡◌};
-ghost use Rattle.phases.specs.Bare.{whole};
+ghost use Rattle.phases.specs.Bare.{whole_did};
 
 use events::did::StepDid;
 use events::ended::BareEnded;
@@ -37,7 +37,7 @@ impl BareDid {
     /// The step as the owner gets it.
     /// Each arm returns by itself: what a `match` gives is filled with zeros and copied once more.
     pub fn whole(self) -> StepDid
-        ensures { result ≡ whole self }
+        ensures { result ≡ whole_did self }
     {
         match self {
             BareDid::Entered { phase, now } => return StepDid::Entered { phase, now },

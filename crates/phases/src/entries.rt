@@ -9,7 +9,7 @@ ghost use Rattle.phases.specs.Requests.{is_settled};
 use crate::entry::Entry;
 use crate::request::Request;
 use crate::roster::Roster;
-use handles::{Bounded, Kind, Place};
+use handles::{Bounded, Kind, ListPlace};
 use limits::MAX_HANDLES;
 use std::alloc::{AllocError, Global};
 use std::marker::Model;
@@ -59,7 +59,7 @@ impl Entries {
     }
 
     /// Lists the handles of a kind that stand at these places.
-    pub fn list_handles(&mut self, kind: Kind, places: &[Place])
+    pub fn list_handles(&mut self, kind: Kind, places: &[ListPlace])
         requires { length places.now ≤ MAX_HANDLES }
         ensures { self.new ≡ map (handle_entry kind) (map entry places.now) }
     {
@@ -103,7 +103,7 @@ impl Entries {
     }
 }
 
-fn list_handles(items: &mut Bounded<Entry, MAX_ENTRIES>, kind: Kind, places: &[Place])
+fn list_handles(items: &mut Bounded<Entry, MAX_ENTRIES>, kind: Kind, places: &[ListPlace])
     requires { length places.now ≤ MAX_HANDLES }
     ensures { items.new ≡ map (λ place. handle_entry kind (entry place)) places.now }
 {

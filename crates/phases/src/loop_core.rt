@@ -15,14 +15,14 @@ ghost use Rattle.phases.specs.Outside.{after_clock, is_failed, next_order_of, Ca
 ghost use Rattle.phases.specs.Guests.{GuestCall};
 ghost use Rattle.order.specs.Runnable.{CanRun};
 ghost use Rattle.phases.specs.PhaseList.{begin_list, hint_of, is_alive, IsAlive, IsHint};
-ghost use Rattle.phases.specs.Bare.{whole};
+ghost use Rattle.phases.specs.Bare.{whole_did};
 ghost use Rattle.phases.specs.Inner.Ready.{IsReady, Spares};
 ghost use Rattle.phases.specs.Inner.Setting.{setting_of};
 ghost use Rattle.phases.specs.Requests.{IsLowestOpen};
 ghost use Rattle.phases.specs.Roster.{opening_roster};
 ghost use Rattle.phases.specs.State.{opening};
 ghost use Rattle.phases.specs.Step.{LoopStep, ListStep, EntryStep, CallsBack, CallsHandle, RunsFrom, Skips, TakesFirst, AfterWork, is_as_listed};
-ghost use Rattle.phases.specs.Stopping.{StopsAt};
+ghost use Rattle.phases.specs.Stopping.{LoopStopsAt};
 ghost use Rattle.phases.specs.View.{new_view};
 
 use crate::did::BareDid;
@@ -37,7 +37,7 @@ use events::phase::EntryKind;
 use events::settings::LoopSettings;
 use handles::Kind;
 use imports::{EntryPoint, Linked};
-use instance::stack::{Stack, Stop};
+use instance::stack::{CallStack, Stop};
 use instance::state::State;
 use interp::call::FunctionCall;
 use interp::invoke::{invoke_bare, unwritten};
@@ -63,11 +63,11 @@ pub enum Accepted {
 pub struct LoopCore<B: Shared + Drop> {
     linked: Arc<Linked, Global>,
     store: State,
-    stack: Stack,
+    stack: CallStack,
     host: LoopHost<B>,
     // Where a callback's ending is written. What stands there is no part of the loop.
     place: Ended,
-    ghost stopped: { IfSome stack (λ sites. ∥ StopsAt B.calls (setting_of host.setting) store sites ∥₁) } by { Prim.hlevel props },
+    ghost stopped: { IfSome stack (λ sites. ∥ LoopStopsAt B.calls (setting_of host.setting) store sites ∥₁) } by { Prim.hlevel props },
 }
 
 impl<B: Shared + Drop> Drop for LoopCore<B> {
@@ -89,7 +89,7 @@ impl<B: Shared + Drop> Model for LoopCore<B> {
     ghost use Rattle.syntax.specs.Loaded.{loaded_coded};
     ghost use Rattle.phases.specs.State.{Core};
     ghost use Rattle.phases.specs.Inner.Setting.{setting_of};
-    ghost use Rattle.phases.specs.Inner.Keeping.{Keeps};
+    ghost use Rattle.phases.specs.Inner.Keeping.{KeepsLoop};
     ghost use Rattle.std.specs.Arc.{arc_value};
 
     ghost Value = { Core B };
@@ -98,7 +98,7 @@ impl<B: Shared + Drop> Model for LoopCore<B> {
 
     ghost view = { λ a. record { setting = setting_of a.host.setting; loop = record { state = a.host.state; store = a.store; shared = a.host.shared } } };
 
-    ghost invariant = { λ a. Keeps (arc_value a.linked) (setting_of a.host.setting) a.host.state a.store };
+    ghost invariant = { λ a. KeepsLoop (arc_value a.linked) (setting_of a.host.setting) a.host.state a.store };
 }
 
 impl<B: Shared + Drop> LoopCore<B> {
@@ -161,7 +161,7 @@ impl<B: Shared + Drop> LoopCore<B> {
     /// One step, with no room for results in its answer. Inlined, so that a phase with no entries costs no call.
     #[inline(always)]
     pub fn step_bare(&mut self) -> BareDid
-        ensures step { LoopStep B.calls self.old.setting self.old.loop (whole result) self.new.loop }
+        ensures step { LoopStep B.calls self.old.setting self.old.loop (whole_did result) self.new.loop }
         ensures setting { self.new.setting ≡ self.old.setting }
     {
         match self.host.state.status() {
@@ -173,7 +173,7 @@ impl<B: Shared + Drop> LoopCore<B> {
 
     #[inline(always)]
     fn go_on(&mut self) -> BareDid
-        ensures step { (made : List GuestCall) × ListStep B.calls self.old.setting self.old.loop self.old.loop.state.list (whole result) made self.new.loop }
+        ensures step { (made : List GuestCall) × ListStep B.calls self.old.setting self.old.loop self.old.loop.state.list (whole_did result) made self.new.loop }
         ensures setting { self.new.setting ≡ self.old.setting }
     {
         let Some(entry) = self.host.state.front() else {
@@ -187,7 +187,7 @@ impl<B: Shared + Drop> LoopCore<B> {
     fn run(&mut self, entry: Entry) -> BareDid
         requires ready { IsReady self.old.setting.loaded.contents self.old.loop.state entry }
         requires apart { All (Spares entry) self.old.loop.state.list }
-        ensures step { (made : List GuestCall) × EntryStep B.calls self.old.setting self.old.loop entry (whole result) made self.new.loop }
+        ensures step { (made : List GuestCall) × EntryStep B.calls self.old.setting self.old.loop entry (whole_did result) made self.new.loop }
         ensures setting { self.new.setting ≡ self.old.setting }
     {
         match entry {
@@ -209,7 +209,7 @@ impl<B: Shared + Drop> LoopCore<B> {
     #[tactic(auto, using(crate::proofs::LoopsKeep::start_bare))]
     fn run_start(&mut self) -> BareDid
         requires ready { IsReady self.old.setting.loaded.contents self.old.loop.state Entry.Start }
-        ensures step { (made : List GuestCall) × EntryStep B.calls self.old.setting self.old.loop Entry.Start (whole result) made self.new.loop }
+        ensures step { (made : List GuestCall) × EntryStep B.calls self.old.setting self.old.loop Entry.Start (whole_did result) made self.new.loop }
         ensures setting { self.new.setting ≡ self.old.setting }
     {
         let Some(function) = self.linked.valid().contents().start else {
@@ -220,7 +220,7 @@ impl<B: Shared + Drop> LoopCore<B> {
 
     fn run_main(&mut self) -> BareDid
         requires ready { IsReady self.old.setting.loaded.contents self.old.loop.state Entry.Main }
-        ensures step { (made : List GuestCall) × EntryStep B.calls self.old.setting self.old.loop Entry.Main (whole result) made self.new.loop }
+        ensures step { (made : List GuestCall) × EntryStep B.calls self.old.setting self.old.loop Entry.Main (whole_did result) made self.new.loop }
         ensures setting { self.new.setting ≡ self.old.setting }
     {
         let Some(function) = self.linked.entry(EntryPoint::Main) else {
@@ -230,7 +230,7 @@ impl<B: Shared + Drop> LoopCore<B> {
     }
 
     fn run_timer(&mut self, handle: u32, start: u64) -> BareDid
-        ensures step { (made : List GuestCall) × EntryStep B.calls self.old.setting self.old.loop (Entry.Timer handle start) (whole result) made self.new.loop }
+        ensures step { (made : List GuestCall) × EntryStep B.calls self.old.setting self.old.loop (Entry.Timer handle start) (whole_did result) made self.new.loop }
         ensures setting { self.new.setting ≡ self.old.setting }
     {
         match self.host.state.fire(handle, start) {
@@ -247,8 +247,8 @@ impl<B: Shared + Drop> LoopCore<B> {
     /// An idle or a check handle.
     fn run_listed(&mut self, listed: Kind, kind: EntryKind, handle: u32, start: u64) -> BareDid
         ensures step { (made : List GuestCall) × MatchBool (is_as_listed listed self.old.loop.state.roster handle start)
-            (CallsHandle B.calls self.old.setting self.old.loop self.old.loop.state.roster kind handle (whole result) made self.new.loop)
-            (Skips B.calls self.old.setting self.old.loop kind handle (whole result) made self.new.loop) }
+            (CallsHandle B.calls self.old.setting self.old.loop self.old.loop.state.roster kind handle (whole_did result) made self.new.loop)
+            (Skips B.calls self.old.setting self.old.loop kind handle (whole_did result) made self.new.loop) }
         ensures setting { self.new.setting ≡ self.old.setting }
     {
         match self.host.state.listed_function(listed, handle, start) {
@@ -265,7 +265,7 @@ impl<B: Shared + Drop> LoopCore<B> {
     fn run_after_work(&mut self, request: u32) -> BareDid
         requires ready { IsReady self.old.setting.loaded.contents self.old.loop.state (Entry.After request) }
         requires apart { All (Spares (Entry.After request)) self.old.loop.state.list }
-        ensures step { (made : List GuestCall) × EntryStep B.calls self.old.setting self.old.loop (Entry.After request) (whole result) made self.new.loop }
+        ensures step { (made : List GuestCall) × EntryStep B.calls self.old.setting self.old.loop (Entry.After request) (whole_did result) made self.new.loop }
         ensures setting { self.new.setting ≡ self.old.setting }
     {
         let Some(function) = self.linked.entry(EntryPoint::AfterWork) else {
@@ -289,7 +289,7 @@ impl<B: Shared + Drop> LoopCore<B> {
     /// What waits at the async is taken first; where that is nothing, no callback runs.
     fn run_async(&mut self, async_no: u32) -> BareDid
         requires ready { IsReady self.old.setting.loaded.contents self.old.loop.state (Entry.Async async_no) }
-        ensures step { (made : List GuestCall) × EntryStep B.calls self.old.setting self.old.loop (Entry.Async async_no) (whole result) made self.new.loop }
+        ensures step { (made : List GuestCall) × EntryStep B.calls self.old.setting self.old.loop (Entry.Async async_no) (whole_did result) made self.new.loop }
         ensures setting { self.new.setting ≡ self.old.setting }
     {
         let Some(handle) = self.host.state.async_at(async_no) else {
@@ -315,7 +315,7 @@ impl<B: Shared + Drop> LoopCore<B> {
     fn run_close(&mut self, handle: u32) -> BareDid
         requires ready { IsReady self.old.setting.loaded.contents self.old.loop.state (Entry.Close handle) }
         requires apart { All (Spares (Entry.Close handle)) self.old.loop.state.list }
-        ensures step { (made : List GuestCall) × EntryStep B.calls self.old.setting self.old.loop (Entry.Close handle) (whole result) made self.new.loop }
+        ensures step { (made : List GuestCall) × EntryStep B.calls self.old.setting self.old.loop (Entry.Close handle) (whole_did result) made self.new.loop }
         ensures setting { self.new.setting ≡ self.old.setting }
     {
         let function = self.host.state.finish_closing(handle);
@@ -326,7 +326,7 @@ impl<B: Shared + Drop> LoopCore<B> {
     fn call_handle(&mut self, kind: EntryKind, handle: u32, function: u32) -> BareDid
         requires callback { TakesArguments self.old.setting.loaded.contents function (Value.I32 handle ∷ []) }
         requires bare { HasNoResults self.old.setting.loaded.contents function }
-        ensures run { (made : List GuestCall) × RunsFrom B.calls self.old.setting self.old.loop kind handle function (Value.I32 handle ∷ []) None (whole result) made self.new.loop }
+        ensures run { (made : List GuestCall) × RunsFrom B.calls self.old.setting self.old.loop kind handle function (Value.I32 handle ∷ []) None (whole_did result) made self.new.loop }
         ensures setting { self.new.setting ≡ self.old.setting }
     {
         self.call(kind, handle, function, &[Value::I32(handle)], None)
@@ -343,7 +343,7 @@ impl<B: Shared + Drop> LoopCore<B> {
         requires takes { TakesArguments self.old.setting.loaded.contents function args.now }
         requires bare { HasNoResults self.old.setting.loaded.contents function }
         requires short { IsShort (option_map (λ v. v.items) reply) }
-        ensures run { (made : List GuestCall) × RunsFrom B.calls self.old.setting self.old.loop kind number function args.now (option_map (λ v. v.items) reply) (whole result) made self.new.loop }
+        ensures run { (made : List GuestCall) × RunsFrom B.calls self.old.setting self.old.loop kind number function args.now (option_map (λ v. v.items) reply) (whole_did result) made self.new.loop }
         ensures setting { self.new.setting ≡ self.old.setting }
     {
         self.host.state.begin_callback(reply);
@@ -404,7 +404,7 @@ impl<B: Shared + Drop> LoopCore<B> {
 
     /// Where the last callback stopped, unless it returned: at which operation, and within which calls.
     pub fn last_stop(&self) -> Option<Stop<'_>>
-        ensures { IfSome result (λ sites. ∥ StopsAt B.calls self.now.setting self.now.loop.store sites ∥₁) }
+        ensures { IfSome result (λ sites. ∥ LoopStopsAt B.calls self.now.setting self.now.loop.store sites ∥₁) }
     {
         self.stack.last_stop()
     }

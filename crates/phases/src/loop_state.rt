@@ -8,7 +8,7 @@ ghost use Rattle.order.specs.Uv.Bytes.{input_length, copied_in};
 ghost use Rattle.order.specs.Orders.{order_of, end_of};
 ghost use Rattle.phases.specs.Fitting.{AllRight};
 ghost use Rattle.phases.specs.Host.{with_requests, emitted_in};
-ghost use Rattle.phases.specs.Outside.{after_clock, next_order_of, CancelIn, RequestIn, Takes, answered};
+ghost use Rattle.phases.specs.Outside.{after_clock, next_order_of, CancelIn, RequestIn, TakesReplyTo, answered};
 ghost use Rattle.phases.specs.Inner.Ready.{Grows};
 ghost use Rattle.phases.specs.Inner.Setting.{setting_of};
 ghost use Rattle.phases.specs.View.{AreOpenedUpTo};
@@ -211,9 +211,9 @@ impl LoopState {
     /// Takes a reply whose order is, in every field, that of a request that is neither answered nor cancelled, unless
     /// the loop has failed. Else the reply comes back.
     pub fn accept(&mut self, reply: Reply) -> Result<(), Reply>
-        ensures taken { OnOk result (Takes (order_of reply.order) self.old) }
+        ensures taken { OnOk result (TakesReplyTo (order_of reply.order) self.old) }
         ensures answered { OnOk result (self.new ≡ with_requests self.old (answered self.old.requests (order_of reply.order) (end_of reply.outcome))) }
-        ensures refused { IfErr result (λ other. (other ≡ reply) × (self.new ≡ self.old) × (Takes (order_of reply.order) self.old → ⊥)) }
+        ensures refused { IfErr result (λ other. (other ≡ reply) × (self.new ≡ self.old) × (TakesReplyTo (order_of reply.order) self.old → ⊥)) }
     {
         match self.status {
             Status::Failed => Err(reply),

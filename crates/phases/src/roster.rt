@@ -6,12 +6,12 @@ ghost use Rattle.handles.specs.Table.{empty_table, record_of, IsOpen, IsClosing,
 ghost use Rattle.phases.specs.Roster.{callback_function, is_callback, is_open, is_open_of, async_number, async_handle, with_handles, with_made, without_handle};
 ghost use Rattle.phases.specs.Roster.{is_handle, unless_handle, stopped_in, started_in, again_in, closed_in, active_answer, Makes, MakesAsync};
 ghost use Rattle.phases.specs.PhaseList.{is_empty, has_active, active_asyncs, is_active_handle};
-ghost use Rattle.phases.specs.Fitting.{has_duty, IsKept};
+ghost use Rattle.phases.specs.Fitting.{has_duty, RosterIsKept};
 ghost use Rattle.phases.specs.Inner.Ready.{IsActiveAsync};
 ghost use Rattle.phases.specs.Step.{is_as_listed, handle_function};
 
 use arrayvec::ArrayVec;
-use handles::{Handles, Kind, Place, Record};
+use handles::{Handles, Kind, ListPlace, Record};
 use limits::{MAX_ASYNCS, MAX_HANDLES};
 use order::uv::answers::{INVALID, NO_ROOM, NONE_LEFT};
 use std::marker::Model;
@@ -39,7 +39,7 @@ impl Drop for Roster {
 impl Model for Roster {
     ghost use Rattle.phases.specs.Roster.{Roster as Value_of};
     ghost use Rattle.phases.specs.Inner.Codes.{roster_code};
-    ghost use Rattle.phases.specs.Fitting.{IsKept};
+    ghost use Rattle.phases.specs.Fitting.{RosterIsKept};
 
     ghost Value = { Value_of };
 
@@ -47,7 +47,7 @@ impl Model for Roster {
 
     ghost view = { λ a. record { handles = a.handles; asyncs = a.asyncs.items; closing = a.closing.items; callbacks = a.callbacks.items } };
 
-    ghost invariant = { λ a. IsKept (record { handles = a.handles; asyncs = a.asyncs.items; closing = a.closing.items; callbacks = a.callbacks.items }) };
+    ghost invariant = { λ a. RosterIsKept (record { handles = a.handles; asyncs = a.asyncs.items; closing = a.closing.items; callbacks = a.callbacks.items }) };
 }
 
 impl Roster {
@@ -66,7 +66,7 @@ impl Roster {
 
     /// What the handles keep. Nothing is done: this is a law.
     pub fn keeps(&self)
-        ensures { IsKept self.now }
+        ensures { RosterIsKept self.now }
     {
         // a field that is read opens the model, and with it what the fields keep
         let _ = &self.handles;
@@ -298,7 +298,7 @@ impl Roster {
     }
 
     /// The places of the active timers that are due by `now`.
-    pub fn due(&self, now: u64) -> &[Place]
+    pub fn due(&self, now: u64) -> &[ListPlace]
         ensures value { map entry result.now ≡ due_list self.now.handles now }
         ensures few { length result.now ≤ MAX_HANDLES }
     {
@@ -306,7 +306,7 @@ impl Roster {
     }
 
     /// The places of the active idle or check handles.
-    pub fn of_kind(&self, kind: Kind) -> &[Place]
+    pub fn of_kind(&self, kind: Kind) -> &[ListPlace]
         requires { (kind ≡ Kind.Idle) ⊎ (kind ≡ Kind.Check) }
         ensures value { map entry result.now ≡ kind_list kind self.now.handles }
         ensures few { length result.now ≤ MAX_HANDLES }

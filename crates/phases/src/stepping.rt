@@ -11,7 +11,7 @@ ghost use Rattle.limits.specs.declared.TheConstants.{MAX_ASYNCS, MAX_BYTES};
 ghost use Rattle.phases.specs.Fitting.{IsShort};
 ghost use Rattle.phases.specs.Host.{with_roster, with_requests};
 ghost use Rattle.phases.specs.PhaseList.{is_active_handle, is_alive, phase_list};
-ghost use Rattle.phases.specs.Bare.{whole};
+ghost use Rattle.phases.specs.Bare.{whole_did};
 ghost use Rattle.phases.specs.Inner.Stage.{completion_in};
 ghost use Rattle.syntax.specs.declared.contents.Contents.{Contents};
 ghost use Rattle.phases.specs.Inner.Ready.{AreReady, IsActiveAsync};
@@ -54,7 +54,7 @@ impl LoopState {
     /// is built there of which but a part is read.
     #[inline(always)]
     pub fn turn(&mut self) -> BareDid
-        ensures did { whole result ≡ (turn self.old).0 }
+        ensures did { whole_did result ≡ (turn self.old).0 }
         ensures state { self.new ≡ (turn self.old).1 }
         ensures ready { (m : Contents) → self.old.list ≡ [] → AreReady m self.new }
     {
@@ -69,7 +69,7 @@ impl LoopState {
 
     #[inline(always)]
     fn enter(&mut self, phase: Phase) -> BareDid
-        ensures did { whole result ≡ step_did.Entered phase (now_in self.old phase) }
+        ensures did { whole_did result ≡ step_did.Entered phase (now_in self.old phase) }
         ensures state { self.new ≡ record (in_phase self.old phase) { list = phase_list (in_phase self.old phase) phase } }
     {
         self.phase = phase;

@@ -9,22 +9,22 @@ use Rattle.leb.specs.Spelling.{SpellsUnsigned, StandsAt}
 use Rattle.syntax.specs.Language.{Language, Leaves, exactly, byte, u32, items, counted, ◌⨾◌}
 use Rattle.syntax.specs.Binary.{Section, section}
 use Rattle.syntax.proofs.Joins.{joined, apart, no_items, items_none}
-use Rattle.places.specs.Spans.{Stands, Somewhere, SectionAt, BodyAt}
+use Rattle.places.specs.Spans.{StandsBetween, Somewhere, SectionAt, BodyAt}
 
-pub stands_joined : {P Q : Language} {bytes : List ℕ} {at mid to : ℕ} → Stands P bytes at mid → Stands Q bytes mid to → Stands (P ⨾ Q) bytes at to
+pub stands_joined : {P Q : Language} {bytes : List ℕ} {at mid to : ℕ} → StandsBetween P bytes at mid → StandsBetween Q bytes mid to → StandsBetween (P ⨾ Q) bytes at to
 stands_joined {P} {Q} {bytes} {at} {mid} {to} p q = record {
   forth = (let a : at ≤ mid = p.forth in let b : mid ≤ to = q.forth in omega arith);
   within = q.within;
   spelled = joined p.spelled q.spelled;
 }
 
-pub u32_stands : {bytes : List ℕ} {at n next : ℕ} → StandsAt SpellsUnsigned 32 bytes at n next → Stands (u32 n) bytes at next
+pub u32_stands : {bytes : List ℕ} {at n next : ℕ} → StandsAt SpellsUnsigned 32 bytes at n next → StandsBetween (u32 n) bytes at next
 u32_stands {bytes} {at} {n} {next} s =
     let order : at ≤ next = (let a : at < next = s.after in omega arith) in
     record { forth = order; within = s.within; spelled = record { front = slice_range bytes at next; spelled = s.spelled; split = drop_split bytes at next order } }
 
 -- the text itself
-text_stands : (bytes : List ℕ) (from to : ℕ) → from ≤ to → to ≤ length bytes → Stands (exactly (slice_range bytes from to)) bytes from to
+text_stands : (bytes : List ℕ) (from to : ℕ) → from ≤ to → to ≤ length bytes → StandsBetween (exactly (slice_range bytes from to)) bytes from to
 text_stands bytes from to order within =
     record { forth = order; within = within; spelled = record { front = slice_range bytes from to; spelled = refl; split = drop_split bytes from to order } }
 
@@ -33,13 +33,13 @@ length_between bytes from to order within = length-take-le (to - from) (drop fro
 
 -- so many bytes behind their number
 pub counted_stands : {bytes : List ℕ} {at size from to : ℕ} → StandsAt SpellsUnsigned 32 bytes at size from → from + size ≡ to → to ≤ length bytes
-    → Stands (counted (slice_range bytes from to)) bytes at to
+    → StandsBetween (counted (slice_range bytes from to)) bytes at to
 counted_stands {bytes} {at} {size} {from} {to} s ends within =
     let order : from ≤ to = omega arith in
     let many : size ≡ length (slice_range bytes from to) = omega (arith, length_between bytes from to order within) in
-    stands_joined (subst (λ (n : ℕ). Stands (u32 n) bytes at from) many (u32_stands s)) (text_stands bytes from to order within)
+    stands_joined (subst (λ (n : ℕ). StandsBetween (u32 n) bytes at from) many (u32_stands s)) (text_stands bytes from to order within)
 
-byte_stands : {bytes : List ℕ} {at b : ℕ} → slice_get bytes at ≡ Some b → Stands (byte b) bytes at (at + 1)
+byte_stands : {bytes : List ℕ} {at b : ℕ} → slice_get bytes at ≡ Some b → StandsBetween (byte b) bytes at (at + 1)
 byte_stands {bytes} {at} {b} found =
     let within : at < length bytes = slice_get_within bytes at b found in
     record {
@@ -52,8 +52,8 @@ byte_stands {bytes} {at} {b} found =
       };
     }
 
-pub section_stands : {bytes text : List ℕ} {at id to : ℕ} → slice_get bytes at ≡ Some id → Stands (counted text) bytes (at + 1) to
-    → Stands (section (record { id = id; contents = text })) bytes at to
+pub section_stands : {bytes text : List ℕ} {at id to : ℕ} → slice_get bytes at ≡ Some id → StandsBetween (counted text) bytes (at + 1) to
+    → StandsBetween (section (record { id = id; contents = text })) bytes at to
 section_stands found c = stands_joined (byte_stands found) c
 
 items_push : {V : Type 0} (G : V → Language) (vs : List V) (v : V) (bytes mid rest : List ℕ) → Leaves (items G vs) bytes mid → Leaves (G v) mid rest → Leaves (items G (vs ++ v ∷ [])) bytes rest
@@ -70,14 +70,14 @@ pub record Past (bytes : List ℕ) (before : List Section) (at : ℕ) : Type 0 w
 pub past_none : (bytes : List ℕ) → Past bytes [] 8
 past_none bytes = record { order = omega arith; stand = no_items section (drop 8 bytes) }
 
-pub past_more : {bytes : List ℕ} {before : List Section} {at to : ℕ} (s : Section) → Past bytes before at → Stands (section s) bytes at to → Past bytes (before ++ s ∷ []) to
+pub past_more : {bytes : List ℕ} {before : List Section} {at to : ℕ} (s : Section) → Past bytes before at → StandsBetween (section s) bytes at to → Past bytes (before ++ s ∷ []) to
 past_more {bytes} {before} {at} {to} s p h = record {
   order = (let a : 8 ≤ at = p.order in let b : at ≤ to = h.forth in omega arith);
   stand = items_push section before s (drop 8 bytes) (drop at bytes) (drop to bytes) p.stand h.spelled;
 }
 
 pub section_there : {bytes : List ℕ} {before : List Section} {id at from to : ℕ} → Past bytes before at
-    → Stands (section (record { id = id; contents = slice_range bytes from to })) bytes at to → from ≤ to → SectionAt bytes before id at from to
+    → StandsBetween (section (record { id = id; contents = slice_range bytes from to })) bytes at to → from ≤ to → SectionAt bytes before id at from to
 section_there {bytes} {before} {id} {at} {from} {to} p h holds = record {
   in_front = record {
     forth = p.order;
@@ -95,7 +95,7 @@ PastOthers bytes id at = (before : List Section) × Past bytes before at × All 
 pub others_none : (bytes : List ℕ) (id : ℕ) → PastOthers bytes id 8
 others_none bytes id = ([], past_none bytes, λ i d lt. absurd (omega arith))
 
-pub others_more : {bytes : List ℕ} {id at to : ℕ} (s : Section) → PastOthers bytes id at → Stands (section s) bytes at to → (s.id ≡ id → ⊥) → PastOthers bytes id to
+pub others_more : {bytes : List ℕ} {id at to : ℕ} (s : Section) → PastOthers bytes id at → StandsBetween (section s) bytes at to → (s.id ≡ id → ⊥) → PastOthers bytes id to
 others_more {bytes} {id} {at} {to} s p h other = (p.0 ++ s ∷ [], past_more s p.1 h, All-push (λ (x : Section). x.id ≡ id → ⊥) p.0 s p.2 other)
 
 -- bodies stand up to this byte
@@ -108,7 +108,7 @@ pub record PastBodies (bytes : List ℕ) (first number at : ℕ) : Type 0 where
 pub bodies_none : (bytes : List ℕ) (first : ℕ) → PastBodies bytes first 0 first
 bodies_none bytes first = record { before = []; as_many = refl; order = omega arith; stand = no_items counted (drop first bytes) }
 
-pub bodies_more : {bytes : List ℕ} {first number at to : ℕ} (text : List ℕ) → PastBodies bytes first number at → Stands (counted text) bytes at to
+pub bodies_more : {bytes : List ℕ} {first number at to : ℕ} (text : List ℕ) → PastBodies bytes first number at → StandsBetween (counted text) bytes at to
     → PastBodies bytes first (number + 1) to
 bodies_more {bytes} {first} {number} {at} {to} text p h = record {
   before = p.before ++ text ∷ [];
@@ -118,7 +118,7 @@ bodies_more {bytes} {first} {number} {at} {to} text p h = record {
 }
 
 pub body_there : {bytes : List ℕ} {held count first number at from to : ℕ} → StandsAt SpellsUnsigned 32 bytes held count first → number < count
-    → PastBodies bytes first number at → Stands (counted (slice_range bytes from to)) bytes at to → from ≤ to → BodyAt bytes held number at from to
+    → PastBodies bytes first number at → StandsBetween (counted (slice_range bytes from to)) bytes at to → from ≤ to → BodyAt bytes held number at from to
 body_there {bytes} {held} {count} {first} {number} {at} {from} {to} s few p h holds = record {
   count = count;
   first = first;
@@ -137,7 +137,7 @@ body_there {bytes} {held} {count} {first} {number} {at} {from} {to} s few p h ho
 
 -- ---- somewhere
 
-pub stands_somewhere : {L : Language} {bytes : List ℕ} {at to : ℕ} → Stands L bytes at to → Somewhere L bytes
+pub stands_somewhere : {L : Language} {bytes : List ℕ} {at to : ℕ} → StandsBetween L bytes at to → Somewhere L bytes
 stands_somewhere {L} {bytes} {at} {to} h = record {
   front = take at bytes;
   text = h.spelled.front;
@@ -167,7 +167,7 @@ somewhere_before {L} {bytes} front rest is s = record {
 }
 
 -- in bytes that stand behind their number
-pub somewhere_inside : {L : Language} {bytes list : List ℕ} {at to : ℕ} → Stands (counted list) bytes at to → Somewhere L list → Somewhere L bytes
+pub somewhere_inside : {L : Language} {bytes list : List ℕ} {at to : ℕ} → StandsBetween (counted list) bytes at to → Somewhere L list → Somewhere L bytes
 somewhere_inside {L} {bytes} {list} {at} {to} h s =
     let text = h.spelled.front in
     let c = h.spelled.spelled in

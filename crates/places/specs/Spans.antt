@@ -4,7 +4,7 @@ use Rattle.syntax.specs.Language.{Language, Leaves, u32, items, counted}
 use Rattle.syntax.specs.Binary.{Section, section}
 
 -- from this byte up to that one stands a text of the language
-pub record Stands (L : Language) (bytes : List ℕ) (at to : ℕ) : Type 0 where
+pub record StandsBetween (L : Language) (bytes : List ℕ) (at to : ℕ) : Type 0 where
   pub forth : at ≤ to
   pub within : to ≤ length bytes
   pub spelled : Leaves L (drop at bytes) (drop to bytes)
@@ -20,8 +20,8 @@ pub record Somewhere (L : Language) (bytes : List ℕ) : Type 0 where
 -- A section with this id stands from `at` up to `to`, and what it holds begins at `from`. Between the eight bytes with which a module
 -- begins and the section stand these sections.
 pub record SectionAt (bytes : List ℕ) (before : List Section) (id at from to : ℕ) : Type 0 where
-  pub in_front : Stands (items section before) bytes 8 at
-  pub here : Stands (section (record { id = id; contents = slice_range bytes from to })) bytes at to
+  pub in_front : StandsBetween (items section before) bytes 8 at
+  pub here : StandsBetween (section (record { id = id; contents = slice_range bytes from to })) bytes at to
   pub holds : from ≤ to
 
 -- the first section with this id begins there
@@ -34,12 +34,12 @@ FirstSectionAt bytes id at from to =
 pub record BodyAt (bytes : List ℕ) (held number at from to : ℕ) : Type 0 where
   pub count : ℕ
   pub first : ℕ
-  pub counted_first : Stands (u32 count) bytes held first
+  pub counted_first : StandsBetween (u32 count) bytes held first
   pub few : number < count
   pub before : List (List ℕ)
   pub as_many : length before ≡ number
-  pub in_front : Stands (items counted before) bytes first at
-  pub here : Stands (counted (slice_range bytes from to)) bytes at to
+  pub in_front : StandsBetween (items counted before) bytes first at
+  pub here : StandsBetween (counted (slice_range bytes from to)) bytes at to
   pub holds : from ≤ to
 
 -- the body is in the first section of code, whose id is 10

@@ -3,7 +3,7 @@
 
 ghost use Rattle.std.specs.Prelude.{◌≡◌, List, ℕ, ◌++◌, slice_range, IfSome};
 ghost use Rattle.syntax.specs.Language.{◌⨾◌, u32 as spells_u32, counted as spells_counted};
-ghost use Rattle.places.specs.Spans.{Stands, Somewhere};
+ghost use Rattle.places.specs.Spans.{StandsBetween, Somewhere};
 ghost use Rattle.places.specs.Places.{name_section, GivesName};
 
 use crate::spans::{OPENING, Span, section_at, sized};
@@ -17,7 +17,7 @@ const FUNCTION_NAMES: u8 = 1;
 
 /// The bytes that have their number at the start, and where they end.
 fn counted(bytes: &[u8], at: usize) -> Option<(&[u8], usize)>
-    ensures { IfSome result (λ read. Stands (spells_counted read.0.now) bytes.now at read.1) }
+    ensures { IfSome result (λ read. StandsBetween (spells_counted read.0.now) bytes.now at read.1) }
 {
     let span = sized(bytes, at, at)?;
     Some((&bytes[span.from..span.to], span.to))

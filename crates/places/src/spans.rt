@@ -3,7 +3,7 @@
 ghost use Rattle.std.specs.Prelude.{◌≡◌, ◌≤◌, ◌<◌, ℕ, List, slice_range, IfSome};
 ghost use Rattle.syntax.specs.Language.{counted};
 ghost use Rattle.syntax.specs.Binary.{Section, section};
-ghost use Rattle.places.specs.Spans.{Stands, SectionAt, FirstSectionAt, BodyAt};
+ghost use Rattle.places.specs.Spans.{StandsBetween, SectionAt, FirstSectionAt, BodyAt};
 ghost use Rattle.places.specs.Places.{IsPlaceOfSection, IsPlaceOfFunction, IsPartWith};
 
 use crate::place::{Part, Place};
@@ -56,7 +56,7 @@ pub(crate) struct Span {
 /// The span whose size stands at this byte, and which begins so many bytes before.
 pub(crate) fn sized(bytes: &[u8], at: usize, size_at: usize) -> Option<Span>
     ensures at { IfSome result (λ s. s.at ≡ at) }
-    ensures here { IfSome result (λ s. Stands (counted (slice_range bytes.now s.from s.to)) bytes.now size_at s.to) }
+    ensures here { IfSome result (λ s. StandsBetween (counted (slice_range bytes.now s.from s.to)) bytes.now size_at s.to) }
     ensures holds { IfSome result (λ s. s.from ≤ s.to) }
 {
     let Ok((size, from)) = read_u32(bytes, size_at) else {
@@ -72,7 +72,7 @@ pub(crate) fn sized(bytes: &[u8], at: usize, size_at: usize) -> Option<Span>
 /// The section that begins at this byte, and its id.
 pub(crate) fn section_at(bytes: &[u8], at: usize) -> Option<(u8, Span)>
     ensures at { IfSome result (λ s. s.1.at ≡ at) }
-    ensures here { IfSome result (λ s. Stands (section (record { id = s.0; contents = slice_range bytes.now s.1.from s.1.to })) bytes.now at s.1.to) }
+    ensures here { IfSome result (λ s. StandsBetween (section (record { id = s.0; contents = slice_range bytes.now s.1.from s.1.to })) bytes.now at s.1.to) }
     ensures holds { IfSome result (λ s. s.1.from ≤ s.1.to) }
 {
     if at >= bytes.len() {

@@ -5,8 +5,8 @@ use Rattle.claims.specs.Views.{WorkerView, StartsTicket, Notes, open_word}
 use Rattle.order.specs.declared.reply.Reply.{Reply}
 use Rattle.board.specs.Jobs.{ticket_of}
 use Rattle.board.specs.Boards.{BoardView, PassView, TakesJob, Puts}
-use Rattle.pool.specs.declared.work.Did.{Did}
-use Rattle.pool.specs.declared.work.Did.TheVariants.{Nothing, Dropped, Replied, Stuck}
+use Rattle.pool.specs.declared.work.WorkerDid.{WorkerDid}
+use Rattle.pool.specs.declared.work.WorkerDid.TheVariants.{Nothing, Dropped, Replied, Stuck}
 
 -- the word of the ticket was found not to be open, and is noted
 pub record FindsNotOpen (old new : WorkerView) (t : Ticket) : Type 0 where
@@ -16,7 +16,7 @@ pub record FindsNotOpen (old new : WorkerView) (t : Ticket) : Type 0 where
 
 module _ {J : Type 0} (ticket : J → Ticket) where
   -- a job of this ticket is taken
-  pub record Takes (old new : PassView J) (t : Ticket) : Type 0 where
+  pub record TakesJobOf (old new : PassView J) (t : Ticket) : Type 0 where
     pub job : J
     pub of_ticket : ticket job ≡ t
     pub taken : TakesJob old new job
@@ -25,16 +25,16 @@ module _ {J : Type 0} (ticket : J → Ticket) where
   pub record TakesAndPuts (old new : PassView J) (t : Ticket) : Type 0 where
     pub between : PassView J
     pub reply : Reply
-    pub taken : Takes old between t
+    pub taken : TakesJobOf old between t
     pub of_ticket : ticket_of reply.order ≡ t
     pub put : Puts between new reply
 
   -- Nothing: no job was taken. Dropped: one was taken, and its start was answered false. Replied: it was taken and started,
   -- and its reply was put.
   -- Stuck: it was taken and started, and its reply is given back
-  abbrev pub DidSo : BoardView → (old new : PassView J) → (before after : WorkerView) → Did → Type 0
+  abbrev pub DidSo : BoardView → (old new : PassView J) → (before after : WorkerView) → WorkerDid → Type 0
   DidSo board old new before after Nothing = (new ≡ old) × (after ≡ before)
-  DidSo board old new before after (Dropped t) = Takes old new t × FindsNotOpen before after t
+  DidSo board old new before after (Dropped t) = TakesJobOf old new t × FindsNotOpen before after t
   DidSo board old new before after (Replied t) = TakesAndPuts old new t × StartsTicket before after t
-  DidSo board old new before after (Stuck reply) = Takes old new (ticket_of reply.order)
+  DidSo board old new before after (Stuck reply) = TakesJobOf old new (ticket_of reply.order)
       × StartsTicket before after (ticket_of reply.order) × (reply.order.loop_no < length board.replies)

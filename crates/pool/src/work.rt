@@ -12,7 +12,7 @@ use std::sync::Wait;
 
 /// What became of a job.
 #[derive(Drop)]
-pub enum Did {
+pub enum WorkerDid {
     /// No job was there.
     Nothing,
     /// Its request could not be started, and it was dropped uncalled.
@@ -31,20 +31,20 @@ pub fn work_one<G: Gate, R: Wait>(
     claims: &Claims,
     seat: &mut WorkerSeat,
     gate: &G,
-) -> Did
+) -> WorkerDid
     requires own { IsPassOf board.now pass.old × (seat.old.claims ≡ claims.now.id) }
     requires loops { length board.now.replies ≡ claims.now.loops }
     ensures own { IsPassOf board.now pass.new × (seat.new.claims ≡ seat.old.claims) }
     ensures did { DidSo (λ job. job.ticket) board.now pass.old pass.new seat.old seat.new result }
 {
     let Some(job) = board.take(rt, pass) else {
-        return Did::Nothing;
+        return WorkerDid::Nothing;
     };
     let ticket = job.ticket;
     gate.at(Point::Taken, ticket);
     if !claims.start(seat, ticket) {
         gate.at(Point::Dropped, ticket);
-        return Did::Dropped(ticket);
+        return WorkerDid::Dropped(ticket);
     }
     gate.at(Point::Started, ticket);
     let reply = job.call(seat);
@@ -53,9 +53,9 @@ pub fn work_one<G: Gate, R: Wait>(
     match board.put_reply(rt, pass, reply) {
         Ok(()) => {
             gate.at(Point::Replied, ticket);
-            Did::Replied(ticket)
+            WorkerDid::Replied(ticket)
         }
-        Err(reply) => Did::Stuck(reply),
+        Err(reply) => WorkerDid::Stuck(reply),
     }
 }
 
@@ -78,9 +78,9 @@ pub fn work_until_closed<G: Gate, R: Wait>(
             return;
         }
         match work_one(rt, board, pass, claims, seat, gate) {
-            Did::Nothing => board.wait(rt, heard),
-            Did::Stuck(reply) => put_until_closed(rt, board, pass, gate, reply),
-            Did::Dropped(_) | Did::Replied(_) => {}
+            WorkerDid::Nothing => board.wait(rt, heard),
+            WorkerDid::Stuck(reply) => put_until_closed(rt, board, pass, gate, reply),
+            WorkerDid::Dropped(_) | WorkerDid::Replied(_) => {}
         }
     }
 }

@@ -1,7 +1,7 @@
 -- A call of a function of a valid module is typed.
 use Rattle.reduction.proofs.Words.{◌≡◌, ℕ, suc, ◌+◌, List, [], ◌∷◌, ◌++◌, length, length-map, map, Some, refl, sym, ap, ◌∙◌, subst, arith, slice_get}
 use Rattle.reduction.proofs.Words.{slice_get_within, ValType, Value, Contents, FuncType, Func, Done, pushed, HasFunctionType, ValidModule, value_of}
-use Rattle.reduction.proofs.Words.{Context, entered, receiving, types_of, IsDefined, code_of, operands_of}
+use Rattle.reduction.proofs.Words.{Context, entered, receiving, types_of, IsDefined, code_left, operands_of}
 use Rattle.std.proofs.lemmas.Option.{get_or_from_slice_get, slice_get-map}
 use Rattle.std.specs.Option.{option_map}
 use Rattle.syntax.specs.declared.contents.Import.{Import}
@@ -52,7 +52,7 @@ module _ (m : Contents) where
   enters_call answers function type f args below v (index, e, at, known) ea w =
       let locals = args ++ map (λ t. value_of t 0) f.locals in
       let el : types_of locals ≡ type.params ++ f.locals = locals_of_call type f args ea in
-      let t : Typed w.typing (code_of below) (pushed type.results (types_of (operands_of below))) w.ends = rw (pushed-split type.results (types_of (operands_of below))) w.code in
+      let t : Typed w.typing (code_left below) (pushed type.results (types_of (operands_of below))) w.ends = rw (pushed-split type.results (types_of (operands_of below))) w.code in
       record {
         typing = inside type.results (call_typing m (types_of locals) type.results);
         ends = pushed type.results [];

@@ -1,6 +1,6 @@
 -- A step of an instruction has a charge.
 use Rattle.reduction.proofs.Words.{zero, suc, List, ValType, Value, Contents, Code, Done, Store, Context, Move, Goes, Traps, Calls, Stuck, next}
-use Rattle.reduction.proofs.Words.{code_of}
+use Rattle.reduction.proofs.Words.{code_left}
 use Rattle.reduction.specs.Step.{Ends}
 use Rattle.reduction.proofs.Rules.{StepRule, next_rule}
 use Rattle.reduction.proofs.Rules as rule
@@ -35,7 +35,7 @@ costs_by (rule.fails still t) begins = tt
 costs_by (rule.no_callee trap) begins = tt
 costs_by rule.stuck begins = tt
 
-pub costs_to_begin : (m : Contents) (s : Store) (contexts : List Context) → Begins (code_of contexts) → OrStuck (next m s contexts)
+pub costs_to_begin : (m : Contents) (s : Store) (contexts : List Context) → Begins (code_left contexts) → OrStuck (next m s contexts)
 costs_to_begin m s contexts begins = costs_by (next_rule m s contexts) begins
 
 pub charged : (m : Contents) (answers : List ValType) (move : Move) → OrStuck move → SoundWithin m 128 answers move → IsCharged move

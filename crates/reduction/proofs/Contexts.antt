@@ -1,8 +1,8 @@
 -- What changes of contexts keep: labels, heights, calls, frames and locals.
 use Rattle.reduction.proofs.Words.{◌≡◌, ℕ, suc, ◌+◌, List, [], ◌∷◌, ◌++◌, length, refl, ap, arith, Value, Code, Done, Context, Label, Frame, locals_of}
-use Rattle.reduction.proofs.Words.{with_locals, going_on, receiving, continuing, operands_of, code_of, height_of}
+use Rattle.reduction.proofs.Words.{with_locals, going_on, receiving, continuing, operands_of, code_left, height_of}
 use Rattle.reduction.specs.Configuration.{frames}
-use Rattle.reduction.specs.Heights.{labels_of, base_of}
+use Rattle.reduction.specs.Heights.{labels_of, beneath_call}
 use Rattle.reduction.specs.Places.{call_of}
 use Rattle.reduction.proofs.Rules.{Reaches, InCall}
 use Rattle.reduction.proofs.Rules as rule
@@ -19,7 +19,7 @@ with_locals-height locals [] = refl
 with_locals-height locals (Label arity next values code ∷ below) = ap (λ (n : ℕ). length values + n) (with_locals-height locals below)
 with_locals-height locals (Frame own arity values code ∷ below) = refl
 
-pub with_locals-base : (locals : List Value) (contexts : List Context) → base_of (with_locals locals contexts) ≡ base_of contexts
+pub with_locals-base : (locals : List Value) (contexts : List Context) → beneath_call (with_locals locals contexts) ≡ beneath_call contexts
 with_locals-base locals [] = refl
 with_locals-base locals (Label arity next values code ∷ below) = with_locals-height locals below
 with_locals-base locals (Frame own arity values code ∷ below) = refl
@@ -29,7 +29,7 @@ with_locals-operands locals [] = refl
 with_locals-operands locals (Label arity next values code ∷ below) = refl
 with_locals-operands locals (Frame own arity values code ∷ below) = refl
 
-pub with_locals-code : (locals : List Value) (contexts : List Context) → code_of (with_locals locals contexts) ≡ code_of contexts
+pub with_locals-code : (locals : List Value) (contexts : List Context) → code_left (with_locals locals contexts) ≡ code_left contexts
 with_locals-code locals [] = refl
 with_locals-code locals (Label arity next values code ∷ below) = refl
 with_locals-code locals (Frame own arity values code ∷ below) = refl
@@ -58,7 +58,7 @@ call-going values code (Frame locals arity own rest ∷ below) = refl
 
 -- ---- more operands
 
-pub receiving-is : (more : List Value) (contexts : List Context) → receiving more contexts ≡ going_on (more ++ operands_of contexts) (code_of contexts) contexts
+pub receiving-is : (more : List Value) (contexts : List Context) → receiving more contexts ≡ going_on (more ++ operands_of contexts) (code_left contexts) contexts
 receiving-is more [] = refl
 receiving-is more (Label arity next values code ∷ below) = refl
 receiving-is more (Frame locals arity values code ∷ below) = refl
@@ -69,7 +69,7 @@ continuing-is more next (Label arity back values code ∷ below) = refl
 continuing-is more next (Frame locals arity values code ∷ below) = refl
 
 -- the innermost call's operands are those of its innermost context and those beneath
-pub height-parts : (contexts : List Context) → height_of contexts ≡ length (operands_of contexts) + base_of contexts
+pub height-parts : (contexts : List Context) → height_of contexts ≡ length (operands_of contexts) + beneath_call contexts
 height-parts [] = refl
 height-parts (Label arity next values code ∷ below) = refl
 height-parts (Frame locals arity values code ∷ below) = omega arith

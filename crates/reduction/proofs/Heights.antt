@@ -15,7 +15,7 @@ use Rattle.syntax.specs.declared.instruction.Instr.TheVariants.{Unary, Binary, C
 use Rattle.validate.specs.Typing.{Context, inside, TakesLeaves, ConversionTurns, InstrTyped, Typed}
 use Rattle.validate.specs.Height.{Effect, Changes, Ends, effect_of, after_effect, greatest_height, nesting}
 use Rattle.validate.proofs.Checks.{all_there}
-use Rattle.reduction.specs.Heights.{Fits, counts, Follows, Counted}
+use Rattle.reduction.specs.Heights.{FitsHeights, counts, Follows, Counted}
 use Rattle.reduction.proofs.Lists.{length-pushed}
 
 -- by how many operands a branch to each label takes along
@@ -133,7 +133,7 @@ at_height : (c : Context) (base base' height height' : ℕ) (code : Code) → gr
 at_height c base base' height height' code h eb eh =
     subst (λ (n : ℕ). greatest_height c base' n code ≤ 256) eh (subst (λ (n : ℕ). greatest_height c n height code ≤ 256) eb h)
 
-fits : (c : Context) (base : ℕ) (before : List ValType) (code : Code) → base + length before ≤ 256 → nesting code + length c.labels ≤ 257 → Fits (arities c) base (length before)
+fits : (c : Context) (base : ℕ) (before : List ValType) (code : Code) → base + length before ≤ 256 → nesting code + length c.labels ≤ 257 → FitsHeights (arities c) base (length before)
 fits c base before code h n = record { height = h; nesting = omega (arith, length-map c.labels (λ (types : List ValType). length types)) }
 
 -- a block that takes so many operands, over others

@@ -3,12 +3,12 @@ use Rattle.reduction.proofs.Contexts.{with_locals-labels, with_locals-base, with
 use Rattle.reduction.proofs.Words.{◌≡◌, ℕ, zero, suc, ◌+◌, ◌≤◌, List, [], ◌∷◌, ◌++◌, length, take, drop, reverse, Option, Some, None, refl, sym, ap}
 use Rattle.reduction.proofs.Words.{◌∙◌, subst, arith, length-append, slice_get, length-map, type_of, type_of_function, ValType, Value, Instr}
 use Rattle.reduction.proofs.Words.{Contents, FuncType, Code, Done, Loop, Context, Label, Frame, locals_of, with_locals, going_on, receiving}
-use Rattle.reduction.proofs.Words.{Move, Goes, Calls, next, code_of, operands_of}
+use Rattle.reduction.proofs.Words.{Move, Goes, Calls, next, code_left, operands_of}
 use Rattle.std.proofs.Common.{length-drop}
 use Rattle.std.proofs.lemmas.List.{length-take-le}
 use Rattle.validate.specs.Height.{Effect, named, calls}
 use Rattle.instance.specs.Store.{Store as Memory_and_globals}
-use Rattle.reduction.specs.Heights.{GoesOn, Fits, tests, counts, Follows, Counted, labels_of, base_of, Beneath, IsWithin}
+use Rattle.reduction.specs.Heights.{GoesOn, FitsHeights, tests, counts, Follows, Counted, labels_of, beneath_call, Beneath, IsWithin}
 use Rattle.reduction.proofs.PlainStepHeights.{as_many}
 use Rattle.reduction.proofs.Rules.{Reaches, InCall, Calling, Opening, StepRule, next_rule}
 use Rattle.reduction.proofs.Rules as rule
@@ -41,7 +41,7 @@ module _ (m : Contents) where
 
   -- the contexts go on with these operands and this sequence, once they get so many more
   placed : (after more before : ℕ) (contexts : List Context) (values : List Value) (code : Code) → Beneath m after contexts
-      → Counted m (labels_of contexts) (base_of contexts) before after code → before ≡ more + length values
+      → Counted m (labels_of contexts) (beneath_call contexts) before after code → before ≡ more + length values
       → IsWithin m (going_on values code contexts) more
   placed after more before [] values code h k e = absurd h
   placed after more before (Label arity next own rest ∷ below) values code h k e =
@@ -65,15 +65,15 @@ module _ (m : Contents) where
   pub received : (more : ℕ) (contexts : List Context) (values : List Value) → IsWithin m contexts more → length values ≡ more → IsWithin m (receiving values contexts) 0
   received more contexts values w e =
       subst (λ (c : List Context). IsWithin m c 0) (sym (receiving-is values contexts))
-      (placed w.after 0 (more + length (operands_of contexts)) contexts (values ++ operands_of contexts) (code_of contexts) w.beneath w.code
+      (placed w.after 0 (more + length (operands_of contexts)) contexts (values ++ operands_of contexts) (code_left contexts) w.beneath w.code
       (omega (arith, e, length-append values (operands_of contexts))))
 
   -- a block stands open, to whose label a branch takes so many operands along
   within_block : (contexts : List Context) (params results arity left after : ℕ) (next body : Code) (inner outer : List Value) (rest : Code)
       → Beneath m after contexts → params ≡ length inner → length outer ≡ left
-      → Counted m (arity ∷ labels_of contexts) (base_of contexts + left) params results body
-      → Counted m (labels_of contexts) (base_of contexts) (arity + left) after next
-      → Counted m (labels_of contexts) (base_of contexts) (results + left) after rest
+      → Counted m (arity ∷ labels_of contexts) (beneath_call contexts + left) params results body
+      → Counted m (labels_of contexts) (beneath_call contexts) (arity + left) after next
+      → Counted m (labels_of contexts) (beneath_call contexts) (results + left) after rest
       → IsWithin m (Label arity next inner body ∷ going_on outer rest contexts) 0
   within_block [] params results arity left after next body inner outer rest h ei eo kb kn kr = absurd h
   within_block (Label back far own code ∷ below) params results arity left after next body inner outer rest h ei eo kb kn kr =
@@ -83,10 +83,10 @@ module _ (m : Contents) where
         beneath = (
           after,
           beneath_going after here outer rest h,
-          recounted (labels_of here) (base_of here) _ (results + left) _ after rest kr refl (omega (arith, eo)),
-          recounted (labels_of here) (base_of here) _ (arity + left) _ after next kn refl (omega (arith, eo)),
+          recounted (labels_of here) (beneath_call here) _ (results + left) _ after rest kr refl (omega (arith, eo)),
+          recounted (labels_of here) (beneath_call here) _ (arity + left) _ after next kn refl (omega (arith, eo)),
         );
-        code = recounted (arity ∷ labels_of here) (base_of here + left) _ params _ results body kb (omega (arith, eo)) (omega (arith, ei));
+        code = recounted (arity ∷ labels_of here) (beneath_call here + left) _ params _ results body kb (omega (arith, eo)) (omega (arith, ei));
       }
   within_block (Frame locals count own code ∷ below) params results arity left after next body inner outer rest h ei eo kb kn kr =
       let here = Frame locals count own code ∷ below in
@@ -95,10 +95,10 @@ module _ (m : Contents) where
         beneath = (
           after,
           beneath_going after here outer rest h,
-          recounted (labels_of here) (base_of here) _ (results + left) _ after rest kr refl (omega (arith, eo)),
-          recounted (labels_of here) (base_of here) _ (arity + left) _ after next kn refl (omega (arith, eo)),
+          recounted (labels_of here) (beneath_call here) _ (results + left) _ after rest kr refl (omega (arith, eo)),
+          recounted (labels_of here) (beneath_call here) _ (arity + left) _ after next kn refl (omega (arith, eo)),
         );
-        code = recounted (arity ∷ labels_of here) (base_of here + left) _ params _ results body kb (omega (arith, eo)) (omega (arith, ei));
+        code = recounted (arity ∷ labels_of here) (beneath_call here + left) _ params _ results body kb (omega (arith, eo)) (omega (arith, ei));
       }
 
   -- where a branch goes to, and the innermost call's frame
@@ -112,7 +112,7 @@ module _ (m : Contents) where
   framed (rule.further at) after (later, h, k, n) = framed at later h
   framed (rule.here {below = []}) after (few, small, same) = (small, λ values. (few, small, refl))
   framed (rule.here {below = top ∷ below}) after (few, small, same, later, h, k) =
-      (small, λ values. (few, small, refl, later, h, subst (λ (n : ℕ). GoesOn m (top ∷ below) n later (code_of (top ∷ below))) same k))
+      (small, λ values. (few, small, refl, later, h, subst (λ (n : ℕ). GoesOn m (top ∷ below) n later (code_left (top ∷ below))) same k))
 
   -- what a call finds beneath its arguments
   pub called : {i : Instr} {values left : List Value} {f : ℕ} {type : FuncType} → Calling m i values f type left → (labels : List ℕ) (P : ℕ → Type 0)
@@ -131,7 +131,7 @@ module _ (m : Contents) where
   opened {t} (rule.a_block at) labels base after (fits, u, named_so, lower, e, kb, kr) = let same : t ≡ u = cc in rw same (lower, e, kb, kr, kr)
   opened {t} (rule.a_loop {type} {body} {rest} at) labels base after (fits, u, named_so, lower, e, kb, kr) =
       let same : t ≡ u = cc in
-      let again : Counted m labels base (length u.params + lower) after (Loop type body rest) = (subst (λ (n : ℕ). Fits labels base n) e fits, u, named_so, lower, refl, kb, kr) in
+      let again : Counted m labels base (length u.params + lower) after (Loop type body rest) = (subst (λ (n : ℕ). FitsHeights labels base n) e fits, u, named_so, lower, refl, kb, kr) in
       rw same (lower, e, kb, again, kr)
   opened {t} (rule.an_if {n = zero} at) labels base after (fits, u, named_so, lower, e, kf, ks, kr) = let same : t ≡ u = cc in rw same (lower, omega (arith, e), ks, kr, kr)
   opened {t} (rule.an_if {n = suc n} at) labels base after (fits, u, named_so, lower, e, kf, ks, kr) = let same : t ≡ u = cc in rw same (lower, omega (arith, e), kf, kr, kr)
@@ -143,17 +143,17 @@ module _ (m : Contents) where
 
   -- what comes next is within the limits
   kept_by : {s : Memory_and_globals} {contexts : List Context} {values : List Value} {code : Code} {move : Move} → StepRule m s contexts values code move
-      → (after : ℕ) → Beneath m after contexts → Counted m (labels_of contexts) (base_of contexts) (length values) after code → Kept m move
+      → (after : ℕ) → Beneath m after contexts → Counted m (labels_of contexts) (beneath_call contexts) (length values) after code → Kept m move
   kept_by (rule.leaves {values} {ls} {vs} {rest} {contexts} still t) after h (fits, k) =
-      let f = subst (λ (e : Effect). Follows e (length values) (λ mid. Counted m (labels_of contexts) (base_of contexts) mid after rest)) (t.counted (labels_of contexts)) k in
+      let f = subst (λ (e : Effect). Follows e (length values) (λ mid. Counted m (labels_of contexts) (beneath_call contexts) mid after rest)) (t.counted (labels_of contexts)) k in
       let before = ap (λ (xs : List Value). length xs) t.before ∙ length-append t.popped t.rest in
       let behind = ap (λ (xs : List Value). length xs) t.after ∙ length-append t.pushed t.rest in
       let there = with_locals ls contexts in
       placed after 0 (length t.pushed + f.0) there vs rest (beneath_locals after contexts ls (as_many (locals_of contexts) ls t.locals_left) h)
       (rw (with_locals-labels ls contexts, with_locals-base ls contexts) f.2) (omega (arith, f.1, before, behind))
   kept_by (rule.passes {label} {values} {rest} {contexts}) after h (fits, k) =
-      let there : Counted m (labels_of contexts) (base_of contexts) (length values) after rest =
-      tested (λ (mid : ℕ). Counted m (labels_of contexts) (base_of contexts) mid after rest) (length values) (slice_get (labels_of contexts) label) k in
+      let there : Counted m (labels_of contexts) (beneath_call contexts) (length values) after rest =
+      tested (λ (mid : ℕ). Counted m (labels_of contexts) (beneath_call contexts) mid after rest) (length values) (slice_get (labels_of contexts) label) k in
       placed after 0 (length values) contexts values rest h there (omega arith)
   kept_by (rule.branches {left} {arity} {next} {below} j at few) after h k =
       let r = reached at after h in
@@ -166,13 +166,13 @@ module _ (m : Contents) where
       record { after = arity; beneath = f.1 (take arity values); code = (record { height = omega (arith, f.0, size); nesting = omega arith }, omega (arith, size)) }
   kept_by (rule.calls {left} {f} {type} {rest} {contexts} c typed) after h (fits, k) =
       let n = length type.params in
-      let room = called c (labels_of contexts) (λ mid. Counted m (labels_of contexts) (base_of contexts) mid after rest) k in
+      let room = called c (labels_of contexts) (λ mid. Counted m (labels_of contexts) (beneath_call contexts) mid after rest) k in
       let size : length (reverse (take n left)) ≡ n = sym (length-map (reverse (take n left)) type_of) ∙ ap (λ (ts : List ValType). length ts) typed in
       let low : length (drop n left) ≡ room.0 = omega (arith, length-drop n left, room.1) in
       (type, found c, size, placed after (length type.results) (length type.results + room.0) contexts (drop n left) rest h room.2 (omega (arith, low)))
   kept_by (rule.enters {inside} {rest} {left} {type} {arity} {contexts} o few) after h k =
       let n = length type.params in
-      let room = opened o (labels_of contexts) (base_of contexts) after k in
+      let room = opened o (labels_of contexts) (beneath_call contexts) after k in
       within_block contexts (length type.params) (length type.results) arity room.0 after _ inside (take n left) (drop n left) rest h
       (sym (length-take-le n left few)) (omega (arith, length-drop n left, room.1)) room.2 room.3 room.4
   kept_by (rule.closes {values} {below}) after (later, h, k, n) (fits, e) = received after below values (record { after = later; beneath = h; code = k }) e
@@ -187,4 +187,4 @@ module _ (m : Contents) where
   pub kept : (s : Memory_and_globals) (contexts : List Context) → IsWithin m contexts 0 → Kept m (next m s contexts)
   kept s contexts w =
       kept_by (next_rule m s contexts) w.after w.beneath
-      (recounted (labels_of contexts) (base_of contexts) _ (0 + length (operands_of contexts)) _ w.after (code_of contexts) w.code refl (omega arith))
+      (recounted (labels_of contexts) (beneath_call contexts) _ (0 + length (operands_of contexts)) _ w.after (code_left contexts) w.code refl (omega arith))

@@ -1,13 +1,13 @@
 -- The operands, the contexts and the locals of contexts within the limits.
 use Rattle.reduction.proofs.Contexts.{height-parts}
 use Rattle.reduction.proofs.Words.{ℕ, suc, ◌+◌, ◌≤◌, List, [], ◌∷◌, length, arith, length-append, Contents, Code, Done, Plain, Block, Loop, If, Context}
-use Rattle.reduction.proofs.Words.{Label, Frame, code_of, operands_of, height_of}
+use Rattle.reduction.proofs.Words.{Label, Frame, code_left, operands_of, height_of}
 use Rattle.std.proofs.Common.{◌*◌}
 use Rattle.reduction.specs.Configuration.{frames}
-use Rattle.reduction.specs.Heights.{Fits, Counted, labels_of, base_of, GoesOn, Beneath, IsWithin}
+use Rattle.reduction.specs.Heights.{FitsHeights, Counted, labels_of, beneath_call, GoesOn, Beneath, IsWithin}
 use Rattle.reduction.specs.HeightsOfRuns.{all_operands, all_locals}
 
-fits_of : (m : Contents) (labels : List ℕ) (base before after : ℕ) (code : Code) → Counted m labels base before after code → Fits labels base before
+fits_of : (m : Contents) (labels : List ℕ) (base before after : ℕ) (code : Code) → Counted m labels base before after code → FitsHeights labels base before
 fits_of m labels base before after Done k = k.0
 fits_of m labels base before after (Plain i rest) k = k.0
 fits_of m labels base before after (Block type body rest) k = k.0
@@ -15,8 +15,8 @@ fits_of m labels base before after (Loop type body rest) k = k.0
 fits_of m labels base before after (If type first second rest) k = k.0
 
 module _ (m : Contents) where
-  fits_once : (contexts : List Context) (more after : ℕ) → GoesOn m contexts more after (code_of contexts) → Fits (labels_of contexts) (base_of contexts) (more + length (operands_of contexts))
-  fits_once contexts more after k = fits_of m (labels_of contexts) (base_of contexts) (more + length (operands_of contexts)) after (code_of contexts) k
+  fits_once : (contexts : List Context) (more after : ℕ) → GoesOn m contexts more after (code_left contexts) → FitsHeights (labels_of contexts) (beneath_call contexts) (more + length (operands_of contexts))
+  fits_once contexts more after k = fits_of m (labels_of contexts) (beneath_call contexts) (more + length (operands_of contexts)) after (code_left contexts) k
 
   -- the operands below the innermost call's are within the heights of their calls
   operands_below : (after : ℕ) (contexts : List Context) → Beneath m after contexts → length (all_operands contexts) + 256 ≤ height_of contexts + 256 * frames contexts

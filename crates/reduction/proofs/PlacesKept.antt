@@ -3,7 +3,7 @@ use Rattle.reduction.proofs.Contexts.{with_locals-height, with_locals-code}
 use Rattle.reduction.proofs.Words.{◌≡◌, ℕ, zero, suc, ◌+◌, List, [], ◌∷◌, ◌++◌, length, take, drop, Option, Some, None, refl, sym, ap, ◌∙◌, subst, true}
 use Rattle.reduction.proofs.Words.{false, Bool, arith, length-append, ◌==◌, slice_get, if◌then◌else◌, Value, Instr, Br, BrIf, BrTable, Token}
 use Rattle.reduction.proofs.Words.{Contents, FuncType, Code, Done, Target, Context, Label, Frame, with_locals, going_on, receiving, continuing}
-use Rattle.reduction.proofs.Words.{slice_get_past, Move, Goes, Stuck, next, code_of, operands_of, height_of, Body, Place, Over, IsPlaced, StaysInBlock}
+use Rattle.reduction.proofs.Words.{slice_get_past, Move, Goes, Stuck, next, code_left, operands_of, height_of, Body, Place, Over, IsPlaced, StaysInBlock}
 use Rattle.std.proofs.Common.{min, length-drop}
 use Rattle.std.proofs.lemmas.List.{length-take-le}
 use Rattle.syntax.specs.declared.instruction.Instr.TheVariants.{Return}
@@ -68,7 +68,7 @@ module _ (m : Contents) (body : ℕ → Body) where
     later,
     end,
     over_locals function callers labels later end below locals h,
-    rw (with_locals-code locals below) (goes_on_locals (body function) labels below locals after later behind end (code_of below) k),
+    rw (with_locals-code locals below) (goes_on_locals (body function) labels below locals after later behind end (code_left below) k),
     goes_on_locals (body function) labels below locals arity later t.pc end next n,
   )
   over_locals function callers (t ∷ labels) after behind (Frame old arity own rest ∷ below) locals h = absurd h

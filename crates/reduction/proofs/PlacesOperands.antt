@@ -6,7 +6,7 @@ use Rattle.reduction.proofs.Words.{next, Target, operands_of, height_of}
 use Rattle.std.proofs.lemmas.List.{take-append-le}
 use Rattle.std.proofs.Math.Seq.{drop-append_seam, drop-append-add}
 use Rattle.instance.specs.Store.{Store as Memory_and_globals}
-use Rattle.reduction.specs.Heights.{base_of}
+use Rattle.reduction.specs.Heights.{beneath_call}
 use Rattle.reduction.specs.HeightsOfRuns.{all_operands}
 use Rattle.reduction.specs.Places.{Cuts, call_of, StaysIn, cut}
 use Rattle.reduction.proofs.Rules.{StepRule, next_rule}
@@ -69,7 +69,7 @@ cut_down t tested values contexts there top c =
     let whole : all_operands contexts ≡ (tested ++ values) ++ under = operands-over contexts ∙ ap (λ (vs : List Value). vs ++ under) top in
     let all : length (all_operands contexts) ≡ length (tested ++ values) + length under = ap (λ (vs : List Value). length vs) whole ∙ length-append (tested ++ values) under in
     let own : length (operands_of contexts) ≡ length (tested ++ values) = ap (λ (vs : List Value). length vs) top in
-    let size : length under ≡ base_of contexts + beneath = omega (arith, all, own, operands-parts contexts, height-parts contexts) in
+    let size : length under ≡ beneath_call contexts + beneath = omega (arith, all, own, operands-parts contexts, height-parts contexts) in
     let low : beneath + t.height ≤ length under = omega (arith, size, c.above) in
     let from : height_of contexts - t.height ≡ length ((tested ++ values) ++ under) - (beneath + t.height) =
     omega (arith, length-append (tested ++ values) under, size, own, height-parts contexts, c.above) in

@@ -2,14 +2,14 @@
 use Rattle.reduction.proofs.Words.{◌≡◌, ℕ, zero, suc, ◌≤◌, List, [], ◌∷◌, length, take, drop, reverse, Option, Some, None, refl, ◌∙◌, true, false, Bool}
 use Rattle.reduction.proofs.Words.{nat_le, slice_get, if◌then◌else◌, Value, I32, Instr, Br, BrIf, BrTable, Contents, FuncType, Code, Done, Plain, Block}
 use Rattle.reduction.proofs.Words.{Loop, If, type_of_function, Store, Context, Label, Frame, types_of, locals_of, with_locals, going_on, receiving}
-use Rattle.reduction.proofs.Words.{continuing, Move, Goes, Traps, Calls, Stuck, PlainStep, Leaves, Fails, Lacks, next, StaysInBlock, code_of, operands_of}
+use Rattle.reduction.proofs.Words.{continuing, Move, Goes, Traps, Calls, Stuck, PlainStep, Leaves, Fails, Lacks, next, StaysInBlock, code_left, operands_of}
 use Rattle.std.proofs.Common.{◌&&◌}
 use Rattle.std.specs.Prelude.{is_some, ◌==◌}
 use Rattle.std.proofs.lemmas.Bool.{and_parts}
 use Rattle.syntax.specs.declared.instruction.Instr.TheVariants.{Return, Call, CallIndirect}
 use Rattle.syntax.specs.declared.types.BlockType.{BlockType}
 use Rattle.validate.specs.SameTypes.{same_valtypes, same_type}
-use Rattle.validate.specs.Typing.{block_type}
+use Rattle.validate.specs.Typing.{type_of_block}
 use Rattle.validate.proofs.SameTypes.{same_valtypes-is}
 use Rattle.reduction.specs.Configuration.{branched, returned}
 use Rattle.reduction.specs.Step.{Ends, plain_step, turned, plain, at_code}
@@ -49,11 +49,11 @@ pub data Calling (m : Contents) : Instr → (values : List Value) → (function 
 -- inside it is `inside`, behind it `rest`
 pub data Opening (m : Contents) : Code → (values : List Value) → (type : FuncType) → (arity : ℕ) → (next inside rest : Code) → (left : List Value)
     → Type 0 where
-  a_block : {type : BlockType} {t : FuncType} {body rest : Code} {values : List Value} → block_type m type ≡ Some t
+  a_block : {type : BlockType} {t : FuncType} {body rest : Code} {values : List Value} → type_of_block m type ≡ Some t
       → Opening m (Block type body rest) values t (length t.results) rest body rest values
-  a_loop : {type : BlockType} {t : FuncType} {body rest : Code} {values : List Value} → block_type m type ≡ Some t
+  a_loop : {type : BlockType} {t : FuncType} {body rest : Code} {values : List Value} → type_of_block m type ≡ Some t
       → Opening m (Loop type body rest) values t (length t.params) (Loop type body rest) body rest values
-  an_if : {type : BlockType} {t : FuncType} {n : ℕ} {first second rest : Code} {values : List Value} → block_type m type ≡ Some t
+  an_if : {type : BlockType} {t : FuncType} {n : ℕ} {first second rest : Code} {values : List Value} → type_of_block m type ≡ Some t
       → Opening m (If type first second rest) (I32 n ∷ values) t (length t.results) rest (chosen n first second) rest values
 
 -- ---- the rules
@@ -210,7 +210,7 @@ module _ (m : Contents) (s : Store) where
   block_rule code inside rest values left contexts None k = stuck
   block_rule code inside rest values left contexts (Some t) k = enter_rule code rest inside rest values left t (length t.results) contexts (k t refl)
 
-  loop_rule : (type : BlockType) (body rest : Code) (values : List Value) (contexts : List Context) (o : Option FuncType) → block_type m type ≡ o
+  loop_rule : (type : BlockType) (body rest : Code) (values : List Value) (contexts : List Context) (o : Option FuncType) → type_of_block m type ≡ o
       → StepRule m s contexts values (Loop type body rest) (loop s o (Loop type body rest) body values rest contexts)
   loop_rule type body rest values contexts None e = stuck
   loop_rule type body rest values contexts (Some t) e =
@@ -222,13 +222,13 @@ module _ (m : Contents) (s : Store) where
   rule Done values (Frame locals arity own code ∷ top ∷ below) = if_holds _ _ _ (length values == arity) _ (λ e. answers)
   rule Done values [] = stuck
   rule (Plain i rest) values contexts = plain_rule i values rest contexts
-  rule (Block type body rest) values contexts = block_rule (Block type body rest) body rest values values contexts (block_type m type) (λ t e. a_block e)
-  rule (Loop type body rest) values contexts = loop_rule type body rest values contexts (block_type m type) refl
+  rule (Block type body rest) values contexts = block_rule (Block type body rest) body rest values values contexts (type_of_block m type) (λ t e. a_block e)
+  rule (Loop type body rest) values contexts = loop_rule type body rest values contexts (type_of_block m type) refl
   rule (If type first second rest) (I32 n ∷ values) contexts =
-      block_rule (If type first second rest) (chosen n first second) rest (I32 n ∷ values) values contexts (block_type m type) (λ t e. an_if e)
+      block_rule (If type first second rest) (chosen n first second) rest (I32 n ∷ values) values contexts (type_of_block m type) (λ t e. an_if e)
   rule (If type first second rest) values contexts = stuck
 
-  pub next_rule : (contexts : List Context) → StepRule m s contexts (operands_of contexts) (code_of contexts) (next m s contexts)
+  pub next_rule : (contexts : List Context) → StepRule m s contexts (operands_of contexts) (code_left contexts) (next m s contexts)
   next_rule [] = stuck
   next_rule (Label arity back values code ∷ below) = rule code values (Label arity back values code ∷ below)
   next_rule (Frame locals arity values code ∷ below) = rule code values (Frame locals arity values code ∷ below)

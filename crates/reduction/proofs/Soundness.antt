@@ -4,12 +4,12 @@ use Rattle.reduction.proofs.Words.{◌≡◌, ℕ, zero, suc, List, [], ◌∷�
 use Rattle.reduction.proofs.Words.{◌∙◌, subst, true, false, Bool, nat_le, slice_get, if◌then◌else◌, ValType, Value, I32, I64, Instr, Br, BrIf, BrTable}
 use Rattle.reduction.proofs.Words.{Contents, FuncType, Code, Done, Plain, Block, Loop, If, pushed, HasFunctionType, type_of_function, Context, Label}
 use Rattle.reduction.proofs.Words.{Frame, locals_of, with_locals, going_on, receiving, continuing, types_of, Traps, PlainStep, Leaves, Fails, Lacks, next}
-use Rattle.reduction.proofs.Words.{code_of, operands_of, length-map, type_of}
+use Rattle.reduction.proofs.Words.{code_left, operands_of, length-map, type_of}
 use Rattle.std.proofs.Common.{option_and_then, eq-eqb, ◌&&◌}
 use Rattle.std.proofs.lemmas.Bool.{and_parts}
 use Rattle.syntax.specs.declared.types.ValType.TheVariants as type
 use Rattle.syntax.specs.declared.instruction.Instr.TheVariants.{Return, Call, CallIndirect}
-use Rattle.validate.specs.Typing.{Context as Typing, inside, Typed, InstrTyped, function_types, block_type}
+use Rattle.validate.specs.Typing.{Context as Typing, inside, Typed, InstrTyped, function_types, type_of_block}
 use Rattle.instance.specs.Store.{Store as Memory_and_globals}
 use Rattle.instance.specs.Storing.{HaveGlobalTypes}
 use Rattle.reduction.specs.Configuration.{branched, returned}
@@ -28,7 +28,7 @@ module _ (m : Contents) (answers : List ValType) where
   under_going values code (in_call results locals arity v0 c0 e u t) = in_call results locals arity values code e u t
   under_going values code (outermost locals arity v0 c0 e) = outermost locals arity values code e
 
-  going-code : {c : Typing} {ends : List ValType} {contexts : List Context} (values : List Value) (code : Code) → Under m answers c ends contexts → code_of (going_on values code contexts) ≡ code
+  going-code : {c : Typing} {ends : List ValType} {contexts : List Context} (values : List Value) (code : Code) → Under m answers c ends contexts → code_left (going_on values code contexts) ≡ code
   going-code values code (in_label types ends arity next v0 c0 e u t1 t2) = refl
   going-code values code (in_call results locals arity v0 c0 e u t) = refl
   going-code values code (outermost locals arity v0 c0 e) = refl
@@ -41,7 +41,7 @@ module _ (m : Contents) (answers : List ValType) where
 
   -- the innermost context gets typed operands
   pub receives : {c : Typing} {ends : List ValType} {contexts : List Context} (values : List Value) (more : List ValType) → types_of values ≡ more
-      → Under m answers c ends contexts → Typed c (code_of contexts) (more ++ types_of (operands_of contexts)) ends → Configured m answers (receiving values contexts)
+      → Under m answers c ends contexts → Typed c (code_left contexts) (more ++ types_of (operands_of contexts)) ends → Configured m answers (receiving values contexts)
   receives {c} {ends} values more ev (in_label types es arity next own code e u t1 t2) t =
       record { typing = c; ends = ends; under = in_label types es arity next (values ++ own) code e u t1 t2; code = rw (types_of-append, ev) t }
   receives {c} {ends} values more ev (in_call results locals arity own code e u t1) t =
@@ -165,7 +165,7 @@ module _ (m : Contents) (answers : List ValType) where
       let n = length params in
       let v = drop n values in
       let k : nat_le n (length values) ≡ true = r.2 in
-      let a : Typed c (code_of (going_on v rest contexts)) (pushed results [] ++ types_of (operands_of (going_on v rest contexts))) ends =
+      let a : Typed c (code_left (going_on v rest contexts)) (pushed results [] ++ types_of (operands_of (going_on v rest contexts))) ends =
       rw (going-code v rest u, going-operands v rest u, r.1, ← pushed-split results below) tr in
       let b : Typed c next (pushed types (types_of (operands_of (going_on v rest contexts)))) ends =
       rw (going-operands v rest u, r.1) tn in
@@ -270,7 +270,7 @@ module _ (m : Contents) (answers : List ValType) where
   results_sound : {around : Typing} {after : List ValType} (s : Memory_and_globals) (values : List Value) (results : List ValType) (locals : List Value)
       (arity : ℕ) (own : List Value) (code : Code) (below : List Context)
       → HaveGlobalTypes m s.globals → arity ≡ length results → Under m answers around after below
-      → Typed around (code_of below) (pushed results (types_of (operands_of below))) after → types_of values ≡ pushed results []
+      → Typed around (code_left below) (pushed results (types_of (operands_of below))) after → types_of values ≡ pushed results []
       → Sound m answers (at_code m s values Done (Frame locals arity own code ∷ below))
   results_sound s values results locals arity own code [] fit e u t ev = absurd (nowhere u)
   results_sound s values results locals arity own code (top ∷ below) fit e u t ev =
@@ -289,15 +289,15 @@ module _ (m : Contents) (answers : List ValType) where
   code_sound c ends contexts s (Plain i rest) values types fit u e (mid, t, k) =
       plain_sound c ends contexts s i values rest mid fit u (subst (λ (ts : List ValType). InstrTyped c i ts mid) (sym e) t) k
   code_sound c ends contexts s (Block type body rest) values types fit u e (t, at, below, a, tb, tr) =
-      let at' : block_type m type ≡ Some t = ap (λ (n : Contents). block_type n type) (sym (module_of u)) ∙ at in
+      let at' : type_of_block m type ≡ Some t = ap (λ (n : Contents). type_of_block n type) (sym (module_of u)) ∙ at in
       rw at' (enters c ends contexts s t.params t.results t.results rest body values rest below fit u (e ∙ a) tb tr tr)
   code_sound c ends contexts s (Loop type body rest) values types fit u e (t, at, below, a, tb, tr) =
-      let at' : block_type m type ≡ Some t = ap (λ (n : Contents). block_type n type) (sym (module_of u)) ∙ at in
+      let at' : type_of_block m type ≡ Some t = ap (λ (n : Contents). type_of_block n type) (sym (module_of u)) ∙ at in
       rw at' (enters c ends contexts s t.params t.results t.params (Loop type body rest) body values rest below fit u (e ∙ a) tb (t, at, below, refl, tb, tr) tr)
   code_sound c ends contexts s (If type first second rest) [] types fit u e (t, at, below, a, tb, tc, tr) = absurd (cc)
   code_sound c ends contexts s (If type first second rest) (I64 n ∷ values) types fit u e (t, at, below, a, tb, tc, tr) = absurd (cc)
   code_sound c ends contexts s (If type first second rest) (I32 n ∷ values) types fit u e (t, at, below, a, tb, tc, tr) =
-      let at' : block_type m type ≡ Some t = ap (λ (n : Contents). block_type n type) (sym (module_of u)) ∙ at in
+      let at' : type_of_block m type ≡ Some t = ap (λ (n : Contents). type_of_block n type) (sym (module_of u)) ∙ at in
       let ev : types_of values ≡ pushed t.params below = cc in
       rw at' (enters c ends contexts s t.params t.results t.results rest (chosen n first second) values rest below fit u ev
       (choice_typed (inside t.results c) n first second (pushed t.params []) (pushed t.results []) tb tc) tr tr)

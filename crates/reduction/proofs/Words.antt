@@ -8,7 +8,7 @@ pub use Rattle.syntax.specs.Code.{Code, Done, Loop, Plain, Block, If}
 pub use Rattle.instance.specs.Store.{Store, value_of}
 pub use Rattle.reduction.specs.Configuration.{Context, Frame, Label, receiving, types_of, locals_of, entered, with_locals, going_on, continuing}
 pub use Rattle.reduction.specs.Step.{next, Move, Calls, Goes, Stuck, Traps, Leaves, Lacks, PlainStep, Fails}
-pub use Rattle.reduction.specs.Typed.{operands_of, code_of}
+pub use Rattle.reduction.specs.Typed.{operands_of, code_left}
 pub use Rattle.reduction.specs.Run.{IsDefined, as_operands}
 pub use Rattle.reduction.specs.HeightsTyped.{Bounded}
 pub use Rattle.std.specs.Prelude.{slice_get, if◌then◌else◌, slice_set}

@@ -9,13 +9,13 @@ use Rattle.syntax.specs.declared.instruction.Instr.TheVariants.{Load, LoadNarrow
 use Rattle.syntax.specs.declared.contents.Contents.{Contents}
 use Rattle.syntax.specs.declared.contents.FuncType.{FuncType}
 use Rattle.syntax.specs.Code.{Code, Done, Plain, Block, Loop, If}
-use Rattle.validate.specs.Typing.{Context as Typing, block_type}
+use Rattle.validate.specs.Typing.{Context as Typing, type_of_block}
 use Rattle.validate.specs.Height.{Effect, Changes, Ends, named, calls, effect_of}
 use Rattle.reduction.specs.Configuration.{Context, Label, Frame}
-use Rattle.reduction.specs.Typed.{code_of, operands_of}
+use Rattle.reduction.specs.Typed.{code_left, operands_of}
 
 -- the operands of one call stay within a body's height, and its labels within the nesting, with the label of the body
-pub record Fits (labels : List ℕ) (base own : ℕ) : Type 0 where
+pub record FitsHeights (labels : List ℕ) (base own : ℕ) : Type 0 where
   pub height : base + own ≤ MAX_HEIGHT
   pub nesting : length labels ≤ MAX_NESTING + 1
 
@@ -56,19 +56,19 @@ Follows Ends before Holds = Unit {0}
 -- The typing rules by the numbers of operands alone, within the limits: over `base` operands that lie beneath in the
 -- same call, a sequence takes so many to so many.
 abbrev pub Counted : Contents → (labels : List ℕ) → (base before after : ℕ) → Code → Type 0
-Counted m labels base before after Done = Fits labels base before × (before ≡ after)
+Counted m labels base before after Done = FitsHeights labels base before × (before ≡ after)
 Counted m labels base before after (Plain i rest) =
-    Fits labels base before × Follows (counts m labels i) before (λ mid. Counted m labels base mid after rest)
+    FitsHeights labels base before × Follows (counts m labels i) before (λ mid. Counted m labels base mid after rest)
 Counted m labels base before after (Block type body rest) =
-    Fits labels base before × (t : FuncType) × (block_type m type ≡ Some t) × (left : ℕ) × (before ≡ length t.params + left)
+    FitsHeights labels base before × (t : FuncType) × (type_of_block m type ≡ Some t) × (left : ℕ) × (before ≡ length t.params + left)
     × Counted m (length t.results ∷ labels) (base + left) (length t.params) (length t.results) body
     × Counted m labels base (length t.results + left) after rest
 Counted m labels base before after (Loop type body rest) =
-    Fits labels base before × (t : FuncType) × (block_type m type ≡ Some t) × (left : ℕ) × (before ≡ length t.params + left)
+    FitsHeights labels base before × (t : FuncType) × (type_of_block m type ≡ Some t) × (left : ℕ) × (before ≡ length t.params + left)
     × Counted m (length t.params ∷ labels) (base + left) (length t.params) (length t.results) body
     × Counted m labels base (length t.results + left) after rest
 Counted m labels base before after (If type first second rest) =
-    Fits labels base before × (t : FuncType) × (block_type m type ≡ Some t) × (left : ℕ) × (before ≡ length t.params + 1 + left)
+    FitsHeights labels base before × (t : FuncType) × (type_of_block m type ≡ Some t) × (left : ℕ) × (before ≡ length t.params + 1 + left)
     × Counted m (length t.results ∷ labels) (base + left) (length t.params) (length t.results) first
     × Counted m (length t.results ∷ labels) (base + left) (length t.params) (length t.results) second
     × Counted m labels base (length t.results + left) after rest
@@ -86,28 +86,28 @@ height_of (Label arity next values code ∷ below) = length values + height_of b
 height_of (Frame locals arity values code ∷ below) = length values
 
 -- how many of them lie beneath those of the innermost context
-abbrev pub base_of : List Context → ℕ
-base_of [] = 0
-base_of (Label arity next values code ∷ below) = height_of below
-base_of (Frame locals arity values code ∷ below) = 0
+abbrev pub beneath_call : List Context → ℕ
+beneath_call [] = 0
+beneath_call (Label arity next values code ∷ below) = height_of below
+beneath_call (Frame locals arity values code ∷ below) = 0
 
 -- the innermost context may go on with this sequence, once it has so many operands more, which leaves so many
 abbrev pub GoesOn : Contents → List Context → (more after : ℕ) → Code → Type 0
-GoesOn m contexts more after code = Counted m (labels_of contexts) (base_of contexts) (more + length (operands_of contexts)) after code
+GoesOn m contexts more after code = Counted m (labels_of contexts) (beneath_call contexts) (more + length (operands_of contexts)) after code
 
 -- Where the innermost context leaves so many operands at its end, the contexts beneath go on within the limits, and
 -- so does each label that a branch goes to and each call at its return.
 abbrev pub Beneath : Contents → (after : ℕ) → List Context → Type 0
 Beneath m after [] = ⊥
 Beneath m after (Label arity next values code ∷ below) =
-    (later : ℕ) × Beneath m later below × GoesOn m below after later (code_of below) × GoesOn m below arity later next
+    (later : ℕ) × Beneath m later below × GoesOn m below after later (code_left below) × GoesOn m below arity later next
 Beneath m after (Frame locals arity values code ∷ []) = (length locals ≤ MAX_LOCALS) × (arity ≤ MAX_HEIGHT) × (after ≡ arity)
 Beneath m after (Frame locals arity values code ∷ top ∷ below) =
     (length locals ≤ MAX_LOCALS) × (arity ≤ MAX_HEIGHT) × (after ≡ arity)
-    × (later : ℕ) × Beneath m later (top ∷ below) × GoesOn m (top ∷ below) after later (code_of (top ∷ below))
+    × (later : ℕ) × Beneath m later (top ∷ below) × GoesOn m (top ∷ below) after later (code_left (top ∷ below))
 
 -- the contexts are within the limits of the bodies that they run, once the innermost one gets so many operands
 pub record IsWithin (m : Contents) (contexts : List Context) (more : ℕ) : Type 0 where
   pub after : ℕ
   pub beneath : Beneath m after contexts
-  pub code : GoesOn m contexts more after (code_of contexts)
+  pub code : GoesOn m contexts more after (code_left contexts)

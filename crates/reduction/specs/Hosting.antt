@@ -30,9 +30,9 @@ abbrev pub Names : Contents → List FuncType → Type 0
 Names m types = (function : ℕ) → IsImported m function → slice_get types function ≡ type_of_function m function
 
 -- the import has a type with these parameters
-abbrev pub Takes : Option FuncType → List Value → Type 0
-Takes None args = ⊥
-Takes (Some type) args = map type_of args ≡ type.params
+abbrev pub TakesParams : Option FuncType → List Value → Type 0
+TakesParams None args = ⊥
+TakesParams (Some type) args = map type_of args ≡ type.params
 
 -- the answer has the result type of the import
 abbrev pub Answers : Option FuncType → Option Value → Type 0

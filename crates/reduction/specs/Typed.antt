@@ -13,10 +13,10 @@ use Rattle.reduction.specs.Configuration.{Context, Label, Frame, types_of}
 use Rattle.reduction.specs.Step.{Move, Goes, Traps, Calls, Ends, Stuck}
 
 -- what the innermost context has still to do, and its operands
-abbrev pub code_of : List Context → Code
-code_of [] = Done
-code_of (Label arity next values code ∷ below) = code
-code_of (Frame locals arity values code ∷ below) = code
+abbrev pub code_left : List Context → Code
+code_left [] = Done
+code_left (Label arity next values code ∷ below) = code
+code_left (Frame locals arity values code ∷ below) = code
 
 abbrev pub operands_of : List Context → List Value
 operands_of [] = []
@@ -35,14 +35,14 @@ pub data Under (m : Contents) (answers : List ValType) : Typing → (ends : List
       (values : List Value) (code : Code)
       → arity ≡ length types
       → Under m answers around after below
-      → Typed around (code_of below) (ends ++ types_of (operands_of below)) after
+      → Typed around (code_left below) (ends ++ types_of (operands_of below)) after
       → Typed around next (pushed types (types_of (operands_of below))) after
       → Under m answers (inside types around) ends (Label arity next values code ∷ below)
   in_call : {around : Typing} {after : List ValType} {below : List Context} (results : List ValType) (locals : List Value) (arity : ℕ)
       (values : List Value) (code : Code)
       → arity ≡ length results
       → Under m answers around after below
-      → Typed around (code_of below) (pushed results (types_of (operands_of below))) after
+      → Typed around (code_left below) (pushed results (types_of (operands_of below))) after
       → Under m answers (call_typing m (types_of locals) results) (pushed results []) (Frame locals arity values code ∷ below)
   outermost : (locals : List Value) (arity : ℕ) (values : List Value) (code : Code)
       → arity ≡ length answers
@@ -53,7 +53,7 @@ pub record Awaits (m : Contents) (answers : List ValType) (contexts : List Conte
   pub typing : Typing
   pub ends : List ValType
   pub under : Under m answers typing ends contexts
-  pub code : Typed typing (code_of contexts) (more ++ types_of (operands_of contexts)) ends
+  pub code : Typed typing (code_left contexts) (more ++ types_of (operands_of contexts)) ends
 
 -- the contexts are typed, and the outermost call has results of these types
 abbrev pub Configured : Contents → (answers : List ValType) → List Context → Type 0

@@ -9,16 +9,16 @@ use Rattle.instance.specs.declared.stack.Caller.{Caller}
 use Rattle.reduction.specs.Run.{HostCall}
 use Rattle.reduction.specs.Hosting.{Lawful}
 use Rattle.engine.specs.Programs.{Program}
-use Rattle.engine.specs.Stepping.{State}
+use Rattle.engine.specs.Stepping.{MachineState}
 use Rattle.interp.specs.declared.paused.Paused.{Paused}
-use Rattle.interp.specs.Slots.Hosted.{Comes}
-use Rattle.interp.specs.Slices.{IsPaused}
-use Rattle.resident.specs.NoHost.{Refuses}
+use Rattle.interp.specs.Slots.Hosted.{ComesFromAny}
+use Rattle.interp.specs.Slices.{RunIsPaused}
+use Rattle.resident.specs.NoHost.{AnswersMinusOne}
 use Rattle.resident.specs.Underway.{answers}
 
 module _ {H : Type 0} where
   abbrev pub refuses : H → HostCall → H → Type 0
-  refuses a call b = Refuses call × (b ≡ a)
+  refuses a call b = AnswersMinusOne call × (b ≡ a)
 
   unseen : (trace : List HostCall) (old new : H) → Lawful refuses trace old new → Lawful answers trace tt tt
   unseen [] old new lawful = refl
@@ -28,8 +28,8 @@ module _ {H : Type 0} where
   seen [] any more h lawful = refl
   seen (call ∷ trace) any more h (mid, answered, lawful) = (h, (answered, refl), seen trace mid more h lawful)
 
-  module _ (m : Contents) (p : Program) (depth : ℕ) (types : List ValType) (first st : State) where
-    comes_unseen : (old new : H) → Comes m p depth refuses types first old st new → Comes m p depth answers types first tt st tt
+  module _ (m : Contents) (p : Program) (depth : ℕ) (types : List ValType) (first st : MachineState) where
+    comes_unseen : (old new : H) → ComesFromAny m p depth refuses types first old st new → ComesFromAny m p depth answers types first tt st tt
     comes_unseen old new comes body contexts places bodies program represents =
         let come = comes body contexts places bodies program represents in
         record {
@@ -43,7 +43,7 @@ module _ {H : Type 0} where
           leads = come.leads;
         }
 
-    comes_seen : (h : H) → Comes m p depth answers types first tt st tt → Comes m p depth refuses types first h st h
+    comes_seen : (h : H) → ComesFromAny m p depth answers types first tt st tt → ComesFromAny m p depth refuses types first h st h
     comes_seen h comes body contexts places bodies program represents =
         let come = comes body contexts places bodies program represents in
         record {
@@ -58,7 +58,7 @@ module _ {H : Type 0} where
         }
 
   module _ (m : Contents) (tables : List SideTable) (s t : Store) (args : List Value) (fuel : ℕ) (paused : Paused) (slots : List ℕ) (frames : List Caller) where
-    pub paused_unseen : (old new : H) → IsPaused m tables refuses s old args fuel paused slots frames t new → IsPaused m tables answers s tt args fuel paused slots frames t tt
+    pub paused_unseen : (old new : H) → RunIsPaused m tables refuses s old args fuel paused slots frames t new → RunIsPaused m tables answers s tt args fuel paused slots frames t tt
     paused_unseen old new q = record {
       takes = q.takes;
       defined = q.defined;
@@ -73,7 +73,7 @@ module _ {H : Type 0} where
       comes = comes_unseen m _ paused.depth q.takes.type.results _ _ old new q.comes;
     }
 
-    pub paused_seen : (h : H) → IsPaused m tables answers s tt args fuel paused slots frames t tt → IsPaused m tables refuses s h args fuel paused slots frames t h
+    pub paused_seen : (h : H) → RunIsPaused m tables answers s tt args fuel paused slots frames t tt → RunIsPaused m tables refuses s h args fuel paused slots frames t h
     paused_seen h q = record {
       takes = q.takes;
       defined = q.defined;

@@ -10,7 +10,7 @@ use Rattle.syntax.specs.declared.contents.Import.{Import}
 use Rattle.validate.specs.Valid.{ValidModule, ValidImport}
 use Rattle.validate.specs.Typing.{function_types, type_of_function}
 use Rattle.reduction.specs.Hosting.{Names}
-use Rattle.resident.specs.NoHost.{nothing, type_of_import, types_of_imports}
+use Rattle.resident.specs.NoHost.{empty_type, type_of_import, types_of_imports}
 
 -- an element of the front
 in_front : {A : Type 0} (front back : List A) (k : ℕ) (x : A) → slice_get front k ≡ Some x → slice_get (front ++ back) k ≡ Some x
@@ -31,7 +31,7 @@ module _ (m : Contents) (v : ValidModule m) where
       let index : slice_get indexes function ≡ Some i.type_index = slice_get-map (λ (j : Import). j.type_index) m.imports function ∙ ap (option_map (λ (j : Import). j.type_index)) at in
       let front : slice_get (function_types m) function ≡ Some i.type_index = in_front indexes own_indexes function i.type_index index in
       let left : slice_get (types_of_imports m) function ≡ Some (type_of_import m i) = slice_get-map (type_of_import m) m.imports function ∙ ap (option_map (type_of_import m)) at in
-      let type : type_of_import m i ≡ valid.type = ap (λ (o : Option FuncType). unwrap_or o nothing) valid.known in
+      let type : type_of_import m i ≡ valid.type = ap (λ (o : Option FuncType). unwrap_or o empty_type) valid.known in
       left ∙ ap (λ (t : FuncType). Some t) type ∙ sym valid.known ∙ ap (λ (o : Option ℕ). option_and_then (slice_get m.types) o) (sym front)
 
   pub names_imports : Names m (types_of_imports m)

@@ -12,8 +12,8 @@ use Rattle.validate.specs.Valid.{ValidModule}
 use Rattle.reduction.specs.Run.{HostCall}
 use Rattle.reduction.specs.Hosting.{Lawful}
 use Rattle.reduction.specs.Invoking.{TakesArguments}
-use Rattle.resident.specs.NoHost.{Refuses}
-use Rattle.resident.specs.Calls.{AllRefused, Kept, Calls, Runs}
+use Rattle.resident.specs.NoHost.{AnswersMinusOne}
+use Rattle.resident.specs.Calls.{AllRefused, KeptInstance, CallsInstance, Runs}
 
 pub start_takes_nothing : (m : Contents) (function : ℕ) → ValidModule m → m.start ≡ Some function → TakesArguments m function []
 start_takes_nothing m function valid is = record {
@@ -22,7 +22,7 @@ start_takes_nothing m function valid is = record {
   fit = refl;
 }
 
-pub all_refused : {H : Type 0} (trace : List HostCall) (old new : H) → Lawful (λ (a : H) (call : HostCall) (b : H). Refuses call × (b ≡ a)) trace old new → AllRefused trace
+pub all_refused : {H : Type 0} (trace : List HostCall) (old new : H) → Lawful (λ (a : H) (call : HostCall) (b : H). AnswersMinusOne call × (b ≡ a)) trace old new → AllRefused trace
 all_refused [] old new lawful = tt
 all_refused (call ∷ trace) old new (mid, moved, lawful) = (moved.0, all_refused trace mid new lawful)
 
@@ -34,11 +34,11 @@ untyped m function type none has =
 -- a host that has no state but its module, and answers -1
 module _ {H : Type 0} where
   abbrev refuses : H → HostCall → H → Type 0
-  refuses a call b = Refuses call × (b ≡ a)
+  refuses a call b = AnswersMinusOne call × (b ≡ a)
 
-  pub called : (a : Kept) (depth fuel function : ℕ) (args : List Value) (old new : H) (ended : Ended) (b : Kept)
+  pub called : (a : KeptInstance) (depth fuel function : ℕ) (args : List Value) (old new : H) (ended : Ended) (b : KeptInstance)
       → b.loaded ≡ a.loaded → Leads refuses (calling a.loaded.contents function args fuel depth) (scene a.store old) ended b.stop (scene b.store new)
-      → ended.used ≤ fuel → ReturnsTyped a.loaded.contents function ended.ending → Calls a depth fuel function args ended b
+      → ended.used ≤ fuel → ReturnsTyped a.loaded.contents function ended.ending → CallsInstance a depth fuel function args ended b
   called a depth fuel function args old new ended b same led within typed = record {
     same = same;
     runs = record { asked = led.asked; refused = all_refused led.asked old new led.answered; ran = led.ran; stopped = led.stopped };

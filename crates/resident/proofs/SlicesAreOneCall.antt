@@ -16,29 +16,29 @@ use Rattle.reduction.specs.Hosting.{Answers, Names}
 use Rattle.reduction.specs.Invoking.{ReturnsTyped}
 use Rattle.reduction.proofs.Outside.{invoked_import, answer_returns}
 use Rattle.interp.specs.declared.paused.Paused.{Paused}
-use Rattle.interp.specs.Slices.{IsPaused, IsSomePaused, IsOver}
+use Rattle.interp.specs.Slices.{RunIsPaused, IsSomePaused, RunIsOver}
 use Rattle.resident.specs.NoHost.{IsMinusOne, types_of_imports}
-use Rattle.resident.specs.Calls.{Kept, Calls}
-use Rattle.resident.specs.Underway.{Called, HasCome, ComesTo, IsSomeCall, used_at, used_by, answers}
-use Rattle.resident.specs.Slices.{IsOver as IsOverCall}
-use Rattle.resident.specs.Inner.Going.{place_of}
-use Rattle.resident.specs.declared.calling.Place.{Place}
-use Rattle.resident.specs.declared.calling.Place.TheVariants.{Import, Inside}
+use Rattle.resident.specs.Calls.{KeptInstance, CallsInstance}
+use Rattle.resident.specs.Underway.{CallUnderway, HasCome, ComesTo, IsSomeCall, used_at, used_by, answers}
+use Rattle.resident.specs.Slices.{CallIsOver as IsOverCall}
+use Rattle.resident.specs.Inner.Going.{paused_at}
+use Rattle.resident.specs.declared.calling.CallPlace.{CallPlace}
+use Rattle.resident.specs.declared.calling.CallPlace.TheVariants.{Import, Inside}
 use Rattle.resident.proofs.AnyHost.{refuses, paused_seen, paused_unseen}
 use Rattle.resident.proofs.Refused.{called}
 
-pub inside_of : (place : Place) (paused : Paused) → place_of place ≡ Some paused → place ≡ Inside paused
+pub inside_of : (place : CallPlace) (paused : Paused) → paused_at place ≡ Some paused → place ≡ Inside paused
 inside_of (Import function depth) paused is = absurd (cc)
 inside_of (Inside at) paused is = cc
 
 -- a call of this function, with so many calls opened, is one of that function, with as many opened
-module _ (loaded : Loaded) (function depth : ℕ) (ended : Ended) (b : Kept) (fuel : ℕ) (args : List Value) where
-  pub as_told : (a : Kept) (d f : ℕ) → loaded ≡ a.loaded → function ≡ f → depth ≡ d
-      → Calls (record { loaded = loaded; store = a.store; stop = a.stop }) depth fuel function args ended b → Calls a d fuel f args ended b
+module _ (loaded : Loaded) (function depth : ℕ) (ended : Ended) (b : KeptInstance) (fuel : ℕ) (args : List Value) where
+  pub as_told : (a : KeptInstance) (d f : ℕ) → loaded ≡ a.loaded → function ≡ f → depth ≡ d
+      → CallsInstance (record { loaded = loaded; store = a.store; stop = a.stop }) depth fuel function args ended b → CallsInstance a d fuel f args ended b
   as_told a d f same named deep calls =
-      subst (λ (l : Loaded). Calls (record { loaded = l; store = a.store; stop = a.stop }) d fuel f args ended b) same
-      (subst (λ (n : ℕ). Calls (record { loaded = loaded; store = a.store; stop = a.stop }) n fuel f args ended b) deep
-      (subst (λ (n : ℕ). Calls (record { loaded = loaded; store = a.store; stop = a.stop }) depth fuel n args ended b) named calls))
+      subst (λ (l : Loaded). CallsInstance (record { loaded = l; store = a.store; stop = a.stop }) d fuel f args ended b) same
+      (subst (λ (n : ℕ). CallsInstance (record { loaded = loaded; store = a.store; stop = a.stop }) n fuel f args ended b) deep
+      (subst (λ (n : ℕ). CallsInstance (record { loaded = loaded; store = a.store; stop = a.stop }) depth fuel n args ended b) named calls))
 
 -- the front of a list of two parts
 pub take_seam : {A : Type 0} (n : ℕ) (xs ys : List A) → length xs ≡ n → take n (xs ++ ys) ≡ xs
@@ -47,20 +47,20 @@ take_seam n xs ys e = subst (λ (k : ℕ). take k (xs ++ ys) ≡ xs) e (take-app
 -- a call is paused over an equal module, equal tables and equal callers
 module _ {H : Type 0} (m m' : Contents) (ts ts' : List SideTable) (fs fs' : List Caller) (em : m ≡ m') (et : ts ≡ ts') (ef : fs ≡ fs') where
   paused_in : (s t : Store) (old new : H) (args : List Value) (fuel : ℕ) (paused : Paused) (slots : List ℕ)
-      → IsPaused m ts refuses s old args fuel paused slots fs t new → IsPaused m' ts' refuses s old args fuel paused slots fs' t new
+      → RunIsPaused m ts refuses s old args fuel paused slots fs t new → RunIsPaused m' ts' refuses s old args fuel paused slots fs' t new
   paused_in s t old new args fuel paused slots k =
-      subst (λ (x : Contents). IsPaused x ts' refuses s old args fuel paused slots fs' t new) em
-      (subst (λ (x : List SideTable). IsPaused m x refuses s old args fuel paused slots fs' t new) et
-      (subst (λ (x : List Caller). IsPaused m ts refuses s old args fuel paused slots x t new) ef k))
+      subst (λ (x : Contents). RunIsPaused x ts' refuses s old args fuel paused slots fs' t new) em
+      (subst (λ (x : List SideTable). RunIsPaused m x refuses s old args fuel paused slots fs' t new) et
+      (subst (λ (x : List Caller). RunIsPaused m ts refuses s old args fuel paused slots x t new) ef k))
 
   -- a call that begins is under way, whatever is seen of the host
-  pub begun : (s : Store) (args : List Value) (fuel : ℕ) (paused : Paused) (slots : List ℕ) (h : H) → IsPaused m ts refuses s h args fuel paused slots fs s h
-      → IsPaused m' ts' answers s tt args fuel paused slots fs' s tt
+  pub begun : (s : Store) (args : List Value) (fuel : ℕ) (paused : Paused) (slots : List ℕ) (h : H) → RunIsPaused m ts refuses s h args fuel paused slots fs s h
+      → RunIsPaused m' ts' answers s tt args fuel paused slots fs' s tt
   begun s args fuel paused slots h q = paused_unseen m' ts' s s args fuel paused slots fs' h h (paused_in s s h h args fuel paused slots q)
 
 -- A call over a host of whatever state, at a place. The module's parts are told beside what they are the same as.
 module _ (loaded : Loaded) (tables : List SideTable) (slots : List ℕ) (frames : List Caller) (store : Store) (paused : Paused) where
-  abbrev pub now : Called
+  abbrev pub now : CallUnderway
   now = record {
     loaded = loaded;
     tables = tables;
@@ -74,7 +74,7 @@ module _ (loaded : Loaded) (tables : List SideTable) (slots : List ℕ) (frames 
 
   module _ {H : Type 0} (m : Contents) (ts : List SideTable) (fs : List Caller) (same : m ≡ loaded.contents) (same_tables : ts ≡ tables) (same_frames : fs ≡ frames) (h : H) where
     -- a call that has come here is paused here, over whatever host
-    here : (a : Kept) (d fuel f : ℕ) (args : List Value) → HasCome a d fuel f args now → IsPaused m ts refuses a.store h args fuel paused slots fs store h
+    here : (a : KeptInstance) (d fuel f : ℕ) (args : List Value) → HasCome a d fuel f args now → RunIsPaused m ts refuses a.store h args fuel paused slots fs store h
     here a d fuel f args come =
         paused_in loaded.contents m tables ts frames fs (sym same) (sym same_tables) (sym same_frames) a.store store h h args fuel paused slots
         (paused_seen loaded.contents tables a.store store args fuel paused slots frames h come.comes.2)
@@ -84,26 +84,26 @@ module _ (loaded : Loaded) (tables : List SideTable) (slots : List ℕ) (frames 
 
     module _ (h' : H) where
       pub over_calls : (ended : Ended) (t : Store) (stop whole : Option (List Site)) → whole ≡ stop
-          → ((s : Store) (before : H) (args : List Value) (fuel : ℕ) → IsPaused m ts refuses s before args fuel paused slots fs store h
-          → IsOver m paused.depth refuses paused.function s before args fuel ended t h' stop)
+          → ((s : Store) (before : H) (args : List Value) (fuel : ℕ) → RunIsPaused m ts refuses s before args fuel paused slots fs store h
+          → RunIsOver m paused.depth refuses paused.function s before args fuel ended t h' stop)
           → ReturnsTyped m paused.function ended.ending
-          → (a : Kept) (d fuel f : ℕ) (args : List Value) → HasCome a d fuel f args now
-          → Calls a d fuel f args ended (record { loaded = loaded; store = t; stop = whole })
+          → (a : KeptInstance) (d fuel f : ℕ) (args : List Value) → HasCome a d fuel f args now
+          → CallsInstance a d fuel f args ended (record { loaded = loaded; store = t; stop = whole })
       over_calls ended t stop whole e over typed a d fuel f args come =
-          let it : IsOver loaded.contents paused.depth refuses paused.function a.store h args fuel ended t h' whole =
-          subst (λ (x : Option (List Site)). IsOver loaded.contents paused.depth refuses paused.function a.store h args fuel ended t h' x) (sym e)
-          (subst (λ (x : Contents). IsOver x paused.depth refuses paused.function a.store h args fuel ended t h' stop) same (over a.store h args fuel (here a d fuel f args come))) in
-          let b : Kept = record { loaded = loaded; store = t; stop = whole } in
-          let own : Kept = record { loaded = loaded; store = a.store; stop = a.stop } in
+          let it : RunIsOver loaded.contents paused.depth refuses paused.function a.store h args fuel ended t h' whole =
+          subst (λ (x : Option (List Site)). RunIsOver loaded.contents paused.depth refuses paused.function a.store h args fuel ended t h' x) (sym e)
+          (subst (λ (x : Contents). RunIsOver x paused.depth refuses paused.function a.store h args fuel ended t h' stop) same (over a.store h args fuel (here a d fuel f args come))) in
+          let b : KeptInstance = record { loaded = loaded; store = t; stop = whole } in
+          let own : KeptInstance = record { loaded = loaded; store = a.store; stop = a.stop } in
           as_told loaded paused.function paused.depth ended b fuel args a d f come.same come.named come.deep
           (called own paused.depth fuel paused.function args h h' ended b refl it.leads it.within (subst (λ (x : Contents). ReturnsTyped x paused.function ended.ending) same typed))
 
       pub goes_on : (next : Paused) (after : List ℕ) (callers whole : List Caller) → whole ≡ callers → (t : Store)
           → (next.function ≡ paused.function) × (next.depth ≡ paused.depth)
-          → ((s : Store) (before : H) (args : List Value) (fuel : ℕ) → IsPaused m ts refuses s before args fuel paused slots fs store h
-          → IsPaused m ts refuses s before args fuel next after callers t h')
+          → ((s : Store) (before : H) (args : List Value) (fuel : ℕ) → RunIsPaused m ts refuses s before args fuel paused slots fs store h
+          → RunIsPaused m ts refuses s before args fuel next after callers t h')
           → 1 ≤ next.left
-          → (a : Kept) (d fuel f : ℕ) (args : List Value) → HasCome a d fuel f args now
+          → (a : KeptInstance) (d fuel f : ℕ) (args : List Value) → HasCome a d fuel f args now
           → HasCome a d fuel f args (record {
             loaded = loaded;
             tables = tables;
@@ -116,7 +116,7 @@ module _ (loaded : Loaded) (tables : List SideTable) (slots : List ℕ) (frames 
           })
           × (next.used < fuel)
       goes_on next after callers whole e t call going left a d fuel f args come =
-          let there : IsPaused loaded.contents tables refuses a.store h args fuel next after whole t h' =
+          let there : RunIsPaused loaded.contents tables refuses a.store h args fuel next after whole t h' =
           paused_in m loaded.contents ts tables callers whole same same_tables (sym e) a.store t h h' args fuel next after (going a.store h args fuel (here a d fuel f args come)) in (
             record {
               same = come.same;
@@ -128,16 +128,16 @@ module _ (loaded : Loaded) (tables : List SideTable) (slots : List ℕ) (frames 
           )
 
 -- An import is asked. Its instance stays as it was.
-module _ (c : Called) (none : c.place ≡ None) (v : Loaded) (same : v ≡ c.loaded) (number : ℕ) (is : number ≡ c.function)
+module _ (c : CallUnderway) (none : c.place ≡ None) (v : Loaded) (same : v ≡ c.loaded) (number : ℕ) (is : number ≡ c.function)
     (names : Names v.contents (types_of_imports v.contents)) (answer : Option Value) (minus : IsMinusOne answer)
     (typed : Answers (slice_get (types_of_imports v.contents) number) answer) where
   abbrev pub answered : Ended
   answered = record { ending = Return (as_operands answer); used = 0 }
 
-  abbrev pub left : Kept
+  abbrev pub left : KeptInstance
   left = record { loaded = c.loaded; store = c.store; stop = None }
 
-  import_calls : (a : Kept) (d fuel f : ℕ) (args : List Value) → HasCome a d fuel f args c → Calls a d fuel f args answered left
+  import_calls : (a : KeptInstance) (d fuel f : ℕ) (args : List Value) → HasCome a d fuel f args c → CallsInstance a d fuel f args answered left
   import_calls a d fuel f args come =
       let at_first : ComesTo c None a.store fuel args = subst (λ (p : Option Paused). ComesTo c p a.store fuel args) none come.comes in
       let m = c.loaded.contents in
@@ -145,17 +145,17 @@ module _ (c : Called) (none : c.place ≡ None) (v : Loaded) (same : v ≡ c.loa
       let named : Names m types = subst (λ (l : Loaded). Names l.contents (types_of_imports l.contents)) same names in
       let fits : Answers (slice_get types c.function) answer =
       subst (λ (n : ℕ). Answers (slice_get types n) answer) is (subst (λ (l : Loaded). Answers (slice_get (types_of_imports l.contents) number) answer) same typed) in
-      let own : Kept = record { loaded = c.loaded; store = c.store; stop = a.stop } in
-      let calls : Calls own c.depth fuel c.function args answered left =
+      let own : KeptInstance = record { loaded = c.loaded; store = c.store; stop = a.stop } in
+      let calls : CallsInstance own c.depth fuel c.function args answered left =
       called own c.depth fuel c.function args tt tt answered left refl
       (invoked_import m c.function args at_first.0 types named at_first.1 answer fits c.depth fuel (refuses {H = Unit {0}}) c.store tt tt (memory_of c.store) (as_operands answer)
       refl refl ((minus, refl), refl))
       (omega arith) (answer_returns m c.function args at_first.0 types named at_first.1 answer fits (as_operands answer) refl) in
       as_told c.loaded c.function c.depth answered left fuel args a d f come.same come.named come.deep
-      (subst (λ (s : Store). Calls (record { loaded = c.loaded; store = s; stop = a.stop }) c.depth fuel c.function args answered left) at_first.2 calls)
+      (subst (λ (s : Store). CallsInstance (record { loaded = c.loaded; store = s; stop = a.stop }) c.depth fuel c.function args answered left) at_first.2 calls)
 
-  pub import_over : (ended : Ended) (b : Kept) → ended ≡ answered → b ≡ left → (units : ℕ) → IsOverCall c units b ended
+  pub import_over : (ended : Ended) (b : KeptInstance) → ended ≡ answered → b ≡ left → (units : ℕ) → IsOverCall c units b ended
   import_over ended b e eb units =
       let unused : used_by c ≡ 0 = ap (λ (p : Option Paused). used_at p) none in
       let over : IsOverCall c units left answered = record { calls = import_calls; since = omega (arith, unused); slice = omega (arith, unused) } in
-      subst (λ (x : Kept). IsOverCall c units x ended) (sym eb) (subst (λ (x : Ended). IsOverCall c units left x) (sym e) over)
+      subst (λ (x : KeptInstance). IsOverCall c units x ended) (sym eb) (subst (λ (x : Ended). IsOverCall c units left x) (sym e) over)

@@ -18,10 +18,10 @@ use Rattle.reduction.specs.Stopping.{StopsAt}
 use Rattle.events.specs.declared.ended.Ended.{Ended}
 use Rattle.events.specs.declared.ended.Ending.{Ending}
 use Rattle.events.specs.declared.ended.Ending.TheVariants.{Return, Trap, Depth, Spent}
-use Rattle.resident.specs.NoHost.{Refuses}
+use Rattle.resident.specs.NoHost.{AnswersMinusOne}
 
 -- An instance that is kept: its module, its store, and where its last call stopped, innermost first, unless that returned.
-pub record Kept : Type 0 where
+pub record KeptInstance : Type 0 where
   pub loaded : Loaded
   pub store : Store
   pub stop : Option (List Operation)
@@ -29,7 +29,7 @@ pub record Kept : Type 0 where
 -- each of the calls is answered with -1
 abbrev pub AllRefused : List HostCall → Type 0
 AllRefused [] = Unit {0}
-AllRefused (call ∷ calls) = Refuses call × AllRefused calls
+AllRefused (call ∷ calls) = AnswersMinusOne call × AllRefused calls
 
 -- A function runs so from one store to another, while every import answers -1, and stops there, if it doesn't return: at this
 -- operation, within these calls.
@@ -41,25 +41,25 @@ pub record Runs (m : Contents) (depth fuel : ℕ) (before : Store) (function : �
   pub stopped : StopsAt m depth before function args asked ended.ending ended.used after stop
 
 -- A call of a function on an instance. Its store is that of a run from the store as it stood, whatever the ending.
-pub record Calls (a : Kept) (depth fuel function : ℕ) (args : List Value) (ended : Ended) (b : Kept) : Type 0 where
+pub record CallsInstance (a : KeptInstance) (depth fuel function : ℕ) (args : List Value) (ended : Ended) (b : KeptInstance) : Type 0 where
   pub same : b.loaded ≡ a.loaded
   pub runs : Runs a.loaded.contents depth fuel a.store function args ended b.store b.stop
   pub within : ended.used ≤ fuel
   pub typed : ReturnsTyped a.loaded.contents function ended.ending
 
 -- a new instance, before its start function
-pub record IsNew (loaded : Loaded) (a : Kept) : Type 0 where
+pub record IsNew (loaded : Loaded) (a : KeptInstance) : Type 0 where
   pub same : a.loaded ≡ loaded
   pub fresh : IsFresh loaded.contents a.store
   pub stop : a.stop ≡ None
 
 -- the start function, where there is one, is called
-abbrev pub StartsBy : Option ℕ → Kept → (depth fuel : ℕ) → Ended → Kept → Type 0
+abbrev pub StartsBy : Option ℕ → KeptInstance → (depth fuel : ℕ) → Ended → KeptInstance → Type 0
 StartsBy None a depth fuel ended b = (ended ≡ record { ending = Return []; used = 0 }) × (b ≡ a)
-StartsBy (Some start) a depth fuel ended b = Calls a depth fuel start [] ended b
+StartsBy (Some start) a depth fuel ended b = CallsInstance a depth fuel start [] ended b
 
-abbrev pub Starts : Kept → (depth fuel : ℕ) → Ended → Kept → Type 0
-Starts a depth fuel ended b = StartsBy a.loaded.contents.start a depth fuel ended b
+abbrev pub StartsInstance : KeptInstance → (depth fuel : ℕ) → Ended → KeptInstance → Type 0
+StartsInstance a depth fuel ended b = StartsBy a.loaded.contents.start a depth fuel ended b
 
 abbrev pub HasReturned : Ending → Type 0
 HasReturned (Return values) = Unit {0}

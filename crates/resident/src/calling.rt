@@ -7,16 +7,16 @@ ghost use Rattle.instance.specs.Storing.{IsStoreOf};
 ghost use Rattle.instance.specs.Stops.{stop_of};
 ghost use Rattle.reduction.specs.Invoking.{TakesArguments};
 ghost use Rattle.reduction.specs.Run.{as_operands};
-ghost use Rattle.resident.specs.Slices.{Goes, IsOver, IsPausedAgain};
+ghost use Rattle.resident.specs.Slices.{CallGoesOn, CallIsOver, IsPausedAgain};
 ghost use Rattle.resident.specs.Underway.{HasCome, ComesTo, IsSomeCall, used_by};
-ghost use Rattle.resident.specs.Inner.Going.{Runs, called, inside, kept, place_of};
+ghost use Rattle.resident.specs.Inner.Going.{MachineFits, call_underway, inside_call, kept, paused_at};
 
 use crate::no_host::{NoHost, answer};
 use crate::resident::Resident;
 use events::ended::{Ended, Ending};
 use events::values::Values;
 use imports::Linked;
-use instance::stack::{Caller, Last, Slots, Stack};
+use instance::stack::{CallStack, Caller, Last, Slots};
 use instance::state::State;
 use interp::call::FunctionCall;
 use interp::slices::{Paused, Slice, begin, go_on};
@@ -30,16 +30,16 @@ use validate::{SideTable, Valid};
 
 /// What a call under way runs on besides its instance's state: the side tables of its module, which stay the same from slice to
 /// slice, and a stack in its parts.
-pub(crate) struct Machine {
+pub(crate) struct CallMachine {
     tables: Arc<Items<SideTable>, Global>,
     slots: Slots,
     frames: Vec<Caller>,
     last: Option<Last>,
 }
 
-impl Drop for Machine {
+impl Drop for CallMachine {
     fn drop(self) {
-        let Machine {
+        let CallMachine {
             tables: _,
             slots: _,
             frames: _,
@@ -50,7 +50,7 @@ impl Drop for Machine {
 
 /// Where a call goes on.
 #[derive(Clone, Copy)]
-pub(crate) enum Place {
+pub(crate) enum CallPlace {
     /// This import is asked, in a call with which so many calls may stand open.
     Import(u32, u32),
     /// In a function of the module.
@@ -62,8 +62,8 @@ pub(crate) enum Place {
 pub struct Calling {
     linked: Arc<Linked, Global>,
     state: State,
-    machine: Machine,
-    place: Place,
+    machine: CallMachine,
+    place: CallPlace,
 }
 
 impl Drop for Calling {
@@ -81,16 +81,16 @@ impl Model for Calling {
     ghost use Rattle.std.specs.Arc.{arc_value};
     ghost use Rattle.std.specs.Coded.{codes};
     ghost use Rattle.syntax.specs.Loaded.{loaded_coded};
-    ghost use Rattle.resident.specs.Underway.{Called};
-    ghost use Rattle.resident.specs.Inner.Going.{called, IsGoing};
+    ghost use Rattle.resident.specs.Underway.{CallUnderway};
+    ghost use Rattle.resident.specs.Inner.Going.{call_underway, CallIsGoing};
 
-    ghost Value = { Called };
+    ghost Value = { CallUnderway };
 
     ghost coded = { Prim.hlevel (codes, loaded_coded) };
 
-    ghost view = { λ c. called (arc_value c.linked) c.state c.machine c.place };
+    ghost view = { λ c. call_underway (arc_value c.linked) c.state c.machine c.place };
 
-    ghost invariant = { λ c. IsGoing (arc_value c.linked) c.state c.machine c.place };
+    ghost invariant = { λ c. CallIsGoing (arc_value c.linked) c.state c.machine c.place };
 }
 
 /// What a slice leaves of a call.
@@ -116,10 +116,10 @@ fn returned(answer: Option<Value>) -> Ended
     }
 }
 
-impl Machine {
+impl CallMachine {
     /// One on which nothing has run. An error comes where memory is refused.
-    pub(crate) fn new(alloc: Global, valid: &Valid) -> Result<Machine, AllocError>
-        ensures { IfOk result (λ m. Runs valid.now m) }
+    pub(crate) fn new(alloc: Global, valid: &Valid) -> Result<CallMachine, AllocError>
+        ensures { IfOk result (λ m. MachineFits valid.now m) }
     {
         let nowhere = Caller {
             function: 0,
@@ -130,7 +130,7 @@ impl Machine {
         let slots = Slots::new(alloc)?;
         let mut frames = Vec::new(alloc);
         frames.resize(MAX_DEPTH as usize, nowhere)?;
-        Ok(Machine {
+        Ok(CallMachine {
             tables,
             slots,
             frames,
@@ -139,22 +139,22 @@ impl Machine {
     }
 
     /// Begins a call. Nothing of it runs yet.
-    fn begin(&mut self, valid: &Valid, state: &State, call: &FunctionCall) -> Place
-        requires runs { Runs valid.now self.old }
+    fn begin(&mut self, valid: &Valid, state: &State, call: &FunctionCall) -> CallPlace
+        requires runs { MachineFits valid.now self.old }
         requires store { IsStoreOf valid.now.contents state.now }
         requires typed { TakesArguments valid.now.contents call.now.function call.now.args.now }
         requires deep { (1 ≤ call.now.depth) × (call.now.depth ≤ MAX_DEPTH) }
-        ensures comes { ComesTo (called valid.now state.now self.new result) (place_of result) state.now call.now.fuel call.now.args.now }
-        ensures function { (called valid.now state.now self.new result).function ≡ call.now.function }
-        ensures depth { (called valid.now state.now self.new result).depth ≡ call.now.depth }
-        ensures unused { used_by (called valid.now state.now self.new result) ≡ 0 }
-        ensures runs { Runs valid.now self.new }
+        ensures comes { ComesTo (call_underway valid.now state.now self.new result) (paused_at result) state.now call.now.fuel call.now.args.now }
+        ensures function { (call_underway valid.now state.now self.new result).function ≡ call.now.function }
+        ensures depth { (call_underway valid.now state.now self.new result).depth ≡ call.now.depth }
+        ensures unused { used_by (call_underway valid.now state.now self.new result) ≡ 0 }
+        ensures runs { MachineFits valid.now self.new }
     {
         let contents = valid.contents();
         if (call.function as usize) < contents.imports.len() {
-            return Place::Import(call.function, call.depth);
+            return CallPlace::Import(call.function, call.depth);
         }
-        let Machine {
+        let CallMachine {
             tables,
             slots,
             frames,
@@ -163,20 +163,20 @@ impl Machine {
         let host = NoHost::new(valid);
         let tables = tables.as_slice();
         let callers = frames.as_slice();
-        Place::Inside(begin(contents, tables, state, &host, slots, callers, call))
+        CallPlace::Inside(begin(contents, tables, state, &host, slots, callers, call))
     }
 
     /// Goes on with a call of a function of the module for at most the units of the slice. Where it is over then, its ending is told.
     fn go_on(&mut self, valid: &Valid, state: &mut State, slice: &mut Slice) -> Option<Ended>
-        requires runs { Runs valid.now self.old }
-        requires some { IsSomeCall (inside valid.now state.old self.old slice.old.paused) }
-        ensures over { IfSome result (IsOver (inside valid.now state.old self.old slice.old.paused) slice.old.units (kept valid.now state.new self.new)) }
-        ensures paused { result ≡ None → IsPausedAgain (inside valid.now state.old self.old slice.old.paused) slice.old.units
-            (inside valid.now state.new self.new slice.new.paused) }
-        ensures runs { Runs valid.now self.new }
+        requires runs { MachineFits valid.now self.old }
+        requires some { IsSomeCall (inside_call valid.now state.old self.old slice.old.paused) }
+        ensures over { IfSome result (CallIsOver (inside_call valid.now state.old self.old slice.old.paused) slice.old.units (kept valid.now state.new self.new)) }
+        ensures paused { result ≡ None → IsPausedAgain (inside_call valid.now state.old self.old slice.old.paused) slice.old.units
+            (inside_call valid.now state.new self.new slice.new.paused) }
+        ensures runs { MachineFits valid.now self.new }
         ensures store { IsStoreOf valid.now.contents state.new }
     {
-        let Machine {
+        let CallMachine {
             tables,
             slots,
             frames,
@@ -194,18 +194,18 @@ impl Machine {
     }
 
     /// The stack, where the call is over.
-    fn into_stack(self) -> Stack
+    fn into_stack(self) -> CallStack
         requires room { MAX_DEPTH ≤ length self.frames.items }
         requires shallow { IfSome self.last (λ l. l.depth ≤ MAX_DEPTH) }
         ensures { result ≡ stop_of self.last self.frames.items }
     {
-        let Machine {
+        let CallMachine {
             tables: _,
             slots,
             frames,
             last,
         } = self;
-        Stack {
+        CallStack {
             slots,
             frames,
             last,
@@ -242,8 +242,8 @@ impl Resident {
     }
 
     /// Begins it on this machine.
-    fn begin_on(self, machine: Machine, call: &FunctionCall) -> Calling
-        requires runs { Runs self.loaded machine }
+    fn begin_on(self, machine: CallMachine, call: &FunctionCall) -> Calling
+        requires runs { MachineFits self.loaded machine }
         requires typed { TakesArguments self.loaded.contents call.now.function call.now.args.now }
         requires depth { (1 ≤ call.now.depth) × (call.now.depth ≤ MAX_DEPTH) }
         ensures { HasCome self call.now.depth call.now.fuel call.now.function call.now.args.now result × (used_by result ≡ 0) }
@@ -265,11 +265,11 @@ impl Calling {
     /// all fuel that it has used, and so is the instance; else it has used exactly so many units more, and some are left. No memory is taken.
     pub fn go_on(self, units: u64) -> Going
         requires { 1 ≤ units }
-        ensures { Goes self units result }
+        ensures { CallGoesOn self units result }
     {
         match self.place {
-            Place::Import(function, _) => self.ask(function),
-            Place::Inside(paused) => self.run(paused, units),
+            CallPlace::Import(function, _) => self.ask(function),
+            CallPlace::Inside(paused) => self.run(paused, units),
         }
     }
 
@@ -277,7 +277,7 @@ impl Calling {
     fn ask(self, function: u32) -> Going
         requires place { self.place ≡ None }
         requires function { self.function ≡ function }
-        ensures { (units : ℕ) → Goes self units result }
+        ensures { (units : ℕ) → CallGoesOn self units result }
     {
         let Calling {
             linked,
@@ -296,7 +296,7 @@ impl Calling {
     fn run(self, paused: Paused, units: u64) -> Going
         requires units { 1 ≤ units }
         requires place { self.place ≡ Some paused }
-        ensures { Goes self units result }
+        ensures { CallGoesOn self units result }
     {
         let Calling {
             linked,
@@ -315,7 +315,7 @@ impl Calling {
                 linked,
                 state,
                 machine,
-                place: Place::Inside(slice.paused),
+                place: CallPlace::Inside(slice.paused),
             }),
         }
     }

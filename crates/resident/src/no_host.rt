@@ -57,11 +57,11 @@ pub(crate) fn answer(valid: &Valid, import: u32) -> Option<Value>
 
 impl Host for NoHost<'_> {
     ghost use Rattle.std.specs.Prelude.{◌≡◌};
-    ghost use Rattle.resident.specs.NoHost.{Refuses, types_of_imports};
+    ghost use Rattle.resident.specs.NoHost.{AnswersMinusOne, types_of_imports};
 
     ghost types = { λ host. types_of_imports host.valid.now.contents };
 
-    ghost moves = { λ old call new. Refuses call × (new ≡ old) };
+    ghost moves = { λ old call new. AnswersMinusOne call × (new ≡ old) };
 
     fn call(&mut self, import: u32, _args: &Args, _memory: &mut Memory) -> Option<Value> {
         answer(self.valid, import)

@@ -9,17 +9,17 @@ ghost use Rattle.instance.specs.Reads.{WritesAt};
 ghost use Rattle.instance.specs.Fresh.{IsFresh};
 ghost use Rattle.instance.specs.Storing.{IsStoreOf};
 ghost use Rattle.reduction.specs.Invoking.{TakesArguments};
-ghost use Rattle.resident.specs.Inner.Going.{Runs};
-ghost use Rattle.resident.specs.Calls.{Calls, IsNew, Starts, ExportsFirst, ExportsNoFunction, ExportsGlobal, ExportsNoGlobal};
+ghost use Rattle.resident.specs.Inner.Going.{MachineFits};
+ghost use Rattle.resident.specs.Calls.{CallsInstance, IsNew, StartsInstance, ExportsFirst, ExportsNoFunction, ExportsGlobal, ExportsNoGlobal};
 
-use crate::calling::Machine;
+use crate::calling::CallMachine;
 use crate::exported::{export, exported_function};
 use crate::no_host::NoHost;
 use events::ended::{Ended, Ending};
 use events::values::Values;
 use imports::Linked;
 use instance::fault::InstFault;
-use instance::stack::{Stack, Stop};
+use instance::stack::{CallStack, Stop};
 use instance::state::{Instance, State};
 use interp::call::FunctionCall;
 use interp::conditions::takes_arguments;
@@ -34,7 +34,7 @@ use syntax::types::Value;
 pub struct Resident {
     linked: Arc<Linked, Global>,
     state: State,
-    stack: Stack,
+    stack: CallStack,
 }
 
 impl Drop for Resident {
@@ -52,9 +52,9 @@ impl Model for Resident {
     ghost use Rattle.std.specs.Arc.{arc_value};
     ghost use Rattle.syntax.specs.Loaded.{loaded_coded};
     ghost use Rattle.instance.specs.Storing.{IsStoreOf};
-    ghost use Rattle.resident.specs.Calls.{Kept};
+    ghost use Rattle.resident.specs.Calls.{KeptInstance};
 
-    ghost Value = { Kept };
+    ghost Value = { KeptInstance };
 
     ghost coded = { Prim.hlevel (codes, loaded_coded) };
 
@@ -105,10 +105,10 @@ impl Resident {
     }
 
     /// A machine for a call in slices.
-    pub(crate) fn machine(&self, alloc: Global) -> Result<Machine, AllocError>
-        ensures { IfOk result (λ m. Runs self.now.loaded m) }
+    pub(crate) fn machine(&self, alloc: Global) -> Result<CallMachine, AllocError>
+        ensures { IfOk result (λ m. MachineFits self.now.loaded m) }
     {
-        Machine::new(alloc, self.linked.valid())
+        CallMachine::new(alloc, self.linked.valid())
     }
 
     /// Its module, and its state.
@@ -126,7 +126,7 @@ impl Resident {
     }
 
     /// An instance of this state, and this stack.
-    pub(crate) fn of_parts(linked: Arc<Linked, Global>, state: State, stack: Stack) -> Resident
+    pub(crate) fn of_parts(linked: Arc<Linked, Global>, state: State, stack: CallStack) -> Resident
         requires { IsStoreOf (arc_value linked).contents state }
         ensures { result ≡ record { loaded = arc_value linked; store = state; stop = stack } }
     {
@@ -142,7 +142,7 @@ impl Resident {
     pub fn call(&mut self, function: u32, args: &[Value], fuel: u64, depth: u32) -> Ended
         requires typed { TakesArguments self.old.loaded.contents function args.now }
         requires depth { (1 ≤ depth) × (depth ≤ MAX_DEPTH) }
-        ensures { Calls self.old depth fuel function args.now result self.new }
+        ensures { CallsInstance self.old depth fuel function args.now result self.new }
     {
         let valid = self.linked.valid();
         let mut host = NoHost::new(valid);
@@ -158,7 +158,7 @@ impl Resident {
     /// Runs the start function, where there is one.
     pub fn start(&mut self, fuel: u64, depth: u32) -> Ended
         requires { (1 ≤ depth) × (depth ≤ MAX_DEPTH) }
-        ensures { Starts self.old depth fuel result self.new }
+        ensures { StartsInstance self.old depth fuel result self.new }
     {
         match self.linked.valid().contents().start {
             Some(function) => self.call(function, &[], fuel, depth),

@@ -8,7 +8,7 @@ use Rattle.tallies.proofs.Places.{set_same, set_here}
 use Rattle.phases.specs.State.{Setting, State, Loop, Core}
 use Rattle.phases.specs.Outside.{is_failed, next_order_of}
 use Rattle.phases.specs.Step.{in_state, sharing, over}
-use Rattle.desk.specs.Desk.{Desk, is_open, started, DeskStarts, DeskGets}
+use Rattle.desk.specs.Desk.{Desk, is_open_request, started, DeskStarts, DeskGets}
 use Rattle.world_log.specs.declared.step.Step.{Step}
 use Rattle.world_log.specs.declared.step.Step.TheVariants as step
 use Rattle.world_log.specs.declared.entry.LogEntry.{LogEntry}
@@ -322,11 +322,11 @@ module _ (joins : RunsJoin) (all : ℕ) (t : Threads) (ls : List (Core Desk)) (w
           ∙ ap (λ x. record { state = l.state; store = l.store; shared = x }) moves.1
 
       abbrev Begun : Option StepUnderway → Core Desk → Type 0
-      Begun u q = (is_open q.loop.shared c ≡ true) × Alike (core g m) u (core q.setting (sharing q.loop (started q.loop.shared c)))
+      Begun u q = (is_open_request q.loop.shared c ≡ true) × Alike (core g m) u (core q.setting (sharing q.loop (started q.loop.shared c)))
 
       begun_at : (u : Option StepUnderway) (q : Core Desk) → slice_get ls place ≡ Some q → Alike (core g l) u q → Begun u q
       begun_at None q at_q same = (
-        ap (λ (x : Core Desk). is_open x.loop.shared c) same ∙ sym moves.0,
+        ap (λ (x : Core Desk). is_open_request x.loop.shared c) same ∙ sym moves.0,
         ap (λ (x : Core Desk). core x.setting (sharing x.loop (started x.loop.shared c))) same ∙ ap (core g) (sym begun_is),
       )
       begun_at (Some u) q at_q b =

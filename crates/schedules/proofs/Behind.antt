@@ -3,9 +3,9 @@ use Rattle.std.proofs.Common.{◌≡◌, ℕ, ◌<◌, ◌≤◌, true, inl, inr
 use Rattle.limits.specs.declared.TheConstants.{MAX_ASYNCS}
 use Rattle.phases.specs.State.{Setting, Loop, Core}
 use Rattle.phases.specs.Step.{StepsWith, sharing, over}
-use Rattle.desk.specs.Desk.{Desk, desk_calls, is_open, started, DeskGets}
+use Rattle.desk.specs.Desk.{Desk, desk_calls, is_open_request, started, DeskGets}
 use Rattle.world.specs.World.{core}
-use Rattle.schedules.specs.Accesses.{Access, Moves, Reach, StepsBy}
+use Rattle.schedules.specs.Accesses.{Access, AccessMoves, Reach, StepsBy}
 use Rattle.schedules.specs.Schedule.{StepUnderway}
 use Rattle.schedules.proofs.Alike.{IsBehind, AreLate}
 use Rattle.schedules.proofs.Numbers.{step_opens, others_front}
@@ -30,14 +30,14 @@ behind_begun g l u q is steps = subst (IsBehind (core g l) u) (sym is) (record {
 
 module _ (g : Setting) (l : Loop Desk) (u : StepUnderway) (q : Core Desk) (b : IsBehind (core g l) u q) where
   -- the step goes on
-  module _ (a : Access) (ahead : List Access) (e : Desk) (moves : Moves l.shared a e) where
+  module _ (a : Access) (ahead : List Access) (e : Desk) (moves : AccessMoves l.shared a e) where
     abbrev Passed : List Access → Type 0
     Passed done = (late : List ℕ) × (desk : Desk) × AreLate (done ++ a ∷ []) late × Reach q.loop.shared (done ++ a ∷ []) desk × Gets desk late e
 
     passes : (done : List Access) (late : List ℕ) (desk : Desk) → AreLate done late → Reach q.loop.shared done desk → Gets desk late l.shared → TakesFirst (done ++ a ∷ ahead) → Passed done
     passes [] late desk came reaches gets quiet =
         let same : l.shared ≡ desk = subst (λ xs. Gets desk xs l.shared) came gets in
-        ([], e, tt, reach_more q.loop.shared desk e [] a reaches (subst (λ x. Moves x a e) same moves), refl)
+        ([], e, tt, reach_more q.loop.shared desk e [] a reaches (subst (λ x. AccessMoves x a e) same moves), refl)
     passes (x ∷ done) late desk came reaches gets quiet =
         let it = moves_first desk l.shared e late a (no_take_behind a x done ahead quiet) gets moves in
         (late, it.0, tt, reach_more q.loop.shared desk it.0 (x ∷ done) a reaches it.1, it.2)
@@ -60,8 +60,8 @@ module _ (g : Setting) (l : Loop Desk) (u : StepUnderway) (q : Core Desk) (b : I
         }
 
   -- a job of the loop is begun
-  pub behind_started : (c : ℕ × ℕ) → c.1 ≤ l.state.requests.last → is_open l.shared c ≡ true
-      → (is_open q.loop.shared c ≡ true) × IsBehind (core g (sharing l (started l.shared c))) u (core q.setting (sharing q.loop (started q.loop.shared c)))
+  pub behind_started : (c : ℕ × ℕ) → c.1 ≤ l.state.requests.last → is_open_request l.shared c ≡ true
+      → (is_open_request q.loop.shared c ≡ true) × IsBehind (core g (sharing l (started l.shared c))) u (core q.setting (sharing q.loop (started q.loop.shared c)))
   behind_started c given opens = (
     it.open_before,
     record {

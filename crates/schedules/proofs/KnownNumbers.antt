@@ -20,7 +20,7 @@ use Rattle.world_log.specs.declared.entry.LogEntry.{LogEntry}
 use Rattle.world_log.specs.declared.entry.LogEntry.TheVariants as line
 use Rattle.world_log.specs.declared.outcome.PostOutcome.TheVariants as post
 use Rattle.world.specs.Laws.{AreInPlace}
-use Rattle.world.specs.World.{World, Worker, Idle, Taken, Started, Answer, Only, UnlessFailed, PostsOrder, TakesJob, StartsJob, FinishesJob, CollectsFrom}
+use Rattle.world.specs.World.{World, Worker, Idle, Taken, Started, Answer, Only, UnlessFailed, PostsOrder, WorkerTakesJob, StartsJob, FinishesJob, CollectsFrom}
 use Rattle.world.specs.World.{WorldStep, opening_world, opening_loop, with_loop, with_worker_at, core}
 use Rattle.schedules.proofs.Hands.{set_cases}
 use Rattle.schedules.proofs.Numbers.{AreOwn, Numbered, Kept, own_found, keeps_numbered, staged}
@@ -159,7 +159,7 @@ module _ (w w' : World) (s : Stands w) where
     given : IsGiven w'.loops o
     given = now_given n g l m at loops numbered o before
 
-  take : (n : ℕ) (state : Worker) (jobs : List WorkOrder) (entry : LogEntry) → slice_get w.workers n ≡ Some state → w.jobs ≡ jobs → TakesJob w n state jobs entry w' → Stands w'
+  take : (n : ℕ) (state : Worker) (jobs : List WorkOrder) (entry : LogEntry) → slice_get w.workers n ≡ Some state → w.jobs ≡ jobs → WorkerTakesJob w n state jobs entry w' → Stands w'
   take n Idle (o ∷ jobs) entry at is h =
       let loops : w'.loops ≡ w.loops = ap (λ (x : World). x.loops) h.1 in
       let given : AreGiven w.loops (o ∷ jobs) = subst (AreGiven w.loops) is s.jobs in

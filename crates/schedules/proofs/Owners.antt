@@ -3,7 +3,7 @@ use Rattle.std.proofs.Common.{◌≡◌, ℕ, Bool, true, false, List, [], ◌�
 use Rattle.std.specs.Prelude.{slice_get, slice_set}
 use Rattle.std.specs.Int.{w32, cast_signed}
 use Rattle.tallies.proofs.Places.{set_same}
-use Rattle.phases.specs.Outside.{Takes, CancelIn, is_failed, answered, after_clock}
+use Rattle.phases.specs.Outside.{TakesReplyTo, CancelIn, is_failed, answered, after_clock}
 use Rattle.phases.specs.Host.{with_requests}
 use Rattle.phases.specs.State.{Setting, Loop, Core}
 use Rattle.phases.specs.Step.{in_state}
@@ -12,7 +12,7 @@ use Rattle.world_log.specs.declared.step.Step.TheVariants as step
 use Rattle.world_log.specs.declared.entry.LogEntry.{LogEntry}
 use Rattle.world_log.specs.declared.entry.LogEntry.TheVariants as line
 use Rattle.world_log.specs.declared.outcome.CollectOutcome.TheVariants as collect
-use Rattle.world.specs.World.{World, Worker, Answer, Only, UnlessFailed, Collects, CollectsFrom, CancelsAt, ClocksAt, WorldStep, with_loop, with_replies, core}
+use Rattle.world.specs.World.{World, Worker, Answer, Only, UnlessFailed, CollectsReplies, CollectsFrom, CancelsRequest, ClocksAt, WorldStep, with_loop, with_replies, core}
 use Rattle.schedules.specs.Laws.{is_taken_by}
 use Rattle.schedules.proofs.RunsOfOneJobEach.{beside}
 
@@ -69,14 +69,14 @@ module _ (r r' : World) (n : ℕ) (entry : LogEntry) (ls : List (Core Desk)) (ws
     collects_from (a ∷ replies) h =
         other (λ w'. _) (λ w'. CollectsFrom w n g l (a ∷ replies) entry w') (λ w' k. (h.0, k))
         (either_out h.0 _ _
-        (λ w'. Takes a.order l.state × (entry ≡ line.Collect n (collect.Request a.order.request)) × (w' ≡ with_replies (with_loop w n g m) n replies))
-        (λ w'. (Takes a.order l.state → ⊥) × (entry ≡ line.Collect n collect.Stranger) × (w' ≡ with_replies w n replies))
+        (λ w'. TakesReplyTo a.order l.state × (entry ≡ line.Collect n (collect.Request a.order.request)) × (w' ≡ with_replies (with_loop w n g m) n replies))
+        (λ w'. (TakesReplyTo a.order l.state → ⊥) × (entry ≡ line.Collect n collect.Stranger) × (w' ≡ with_replies w n replies))
         (λ k.
-        becomes (λ w'. Takes a.order l.state × (entry ≡ line.Collect n (collect.Request a.order.request)) × (w' ≡ with_replies (with_loop w n g m) n replies)) (core g m)
+        becomes (λ w'. TakesReplyTo a.order l.state × (entry ≡ line.Collect n (collect.Request a.order.request)) × (w' ≡ with_replies (with_loop w n g m) n replies)) (core g m)
         (k.0, k.1, ap (λ x. beside x (slice_set ls n (core g m)) ws) k.2) (ap (λ (x : World). x.loops) k.2) (ap (λ (x : World). x.workers) k.2) (ap (λ (x : World). x.jobs) k.2)
         (λ i. ap (is_taken_by i) k.1))
         (λ k.
-        becomes (λ w'. (Takes a.order l.state → ⊥) × (entry ≡ line.Collect n collect.Stranger) × (w' ≡ with_replies w n replies)) (core g l)
+        becomes (λ w'. (TakesReplyTo a.order l.state → ⊥) × (entry ≡ line.Collect n collect.Stranger) × (w' ≡ with_replies w n replies)) (core g l)
         (k.0, k.1, ap (λ x. beside r' x ws) (set_same ls n (core g l) here) ∙ ap (λ x. beside x ls ws) k.2)
         (ap (λ (x : World). x.loops) k.2 ∙ sym (set_same r.loops n (core g l) at)) (ap (λ (x : World). x.workers) k.2) (ap (λ (x : World). x.jobs) k.2)
         (λ i. ap (is_taken_by i) k.1))
@@ -103,13 +103,13 @@ module _ (r r' : World) (n : ℕ) (entry : LogEntry) (ls : List (Core Desk)) (ws
   IsSame = (p : Core Desk) → slice_get r.loops n ≡ Some p → slice_get ls n ≡ Some p
 
   module _ (same : IsSame) where
-    pub owner_collects : Collects r n entry r' → Out (λ w'. WorldStep w (step.Collect n) entry w')
+    pub owner_collects : CollectsReplies r n entry r' → Out (λ w'. WorldStep w (step.Collect n) entry w')
     owner_collects h =
         let here = same (core h.0 h.1) h.3 in
         other _ (λ w'. WorldStep w (step.Collect n) entry w') (λ w' k. (h.0, h.1, h.2, here, h.4, k))
         (unless_out h.0 h.1 h.3 here _ (λ w'. CollectsFrom w n h.0 h.1 h.2 entry w') (collects_from h.0 h.1 h.3 here h.2) h.5)
 
-    pub owner_cancels : (request : ℕ) → CancelsAt r n request entry r' → Out (λ w'. WorldStep w (step.Cancel n request) entry w')
+    pub owner_cancels : (request : ℕ) → CancelsRequest r n request entry r' → Out (λ w'. WorldStep w (step.Cancel n request) entry w')
     owner_cancels request h =
         let here = same (core h.0 h.1) h.4 in
         other _ (λ w'. WorldStep w (step.Cancel n request) entry w') (λ w' k. (h.0, h.1, h.2, h.3, here, k))

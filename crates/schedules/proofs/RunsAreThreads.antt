@@ -20,8 +20,8 @@ use Rattle.world_log.specs.declared.outcome.PostOutcome.TheVariants as post
 use Rattle.world.specs.Guests.{EachRunCalls}
 use Rattle.world.specs.Histories.{IsHistory}
 use Rattle.world.specs.Laws.{RunsJoin}
-use Rattle.world.specs.World.{World, Worker, Idle, Taken, Started, Only, PostsOrder, TakesJob, StepsLoop, WorldStep, WorldRun, HasLoop, opening_world, with_loop, core}
-use Rattle.schedules.specs.Accesses.{Access, Moves, Reach}
+use Rattle.world.specs.World.{World, Worker, Idle, Taken, Started, Only, PostsOrder, WorkerTakesJob, StepsLoop, WorldStep, WorldRun, HasLoop, opening_world, with_loop, core}
+use Rattle.schedules.specs.Accesses.{Access, AccessMoves, Reach}
 use Rattle.schedules.specs.Laws.{HasThreads, is_full}
 use Rattle.schedules.specs.Schedule.{StepUnderway, Threads, Atom, Begin, Next, End, Whole, MayBe, AtOnce, TakesOne, AtomStep, ThreadsRun, opening_threads}
 use Rattle.schedules.proofs.StepsByAccess.{step_split}
@@ -54,7 +54,7 @@ module _ (us : List (Option StepUnderway)) (w w' : World) (n : ℕ) (entry : Log
   abbrev at : Desk → List Access → Threads
   at d accesses = record { world = with_loop w n h.setting (sharing h.old d); steps = slice_set us n (Some (underway accesses)) }
 
-  goes : (d e : Desk) (a : Access) (accesses : List Access) → Moves d a e → AtomStep (at d (a ∷ accesses)) (Next n) [] (at e accesses)
+  goes : (d e : Desk) (a : Access) (accesses : List Access) → AccessMoves d a e → AtomStep (at d (a ∷ accesses)) (Next n) [] (at e accesses)
   goes d e a accesses moves = record {
     setting = h.setting;
     old = sharing h.old d;
@@ -121,7 +121,7 @@ module _ (us : List (Option StepUnderway)) (w w' : World) (n : ℕ) (entry : Log
       (Begin n ∷ nexts it.0 ++ End n ∷ [], step_first (Begin n) (nexts it.0 ++ End n ∷ []) [] (entry ∷ []) (resting w) (at h.old.shared it.0) (resting w') begins both)
 
 -- another step
-takes_one : (w w' : World) (n : ℕ) (state : Worker) (jobs : List WorkOrder) (entry : LogEntry) → slice_get w.workers n ≡ Some state → w.jobs ≡ jobs → TakesJob w n state jobs entry w'
+takes_one : (w w' : World) (n : ℕ) (state : Worker) (jobs : List WorkOrder) (entry : LogEntry) → slice_get w.workers n ≡ Some state → w.jobs ≡ jobs → WorkerTakesJob w n state jobs entry w'
     → TakesOne w n entry w' ⊎ Only w entry (line.Take n None) w'
 takes_one w w' n Idle (o ∷ jobs) entry at is h = inl (record { job = o; before = []; behind = jobs; idle = at; on_way = is; told = h.0; after = h.1 })
 takes_one w w' n Idle [] entry at is h = inr h

@@ -8,8 +8,8 @@ use Rattle.phases.specs.State.{Setting, State, Loop}
 use Rattle.phases.specs.Step.{over}
 use Rattle.tallies.specs.Counts.{raised}
 use Rattle.tallies.specs.Requests.{times}
-use Rattle.desk.specs.Desk.{Desk, is_open, opened, cancelled, found_started, started, sent_own, sent_by_another, DeskCancels, DeskSends, DeskGets}
-use Rattle.schedules.specs.Accesses.{Access, Opens, Cancels, Sends, Takes, Moves, listed_calls, StepsBy}
+use Rattle.desk.specs.Desk.{Desk, is_open_request, opened, cancelled, found_started, started, sent_own, sent_by_another, DeskCancels, DeskSends, DeskGets}
+use Rattle.schedules.specs.Accesses.{Access, Opens, Cancels, Sends, Takes, AccessMoves, listed_calls, StepsBy}
 use Rattle.phases.proofs.Mirroring.{IsMirrored, Anyhow, step_mirrors}
 use Rattle.schedules.proofs.StepsByAccess.{written_calls}
 
@@ -23,9 +23,9 @@ gets_more d mid e [] a h below moves = (e, below, subst (λ x. DeskGets x a true
 gets_more d mid e (b ∷ late) a h below moves = (h.0, h.1, h.2, gets_more h.0 mid e late a h.3 below moves)
 
 -- what is open stays so, and a start is the same before and behind
-pub gets_open : (c : ℕ × ℕ) (d e : Desk) (late : List ℕ) → Gets d late e → is_open e c ≡ is_open d c
-gets_open c d e [] h = ap (λ x. is_open x c) h
-gets_open c d e (a ∷ late) h = gets_open c h.0 e late h.3 ∙ ap (λ x. is_open x c) h.2.1
+pub gets_open : (c : ℕ × ℕ) (d e : Desk) (late : List ℕ) → Gets d late e → is_open_request e c ≡ is_open_request d c
+gets_open c d e [] h = ap (λ x. is_open_request x c) h
+gets_open c d e (a ∷ late) h = gets_open c h.0 e late h.3 ∙ ap (λ x. is_open_request x c) h.2.1
 
 pub gets_started : (c : ℕ × ℕ) (d e : Desk) (late : List ℕ) → Gets d late e → Gets (started d c) late (started e c)
 gets_started c d e [] h = ap (λ x. started x c) h
@@ -45,18 +45,18 @@ raise_both (x ∷ xs) (suc a) (suc b) = ap (λ ys. x ∷ ys) (raise_both xs a b)
 
 -- the access goes first
 abbrev pub First : Desk → ℕ → Access → Desk → Type 0
-First d b a e = (mid : Desk) × Moves d a mid × DeskGets mid b true e
+First d b a e = (mid : Desk) × AccessMoves d a mid × DeskGets mid b true e
 
 module _ (d m e : Desk) (b : ℕ) (got : DeskGets d b true m) where
   cancels_first : (slot request : ℕ) (won : Bool) → DeskCancels m (slot, request) won e → First d b (Cancels slot request won) e
   cancels_first slot request true h = (
     cancelled d (slot, request),
-    (h.0 ∙ ap (λ x. is_open x (slot, request)) got.1, (subst (λ (x : Desk). times (slot, request) x.view.found_started ≡ 0) got.1 h.1.0, refl)),
+    (h.0 ∙ ap (λ x. is_open_request x (slot, request)) got.1, (subst (λ (x : Desk). times (slot, request) x.view.found_started ≡ 0) got.1 h.1.0, refl)),
     (got.0, h.1.1 ∙ ap (λ x. cancelled x (slot, request)) got.1),
   )
   cancels_first slot request false h = (
     found_started d (slot, request),
-    (h.0 ∙ ap (λ x. is_open x (slot, request)) got.1, refl),
+    (h.0 ∙ ap (λ x. is_open_request x (slot, request)) got.1, refl),
     (got.0, h.1 ∙ ap (λ x. found_started x (slot, request)) got.1),
   )
 
@@ -72,14 +72,14 @@ module _ (d m e : Desk) (b : ℕ) (got : DeskGets d b true m) where
   )
   sends_first a false h = (d, (subst (λ (x : Desk). sum x.view.own ≡ MAX_SENDS) got.1 h.0, refl), (got.0, h.1 ∙ got.1))
 
-  one_first : (a : Access) → IsNoTake a → Moves m a e → First d b a e
+  one_first : (a : Access) → IsNoTake a → AccessMoves m a e → First d b a e
   one_first (Opens slot request) quiet h = (opened d (slot, request), refl, (got.0, h ∙ ap (λ x. opened x (slot, request)) got.1))
   one_first (Cancels slot request won) quiet h = cancels_first slot request won h
   one_first (Sends a ok) quiet h = sends_first a ok h
   one_first (Takes a count) quiet h = absurd quiet
 
-pub moves_first : (d m e : Desk) (late : List ℕ) (a : Access) → IsNoTake a → Gets d late m → Moves m a e → (mid : Desk) × Moves d a mid × Gets mid late e
-moves_first d m e [] a quiet h moves = (e, subst (λ x. Moves x a e) h moves, refl)
+pub moves_first : (d m e : Desk) (late : List ℕ) (a : Access) → IsNoTake a → Gets d late m → AccessMoves m a e → (mid : Desk) × AccessMoves d a mid × Gets mid late e
+moves_first d m e [] a quiet h moves = (e, subst (λ x. AccessMoves x a e) h moves, refl)
 moves_first d m e (b ∷ late) a quiet h moves =
     let rest = moves_first h.0 m e late a quiet h.3 moves in
     let one = one_first d h.0 rest.0 b h.2 a quiet rest.1 in

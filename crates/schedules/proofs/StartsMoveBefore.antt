@@ -4,8 +4,8 @@ use Rattle.std.specs.Prelude.{nat_lt}
 use Rattle.std.proofs.lemmas.Bool.{and_parts, eqb-true, eq-eqb}
 use Rattle.tallies.specs.Requests.{times, is_request, is_pending, last_from, last_in}
 use Rattle.tallies.proofs.Requests.{same_request, times_push}
-use Rattle.desk.specs.Desk.{Desk, is_open, opened, started, DeskCancels, DeskSends, DeskTakes}
-use Rattle.schedules.specs.Accesses.{Access, Opens, Cancels, Sends, Takes, Moves, Reach}
+use Rattle.desk.specs.Desk.{Desk, is_open_request, opened, started, DeskCancels, DeskSends, DeskTakes}
+use Rattle.schedules.specs.Accesses.{Access, Opens, Cancels, Sends, Takes, AccessMoves, Reach}
 
 -- none of the accesses opens a request of this number
 abbrev pub OpensOther : ℕ → Access → Type 0
@@ -28,7 +28,7 @@ record IsOpen (d : Desk) (c : ℕ × ℕ) : Type 0 where
   pub uncancelled : times c d.view.cancelled ≡ 0
   pub unstarted : times c d.started ≡ 0
 
-open_is : (d : Desk) (c : ℕ × ℕ) → is_open d c ≡ true → IsOpen d c
+open_is : (d : Desk) (c : ℕ × ℕ) → is_open_request d c ≡ true → IsOpen d c
 open_is d c h =
     let one = and_parts (is_pending d.view.opened d.view.cancelled c) (times c d.started == 0) h in
     let two = and_parts (nat_lt 0 c.1) ((last_in c.0 d.view.opened == c.1) && (times c d.view.cancelled == 0)) one.0 in
@@ -40,11 +40,11 @@ open_is d c h =
       unstarted = eqb-true (times c d.started) 0 one.1;
     }
 
-is_open_so : (d : Desk) (c : ℕ × ℕ) → IsOpen d c → is_open d c ≡ true
+is_open_so : (d : Desk) (c : ℕ × ℕ) → IsOpen d c → is_open_request d c ≡ true
 is_open_so d c h = rw (h.numbered, eq-eqb (last_in c.0 d.view.opened) c.1 h.last, eq-eqb (times c d.view.cancelled) 0 h.uncancelled, eq-eqb (times c d.started) 0 h.unstarted) refl
 
 -- the start of a request leaves the others open or not, as they were
-unmoved : (d : Desk) (c x : ℕ × ℕ) → is_request x c ≡ false → is_open (started d c) x ≡ is_open d x
+unmoved : (d : Desk) (c x : ℕ × ℕ) → is_request x c ≡ false → is_open_request (started d c) x ≡ is_open_request d x
 unmoved d c x other = ap (λ n. is_pending d.view.opened d.view.cancelled x && (n == 0)) (times_push x c d.started ∙ rw other (let it : times x d.started + 0 ≡ times x d.started = omega arith in it))
 
 -- what a start needs was not changed
@@ -54,13 +54,13 @@ record IsStill (d y : Desk) : Type 0 where
   pub starts : y.started ≡ d.started
 
 -- one access, behind which the request is open, and which did not open it
-module _ (c : ℕ × ℕ) (d e : Desk) (stands : is_open e c ≡ true) where
+module _ (c : ℕ × ℕ) (d e : Desk) (stands : is_open_request e c ≡ true) where
   record Ahead (a : Access) : Type 0 where
-    pub open_before : is_open d c ≡ true
-    pub moves : Moves (started d c) a (started e c)
+    pub open_before : is_open_request d c ≡ true
+    pub moves : AccessMoves (started d c) a (started e c)
 
   -- nothing that it needs was changed
-  still : e.view.opened ≡ d.view.opened → e.view.cancelled ≡ d.view.cancelled → e.started ≡ d.started → is_open d c ≡ true
+  still : e.view.opened ≡ d.view.opened → e.view.cancelled ≡ d.view.cancelled → e.started ≡ d.started → is_open_request d c ≡ true
   still opens cancels starts =
       let is = open_is e c stands in
       is_open_so d c (record {
@@ -110,7 +110,7 @@ module _ (c : ℕ × ℕ) (d e : Desk) (stands : is_open e c ≡ true) where
     other : is_request x c ≡ false
     other = reverse (is_request x c) refl
 
-    before : is_open d c ≡ true
+    before : is_open_request d c ≡ true
     before = is_open_so d c (record {
       numbered = at.numbered;
       last = ap (λ (y : Desk). last_in c.0 y.view.opened) (sym h.1.1) ∙ at.last;
@@ -128,11 +128,11 @@ module _ (c : ℕ × ℕ) (d e : Desk) (stands : is_open e c ≡ true) where
     at : IsStill d e
     at = subst (IsStill d) (sym h.1) (kept (is_pending d.view.opened d.view.cancelled x))
 
-    before : is_open d c ≡ true
+    before : is_open_request d c ≡ true
     before = still at.opens at.cancels at.starts
 
     other : (b : Bool) → is_request x c ≡ b → is_request x c ≡ false
-    other true is = (let it : is_open d x ≡ true = ap (is_open d) (same_request x c is) ∙ before in let never = h.0 in absurd (cc))
+    other true is = (let it : is_open_request d x ≡ true = ap (is_open_request d) (same_request x c is) ∙ before in let never = h.0 in absurd (cc))
     other false is = is
 
   sends_ahead : (a : ℕ) (ok : Bool) → DeskSends d a ok e → Ahead (Sends a ok)
@@ -151,7 +151,7 @@ module _ (c : ℕ × ℕ) (d e : Desk) (stands : is_open e c ≡ true) where
     moves = (h.0, ap (λ y. started y c) h.1, h.2, h.3);
   }
 
-  one_ahead : (a : Access) → OpensOther c.1 a → Moves d a e → Ahead a
+  one_ahead : (a : Access) → OpensOther c.1 a → AccessMoves d a e → Ahead a
   one_ahead (Opens slot request) other h = opens_ahead slot request other h
   one_ahead (Cancels slot request won) other h = cancels_ahead slot request won h
   one_ahead (Sends a ok) other h = sends_ahead a ok h
@@ -159,17 +159,17 @@ module _ (c : ℕ × ℕ) (d e : Desk) (stands : is_open e c ≡ true) where
 
 -- and all of them
 pub record StartsAhead (c : ℕ × ℕ) (d : Desk) (accesses : List Access) (e : Desk) : Type 0 where
-  pub open_before : is_open d c ≡ true
+  pub open_before : is_open_request d c ≡ true
   pub reaches : Reach (started d c) accesses (started e c)
 
-pub starts_ahead : (c : ℕ × ℕ) (d e : Desk) (accesses : List Access) → OpenOthers c.1 accesses → is_open e c ≡ true → Reach d accesses e → StartsAhead c d accesses e
-starts_ahead c d e [] others stands h = record { open_before = ap (λ x. is_open x c) (sym h) ∙ stands; reaches = ap (λ x. started x c) h }
+pub starts_ahead : (c : ℕ × ℕ) (d e : Desk) (accesses : List Access) → OpenOthers c.1 accesses → is_open_request e c ≡ true → Reach d accesses e → StartsAhead c d accesses e
+starts_ahead c d e [] others stands h = record { open_before = ap (λ x. is_open_request x c) (sym h) ∙ stands; reaches = ap (λ x. started x c) h }
 starts_ahead c d e (a ∷ rest) others stands h =
     let behind = starts_ahead c h.0 e rest others.1 stands h.2 in
     let one = one_ahead c d h.0 behind.open_before a others.0 h.1 in
     record { open_before = one.open_before; reaches = (started h.0 c, one.moves, behind.reaches) }
 
 -- one access more
-pub reach_more : (d mid e : Desk) (accesses : List Access) (a : Access) → Reach d accesses mid → Moves mid a e → Reach d (accesses ++ a ∷ []) e
-reach_more d mid e [] a h moves = (e, subst (λ x. Moves x a e) h moves, refl)
+pub reach_more : (d mid e : Desk) (accesses : List Access) (a : Access) → Reach d accesses mid → AccessMoves mid a e → Reach d (accesses ++ a ∷ []) e
+reach_more d mid e [] a h moves = (e, subst (λ x. AccessMoves x a e) h moves, refl)
 reach_more d mid e (b ∷ rest) a h moves = (h.0, h.1, reach_more h.0 mid e rest a h.2 moves)

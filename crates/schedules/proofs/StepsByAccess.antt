@@ -8,7 +8,7 @@ use Rattle.phases.specs.State.{Setting, State, Loop}
 use Rattle.phases.specs.Step.{StepsWith, over}
 use Rattle.phases.specs.View.{new_view}
 use Rattle.desk.specs.Desk.{Desk, desk_calls}
-use Rattle.schedules.specs.Accesses.{Access, Opens, Cancels, Sends, Takes, Moves, Reach, listed_calls, StepsBy}
+use Rattle.schedules.specs.Accesses.{Access, Opens, Cancels, Sends, Takes, AccessMoves, Reach, listed_calls, StepsBy}
 use Rattle.phases.proofs.Mirroring.{IsMirrored, Anyhow, trace_mirrors, step_mirrors}
 use Rattle.schedules.proofs.StartsMoveBefore.{reach_more}
 
@@ -17,7 +17,7 @@ module _ (e : Desk) where
   abbrev Leads : List Access → Desk → Type 0
   Leads accesses d = Reach d accesses e
 
-  front : (all rest : List Access) (a : Access) (d : Desk) → Leads all d → all ≡ a ∷ rest → (mid : Desk) × Moves d a mid × Leads rest mid
+  front : (all rest : List Access) (a : Access) (d : Desk) → Leads all d → all ≡ a ∷ rest → (mid : Desk) × AccessMoves d a mid × Leads rest mid
   front all rest a d leads is = subst (λ xs. Reach d xs e) is leads
 
   leading : IsMirrored listed_calls desk_calls Anyhow Anyhow Leads Leads
@@ -54,7 +54,7 @@ module _ (d : Desk) where
   abbrev Wrote : Desk → List Access → Type 0
   Wrote e accesses = Reach d accesses e
 
-  write : (e e' : Desk) (accesses : List Access) (a : Access) → Wrote e accesses → Moves e a e' → (more : List Access) × (more ≡ accesses ++ a ∷ []) × Wrote e' more
+  write : (e e' : Desk) (accesses : List Access) (a : Access) → Wrote e accesses → AccessMoves e a e' → (more : List Access) × (more ≡ accesses ++ a ∷ []) × Wrote e' more
   write e e' accesses a wrote moves = (accesses ++ a ∷ [], refl, reach_more d e e' accesses a wrote moves)
 
   writing : IsMirrored desk_calls written_calls Anyhow Anyhow Wrote Wrote

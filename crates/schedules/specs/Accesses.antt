@@ -18,16 +18,16 @@ pub data Access : Type 0 where
   Takes : (async_no count : ℕ) → Access
 
 -- the access moves the desk so, and gives this answer there
-abbrev pub Moves : Desk → Access → Desk → Type 0
-Moves d (Opens slot request) e = desk_calls.opens d slot request e
-Moves d (Cancels slot request won) e = desk_calls.cancels d slot request won e
-Moves d (Sends async_no ok) e = desk_calls.sends d async_no ok e
-Moves d (Takes async_no count) e = desk_calls.takes d async_no count e
+abbrev pub AccessMoves : Desk → Access → Desk → Type 0
+AccessMoves d (Opens slot request) e = desk_calls.opens d slot request e
+AccessMoves d (Cancels slot request won) e = desk_calls.cancels d slot request won e
+AccessMoves d (Sends async_no ok) e = desk_calls.sends d async_no ok e
+AccessMoves d (Takes async_no count) e = desk_calls.takes d async_no count e
 
 -- the accesses, one after another, lead from one desk to another
 abbrev pub Reach : Desk → List Access → Desk → Type 0
 Reach d [] e = e ≡ d
-Reach d (a ∷ rest) e = (mid : Desk) × Moves d a mid × Reach mid rest e
+Reach d (a ∷ rest) e = (mid : Desk) × AccessMoves d a mid × Reach mid rest e
 
 -- A list of accesses in the place of a shared object: each call is the front one, with the answer that stands there, and
 -- takes it off the list. What such an object would know is not asked.

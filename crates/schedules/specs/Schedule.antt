@@ -14,7 +14,7 @@ use Rattle.world_log.specs.declared.step.Step.{Step}
 use Rattle.world_log.specs.declared.step.Step.TheVariants as step
 use Rattle.world.specs.World.{World, Idle, Taken, Only, UnlessFailed, PostsOrder, WorldStep, HasLoop, opening_world, with_loop, with_worker_at}
 use Rattle.world.specs.World.{job_of, entry_told}
-use Rattle.schedules.specs.Accesses.{Access, Moves, StepsBy}
+use Rattle.schedules.specs.Accesses.{Access, AccessMoves, StepsBy}
 
 -- A loop's step under way: the accesses that it has yet to make at the desk; what is logged of it then; the calls that
 -- its guest makes; and the state and the store that it leaves.
@@ -81,7 +81,7 @@ pub record GoesOnStep (t : Threads) (n : ℕ) (told : List LogEntry) (t' : Threa
   pub at : HasLoop t.world n setting old
   pub underway : slice_get t.steps n ≡ Some (Some step)
   pub front : step.ahead ≡ access ∷ ahead
-  pub moves : Moves old.shared access desk
+  pub moves : AccessMoves old.shared access desk
   pub silent : told ≡ []
   pub after : t' ≡ record {
     world = with_loop t.world n setting (sharing old desk);

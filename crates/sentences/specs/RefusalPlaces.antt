@@ -8,11 +8,11 @@ use Rattle.decode.specs.Modules.{SpellsNothing}
 use Rattle.decode.specs.declared.fault.DecodeFault.TheVariants as decoding
 use Rattle.validate.specs.Valid.{ValidModule}
 use Rattle.validate.specs.Sites.{BreaksAt}
-use Rattle.validate.specs.declared.site.Site.{Site}
-use Rattle.validate.specs.declared.site.Site.TheVariants as site
+use Rattle.validate.specs.declared.site.InvalidPart.{InvalidPart}
+use Rattle.validate.specs.declared.site.InvalidPart.TheVariants as site
 use Rattle.imports.specs.Sites.{IsMisfit}
-use Rattle.imports.specs.declared.site.Site.{Site as Misfit}
-use Rattle.imports.specs.declared.site.Site.TheVariants as misfit
+use Rattle.imports.specs.declared.site.UnlinkedPart.{UnlinkedPart as Misfit}
+use Rattle.imports.specs.declared.site.UnlinkedPart.TheVariants as misfit
 use Rattle.places.specs.declared.place.Place.{Place}
 use Rattle.places.specs.declared.place.Place.TheVariants as place
 use Rattle.places.specs.Places.{IsPlaceOfSection, IsPlaceOfFunction, IsPlaceOfOperation, IsPlaceOfImport, IsPlaceOfExport, IsPartWith}
@@ -20,7 +20,7 @@ use Rattle.loader.specs.declared.refusal.Refusal.{Refusal}
 use Rattle.loader.specs.declared.refusal.Refusal.TheVariants.{Memory, Decode, Validate, Link}
 
 -- the place of a part that validation names
-abbrev pub IsPlaceOfSite : List ℕ → Site → Place → Type 0
+abbrev pub IsPlaceOfSite : List ℕ → InvalidPart → Place → Type 0
 IsPlaceOfSite bytes (site.Section id) told = IsPlaceOfSection bytes id told
 IsPlaceOfSite bytes (site.Function number) told = IsPlaceOfFunction bytes number told
 IsPlaceOfSite bytes (site.Operation function number lack) told = IsPlaceOfOperation bytes function number told
@@ -41,5 +41,5 @@ IsPlaceOfStop bytes _ = ⊥
 abbrev pub IsPlaceOf : Refusal → List ℕ → Place → Type 0
 IsPlaceOf Memory bytes told = ⊥
 IsPlaceOf (Decode fault) bytes told = (fault ≢ decoding.Memory → SpellsNothing bytes) × IsPlaceOfStop bytes told
-IsPlaceOf (Validate fault) bytes told = (m : Contents) × Spells bytes m × (at : Site) × BreaksAt m fault at × IsPlaceOfSite bytes at told
+IsPlaceOf (Validate fault) bytes told = (m : Contents) × Spells bytes m × (at : InvalidPart) × BreaksAt m fault at × IsPlaceOfSite bytes at told
 IsPlaceOf (Link fault) bytes told = (m : Contents) × Spells bytes m × ValidModule m × (at : Misfit) × IsMisfit m at × IsPlaceOfMisfit bytes m at told

@@ -5,17 +5,17 @@ use places::{DATA, EXPORTS, IMPORTS, MEMORIES, TABLES, TYPES};
 
 /// What begins with a byte that the host doesn't take, and what helps.
 #[derive(Clone, Copy)]
-pub struct Extension {
+pub struct Proposal {
     pub name: &'static str,
     pub help: &'static str,
 }
 
-fn named(name: &'static str, help: &'static str) -> Extension {
-    Extension { name, help }
+fn named(name: &'static str, help: &'static str) -> Proposal {
+    Proposal { name, help }
 }
 
 /// What operations begin so. The byte after the opcode decides where it stands for operations of several.
-pub fn of_operation(bytes: &[u8], at: usize) -> Option<Extension> {
+pub fn of_operation(bytes: &[u8], at: usize) -> Option<Proposal> {
     let behind = bytes.get(at.checked_add(1)?);
     Some(match (*bytes.get(at)?, behind) {
         (0x06..=0x0a | 0x18 | 0x19 | 0x1f, _) => named("exceptions", NO_EXCEPTIONS),
@@ -33,7 +33,7 @@ pub fn of_operation(bytes: &[u8], at: usize) -> Option<Extension> {
 }
 
 /// What a section with this id is.
-pub fn of_section(id: u8) -> Option<Extension> {
+pub fn of_section(id: u8) -> Option<Proposal> {
     match id {
         12 => Some(named("the number of data segments, of bulk memory", LOWERED)),
         13 => Some(named("tags, of exceptions", NO_EXCEPTIONS)),
@@ -42,7 +42,7 @@ pub fn of_section(id: u8) -> Option<Extension> {
 }
 
 /// What a type is that begins with this byte.
-pub fn of_type(byte: u8) -> Option<Extension> {
+pub fn of_type(byte: u8) -> Option<Proposal> {
     match byte {
         0x7b => Some(named("the type v128, of vectors", PLAIN)),
         0x70 => Some(named("the type funcref, of reference types", PLAIN)),
@@ -53,7 +53,7 @@ pub fn of_type(byte: u8) -> Option<Extension> {
 }
 
 /// What this byte begins within a section.
-pub fn in_section(section: u8, byte: u8) -> Option<Extension> {
+pub fn in_section(section: u8, byte: u8) -> Option<Proposal> {
     match (section, byte) {
         (TYPES, 0x4e..=0x50 | 0x5e | 0x5f) => Some(named("a type of garbage collection", PLAIN)),
         (MEMORIES, 0x02 | 0x03) => Some(named("a shared memory, of threads", NO_THREADS)),
@@ -66,7 +66,7 @@ pub fn in_section(section: u8, byte: u8) -> Option<Extension> {
 }
 
 /// What a segment is that begins with this number.
-pub fn of_segment(section: u8, first: u32) -> Option<Extension> {
+pub fn of_segment(section: u8, first: u32) -> Option<Proposal> {
     match (section, first) {
         (_, 0) => None,
         (DATA, 1) => Some(named("passive, of bulk memory", LOWERED)),

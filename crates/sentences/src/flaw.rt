@@ -7,7 +7,7 @@ use std::fmt;
 
 /// A part of a script.
 #[derive(Clone, Copy)]
-pub enum Part {
+pub enum ScriptPart {
     Script,
     Module(usize),
     Loop(usize),
@@ -67,20 +67,20 @@ pub enum Wrong<'a> {
 #[derive(Clone, Copy)]
 pub struct Flaw<'a> {
     pub at: usize,
-    pub part: Part,
+    pub part: ScriptPart,
     pub wrong: Wrong<'a>,
 }
 
 impl<'a> Flaw<'a> {
     /// This is wrong there.
-    pub fn new(at: usize, part: Part, wrong: Wrong<'a>) -> Flaw<'a> {
+    pub fn new(at: usize, part: ScriptPart, wrong: Wrong<'a>) -> Flaw<'a> {
         Flaw { at, part, wrong }
     }
 
     /// Another value is wanted of what has this name.
     pub fn wanted(
         at: usize,
-        part: Part,
+        part: ScriptPart,
         name: Option<&'static str>,
         wanted: &'static str,
         found: Token<'a>,
@@ -94,13 +94,13 @@ impl<'a> Flaw<'a> {
     }
 }
 
-impl fmt::Display for Part {
+impl fmt::Display for ScriptPart {
     fn fmt<W: fmt::Write>(&self, f: &mut fmt::Formatter<W>) -> fmt::Result {
         match self {
-            Part::Script => Ok(()),
-            Part::Module(number) => write!(f, "module {number}: "),
-            Part::Loop(number) => write!(f, "loop {number}: "),
-            Part::Step(number) => write!(f, "step {number}: "),
+            ScriptPart::Script => Ok(()),
+            ScriptPart::Module(number) => write!(f, "module {number}: "),
+            ScriptPart::Loop(number) => write!(f, "loop {number}: "),
+            ScriptPart::Step(number) => write!(f, "step {number}: "),
         }
     }
 }

@@ -1,6 +1,6 @@
 // What is found at a byte at which a module is refused by its form, and what helps.
 
-use crate::extension::{self, Extension};
+use crate::extension::{self, Proposal};
 use crate::help::{LOWERED, NO_TABLES, OPTIMIZED, PLAIN, SOFT};
 use crate::reason::Reason;
 use limits::{
@@ -20,7 +20,7 @@ fn more_than(most: u32, things: &'static str) -> Reason {
 }
 
 /// A byte that begins what is newer than WebAssembly 1.0.
-fn newer(byte: u8, what: Extension) -> Reason {
+fn newer(byte: u8, what: Proposal) -> Reason {
     Reason::byte(byte, what.name).with(what.help)
 }
 

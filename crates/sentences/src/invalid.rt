@@ -12,15 +12,15 @@ use limits::{MAX_HEIGHT, MAX_LOCALS, MAX_NESTING};
 use loader::decoded;
 use places::{Place, place_of_function, place_of_operation, place_of_section};
 use std::alloc::Global;
-use validate::{Site, Unfit, ValidFault, refused_at};
+use validate::{InvalidPart, Unfit, ValidFault, refused_at};
 
-fn place_of(bytes: &[u8], site: Site) -> Option<Place>
+fn place_of(bytes: &[u8], site: InvalidPart) -> Option<Place>
     ensures { IfSome result (IsPlaceOfSite bytes.now site) }
 {
     match site {
-        Site::Section(id) => place_of_section(bytes, id),
-        Site::Function(function) => place_of_function(bytes, function),
-        Site::Operation {
+        InvalidPart::Section(id) => place_of_section(bytes, id),
+        InvalidPart::Function(function) => place_of_function(bytes, function),
+        InvalidPart::Operation {
             function,
             number,
             ..
@@ -48,16 +48,22 @@ fn of_type(name: &str, unfit: Option<Unfit>) -> Option<Reason> {
 }
 
 /// What is known of the fault beyond its meaning.
-fn reason_of(bytes: &[u8], fault: ValidFault, site: Site, place: &Place) -> Option<Reason> {
+fn reason_of(bytes: &[u8], fault: ValidFault, site: InvalidPart, place: &Place) -> Option<Reason> {
     let (most, things, help) = match (fault, site, place) {
-        (ValidFault::Index, Site::Section(section), _) => return found::segment(bytes, section),
-        (ValidFault::BadType, Site::Operation { unfit, .. }, Place::Operation { name, .. }) => {
+        (ValidFault::Index, InvalidPart::Section(section), _) => return found::segment(
+            bytes, section,
+        ),
+        (
+            ValidFault::BadType,
+            InvalidPart::Operation { unfit, .. },
+            Place::Operation { name, .. },
+        ) => {
             return of_type(*name, unfit);
         }
-        (ValidFault::Height, Site::Function(_), _) => {
+        (ValidFault::Height, InvalidPart::Function(_), _) => {
             (MAX_LOCALS, "parameters and locals", OPTIMIZED)
         }
-        (ValidFault::Height, Site::Operation { .. }, _) => {
+        (ValidFault::Height, InvalidPart::Operation { .. }, _) => {
             (MAX_HEIGHT, "operands at a time", "split the expression")
         }
         (ValidFault::Nesting, _, _) => (MAX_NESTING, "blocks in one another", NO_TABLES),

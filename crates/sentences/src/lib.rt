@@ -36,6 +36,6 @@ pub use meanings::meaning;
 pub use mismatch::Mismatch;
 pub use missing::{Counts, Missing};
 pub use ran::{Ran, What};
-pub use refusal::{Account, explain, place_of};
-pub use stopping::{Allowed, Reason, Stopped, ending_of, tell_place, tell_stopped, unit_of};
+pub use refusal::{RefusalAccount, explain, place_of};
+pub use stopping::{Allowed, Reason, Unfinished, ending_of, tell_place, tell_stopped, unit_of};
 pub use warning::{Warning, warn, warn_refused, warnings};

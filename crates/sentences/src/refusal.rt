@@ -16,12 +16,12 @@ use std::fmt;
 
 /// What is said of a refusal: where it is, as far as that is known, and why. It prints as a sentence.
 #[derive(Debug, Drop)]
-pub struct Account {
+pub struct RefusalAccount {
     pub place: Option<Place>,
     reason: Reason,
 }
 
-impl fmt::Display for Account {
+impl fmt::Display for RefusalAccount {
     fn fmt<W: fmt::Write>(&self, f: &mut fmt::Formatter<W>) -> fmt::Result {
         match &self.place {
             Some(place) => write!(f, "{place}: {}", self.reason),
@@ -43,7 +43,7 @@ fn found_at(refusal: Refusal, alloc: Global, bytes: &[u8]) -> Option<(Place, Opt
 }
 
 /// Where these bytes are refused so, and why. It reads them anew; without memory for that the place is left out.
-pub fn explain(refusal: Refusal, alloc: Global, bytes: &[u8]) -> Account
+pub fn explain(refusal: Refusal, alloc: Global, bytes: &[u8]) -> RefusalAccount
     ensures { IfSome result.place (IsPlaceOf refusal bytes.now) }
 {
     let (place, found) = match found_at(refusal, alloc, bytes) {
@@ -55,7 +55,7 @@ pub fn explain(refusal: Refusal, alloc: Global, bytes: &[u8]) -> Account
     } else {
         found.unwrap_or(Reason::words(meaning(refusal)))
     };
-    Account { place, reason }
+    RefusalAccount { place, reason }
 }
 
 /// Where these bytes are refused so, as `explain` says it.

@@ -67,7 +67,7 @@ impl Allowed {
 
 /// How a run ended that did not return.
 #[derive(Clone, Copy, Debug)]
-pub struct Stopped<'a> {
+pub struct Unfinished<'a> {
     pub reason: Reason,
     /// The units of fuel that it used.
     pub used: u64,
@@ -108,10 +108,10 @@ impl Reason {
     }
 }
 
-impl<'a> Stopped<'a> {
+impl<'a> Unfinished<'a> {
     /// How a call ended that stopped there, if it did not return.
-    pub fn of_call(ended: &Ended, trail: &'a Trail, allowed: Allowed) -> Option<Stopped<'a>> {
-        Some(Stopped {
+    pub fn of_call(ended: &Ended, trail: &'a Trail, allowed: Allowed) -> Option<Unfinished<'a>> {
+        Some(Unfinished {
             reason: Reason::of_ending(&ended.ending)?,
             used: ended.used,
             trail,
@@ -120,8 +120,8 @@ impl<'a> Stopped<'a> {
     }
 
     /// How the run of an order ended, if it did not return.
-    pub fn of_told(told: &'a Told, allowed: Allowed) -> Option<Stopped<'a>> {
-        Some(Stopped {
+    pub fn of_told(told: &'a Told, allowed: Allowed) -> Option<Unfinished<'a>> {
+        Some(Unfinished {
             reason: Reason::of_work(ending_of(&told.reply.outcome))?,
             used: told.used,
             trail: told.trail.as_ref()?,
@@ -169,7 +169,7 @@ fn write_depth<E: Write>(allowed: Allowed, err: &mut E) -> io::Result<()> {
 }
 
 /// Writes why a run did not return.
-fn write_reason<E: Write>(stopped: &Stopped<'_>, err: &mut E) -> io::Result<()> {
+fn write_reason<E: Write>(stopped: &Unfinished<'_>, err: &mut E) -> io::Result<()> {
     match stopped.reason {
         Reason::Trap(trap) => {
             let (meaning, code) = (meaning(trap), trap.code());
@@ -299,7 +299,7 @@ pub fn tell_place<E: Write>(
 pub fn tell_stopped<W: fmt::Display, E: Write>(
     what: &W,
     bytes: &[u8],
-    stopped: &Stopped<'_>,
+    stopped: &Unfinished<'_>,
     err: &mut E,
 ) -> io::Result<()> {
     let used = stopped.used;

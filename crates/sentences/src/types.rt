@@ -13,15 +13,15 @@ pub fn name_of_type(value_type: ValType) -> &'static str {
 
 /// The type of a function. It prints as `[i32 i64] to [i32]`.
 #[derive(Clone, Copy)]
-pub struct Shape<'a> {
+pub struct SpelledType<'a> {
     params: &'a [ValType],
     results: &'a [ValType],
 }
 
-impl<'a> Shape<'a> {
+impl<'a> SpelledType<'a> {
     /// The type of a function that takes and leaves these.
-    pub fn new(params: &'a [ValType], results: &'a [ValType]) -> Shape<'a> {
-        Shape { params, results }
+    pub fn new(params: &'a [ValType], results: &'a [ValType]) -> SpelledType<'a> {
+        SpelledType { params, results }
     }
 }
 
@@ -34,7 +34,7 @@ fn write_types<W: fmt::Write>(f: &mut fmt::Formatter<W>, types: &[ValType]) -> f
     Ok(())
 }
 
-impl fmt::Display for Shape<'_> {
+impl fmt::Display for SpelledType<'_> {
     fn fmt<W: fmt::Write>(&self, f: &mut fmt::Formatter<W>) -> fmt::Result {
         f.write_str("[")?;
         write_types(f, self.params)?;

@@ -6,7 +6,7 @@ ghost use Rattle.sentences.specs.RefusalPlaces.{IsPlaceOf};
 
 use crate::found;
 use crate::reason::Reason;
-use decode::{DecodeFault, RefusedAt, refused_at};
+use decode::{DecodeFault, MalformedAt, refused_at};
 use places::{Part, Place, part_with};
 use std::alloc::Global;
 
@@ -19,8 +19,8 @@ fn of_segment(bytes: &[u8], part: Option<Part>) -> Option<Reason> {
 }
 
 /// What is known of the fault beyond its meaning.
-fn reason_of(bytes: &[u8], refused: RefusedAt, part: Option<Part>) -> Option<Reason> {
-    let RefusedAt { fault, at } = refused;
+fn reason_of(bytes: &[u8], refused: MalformedAt, part: Option<Part>) -> Option<Reason> {
+    let MalformedAt { fault, at } = refused;
     if let Some(reason) = of_segment(bytes, part) {
         return Some(reason);
     }

@@ -7,8 +7,8 @@ ghost use Rattle.sentences.specs.RefusalPlaces.{IsPlaceOf, IsPlaceOfMisfit};
 use crate::help::DEFINED;
 use crate::meanings::of_link;
 use crate::reason::Reason;
-use crate::types::Shape;
-use imports::{Call, EntryPoint, LinkFault, Signature, Site, refused_at};
+use crate::types::SpelledType;
+use imports::{Call, CallType, EntryPoint, LinkFault, UnlinkedPart, refused_at};
 use limits::PAGE_SIZE;
 use loader::validated;
 use places::{DATA, ELEMENTS, Place, place_of_section};
@@ -31,9 +31,9 @@ fn offered(alloc: Global) -> Result<String, AllocError> {
 }
 
 /// Which type is wanted, and which is there.
-fn compared(alloc: Global, wanted: Signature, found: &FuncType) -> Option<String> {
-    let wanted = Shape::new(wanted.params, wanted.results);
-    let found = Shape::new(found.params.as_slice(), found.results.as_slice());
+fn compared(alloc: Global, wanted: CallType, found: &FuncType) -> Option<String> {
+    let wanted = SpelledType::new(wanted.params, wanted.results);
+    let found = SpelledType::new(found.params.as_slice(), found.results.as_slice());
     format!(in alloc; "{wanted} is wanted, and {found} is there").ok()
 }
 
@@ -60,7 +60,7 @@ fn of_export(alloc: Global, contents: &Contents, export: &ModuleExport) -> Optio
     if export.kind == ExternKind::Func {
         return compared(alloc, wanted, type_of_function(contents, export.index)?);
     }
-    let wanted = Shape::new(wanted.params, wanted.results);
+    let wanted = SpelledType::new(wanted.params, wanted.results);
     format!(in alloc; "a function of type {wanted} is wanted").ok()
 }
 
@@ -106,13 +106,13 @@ fn part_of(
     alloc: Global,
     bytes: &[u8],
     contents: &Contents,
-    site: Site,
+    site: UnlinkedPart,
     fault: LinkFault,
 ) -> Option<(Place, Option<String>)>
     ensures { IfSome result (λ found. IsPlaceOfMisfit bytes.now contents.now site found.0) }
 {
     Some(match site {
-        Site::Import(number) => {
+        UnlinkedPart::Import(number) => {
             let import = contents.imports.get(number)?;
             let (module, name) = (import.module.as_slice(), import.name.as_slice());
             (
@@ -120,18 +120,18 @@ fn part_of(
                 of_import(alloc, contents, import, fault),
             )
         }
-        Site::Export(number) => {
+        UnlinkedPart::Export(number) => {
             let export = contents.exports.get(number)?;
             (
                 Place::export(alloc, export.name.as_slice())?,
                 of_export(alloc, contents, export),
             )
         }
-        Site::Elements => (
+        UnlinkedPart::Elements => (
             place_of_section(bytes, ELEMENTS)?,
             of_elements(alloc, contents),
         ),
-        Site::Data => (place_of_section(bytes, DATA)?, of_data(alloc, contents)),
+        UnlinkedPart::Data => (place_of_section(bytes, DATA)?, of_data(alloc, contents)),
     })
 }
 

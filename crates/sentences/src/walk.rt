@@ -1,6 +1,6 @@
 // A walk over a script's JSON, to what is wrong with it.
 
-use crate::flaw::{Flaw, Part, Wrong};
+use crate::flaw::{Flaw, ScriptPart, Wrong};
 use json::{Reader, Token};
 use limits::{MAX_DEPTH, MAX_LOOPS, MAX_SCRIPT_MODULES, MAX_SCRIPT_STEPS, MAX_WORKERS};
 use script::ScriptFault;
@@ -158,7 +158,7 @@ impl<'a> Walk<'a> {
     /// Begins a list or an object.
     fn begin(
         &mut self,
-        part: Part,
+        part: ScriptPart,
         name: Option<&'static str>,
         is_list: bool,
     ) -> Result<(), Flaw<'a>> {
@@ -175,7 +175,11 @@ impl<'a> Walk<'a> {
     }
 
     /// The text of a number, and what it is.
-    fn text(&mut self, part: Part, name: &'static str) -> Result<(&'a str, Number), Flaw<'a>> {
+    fn text(
+        &mut self,
+        part: ScriptPart,
+        name: &'static str,
+    ) -> Result<(&'a str, Number), Flaw<'a>> {
         let at = self.reader.offset();
         let found = self.next();
         let Token::Number(text) = found else {
@@ -188,7 +192,7 @@ impl<'a> Walk<'a> {
     }
 
     /// A number within its bounds.
-    fn number(&mut self, part: Part, bounds: Bounds) -> Result<(), Flaw<'a>> {
+    fn number(&mut self, part: ScriptPart, bounds: Bounds) -> Result<(), Flaw<'a>> {
         let at = self.reader.offset();
         let Bounds { name, least, most } = bounds;
         let (found, number) = self.text(part, name)?;
@@ -205,7 +209,7 @@ impl<'a> Walk<'a> {
     }
 
     /// The number of a module, which is looked at once the modules are counted.
-    fn module_number(&mut self, part: Part) -> Result<(), Flaw<'a>> {
+    fn module_number(&mut self, part: ScriptPart) -> Result<(), Flaw<'a>> {
         let at = self.reader.offset();
         let (found, number) = self.text(part, "module")?;
         let Some(modules) = self.modules else {
@@ -232,7 +236,7 @@ impl<'a> Walk<'a> {
         }
         Err(Flaw {
             at: self.reader.offset(),
-            part: Part::Script,
+            part: ScriptPart::Script,
             wrong: Wrong::Many {
                 name,
                 found,
@@ -243,7 +247,7 @@ impl<'a> Walk<'a> {
     }
 
     fn module(&mut self, number: usize) -> Result<(), Flaw<'a>> {
-        let (at, part) = (self.reader.offset(), Part::Module(number));
+        let (at, part) = (self.reader.offset(), ScriptPart::Module(number));
         let found = self.next();
         let Token::String(digits) = found else {
             return Err(Flaw::wanted(at, part, None, "a string", found));
@@ -262,7 +266,7 @@ impl<'a> Walk<'a> {
     }
 
     fn modules(&mut self) -> Result<(), Flaw<'a>> {
-        self.begin(Part::Script, Some("modules"), true)?;
+        self.begin(ScriptPart::Script, Some("modules"), true)?;
         for number in 0..self.room {
             if self.reader.take_end_array() {
                 self.modules = Some(number as u64);
@@ -276,7 +280,7 @@ impl<'a> Walk<'a> {
     /// The next key of an object, by its number, unless the object ends.
     fn key(
         &mut self,
-        part: Part,
+        part: ScriptPart,
         keys: [&'static str; KEYS],
         seen: &mut [bool; KEYS],
     ) -> Result<Option<usize>, Flaw<'a>> {
@@ -289,7 +293,7 @@ impl<'a> Walk<'a> {
         };
         let Some((index, name)) = find_key(keys, key) else {
             let keys = match part {
-                Part::Script => "modules, loops, workers, steps",
+                ScriptPart::Script => "modules, loops, workers, steps",
                 _ => "module, fuel, work_fuel, depth",
             };
             return Err(Flaw::new(at, part, Wrong::Unknown { key, keys }));
@@ -304,7 +308,7 @@ impl<'a> Walk<'a> {
     }
 
     /// The value of the key of a loop that has this number.
-    fn loop_value(&mut self, part: Part, key: usize) -> Result<(), Flaw<'a>> {
+    fn loop_value(&mut self, part: ScriptPart, key: usize) -> Result<(), Flaw<'a>> {
         match key {
             0 => self.module_number(part),
             1 => self.number(part, Bounds::to("fuel", u64::MAX)),
@@ -314,7 +318,7 @@ impl<'a> Walk<'a> {
     }
 
     fn one_loop(&mut self, number: usize) -> Result<(), Flaw<'a>> {
-        let part = Part::Loop(number);
+        let part = ScriptPart::Loop(number);
         self.begin(part, None, false)?;
         let mut seen = [false; KEYS];
         for _ in 0..self.room {
@@ -327,7 +331,7 @@ impl<'a> Walk<'a> {
     }
 
     fn loops(&mut self) -> Result<(), Flaw<'a>> {
-        self.begin(Part::Script, Some("loops"), true)?;
+        self.begin(ScriptPart::Script, Some("loops"), true)?;
         for number in 0..self.room {
             if self.reader.take_end_array() {
                 return self.count("loops", number, 1, u64::from(MAX_LOOPS));
@@ -338,7 +342,7 @@ impl<'a> Walk<'a> {
     }
 
     /// The numbers after the name of a step, to the end of the step.
-    fn numbers(&mut self, part: Part, name: &'a str, names: Names) -> Result<(), Flaw<'a>> {
+    fn numbers(&mut self, part: ScriptPart, name: &'a str, names: Names) -> Result<(), Flaw<'a>> {
         let at = self.reader.offset();
         let taken = names.count();
         for given in 0..self.room {
@@ -360,7 +364,7 @@ impl<'a> Walk<'a> {
     }
 
     fn step(&mut self, number: usize) -> Result<(), Flaw<'a>> {
-        let part = Part::Step(number);
+        let part = ScriptPart::Step(number);
         self.begin(part, None, true)?;
         let at = self.reader.offset();
         let found = self.next();
@@ -374,7 +378,7 @@ impl<'a> Walk<'a> {
     }
 
     fn steps(&mut self) -> Result<(), Flaw<'a>> {
-        self.begin(Part::Script, Some("steps"), true)?;
+        self.begin(ScriptPart::Script, Some("steps"), true)?;
         for number in 0..self.room {
             if self.reader.take_end_array() {
                 return self.count("steps", number, 0, MAX_SCRIPT_STEPS as u64);
@@ -389,17 +393,17 @@ impl<'a> Walk<'a> {
         match key {
             0 => self.modules(),
             1 => self.loops(),
-            2 => self.number(Part::Script, WORKERS),
+            2 => self.number(ScriptPart::Script, WORKERS),
             _ => self.steps(),
         }
     }
 
     /// Walks over the whole script, to the first thing that is wrong with it so.
     pub fn script(&mut self) -> Result<(), Flaw<'a>> {
-        self.begin(Part::Script, None, false)?;
+        self.begin(ScriptPart::Script, None, false)?;
         let mut seen = [false; KEYS];
         for _ in 0..self.room {
-            match self.key(Part::Script, SCRIPT_KEYS, &mut seen)? {
+            match self.key(ScriptPart::Script, SCRIPT_KEYS, &mut seen)? {
                 Some(key) => self.script_value(key)?,
                 None => return Ok(()),
             }

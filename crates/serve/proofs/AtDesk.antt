@@ -7,7 +7,7 @@ use Rattle.phases.specs.State.{Setting, Loop, State}
 use Rattle.phases.specs.Step.{over}
 use Rattle.phases.specs.View.{View}
 use Rattle.desk.specs.Desk.{Desk, new_desk}
-use Rattle.desk.specs.Laws.{Passed, Passes, GoesAtDesk, PassesAtDesk, IsAsAtDesk}
+use Rattle.desk.specs.Laws.{Passed, PassesThrough, GoesAtDesk, PassesAtDesk, IsAsAtDesk}
 use Rattle.desk.specs.Others.{busy_calls}
 use Rattle.pool.specs.declared.seats.Seats.{Seats}
 use Rattle.serve.specs.declared.served.LoopEnding.{LoopEnding}
@@ -24,7 +24,7 @@ module _ (g : Setting) where
   AreOwn (e ∷ events) old (p ∷ passed) = (p.event ≡ e) × IsByThread e old.state × AreOwn events p.new passed
   AreOwn _ old _ = ⊥
 
-  passes : (events : List Event) (old now : Loop Seats) → ThreadHistory thread_calls g old events now → (passed : List (Passed Seats)) × Passes thread_calls g old passed now × AreOwn events old passed
+  passes : (events : List Event) (old now : Loop Seats) → ThreadHistory thread_calls g old events now → (passed : List (Passed Seats)) × PassesThrough thread_calls g old passed now × AreOwn events old passed
   passes [] old now h = ([], h, tt)
   passes (e ∷ events) old now h =
       let rest = passes events h.0 now h.3 in
@@ -40,7 +40,7 @@ module _ (g : Setting) where
   own_goes (ClockRaised ms) old new d mid own h = h
   own_goes MovedBeside old new d mid own h = absurd own
 
-  goes_on : (events : List Event) (passed : List (Passed Seats)) (old now : Loop Seats) (d e : Desk) → Passes thread_calls g old passed now → AreOwn events old passed
+  goes_on : (events : List Event) (passed : List (Passed Seats)) (old now : Loop Seats) (d e : Desk) → PassesThrough thread_calls g old passed now → AreOwn events old passed
       → PassesAtDesk g old passed d e → ThreadHistory busy_calls g (over d old) events (over e now)
   goes_on [] [] old now d e h own goes = λ i. over (goes i) (h i)
   goes_on (event ∷ events) (p ∷ passed) old now d e h own goes =

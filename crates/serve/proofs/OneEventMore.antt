@@ -16,7 +16,7 @@ use Rattle.phases.specs.declared.entry.Status.{Status}
 use Rattle.phases.specs.declared.entry.Status.TheVariants as status
 use Rattle.events.specs.declared.ended.Ended.{Ended}
 use Rattle.events.specs.declared.ended.BareEnded.{BareEnded}
-use Rattle.phases.specs.Bare.{whole}
+use Rattle.phases.specs.Bare.{whole_did}
 use Rattle.phases.specs.declared.did.BareDid.{BareDid}
 use Rattle.phases.specs.declared.did.BareDid.TheVariants as bare
 use Rattle.phases.specs.declared.loop_core.Accepted.{Accepted}
@@ -58,7 +58,7 @@ abbrev pub RunsNone : StepDid → Type 0
 RunsNone d = (kind : EntryKind) (number : ℕ) (ended : Ended) → d ≢ did.Ran kind number ended
 
 -- as it is told
-pub tells_other : (d : BareDid) → ((kind : EntryKind) (number : ℕ) (ended : BareEnded) → d ≢ bare.Ran kind number ended) → RunsNone (whole d)
+pub tells_other : (d : BareDid) → ((kind : EntryKind) (number : ℕ) (ended : BareEnded) → d ≢ bare.Ran kind number ended) → RunsNone (whole_did d)
 tells_other (bare.Ran of at end) not kind number ended is = absurd (not of at end refl)
 tells_other (bare.Entered phase now) not kind number ended is = absurd (cc)
 tells_other (bare.Skipped of other) not kind number ended is = absurd (cc)

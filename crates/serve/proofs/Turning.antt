@@ -9,7 +9,7 @@ use Rattle.syntax.specs.declared.contents.Contents.{Contents}
 use Rattle.syntax.specs.declared.types.Value.{Value}
 use Rattle.syntax.specs.declared.types.Value.TheVariants.{I32}
 use Rattle.handles.specs.declared.handle.Kind.TheVariants as handle_kind
-use Rattle.handles.specs.declared.sorted.Place.{Place}
+use Rattle.handles.specs.declared.sorted.ListPlace.{ListPlace}
 use Rattle.handles.specs.Table.{Table, after_again, in_order, due_list, nearest_due, entry as place_entry}
 use Rattle.events.specs.declared.did.Hint.{Hint}
 use Rattle.events.specs.declared.did.Hint.TheVariants.{Now, For, Forever}
@@ -23,7 +23,7 @@ use Rattle.events.specs.declared.phase.EntryKind.TheVariants as kind
 use Rattle.events.specs.declared.phase.Phase.{Phase}
 use Rattle.events.specs.declared.phase.Phase.TheVariants.{Begin, Timers, Idle, Poll, Check, Closing}
 use Rattle.events.specs.Phases.{may_end, next_phase}
-use Rattle.phases.specs.Bare.{whole}
+use Rattle.phases.specs.Bare.{whole_did}
 use Rattle.phases.specs.Calls.{Calls, IsLawful}
 use Rattle.phases.specs.Guests.{GuestCall}
 use Rattle.phases.specs.Host.{with_roster, with_requests}
@@ -33,7 +33,7 @@ use Rattle.phases.specs.Requests.{Request, Completion, request_of, without_reque
 use Rattle.phases.specs.Roster.{Roster, in_table, async_handle, with_handles, without_handle, opening_roster}
 use Rattle.phases.specs.State.{Setting, State, Loop, opening}
 use Rattle.phases.specs.Step.{LoopStep, StepIn, ListStep, EntryStep, NextPhase, CallsBack, CallsHandle, RunsFrom, Skips, TakesFirst, AfterWork}
-use Rattle.phases.specs.Step.{in_state, sharing, in_phase, entered, now_in, turn, is_as_listed, handle_function}
+use Rattle.phases.specs.Step.{in_state, sharing, in_phase, phase_entered, now_in, turn, is_as_listed, handle_function}
 use Rattle.phases.specs.View.{View}
 use Rattle.phases.specs.declared.did.BareDid.{BareDid}
 use Rattle.phases.specs.declared.did.BareDid.TheVariants as bare
@@ -44,7 +44,7 @@ use Rattle.phases.specs.declared.entry.Status.TheVariants.{Running, Over, Failed
 use Rattle.pool.specs.declared.seats.Seats.{Seats}
 use Rattle.pool.specs.SeatsLaw.{seats_lawful}
 use Rattle.serve.specs.Histories.{HasActiveAsync, IsDrained, IsWaiting, thread_calls}
-use Rattle.serve.specs.Inner.Turns.{enters_timers, runs, IsAtTurn, IsListed, IsToCome, Drains, GoesOn}
+use Rattle.serve.specs.Inner.Turns.{enters_timers, runs, IsAtTurn, IsListed, IsToCome, Drains, MayGoOn}
 use Rattle.serve.proofs.SentAlone.{emptied}
 
 -- a step that tells no callback
@@ -248,10 +248,10 @@ module _ {S : Type 0} (calls : Calls S) (lawful : IsLawful calls) (g : Setting) 
 
   -- the next phase is entered
   module _ (old new : Loop S) (empty : old.state.list ≡ []) where
-    entered_step : (did : StepDid) → did ≡ Entered (next_phase old.state.phase) (now_in old.state (next_phase old.state.phase)) → new ≡ in_state old (entered old.state (next_phase old.state.phase)) → IsQuietStep old did new
+    entered_step : (did : StepDid) → did ≡ Entered (next_phase old.state.phase) (now_in old.state (next_phase old.state.phase)) → new ≡ in_state old (phase_entered old.state (next_phase old.state.phase)) → IsQuietStep old did new
     entered_step did told is = record {
       drains = λ h. subst (Drains calls) (sym is) (λ a active. enters old.state old.state.phase a (untaken old a ≡ 0) active (left h a active));
-      at_turn = λ now said. subst (λ (l : Loop S). IsAtTurn l.state) (sym is) (subst (λ p. IsAtTurn (entered old.state p)) (sym (timers now said)) (refl, refl, refl));
+      at_turn = λ now said. subst (λ (l : Loop S). IsAtTurn l.state) (sym is) (subst (λ p. IsAtTurn (phase_entered old.state p)) (sym (timers now said)) (refl, refl, refl));
       drained = λ now said h. subst (IsDrained calls) (sym is) (λ a active. ends_drained old.state.phase a (untaken old a ≡ 0) (timers now said) (left h a active));
     } where
       timers : (now : ℕ) → did ≡ Entered Timers now → next_phase old.state.phase ≡ Timers
@@ -269,7 +269,7 @@ module _ {S : Type 0} (calls : Calls S) (lawful : IsLawful calls) (g : Setting) 
     }
 
     turn_step : (b : Bool) (did : StepDid) (turned : StepDid × State)
-        → turned ≡ cond b (step.Over, record old.state { status = Over }) (Entered (next_phase old.state.phase) (now_in old.state (next_phase old.state.phase)), entered old.state (next_phase old.state.phase))
+        → turned ≡ cond b (step.Over, record old.state { status = Over }) (Entered (next_phase old.state.phase) (now_in old.state (next_phase old.state.phase)), phase_entered old.state (next_phase old.state.phase))
         → did ≡ turned.0 → new ≡ in_state old turned.1 → IsQuietStep old did new
     turn_step true did turned is told so = over_step did (told ∙ ap (λ (p : StepDid × State). p.0) is) (so ∙ ap (λ (p : StepDid × State). in_state old p.1) is)
     turn_step false did turned is told so = entered_step did (told ∙ ap (λ (p : StepDid × State). p.0) is) (so ∙ ap (λ (p : StepDid × State). in_state old p.1) is)
@@ -299,7 +299,7 @@ module _ {S : Type 0} (calls : Calls S) (lawful : IsLawful calls) (g : Setting) 
   quiet_step old did new quiet step = status_step old.state.status old did step.0 new quiet step.1
 
 -- the same, as it is told
-pub turn_told : (d : BareDid) → enters_timers d ≡ true → (now : ℕ) × (whole d ≡ Entered Timers now)
+pub turn_told : (d : BareDid) → enters_timers d ≡ true → (now : ℕ) × (whole_did d ≡ Entered Timers now)
 turn_told (bare.Entered Timers now) is = (now, refl)
 turn_told (bare.Entered Begin now) is = absurd (cc)
 turn_told (bare.Entered Idle now) is = absurd (cc)
@@ -311,7 +311,7 @@ turn_told (bare.Skipped of other) is = absurd (cc)
 turn_told bare.Over is = absurd (cc)
 turn_told bare.Failed is = absurd (cc)
 
-pub quiet_told : (d : BareDid) → runs d ≡ false → IsQuiet (whole d)
+pub quiet_told : (d : BareDid) → runs d ≡ false → IsQuiet (whole_did d)
 quiet_told (bare.Ran of at end) not kind number ended is = absurd (cc)
 quiet_told (bare.Entered phase now) not kind number ended is = absurd (cc)
 quiet_told (bare.Skipped of other) not kind number ended is = absurd (cc)
@@ -334,7 +334,7 @@ none_near (Some due) now is = by (nat_le due now) is where
   by true h = absurd (cc)
   by false h = absurd (cc)
 
-none_first : (xs : List Place) → option_map (λ place. place.due) (slice_get xs 0) ≡ None → xs ≡ []
+none_first : (xs : List ListPlace) → option_map (λ place. place.due) (slice_get xs 0) ≡ None → xs ≡ []
 none_first [] is = refl
 none_first (x ∷ xs) is = absurd (cc)
 
@@ -351,7 +351,7 @@ none_due s is =
     (none_first (in_order handle_kind.Timer s.roster.handles) (forever_near s is))
 
 -- what leaves handles and phase leaves that the loop goes on
-pub goes_still : {S : Type 0} (calls : Calls S) (l m : Loop S) (ran : ℕ) → m.state.roster ≡ l.state.roster → m.state.phase ≡ l.state.phase → GoesOn calls l ran → GoesOn calls m ran
+pub goes_still : {S : Type 0} (calls : Calls S) (l m : Loop S) (ran : ℕ) → m.state.roster ≡ l.state.roster → m.state.phase ≡ l.state.phase → MayGoOn calls l ran → MayGoOn calls m ran
 goes_still calls l m ran roster phase h = (h.0, λ a active. phase ∙ h.1 a (subst (λ (r : Roster). is_active_handle r.handles (async_handle r a) ≡ true) roster active))
 
 pub handed_roster : (status : Status) (s : State) → (next_in status s).1.roster ≡ s.roster
@@ -365,15 +365,15 @@ handed_phase Running s = refl
 handed_phase Over s = refl
 
 -- a loop that opens goes on
-pub opening_goes : {S : Type 0} (calls : Calls S) (l : Loop S) (m : Contents) (list : List Entry) → l.state ≡ opening (opening_roster m) list → GoesOn calls l 0
+pub opening_goes : {S : Type 0} (calls : Calls S) (l : Loop S) (m : Contents) (list : List Entry) → l.state ≡ opening (opening_roster m) list → MayGoOn calls l 0
 opening_goes calls l m list is = (omega arith, λ a active. absurd (let it = subst (λ (s : State). HasActiveAsync s a) is active in cc))
 
 -- a loop whose turn begins comes to each async yet
-pub drains_first : {S : Type 0} (calls : Calls S) (l : Loop S) (ran : ℕ) → GoesOn calls l ran → Drains calls l
+pub drains_first : {S : Type 0} (calls : Calls S) (l : Loop S) (ran : ℕ) → MayGoOn calls l ran → Drains calls l
 drains_first calls l ran h a active = inl (subst (λ p. IsToCome p l.state.list a) (sym (h.1 a active)) tt)
 
 -- and goes on where it may run callbacks yet
-pub goes_at_turn : {S : Type 0} (calls : Calls S) (l : Loop S) (ran : ℕ) → ran < MAX_CALLBACKS → IsAtTurn l.state → GoesOn calls l ran
+pub goes_at_turn : {S : Type 0} (calls : Calls S) (l : Loop S) (ran : ℕ) → ran < MAX_CALLBACKS → IsAtTurn l.state → MayGoOn calls l ran
 goes_at_turn calls l ran few at = (few, λ a active. at.1)
 
 -- so does it wait for ever
@@ -381,14 +381,14 @@ pub waits : {S : Type 0} (calls : Calls S) (l : Loop S) → IsAtTurn l.state →
 waits calls l at none forever drained = record { phase = at.1; none_due = at.2 ∙ none_due l.state forever; none_outstanding = none; for_ever = forever; drained = drained }
 
 -- a step of a loop over its seats, as it is told
-module _ (g : Setting) (old : Loop Seats) (d : BareDid) (new : Loop Seats) (step : LoopStep thread_calls g old (whole d) new) where
+module _ (g : Setting) (old : Loop Seats) (d : BareDid) (new : Loop Seats) (step : LoopStep thread_calls g old (whole_did d) new) where
   abbrev Quietly : Type 0
-  Quietly = IsQuietStep thread_calls (seats_lawful (λ s. s.loop_seat) (λ s. s.taker)) g old (whole d) new
+  Quietly = IsQuietStep thread_calls (seats_lawful (λ s. s.loop_seat) (λ s. s.taker)) g old (whole_did d) new
 
-  quietly : IsQuiet (whole d) → Quietly
-  quietly quiet = quiet_step thread_calls (seats_lawful (λ s. s.loop_seat) (λ s. s.taker)) g old (whole d) new quiet step
+  quietly : IsQuiet (whole_did d) → Quietly
+  quietly quiet = quiet_step thread_calls (seats_lawful (λ s. s.loop_seat) (λ s. s.taker)) g old (whole_did d) new quiet step
 
-  pub step_drains : IsQuiet (whole d) → Drains thread_calls old → Drains thread_calls new
+  pub step_drains : IsQuiet (whole_did d) → Drains thread_calls old → Drains thread_calls new
   step_drains quiet = (quietly quiet).drains
 
   pub step_at_turn : enters_timers d ≡ true → IsAtTurn new.state

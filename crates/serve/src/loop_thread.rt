@@ -12,7 +12,7 @@ ghost use Rattle.serve.specs.Inner.Turns.{IsAtTurn};
 
 use crate::account::Account;
 use crate::place::LoopPlace;
-use crate::record::Record;
+use crate::record::LoopRecord;
 use crate::served::{LoopEnding, Served};
 use crate::service::Serves;
 use crate::serving::Serving;
@@ -31,7 +31,7 @@ pub struct LoopThread<'a, J> {
     board: &'a Board<J>,
     pass: Pass<J>,
     loop_no: u32,
-    recorded: Record<'a>,
+    recorded: LoopRecord<'a>,
     kept: Option<J>,
     ghost of_board: { IsPassOf board.now pass },
     ghost there: { loop_no < length board.now.replies },
@@ -77,7 +77,7 @@ impl<'a, J: Drop> LoopThread<'a, J> {
             board,
             pass,
             loop_no,
-            recorded: Record::new(alloc, core, account),
+            recorded: LoopRecord::new(alloc, core, account),
             kept: None,
         })
     }

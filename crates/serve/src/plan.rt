@@ -22,7 +22,7 @@ use std::thread::Promise;
 
 /// What all loops are made of, and whether one of them found no memory.
 #[derive(Drop)]
-pub struct LoopPlan {
+pub struct ServicePlan {
     pub alloc: Global,
     pub linked: Arc<Linked>,
     pub serving: Serving,
@@ -34,22 +34,22 @@ pub type LoopResult = Result<Served, AllocError>;
 
 /// That what comes of a thread is said of this loop.
 #[derive(Clone, Copy)]
-pub struct OfLoop<'a> {
-    pub plan: &'a LoopPlan,
+pub struct ThreadOfLoop<'a> {
+    pub plan: &'a ServicePlan,
     pub loop_no: u32,
 }
 
-impl<'a> Promise<LoopResult> for OfLoop<'a> {
+impl<'a> Promise<LoopResult> for ThreadOfLoop<'a> {
     ghost kept_by = { λ p r. IfOk r (λ s. IsServed (setting_at (arc_value p.plan.now.linked) p.plan.now.serving p.loop_no) s) };
 }
 
-impl LoopPlan {
+impl ServicePlan {
     /// No loop has found no memory.
-    pub fn new(alloc: Global, linked: Arc<Linked>, serving: Serving) -> LoopPlan
+    pub fn new(alloc: Global, linked: Arc<Linked>, serving: Serving) -> ServicePlan
         ensures linked { result.linked ≡ linked }
         ensures serving { result.serving ≡ serving }
     {
-        LoopPlan {
+        ServicePlan {
             alloc,
             linked,
             serving,

@@ -9,11 +9,11 @@ ghost use Rattle.order.specs.Runnable.{CanRun};
 ghost use Rattle.phases.specs.PhaseList.{hint_of};
 ghost use Rattle.phases.specs.declared.entry.Status.TheVariants as status;
 ghost use Rattle.serve.specs.Answers.{IsServed};
-ghost use Rattle.phases.specs.Bare.{whole};
+ghost use Rattle.phases.specs.Bare.{whole_did};
 ghost use Rattle.phases.specs.Step.{LoopStep};
 ghost use Rattle.serve.specs.Histories.{HasDone, EndsBy, IsDrained, thread_calls};
 ghost use Rattle.serve.specs.Inner.Alone.{IsAlone};
-ghost use Rattle.serve.specs.Inner.Turns.{enters_timers, runs, IsAtTurn, Drains, GoesOn, StepsTo, ComesTo};
+ghost use Rattle.serve.specs.Inner.Turns.{enters_timers, runs, IsAtTurn, Drains, MayGoOn, StepsTo, EndsOrGoesOn};
 
 use crate::account::Account;
 use crate::meter::Meter;
@@ -31,7 +31,7 @@ use std::sync::Wait;
 /// A loop, with how many of its callbacks ran and all that they have emitted: it has a history from its opening that
 /// says so.
 #[derive(Drop)]
-pub struct Record<'a> {
+pub struct LoopRecord<'a> {
     pub(crate) core: LoopCore<Seats<'a>>,
     pub(crate) ran: u32,
     emits: Vec<u64>,
@@ -75,15 +75,15 @@ fn last_trail(core: &LoopCore<Seats<'_>>) -> Option<Trail> {
     Some(Trail::of(&core.last_stop()?))
 }
 
-impl<'a> Record<'a> {
+impl<'a> LoopRecord<'a> {
     /// Of a loop that has done nothing.
-    pub fn new(alloc: Global, core: LoopCore<Seats<'a>>, account: Account) -> Record<'a>
+    pub fn new(alloc: Global, core: LoopCore<Seats<'a>>, account: Account) -> LoopRecord<'a>
         requires opens { IsOpening thread_calls core.setting core.loop }
         requires alone { IsAlone core.loop.shared.taker }
         ensures setting { result.core.setting ≡ core.entry.setting }
-        ensures goes { GoesOn thread_calls result.core.loop result.ran }
+        ensures goes { MayGoOn thread_calls result.core.loop result.ran }
     {
-        Record {
+        LoopRecord {
             core,
             ran: 0,
             emits: Vec::new(alloc),
@@ -94,7 +94,7 @@ impl<'a> Record<'a> {
     /// Offers a reply to the loop, which drops it where it is not the loop's. Whether the loop takes it.
     pub fn accept(&mut self, reply: Reply) -> bool
         ensures setting { self.new.core.setting ≡ self.old.core.setting }
-        ensures goes { GoesOn thread_calls self.old.core.loop self.old.ran → GoesOn thread_calls self.new.core.loop self.new.ran }
+        ensures goes { MayGoOn thread_calls self.old.core.loop self.old.ran → MayGoOn thread_calls self.new.core.loop self.new.ran }
     {
         self.account.heard(&reply);
         let accepted = self.core.accept(reply);
@@ -107,7 +107,7 @@ impl<'a> Record<'a> {
         ensures own { IfSome result (λ o. o.loop_no ≡ self.old.core.setting.loop_no) }
         ensures slot { IfSome result (λ o. o.slot < MAX_REQUESTS) }
         ensures setting { self.new.core.setting ≡ self.old.core.setting }
-        ensures goes { GoesOn thread_calls self.old.core.loop self.old.ran → GoesOn thread_calls self.new.core.loop self.new.ran }
+        ensures goes { MayGoOn thread_calls self.old.core.loop self.old.ran → MayGoOn thread_calls self.new.core.loop self.new.ran }
     {
         self.core.next_order()
     }
@@ -124,9 +124,9 @@ impl<'a> Record<'a> {
         loop_no: u32,
         watch: &W,
     ) -> Result<Option<LoopEnding>, AllocError>
-        requires goes { GoesOn thread_calls self.old.core.loop self.old.ran }
+        requires goes { MayGoOn thread_calls self.old.core.loop self.old.ran }
         ensures setting { self.new.core.setting ≡ self.old.core.setting }
-        ensures comes { IfOk result (λ ended. ComesTo thread_calls ended self.new.core.loop self.new.ran) }
+        ensures comes { IfOk result (λ ended. EndsOrGoesOn thread_calls ended self.new.core.loop self.new.ran) }
         ensures at_turn { IfOk result (λ ended. ended ≡ None → IsAtTurn self.new.core.loop.state) }
         ensures drained { IfOk result (λ ended. ended ≡ None → self.new.ran ≤ self.old.ran → IsDrained thread_calls self.new.core.loop) }
     {
@@ -187,12 +187,12 @@ impl<'a> Record<'a> {
 
     /// Raises the clock to the next timer, and reports it. Without one the loop waits for ever.
     pub fn wait<R: Wait, W: Watch>(&mut self, rt: &R, loop_no: u32, watch: &W) -> Option<LoopEnding>
-        requires goes { GoesOn thread_calls self.old.core.loop self.old.ran }
+        requires goes { MayGoOn thread_calls self.old.core.loop self.old.ran }
         requires at_turn { IsAtTurn self.old.core.loop.state }
         requires none { self.old.core.loop.state.requests.outstanding ≡ [] }
         requires drained { IsDrained thread_calls self.old.core.loop }
         ensures setting { self.new.core.setting ≡ self.old.core.setting }
-        ensures comes { ComesTo thread_calls result self.new.core.loop self.new.ran }
+        ensures comes { EndsOrGoesOn thread_calls result self.new.core.loop self.new.ran }
     {
         match self.core.hint() {
             Hint::Now => None,
@@ -211,7 +211,7 @@ impl<'a> Record<'a> {
         requires still { self.old.core.loop.state.clock ≡ self.old.core.loop.state.now }
         requires hint { hint_of self.old.core.loop.state ≡ Hint.For ms }
         ensures setting { self.new.core.setting ≡ self.old.core.setting }
-        ensures goes { GoesOn thread_calls self.old.core.loop self.old.ran → GoesOn thread_calls self.new.core.loop self.new.ran }
+        ensures goes { MayGoOn thread_calls self.old.core.loop self.old.ran → MayGoOn thread_calls self.new.core.loop self.new.ran }
     {
         let clock = self.core.clock(0);
         let moment = clock.saturating_add(ms);

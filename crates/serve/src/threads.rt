@@ -11,7 +11,7 @@ ghost use Rattle.serve.specs.Inner.Promises.{IsThreadOf};
 
 use crate::job::Job;
 use crate::place::{LoopPlace, WorkerPlace, places};
-use crate::plan::{LoopPlan, LoopResult, OfLoop};
+use crate::plan::{LoopResult, ServicePlan, ThreadOfLoop};
 use crate::rooms::Rooms;
 use crate::served::Served;
 use crate::service::Service;
@@ -65,7 +65,7 @@ pub fn serve_watched<
     ensures count { IfOk result (λ served. length served.items ≡ serving.loops) }
     ensures each { IfOk result (λ served. EachServed (arc_value linked) serving served.items) }
 {
-    let plan = LoopPlan::new(alloc, linked, serving);
+    let plan = ServicePlan::new(alloc, linked, serving);
     let rooms = Arc::new(alloc, Rooms::new(alloc, serving.workers)?)?;
     let service = Service {
         rt,
@@ -82,7 +82,7 @@ fn with_claims<
     M: Fn(Task) -> Result<J, AllocError> + Sync,
     J: Job + Send,
     W: Watch + Sync,
->(service: &Service<'_, R, M, W>, plan: &LoopPlan) -> Result<Vec<Served>, AllocError>
+>(service: &Service<'_, R, M, W>, plan: &ServicePlan) -> Result<Vec<Served>, AllocError>
     requires make { M.IsAlwaysCallable service.now.make.now }
     ensures count { IfOk result (λ served. length served.items ≡ plan.now.serving.loops) }
     ensures each { IfOk result (λ served. EachServed (arc_value plan.now.linked) plan.now.serving served.items) }
@@ -103,7 +103,7 @@ fn with_board<
     W: Watch + Sync,
 >(
     service: &Service<'_, R, M, W>,
-    plan: &LoopPlan,
+    plan: &ServicePlan,
     claims: &Claims,
     loop_seats: Vec<LoopSeat>,
     worker_seats: Vec<WorkerSeat>,
@@ -122,7 +122,7 @@ fn with_board<
 }
 
 /// The handle of a loop's thread.
-type LoopHandle<'s> = PromisedHandle<LoopResult, OfLoop<'s>>;
+type LoopHandle<'s> = PromisedHandle<LoopResult, ThreadOfLoop<'s>>;
 
 /// Starts the workers and then the loops, and closes the board once all loops have ended.
 fn run_all<
@@ -133,7 +133,7 @@ fn run_all<
     W: Watch + Sync,
 >(
     service: &Service<'_, R, M, W>,
-    plan: &LoopPlan,
+    plan: &ServicePlan,
     board: &'a Board<J>,
     workers: Vec<WorkerPlace<'a, J>>,
     loops: Vec<LoopPlace<'a, J>>,
@@ -192,7 +192,7 @@ fn run_loops<
 >(
     scope: &Scope<'s, E>,
     service: &'s Service<'s, R, M, W>,
-    plan: &'s LoopPlan,
+    plan: &'s ServicePlan,
     places: Vec<LoopPlace<'s, J>>,
 ) -> Result<Vec<Served>, AllocError>
     requires make { M.IsAlwaysCallable service.now.make.now }
@@ -221,7 +221,7 @@ fn start_loops<
 >(
     scope: &Scope<'s, E>,
     service: &'s Service<'s, R, M, W>,
-    plan: &'s LoopPlan,
+    plan: &'s ServicePlan,
     places: Vec<LoopPlace<'s, J>>,
     started: &mut Vec<LoopHandle<'s>>,
 ) -> Result<(), AllocError>
@@ -252,7 +252,7 @@ fn start_loop<
 >(
     scope: &Scope<'s, E>,
     service: &'s Service<'s, R, M, W>,
-    plan: &'s LoopPlan,
+    plan: &'s ServicePlan,
     place: LoopPlace<'s, J>,
 ) -> Result<LoopHandle<'s>, AllocError>
     requires make { M.IsAlwaysCallable service.now.make.now }
@@ -264,7 +264,7 @@ fn start_loop<
     }
     let loop_no = place.seat.loop_no();
     let thread = scope.spawn_with(
-        OfLoop { plan, loop_no },
+        ThreadOfLoop { plan, loop_no },
         move || -> LoopResult
             requires make { M.IsAlwaysCallable service.now.make.now }
             requires sync { IsSync R.row × IsSync M.row × IsSync W.row }
@@ -277,7 +277,7 @@ fn start_loop<
 /// Waits for each thread. What their loops did, unless one of them found no memory.
 fn join_all<'s, R: Threads>(
     rt: &R,
-    plan: &'s LoopPlan,
+    plan: &'s ServicePlan,
     started: Vec<LoopHandle<'s>>,
     served: &mut Vec<Served>,
 ) -> Result<(), AllocError>

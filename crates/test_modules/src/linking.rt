@@ -1,6 +1,6 @@
 use crate::modules::check_sections;
 use crate::rows::check_rows;
-use imports::{Call, EntryPoint, Linked, Signature};
+use imports::{Call, CallType, EntryPoint, Linked};
 use std::alloc::Global;
 use std::process::Abort;
 use std::test::Fail;
@@ -34,7 +34,7 @@ const TABLE: &str = "
 /// The name and the signature of the function of this name.
 fn call_told(alloc: Global, name: &str) -> Result<String, Fail> {
     let call = Call::from_name(name.as_bytes()).ok_or("an unknown name")?;
-    let Signature { params, results } = call.signature();
+    let CallType { params, results } = call.signature();
     Ok(format!(in alloc; "{} {params:?} {results:?}", call.name())?)
 }
 

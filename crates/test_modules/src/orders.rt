@@ -4,7 +4,7 @@ ghost use Rattle.std.specs.Prelude.{◌≤◌};
 
 use crate::rows::check_rows;
 use imports::{EntryPoint, Linked};
-use order::{Going, Order, Outcome, Running, Told, Trail};
+use order::{Order, OrderGoing, Outcome, Running, Told, Trail};
 use std::alloc::{AllocError, Global};
 use std::sync::Arc;
 use std::test::Fail;
@@ -40,8 +40,8 @@ fn finish(running: Running, units: u64) -> Result<Told, Fail>
     let mut running = running;
     for _ in 0..1000 {
         match running.go_on(units) {
-            Going::Over(told) => return Ok(told),
-            Going::Paused(paused) => running = paused,
+            OrderGoing::Over(told) => return Ok(told),
+            OrderGoing::Paused(paused) => running = paused,
         }
     }
     Err(Fail::from("it is not over"))

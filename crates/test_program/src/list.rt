@@ -1,7 +1,7 @@
 // The lines of a list.
 
 /// A line of a list.
-pub enum Line<'a> {
+pub enum ListLine<'a> {
     /// It is printed as it is.
     Remark,
     /// A file of the bytes that these digits spell.
@@ -13,14 +13,14 @@ pub enum Line<'a> {
 }
 
 /// What a line says.
-pub fn read_line(line: &str) -> Line<'_> {
+pub fn read_line(line: &str) -> ListLine<'_> {
     if line.is_empty() || line.starts_with('#') {
-        return Line::Remark;
+        return ListLine::Remark;
     }
     match line.split_once(' ') {
         Some(("let", rest)) => bytes_line(rest),
         Some(("text", rest)) => text_line(rest),
-        _ => Line::Command,
+        _ => ListLine::Command,
     }
 }
 
@@ -43,12 +43,12 @@ pub fn full_and_command(line: &str) -> (bool, &str) {
     }
 }
 
-fn bytes_line(rest: &str) -> Line<'_> {
+fn bytes_line(rest: &str) -> ListLine<'_> {
     let (name, digits) = rest.split_once(' ').unwrap_or((rest, ""));
-    Line::Bytes { name, digits }
+    ListLine::Bytes { name, digits }
 }
 
-fn text_line(rest: &str) -> Line<'_> {
+fn text_line(rest: &str) -> ListLine<'_> {
     let (name, text) = rest.split_once(' ').unwrap_or((rest, ""));
-    Line::Text { name, text }
+    ListLine::Text { name, text }
 }

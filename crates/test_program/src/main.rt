@@ -14,7 +14,7 @@ ghost use Rattle.board.specs.Jobs.{ticket_of};
 mod list;
 mod shelf;
 
-use crate::list::{Line, full_and_command, only_and_command, read_line};
+use crate::list::{ListLine, full_and_command, only_and_command, read_line};
 use crate::shelf::Shelf;
 use board::JobBox;
 use commands::perform;
@@ -118,10 +118,10 @@ fn take_line<R: Threads + Wait + Sync + AllocGlobal, O: Write>(
     out: &mut O,
 ) -> io::Result<()> {
     match read_line(line) {
-        Line::Remark => writeln!(out, "{line}"),
-        Line::Bytes { name, digits } => shelf.keep_bytes(rt.alloc(), name, digits),
-        Line::Text { name, text } => shelf.keep_text(rt.alloc(), name, text),
-        Line::Command => show_command(rt, line, shelf, out),
+        ListLine::Remark => writeln!(out, "{line}"),
+        ListLine::Bytes { name, digits } => shelf.keep_bytes(rt.alloc(), name, digits),
+        ListLine::Text { name, text } => shelf.keep_text(rt.alloc(), name, text),
+        ListLine::Command => show_command(rt, line, shelf, out),
     }
 }
 

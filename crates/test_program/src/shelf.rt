@@ -1,6 +1,6 @@
 // The files that a list and its commands make.
 
-use commands::{ReadFault, Reader, Writer};
+use commands::{FileWriter, ReadFault, Reader};
 use std::alloc::{AllocError, Global};
 use std::cell::RefCell;
 use std::io::{self, ErrorKind};
@@ -121,7 +121,7 @@ impl Reader for Shelf {
 }
 
 /// Under `/nowhere/` no file can be made.
-impl Writer for Shelf {
+impl FileWriter for Shelf {
     ghost takes = { λ _ _ _. Unit {0} };
 
     fn write(&self, name: &str, bytes: &[u8]) -> io::Result<()> {

@@ -3,7 +3,7 @@
 ghost use Rattle.std.specs.Prelude.{◌≡◌};
 ghost use Rattle.std.specs.Thread.{IsSync};
 
-use crate::gates::Open;
+use crate::gates::OpenGate;
 use crate::hall::{End, LoopSide, Spares, WorkerSide, ticket};
 use crate::jobs::Jobs;
 use crate::scenes::{Scene, played};
@@ -124,7 +124,7 @@ fn early<R: Wait>(
     worker: &mut WorkerSide<'_>,
 ) -> (End, (bool, bool), bool) {
     let cancelled = cancel_twice(side);
-    (worker.turn(rt, &Open), cancelled, false)
+    (worker.turn(rt, &OpenGate), cancelled, false)
 }
 
 fn turn<R: Threads + Wait + Sync>(

@@ -4,7 +4,7 @@ ghost use Rattle.std.specs.Prelude.{◌≡◌};
 
 use crate::hall::{LoopSide, Spares, ticket};
 use crate::jobs::Jobs;
-use crate::scenes::{Scene, Watch, at_work, played};
+use crate::scenes::{Onlooker, Scene, at_work, played};
 use crate::showing::shows;
 use limits::MAX_REPLIES;
 use std::alloc::AllocError;
@@ -139,7 +139,7 @@ struct Collecting<'a> {
     most: usize,
 }
 
-impl Watch for Collecting<'_> {
+impl Onlooker for Collecting<'_> {
     type Seen = (u64, Times);
 
     fn watch<R: Wait>(&self, rt: &R, side: &mut LoopSide<'_>) -> (u64, Times) {

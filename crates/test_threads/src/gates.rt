@@ -7,9 +7,9 @@ use pool::{Gate, Point};
 use std::thread;
 
 /// A gate that holds nobody.
-pub struct Open;
+pub struct OpenGate;
 
-impl Gate for Open {
+impl Gate for OpenGate {
     fn at(&self, _point: Point, _ticket: Ticket) {}
 
     fn replies(&self, _reply: &Reply) {}

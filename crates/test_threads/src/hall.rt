@@ -7,12 +7,12 @@ ghost use Rattle.board.specs.Boards.{IsPassOf};
 ghost use Rattle.claims.specs.Views.{new_loop_view};
 
 use crate::gates::UntilClosed;
-use crate::hands::Hand;
+use crate::hands::BoardHand;
 use board::{Board, JobBox, Pass};
 use claims::{Claims, LoopSeat, NewClaims, Ticket, WorkerSeat};
 use limits::MAX_REQUESTS;
 use order::Reply;
-use pool::{Did, Gate, work_one, work_until_closed};
+use pool::{Gate, WorkerDid, work_one, work_until_closed};
 use std::alloc::{AllocError, Global};
 use std::sync::Wait;
 use std::test::Fail;
@@ -124,7 +124,7 @@ impl Hall {
             worker_seats,
         } = gear;
         let side = LoopSide {
-            hand: Hand {
+            hand: BoardHand {
                 board: &self.board,
                 pass: loop_pass,
             },
@@ -189,12 +189,12 @@ pub enum End {
     Stuck(u32),
 }
 
-fn end_of(did: Did) -> End {
+fn end_of(did: WorkerDid) -> End {
     match did {
-        Did::Nothing => End::Nothing,
-        Did::Dropped(ticket) => End::Dropped(ticket),
-        Did::Replied(ticket) => End::Replied(ticket),
-        Did::Stuck(reply) => End::Stuck(reply.order.request),
+        WorkerDid::Nothing => End::Nothing,
+        WorkerDid::Dropped(ticket) => End::Dropped(ticket),
+        WorkerDid::Replied(ticket) => End::Replied(ticket),
+        WorkerDid::Stuck(reply) => End::Stuck(reply.order.request),
     }
 }
 
@@ -251,7 +251,7 @@ impl<'a> WorkerSide<'a> {
 
 /// The loop's part of a hall. The loop opens its requests in the slots in turn, and pops the job that it posts. It keeps one that was refused.
 pub struct LoopSide<'a> {
-    hand: Hand<'a>,
+    hand: BoardHand<'a>,
     claims: &'a Claims,
     seat: LoopSeat,
     jobs: Vec<JobBox>,

@@ -8,20 +8,20 @@ use claims::Ticket;
 use order::Reply;
 use std::sync::Wait;
 
-pub struct Hand<'a> {
+pub struct BoardHand<'a> {
     pub board: &'a Board,
     pub pass: Pass,
     ghost own: { IsPassOf board.now pass },
     ghost loops: { 0 < length board.now.replies },
 }
 
-impl Drop for Hand<'_> {
+impl Drop for BoardHand<'_> {
     fn drop(self) {
-        let Hand { board: _, pass: _ } = self;
+        let BoardHand { board: _, pass: _ } = self;
     }
 }
 
-impl Hand<'_> {
+impl BoardHand<'_> {
     /// Posts a job. The one that comes back.
     pub fn offer<R: Wait>(&mut self, rt: &R, job: JobBox) -> Option<JobBox> {
         self.board.post(rt, &mut self.pass, job).err()
@@ -55,7 +55,7 @@ impl Hand<'_> {
 }
 
 /// With two of the board's passes.
-pub fn two_hands<'a>(board: &'a Board, passes: &mut Vec<Pass>) -> (Hand<'a>, Hand<'a>)
+pub fn two_hands<'a>(board: &'a Board, passes: &mut Vec<Pass>) -> (BoardHand<'a>, BoardHand<'a>)
     requires loops { 0 < length board.now.replies }
     requires count { 2 ≤ length passes.old.items }
     requires passes { All (IsNewPass board.now) passes.old.items }
@@ -65,5 +65,8 @@ pub fn two_hands<'a>(board: &'a Board, passes: &mut Vec<Pass>) -> (Hand<'a>, Han
     let (Some(one), Some(two)) = (passes.pop(), passes.pop()) else {
         unreachable!()
     };
-    (Hand { board, pass: one }, Hand { board, pass: two })
+    (
+        BoardHand { board, pass: one },
+        BoardHand { board, pass: two },
+    )
 }

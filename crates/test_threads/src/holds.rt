@@ -2,7 +2,7 @@
 
 use crate::hall::{LoopSide, Spares};
 use crate::jobs::Jobs;
-use crate::scenes::{Scene, Watch, at_work, played};
+use crate::scenes::{Onlooker, Scene, at_work, played};
 use crate::showing::shows;
 use std::sync::Wait;
 use std::test::Fail;
@@ -12,7 +12,7 @@ use std::thread::Threads;
 /// The request whose reply is collected first, in at most 1,000,000 turns; none is 0.
 struct FirstCollected;
 
-impl Watch for FirstCollected {
+impl Onlooker for FirstCollected {
     type Seen = u32;
 
     fn watch<R: Wait>(&self, rt: &R, side: &mut LoopSide<'_>) -> u32 {

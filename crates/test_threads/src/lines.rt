@@ -4,7 +4,7 @@ ghost use Rattle.std.specs.Prelude.{◌≡◌, ◌<◌};
 ghost use Rattle.std.specs.Thread.{IsSync};
 ghost use Rattle.limits.specs.declared.TheConstants.{MAX_LOOPS};
 
-use crate::hands::{Hand, two_hands};
+use crate::hands::{BoardHand, two_hands};
 use crate::jobs::Jobs;
 use crate::showing::shows;
 use board::{Board, JobBox};
@@ -47,7 +47,7 @@ impl Taken {
 type TakenOfBoth = [Taken; 2];
 
 /// Posts the jobs in their order. Whether all were taken.
-fn post_all<R: Wait>(rt: &R, hand: &mut Hand<'_>, jobs: Vec<JobBox>) -> bool {
+fn post_all<R: Wait>(rt: &R, hand: &mut BoardHand<'_>, jobs: Vec<JobBox>) -> bool {
     for job in jobs {
         if hand.post(rt, job).is_some() {
             return false;
@@ -57,7 +57,7 @@ fn post_all<R: Wait>(rt: &R, hand: &mut Hand<'_>, jobs: Vec<JobBox>) -> bool {
 }
 
 /// Takes until all jobs are taken, in at most 1,000,000 turns.
-fn take_all<R: Wait>(rt: &R, hand: &mut Hand<'_>, count: &AtomicU64) -> TakenOfBoth {
+fn take_all<R: Wait>(rt: &R, hand: &mut BoardHand<'_>, count: &AtomicU64) -> TakenOfBoth {
     let mut taken = [Taken::NOTHING; 2];
     for _ in 0..1_000_000 {
         if count.load(Ordering::SeqCst) == 2 * EACH as u64 {
@@ -84,7 +84,7 @@ fn note(taken: &mut TakenOfBoth, ticket: Ticket) {
 fn start_to_post<'s, R: Wait + Sync, E>(
     scope: &thread::Scope<'s, E>,
     rt: &'s R,
-    mut hand: Hand<'s>,
+    mut hand: BoardHand<'s>,
     jobs: Vec<JobBox>,
 ) -> Result<(), AllocError>
     requires { IsSync R.row }
@@ -96,8 +96,8 @@ fn start_to_post<'s, R: Wait + Sync, E>(
 /// Whether two threads take the jobs of each of two others in their order.
 fn post_and_take<R: Threads + Wait + Sync>(
     rt: &R,
-    posters: (Hand<'_>, Hand<'_>),
-    takers: (Hand<'_>, Hand<'_>),
+    posters: (BoardHand<'_>, BoardHand<'_>),
+    takers: (BoardHand<'_>, BoardHand<'_>),
     jobs: (Vec<JobBox>, Vec<JobBox>),
 ) -> Result<(bool, bool), AllocError> {
     let count = AtomicU64::new(0);

@@ -1,7 +1,7 @@
 // A board, by one thread: what comes out of it, and what comes back.
 
 use crate::hall::ticket;
-use crate::hands::{Hand, two_hands};
+use crate::hands::{BoardHand, two_hands};
 use crate::jobs::Jobs;
 use crate::showing::shows;
 use board::{Board, Pass};
@@ -15,8 +15,8 @@ use std::test::Fail;
 fn pass_on<R: Wait + Abort>(
     rt: &R,
     jobs: &Jobs,
-    poster: &mut Hand<'_>,
-    worker: &mut Hand<'_>,
+    poster: &mut BoardHand<'_>,
+    worker: &mut BoardHand<'_>,
 ) -> Result<(), AllocError> {
     shows(rt, worker.take(rt), None);
     shows(rt, poster.post(rt, jobs.job(ticket(1))?), None);
@@ -31,7 +31,7 @@ fn pass_on<R: Wait + Abort>(
 }
 
 /// So many jobs and replies are taken in, and the next of each comes back.
-fn fill<R: Wait + Abort>(rt: &R, jobs: &Jobs, hand: &mut Hand<'_>) -> Result<(), AllocError> {
+fn fill<R: Wait + Abort>(rt: &R, jobs: &Jobs, hand: &mut BoardHand<'_>) -> Result<(), AllocError> {
     for request in 0..MAX_JOBS as u32 {
         shows(rt, hand.post(rt, jobs.job(ticket(request))?), None);
     }

@@ -58,7 +58,7 @@ pub fn played<S: Scene, R: Threads + Wait + Sync>(
 }
 
 /// What a loop sees while its workers work.
-pub trait Watch {
+pub trait Onlooker {
     type Seen: Copy;
 
     fn watch<R: Wait>(&self, rt: &R, side: &mut LoopSide<'_>) -> Self::Seen;
@@ -97,7 +97,7 @@ fn start_all<'a: 's, 's, R: Wait + Sync, E>(
 }
 
 /// So many workers work in a thread each and hold this request, until what is to be seen was seen and the board is closed.
-pub fn at_work<W: Watch, R: Threads + Wait + Sync>(
+pub fn at_work<W: Onlooker, R: Threads + Wait + Sync>(
     rt: &R,
     watch: &W,
     side: &mut LoopSide<'_>,

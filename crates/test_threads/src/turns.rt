@@ -1,6 +1,6 @@
 // One worker's turns, with the loop's calls between them.
 
-use crate::gates::Open;
+use crate::gates::OpenGate;
 use crate::hall::{End, LoopSide, Spares, WorkerSide, ticket};
 use crate::jobs::Jobs;
 use crate::scenes::{Scene, played};
@@ -26,15 +26,15 @@ fn three_turns<R: Wait>(
     side: &mut LoopSide<'_>,
     worker: &mut WorkerSide<'_>,
 ) -> Result<Seen, Fail> {
-    let idle = worker.turn(rt, &Open);
+    let idle = worker.turn(rt, &OpenGate);
     side.open()?;
     let first_posted = side.post(rt);
-    let started = worker.turn(rt, &Open);
+    let started = worker.turn(rt, &OpenGate);
     let reply = side.collect(rt);
     let second = side.open()?;
     let cancelled = side.cancel(second);
     let second_posted = side.post(rt);
-    let dropped = worker.turn(rt, &Open);
+    let dropped = worker.turn(rt, &OpenGate);
     Ok(Seen {
         posted: (first_posted, second_posted),
         cancelled,
@@ -95,7 +95,7 @@ fn post_and_cancel<R: Wait>(rt: &R, side: &mut LoopSide<'_>, count: usize) -> Re
 /// Whether each of so many turns of the worker dropped a job.
 fn drops<R: Wait>(rt: &R, worker: &mut WorkerSide<'_>, turns: usize) -> bool {
     for _ in 0..turns {
-        if !matches!(worker.turn(rt, &Open), End::Dropped(_)) {
+        if !matches!(worker.turn(rt, &OpenGate), End::Dropped(_)) {
             return false;
         }
     }
@@ -129,7 +129,7 @@ fn full_board<R: Wait>(
         is_filled,
         posted: (at_first, then),
         dropped: (one_dropped, all_dropped),
-        last: worker.turn(rt, &Open),
+        last: worker.turn(rt, &OpenGate),
         calls: jobs.called(),
         owners: jobs.owners(),
     })

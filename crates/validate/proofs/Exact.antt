@@ -14,14 +14,14 @@ use Rattle.syntax.specs.declared.contents.Mutability.TheVariants.{Var}
 use Rattle.syntax.specs.Code.{Code, Done, Plain, Block, Loop, If}
 use Rattle.validate.specs.declared.fault.ValidFault.{ValidFault}
 use Rattle.validate.specs.declared.fault.ValidFault.TheVariants as fault
-use Rattle.validate.specs.Typing.{Context, InstrTyped, Typed, inside, block_type, HasFunctionType, type_of_function}
+use Rattle.validate.specs.Typing.{Context, InstrTyped, Typed, inside, type_of_block, HasFunctionType, type_of_function}
 use Rattle.validate.specs.Height.{shape_of, type_or_none, greatest_height}
 use Rattle.validate.specs.Rules.{Rule, Indexes, Labels, Alignments, Mutabilities, NamesAll, NamesLabels, IsAligned, SetsVariables, Keeps, KeepsType, Kept}
 use Rattle.validate.specs.Valid.{ValidFunc, ValidImport, ValidModule, body_context}
 use Rattle.validate.specs.Stack.{pushed}
 use Rattle.validate.specs.Refusals.{HasFew, IsNamed, IsTyped, KeptIn, IsLow, Refutes}
 use Rattle.validate.specs.Sites.{BreaksAt}
-use Rattle.validate.specs.declared.site.RefusedAt.{RefusedAt}
+use Rattle.validate.specs.declared.site.InvalidAt.{InvalidAt}
 use Rattle.validate.proofs.Refused.{refutes_at}
 use Rattle.std.specs.Prelude.{Result, Ok, Err, OnOk, IfErr, MatchOption}
 use Rattle.std.specs.Result.{result_err}
@@ -67,13 +67,13 @@ keeps Labels = names_labels
 keeps Alignments = is_aligned
 keeps Mutabilities = sets_variables
 
-keeps_type : (r : Rule) (c : Context) (b : BlockType) (t : FuncType) → block_type c.module_contents b ≡ Some t → KeepsType r c b
+keeps_type : (r : Rule) (c : Context) (b : BlockType) (t : FuncType) → type_of_block c.module_contents b ≡ Some t → KeepsType r c b
 keeps_type Indexes c b t e = rw e refl
 keeps_type Labels c b t e = tt
 keeps_type Alignments c b t e = tt
 keeps_type Mutabilities c b t e = tt
 
-shape_is : (c : Context) (b : BlockType) (t : FuncType) → block_type c.module_contents b ≡ Some t → t ≡ shape_of c.module_contents b
+shape_is : (c : Context) (b : BlockType) (t : FuncType) → type_of_block c.module_contents b ≡ Some t → t ≡ shape_of c.module_contents b
 shape_is c b t e = sym (ap type_or_none e)
 
 -- what is typed keeps each rule
@@ -145,12 +145,12 @@ refuted m fault.Height r = inr (λ v. r (λ i d lt. is_low m _ (v.functions i d 
 refuted m fault.Nesting r = inr (λ v. r (λ i d lt. (v.functions i d lt).nested))
 
 -- what is told of a module, or of one that is valid
-pub told_err : {X : Type 0} (m : Contents) (checked : Result X RefusedAt) → OnOk checked (ValidModule m) → IfErr checked (λ (r : RefusedAt). BreaksAt m r.fault r.site)
-    → MatchOption (result_err checked) (ValidModule m) (λ (r : RefusedAt). Refutes m r.fault)
+pub told_err : {X : Type 0} (m : Contents) (checked : Result X InvalidAt) → OnOk checked (ValidModule m) → IfErr checked (λ (r : InvalidAt). BreaksAt m r.fault r.site)
+    → MatchOption (result_err checked) (ValidModule m) (λ (r : InvalidAt). Refutes m r.fault)
 told_err m (Ok x) valid broken = valid
 told_err m (Err r) valid broken = refutes_at m r.fault r.site broken
 
-pub invalid_err : {X : Type 0} (m : Contents) (checked : Result X RefusedAt) → IfErr checked (λ (r : RefusedAt). BreaksAt m r.fault r.site)
-    → IfSome (result_err checked) (λ (r : RefusedAt). (r.fault ≡ fault.Memory) ⊎ (ValidModule m → ⊥))
+pub invalid_err : {X : Type 0} (m : Contents) (checked : Result X InvalidAt) → IfErr checked (λ (r : InvalidAt). BreaksAt m r.fault r.site)
+    → IfSome (result_err checked) (λ (r : InvalidAt). (r.fault ≡ fault.Memory) ⊎ (ValidModule m → ⊥))
 invalid_err m (Ok x) broken = tt
 invalid_err m (Err r) broken = refuted m r.fault (refutes_at m r.fault r.site broken)

@@ -6,7 +6,7 @@ use Rattle.validate.specs.declared.operands.Operand.{Operand}
 use Rattle.validate.specs.declared.operands.Operand.TheVariants.{Known}
 use Rattle.validate.specs.declared.operands.Enclosing.{Enclosing}
 use Rattle.validate.specs.Stack.{pushed}
-use Rattle.validate.specs.Inner.Operands.{Held, held_of, around, Matches, FitsList, Takes, with_left, TakesLeaves}
+use Rattle.validate.specs.Inner.Operands.{Held, held_of, held_around, Matches, FitsList, Takes, with_left, TakesLeaves}
 
 pub reverse-parts : (b : ℕ) (xs : List Operand) → reverse (drop b xs) ++ reverse (take b xs) ≡ reverse xs
 reverse-parts b xs = sym (reverse-append (take b xs) (drop b xs)) ∙ ap reverse (take-append-drop b xs)
@@ -32,7 +32,7 @@ reverse-take k xs le =
 pub left_for : (b : ℕ) (u : Bool) (xs : List Operand) (h : Held) (e : Enclosing)
     → held_of (reverse (drop b xs)) (reverse (take b xs)) u ≡ h
     → h.own ≡ [] → e.base ≤ length h.below
-    → held_of (reverse (drop e.base xs)) (reverse (take e.base xs)) e.unreachable ≡ around e h.below
+    → held_of (reverse (drop e.base xs)) (reverse (take e.base xs)) e.unreachable ≡ held_around e h.below
 left_for b u xs h e v none le =
     let all : reverse xs ≡ h.below =
     sym (reverse-parts b xs) ∙ ap (λ (k : Held). k.own ++ k.below) v ∙ ap (λ (o : List Operand). o ++ h.below) none in

@@ -11,12 +11,12 @@ use Rattle.validate.specs.declared.operands.Operand.{Operand}
 use Rattle.validate.specs.declared.operands.Operand.TheVariants.{Known}
 use Rattle.validate.specs.declared.frames.ControlFrame.{ControlFrame}
 use Rattle.validate.specs.declared.scope.Scope.{Scope}
-use Rattle.validate.specs.Typing.{Context, inside, block_type}
+use Rattle.validate.specs.Typing.{Context, inside, type_of_block}
 use Rattle.validate.specs.Height.{greatest_height, nesting, shape_of, type_or_none, effect_of, after_effect}
 use Rattle.validate.specs.Rules.{Rule, Kept}
 use Rattle.validate.specs.Inner.Frames.{label_of}
-use Rattle.validate.specs.Inner.Operands.{Held, held_of, around, with_left}
-use Rattle.validate.specs.Inner.Checking.{Checks, context_in, height_of}
+use Rattle.validate.specs.Inner.Operands.{Held, held_of, held_around, with_left}
+use Rattle.validate.specs.Inner.Checking.{Checks, context_in, height_in_all}
 use Rattle.validate.proofs.OperandTypes.{length-pushed}
 use Rattle.validate.proofs.Opens.{Open, open_of, shape_in, returned}
 use Rattle.validate.proofs.Remains.{IfKept, IfLow, IfNested, LowOpens}
@@ -101,9 +101,9 @@ pub low_plain : (scope : Scope) (f : ControlFrame) (fs : List ControlFrame) (h j
 low_plain scope f fs h j i code other os k l =
     let c = context_in scope (f ∷ fs) in
     let base : length h.below ≡ length j.below = ap (λ (os : List Operand). length os) (sym k.below) in
-    let next : greatest_height c (length h.below) (after_effect (length h.below) (height_of h) (effect_of c i)) code ≤ 256 =
-    max_second (height_of h) (greatest_height c (length h.below) (after_effect (length h.below) (height_of h) (effect_of c i)) code) l.0 in (
-      subst (λ (x : ℕ). greatest_height c x (height_of j) code ≤ 256) base
+    let next : greatest_height c (length h.below) (after_effect (length h.below) (height_in_all h) (effect_of c i)) code ≤ 256 =
+    max_second (height_in_all h) (greatest_height c (length h.below) (after_effect (length h.below) (height_in_all h) (effect_of c i)) code) l.0 in (
+      subst (λ (x : ℕ). greatest_height c x (height_in_all j) code ≤ 256) base
           (subst (λ (x : ℕ). greatest_height c (length h.below) x code ≤ 256) (sym k.height) next),
       subst (λ (x : ℕ). IfLow c (shape_in scope f) x other) base l.1,
       subst (λ (b : List Operand). LowOpens scope fs (returned scope f b) os) (sym k.below) l.2,
@@ -112,14 +112,14 @@ low_plain scope f fs h j i code other os k l =
 -- the second branch of an `if` begins
 pub low_other : (scope : Scope) (f : ControlFrame) (fs : List ControlFrame) (type : FuncType) (h mid : Held) (second : Code) (os : List Open)
     → shape_in scope f ≡ type → mid.below ≡ h.below
-    → (greatest_height (context_in scope (f ∷ fs)) (length h.below) (height_of h) Done ≤ 256)
+    → (greatest_height (context_in scope (f ∷ fs)) (length h.below) (height_in_all h) Done ≤ 256)
     × IfLow (context_in scope (f ∷ fs)) (shape_in scope f) (length h.below) (Some second)
     × LowOpens scope fs (returned scope f h.below) os
     → LowOpens scope (f ∷ fs) (with_left type.params (held_of [] mid.below false)) (open_of second None ∷ os)
 low_other scope f fs type h mid second os shape e l =
     let c = context_in scope (f ∷ fs) in
     let start = with_left type.params (held_of [] mid.below false) in
-    let high : length type.params + length mid.below ≡ height_of start = omega (arith, length-pushed (map Known type.params) [], length-map type.params Known) in
+    let high : length type.params + length mid.below ≡ height_in_all start = omega (arith, length-pushed (map Known type.params) [], length-map type.params Known) in
     let first : greatest_height c (length h.below) (length type.params + length h.below) second ≤ 256 =
     subst (λ (t : FuncType). greatest_height c (length h.below) (length t.params + length h.below) second ≤ 256) shape l.1 in
     let there : greatest_height c (length mid.below) (length type.params + length mid.below) second ≤ 256 =
@@ -141,22 +141,22 @@ low_begun scope f g fs type taken h mid body code first other os b p l =
     let below : mid.below ≡ h.below = b.takes.below in
     let shape : shape_in scope g ≡ type = ap type_or_none b.known in
     let back : returned scope g (mid.own ++ mid.below) ≡ with_left type.results mid =
-    ap (λ (t : FuncType). with_left t.results (around g.enclosing (mid.own ++ mid.below))) shape
+    ap (λ (t : FuncType). with_left t.results (held_around g.enclosing (mid.own ++ mid.below))) shape
     ∙ ap (with_left type.results) (around-begun g.enclosing mid b.enclosing) in
     let base : length mid.own + length mid.below ≡ length (mid.own ++ mid.below) = sym (length-append mid.own mid.below) in
-    let high : length mid.own + length mid.below + length type.params ≡ height_of (begun type mid) = omega (arith, height-begun type mid) in
-    let left : length mid.own + length mid.below + length type.results ≡ height_of (with_left type.results mid) =
+    let high : length mid.own + length mid.below + length type.params ≡ height_in_all (begun type mid) = omega (arith, height-begun type mid) in
+    let left : length mid.own + length mid.below + length type.results ≡ height_in_all (with_left type.results mid) =
     omega (arith, length-pushed (map Known type.results) mid.own, length-map type.results Known) in
-    let body_low : greatest_height d (length mid.own + length mid.below) (height_of (begun type mid)) body ≤ 256 =
+    let body_low : greatest_height d (length mid.own + length mid.below) (height_in_all (begun type mid)) body ≤ 256 =
     subst (λ (x : ℕ). greatest_height d (length mid.own + length mid.below) x body ≤ 256) high p.body in
-    let rest_low : greatest_height c (length h.below) (height_of (with_left type.results mid)) code ≤ 256 =
+    let rest_low : greatest_height c (length h.below) (height_in_all (with_left type.results mid)) code ≤ 256 =
     subst (λ (x : ℕ). greatest_height c (length h.below) x code ≤ 256) left p.rest in
     let behind : LowOpens scope (f ∷ fs) (with_left type.results mid) (open_of code other ∷ os) = (
-      subst (λ (os : List Operand). greatest_height c (length os) (height_of (with_left type.results mid)) code ≤ 256) (sym below) rest_low,
+      subst (λ (os : List Operand). greatest_height c (length os) (height_in_all (with_left type.results mid)) code ≤ 256) (sym below) rest_low,
       subst (λ (os : List Operand). IfLow c (shape_in scope f) (length os) other) (sym below) l.0,
       subst (λ (bs : List Operand). LowOpens scope fs (returned scope f bs) os) (sym below) l.1,
     ) in (
-      subst (λ (x : ℕ). greatest_height d x (height_of (begun type mid)) body ≤ 256) base body_low,
+      subst (λ (x : ℕ). greatest_height d x (height_in_all (begun type mid)) body ≤ 256) base body_low,
       subst (λ (x : ℕ). IfLow d (shape_in scope g) x first) base (subst (λ (t : FuncType). IfLow d t (length mid.own + length mid.below) first) (sym shape) p.first),
       subst (λ (k : Held). LowOpens scope (f ∷ fs) k (open_of code other ∷ os)) (sym back) behind,
     )
@@ -164,49 +164,49 @@ low_begun scope f g fs type taken h mid body code first other os b p l =
 -- the height in a block or a loop whose label takes these types, by what it takes and leaves
 low_inside : (scope : Scope) (f g : ControlFrame) (fs : List ControlFrame) (type : FuncType) (labels : List ValType) (h mid : Held) (body code : Code)
     → labels ≡ label_of scope.contents.now g → Begun scope f g fs type type.params h mid
-    → block_height (context_in scope (f ∷ fs)) labels type (length h.below) (height_of h) body code ≤ 256
+    → block_height (context_in scope (f ∷ fs)) labels type (length h.below) (height_in_all h) body code ≤ 256
     → LowParts scope f g fs type h mid body code None
 low_inside scope f g fs type labels h mid body code label b known =
     let c = context_in scope (f ∷ fs) in
     let at = length mid.own + length mid.below in
-    let inner : max (length h.below) (height_of h - length type.params) ≡ at = omega (arith, b.takes.height, ap (λ (os : List Operand). length os) b.takes.below) in
+    let inner : max (length h.below) (height_in_all h - length type.params) ≡ at = omega (arith, b.takes.height, ap (λ (os : List Operand). length os) b.takes.below) in
     let within = greatest_height (inside labels c) at (at + length type.params) body in
     let behind = greatest_height c (length h.below) (at + length type.results) code in
-    let all : max (height_of h) (max within behind) ≤ 256 =
-    subst (λ (n : ℕ). max (height_of h)
+    let all : max (height_in_all h) (max within behind) ≤ 256 =
+    subst (λ (n : ℕ). max (height_in_all h)
     (max (greatest_height (inside labels c) n (n + length type.params) body) (greatest_height c (length h.below) (n + length type.results) code))
     ≤ 256) inner known in
     record {
       body =
           subst (λ (ls : List ValType). greatest_height (inside ls c) at (at + length type.params) body ≤ 256) label
-          (second_of_three (height_of h) within behind all);
+          (second_of_three (height_in_all h) within behind all);
       first = tt;
-      rest = third_of_three (height_of h) within behind all;
+      rest = third_of_three (height_in_all h) within behind all;
     }
 
-named_shape : (scope : Scope) (g : ControlFrame) (type : FuncType) (named : BlockType) → g.block_type ≡ named → block_type scope.contents.now g.block_type ≡ Some type
+named_shape : (scope : Scope) (g : ControlFrame) (type : FuncType) (named : BlockType) → g.block_type ≡ named → type_of_block scope.contents.now g.block_type ≡ Some type
     → shape_of scope.contents.now named ≡ type
 named_shape scope g type named e known = subst (λ (t : BlockType). shape_of scope.contents.now t ≡ type) e (ap type_or_none known)
 
 pub low_block : (scope : Scope) (f g : ControlFrame) (fs : List ControlFrame) (type : FuncType) (named : BlockType) (h mid : Held) (body code : Code)
     → g.is_loop ≡ false → g.block_type ≡ named → Begun scope f g fs type type.params h mid
-    → greatest_height (context_in scope (f ∷ fs)) (length h.below) (height_of h) (Block named body code) ≤ 256
+    → greatest_height (context_in scope (f ∷ fs)) (length h.below) (height_in_all h) (Block named body code) ≤ 256
     → LowParts scope f g fs type h mid body code None
 low_block scope f g fs type named h mid body code plain e b l =
     let shape = named_shape scope g type named e b.known in
     let label : type.results ≡ label_of scope.contents.now g = ap (λ (t : FuncType). t.results) (sym shape) ∙ sym (label_results scope g named plain e) in
     low_inside scope f g fs type type.results h mid body code label b
-    (subst (λ (t : FuncType). block_height (context_in scope (f ∷ fs)) t.results t (length h.below) (height_of h) body code ≤ 256) shape l)
+    (subst (λ (t : FuncType). block_height (context_in scope (f ∷ fs)) t.results t (length h.below) (height_in_all h) body code ≤ 256) shape l)
 
 pub low_loop : (scope : Scope) (f g : ControlFrame) (fs : List ControlFrame) (type : FuncType) (named : BlockType) (h mid : Held) (body code : Code)
     → g.is_loop ≡ true → g.block_type ≡ named → Begun scope f g fs type type.params h mid
-    → greatest_height (context_in scope (f ∷ fs)) (length h.below) (height_of h) (Loop named body code) ≤ 256
+    → greatest_height (context_in scope (f ∷ fs)) (length h.below) (height_in_all h) (Loop named body code) ≤ 256
     → LowParts scope f g fs type h mid body code None
 low_loop scope f g fs type named h mid body code loops e b l =
     let shape = named_shape scope g type named e b.known in
     let label : type.params ≡ label_of scope.contents.now g = ap (λ (t : FuncType). t.params) (sym shape) ∙ sym (label_params scope g named loops e) in
     low_inside scope f g fs type type.params h mid body code label b
-    (subst (λ (t : FuncType). block_height (context_in scope (f ∷ fs)) t.params t (length h.below) (height_of h) body code ≤ 256) shape l)
+    (subst (λ (t : FuncType). block_height (context_in scope (f ∷ fs)) t.params t (length h.below) (height_in_all h) body code ≤ 256) shape l)
 
 -- the parts of the height of an `if` whose branches begin over this many operands
 abbrev if_over : Context → FuncType → ℕ → ℕ → ℕ → Code → Code → Code → ℕ
@@ -245,7 +245,7 @@ parts_of_if c type base height inner first second code l = record {
 
 pub low_if : (scope : Scope) (f g : ControlFrame) (fs : List ControlFrame) (type : FuncType) (named : BlockType) (h mid : Held) (first second code : Code)
     → g.is_loop ≡ false → g.block_type ≡ named → Begun scope f g fs type (type.params ++ I32 ∷ []) h mid
-    → greatest_height (context_in scope (f ∷ fs)) (length h.below) (height_of h) (If named first second code) ≤ 256
+    → greatest_height (context_in scope (f ∷ fs)) (length h.below) (height_in_all h) (If named first second code) ≤ 256
     → LowParts scope f g fs type h mid first code (Some second)
 low_if scope f g fs type named h mid first second code plain e b l =
     let c = context_in scope (f ∷ fs) in
@@ -253,13 +253,13 @@ low_if scope f g fs type named h mid first second code plain e b l =
     let over = length mid.own + length mid.below in
     let shape = named_shape scope g type named e b.known in
     let label : type.results ≡ label_of scope.contents.now g = ap (λ (t : FuncType). t.results) (sym shape) ∙ sym (label_results scope g named plain e) in
-    let inner : max (length h.below) (height_of h - (length type.params + 1)) ≡ length mid.own + length mid.below =
+    let inner : max (length h.below) (height_in_all h - (length type.params + 1)) ≡ length mid.own + length mid.below =
     omega (arith, b.takes.height, length_push type.params I32, ap (λ (os : List Operand). length os) b.takes.below) in
-    let known : if_height c type base (height_of h) first second code ≤ 256 =
-    subst (λ (t : FuncType). if_height c t base (height_of h) first second code ≤ 256) shape l in
+    let known : if_height c type base (height_in_all h) first second code ≤ 256 =
+    subst (λ (t : FuncType). if_height c t base (height_in_all h) first second code ≤ 256) shape l in
     let p : LowIf c type base over first second code =
-    parts_of_if c type base (height_of h) over first second code
-    (subst (λ (n : ℕ). if_over c type base (height_of h) n first second code ≤ 256) inner known) in
+    parts_of_if c type base (height_in_all h) over first second code
+    (subst (λ (n : ℕ). if_over c type base (height_in_all h) n first second code ≤ 256) inner known) in
     let other : greatest_height (inside (label_of scope.contents.now g) c) over (over + length type.params) second ≤ 256 =
     subst (λ (ls : List ValType). greatest_height (inside ls c) over (over + length type.params) second ≤ 256) label p.second in
     record {

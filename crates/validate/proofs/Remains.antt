@@ -10,8 +10,8 @@ use Rattle.validate.specs.Typing.{Context}
 use Rattle.validate.specs.Height.{greatest_height, nesting}
 use Rattle.validate.specs.Rules.{Rule, Kept}
 use Rattle.validate.specs.Inner.Operands.{Held}
-use Rattle.validate.specs.Inner.Checking.{context_in, height_of}
-use Rattle.validate.specs.Inner.Rejecting.{Obeys, IsOpening}
+use Rattle.validate.specs.Inner.Checking.{context_in, height_in_all}
+use Rattle.validate.specs.Inner.Rejecting.{Obeys, BeginsBlock}
 use Rattle.validate.proofs.Opens.{Open, open_of, flat_of, shape_in, returned}
 
 -- ---- the rules of what is named
@@ -33,10 +33,10 @@ IfLow c type base None = Unit {0}
 IfLow c type base (Some code) = greatest_height c base (length type.params + base) code ≤ 256
 
 abbrev pub LowOpens : Scope → List ControlFrame → Held → List Open → Type 0
-LowOpens scope [] h os = height_of h ≤ 256
-LowOpens scope (f ∷ fs) h [] = height_of h ≤ 256
+LowOpens scope [] h os = height_in_all h ≤ 256
+LowOpens scope (f ∷ fs) h [] = height_in_all h ≤ 256
 LowOpens scope (f ∷ fs) h (o ∷ os) =
-    (greatest_height (context_in scope (f ∷ fs)) (length h.below) (height_of h) o.code ≤ 256)
+    (greatest_height (context_in scope (f ∷ fs)) (length h.below) (height_in_all h) o.code ≤ 256)
     × IfLow (context_in scope (f ∷ fs)) (shape_in scope f) (length h.below) o.other
     × LowOpens scope fs (returned scope f h.below) os
 
@@ -61,12 +61,12 @@ reaches c base height (Block type body rest) = omega arith
 reaches c base height (Loop type body rest) = omega arith
 reaches c base height (If type first second rest) = omega arith
 
-pub now_low : (scope : Scope) (frames : List ControlFrame) (h : Held) (os : List Open) → LowOpens scope frames h os → height_of h ≤ 256
+pub now_low : (scope : Scope) (frames : List ControlFrame) (h : Held) (os : List Open) → LowOpens scope frames h os → height_in_all h ≤ 256
 now_low scope [] h os low = low
 now_low scope (f ∷ fs) h [] low = low
 now_low scope (f ∷ fs) h (o ∷ os) low =
-    let r : height_of h ≤ greatest_height (context_in scope (f ∷ fs)) (length h.below) (height_of h) o.code = reaches _ _ _ o.code in
-    let l : greatest_height (context_in scope (f ∷ fs)) (length h.below) (height_of h) o.code ≤ 256 = low.0 in
+    let r : height_in_all h ≤ greatest_height (context_in scope (f ∷ fs)) (length h.below) (height_in_all h) o.code = reaches _ _ _ o.code in
+    let l : greatest_height (context_in scope (f ∷ fs)) (length h.below) (height_in_all h) o.code ≤ 256 = low.0 in
     omega arith
 
 obeyed_first : (r : Rule) (c : Context) (o : Token) (rest : List Token) (code : Code) (other : Option Code) (os : List Open)
@@ -85,16 +85,16 @@ obeyed r scope [] o rest (x ∷ os) flat same k = absurd (omega arith)
 obeyed r scope (f ∷ fs) o rest (x ∷ os) flat same k = obeyed_first r (context_in scope (f ∷ fs)) o rest x.code x.other os flat k.0
 
 shallow_first : (depth : ℕ) (o : Token) (rest : List Token) (code : Code) (other : Option Code) (os : List Open)
-    → o ∷ rest ≡ flat_of (open_of code other ∷ os) → IsOpening o → nesting code + depth ≤ 256 → depth < 256
-shallow_first depth o rest Done None os flat opening n = let e : o ≡ op.End = cc in absurd (subst IsOpening e opening)
-shallow_first depth o rest Done (Some second) os flat opening n = let e : o ≡ op.Else = cc in absurd (subst IsOpening e opening)
-shallow_first depth o rest (Plain i code) other os flat opening n = let e : o ≡ op.Plain i = cc in absurd (subst IsOpening e opening)
+    → o ∷ rest ≡ flat_of (open_of code other ∷ os) → BeginsBlock o → nesting code + depth ≤ 256 → depth < 256
+shallow_first depth o rest Done None os flat opening n = let e : o ≡ op.End = cc in absurd (subst BeginsBlock e opening)
+shallow_first depth o rest Done (Some second) os flat opening n = let e : o ≡ op.Else = cc in absurd (subst BeginsBlock e opening)
+shallow_first depth o rest (Plain i code) other os flat opening n = let e : o ≡ op.Plain i = cc in absurd (subst BeginsBlock e opening)
 shallow_first depth o rest (Block type body code) other os flat opening n = omega arith
 shallow_first depth o rest (Loop type body code) other os flat opening n = omega arith
 shallow_first depth o rest (If type first second code) other os flat opening n = omega arith
 
 pub shallow_now : (frames : List ControlFrame) (o : Token) (rest : List Token) (opens : List Open)
-    → o ∷ rest ≡ flat_of opens → length frames ≡ length opens → IsOpening o → NestedOpens frames opens → length frames ≤ 256
+    → o ∷ rest ≡ flat_of opens → length frames ≡ length opens → BeginsBlock o → NestedOpens frames opens → length frames ≤ 256
 shallow_now frames o rest [] flat same opening n = absurd cc
 shallow_now [] o rest (x ∷ os) flat same opening n = omega arith
 shallow_now (f ∷ fs) o rest (x ∷ os) flat same opening n =

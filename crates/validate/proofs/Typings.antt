@@ -12,10 +12,10 @@ use Rattle.validate.specs.declared.operands.Operand.{Operand}
 use Rattle.validate.specs.declared.frames.ControlFrame.{ControlFrame}
 use Rattle.validate.specs.declared.scope.Scope.{Scope}
 use Rattle.validate.specs.Stack.{pushed}
-use Rattle.validate.specs.Typing.{Context, Typed, inside, block_type}
+use Rattle.validate.specs.Typing.{Context, Typed, inside, type_of_block}
 use Rattle.validate.specs.Height.{type_or_none}
 use Rattle.validate.specs.Inner.Frames.{label_of}
-use Rattle.validate.specs.Inner.Operands.{Held, held_of, around, with_left, Fits}
+use Rattle.validate.specs.Inner.Operands.{Held, held_of, held_around, with_left, Fits}
 use Rattle.validate.specs.Inner.Checking.{Checks, context_in}
 use Rattle.validate.specs.Inner.Rejecting.{MayFollow}
 use Rattle.validate.proofs.Items.{same_some}
@@ -135,7 +135,7 @@ typed_begun scope f g fs type taken h mid body code first other os b p l =
     let d = context_in scope (g ∷ f ∷ fs) in
     let shape : type ≡ shape_in scope g = sym (ap type_or_none b.known) in
     let back : returned scope g (mid.own ++ mid.below) ≡ with_left type.results mid =
-    ap (λ (t : FuncType). with_left t.results (around g.enclosing (mid.own ++ mid.below))) (sym shape)
+    ap (λ (t : FuncType). with_left t.results (held_around g.enclosing (mid.own ++ mid.below))) (sym shape)
     ∙ ap (with_left type.results) (around-begun g.enclosing mid b.enclosing) in
     let behind : TypedOpens scope (f ∷ fs) (with_left type.results mid) (open_of code other ∷ os) = (
       record { from = pushed type.results p.below; fits = fits_more mid.unreachable type.results mid.own p.below p.fits; typed = p.rest },
@@ -152,9 +152,9 @@ typed_begun scope f g fs type taken h mid body code first other os b p l =
     )
 
 named_type : (scope : Scope) (g : ControlFrame) (named : BlockType) (s type : FuncType) → g.block_type ≡ named
-    → block_type scope.contents.now named ≡ Some s → block_type scope.contents.now g.block_type ≡ Some type → s ≡ type
+    → type_of_block scope.contents.now named ≡ Some s → type_of_block scope.contents.now g.block_type ≡ Some type → s ≡ type
 named_type scope g named s type e p q =
-    same_some s type (block_type scope.contents.now named) p (subst (λ (t : BlockType). block_type scope.contents.now t ≡ Some type) e q)
+    same_some s type (type_of_block scope.contents.now named) p (subst (λ (t : BlockType). type_of_block scope.contents.now t ≡ Some type) e q)
 
 -- the parts of a block or a loop, by its type and by what it takes and leaves
 typed_inside : (scope : Scope) (f g : ControlFrame) (fs : List ControlFrame) (type named : FuncType) (h mid : Held) (body code : Code) (from below : List ValType)

@@ -8,7 +8,7 @@ use Rattle.syntax.specs.declared.instruction.Instr.TheVariants.{MemoryGrow}
 use Rattle.syntax.specs.declared.contents.Global.{Global}
 use Rattle.syntax.specs.declared.contents.Mutability.TheVariants.{Var}
 use Rattle.syntax.specs.Code.{Code, Done, Plain, Block, Loop, If}
-use Rattle.validate.specs.Typing.{Context, inside, block_type, bytes_of_type, bytes_of_width, type_of_function}
+use Rattle.validate.specs.Typing.{Context, inside, type_of_block, bytes_of_type, bytes_of_width, type_of_function}
 use Rattle.validate.specs.Height.{shape_of}
 
 -- each index of a type, function, table, memory, global or local names something
@@ -63,7 +63,7 @@ Keeps Mutabilities c i = SetsVariables c i
 
 -- the type of a block keeps the rule
 abbrev pub KeepsType : Rule → Context → BlockType → Type 0
-KeepsType Indexes c type = IsSome (block_type c.module_contents type)
+KeepsType Indexes c type = IsSome (type_of_block c.module_contents type)
 KeepsType Labels c type = Unit {0}
 KeepsType Alignments c type = Unit {0}
 KeepsType Mutabilities c type = Unit {0}

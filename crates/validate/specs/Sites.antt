@@ -11,8 +11,8 @@ use Rattle.validate.specs.declared.fault.BodyFault.TheVariants as body
 use Rattle.validate.specs.declared.fault.ValidFault.{ValidFault}
 use Rattle.validate.specs.declared.fault.ValidFault.TheVariants.{BadType, Index, Label, Align, Mutability, Result, Export, Start, Constant}
 use Rattle.validate.specs.declared.fault.ValidFault.TheVariants.{Height, Nesting, Memory}
-use Rattle.validate.specs.declared.site.Site.{Site}
-use Rattle.validate.specs.declared.site.Site.TheVariants as site
+use Rattle.validate.specs.declared.site.InvalidPart.{InvalidPart}
+use Rattle.validate.specs.declared.site.InvalidPart.TheVariants as site
 use Rattle.validate.specs.Faults.{fault_of}
 use Rattle.validate.specs.Typing.{type_of_function}
 use Rattle.validate.specs.Valid.{IsConstant, NamesExtern, DistinctNames}
@@ -70,7 +70,7 @@ BreaksNumbered m number e at =
     (f : Func) × (slice_get m.functions number ≡ Some f) × (b : BodyFault) × (e ≡ fault_of b) × BreaksFunc m f b at
 
 -- the rule of the fault is broken there; `Memory` says nothing
-abbrev pub BreaksAt : Contents → ValidFault → Site → Type 0
+abbrev pub BreaksAt : Contents → ValidFault → InvalidPart → Type 0
 BreaksAt m e (site.Section id) = BreaksSection m e id
 BreaksAt m e (site.Function number) = BreaksNumbered m number e None
 BreaksAt m e (site.Operation function number unfit) = BreaksNumbered m function e (Some number)

@@ -2,7 +2,7 @@
 
 ghost use Rattle.std.specs.Prelude.{◌≡◌, None};
 ghost use Rattle.validate.specs.declared.fault.ValidFault.TheVariants.{Memory};
-ghost use Rattle.validate.specs.declared.site.Site.TheVariants as site;
+ghost use Rattle.validate.specs.declared.site.InvalidPart.TheVariants as site;
 ghost use Rattle.validate.specs.Faults.{fault_of};
 ghost use Rattle.validate.specs.Inner.Placing.{site_in};
 
@@ -27,7 +27,7 @@ pub enum Unfit {
 
 /// The part of a module that is refused. Functions are counted from 0 among those that have a body.
 #[derive(Clone, Copy, Debug, PartialEq, Eq)]
-pub enum Site {
+pub enum InvalidPart {
     /// The section with this id.
     Section(u8),
     /// A function, for its type or its locals.
@@ -42,27 +42,27 @@ pub enum Site {
 
 /// Why a module is refused, and where.
 #[derive(Clone, Copy, Debug, PartialEq, Eq)]
-pub struct RefusedAt {
+pub struct InvalidAt {
     pub fault: ValidFault,
     /// Of `Memory` it says nothing.
-    pub site: Site,
+    pub site: InvalidPart,
 }
 
-impl From<RefusedAt> for ValidFault {
+impl From<InvalidAt> for ValidFault {
     ghost from_gives = { λ refused fault. fault ≡ refused.fault };
 
-    fn from(refused: RefusedAt) -> ValidFault {
+    fn from(refused: InvalidAt) -> ValidFault {
         refused.fault
     }
 }
 
-impl<T: Drop> From<AllocFailed<T>> for RefusedAt {
+impl<T: Drop> From<AllocFailed<T>> for InvalidAt {
     ghost from_gives = { λ _ refused. (refused.fault ≡ Memory) × (refused.site ≡ site.Section 10) };
 
-    fn from(_e: AllocFailed<T>) -> RefusedAt {
-        RefusedAt {
+    fn from(_e: AllocFailed<T>) -> InvalidAt {
+        InvalidAt {
             fault: ValidFault::Memory,
-            site: Site::Section(10),
+            site: InvalidPart::Section(10),
         }
     }
 }
@@ -77,19 +77,19 @@ pub struct BodyRefused {
 
 impl BodyRefused {
     /// This refusal, at the function with this number.
-    pub fn in_function(self, function: usize) -> RefusedAt
+    pub fn in_function(self, function: usize) -> InvalidAt
         ensures same { result.fault ≡ fault_of self.fault }
         ensures placed { result.site ≡ site_in function self }
     {
         let site = match self.operation {
-            Some(number) => Site::Operation {
+            Some(number) => InvalidPart::Operation {
                 function,
                 number,
                 unfit: self.unfit,
             },
-            None => Site::Function(function),
+            None => InvalidPart::Function(function),
         };
-        RefusedAt {
+        InvalidAt {
             fault: ValidFault::from(self.fault),
             site,
         }

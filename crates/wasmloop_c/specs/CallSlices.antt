@@ -1,9 +1,9 @@
 -- What a slice does to the call of the instance that its handle has.
 use Rattle.std.specs.Prelude.{◌≡◌, ◌⊎◌, ℕ, List, Option, Some, None, IsSomeAnd}
 use Rattle.syntax.specs.declared.types.Value.{Value}
-use Rattle.resident.specs.Calls.{Kept}
-use Rattle.resident.specs.Underway.{Called, HasCome, used_by}
-use Rattle.resident.specs.Slices.{Goes}
+use Rattle.resident.specs.Calls.{KeptInstance}
+use Rattle.resident.specs.Underway.{CallUnderway, HasCome, used_by}
+use Rattle.resident.specs.Slices.{CallGoesOn}
 use Rattle.resident.specs.declared.calling.Going.{Going}
 use Rattle.resident.specs.declared.calling.Going.TheVariants.{Over, Paused}
 use Rattle.wasmloop_c.specs.Calls.{OnHandle}
@@ -16,12 +16,12 @@ use Rattle.wasmloop_c.specs.declared.thing.Thing.{Thing}
 use Rattle.wasmloop_c.specs.declared.thing.Thing.TheVariants as thing
 
 -- the call under way that a thing is
-abbrev pub calling_of : Thing → Option Called
+abbrev pub calling_of : Thing → Option CallUnderway
 calling_of (thing.Calling call) = Some call
 calling_of _ = None
 
 -- a call of the function of this name, which takes these numbers, has begun, and nothing of it has run
-abbrev pub BeginsNamed : Kept → (name numbers : List ℕ) → CallLimits → Called → Type 0
+abbrev pub BeginsNamed : KeptInstance → (name numbers : List ℕ) → CallLimits → CallUnderway → Type 0
 BeginsNamed a name numbers limits c =
     (function : ℕ) × (args : List Value) × TakesNumbers a name numbers function args
     × HasCome a limits.depth limits.fuel function args c × (used_by c ≡ 0)
@@ -44,7 +44,7 @@ LeftByCall (Paused call) left over before told = (left ≡ thing.Calling call) �
 -- A call goes on for so many units. One that is over has ended as if it had been made at once; one that isn't has used them all, and some of
 -- its fuel is left. What is no call under way stays.
 abbrev pub RunsCall : (old new : Thing) → (units was over : ℕ) → (before told : CallEnded) → (status : ℕ) → Type 0
-RunsCall (thing.Calling call) new units was over before told status = (status ≡ OK) × ((going : Going) × Goes call units going × LeftByCall going new over before told)
+RunsCall (thing.Calling call) new units was over before told status = (status ≡ OK) × ((going : Going) × CallGoesOn call units going × LeftByCall going new over before told)
 RunsCall other new units was over before told status = (status ≡ KIND) × (new ≡ other) × (over ≡ was) × (told ≡ before)
 
 abbrev pub RunsHeldCall : (old new : Option Thing) → (units was over : ℕ) → (before told : CallEnded) → (status : ℕ) → Type 0

@@ -60,8 +60,8 @@ abbrev pub OnHeldLoop : (old new : Option Thing) → (status : ℕ) → (Same : 
 OnHeldLoop old new status Same Does = OnHandle old new status Same (λ t u. OnLoop t u status Same Does)
 
 -- a step, in numbers
-abbrev pub Steps : Core Desk → Core Desk → Did → Type 0
-Steps c d told = (t : StepDid) × LoopStep desk_calls c.setting c.loop t d.loop × (told ≡ did_of t (length d.loop.state.emits))
+abbrev pub StepsNumbered : Core Desk → Core Desk → Did → Type 0
+StepsNumbered c d told = (t : StepDid) × LoopStep desk_calls c.setting c.loop t d.loop × (told ≡ did_of t (length d.loop.state.emits))
 
 -- what only reads a loop
 abbrev pub ReadsLoop : (old : Thing) → (status : ℕ) → (Same : Type 0) → (Does : Core Desk → Type 0) → Type 0
@@ -93,14 +93,14 @@ abbrev pub Clocks : Core Desk → Core Desk → (ms now : ℕ) → Type 0
 Clocks c d ms now = (d.loop ≡ in_state c.loop (after_clock c.loop.state ms)) × (now ≡ d.loop.state.clock)
 
 -- a send from outside
-abbrev pub Sends : Core Desk → Core Desk → (async_no status : ℕ) → Type 0
-Sends c d async_no status = (sent : Bool) × SendsBeside desk_others c.loop async_no sent d.loop × (status ≡ (if sent then OK else USED_UP))
+abbrev pub SendsFromOutside : Core Desk → Core Desk → (async_no status : ℕ) → Type 0
+SendsFromOutside c d async_no status = (sent : Bool) × SendsBeside desk_others c.loop async_no sent d.loop × (status ≡ (if sent then OK else USED_UP))
 
-abbrev pub Cancels : Core Desk → Core Desk → (request : ℕ) → ℤ → Type 0
-Cancels c d request answer = CancelsLoop desk_calls c.loop request (cast_unsigned w32 answer) d.loop
+abbrev pub CancelsNumbered : Core Desk → Core Desk → (request : ℕ) → ℤ → Type 0
+CancelsNumbered c d request answer = CancelsLoop desk_calls c.loop request (cast_unsigned w32 answer) d.loop
 
-abbrev pub Requests : Core Desk → Core Desk → (op : ℕ) → (bytes : List ℕ) → ℤ → Type 0
-Requests c d op bytes answer = RequestsLoop desk_calls c.setting c.loop op bytes (cast_unsigned w32 answer) d.loop
+abbrev pub RequestsNumbered : Core Desk → Core Desk → (op : ℕ) → (bytes : List ℕ) → ℤ → Type 0
+RequestsNumbered c d op bytes answer = RequestsLoop desk_calls c.setting c.loop op bytes (cast_unsigned w32 answer) d.loop
 
 -- the module that a thing is
 abbrev pub module_of : Thing → Option Loaded
@@ -123,47 +123,47 @@ HandsOut c d (Some (thing.Asked order)) status = (status ≡ OK) × ((next_order
 HandsOut c d (Some _) status = ⊥
 
 -- a job that is run becomes a reply to the very order, with the units that its run used; what is no job stays
-abbrev pub Answers : Order → Thing → Type 0
-Answers order (thing.Answered told) = (told.reply.order ≡ order) × Uses (order_of order) (end_of told.reply.outcome) told.used
-Answers order _ = ⊥
+abbrev pub BecomesReply : Order → Thing → Type 0
+BecomesReply order (thing.Answered told) = (told.reply.order ≡ order) × Uses (order_of order) (end_of told.reply.outcome) told.used
+BecomesReply order _ = ⊥
 
-abbrev pub Runs : (old new : Thing) → (status : ℕ) → Type 0
-Runs (thing.Asked order) new status = (status ≡ OK) × Answers order new
-Runs other new status = (status ≡ KIND) × (new ≡ other)
+abbrev pub RunsToEnd : (old new : Thing) → (status : ℕ) → Type 0
+RunsToEnd (thing.Asked order) new status = (status ≡ OK) × BecomesReply order new
+RunsToEnd other new status = (status ≡ KIND) × (new ≡ other)
 
 -- a job's start, reported to its loop; a job of another loop is a stranger, and nothing changes
-abbrev pub Starts : Core Desk → Core Desk → (job : Thing) → (status : ℕ) → Type 0
-Starts c d (thing.Asked order) status =
+abbrev pub StartsOfLoop : Core Desk → Core Desk → (job : Thing) → (status : ℕ) → Type 0
+StartsOfLoop c d (thing.Asked order) status =
     ((order.loop_no ≢ c.setting.loop_no) × (status ≡ STRANGER) × (d ≡ c))
     ⊎ ((order.loop_no ≡ c.setting.loop_no)
     × ((started : Bool) × StartsBeside desk_others c.loop order.slot order.request started d.loop × (status ≡ (if started then OK else STRANGER))))
-Starts c d _ status = (status ≡ KIND) × (d ≡ c)
+StartsOfLoop c d _ status = (status ≡ KIND) × (d ≡ c)
 
 -- a reply that a loop is offered is taken, and the thing that is left is none; or it is left as it is
-abbrev pub Offers : Core Desk → Core Desk → (offered left : Thing) → (status : ℕ) → Type 0
-Offers c d (thing.Answered told) left status =
+abbrev pub OffersReply : Core Desk → Core Desk → (offered left : Thing) → (status : ℕ) → Type 0
+OffersReply c d (thing.Answered told) left status =
     ((status ≡ OK) × (left ≡ thing.Gone) × Accepts told.reply c.loop accepted.Accepted d.loop)
     ⊎ ((status ≡ STRANGER) × (left ≡ thing.Answered told) × Accepts told.reply c.loop (accepted.Stranger told.reply) d.loop)
-Offers c d offered left status = (status ≡ KIND) × (left ≡ offered) × (d ≡ c)
+OffersReply c d offered left status = (status ≡ KIND) × (left ≡ offered) × (d ≡ c)
 
 -- bytes that are loaded: a module of these very bytes, which is accepted; or why they are none
 abbrev pub Loads : (bytes : List ℕ) → Thing → Type 0
 Loads bytes (thing.Module m) = ((arc_value m).bytes ≡ bytes) × IsAccepted bytes (arc_value m).contents
 Loads bytes _ = ⊥
 
-abbrev pub Refuses : (bytes : List ℕ) → Fault → Type 0
-Refuses bytes fault = (refusal : Refusal) × IsRefused bytes refusal × (fault.stage ≡ stage_number refusal) × (fault.code ≡ code_number refusal)
+abbrev pub RefusesBytes : (bytes : List ℕ) → Fault → Type 0
+RefusesBytes bytes fault = (refusal : Refusal) × IsRefused bytes refusal × (fault.stage ≡ stage_number refusal) × (fault.code ≡ code_number refusal)
 
 -- a sentence on why these bytes are refused, as far as there is room, and its length
-abbrev pub Explains : (bytes old new : List ℕ) → (count : ℕ) → Type 0
-Explains bytes old new count =
+abbrev pub ExplainsRefusal : (bytes old new : List ℕ) → (count : ℕ) → Type 0
+ExplainsRefusal bytes old new count =
     ((refusal : Refusal) × IsRefused bytes refusal × (refusal ≢ Memory)) × ((text : List ℕ) × (new ≡ copied text old) × (count ≡ length text))
 
 -- what is reported of a job
-abbrev pub Tells : Thing → (old new : About) → (status : ℕ) → Type 0
-Tells (thing.Asked order) old new status = (status ≡ OK) × (new ≡ about_order order)
-Tells (thing.Answered told) old new status = (status ≡ OK) × (new ≡ about_told told)
-Tells other old new status = (status ≡ KIND) × (new ≡ old)
+abbrev pub TellsJob : Thing → (old new : About) → (status : ℕ) → Type 0
+TellsJob (thing.Asked order) old new status = (status ≡ OK) × (new ≡ about_order order)
+TellsJob (thing.Answered told) old new status = (status ≡ OK) × (new ≡ about_told told)
+TellsJob other old new status = (status ≡ KIND) × (new ≡ old)
 
 -- what is left in a job's handle
 abbrev pub left_in : Option Thing → Thing
@@ -172,7 +172,7 @@ left_in (Some t) = t
 
 -- a job that is offered to the loop that a handle has; where there is none the job stays
 abbrev pub OffersHeld : (old new job left : Option Thing) → (status : ℕ) → Type 0
-OffersHeld old new job left status = IfSome job (λ offered. OnHeldLoop old new status (left ≡ job) (λ c d. Offers c d offered (left_in left) status))
+OffersHeld old new job left status = IfSome job (λ offered. OnHeldLoop old new status (left ≡ job) (λ c d. OffersReply c d offered (left_in left) status))
 
 -- the order of a job that no loop asks for: its loop, request and slot are 0
 abbrev pub lone_order : Loaded → Task → (bytes : List ℕ) → WorkOrder

@@ -7,7 +7,7 @@ use Rattle.validate.specs.Typing.{HasFunctionType}
 use Rattle.instance.specs.Store.{bytes_at, memory_of, with_memory_instance}
 use Rattle.instance.specs.Reads.{WritesAt}
 use Rattle.events.specs.declared.ended.Ended.{Ended}
-use Rattle.resident.specs.Calls.{Kept, Calls, IsNew, Starts, HasReturned, ExportsFirst, ExportsNoFunction, ExportsGlobal, ExportsNoGlobal}
+use Rattle.resident.specs.Calls.{KeptInstance, CallsInstance, IsNew, StartsInstance, HasReturned, ExportsFirst, ExportsNoFunction, ExportsGlobal, ExportsNoGlobal}
 use Rattle.wasmloop_c.specs.Calls.{OnHandle}
 use Rattle.wasmloop_c.specs.Values.{values_of, call_numbers, value_numbers}
 use Rattle.wasmloop_c.specs.declared.ended.CallEnded.{CallEnded}
@@ -18,48 +18,48 @@ use Rattle.wasmloop_c.specs.declared.thing.Thing.{Thing}
 use Rattle.wasmloop_c.specs.declared.thing.Thing.TheVariants as thing
 
 -- the instance that a thing is
-abbrev pub resident_of : Thing → Option Kept
+abbrev pub resident_of : Thing → Option KeptInstance
 resident_of (thing.Resident resident) = Some resident
 resident_of _ = None
 
 -- a call on what a handle has: where that is no instance it stays, and the status says so, and `Same` holds
-abbrev pub OnResident : (old new : Thing) → (status : ℕ) → (Same : Type 0) → (Does : Kept → Kept → Type 0) → Type 0
+abbrev pub OnResident : (old new : Thing) → (status : ℕ) → (Same : Type 0) → (Does : KeptInstance → KeptInstance → Type 0) → Type 0
 OnResident old new status Same Does =
     MatchOption (resident_of old) ((status ≡ KIND) × (new ≡ old) × Same) (λ a. IsSomeAnd (resident_of new) (λ b. Does a b))
 
 -- a call on the instance that a handle has
-abbrev pub OnHeldResident : (old new : Option Thing) → (status : ℕ) → (Same : Type 0) → (Does : Kept → Kept → Type 0) → Type 0
+abbrev pub OnHeldResident : (old new : Option Thing) → (status : ℕ) → (Same : Type 0) → (Does : KeptInstance → KeptInstance → Type 0) → Type 0
 OnHeldResident old new status Same Does = OnHandle old new status Same (λ t u. OnResident t u status Same Does)
 
 -- a new instance whose start function, where there is one, ran so
-pub record Opens (m : Loaded) (limits : CallLimits) (told : CallEnded) (ended : Ended) (b : Kept) : Type 0 where
-  pub before : Kept
+pub record OpensInstance (m : Loaded) (limits : CallLimits) (told : CallEnded) (ended : Ended) (b : KeptInstance) : Type 0 where
+  pub before : KeptInstance
   pub new : IsNew m before
-  pub starts : Starts before limits.depth limits.fuel ended b
+  pub starts : StartsInstance before limits.depth limits.fuel ended b
   pub numbers : told ≡ call_numbers ended
 
 -- and returned
-abbrev pub OpensOver : Loaded → CallLimits → CallEnded → Kept → Type 0
-OpensOver m limits told b = (ended : Ended) × Opens m limits told ended b × HasReturned ended.ending
+abbrev pub OpensOver : Loaded → CallLimits → CallEnded → KeptInstance → Type 0
+OpensOver m limits told b = (ended : Ended) × OpensInstance m limits told ended b × HasReturned ended.ending
 
 -- or did not return
 abbrev pub OpensNone : Loaded → CallLimits → CallEnded → Type 0
-OpensNone m limits told = (ended : Ended) × (b : Kept) × Opens m limits told ended b × ¬ HasReturned ended.ending
+OpensNone m limits told = (ended : Ended) × (b : KeptInstance) × OpensInstance m limits told ended b × ¬ HasReturned ended.ending
 
 -- the function of this name takes these numbers, as these arguments
-pub record TakesNumbers (a : Kept) (name numbers : List ℕ) (function : ℕ) (args : List Value) : Type 0 where
+pub record TakesNumbers (a : KeptInstance) (name numbers : List ℕ) (function : ℕ) (args : List Value) : Type 0 where
   pub type : FuncType
   pub named : ExportsFirst a.loaded.contents name function
   pub typed : HasFunctionType a.loaded.contents function type
   pub given : values_of type.params numbers ≡ Some args
 
 -- the function of this name, which takes these numbers, is called
-abbrev pub CallsNamed : Kept → (name numbers : List ℕ) → CallLimits → Ended → Kept → Type 0
+abbrev pub CallsNamed : KeptInstance → (name numbers : List ℕ) → CallLimits → Ended → KeptInstance → Type 0
 CallsNamed a name numbers limits ended b =
-    (function : ℕ) × (args : List Value) × TakesNumbers a name numbers function args × Calls a limits.depth limits.fuel function args ended b
+    (function : ℕ) × (args : List Value) × TakesNumbers a name numbers function args × CallsInstance a limits.depth limits.fuel function args ended b
 
 -- the function of this name takes other numbers
-pub record TakesOthers (a : Kept) (name numbers : List ℕ) : Type 0 where
+pub record TakesOthers (a : KeptInstance) (name numbers : List ℕ) : Type 0 where
   pub function : ℕ
   pub type : FuncType
   pub named : ExportsFirst a.loaded.contents name function
@@ -67,27 +67,27 @@ pub record TakesOthers (a : Kept) (name numbers : List ℕ) : Type 0 where
   pub others : values_of type.params numbers ≡ None
 
 -- why there is no such call: no function of this name, or one that takes other numbers, or no memory
-abbrev pub IsNoCall : Kept → (name numbers : List ℕ) → (status : ℕ) → Type 0
+abbrev pub IsNoCall : KeptInstance → (name numbers : List ℕ) → (status : ℕ) → Type 0
 IsNoCall a name numbers status =
     ((status ≡ NONE) × ExportsNoFunction a.loaded.contents name)
     ⊎ ((status ≡ ARGUMENTS) × TakesOthers a name numbers)
     ⊎ (status ≡ MEMORY)
 
 -- A call by name. Where it is not made, nothing changes.
-abbrev pub CallsBy : Kept → (name numbers : List ℕ) → CallLimits → (old told : CallEnded) → (status : ℕ) → Kept → Type 0
+abbrev pub CallsBy : KeptInstance → (name numbers : List ℕ) → CallLimits → (old told : CallEnded) → (status : ℕ) → KeptInstance → Type 0
 CallsBy a name numbers limits old told status b =
     ((status ≡ OK) × ((ended : Ended) × CallsNamed a name numbers limits ended b × (told ≡ call_numbers ended)))
     ⊎ (IsNoCall a name numbers status × (b ≡ a) × (told ≡ old))
 
 -- bytes of its memory, as many as there is room for, where they are all there
-abbrev pub ReadsMemory : Kept → (at : ℕ) → (old new : List ℕ) → (status : ℕ) → Kept → Type 0
+abbrev pub ReadsMemory : KeptInstance → (at : ℕ) → (old new : List ℕ) → (status : ℕ) → KeptInstance → Type 0
 ReadsMemory a at old new status b =
     (b ≡ a)
     × (((status ≡ OK) × (bytes_at at (length old) a.store.memory ≡ Some new))
     ⊎ ((status ≡ RANGE) × (bytes_at at (length old) a.store.memory ≡ None) × (new ≡ old)))
 
 -- bytes that are written to its memory, where they all fit
-pub record WritesMemory (a : Kept) (at : ℕ) (bytes : List ℕ) (status : ℕ) (b : Kept) : Type 0 where
+pub record WritesMemory (a : KeptInstance) (at : ℕ) (bytes : List ℕ) (status : ℕ) (b : KeptInstance) : Type 0 where
   pub all : Bool
   pub answer : status ≡ (if all then OK else RANGE)
   pub written : WritesAt at bytes all (memory_of a.store) (memory_of b.store)
@@ -96,7 +96,7 @@ pub record WritesMemory (a : Kept) (at : ℕ) (bytes : List ℕ) (status : ℕ) 
   pub stop : b.stop ≡ a.stop
 
 -- the value of the global of this name, or there is none
-abbrev pub TellsGlobal : Kept → (name : List ℕ) → (old told : Number) → (status : ℕ) → Type 0
+abbrev pub TellsGlobal : KeptInstance → (name : List ℕ) → (old told : Number) → (status : ℕ) → Type 0
 TellsGlobal a name old told status =
     ((status ≡ OK) × ((value : Value) × ExportsGlobal a.loaded.contents name a.store.globals value × (told ≡ value_numbers value)))
     ⊎ ((status ≡ NONE) × ExportsNoGlobal a.loaded.contents name a.store.globals × (told ≡ old))

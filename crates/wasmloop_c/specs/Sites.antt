@@ -5,43 +5,43 @@ use Rattle.instance.specs.declared.stack.Site.{Site as Operation}
 use Rattle.instance.specs.Store.{Store}
 use Rattle.order.specs.Trails.{Innermost}
 use Rattle.phases.specs.State.{Setting}
-use Rattle.phases.specs.Stopping.{StopsAt}
+use Rattle.phases.specs.Stopping.{LoopStopsAt}
 use Rattle.desk.specs.Desk.{desk_calls}
 use Rattle.wasmloop_c.specs.Calls.{copied}
 use Rattle.wasmloop_c.specs.declared.status.TheConstants.{OK, NONE, KIND}
-use Rattle.wasmloop_c.specs.declared.stops.Place.{Place}
-use Rattle.wasmloop_c.specs.declared.stops.Place.TheVariants as place
+use Rattle.wasmloop_c.specs.declared.stops.StopPlace.{StopPlace}
+use Rattle.wasmloop_c.specs.declared.stops.StopPlace.TheVariants as place
 use Rattle.wasmloop_c.specs.declared.stops.Site.{Site}
 use Rattle.wasmloop_c.specs.declared.thing.Thing.{Thing}
 use Rattle.wasmloop_c.specs.declared.thing.Thing.TheVariants as thing
 
 -- an operation, as C reads it
-abbrev pub site_of : Operation → Site
-site_of s = record { function = s.function; operation = s.operation }
+abbrev pub site_numbers : Operation → Site
+site_numbers s = record { function = s.function; operation = s.operation }
 
 -- of a callback all calls are known
-abbrev pub whole : List Operation → Innermost
-whole sites = record { sites = sites; calls = length sites }
+abbrev pub whole_trail : List Operation → Innermost
+whole_trail sites = record { sites = sites; calls = length sites }
 
-abbrev pub told_of : Place → Innermost
-told_of (place.Callback stop) = whole stop
+abbrev pub told_of : StopPlace → Innermost
+told_of (place.Callback stop) = whole_trail stop
 told_of (place.Job trail) = trail.now
 
 -- where a callback of a loop of this setting stopped that left this store, and all the calls around it
 abbrev pub IsStopOf : Setting → Store → Option Innermost → Type 0
 IsStopOf g store None = Unit {0}
-IsStopOf g store (Some stop) = (stop.calls ≡ length stop.sites) × ∥ StopsAt desk_calls g store stop.sites ∥₁
+IsStopOf g store (Some stop) = (stop.calls ≡ length stop.sites) × ∥ LoopStopsAt desk_calls g store stop.sites ∥₁
 
 -- the sites are copied as far as there is room, and the count is how many calls were open
 abbrev pub TellsStop : Option Innermost → (old new : List Site) → (before count status : ℕ) → Type 0
 TellsStop None old new before count status = (status ≡ NONE) × (new ≡ old) × (count ≡ before)
-TellsStop (Some stop) old new before count status = (status ≡ OK) × (new ≡ copied (map site_of stop.sites) old) × (count ≡ stop.calls)
+TellsStop (Some stop) old new before count status = (status ≡ OK) × (new ≡ copied (map site_numbers stop.sites) old) × (count ≡ stop.calls)
 
 -- where a loop's last callback or an instance's last call stopped, all of it, or where a job did that was run, as far as that is kept
 abbrev pub ReadsStop : Thing → (old new : List Site) → (before count status : ℕ) → Type 0
 ReadsStop (thing.Loop held) old new before count status =
     (stop : Option Innermost) × IsStopOf held.core.value.setting held.core.value.loop.store stop × TellsStop stop old new before count status
 ReadsStop (thing.Answered told) old new before count status = TellsStop told.trail old new before count status
-ReadsStop (thing.Resident resident) old new before count status = TellsStop (option_map whole resident.stop) old new before count status
+ReadsStop (thing.Resident resident) old new before count status = TellsStop (option_map whole_trail resident.stop) old new before count status
 ReadsStop (thing.Asked order) old new before count status = TellsStop None old new before count status
 ReadsStop other old new before count status = (status ≡ KIND) × (new ≡ old) × (count ≡ before)

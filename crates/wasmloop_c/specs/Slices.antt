@@ -1,13 +1,13 @@
 -- What a slice does to the job that its handle has.
 use Rattle.std.specs.Prelude.{◌≡◌, ◌⊎◌, ℕ}
 use Rattle.order.specs.Orders.{order_of, end_of}
-use Rattle.order.specs.Slices.{Goes, IsOver, IsPaused}
+use Rattle.order.specs.Slices.{OrderGoesOn, OrderIsOver, OrderIsPaused}
 use Rattle.order.specs.Underway.{Underway}
 use Rattle.order.specs.Work.{NoMemory}
 use Rattle.order.specs.declared.order.Order.{Order}
 use Rattle.order.specs.declared.run.Told.{Told}
-use Rattle.order.specs.declared.running.Going.{Going}
-use Rattle.order.specs.declared.running.Going.TheVariants.{Over, Paused}
+use Rattle.order.specs.declared.running.OrderGoing.{OrderGoing}
+use Rattle.order.specs.declared.running.OrderGoing.TheVariants.{Over, Paused}
 use Rattle.wasmloop_c.specs.declared.status.TheConstants.{OK, KIND}
 use Rattle.wasmloop_c.specs.declared.thing.Thing.{Thing}
 use Rattle.wasmloop_c.specs.declared.thing.Thing.TheVariants as thing
@@ -17,24 +17,24 @@ abbrev pub unbegun : Order → Underway
 unbegun order = record { order = order_of order; used = 0 }
 
 -- there was no memory to begin it
-pub record IsRefused (order : Order) (told : Told) : Type 0 where
+pub record HadNoMemory (order : Order) (told : Told) : Type 0 where
   pub same : told.reply.order ≡ order
   pub memory : end_of told.reply.outcome ≡ NoMemory
   pub used : told.used ≡ 0
 
 -- the first slice of a job
-abbrev pub Begins : Order → (units : ℕ) → Going → Type 0
-Begins order units (Over told) = IsOver (order_of order) 0 units told ⊎ IsRefused order told
-Begins order units (Paused after) = IsPaused (order_of order) 0 units after
+abbrev pub BeginsJob : Order → (units : ℕ) → OrderGoing → Type 0
+BeginsJob order units (Over told) = OrderIsOver (order_of order) 0 units told ⊎ HadNoMemory order told
+BeginsJob order units (Paused after) = OrderIsPaused (order_of order) 0 units after
 
 -- what is left in a job's handle, and whether the job is over
-abbrev pub LeftBy : Going → Thing → (over : ℕ) → Type 0
+abbrev pub LeftBy : OrderGoing → Thing → (over : ℕ) → Type 0
 LeftBy (Over told) left over = (left ≡ thing.Answered told) × (over ≡ 1)
 LeftBy (Paused after) left over = (left ≡ thing.Running after) × (over ≡ 0)
 
 -- A job goes on for so many units: one that is over has its reply, as if it had run at once, and one that isn't has used them all, and
 -- some of its fuel is left. What is no job, or one that was run, stays.
 abbrev pub RunsFor : (old new : Thing) → (units before over status : ℕ) → Type 0
-RunsFor (thing.Asked order) new units before over status = (status ≡ OK) × ((going : Going) × Begins order units going × LeftBy going new over)
-RunsFor (thing.Running r) new units before over status = (status ≡ OK) × ((going : Going) × Goes r units going × LeftBy going new over)
+RunsFor (thing.Asked order) new units before over status = (status ≡ OK) × ((going : OrderGoing) × BeginsJob order units going × LeftBy going new over)
+RunsFor (thing.Running r) new units before over status = (status ≡ OK) × ((going : OrderGoing) × OrderGoesOn r units going × LeftBy going new over)
 RunsFor other new units before over status = (status ≡ KIND) × (new ≡ other) × (over ≡ before)

@@ -30,9 +30,9 @@ values_of [] (n ∷ numbers) = None
 values_of (t ∷ types) [] = None
 values_of (t ∷ types) (n ∷ numbers) = both (typed t n) (values_of types numbers)
 
-abbrev pub number_of : Value → ℕ
-number_of (I32 n) = n
-number_of (I64 n) = n
+abbrev pub number_of_value : Value → ℕ
+number_of_value (I32 n) = n
+number_of_value (I64 n) = n
 
 abbrev pub results_of : Ending → List Value
 results_of (Return values) = values
@@ -45,7 +45,7 @@ call_numbers e = record {
   trap = (ending_numbers e.ending).1;
   results = length (results_of e.ending);
   used = e.used;
-  result = copied (map number_of (results_of e.ending)) (replicate MAX_RESULTS 0);
+  result = copied (map number_of_value (results_of e.ending)) (replicate MAX_RESULTS 0);
 }
 
 -- a value, with the number of its type

@@ -2,7 +2,7 @@
 
 ghost use Rattle.std.specs.Prelude.{◌≡◌, map, slice_get, option_map, IfOk};
 ghost use Rattle.wasmloop_c.specs.Calls.{copied};
-ghost use Rattle.wasmloop_c.specs.Values.{typed, values_of, number_of, results_of, call_numbers};
+ghost use Rattle.wasmloop_c.specs.Values.{typed, values_of, number_of_value, results_of, call_numbers};
 
 use crate::did::numbers_of_ending;
 use events::ended::{Ended, Ending};
@@ -64,7 +64,7 @@ pub fn values(
 }
 
 fn number(value: Value) -> u64
-    ensures { result ≡ number_of value }
+    ensures { result ≡ number_of_value value }
 {
     match value {
         Value::I32(number) => number as u64,
@@ -73,13 +73,13 @@ fn number(value: Value) -> u64
 }
 
 fn number_at(values: &[Value], index: usize) -> Option<u64>
-    ensures { result ≡ option_map number_of (slice_get values.now index) }
+    ensures { result ≡ option_map number_of_value (slice_get values.now index) }
 {
     Some(number(*values.get(index)?))
 }
 
 fn copy_numbers(values: &[Value], into: &mut [u64])
-    ensures { into.new ≡ copied (map number_of values.now) into.old }
+    ensures { into.new ≡ copied (map number_of_value values.now) into.old }
 {
     for index in 0..into.len() {
         let Some(number) = number_at(values, index) else {

@@ -11,17 +11,17 @@ use std::alloc::Global;
 use std::marker::Model;
 
 /// An order that can be run, in any thread. To a contract it is the order.
-pub struct Job {
+pub struct RunnableOrder {
     order: Order,
 }
 
-impl Drop for Job {
+impl Drop for RunnableOrder {
     fn drop(self) {
-        let Job { order: _ } = self;
+        let RunnableOrder { order: _ } = self;
     }
 }
 
-impl Model for Job {
+impl Model for RunnableOrder {
     ghost use Rattle.std.specs.Prelude.{◌<◌};
     ghost use Rattle.std.specs.Coded.{codes};
     ghost use Rattle.limits.specs.declared.TheConstants.{MAX_REQUESTS};
@@ -39,14 +39,14 @@ impl Model for Job {
     ghost invariant = { λ j. CanRun (order_of j.order) × (j.order.slot < MAX_REQUESTS) };
 }
 
-impl Job {
+impl RunnableOrder {
     /// The order as a job.
-    pub fn new(order: Order) -> Job
+    pub fn new(order: Order) -> RunnableOrder
         requires runs { CanRun (order_of order) }
         requires slot { order.slot < MAX_REQUESTS }
         ensures { result ≡ order }
     {
-        Job { order }
+        RunnableOrder { order }
     }
 
     /// The order.
@@ -62,7 +62,7 @@ impl Job {
         ensures order { result.reply.order ≡ self }
         ensures used { Uses (order_of self) (end_of result.reply.outcome) result.used }
     {
-        let Job { order } = self;
+        let RunnableOrder { order } = self;
         order.run_told(alloc)
     }
 
@@ -71,7 +71,7 @@ impl Job {
         ensures begun { IfOk result (λ r. (r.order ≡ order_of self) × (r.used ≡ 0)) }
         ensures refused { IfErr result (λ reply. (reply.order ≡ self) × (end_of reply.outcome ≡ NoMemory)) }
     {
-        let Job { order } = self;
+        let RunnableOrder { order } = self;
         order.begin(alloc)
     }
 }

@@ -9,7 +9,7 @@ ghost use Rattle.order.specs.Runnable.{CanRun};
 ghost use Rattle.wasmloop_c.specs.Calls.{AnswersIn, AnswersWork, IsDepth, IsLoneJob, lone_order, module_of};
 
 use crate::handle::{Handle, on};
-use crate::job::Job;
+use crate::job::RunnableOrder;
 use crate::status::{KIND, MEMORY, NO_WORK, OK, RANGE};
 use crate::thing::Thing;
 use imports::{EntryPoint, Linked};
@@ -63,7 +63,7 @@ fn boxed(
     ensures { IfOk result (λ b. IsLoneJob (arc_value linked.now) task bytes.now b.value) }
 {
     let order = order_for(alloc, linked, task, bytes)?;
-    Ok(Box::new(alloc, Thing::Asked(Job::new(order)))?)
+    Ok(Box::new(alloc, Thing::Asked(RunnableOrder::new(order)))?)
 }
 
 fn put_job(

@@ -3,8 +3,8 @@
 ghost use Rattle.std.specs.Prelude.{◌≡◌, ◌≤◌, ◌<◌, ◌↔◌, ◌⊎◌, None, IfOk, IsSomeAnd};
 ghost use Rattle.std.specs.Arc.{arc_value};
 ghost use Rattle.limits.specs.declared.TheConstants.{MAX_ASYNCS, MAX_DEPTH};
-ghost use Rattle.wasmloop_c.specs.Calls.{AnswersIn, IsDepth, OnLoop, OnHeldLoop, ReadsLoop, ReadsHeldLoop, Steps, Clocks, Sends};
-ghost use Rattle.wasmloop_c.specs.Calls.{Cancels, Requests, IsNewLoop, CopiesEmits, loop_of, module_of, standing_of};
+ghost use Rattle.wasmloop_c.specs.Calls.{AnswersIn, IsDepth, OnLoop, OnHeldLoop, ReadsLoop, ReadsHeldLoop, StepsNumbered, Clocks, SendsFromOutside};
+ghost use Rattle.wasmloop_c.specs.Calls.{CancelsNumbered, RequestsNumbered, IsNewLoop, CopiesEmits, loop_of, module_of, standing_of};
 ghost use Rattle.wasmloop_c.specs.Numbers.{hint_number};
 ghost use Rattle.phases.specs.PhaseList.{hint_of};
 
@@ -112,7 +112,7 @@ pub extern "C" fn wasmloop_rt_loop(
 }
 
 fn step(thing: &mut Thing, did: &mut Did) -> u32
-    ensures { OnLoop thing.old thing.new result (did.new ≡ did.old) (λ c d. (result ≡ OK) × Steps c d did.new) }
+    ensures { OnLoop thing.old thing.new result (did.new ≡ did.old) (λ c d. (result ≡ OK) × StepsNumbered c d did.new) }
 {
     let Thing::Loop(held) = thing else {
         return KIND;
@@ -126,7 +126,7 @@ fn step(thing: &mut Thing, did: &mut Did) -> u32
 /// Takes one step of a loop.
 #[unsafe(no_mangle)]
 pub extern "C" fn wasmloop_rt_step(alloc: Global, handle: &mut Handle, did: &mut Did) -> u32
-    ensures { OnHeldLoop handle.old.raw.value handle.new.raw.value result (did.new ≡ did.old) (λ c d. (result ≡ OK) × Steps c d did.new) }
+    ensures { OnHeldLoop handle.old.raw.value handle.new.raw.value result (did.new ≡ did.old) (λ c d. (result ≡ OK) × StepsNumbered c d did.new) }
 {
     on!(handle, alloc, held => step(&mut held, did))
 }
@@ -158,7 +158,7 @@ pub extern "C" fn wasmloop_rt_emits(
 
 fn send(thing: &mut Thing, async_no: u32) -> u32
     requires { async_no < MAX_ASYNCS }
-    ensures { OnLoop thing.old thing.new result (Unit {0}) (λ c d. Sends c d async_no result) }
+    ensures { OnLoop thing.old thing.new result (Unit {0}) (λ c d. SendsFromOutside c d async_no result) }
 {
     let Thing::Loop(held) = thing else {
         return KIND;
@@ -173,7 +173,7 @@ fn send(thing: &mut Thing, async_no: u32) -> u32
 /// A send to an async from outside.
 #[unsafe(no_mangle)]
 pub extern "C" fn wasmloop_rt_async_send(alloc: Global, handle: &mut Handle, async_no: u32) -> u32
-    ensures sends { async_no < MAX_ASYNCS → OnHeldLoop handle.old.raw.value handle.new.raw.value result (Unit {0}) (λ c d. Sends c d async_no result) }
+    ensures sends { async_no < MAX_ASYNCS → OnHeldLoop handle.old.raw.value handle.new.raw.value result (Unit {0}) (λ c d. SendsFromOutside c d async_no result) }
     ensures range { MAX_ASYNCS ≤ async_no → (result ≡ RANGE) × (handle.new ≡ handle.old) }
 {
     if async_no as usize >= MAX_ASYNCS {
@@ -228,7 +228,7 @@ pub extern "C" fn wasmloop_rt_hint(alloc: Global, handle: &mut Handle, ms: &mut 
 }
 
 fn cancel(thing: &mut Thing, request: u32, answer: &mut i32) -> u32
-    ensures { OnLoop thing.old thing.new result (answer.new ≡ answer.old) (λ c d. (result ≡ OK) × Cancels c d request answer.new) }
+    ensures { OnLoop thing.old thing.new result (answer.new ≡ answer.old) (λ c d. (result ≡ OK) × CancelsNumbered c d request answer.new) }
 {
     let Thing::Loop(held) = thing else {
         return KIND;
@@ -245,13 +245,13 @@ pub extern "C" fn wasmloop_rt_cancel(
     request: u32,
     answer: &mut i32,
 ) -> u32
-    ensures { OnHeldLoop handle.old.raw.value handle.new.raw.value result (answer.new ≡ answer.old) (λ c d. (result ≡ OK) × Cancels c d request answer.new) }
+    ensures { OnHeldLoop handle.old.raw.value handle.new.raw.value result (answer.new ≡ answer.old) (λ c d. (result ≡ OK) × CancelsNumbered c d request answer.new) }
 {
     on!(handle, alloc, held => cancel(&mut held, request, answer))
 }
 
 fn request(thing: &mut Thing, op: u32, bytes: &[u8], answer: &mut i32) -> u32
-    ensures { OnLoop thing.old thing.new result (answer.new ≡ answer.old) (λ c d. (result ≡ OK) × Requests c d op bytes.now answer.new) }
+    ensures { OnLoop thing.old thing.new result (answer.new ≡ answer.old) (λ c d. (result ≡ OK) × RequestsNumbered c d op bytes.now answer.new) }
 {
     let Thing::Loop(held) = thing else {
         return KIND;
@@ -269,7 +269,7 @@ pub extern "C" fn wasmloop_rt_request(
     bytes: &[u8],
     answer: &mut i32,
 ) -> u32
-    ensures { OnHeldLoop handle.old.raw.value handle.new.raw.value result (answer.new ≡ answer.old) (λ c d. (result ≡ OK) × Requests c d op bytes.now answer.new) }
+    ensures { OnHeldLoop handle.old.raw.value handle.new.raw.value result (answer.new ≡ answer.old) (λ c d. (result ≡ OK) × RequestsNumbered c d op bytes.now answer.new) }
 {
     on!(handle, alloc, held => request(&mut held, op, bytes, answer))
 }

@@ -3,7 +3,7 @@
 ghost use Rattle.std.specs.Prelude.{◌≡◌, ◌↔◌, ◌⊎◌, Some, None, IfOk, IsNone, IsSome, IsSomeAnd};
 ghost use Rattle.std.specs.Arc.{arc_value};
 ghost use Rattle.loader.specs.Loading.{IsAccepted};
-ghost use Rattle.wasmloop_c.specs.Calls.{AnswersIn, Loads, Refuses, module_of};
+ghost use Rattle.wasmloop_c.specs.Calls.{AnswersIn, Loads, RefusesBytes, module_of};
 
 use crate::fault::Fault;
 use crate::handle::{Handle, on};
@@ -34,7 +34,7 @@ pub extern "C" fn wasmloop_rt_load(
     fault: &mut Fault,
 ) -> u32
     ensures loads { result ≡ OK → IsSomeAnd module.new.raw.value (Loads bytes.now) }
-    ensures refuses { result ≡ REFUSED → Refuses bytes.now fault.new }
+    ensures refuses { result ≡ REFUSED → RefusesBytes bytes.now fault.new }
     ensures full { (result ≡ KIND) ↔ IsSome module.old.raw.value }
     ensures known { (result ≡ OK) ⊎ (result ≡ REFUSED) ⊎ (result ≡ KIND) ⊎ (result ≡ MEMORY) }
     ensures kept { (result ≡ OK → ⊥) → module.new.raw.value ≡ module.old.raw.value }

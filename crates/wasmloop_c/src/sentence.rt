@@ -3,7 +3,7 @@
 ghost use Rattle.std.specs.Prelude.{◌≡◌, ◌⊎◌};
 ghost use Rattle.syntax.specs.declared.contents.Contents.{Contents};
 ghost use Rattle.loader.specs.Loading.{IsAccepted};
-ghost use Rattle.wasmloop_c.specs.Calls.{Explains};
+ghost use Rattle.wasmloop_c.specs.Calls.{ExplainsRefusal};
 
 use crate::copying::copy_bytes;
 use crate::status::{MEMORY, NONE, OK};
@@ -28,7 +28,7 @@ pub extern "C" fn wasmloop_rt_explain(
     count: &mut u64,
 ) -> u32
     ensures known { (result ≡ OK) ⊎ (result ≡ NONE) ⊎ (result ≡ MEMORY) }
-    ensures explains { result ≡ OK → Explains bytes.now into.old into.new count.new }
+    ensures explains { result ≡ OK → ExplainsRefusal bytes.now into.old into.new count.new }
     ensures accepted { result ≡ NONE → (contents : Contents) × IsAccepted bytes.now contents }
     ensures untold { (result ≡ OK → ⊥) → (into.new ≡ into.old) × (count.new ≡ count.old) }
 {

@@ -1,25 +1,25 @@
 // Jobs in slices.
 
 ghost use Rattle.std.specs.Prelude.{◌≡◌, ◌≤◌, ◌<◌};
-ghost use Rattle.order.specs.Slices.{Goes};
+ghost use Rattle.order.specs.Slices.{OrderGoesOn};
 ghost use Rattle.wasmloop_c.specs.Calls.{OnHandle};
-ghost use Rattle.wasmloop_c.specs.Slices.{Begins, LeftBy, RunsFor};
+ghost use Rattle.wasmloop_c.specs.Slices.{BeginsJob, LeftBy, RunsFor};
 
 use crate::handle::{Handle, through};
-use crate::job::Job;
+use crate::job::RunnableOrder;
 use crate::status::{KIND, OK, RANGE};
 use crate::thing::Thing;
-use order::{Going, Told};
+use order::{OrderGoing, Told};
 use std::alloc::Global;
 
 /// The first slice of a job.
-fn begin(alloc: Global, job: Job, units: u64) -> Going
+fn begin(alloc: Global, job: RunnableOrder, units: u64) -> OrderGoing
     requires { 1 ≤ units }
-    ensures { Begins job units result }
+    ensures { BeginsJob job units result }
 {
     match job.begin(alloc) {
         Ok(running) => running.go_on(units),
-        Err(reply) => Going::Over(Told {
+        Err(reply) => OrderGoing::Over(Told {
             reply,
             used: 0,
             trail: None,
@@ -28,12 +28,12 @@ fn begin(alloc: Global, job: Job, units: u64) -> Going
 }
 
 /// What a slice leaves of a job, and whether the job is over.
-fn left_by(going: Going) -> (Thing, u32)
+fn left_by(going: OrderGoing) -> (Thing, u32)
     ensures { LeftBy going result.0 result.1 }
 {
     match going {
-        Going::Over(told) => (Thing::Answered(told), 1),
-        Going::Paused(running) => (Thing::Running(running), 0),
+        OrderGoing::Over(told) => (Thing::Answered(told), 1),
+        OrderGoing::Paused(running) => (Thing::Running(running), 0),
     }
 }
 

@@ -2,7 +2,7 @@
 
 ghost use Rattle.std.specs.Prelude.{◌≡◌, length, map, slice_get, option_map};
 ghost use Rattle.wasmloop_c.specs.Calls.{ReadsHandle, copied};
-ghost use Rattle.wasmloop_c.specs.Sites.{site_of, told_of, whole, IsStopOf, TellsStop, ReadsStop};
+ghost use Rattle.wasmloop_c.specs.Sites.{site_numbers, told_of, whole_trail, IsStopOf, TellsStop, ReadsStop};
 
 use crate::handle::{Handle, on};
 use crate::status::{KIND, NONE, OK};
@@ -26,19 +26,19 @@ pub struct Site {
 
 /// Where a callback or a job stopped.
 #[derive(Drop)]
-pub enum Place<'a> {
+pub enum StopPlace<'a> {
     Callback(Stop<'a>),
     Job(&'a Trail),
 }
 
-impl<'a> Place<'a> {
+impl<'a> StopPlace<'a> {
     /// The operation at which it stopped (0), the call around it (1), and so on outwards, as far as they are known.
     fn get(&self, index: usize) -> Option<Site>
-        ensures { result ≡ option_map site_of (slice_get (told_of self.now).sites index) }
+        ensures { result ≡ option_map site_numbers (slice_get (told_of self.now).sites index) }
     {
         let site = match self {
-            Place::Callback(stop) => stop.get(index)?,
-            Place::Job(trail) => trail.get(index)?,
+            StopPlace::Callback(stop) => stop.get(index)?,
+            StopPlace::Job(trail) => trail.get(index)?,
         };
         Some(Site {
             function: site.function as u64,
@@ -51,15 +51,15 @@ impl<'a> Place<'a> {
         ensures { result ≡ (told_of self.now).calls }
     {
         match self {
-            Place::Callback(stop) => stop.len() as u64,
-            Place::Job(trail) => trail.calls() as u64,
+            StopPlace::Callback(stop) => stop.len() as u64,
+            StopPlace::Job(trail) => trail.calls() as u64,
         }
     }
 }
 
 /// Copies the sites as far as there is room.
-fn copy_sites(place: &Place<'_>, into: &mut [Site])
-    ensures { into.new ≡ copied (map site_of (told_of place.now).sites) into.old }
+fn copy_sites(place: &StopPlace<'_>, into: &mut [Site])
+    ensures { into.new ≡ copied (map site_numbers (told_of place.now).sites) into.old }
 {
     for index in 0..into.len() {
         let Some(site) = place.get(index) else {
@@ -69,7 +69,7 @@ fn copy_sites(place: &Place<'_>, into: &mut [Site])
     }
 }
 
-fn tell_place(place: Option<Place<'_>>, into: &mut [Site], count: &mut u64) -> u32
+fn tell_place(place: Option<StopPlace<'_>>, into: &mut [Site], count: &mut u64) -> u32
     ensures { TellsStop (option_map told_of place.entry) into.old into.new count.old count.new result }
 {
     let Some(place) = place else {
@@ -80,25 +80,25 @@ fn tell_place(place: Option<Place<'_>>, into: &mut [Site], count: &mut u64) -> u
     OK
 }
 
-fn place_of_loop(core: &LoopCore<Desk>) -> Option<Place<'_>>
+fn place_of_loop(core: &LoopCore<Desk>) -> Option<StopPlace<'_>>
     ensures { IsStopOf core.now.setting core.now.loop.store (option_map told_of result) }
 {
-    Some(Place::Callback(core.last_stop()?))
+    Some(StopPlace::Callback(core.last_stop()?))
 }
 
-fn place_of_job(told: &Told) -> Option<Place<'_>>
+fn place_of_job(told: &Told) -> Option<StopPlace<'_>>
     ensures { option_map told_of result ≡ told.now.trail }
 {
     match &told.trail {
-        Some(trail) => Some(Place::Job(trail)),
+        Some(trail) => Some(StopPlace::Job(trail)),
         None => None,
     }
 }
 
-fn place_of_call(resident: &Resident) -> Option<Place<'_>>
-    ensures { option_map told_of result ≡ option_map whole resident.now.stop }
+fn place_of_call(resident: &Resident) -> Option<StopPlace<'_>>
+    ensures { option_map told_of result ≡ option_map whole_trail resident.now.stop }
 {
-    Some(Place::Callback(resident.last_stop()?))
+    Some(StopPlace::Callback(resident.last_stop()?))
 }
 
 fn tell_stop(thing: &Thing, into: &mut [Site], count: &mut u64) -> u32

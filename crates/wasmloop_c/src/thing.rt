@@ -1,7 +1,7 @@
 // What a handle has.
 
 use crate::held::HeldLoop;
-use crate::job::Job;
+use crate::job::RunnableOrder;
 use imports::Linked;
 use order::{Running, Told};
 use resident::{Calling, Resident};
@@ -16,7 +16,7 @@ pub enum Thing {
     /// A loop.
     Loop(HeldLoop),
     /// What a loop asks for.
-    Asked(Job),
+    Asked(RunnableOrder),
     /// A job between two slices of its run.
     Running(Running),
     /// A job with the reply, what its run used and where it stopped.

@@ -1,12 +1,12 @@
 // Jobs: what a loop asks for, and in time the reply.
 
 ghost use Rattle.std.specs.Prelude.{◌≡◌, ◌≢◌, ◌⊎◌, [], None, IsNone, IsSomeAnd, IfSome, IfOk, IfErr};
-ghost use Rattle.wasmloop_c.specs.Calls.{OnHandle, OnLoop, OnHeldLoop, ReadsHandle, HandsOut, Runs, Starts, Offers, OffersHeld, Tells, left_in};
+ghost use Rattle.wasmloop_c.specs.Calls.{OnHandle, OnLoop, OnHeldLoop, ReadsHandle, HandsOut, RunsToEnd, StartsOfLoop, OffersReply, OffersHeld, TellsJob, left_in};
 ghost use Rattle.wasmloop_c.specs.declared.thing.Thing.TheVariants.{Gone};
 ghost use Rattle.wasmloop_c.specs.Numbers.{about_order, about_told, outcome_numbers};
 
 use crate::handle::{Handle, on, through};
-use crate::job::Job;
+use crate::job::RunnableOrder;
 use crate::status::{EMPTY, KIND, MEMORY, NONE, OK, STRANGER};
 use crate::thing::Thing;
 use desk::Desk;
@@ -100,7 +100,7 @@ fn hand_out(
     let Some(order) = core.next_order() else {
         return NONE;
     };
-    *room = Thing::Asked(Job::new(order));
+    *room = Thing::Asked(RunnableOrder::new(order));
     job.put(alloc, room);
     OK
 }
@@ -132,7 +132,7 @@ pub extern "C" fn wasmloop_rt_next_job(alloc: Global, handle: &mut Handle, job: 
 }
 
 fn run(alloc: Global, thing: Thing) -> (Thing, u32)
-    ensures { Runs thing result.0 result.1 }
+    ensures { RunsToEnd thing result.0 result.1 }
 {
     match thing {
         Thing::Asked(job) => (Thing::Answered(job.run(alloc)), OK),
@@ -143,13 +143,13 @@ fn run(alloc: Global, thing: Thing) -> (Thing, u32)
 /// Runs a job.
 #[unsafe(no_mangle)]
 pub extern "C" fn wasmloop_rt_job_run(alloc: Global, job: &mut Handle) -> u32
-    ensures { OnHandle job.old.raw.value job.new.raw.value result (Unit {0}) (λ t u. Runs t u result) }
+    ensures { OnHandle job.old.raw.value job.new.raw.value result (Unit {0}) (λ t u. RunsToEnd t u result) }
 {
     through!(job, alloc, thing => run(alloc, thing))
 }
 
 fn tell_about(thing: &Thing, about: &mut About) -> u32
-    ensures { Tells thing.now about.old about.new result }
+    ensures { TellsJob thing.now about.old about.new result }
 {
     match thing {
         Thing::Asked(job) => {
@@ -167,13 +167,13 @@ fn tell_about(thing: &Thing, about: &mut About) -> u32
 /// What a job is about.
 #[unsafe(no_mangle)]
 pub extern "C" fn wasmloop_rt_job_about(alloc: Global, job: &mut Handle, told: &mut About) -> u32
-    ensures { ReadsHandle job.old.raw.value job.new.raw.value result (told.new ≡ told.old) (λ t. Tells t told.old told.new result) }
+    ensures { ReadsHandle job.old.raw.value job.new.raw.value result (told.new ≡ told.old) (λ t. TellsJob t told.old told.new result) }
 {
     on!(job, alloc, held => tell_about(&held, told))
 }
 
 fn start(thing: &mut Thing, job: &Thing) -> u32
-    ensures { OnLoop thing.old thing.new result (Unit {0}) (λ c d. Starts c d job.now result) }
+    ensures { OnLoop thing.old thing.new result (Unit {0}) (λ c d. StartsOfLoop c d job.now result) }
 {
     let Thing::Loop(held) = thing else {
         return KIND;
@@ -197,7 +197,7 @@ fn start(thing: &mut Thing, job: &Thing) -> u32
 pub extern "C" fn wasmloop_rt_job_start(alloc: Global, handle: &mut Handle, job: &mut Handle) -> u32
     ensures job { job.new.raw.value ≡ job.old.raw.value }
     ensures empty { IsNone job.old.raw.value → (result ≡ EMPTY) × (handle.new.raw.value ≡ handle.old.raw.value) }
-    ensures starts { IfSome job.old.raw.value (λ asked. OnHeldLoop handle.old.raw.value handle.new.raw.value result (Unit {0}) (λ c d. Starts c d asked result)) }
+    ensures starts { IfSome job.old.raw.value (λ asked. OnHeldLoop handle.old.raw.value handle.new.raw.value result (Unit {0}) (λ c d. StartsOfLoop c d asked result)) }
 {
     let Some(asked) = job.take(alloc) else {
         return EMPTY;
@@ -213,7 +213,7 @@ pub extern "C" fn wasmloop_rt_job_start(alloc: Global, handle: &mut Handle, job:
 }
 
 fn accept(thing: &mut Thing, answered: Thing) -> (Thing, u32)
-    ensures offers { OnLoop thing.old thing.new result.1 (result.0 ≡ answered) (λ c d. Offers c d answered result.0 result.1) }
+    ensures offers { OnLoop thing.old thing.new result.1 (result.0 ≡ answered) (λ c d. OffersReply c d answered result.0 result.1) }
     ensures taken { result.1 ≡ OK → result.0 ≡ Gone }
 {
     let Thing::Loop(held) = thing else {

@@ -67,7 +67,7 @@ pub struct WorkRequest {
 
 /// Loops of a module and workers beside them.
 #[derive(Drop)]
-pub struct Service {
+pub struct ServeCommand {
     /// The file of the module.
     pub file: String,
     /// How many loops there are, 1 to `MAX_LOOPS`.
@@ -95,5 +95,5 @@ pub enum Command {
     /// Takes the steps of a script.
     Script { file: String },
     /// Runs loops of a module and workers in threads.
-    Serve(Service),
+    Serve(ServeCommand),
 }

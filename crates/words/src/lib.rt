@@ -11,7 +11,7 @@ mod number;
 mod parser;
 mod refused;
 
-pub use command::{Command, Invocation, Service, WorkInput, WorkOutput, WorkRequest};
+pub use command::{Command, Invocation, ServeCommand, WorkInput, WorkOutput, WorkRequest};
 pub use number::{decimal, small_decimal};
 pub use parser::parse;
 pub use refused::Refused;

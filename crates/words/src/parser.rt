@@ -3,7 +3,7 @@
 ghost use Rattle.std.specs.Prelude.{◌≤◌, IfOk, vec_len};
 ghost use Rattle.words.specs.Inputs.{spelled_count};
 
-use crate::command::{Command, Invocation, Service, WorkInput, WorkOutput, WorkRequest};
+use crate::command::{Command, Invocation, ServeCommand, WorkInput, WorkOutput, WorkRequest};
 use crate::grammar::{self, INPUT, OUTPUT, RAW, TRACE};
 use crate::number::{decimal, small_decimal};
 use crate::refused::Refused;
@@ -168,7 +168,7 @@ fn serve(alloc: Global, matches: &ArgMatches<'_>) -> Result<Command, Refused> {
     let fuel = fuel(alloc, matches)?;
     let depth = depth(alloc, matches)?;
     let work_fuel = option(alloc, matches, "work-fuel", 0, u64::MAX)?;
-    Ok(Command::Serve(Service {
+    Ok(Command::Serve(ServeCommand {
         file: text(alloc, matches, "file")?,
         loops,
         workers,

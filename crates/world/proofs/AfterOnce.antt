@@ -24,11 +24,11 @@ use Rattle.desk.specs.Desk.{Desk, desk_calls}
 use Rattle.world_log.specs.declared.step.Step.{Step}
 use Rattle.world_log.specs.declared.step.Step.TheVariants as step
 use Rattle.world_log.specs.declared.entry.LogEntry.{LogEntry}
-use Rattle.world.specs.World.{World, Worker, Idle, Taken, Started, Answer, UnlessFailed, PostsOrder, TakesJob, StartsJob, FinishesJob, CollectsFrom, StepsLoop}
+use Rattle.world.specs.World.{World, Worker, Idle, Taken, Started, Answer, UnlessFailed, PostsOrder, WorkerTakesJob, StartsJob, FinishesJob, CollectsFrom, StepsLoop}
 use Rattle.world.specs.World.{WorldStep, WorldRun, HasLoop, opening_world, opening_loop, entry_told, core}
 use Rattle.world.proofs.GuestsOfRuns.{step_calls, guest_calls}
 use Rattle.world.specs.Histories.{AreTold, HasHistory}
-use Rattle.world.specs.Laws.{is_after, IsCancelledInLog, IsOwn}
+use Rattle.world.specs.Laws.{is_after, IsCancelledInLog, IsOwnInRun}
 use Rattle.world.proofs.EndsAreLogged.{finished_after, given_end}
 use Rattle.world.proofs.Runs.{Keeps, Told, AllEnds, step_next, run_keeps}
 use Rattle.world.proofs.LogsTellHistories.{history_join, step_callback, tells_callback}
@@ -56,7 +56,7 @@ module _ (j r : ℕ) where
   order_silent w w' n g l (None, s) entry h = ap (is_after j r) h.0
   order_silent w w' n g l (Some o, s) entry h = ap (is_after j r) h.0
 
-  take_silent : (w w' : World) (n : ℕ) (state : Worker) (jobs : List WorkOrder) (entry : LogEntry) → TakesJob w n state jobs entry w' → Silent entry
+  take_silent : (w w' : World) (n : ℕ) (state : Worker) (jobs : List WorkOrder) (entry : LogEntry) → WorkerTakesJob w n state jobs entry w' → Silent entry
   take_silent w w' n Idle (o ∷ jobs) entry h = ap (is_after j r) h.0
   take_silent w w' n Idle [] entry h = ap (is_after j r) h.0
   take_silent w w' n (Taken o) jobs entry h = ap (is_after j r) h.0
@@ -173,7 +173,7 @@ module _ (settings : List Setting) (j : ℕ) where
       opening : IsOpening desk_calls here.setting before.start
       opening = subst (IsOpening desk_calls here.setting) (sym before.begins.1) (opening_is here.setting)
 
-      pub own_after : LoopOwn desk_calls → IsOwn settings log Made w j r entry w'
+      pub own_after : LoopOwn desk_calls → IsOwnInRun settings log Made w j r entry w'
       own_after law =
           let it = law here.setting before.start here.old here.new before.events here.did here.new.state.emits here.made opening before.history (here.steps, refl) r
           (sym (step_callback j r here.did here.new.state.emits here.made) ∙ ap (is_after j r) (sym here.told) ∙ is) in

@@ -36,7 +36,7 @@ use Rattle.world_log.specs.declared.outcome.FinishOutcome.TheVariants as finish
 use Rattle.world_log.specs.declared.outcome.CollectOutcome.TheVariants as collect
 use Rattle.world.proofs.GuestsOfRuns.{step_calls, guest_calls}
 use Rattle.world.specs.Laws.{is_of_job, is_begun, is_finished, IsCancelledInLog, AreInPlace}
-use Rattle.world.specs.World.{World, Worker, Idle, Taken, Started, Answer, Only, UnlessFailed, PostsOrder, TakesJob, StartsJob, FinishesJob, CollectsFrom}
+use Rattle.world.specs.World.{World, Worker, Idle, Taken, Started, Answer, Only, UnlessFailed, PostsOrder, WorkerTakesJob, StartsJob, FinishesJob, CollectsFrom}
 use Rattle.world.specs.World.{StepsLoop, WorldStep, WorldRun, HasLoop, opening_world, opening_loop, with_loop, with_worker_at, job_of, entry_told, core}
 use Rattle.world.proofs.AfterOnce.{some_of}
 use Rattle.world.proofs.EndsAreLogged.{set_at}
@@ -323,7 +323,7 @@ module _ (l r : ℕ) where
     posts_next n g x (None, st) at is own h = only (line.Post n post.Nothing) refl refl h
     posts_next n g x (Some o, st) at is own h = order_next n g x o st at is (own o refl) h
 
-    take_next : (n : ℕ) (state : Worker) (jobs : List WorkOrder) → w.jobs ≡ jobs → TakesJob w n state jobs entry w' → Next []
+    take_next : (n : ℕ) (state : Worker) (jobs : List WorkOrder) → w.jobs ≡ jobs → WorkerTakesJob w n state jobs entry w' → Next []
     take_next n Idle (o ∷ jobs) is h =
         let waits : AreOut s.out (o ∷ jobs) = subst (AreOut s.out) is s.jobs in
         let q = quiet _ h.0 refl refl in

@@ -15,7 +15,7 @@ use Rattle.world_log.specs.declared.entry.LogEntry.TheVariants as line
 use Rattle.world_log.specs.declared.outcome.CollectOutcome.{CollectOutcome}
 use Rattle.world_log.specs.declared.outcome.CollectOutcome.TheVariants as collect
 use Rattle.world.specs.Making.{answer_of}
-use Rattle.world.specs.World.{World, Worker, Answer, Collects, with_loop, with_replies}
+use Rattle.world.specs.World.{World, Worker, Answer, CollectsReplies, with_loop, with_replies}
 use Rattle.world.proofs.StepsAgree.{world_of, here, untouched, moved, failing, going_on}
 
 -- what stands at a place, as it reads
@@ -31,11 +31,11 @@ module _ (w : World) (ls : List (Core Desk)) (js : List WorkOrder) (hs : List Wo
   there : (replies : List Answer) → slice_get rs n ≡ Some replies → slice_get w.replies n ≡ Some replies
   there replies waits = ap (λ x. slice_get x.replies n) (sym is) ∙ waits
 
-  pub collect_failed : n < length rs → is_failed p.loop.state.status ≡ true → Collects w n (line.Failed n) (world_of (slice_set ls n p) js hs rs)
+  pub collect_failed : n < length rs → is_failed p.loop.state.status ≡ true → CollectsReplies w n (line.Failed n) (world_of (slice_set ls n p) js hs rs)
   collect_failed within f = (p.setting, p.loop, get_or rs n [], here w ls js hs rs is n p at, there _ (slice_get-get_or rs n [] within), failing w ls js hs rs is n p at _ f)
 
   pub collect_nothing : (rs' : List (List Answer)) → slice_get rs n ≡ Some [] → is_failed p.loop.state.status ≡ false → rs' ≡ slice_set rs n []
-      → Collects w n (line.Collect n collect.Nothing) (world_of (slice_set ls n p) js hs rs')
+      → CollectsReplies w n (line.Collect n collect.Nothing) (world_of (slice_set ls n p) js hs rs')
   collect_nothing rs' waits f after = (
     p.setting,
     p.loop,
@@ -52,7 +52,7 @@ module _ (w : World) (ls : List (Core Desk)) (js : List WorkOrder) (hs : List Wo
     left l core = ap (λ x. world_of (slice_set ls n q) js hs x) after ∙ ap (λ x. with_replies x n rest) (moved w ls js hs rs is n p at q e ∙ ap (with_loop w n p.setting) core)
 
     pub collect_taken : (fate : Accepted) (outcome : CollectOutcome) → Accepts reply p.loop fate q.loop → fate ≡ accept.Accepted → outcome ≡ collect.Request reply.order.request
-        → Collects w n (line.Collect n outcome) (world_of (slice_set ls n q) js hs rs')
+        → CollectsReplies w n (line.Collect n outcome) (world_of (slice_set ls n q) js hs rs')
     collect_taken fate outcome h is_taken told =
         let taken : Accepts reply p.loop accept.Accepted q.loop = subst (λ a. Accepts reply p.loop a q.loop) is_taken h in (
           p.setting,
@@ -64,7 +64,7 @@ module _ (w : World) (ls : List (Core Desk)) (js : List WorkOrder) (hs : List Wo
         )
 
     pub collect_stranger : (fate : Accepted) (other : Reply) (outcome : CollectOutcome) → Accepts reply p.loop fate q.loop → fate ≡ accept.Stranger other → outcome ≡ collect.Stranger
-        → Collects w n (line.Collect n outcome) (world_of (slice_set ls n q) js hs rs')
+        → CollectsReplies w n (line.Collect n outcome) (world_of (slice_set ls n q) js hs rs')
     collect_stranger fate other outcome h is_strange told =
         let strange : Accepts reply p.loop (accept.Stranger other) q.loop = subst (λ a. Accepts reply p.loop a q.loop) is_strange h in (
           p.setting,

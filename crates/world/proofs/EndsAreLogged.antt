@@ -13,7 +13,8 @@ use Rattle.phases.specs.declared.entry.Status.TheVariants.{Running, Over, Failed
 use Rattle.phases.specs.Guests.{GuestCall}
 use Rattle.phases.specs.Laws.{AreDue}
 use Rattle.phases.specs.Outside.{is_failed, next_order_of, next_in, handing, after_clock}
-use Rattle.phases.specs.Requests.{Stage, Open, HandedOut, Answered, Cancelled, Request, Requests, Completion, cancellation, has_number, request_of, in_stage, lowest_open, completion_of, end_completion}
+use Rattle.phases.specs.Requests.{Stage, Open, HandedOut, Answered, Cancelled, Request, Requests, Completion, cancellation, has_number, request_of, in_stage, lowest_open, completion_of}
+use Rattle.phases.specs.Requests.{end_completion}
 use Rattle.phases.specs.State.{Setting, State, Loop, Core}
 use Rattle.phases.specs.Step.{in_state}
 use Rattle.phases.proofs.CancelFates.{CancelFate, cancelled, stayed, fate_in}
@@ -28,7 +29,7 @@ use Rattle.world_log.specs.declared.outcome.StartOutcome.TheVariants as start
 use Rattle.world_log.specs.declared.outcome.FinishOutcome.TheVariants as finish
 use Rattle.world_log.specs.declared.outcome.CollectOutcome.TheVariants as collect
 use Rattle.world.specs.Laws.{WasFinished}
-use Rattle.world.specs.World.{World, Worker, Idle, Taken, Started, Answer, Only, UnlessFailed, PostsOrder, TakesJob, StartsJob, FinishesJob, CollectsFrom}
+use Rattle.world.specs.World.{World, Worker, Idle, Taken, Started, Answer, Only, UnlessFailed, PostsOrder, WorkerTakesJob, StartsJob, FinishesJob, CollectsFrom}
 use Rattle.world.specs.World.{StepsLoop, WorldStep, WorldRun, opening_world, opening_loop, core}
 
 later : (log : List LogEntry) (entry : LogEntry) (l request : ℕ) (end : WorkEnd) → WasFinished l request end log → WasFinished l request end (log ++ entry ∷ [])
@@ -178,7 +179,7 @@ module _ (w w' : World) (log : List LogEntry) (entry : LogEntry) (all : AreFinis
     replies = same_replies (ap (λ (x : World). x.replies) h.1);
   }
 
-  take_next : (n : ℕ) (state : Worker) (jobs : List WorkOrder) → TakesJob w n state jobs entry w' → Next
+  take_next : (n : ℕ) (state : Worker) (jobs : List WorkOrder) → WorkerTakesJob w n state jobs entry w' → Next
   take_next n Idle (o ∷ jobs) h = stays (ap (λ (x : World). x.loops) h.1) (ap (λ (x : World). x.replies) h.1)
   take_next n Idle [] h = only (line.Take n None) h
   take_next n (Taken o) jobs h = only (line.Take n None) h

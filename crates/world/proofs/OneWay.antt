@@ -31,7 +31,7 @@ use Rattle.world_log.specs.declared.outcome.CollectOutcome.TheVariants as collec
 use Rattle.world.proofs.GuestsOfRuns.{step_calls}
 use Rattle.world.specs.Histories.{EntryTells, AreTold, is_of_owner}
 use Rattle.world.specs.Laws.{is_of_job, is_post_of, is_taken, is_begun, is_dropped, is_finished, is_collected, GoesOnce, AreInPlace}
-use Rattle.world.specs.World.{World, Worker, Idle, Taken, Started, Answer, Only, UnlessFailed, PostsOrder, TakesJob, StartsJob, FinishesJob, CollectsFrom}
+use Rattle.world.specs.World.{World, Worker, Idle, Taken, Started, Answer, Only, UnlessFailed, PostsOrder, WorkerTakesJob, StartsJob, FinishesJob, CollectsFrom}
 use Rattle.world.specs.World.{StepsLoop, WorldStep, WorldRun, HasLoop, opening_world, job_of, entry_told, core}
 use Rattle.world.proofs.AfterOnce.{Opens, IsThere, opening_keeps, opening_is, some_of}
 use Rattle.world.proofs.Runs.{Keeps, step_next}
@@ -197,7 +197,7 @@ module _ (l r : ℕ) where
         → count_by is_started_worker w'.workers + cond (is_started_worker old) 1 0 ≡ count_by is_started_worker w.workers + cond (is_started_worker new) 1 0
     worker_started n old new at e = ap (λ hs. count_by is_started_worker hs + cond (is_started_worker old) 1 0) e ∙ set_counted is_started_worker w.workers n new old at
 
-    take_goes : (n : ℕ) (state : Worker) (jobs : List WorkOrder) (entry : LogEntry) → w.jobs ≡ jobs → slice_get w.workers n ≡ Some state → TakesJob w n state jobs entry w' → Goes w w' entry
+    take_goes : (n : ℕ) (state : Worker) (jobs : List WorkOrder) (entry : LogEntry) → w.jobs ≡ jobs → slice_get w.workers n ≡ Some state → WorkerTakesJob w n state jobs entry w' → Goes w w' entry
     take_goes n Idle (o ∷ jobs) entry is at h = as_told w w' entry _ h.0 (record {
       moves = record {
         jobs = (let old = ap (count_by is_order) is in let new = ap (λ (x : World). count_by is_order x.jobs) h.1 in let front = count_cons is_order o jobs in omega (arith, old, new, front));

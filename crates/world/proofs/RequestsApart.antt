@@ -10,7 +10,7 @@ use Rattle.phases.specs.Requests.{Stage, Open, HandedOut, Cancelled, Request, Re
 use Rattle.phases.proofs.CancelFates.{IsBeside, unmoved, tried, sent, took}
 use Rattle.tallies.proofs.Filtered.{find_first, first_passes}
 use Rattle.phases.proofs.OrdersHandedOnce.{UpTo, NoneOpen, up_to_push, none_push, up_to_staged, none_staged, none_after, up_to_filtered, none_filtered, found_up_to, found_open}
-use Rattle.desk.specs.Desk.{Desk, desk_calls, is_open, found_started, DeskCancels, DeskSends, DeskStarts, DeskGets}
+use Rattle.desk.specs.Desk.{Desk, desk_calls, is_open_request, found_started, DeskCancels, DeskSends, DeskStarts, DeskGets}
 
 -- what is one of a list's
 same_is : (s r k : ℕ) → s ≡ k → is_request (s, r) (k, r) ≡ true
@@ -20,14 +20,14 @@ new_times : (c x : ℕ × ℕ) (xs : List (ℕ × ℕ)) → is_request c x ≡ t
 new_times c x xs is = let it = times_hit c x xs is in omega (arith, it)
 
 -- what is open is neither cancelled nor started
-not_started : (d : Desk) (c : ℕ × ℕ) → true ≡ is_open d c → times c d.started ≡ 0
+not_started : (d : Desk) (c : ℕ × ℕ) → true ≡ is_open_request d c → times c d.started ≡ 0
 not_started d c h = by (is_pending d.view.opened d.view.cancelled c) (times c d.started == 0) refl h where
   by : (a b : Bool) → (times c d.started == 0) ≡ b → true ≡ (a && b) → times c d.started ≡ 0
   by true true is e = eqb-true (times c d.started) 0 is
   by true false is e = absurd (cc)
   by false b is e = absurd (cc)
 
-not_cancelled : (d : Desk) (c : ℕ × ℕ) → true ≡ is_open d c → times c d.view.cancelled ≡ 0
+not_cancelled : (d : Desk) (c : ℕ × ℕ) → true ≡ is_open_request d c → times c d.view.cancelled ≡ 0
 not_cancelled d c h = pending (is_pending d.view.opened d.view.cancelled c) (times c d.started == 0) refl h where
   pending_is : (a b e : Bool) → (times c d.view.cancelled == 0) ≡ e → (a && (b && e)) ≡ true → times c d.view.cancelled ≡ 0
   pending_is true true true is k = eqb-true (times c d.view.cancelled) 0 is

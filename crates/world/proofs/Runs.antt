@@ -31,7 +31,7 @@ use Rattle.world_log.specs.declared.entry.LogEntry.{LogEntry}
 use Rattle.world_log.specs.declared.entry.LogEntry.TheVariants as line
 use Rattle.world_log.specs.declared.outcome.PostOutcome.TheVariants as post
 use Rattle.world_log.specs.declared.outcome.CollectOutcome.TheVariants as collect
-use Rattle.world.specs.World.{World, Worker, Idle, Taken, Started, Answer, Only, UnlessFailed, StepsLoop, Posts, PostsOrder, TakesJob, StartsJob, FinishesJob}
+use Rattle.world.specs.World.{World, Worker, Idle, Taken, Started, Answer, Only, UnlessFailed, StepsLoop, PostsJob, PostsOrder, WorkerTakesJob, StartsJob, FinishesJob}
 use Rattle.world.specs.World.{CollectsFrom, WorldStep, WorldRun, entry_told, core}
 use Rattle.world.proofs.GuestsOfRuns.{step_calls, guest_calls}
 use Rattle.world.specs.Histories.{is_of_owner, EntryTells, AreTold}
@@ -219,14 +219,14 @@ module _ (Begins : Setting → Loop Desk → Type 0) (there : Bool) (j : ℕ) wh
           calls = refl;
         })
 
-    posts_next : (w' : World) (n : ℕ) (entry : LogEntry) → Posts w n entry w' → Next w' entry []
+    posts_next : (w' : World) (n : ℕ) (entry : LogEntry) → PostsJob w n entry w' → Next w' entry []
     posts_next w' n entry h =
         unless_next w' n h.1 entry _
         (λ k. either (length w.jobs == MAX_JOBS) _ _ (Next w' entry []) (only w' entry (line.Post n post.Full) refl)
         (order_next w' n h.0 h.1 (next_order_of h.1.state) entry h.2 refl) k)
         h.3
 
-    take_next : (w' : World) (n : ℕ) (state : Worker) (jobs : List WorkOrder) (entry : LogEntry) → TakesJob w n state jobs entry w' → Next w' entry []
+    take_next : (w' : World) (n : ℕ) (state : Worker) (jobs : List WorkOrder) (entry : LogEntry) → WorkerTakesJob w n state jobs entry w' → Next w' entry []
     take_next w' n Idle (o ∷ jobs) entry h = kept w' entry (ap (is_of_owner j) h.0) (ap (λ x. x.loops) h.1) (same_replies w' (ap (λ x. x.replies) h.1))
     take_next w' n Idle [] entry h = only w' entry _ refl h
     take_next w' n (Taken o) jobs entry h = only w' entry _ refl h

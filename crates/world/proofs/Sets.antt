@@ -8,15 +8,15 @@ use Rattle.order.specs.declared.order.Order.{Order}
 use Rattle.phases.specs.State.{Core}
 use Rattle.desk.specs.Desk.{Desk}
 use Rattle.world.specs.declared.worker.Worker.{Worker}
-use Rattle.world.specs.Making.{AreNumbered, IsJob, FitsLoops, WorldIsKept}
+use Rattle.world.specs.Making.{LoopsAreNumbered, IsJob, FitsLoops, WorldIsKept}
 
 -- a loop stands otherwise, under the same number
-numbered_set : (k : ℕ) (ls : List (Core Desk)) (n : ℕ) (p q : Core Desk) → slice_get ls n ≡ Some p → q.setting ≡ p.setting → AreNumbered k ls → AreNumbered k (slice_set ls n q)
+numbered_set : (k : ℕ) (ls : List (Core Desk)) (n : ℕ) (p q : Core Desk) → slice_get ls n ≡ Some p → q.setting ≡ p.setting → LoopsAreNumbered k ls → LoopsAreNumbered k (slice_set ls n q)
 numbered_set k [] n p q at e h = h
 numbered_set k (x ∷ xs) zero p q at e h = let same : x ≡ p = cc in (ap (λ g. g.loop_no) (e ∙ ap (λ y. y.setting) (sym same)) ∙ h.0, h.1)
 numbered_set k (x ∷ xs) (suc n) p q at e h = (h.0, numbered_set (k + 1) xs n p q at e h.1)
 
-pub numbered_at : (k : ℕ) (ls : List (Core Desk)) (n : ℕ) (p : Core Desk) → slice_get ls n ≡ Some p → AreNumbered k ls → p.setting.loop_no ≡ k + n
+pub numbered_at : (k : ℕ) (ls : List (Core Desk)) (n : ℕ) (p : Core Desk) → slice_get ls n ≡ Some p → LoopsAreNumbered k ls → p.setting.loop_no ≡ k + n
 numbered_at k [] n p at h = absurd (cc)
 numbered_at k (x ∷ xs) zero p at h = let same : x ≡ p = cc in ap (λ y. y.setting.loop_no) (sym same) ∙ h.0 ∙ omega arith
 numbered_at k (x ∷ xs) (suc n) p at h = numbered_at (k + 1) xs n p at h.1 ∙ omega arith

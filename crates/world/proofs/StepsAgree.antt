@@ -19,7 +19,7 @@ use Rattle.desk.specs.Desk.{Desk, desk_calls, desk_others}
 use Rattle.world_log.specs.declared.entry.LogEntry.{LogEntry}
 use Rattle.world_log.specs.declared.entry.LogEntry.TheVariants as line
 use Rattle.world_log.specs.declared.outcome.PostOutcome.TheVariants as post
-use Rattle.world.specs.World.{World, Worker, Answer, UnlessFailed, StepsLoop, Posts, PostsOrder, SendsTo, CancelsAt, ClocksAt, with_loop, entry_told, core}
+use Rattle.world.specs.World.{World, Worker, Answer, UnlessFailed, StepsLoop, PostsJob, PostsOrder, SendsTo, CancelsRequest, ClocksAt, with_loop, entry_told, core}
 
 pub read : {X : Type 0} (xs : List X) (n : ℕ) (x : X) → n < length xs → ((d : X) → x ≡ get_or xs n d) → slice_get xs n ≡ Some x
 read xs n x within is = slice_get-get_or xs n x within ∙ ap Some (sym (is x))
@@ -52,12 +52,12 @@ module _ (w : World) (ls : List (Core Desk)) (js : List WorkOrder) (hs : List Wo
   clocked ms clock q f e core told =
       (p.setting, p.loop, here, going_on _ _ _ f (ap (λ k. line.Clock n k) (told ∙ ap (λ l. l.state.clock) core), moved q e ∙ ap (with_loop w n p.setting) core))
 
-  pub cancel_failed : (request : ℕ) → is_failed p.loop.state.status ≡ true → CancelsAt w n request (line.Failed n) (world_of (slice_set ls n p) js hs rs)
+  pub cancel_failed : (request : ℕ) → is_failed p.loop.state.status ≡ true → CancelsRequest w n request (line.Failed n) (world_of (slice_set ls n p) js hs rs)
   cancel_failed request f = (p.setting, p.loop, p.loop, 0, here, failing _ f)
 
   pub cancels : (request answer : ℕ) (signed : ℤ) (q : Core Desk) → is_failed p.loop.state.status ≡ false → q.setting ≡ p.setting
       → CancelsLoop desk_calls p.loop request answer q.loop → signed ≡ cast_signed w32 answer
-      → CancelsAt w n request (line.Cancel n request signed) (world_of (slice_set ls n q) js hs rs)
+      → CancelsRequest w n request (line.Cancel n request signed) (world_of (slice_set ls n q) js hs rs)
   cancels request answer signed q f e h told = (p.setting, p.loop, q.loop, answer, here, going_on _ _ _ f (h.0, h.1, ap (line.Cancel n request) told, moved q e))
 
   pub sends : (a : ℕ) (ok : Bool) (q : Core Desk) → a < MAX_ASYNCS → q.setting ≡ p.setting → SendsBeside desk_others p.loop a ok q.loop
@@ -80,13 +80,13 @@ nothing_in Over s h = ap (with_requests s) (handed_none s.requests (lowest_open 
 
 module _ (w : World) (ls : List (Core Desk)) (js : List WorkOrder) (hs : List Worker) (rs : List (List Answer)) (is : world_of ls js hs rs ≡ w) (n : ℕ)
     (p : Core Desk) (at : slice_get ls n ≡ Some p) where
-  pub posts_failed : is_failed p.loop.state.status ≡ true → Posts w n (line.Failed n) (world_of (slice_set ls n p) js hs rs)
+  pub posts_failed : is_failed p.loop.state.status ≡ true → PostsJob w n (line.Failed n) (world_of (slice_set ls n p) js hs rs)
   posts_failed f = (p.setting, p.loop, here w ls js hs rs is n p at, failing w ls js hs rs is n p at _ f)
 
   jobs_are : w.jobs ≡ js
   jobs_are = ap (λ x. x.jobs) (sym is)
 
-  pub posts_full : is_failed p.loop.state.status ≡ false → length js ≡ MAX_JOBS → Posts w n (line.Post n post.Full) (world_of (slice_set ls n p) js hs rs)
+  pub posts_full : is_failed p.loop.state.status ≡ false → length js ≡ MAX_JOBS → PostsJob w n (line.Post n post.Full) (world_of (slice_set ls n p) js hs rs)
   posts_full f full = (
     p.setting,
     p.loop,
@@ -108,7 +108,7 @@ module _ (w : World) (ls : List (Core Desk)) (js : List WorkOrder) (hs : List Wo
 
   pub posts_nothing : (q : Core Desk) → is_failed p.loop.state.status ≡ false → length js ≢ MAX_JOBS → q.setting ≡ p.setting
       → None ≡ (next_order_of p.loop.state).0 → q.loop ≡ in_state p.loop (next_order_of p.loop.state).1
-      → Posts w n (line.Post n post.Nothing) (world_of (slice_set ls n q) js hs rs)
+      → PostsJob w n (line.Post n post.Nothing) (world_of (slice_set ls n q) js hs rs)
   posts_nothing q f few e none core =
       let same : q.loop ≡ p.loop = core ∙ ap (in_state p.loop) (nothing_in p.loop.state.status p.loop.state (sym none)) in (
         p.setting,
@@ -122,7 +122,7 @@ module _ (w : World) (ls : List (Core Desk)) (js : List WorkOrder) (hs : List Wo
 
   pub posts_order : (q : Core Desk) (o : WorkOrder) (js' : List WorkOrder) → is_failed p.loop.state.status ≡ false → length js ≢ MAX_JOBS
       → q.setting ≡ p.setting → Some o ≡ (next_order_of p.loop.state).0 → q.loop ≡ in_state p.loop (next_order_of p.loop.state).1
-      → js' ≡ js ++ o ∷ [] → Posts w n (line.Post n (post.Request o.request)) (world_of (slice_set ls n q) js' hs rs)
+      → js' ≡ js ++ o ∷ [] → PostsJob w n (line.Post n (post.Request o.request)) (world_of (slice_set ls n q) js' hs rs)
   posts_order q o js' f few e out core pushed = (
     p.setting,
     p.loop,

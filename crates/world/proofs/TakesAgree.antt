@@ -11,16 +11,16 @@ use Rattle.phases.specs.State.{Core}
 use Rattle.desk.specs.Desk.{Desk}
 use Rattle.world_log.specs.declared.entry.LogEntry.TheVariants as line
 use Rattle.world_log.specs.declared.outcome.JobId.{JobId}
-use Rattle.world.specs.World.{World, Worker, Answer, Idle, Taken, Started, WithWorker, TakesJob, job_of, with_worker_at}
+use Rattle.world.specs.World.{World, Worker, Answer, Idle, Taken, Started, WithWorker, WorkerTakesJob, job_of, with_worker_at}
 use Rattle.world.specs.declared.worker.Worker.{Worker as CodeWorker}
 use Rattle.world.specs.declared.worker.Worker.TheVariants as code
 use Rattle.world.specs.Making.{worker_of, IsJob, FitsLoops, WorldIsKept}
 use Rattle.world.proofs.StepsAgree.{world_of}
 
 taken_none : (w : World) (n : ℕ) (state : Worker) (w' : World) → slice_get w.workers n ≡ Some state → w' ≡ w → (state ≢ Idle) ⊎ (w.jobs ≡ [])
-    → WithWorker w n (λ h. TakesJob w n h w.jobs (line.Take n None) w')
+    → WithWorker w n (λ h. WorkerTakesJob w n h w.jobs (line.Take n None) w')
 taken_none w n state w' at same why = (state, at, by state w.jobs why) where
-  by : (state : Worker) (jobs : List WorkOrder) → (state ≢ Idle) ⊎ (jobs ≡ []) → TakesJob w n state jobs (line.Take n None) w'
+  by : (state : Worker) (jobs : List WorkOrder) → (state ≢ Idle) ⊎ (jobs ≡ []) → WorkerTakesJob w n state jobs (line.Take n None) w'
   by Idle [] why = (refl, same)
   by Idle (o ∷ jobs) (inl no_worker) = absurd (no_worker refl)
   by Idle (o ∷ jobs) (inr none) = absurd (cc)
@@ -28,8 +28,8 @@ taken_none w n state w' at same why = (state, at, by state w.jobs why) where
   by (Started o) jobs why = (refl, same)
 
 taken_one : (w : World) (n : ℕ) (o : WorkOrder) (rest : List WorkOrder) (w' : World) → slice_get w.workers n ≡ Some Idle → w.jobs ≡ o ∷ rest → w' ≡ record (with_worker_at w n (Taken o)) { jobs = rest }
-    → WithWorker w n (λ h. TakesJob w n h w.jobs (line.Take n (Some (job_of o))) w')
-taken_one w n o rest w' at front after = (Idle, at, subst (λ js. TakesJob w n Idle js (line.Take n (Some (job_of o))) w') (sym front) (refl, after))
+    → WithWorker w n (λ h. WorkerTakesJob w n h w.jobs (line.Take n (Some (job_of o))) w')
+taken_one w n o rest w' at front after = (Idle, at, subst (λ js. WorkerTakesJob w n Idle js (line.Take n (Some (job_of o))) w') (sym front) (refl, after))
 
 not_empty : (h : CodeWorker) → h ≢ code.Idle → worker_of h ≢ Idle
 not_empty code.Idle other same = other refl
@@ -51,19 +51,19 @@ module _ (w : World) (ls : List (Core Desk)) (js : List Order) (hs : List CodeWo
   jobs_are : w.jobs ≡ map order_of js
   jobs_are = ap (λ x. x.jobs) (sym is)
 
-  pub takes_busy : h ≢ code.Idle → WithWorker w n (λ x. TakesJob w n x w.jobs (line.Take n None) (world_of ls (map order_of js) (map worker_of (slice_set hs n h)) rs))
+  pub takes_busy : h ≢ code.Idle → WithWorker w n (λ x. WorkerTakesJob w n x w.jobs (line.Take n None) (world_of ls (map order_of js) (map worker_of (slice_set hs n h)) rs))
   takes_busy other = taken_none w n (worker_of h) _ there back (inl (not_empty h other))
 
   pub takes_nothing : (js' : List Order) → length js ≡ 0 → js ≡ js'
-      → WithWorker w n (λ x. TakesJob w n x w.jobs (line.Take n None) (world_of ls (map order_of js') (map worker_of (slice_set hs n h)) rs))
+      → WithWorker w n (λ x. WorkerTakesJob w n x w.jobs (line.Take n None) (world_of ls (map order_of js') (map worker_of (slice_set hs n h)) rs))
   takes_nothing js' none same =
       taken_none w n (worker_of h) _ there (ap (λ x. world_of ls (map order_of x) (map worker_of (slice_set hs n h)) rs) (sym same) ∙ back) (inr (jobs_are ∙ ap (map order_of) (none_there js none)))
 
   pub takes_one : (o : Order) (js' : List Order) (job : JobId) → h ≡ code.Idle → js ≡ o ∷ js' → job ≡ job_of (order_of o)
-      → WithWorker w n (λ x. TakesJob w n x w.jobs (line.Take n (Some job)) (world_of ls (map order_of js') (map worker_of (slice_set hs n (code.Taken o))) rs))
+      → WithWorker w n (λ x. WorkerTakesJob w n x w.jobs (line.Take n (Some job)) (world_of ls (map order_of js') (map worker_of (slice_set hs n (code.Taken o))) rs))
   takes_one o js' job empty front told =
       let w' = world_of ls (map order_of js') (map worker_of (slice_set hs n (code.Taken o))) rs in
-      subst (λ k. WithWorker w n (λ x. TakesJob w n x w.jobs (line.Take n (Some k)) w')) (sym told)
+      subst (λ k. WithWorker w n (λ x. WorkerTakesJob w n x w.jobs (line.Take n (Some k)) w')) (sym told)
       (taken_one w n (order_of o) (map order_of js') w' (there ∙ ap (λ x. Some (worker_of x)) empty) (jobs_are ∙ ap (map order_of) front)
       (ap (λ x. world_of ls (map order_of js') x rs) (map-set worker_of hs n (code.Taken o)) ∙ ap (λ (x : World). record (with_worker_at x n (Taken (order_of o))) { jobs = map order_of js' }) is))
 

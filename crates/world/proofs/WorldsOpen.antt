@@ -16,7 +16,7 @@ use Rattle.desk.specs.Desk.{Desk, new_desk}
 use Rattle.world.specs.declared.config.LoopConfig.{LoopConfig}
 use Rattle.world.specs.declared.worker.Worker.{Worker as CodeWorker}
 use Rattle.world.specs.declared.worker.Worker.TheVariants as worker
-use Rattle.world.specs.Making.{setting_from, settings_from, worker_of, AreNumbered, FitsLoops, IsJob, WorldIsKept}
+use Rattle.world.specs.Making.{setting_from, settings_from, worker_of, LoopsAreNumbered, FitsLoops, IsJob, WorldIsKept}
 use Rattle.world.specs.World.{Idle, Answer, opening_loop, opening_world, core}
 use Rattle.world.proofs.StepsAgree.{world_of}
 
@@ -64,7 +64,7 @@ settings_long : (n : ℕ) (cs : List LoopConfig) → length (settings_from n cs)
 settings_long n [] = refl
 settings_long n (c ∷ cs) = ap suc (settings_long (n + 1) cs)
 
-opening_numbered : (n : ℕ) (cs : List LoopConfig) → AreNumbered n (map opening_loop (settings_from n cs))
+opening_numbered : (n : ℕ) (cs : List LoopConfig) → LoopsAreNumbered n (map opening_loop (settings_from n cs))
 opening_numbered n [] = tt
 opening_numbered n (c ∷ cs) = (refl, opening_numbered (n + 1) cs)
 
@@ -84,7 +84,7 @@ pub opening_kept : {X : Type 0} (cs : List LoopConfig) (ls : List (Core Desk)) (
     (f : X → List Answer) (workers room : ℕ) → ls ≡ map opening_loop (settings_from 0 cs) → js ≡ [] → hs ≡ replicate workers worker.Idle
     → map f lists ≡ replicate (length cs) [] → MAX_JOBS ≤ room → WorldIsKept ls js hs (length lists) room
 opening_kept cs ls js hs lists f workers room loops none states replies roomy = record {
-  numbered = subst (AreNumbered 0) (sym loops) (opening_numbered 0 cs);
+  numbered = subst (LoopsAreNumbered 0) (sym loops) (opening_numbered 0 cs);
   waiting = subst (All (IsJob (length ls))) (sym none) (All-nil (IsJob (length ls)));
   held = subst (All (FitsLoops (length ls))) (sym states) (All-replicate (FitsLoops (length ls)) workers worker.Idle tt);
   paired =

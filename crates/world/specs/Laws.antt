@@ -46,7 +46,7 @@ WasFinished l request end log =
 
 -- The step took this request off its loop's list and removed it, ran its after-work callback, and gave it these
 -- completion, which are those of the stage that it had come to.
-pub record RunsAfter (w : World) (l : ℕ) (q : Request) (g : Setting) (completion : Completion) (entry : LogEntry)
+pub record StepRunsAfter (w : World) (l : ℕ) (q : Request) (g : Setting) (completion : Completion) (entry : LogEntry)
     (w' : World) : Type 0 where
   pub old : Loop Desk
   pub new : Loop Desk
@@ -60,7 +60,7 @@ pub record RunsAfter (w : World) (l : ℕ) (q : Request) (g : Setting) (completi
 -- The callback of this loop and request was given what is due to the order that the guest had asked for under that
 -- request's number, which is the very order of the request that the step removed: where it was not cancelled, the end that
 -- the line of its job's finish says.
-pub record IsOwn (settings : List Setting) (log : List LogEntry) (made : List GuestCall) (w : World) (l number : ℕ) (entry : LogEntry)
+pub record IsOwnInRun (settings : List Setting) (log : List LogEntry) (made : List GuestCall) (w : World) (l number : ℕ) (entry : LogEntry)
     (w' : World) : Type 0 where
   pub setting : Setting
   pub request : Request
@@ -68,23 +68,23 @@ pub record IsOwn (settings : List Setting) (log : List LogEntry) (made : List Gu
   pub of_loop : slice_get settings l ≡ Some setting
   pub numbered : request.order.request ≡ number
   pub asked : WasAsked setting made request.order
-  pub runs : RunsAfter w l request setting completion entry w'
+  pub runs : StepRunsAfter w l request setting completion entry w'
   pub due : AreDue request.order completion (IsCancelledInLog l number log made)
   pub finished : (IsCancelledInLog l number log made → ⊥)
       → (end : WorkEnd) × WasFinished l number end log × (completion ≡ end_completion end)
 
 -- each step that runs an after-work callback, after any run from an opening world, gives it what is due to its own order
-abbrev pub IsAfterOwn : Type 0
-IsAfterOwn =
+abbrev pub IsAfterOwnInRun : Type 0
+IsAfterOwnInRun =
     (settings : List Setting) (workers : ℕ) (steps : List Step) (log : List LogEntry) (w : World) (l : ℕ) (made : List GuestCall)
     → RunCalls l (opening_world settings workers) steps log made w
     → (s : Step) (entry : LogEntry) (w' : World) → WorldStep w s entry w'
     → (request : ℕ) → is_after l request entry ≡ true
-    → IsOwn settings log made w l request entry w'
+    → IsOwnInRun settings log made w l request entry w'
 
 -- from the callback on no cancel of its request is answered 0, in the callback or after it
-abbrev pub IsAfterLast : Type 0
-IsAfterLast =
+abbrev pub IsAfterLastInRun : Type 0
+IsAfterLastInRun =
     (settings : List Setting) (workers : ℕ) (steps : List Step) (log : List LogEntry) (w : World)
     → WorldRun (opening_world settings workers) steps log w
     → (l : ℕ) (s : Step) (entry : LogEntry) (first : List GuestCall) (mid : World) → StepCalls l w s entry first mid

@@ -63,14 +63,14 @@ FitsLoops loops (worker.Taken o) = IsJob loops o
 FitsLoops loops (worker.Started o) = IsJob loops o
 
 -- each loop's number is its place, counted from here
-abbrev pub AreNumbered : ℕ → List (Core Desk) → Type 0
-AreNumbered n [] = Unit {0}
-AreNumbered n (p ∷ ps) = (p.setting.loop_no ≡ n) × AreNumbered (n + 1) ps
+abbrev pub LoopsAreNumbered : ℕ → List (Core Desk) → Type 0
+LoopsAreNumbered n [] = Unit {0}
+LoopsAreNumbered n (p ∷ ps) = (p.setting.loop_no ≡ n) × LoopsAreNumbered (n + 1) ps
 
 -- Each loop's number is its place, each job is one of these loops' and can be started and run, each loop has a list of
 -- replies, and so many jobs have room at least.
 pub record WorldIsKept (loops : List (Core Desk)) (jobs : List Order) (states : List CodeWorker) (lists room : ℕ) : Type 0 where
-  pub numbered : AreNumbered 0 loops
+  pub numbered : LoopsAreNumbered 0 loops
   pub waiting : All (IsJob (length loops)) jobs
   pub held : All (FitsLoops (length loops)) states
   pub paired : lists ≡ length loops

@@ -2,10 +2,10 @@
 use Rattle.std.specs.Prelude.{ℕ, List}
 use Rattle.instance.specs.declared.stack.Site.{Site}
 use Rattle.phases.specs.State.{Setting, Loop}
-use Rattle.phases.specs.Stopping.{StopsAt}
+use Rattle.phases.specs.Stopping.{LoopStopsAt}
 use Rattle.desk.specs.Desk.{Desk, desk_calls}
 use Rattle.world.specs.World.{World, HasLoop}
 
 -- the loop of this number is there, and a call that left its store stopped at this operation, within these calls
 abbrev pub StopsIn : World → (l : ℕ) → List Site → Type 0
-StopsIn w l sites = (g : Setting) × (now : Loop Desk) × HasLoop w l g now × ∥ StopsAt desk_calls g now.store sites ∥₁
+StopsIn w l sites = (g : Setting) × (now : Loop Desk) × HasLoop w l g now × ∥ LoopStopsAt desk_calls g now.store sites ∥₁

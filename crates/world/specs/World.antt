@@ -14,7 +14,7 @@ use Rattle.phases.specs.PhaseList.{begin_list}
 use Rattle.phases.specs.Guests.{GuestCall}
 use Rattle.phases.specs.Host.{with_requests}
 use Rattle.phases.specs.Step.{StepsWith, in_state}
-use Rattle.phases.specs.Outside.{is_failed, next_order_of, Takes, answered, after_clock, CancelIn, StartsBeside, SendsBeside}
+use Rattle.phases.specs.Outside.{is_failed, next_order_of, TakesReplyTo, answered, after_clock, CancelIn, StartsBeside, SendsBeside}
 use Rattle.desk.specs.Desk.{Desk, new_desk, desk_calls, desk_others}
 use Rattle.world_log.specs.declared.step.Step.{Step}
 use Rattle.world_log.specs.declared.step.Step.TheVariants as step
@@ -118,8 +118,8 @@ PostsOrder w n g l (None, s) entry w' = Only w entry (line.Post n post.Nothing) 
 PostsOrder w n g l (Some o, s) entry w' =
     (entry ≡ line.Post n (post.Request o.request)) × (w' ≡ record (with_loop w n g (in_state l s)) { jobs = w.jobs ++ o ∷ [] })
 
-abbrev pub Posts : World → ℕ → LogEntry → World → Type 0
-Posts w n entry w' =
+abbrev pub PostsJob : World → ℕ → LogEntry → World → Type 0
+PostsJob w n entry w' =
     (g : Setting) × (l : Loop Desk) × HasLoop w n g l
     × UnlessFailed w n l entry w'
     (MatchBool (length w.jobs == MAX_JOBS) (Only w entry (line.Post n post.Full) w') (PostsOrder w n g l (next_order_of l.state) entry w'))
@@ -128,9 +128,9 @@ abbrev pub job_of : WorkOrder → JobId
 job_of o = record { loop_no = o.loop_no; request = o.request }
 
 -- an idle worker takes the front job
-abbrev pub TakesJob : World → ℕ → Worker → List WorkOrder → LogEntry → World → Type 0
-TakesJob w n Idle (o ∷ jobs) entry w' = (entry ≡ line.Take n (Some (job_of o))) × (w' ≡ record (with_worker_at w n (Taken o)) { jobs = jobs })
-TakesJob w n _ _ entry w' = Only w entry (line.Take n None) w'
+abbrev pub WorkerTakesJob : World → ℕ → Worker → List WorkOrder → LogEntry → World → Type 0
+WorkerTakesJob w n Idle (o ∷ jobs) entry w' = (entry ≡ line.Take n (Some (job_of o))) × (w' ≡ record (with_worker_at w n (Taken o)) { jobs = jobs })
+WorkerTakesJob w n _ _ entry w' = Only w entry (line.Take n None) w'
 
 -- a job that was taken is started at what its loop shares, or dropped
 abbrev pub StartsJob : World → ℕ → Worker → LogEntry → World → Type 0
@@ -174,12 +174,12 @@ CollectsFrom w n g l [] entry w' = Only w entry (line.Collect n collect.Nothing)
 CollectsFrom w n g l (a ∷ replies) entry w' =
     (one : Bool)
     × MatchBool one
-    (Takes a.order l.state × (entry ≡ line.Collect n (collect.Request a.order.request))
+    (TakesReplyTo a.order l.state × (entry ≡ line.Collect n (collect.Request a.order.request))
     × (w' ≡ with_replies (with_loop w n g (in_state l (with_requests l.state (answered l.state.requests a.order a.end)))) n replies))
-    ((Takes a.order l.state → ⊥) × (entry ≡ line.Collect n collect.Stranger) × (w' ≡ with_replies w n replies))
+    ((TakesReplyTo a.order l.state → ⊥) × (entry ≡ line.Collect n collect.Stranger) × (w' ≡ with_replies w n replies))
 
-abbrev pub Collects : World → ℕ → LogEntry → World → Type 0
-Collects w n entry w' =
+abbrev pub CollectsReplies : World → ℕ → LogEntry → World → Type 0
+CollectsReplies w n entry w' =
     (g : Setting) × (l : Loop Desk) × (replies : List Answer) × HasLoop w n g l × (slice_get w.replies n ≡ Some replies)
     × UnlessFailed w n l entry w' (CollectsFrom w n g l replies entry w')
 
@@ -189,8 +189,8 @@ SendsTo w n a entry w' =
     (g : Setting) × (l l' : Loop Desk) × (ok : Bool) × (a < MAX_ASYNCS) × HasLoop w n g l × SendsBeside desk_others l a ok l'
     × (entry ≡ line.Send n a (not ok)) × (w' ≡ with_loop w n g l')
 
-abbrev pub CancelsAt : World → ℕ → (request : ℕ) → LogEntry → World → Type 0
-CancelsAt w n request entry w' =
+abbrev pub CancelsRequest : World → ℕ → (request : ℕ) → LogEntry → World → Type 0
+CancelsRequest w n request entry w' =
     (g : Setting) × (l l' : Loop Desk) × (answer : ℕ) × HasLoop w n g l
     × UnlessFailed w n l entry w'
     (CancelIn desk_calls l.state.status (l.state, l.shared) request answer (l'.state, l'.shared) × (l'.store ≡ l.store)
@@ -205,13 +205,13 @@ ClocksAt w n ms entry w' =
 -- one step, and what is logged of it; a step of a loop, worker or async that is not there is none
 abbrev pub WorldStep : World → Step → LogEntry → World → Type 0
 WorldStep w (step.Loop n) entry w' = StepsLoop w n entry w'
-WorldStep w (step.Post n) entry w' = Posts w n entry w'
-WorldStep w (step.Take n) entry w' = WithWorker w n (λ state. TakesJob w n state w.jobs entry w')
+WorldStep w (step.Post n) entry w' = PostsJob w n entry w'
+WorldStep w (step.Take n) entry w' = WithWorker w n (λ state. WorkerTakesJob w n state w.jobs entry w')
 WorldStep w (step.Start n) entry w' = WithWorker w n (λ state. StartsJob w n state entry w')
 WorldStep w (step.Finish n) entry w' = WithWorker w n (λ state. FinishesJob w n state entry w')
-WorldStep w (step.Collect n) entry w' = Collects w n entry w'
+WorldStep w (step.Collect n) entry w' = CollectsReplies w n entry w'
 WorldStep w (step.Send n a) entry w' = SendsTo w n a entry w'
-WorldStep w (step.Cancel n request) entry w' = CancelsAt w n request entry w'
+WorldStep w (step.Cancel n request) entry w' = CancelsRequest w n request entry w'
 WorldStep w (step.Clock n ms) entry w' = ClocksAt w n ms entry w'
 
 -- some steps, one after another, and what is logged of them

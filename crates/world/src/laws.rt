@@ -2,7 +2,7 @@
 
 ghost use Rattle.world.specs.Guests.{EachRunCalls};
 ghost use Rattle.world.specs.Histories.{IsHistory};
-ghost use Rattle.world.specs.Laws.{AfterOnceInLog, IsAfterOwn, IsAfterLast, IsOneWay, IsCancelledOrBegun, RunsJoin};
+ghost use Rattle.world.specs.Laws.{AfterOnceInLog, IsAfterOwnInRun, IsAfterLastInRun, IsOneWay, IsCancelledOrBegun, RunsJoin};
 
 use desk::Desk;
 
@@ -14,8 +14,8 @@ pub fn after_once()
     ensures calls { EachRunCalls }
     ensures history { IsHistory }
     ensures once { AfterOnceInLog }
-    ensures own { IsAfterOwn }
-    ensures last { IsAfterLast }
+    ensures own { IsAfterOwnInRun }
+    ensures last { IsAfterLastInRun }
 {
     phases::laws::after_once::<Desk>();
 }

@@ -5,8 +5,8 @@ ghost use Rattle.limits.specs.declared.TheConstants.{MAX_LOOPS, MAX_WORKERS};
 ghost use Rattle.world.specs.Making.{setting_from, settings_from, answers_of, HasDepth, MayFault, Stops};
 ghost use Rattle.world.specs.Stopping.{StopsIn};
 ghost use Rattle.world.specs.Undone.{IsUndone};
-ghost use Rattle.world.specs.World.{opening_world, opening_loop, WorldStep, WorldRun, entry_told, job_of, TellsEnd, StepsLoop, Posts, WithWorker, TakesJob, StartsJob};
-ghost use Rattle.world.specs.World.{FinishesJob, Collects, SendsTo, CancelsAt, ClocksAt};
+ghost use Rattle.world.specs.World.{opening_world, opening_loop, WorldStep, WorldRun, entry_told, job_of, TellsEnd, StepsLoop, PostsJob, WithWorker, WorkerTakesJob, StartsJob};
+ghost use Rattle.world.specs.World.{FinishesJob, CollectsReplies, SendsTo, CancelsRequest, ClocksAt};
 ghost use Rattle.order.specs.Orders.{order_of, end_of};
 
 use crate::config::{Config, LoopConfig};
@@ -311,7 +311,7 @@ impl World {
     }
 
     fn post(&mut self, loop_no: u32) -> Result<LogEntry, WorldFault>
-        ensures ran { IfOk result (λ entry. Posts self.old loop_no entry self.new) }
+        ensures ran { IfOk result (λ entry. PostsJob self.old loop_no entry self.new) }
         ensures fault { IfErr result (λ fault. MayFault self.old (Step.Post loop_no) fault) }
         ensures kept { OnErr result (self.new ≡ self.old) }
     {
@@ -421,7 +421,7 @@ impl World {
     }
 
     fn collect(&mut self, loop_no: u32) -> Result<LogEntry, WorldFault>
-        ensures ran { IfOk result (λ entry. Collects self.old loop_no entry self.new) }
+        ensures ran { IfOk result (λ entry. CollectsReplies self.old loop_no entry self.new) }
         ensures fault { IfErr result (λ fault. MayFault self.old (Step.Collect loop_no) fault) }
         ensures kept { OnErr result (self.new ≡ self.old) }
     {
@@ -465,7 +465,7 @@ impl World {
     }
 
     fn cancel(&mut self, loop_no: u32, request: u32) -> Result<LogEntry, WorldFault>
-        ensures ran { IfOk result (λ entry. CancelsAt self.old loop_no request entry self.new) }
+        ensures ran { IfOk result (λ entry. CancelsRequest self.old loop_no request entry self.new) }
         ensures fault { IfErr result (λ fault. MayFault self.old (Step.Cancel loop_no request) fault) }
         ensures kept { OnErr result (self.new ≡ self.old) }
     {

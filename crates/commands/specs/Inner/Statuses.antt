@@ -1,11 +1,11 @@
 -- What the program ends with.
 use Rattle.std.specs.Prelude.{◌≡◌, ℕ, Result, Ok, Err, IfOk}
-use Rattle.commands.specs.declared.status.Status.{Status}
-use Rattle.commands.specs.declared.status.Status.TheVariants as status
+use Rattle.commands.specs.declared.status.ExitStatus.{ExitStatus}
+use Rattle.commands.specs.declared.status.ExitStatus.TheVariants as status
 use Rattle.commands.specs.declared.failure.Failure.{Failure}
 use Rattle.commands.specs.declared.failure.Failure.TheVariants as failure
 
-abbrev pub status_of_failure : Failure → Status
+abbrev pub status_of_failure : Failure → ExitStatus
 status_of_failure (failure.File _ _) = status.Failed
 status_of_failure failure.Memory = status.Failed
 status_of_failure (failure.Output _) = status.Failed
@@ -17,21 +17,21 @@ status_of_failure (failure.Arguments _) = status.Usage
 status_of_failure (failure.TooLong _) = status.Usage
 
 -- the status of a command that ended so
-abbrev pub status_of_end : Result Status Failure → Status
+abbrev pub status_of_end : Result ExitStatus Failure → ExitStatus
 status_of_end (Ok s) = s
 status_of_end (Err f) = status_of_failure f
 
-abbrev pub number_of : Status → ℕ
-number_of status.Done = 0
-number_of status.Failed = 1
-number_of status.Usage = 2
-number_of status.Refused = 3
-number_of status.Ended = 4
+abbrev pub number_of_status : ExitStatus → ℕ
+number_of_status status.Done = 0
+number_of_status status.Failed = 1
+number_of_status status.Usage = 2
+number_of_status status.Refused = 3
+number_of_status status.Ended = 4
 
 -- this holds where a command ended with the status 0
-abbrev pub OnDone : Result Status Failure → Type 0 → Type 0
+abbrev pub OnDone : Result ExitStatus Failure → Type 0 → Type 0
 OnDone end holds = IfOk end (λ s. s ≡ status.Done → holds)
 
 -- this holds where a command ended with the status 4
-abbrev pub OnEnded : Result Status Failure → Type 0 → Type 0
+abbrev pub OnEnded : Result ExitStatus Failure → Type 0 → Type 0
 OnEnded end holds = IfOk end (λ s. s ≡ status.Ended → holds)

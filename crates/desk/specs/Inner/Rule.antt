@@ -3,7 +3,7 @@ use Rattle.std.specs.Prelude.{◌≡◌, ℕ, ◌+◌, ◌<◌, ◌≤◌, ◌==
 use Rattle.limits.specs.declared.TheConstants.{MAX_ASYNCS, MAX_REQUESTS, MAX_SENDS}
 use Rattle.tallies.specs.Requests.{times}
 use Rattle.desk.specs.declared.rule.History.{History}
-use Rattle.desk.specs.Desk.{Desk, is_open}
+use Rattle.desk.specs.Desk.{Desk, is_open_request}
 
 -- what contracts see of a history
 abbrev pub desk_of : History → Desk
@@ -45,7 +45,7 @@ waiting_place a = MAX_REQUESTS + a
 -- the slots come first
 pub record AreSlots (words : List ℕ) (d : Desk) : Type 0 where
   -- a slot's word is the number of the request that is open there, and 0 where none is
-  pub word : (slot request : ℕ) → slot < MAX_REQUESTS → 0 < request → (slice_index words slot == request) ≡ is_open d (slot, request)
+  pub word : (slot request : ℕ) → slot < MAX_REQUESTS → 0 < request → (slice_index words slot == request) ≡ is_open_request d (slot, request)
   -- only what was opened is cancelled or started
   pub opened : (c : ℕ × ℕ) → 0 < times c d.view.cancelled + times c d.started → 0 < times c d.view.opened
   -- what was found started is
@@ -61,24 +61,24 @@ pub record AreCounts (words : List ℕ) (d : Desk) : Type 0 where
   -- what the loop has sent and not taken waits
   pub untaken : (a : ℕ) → a < MAX_ASYNCS → slice_index d.view.untaken a ≤ slice_index d.waiting a
 
-pub record Agrees (words : List ℕ) (d : Desk) : Type 0 where
+pub record WordsAgree (words : List ℕ) (d : Desk) : Type 0 where
   pub size : length words ≡ MAX_REQUESTS + MAX_ASYNCS
   pub slots : AreSlots words d
   pub counts : AreCounts words d
 
 -- one seat has them all
-abbrev pub IsKept : List ℕ → List History → Type 0
-IsKept words histories = (h : History) × (histories ≡ h ∷ []) × Agrees words (desk_of h)
+abbrev pub DeskIsKept : List ℕ → List History → Type 0
+DeskIsKept words histories = (h : History) × (histories ≡ h ∷ []) × WordsAgree words (desk_of h)
 
 -- The counts of all sends, of the loop and of others
-pub record IsCounted (d : Desk) (by_loop by_others : ℕ) : Type 0 where
+pub record SendsAreCounted (d : Desk) (by_loop by_others : ℕ) : Type 0 where
   pub own : by_loop ≡ sum d.view.own
   pub own_most : by_loop ≤ MAX_SENDS
   pub others : by_others ≡ sum d.sent
   pub others_most : by_others ≤ MAX_SENDS
 
 -- each list has a number for each async
-pub record IsSized (d : Desk) : Type 0 where
+pub record DeskIsSized (d : Desk) : Type 0 where
   pub own : length d.view.own ≡ MAX_ASYNCS
   pub untaken : length d.view.untaken ≡ MAX_ASYNCS
   pub taken : length d.view.taken ≡ MAX_ASYNCS

@@ -9,7 +9,7 @@ abbrev pub all_bytes : (total : ℕ) → (front : List ℕ) → List ℕ
 all_bytes total front = front ++ replicate (total - length front) 0
 
 -- a front ends within the pages, and there is room for all of them, and for as many as the memory may grow to
-pub record HasRoom (front capacity count limit : ℕ) : Type 0 where
+pub record HasRoomForPages (front capacity count limit : ℕ) : Type 0 where
   pub within : front ≤ count * PAGE_SIZE
   pub here : count * PAGE_SIZE ≤ capacity
   pub room : limit * PAGE_SIZE ≤ capacity
@@ -19,5 +19,5 @@ abbrev pub rounded : (end : ℕ) → ℕ
 rounded end = next_multiple_of end STEP
 
 -- the front then: what is new is zero
-abbrev pub lengthened : (end : ℕ) → (front : List ℕ) → List ℕ
-lengthened end front = front ++ replicate (rounded end - length front) 0
+abbrev pub lengthened_front : (end : ℕ) → (front : List ℕ) → List ℕ
+lengthened_front end front = front ++ replicate (rounded end - length front) 0

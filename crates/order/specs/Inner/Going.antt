@@ -17,13 +17,13 @@ use Rattle.imports.specs.Linking.{ExportsFunction}
 use Rattle.imports.specs.Uv.{type_of_entry}
 use Rattle.imports.specs.declared.entry_point.EntryPoint.TheVariants.{Work}
 use Rattle.interp.specs.declared.paused.Paused.{Paused}
-use Rattle.interp.specs.Slices.{IsPaused}
+use Rattle.interp.specs.Slices.{RunIsPaused}
 use Rattle.order.specs.declared.host.WorkHost.{WorkHost}
 use Rattle.order.specs.declared.machine.Machine.{Machine}
-use Rattle.order.specs.declared.stage.Stage.{Stage}
-use Rattle.order.specs.declared.stage.Stage.TheVariants.{Fresh, Starting, Working}
+use Rattle.order.specs.declared.stage.RunStage.{RunStage}
+use Rattle.order.specs.declared.stage.RunStage.TheVariants.{Fresh, Starting, Working}
 use Rattle.order.specs.Inner.Serving.{Serves}
-use Rattle.order.specs.Inner.WorkHosting.{Answered}
+use Rattle.order.specs.Inner.WorkHosting.{WorkAnswered}
 use Rattle.order.specs.Runnable.{CanRun}
 use Rattle.order.specs.Work.{WorkOrder, StartRun}
 
@@ -32,14 +32,14 @@ pub record IsCalling (o : WorkOrder) (tables : List SideTable) (s : Store) (old 
     (t : Store) (host : WorkHost) (fuel : ℕ) (args : List Value) : Type 0 where
   pub serves : Serves old o
   pub deep : paused.depth ≡ o.depth
-  pub under_way : IsPaused o.loaded.contents tables Answered s old args fuel paused slots frames t host
+  pub under_way : RunIsPaused o.loaded.contents tables WorkAnswered s old args fuel paused slots frames t host
 
 -- a machine on which it is under way
 abbrev pub IsCallingOn : WorkOrder → Machine → Store → WorkHost → Paused → (fuel : ℕ) → List Value → Type 0
 IsCallingOn o m s old paused fuel args = IsCalling o (arc_value m.tables) s old paused m.slots m.frames.items m.state m.host fuel args
 
 -- a machine that runs the order: its module is valid, and has these tables; there is room for all callers
-pub record Runs (o : WorkOrder) (m : Machine) : Type 0 where
+pub record RunsOrder (o : WorkOrder) (m : Machine) : Type 0 where
   pub can : CanRun o
   pub valid : ValidModule o.loaded.contents
   pub agree : AreTables o.loaded.contents (arc_value m.tables)
@@ -63,7 +63,7 @@ pub record IsStarting (o : WorkOrder) (m : Machine) (paused : Paused) : Type 0 w
   pub calling : IsCallingOn o m s old paused o.fuel []
 
 -- the start function is over, or there is none, and so much fuel is used
-pub record IsStarted (o : WorkOrder) (first : ℕ) (t : Store) (reply : List ℕ) : Type 0 where
+pub record StartIsOver (o : WorkOrder) (first : ℕ) (t : Store) (reply : List ℕ) : Type 0 where
   pub s : Store
   pub results : List Value
   pub fresh : IsFresh o.loaded.contents s
@@ -74,22 +74,22 @@ pub record IsStarted (o : WorkOrder) (first : ℕ) (t : Store) (reply : List ℕ
 pub record IsWorking (o : WorkOrder) (m : Machine) (first : ℕ) (paused : Paused) : Type 0 where
   pub t : Store
   pub old : WorkHost
-  pub started : IsStarted o first t old.reply.items
+  pub started : StartIsOver o first t old.reply.items
   pub exported : ExportsFunction o.loaded.contents (codes "uv_work") paused.function
   pub typed : type_of_function o.loaded.contents paused.function ≡ Some (type_of_entry Work)
   pub calling : IsCallingOn o m t old paused (o.fuel - first) (I32 o.op ∷ [])
 
-abbrev pub IsAt : WorkOrder → Machine → Stage → Type 0
-IsAt o m Fresh = IsUnbegun o m
-IsAt o m (Starting paused) = IsStarting o m paused
-IsAt o m (Working first paused) = IsWorking o m first paused
+abbrev pub IsAtStage : WorkOrder → Machine → RunStage → Type 0
+IsAtStage o m Fresh = IsUnbegun o m
+IsAtStage o m (Starting paused) = IsStarting o m paused
+IsAtStage o m (Working first paused) = IsWorking o m first paused
 
-pub record IsGoing (o : WorkOrder) (m : Machine) (stage : Stage) : Type 0 where
-  pub runs : Runs o m
-  pub at : IsAt o m stage
+pub record IsGoing (o : WorkOrder) (m : Machine) (stage : RunStage) : Type 0 where
+  pub runs : RunsOrder o m
+  pub at : IsAtStage o m stage
 
 -- the fuel that is used
-abbrev pub used_at : Stage → ℕ
-used_at Fresh = 0
-used_at (Starting paused) = paused.used
-used_at (Working first paused) = first + paused.used
+abbrev pub used_in_stage : RunStage → ℕ
+used_in_stage Fresh = 0
+used_in_stage (Starting paused) = paused.used
+used_in_stage (Working first paused) = first + paused.used

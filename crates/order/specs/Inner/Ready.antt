@@ -6,7 +6,7 @@ use Rattle.instance.specs.Fresh.{IsFresh}
 use Rattle.instance.specs.Storing.{IsStoreOf}
 
 -- the module is valid, and the store is that of a new instance of it
-pub record IsReady (m : Contents) (s : Store) : Type 0 where
+pub record IsReadyToRun (m : Contents) (s : Store) : Type 0 where
   pub valid : ValidModule m
   pub fresh : IsFresh m s
   pub store : IsStoreOf m s

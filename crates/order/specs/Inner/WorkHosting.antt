@@ -13,7 +13,7 @@ abbrev pub types_of_host : WorkHost → List FuncType
 types_of_host h = import_types (arc_value h.linked).contents
 
 -- it answers as a work function's host does, and keeps its module and the bytes that there are to read
-pub record Answered (old : WorkHost) (call : HostCall) (new : WorkHost) : Type 0 where
+pub record WorkAnswered (old : WorkHost) (call : HostCall) (new : WorkHost) : Type 0 where
   pub asked : Call
   pub imported : Imports (arc_value old.linked).contents call.function asked
   pub answers : WorkAnswers (arc_value old.bytes).items old.reply.items call new.reply.items asked call.args

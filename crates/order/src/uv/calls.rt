@@ -4,7 +4,7 @@ ghost use Rattle.std.specs.Prelude.{◌≡◌, [], ◌∷◌, Some, map, slice_g
 ghost use Rattle.syntax.specs.declared.types.ValType.TheVariants as valtype;
 ghost use Rattle.syntax.specs.declared.types.Value.TheVariants as value;
 ghost use Rattle.validate.specs.Typing.{type_of};
-ghost use Rattle.reduction.specs.Hosting.{Takes};
+ghost use Rattle.reduction.specs.Hosting.{TakesParams};
 ghost use Rattle.imports.specs.Linking.{Imports};
 ghost use Rattle.imports.specs.Uv.{type_of_call};
 ghost use Rattle.instance.specs.Reads.{with_bytes};
@@ -20,7 +20,7 @@ use syntax::types::Value;
 /// The function of "uv" that a linked module imports under this number, which is called with these arguments.
 #[inline(always)]
 pub fn called(linked: &Linked, import: u32, args: &Args) -> Call
-    requires { Takes (slice_get (import_types linked.now.contents) import) args.now }
+    requires { TakesParams (slice_get (import_types linked.now.contents) import) args.now }
     ensures imported { Imports linked.now.contents import result }
     ensures typed { map type_of args.now ≡ (type_of_call result).params }
     ensures answers { slice_get (import_types linked.now.contents) import ≡ Some (type_of_call result) }

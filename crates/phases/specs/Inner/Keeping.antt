@@ -26,7 +26,7 @@ AreOrdersOf g rs = All (λ r. IsOrderOf g r.order) rs.outstanding
 -- The module is the setting's, calls may stand as deep as a machine has room for, the store is the module's, callbacks
 -- are its functions, what is listed is ready, and what is outstanding are orders of
 -- the loop.
-pub record Keeps (l : Loaded) (g : Setting) (s : State) (t : Store) : Type 0 where
+pub record KeepsLoop (l : Loaded) (g : Setting) (s : State) (t : Store) : Type 0 where
   pub same : l ≡ g.loaded
   pub depth : (1 ≤ g.depth) × (g.depth ≤ MAX_DEPTH)
   pub store : IsStoreOf g.loaded.contents t

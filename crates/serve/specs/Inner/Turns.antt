@@ -46,8 +46,8 @@ module _ {S : Type 0} (calls : Calls S) where
       → IsToCome l.state.phase l.state.list async_no ⊎ (slice_index (calls.view l.shared).untaken async_no ≡ 0)
 
   -- the loop may run callbacks yet, and a turn begins: it stands in the timers phase, unless it has no asyncs yet
-  abbrev pub GoesOn : (now : Loop S) → (ran : ℕ) → Type 0
-  GoesOn now ran = (ran < MAX_CALLBACKS) × ((async_no : ℕ) → HasActiveAsync now.state async_no → now.state.phase ≡ Timers)
+  abbrev pub MayGoOn : (now : Loop S) → (ran : ℕ) → Type 0
+  MayGoOn now ran = (ran < MAX_CALLBACKS) × ((async_no : ℕ) → HasActiveAsync now.state async_no → now.state.phase ≡ Timers)
 
   -- the loop has ended so with a step, or may run callbacks yet
   abbrev pub StepsTo : Option LoopEnding → (now : Loop S) → (ran : ℕ) → Type 0
@@ -55,6 +55,6 @@ module _ {S : Type 0} (calls : Calls S) where
   StepsTo (Some ending) now ran = EndsBy calls ending now ran
 
   -- the loop has ended so with a turn, or goes on
-  abbrev pub ComesTo : Option LoopEnding → (now : Loop S) → (ran : ℕ) → Type 0
-  ComesTo None now ran = GoesOn now ran
-  ComesTo (Some ending) now ran = EndsBy calls ending now ran
+  abbrev pub EndsOrGoesOn : Option LoopEnding → (now : Loop S) → (ran : ℕ) → Type 0
+  EndsOrGoesOn None now ran = MayGoOn now ran
+  EndsOrGoesOn (Some ending) now ran = EndsBy calls ending now ran

@@ -12,11 +12,11 @@ use Rattle.validate.specs.declared.checker.Checker.{Checker}
 use Rattle.validate.specs.declared.fault.BodyFault.{BodyFault}
 use Rattle.validate.specs.declared.fault.BodyFault.TheVariants as fault
 use Rattle.validate.specs.Stack.{pushed}
-use Rattle.validate.specs.Typing.{Context, InstrTyped, block_type}
+use Rattle.validate.specs.Typing.{Context, InstrTyped, type_of_block}
 use Rattle.validate.specs.Height.{shape_of}
 use Rattle.validate.specs.Inner.Operands.{Fits, Lacks}
 use Rattle.validate.specs.Rules.{Rule, Indexes, Labels, Alignments, Mutabilities, Keeps, KeepsType}
-use Rattle.validate.specs.Inner.Checking.{context_at, height_of}
+use Rattle.validate.specs.Inner.Checking.{context_at, height_in_all}
 use Rattle.validate.specs.Inner.Steps.{Steps}
 
 -- there is no memory, or the access asks for an alignment above its width
@@ -40,13 +40,13 @@ Obeys r c op.Else = Unit {0}
 Obeys r c op.End = Unit {0}
 
 -- the operation begins a block
-abbrev pub IsOpening : Token → Type 0
-IsOpening (op.Plain i) = ⊥
-IsOpening (op.Block type) = Unit {0}
-IsOpening (op.Loop type) = Unit {0}
-IsOpening (op.If type) = Unit {0}
-IsOpening op.Else = ⊥
-IsOpening op.End = ⊥
+abbrev pub BeginsBlock : Token → Type 0
+BeginsBlock (op.Plain i) = ⊥
+BeginsBlock (op.Block type) = Unit {0}
+BeginsBlock (op.Loop type) = Unit {0}
+BeginsBlock (op.If type) = Unit {0}
+BeginsBlock op.Else = ⊥
+BeginsBlock op.End = ⊥
 
 -- a block that takes these can't begin here
 abbrev pub RefusesEntry : List ValType → Checker → BodyFault → Type 0
@@ -62,7 +62,7 @@ RefusesEntry params c fault.Memory = Unit {0}
 -- the stack has the parameters of a block of this type on top
 abbrev pub MayBegin : BlockType → Checker → List ValType → Type 0
 MayBegin type c from =
-    (t : FuncType) × (block_type c.scope.contents.now type ≡ Some t) × (below : List ValType) × (from ≡ pushed t.params below)
+    (t : FuncType) × (type_of_block c.scope.contents.now type ≡ Some t) × (below : List ValType) × (from ≡ pushed t.params below)
 
 -- the stack has the results of the innermost block, and nothing else
 abbrev pub MayEnd : Checker → List ValType → Type 0
@@ -86,6 +86,6 @@ Rejects o c fault.Index = Obeys Indexes (context_at c) o → ⊥
 Rejects o c fault.Label = Obeys Labels (context_at c) o → ⊥
 Rejects o c fault.Align = Obeys Alignments (context_at c) o → ⊥
 Rejects o c fault.Mutability = Obeys Mutabilities (context_at c) o → ⊥
-Rejects o c fault.Height = (after : Checker) × Steps o c after × (MAX_HEIGHT < height_of after.operands)
-Rejects o c fault.Nesting = IsOpening o × (MAX_NESTING < length c.frames)
+Rejects o c fault.Height = (after : Checker) × Steps o c after × (MAX_HEIGHT < height_in_all after.operands)
+Rejects o c fault.Nesting = BeginsBlock o × (MAX_NESTING < length c.frames)
 Rejects o c fault.Memory = Unit {0}

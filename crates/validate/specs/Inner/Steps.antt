@@ -10,25 +10,25 @@ use Rattle.syntax.specs.declared.types.BlockType.TheVariants as block
 use Rattle.validate.specs.declared.frames.ControlFrame.{ControlFrame}
 use Rattle.validate.specs.declared.scope.Scope.{Scope}
 use Rattle.validate.specs.declared.checker.Checker.{Checker}
-use Rattle.validate.specs.Inner.Operands.{Held, held_of, around, with_left, Takes}
-use Rattle.validate.specs.Typing.{block_type}
+use Rattle.validate.specs.Inner.Operands.{Held, held_of, held_around, with_left, Takes}
+use Rattle.validate.specs.Typing.{type_of_block}
 use Rattle.validate.specs.Height.{shape_of}
-use Rattle.validate.specs.Inner.Checking.{Passes}
+use Rattle.validate.specs.Inner.Checking.{StaysInside}
 
 -- a block begins: its parameters are taken from the block around it, and it begins with them
-pub record Enters (f : ControlFrame) (before after : Checker) : Type 0 where
+pub record EntersBlock (f : ControlFrame) (before after : Checker) : Type 0 where
   pub scope : after.scope ≡ before.scope
   pub frames : after.frames ≡ f ∷ before.frames
   pub shallow : length before.frames ≤ MAX_NESTING
   pub type : FuncType
-  pub known : block_type before.scope.contents.now f.block_type ≡ Some type
+  pub known : type_of_block before.scope.contents.now f.block_type ≡ Some type
   pub mid : Held
   pub taken : Takes type.params before.operands mid
   pub enclosing : f.enclosing ≡ record { base = length mid.below; unreachable = mid.unreachable }
   pub operands : after.operands ≡ with_left type.params (held_of [] (mid.own ++ mid.below) false)
 
 abbrev pub Begins : BlockType → Bool → Checker → Checker → Type 0
-Begins type is_loop before after = (f : ControlFrame) × (f.is_loop ≡ is_loop) × (f.block_type ≡ type) × Enters f before after
+Begins type is_loop before after = (f : ControlFrame) × (f.is_loop ≡ is_loop) × (f.block_type ≡ type) × EntersBlock f before after
 
 -- the results of the innermost block, and nothing else, are taken
 pub record Finishes (f : ControlFrame) (type : FuncType) (mid : Held) (before : Checker) : Type 0 where
@@ -37,14 +37,14 @@ pub record Finishes (f : ControlFrame) (type : FuncType) (mid : Held) (before : 
   pub empty : mid.own ≡ []
 
 -- a block ends, and its results are left in the block around it
-pub record Leaves (before after : Checker) : Type 0 where
+pub record LeavesBlock (before after : Checker) : Type 0 where
   pub frame : ControlFrame
   pub scope : after.scope ≡ before.scope
   pub frames : before.frames ≡ frame ∷ after.frames
   pub type : FuncType
   pub mid : Held
   pub finished : Finishes frame type mid before
-  pub operands : after.operands ≡ with_left type.results (around frame.enclosing mid.below)
+  pub operands : after.operands ≡ with_left type.results (held_around frame.enclosing mid.below)
 
 -- the first branch of an `if` ends and the second one begins
 pub record TurnsToElse (before after : Checker) : Type 0 where
@@ -65,14 +65,14 @@ AreStacked (f ∷ fs) base = (f.enclosing.base ≤ base) × AreStacked fs f.encl
 
 -- the check of one operation
 abbrev pub Steps : Token → Checker → Checker → Type 0
-Steps (op.Plain i) before after = Passes i before after
+Steps (op.Plain i) before after = StaysInside i before after
 Steps (op.Block type) before after = Begins type false before after
 Steps (op.Loop type) before after = Begins type true before after
 Steps (op.If type) before after =
     (h : Held) × Takes (I32 ∷ []) before.operands h
     × Begins type false (record { scope = before.scope; frames = before.frames; operands = h }) after
 Steps op.Else before after = TurnsToElse before after
-Steps op.End before after = Leaves before after
+Steps op.End before after = LeavesBlock before after
 
 -- the frame of a function's body
 abbrev pub body_frame : ℕ → ControlFrame

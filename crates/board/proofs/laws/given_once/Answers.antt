@@ -5,8 +5,8 @@ use lib.ListN.{get_elem?}
 use Rattle.tallies.proofs.Lists.{part_found, count_cons}
 use Rattle.tallies.proofs.Requests.{by_test}
 use Rattle.board.specs.declared.line.Named.{Named}
-use Rattle.board.specs.declared.line.View.{View}
-use Rattle.board.specs.Rule.{unit_if, given_by, is_name, times, IsGiven, AllGiven, IsBelow, Rises}
+use Rattle.board.specs.declared.line.PassKnowledge.{PassKnowledge}
+use Rattle.board.specs.Rule.{unit_if, given_by, is_name, times_named, IsGiven, AllGiven, IsBelow, NamesRise}
 use Rattle.board.specs.Laws.{AlwaysInOrder, GivenOnce, NoOther, SameItem, InTurn, TakesRise}
 use Rattle.board.proofs.Names.{rises_front}
 use Rattle.board.proofs.laws.given_once.Goals as goal
@@ -21,12 +21,12 @@ is_of : (a b p o : ℕ) → ((a == p) && (b == o)) ≡ true → (a ≡ p) × (b 
 is_of a b p o e = (grind (arith, nat_tests), grind (arith, nat_tests))
 
 module _ {T : Type 0} where
-  one_given : (views : List (View T)) (xs : List (Named T)) (k : ℕ) (n : Named T) → AllGiven views xs → get_elem? xs k ≡ some n → IsGiven views n
+  one_given : (views : List (PassKnowledge T)) (xs : List (Named T)) (k : ℕ) (n : Named T) → AllGiven views xs → get_elem? xs k ≡ some n → IsGiven views n
   one_given views [] k n g e = absurd (some-ne-none n (sym e))
   one_given views (x ∷ xs) zero n g e = subst (IsGiven views) (some-injective x n e) g.0
   one_given views (x ∷ xs) (suc k) n g e = one_given views xs k n g.1 e
 
-  below_there : (m : Named T) (p q : ℕ) (ys : List (Named T)) → IsBelow m ys → m.pass ≡ p → 0 < times p q ys → m.ordinal < q
+  below_there : (m : Named T) (p q : ℕ) (ys : List (Named T)) → IsBelow m ys → m.pass ≡ p → 0 < times_named p q ys → m.ordinal < q
   below_there m p q [] b e h = absurd (omega arith)
   below_there m p q (y ∷ ys) b e h =
       let front = count_cons (is_name p q) y ys in
@@ -34,11 +34,11 @@ module _ {T : Type 0} where
       (λ is. let same = is_of y.pass y.ordinal p q is in let lower = b.0 (same.0 ∙ sym e) in let here = same.1 in omega arith)
       (λ isnt. let none : unit_if (is_name p q y) ≡ 0 = ap unit_if isnt in below_there m p q ys b.1 e (omega arith))
 
-  below_apart : (m : Named T) (p q : ℕ) (xs ys : List (Named T)) → IsBelow m (xs ++ ys) → m.pass ≡ p → 0 < times p q ys → m.ordinal < q
+  below_apart : (m : Named T) (p q : ℕ) (xs ys : List (Named T)) → IsBelow m (xs ++ ys) → m.pass ≡ p → 0 < times_named p q ys → m.ordinal < q
   below_apart m p q [] ys b e h = below_there m p q ys b e h
   below_apart m p q (x ∷ xs) ys b e h = below_apart m p q xs ys b.1 e h
 
-  rises_apart : (p o q : ℕ) (xs ys : List (Named T)) → Rises (xs ++ ys) → 0 < times p o xs → 0 < times p q ys → o < q
+  rises_apart : (p o q : ℕ) (xs ys : List (Named T)) → NamesRise (xs ++ ys) → 0 < times_named p o xs → 0 < times_named p q ys → o < q
   rises_apart p o q [] ys r h k = absurd (omega arith)
   rises_apart p o q (x ∷ xs) ys r h k =
       let front = count_cons (is_name p o) x xs in
@@ -61,7 +61,7 @@ item T queued views K =
 
 in_turn : (T : Type 0) → AlwaysInOrder (InTurn T)
 in_turn T queued views K p o later taken waits =
-    let by = part_found (λ (v : View T). times p o v.taken) views taken in
+    let by = part_found (λ (v : PassKnowledge T). times_named p o v.taken) views taken in
     rises_apart p o later by.1.taken queued (K.taken_rises by.0 by.1 by.2) by.3 waits
 
 rise : (T : Type 0) → AlwaysInOrder (TakesRise T)

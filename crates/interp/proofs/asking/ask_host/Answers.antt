@@ -3,7 +3,7 @@ use Rattle.interp.proofs.Words.{Value, FuncType, type_of, as_operands}
 use Rattle.std.proofs.Common.{length-drop}
 use Rattle.std.proofs.lemmas.List.{length-take}
 use Rattle.instance.specs.Store.{MemoryInstance}
-use Rattle.reduction.specs.Hosting.{Takes, Answers}
+use Rattle.reduction.specs.Hosting.{TakesParams, Answers}
 use Rattle.interp.specs.Slots.Resuming.{laid}
 use Rattle.interp.specs.Inner.Slots.ValuesRead.{typed_values}
 use Rattle.interp.specs.Inner.Slots.HostAsked.{arguments}
@@ -28,7 +28,7 @@ call-answer-requires g c =
     omega (arith, length-take (c.args.height - place) (drop place c.args.slots.now), length-drop place c.args.slots.now, count, there, within) in
     let typed : map type_of c.laid.result ≡ params = ap (λ (vs : List Value). map type_of vs) c.laid.ensures ∙ typed_types params slots enough in
     let named : slice_get (g.H.Host.types c.args.host.now) c.args.import ≡ Some can.type = c.requires.names c.args.import can.imported ∙ known in
-    subst (λ (o : Option FuncType). Takes o c.laid.result) (sym named) (typed ∙ is)
+    subst (λ (o : Option FuncType). TakesParams o c.laid.result) (sym named) (typed ∙ is)
 
 pub returns-clause-asked : goal.returns-clause-asked
 returns-clause-asked g c = λ type known.

@@ -1,7 +1,7 @@
 use Rattle.std.proofs.Common.{ℕ, sym, subst}
 use Rattle.std.specs.Prelude.{slice_range}
 use Rattle.syntax.specs.Binary.{section}
-use Rattle.places.specs.Spans.{Stands, FirstSectionAt}
+use Rattle.places.specs.Spans.{StandsBetween, FirstSectionAt}
 use Rattle.places.proofs.SpanLaws.{others_none, others_more, section_there}
 use Rattle.places.proofs.spans.find.Goals as goal
 
@@ -17,8 +17,8 @@ pub returns-then-found-id : goal.returns-then-found-id
 returns-then-found-id c =
     let bytes = c.args.bytes.now in
     let s = c.in_ok-found.section in
-    let here : Stands (section (record { id = c.args.id; contents = slice_range bytes s.from s.to })) bytes c.loop.at s.to =
-    subst (λ (i : ℕ). Stands (section (record { id = i; contents = slice_range bytes s.from s.to })) bytes c.loop.at s.to) c.if-found-id.true c.in_ok-found.ensures.here in
+    let here : StandsBetween (section (record { id = c.args.id; contents = slice_range bytes s.from s.to })) bytes c.loop.at s.to =
+    subst (λ (i : ℕ). StandsBetween (section (record { id = i; contents = slice_range bytes s.from s.to })) bytes c.loop.at s.to) c.if-found-id.true c.in_ok-found.ensures.here in
     let there : FirstSectionAt bytes c.args.id c.loop.at s.from s.to =
     (c.loop.invariant.0, section_there c.loop.invariant.1 here c.in_ok-found.ensures.holds, c.loop.invariant.2) in
     subst (λ (a : ℕ). FirstSectionAt bytes c.args.id a s.from s.to) (sym c.in_ok-found.ensures.at) there

@@ -1,10 +1,10 @@
 use Rattle.std.proofs.Common.{sym, ◌∙◌}
-use Rattle.wasmloop_c.specs.Values.{number_of}
+use Rattle.wasmloop_c.specs.Values.{number_of_value}
 use Rattle.wasmloop_c.proofs.Front.{one_copied}
 use Rattle.wasmloop_c.proofs.ended.copy_numbers.Goals as goal
 
 pub loop-index-preserved : goal.loop-index-preserved
 loop-index-preserved c =
-    let one = one_copied number_of c.args.values.now c.args.into.now c.loop-index.into c.loop-index.index c.in-Some.number c.loop-index.invariant.copied
+    let one = one_copied number_of_value c.args.values.now c.args.into.now c.loop-index.into c.loop-index.index c.in-Some.number c.loop-index.invariant.copied
     (sym c.number_at.ensures ∙ c.in-Some.is) c.loop-index-test.true in
     record { copied = one.0; within = one.1 }

@@ -1,9 +1,9 @@
 use Rattle.std.proofs.Common.{◌≡◌, ◌≤◌, ◌++◌, take, drop, map, length}
-use Rattle.wasmloop_c.specs.Values.{number_of}
+use Rattle.wasmloop_c.specs.Values.{number_of_value}
 use Rattle.wasmloop_c.proofs.ended.copy_numbers.Given as goal
 
 abbrev pub invariant-loop-index : goal.invariant-loop-index
 invariant-loop-index l = record {
-  copied : l.into ≡ take l.index (map number_of l.values) ++ drop l.index l.fn.into;
+  copied : l.into ≡ take l.index (map number_of_value l.values) ++ drop l.index l.fn.into;
   within : l.index ≤ length l.values;
 }

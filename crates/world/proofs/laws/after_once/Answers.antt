@@ -2,7 +2,7 @@ use Rattle.std.proofs.Common.{◌≡◌, subst, sym, ap, ◌∙◌, ◌∷◌, �
 use Rattle.world.proofs.AfterOnce.{history_after, once_after, own_after, last_after}
 use Rattle.world.proofs.GuestsOfRuns.{step_calls, step_of, run_of, each_run_calls}
 use Rattle.world.specs.Histories.{HasHistory}
-use Rattle.world.specs.Laws.{IsOwn, IsCancelledInLog}
+use Rattle.world.specs.Laws.{IsOwnInRun, IsCancelledInLog}
 use Rattle.world.specs.World.{opening_world, opening_loop}
 use Rattle.world.proofs.laws.after_once.Goals as goal
 
@@ -21,7 +21,7 @@ returns-clause-once c settings workers steps log w run l request = once_after se
 pub returns-clause-own : goal.returns-clause-own
 returns-clause-own c settings workers steps log w l made calls s entry w' h request is =
     let run = run_of l (opening_world settings workers) steps log made w calls in
-    subst (λ m. IsOwn settings log m w l request entry w') (sym run.1)
+    subst (λ m. IsOwnInRun settings log m w l request entry w') (sym run.1)
     (own_after settings l workers steps log w run.0 request s entry w' h is c.after_once.ensures.own)
 
 pub returns-clause-last : goal.returns-clause-last

@@ -6,8 +6,8 @@ use Rattle.validate.specs.Valid.{ValidModule}
 use Rattle.instance.specs.Stops.{stop_of}
 use Rattle.instance.specs.declared.stack.Caller.{Caller}
 use Rattle.reduction.specs.Hosting.{Names}
-use Rattle.interp.specs.Slices.{IsOver}
-use Rattle.order.specs.Inner.WorkHosting.{types_of_host, Answered}
+use Rattle.interp.specs.Slices.{RunIsOver}
+use Rattle.order.specs.Inner.WorkHosting.{types_of_host, WorkAnswered}
 use Rattle.order.specs.Stopping.{WorkStop}
 use Rattle.order.specs.Orders.{order_of}
 use Rattle.order.proofs.WorkHostAnswers.{names_of}
@@ -50,9 +50,9 @@ returns-clause-over c s old args fuel call =
     paused_in _ _ _ _ _ _ (sym same) (sym tables) (sym c.as_mut_slice-callers.ensures.value) s c.args.self.now.state old c.args.self.now.host args fuel p
     c.args.self.now.slots call.under_way in
     let stop = stop_of end.last n.frames in
-    let over : IsOver o.loaded.contents o.depth Answered p.function s old args fuel end.ended n.state n.host stop =
-    subst (λ (d : ℕ). IsOver o.loaded.contents d Answered p.function s old args fuel end.ended n.state n.host stop) call.deep
-    (subst (λ (m : Contents). IsOver m p.depth Answered p.function s old args fuel end.ended n.state n.host stop) same (c.in-Some.ensures.over s old args fuel here)) in
+    let over : RunIsOver o.loaded.contents o.depth WorkAnswered p.function s old args fuel end.ended n.state n.host stop =
+    subst (λ (d : ℕ). RunIsOver o.loaded.contents d WorkAnswered p.function s old args fuel end.ended n.state n.host stop) call.deep
+    (subst (λ (m : Contents). RunIsOver m p.depth WorkAnswered p.function s old args fuel end.ended n.state n.host stop) same (c.in-Some.ensures.over s old args fuel here)) in
     let seam = take_seam _ n.frames _ (c.go_on.auto.frames ∙ c.as_mut_slice-callers.ensures.len) in (
       subst (λ (frames : List Caller). WorkStop o fuel s old.reply.items p.function args end.ended n.state n.host.reply.items (stop_of end.last frames)) (sym seam)
           (over_stops o fuel s n.state old n.host call.serves p.function args end.ended stop over),

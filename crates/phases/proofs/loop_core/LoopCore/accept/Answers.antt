@@ -1,7 +1,7 @@
 use Rattle.std.specs.Arc.{arc_value}
 use Rattle.order.specs.Orders.{order_of, end_of}
 use Rattle.phases.specs.Host.{with_requests}
-use Rattle.phases.specs.Inner.Keeping.{Keeps}
+use Rattle.phases.specs.Inner.Keeping.{KeepsLoop}
 use Rattle.phases.specs.Outside.{answered}
 use Rattle.phases.specs.Requests.{Answered}
 use Rattle.phases.specs.Inner.Setting.{setting_of}
@@ -32,6 +32,6 @@ invariant_of-self g c =
     let o = order_of c.args.reply.order in
     let end = end_of c.args.reply.outcome in
     let taken : State = with_requests s (answered s.requests o end) in
-    by_reply (λ (u : State). Keeps l set u c.self.inside.store) _ _ c.accept.result taken s c.accept.new.self
+    by_reply (λ (u : State). KeepsLoop l set u c.self.inside.store) _ _ c.accept.result taken s c.accept.new.self
     (kept_on l set s taken c.self.inside.store c.self.invariant (grows_answered s o end) (staged_orders set s.requests o.request (Answered end) c.self.invariant.orders))
     c.self.invariant c.accept.ensures.answered c.accept.ensures.refused

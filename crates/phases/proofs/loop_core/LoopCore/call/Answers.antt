@@ -4,7 +4,7 @@ use Rattle.std.specs.Option.{option_map}
 use Rattle.syntax.specs.Loaded.{Loaded}
 use Rattle.events.specs.Bare.{whole}
 use Rattle.imports.specs.Linking.{IsLinked}
-use Rattle.phases.specs.Inner.Keeping.{Keeps}
+use Rattle.phases.specs.Inner.Keeping.{KeepsLoop}
 use Rattle.phases.specs.Inner.Setting.{setting_of}
 use Rattle.phases.specs.State.{Setting, State, Loop}
 use Rattle.phases.proofs.LoopsKeep.{still_upto, names_of, runs_from, kept_after, same_setting}
@@ -47,7 +47,7 @@ invariant_of-self g c =
     same_setting g.B.Shared.calls (λ h. setting_of h.setting) (λ h. (h.state, h.shared)) (arc_value c.self.inside.linked) c.valid-valid.result.now is set old
     c.self.invariant _ c.invoke_bare-ended.new.host refl reply begins c.invoke_bare-ended.new.state c.args.function c.args.args.now
     (whole c.invoke_bare-ended.result) c.invoke_bare-ended.new.stack c.invoke_bare-ended.ensures.runs in
-    subst (λ (x : Setting). Keeps (arc_value c.self.inside.linked) x c.end_callback.new.self c.invoke_bare-ended.new.state) (sym same) kept
+    subst (λ (x : Setting). KeepsLoop (arc_value c.self.inside.linked) x c.end_callback.new.self c.invoke_bare-ended.new.state) (sym same) kept
 
 pub returns-clause-run : goal.returns-clause-run
 returns-clause-run g c =

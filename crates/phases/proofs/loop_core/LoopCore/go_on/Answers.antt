@@ -1,7 +1,7 @@
 use Rattle.std.proofs.Common.{refl, sym, subst, ap, drop, ◌∙◌, List, []}
 use Rattle.std.specs.Arc.{arc_value}
-use Rattle.phases.specs.Bare.{whole}
-use Rattle.phases.specs.Inner.Keeping.{Keeps, AreOrdersOf}
+use Rattle.phases.specs.Bare.{whole_did}
+use Rattle.phases.specs.Inner.Keeping.{KeepsLoop, AreOrdersOf}
 use Rattle.phases.specs.Inner.Ready.{IsReady}
 use Rattle.phases.specs.Requests.{Requests}
 use Rattle.phases.specs.Roster.{Roster}
@@ -45,7 +45,7 @@ invariant_of-self-2 g c =
     let is = front_of s.list c.in-Some.entry (sym c.front.ensures ∙ c.in-Some.is) in
     let rest : State = record s { list = drop 1 s.list } in
     let ready = ready_rest set.loaded.contents s c.in-Some.entry (drop 1 s.list) c.self.invariant.ready is in
-    subst (λ (u : State). Keeps l set u c.self.inside.store) (sym c.pop.ensures)
+    subst (λ (u : State). KeepsLoop l set u c.self.inside.store) (sym c.pop.ensures)
     (kept_with l set s rest c.self.inside.store c.self.invariant (λ _. s.roster.callbacks) ready c.self.invariant.orders)
 
 pub run-requires-clause-ready : goal.run-requires-clause-ready
@@ -69,7 +69,7 @@ returns-clause-step g c =
     let is = front_of s.list c.in-Some.entry (sym c.front.ensures ∙ c.in-Some.is) in
     let set = setting_of c.self.inside.host.setting in
     let over : State → Loop _ = λ u. record { state = u; store = c.self.inside.store; shared = c.self.inside.host.shared } in
-    let did = whole c.run.result in
+    let did = whole_did c.run.result in
     let made = c.run.ensures.step.0 in (
       made,
       subst (λ now. ListStep g.B.Shared.calls now.setting now.loop now.loop.state.list did made c.run.new.self.loop) c.self.view_is
@@ -84,7 +84,7 @@ returns-in_default-clause-step g c =
     let empty = no_front s.list (sym c.front.ensures ∙ c.in_default.is) in
     let over : State → Loop _ = λ u. record { state = u; store = c.self.inside.store; shared = c.self.inside.host.shared } in (
       [],
-      subst (λ now. ListStep g.B.Shared.calls now.setting now.loop now.loop.state.list (whole c.turn.result) [] (over c.turn.new.self)) c.self.view_is
-          (subst (λ (list : List Entry). ListStep g.B.Shared.calls set (over s) list (whole c.turn.result) [] (over c.turn.new.self)) (sym empty)
+      subst (λ now. ListStep g.B.Shared.calls now.setting now.loop now.loop.state.list (whole_did c.turn.result) [] (over c.turn.new.self)) c.self.view_is
+          (subst (λ (list : List Entry). ListStep g.B.Shared.calls set (over s) list (whole_did c.turn.result) [] (over c.turn.new.self)) (sym empty)
           (c.turn.ensures.did, ap over c.turn.ensures.state, refl)),
     )

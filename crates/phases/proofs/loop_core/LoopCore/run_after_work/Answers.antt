@@ -9,8 +9,8 @@ use Rattle.phases.specs.Inner.Setting.{setting_of}
 use Rattle.std.proofs.Common.{◌≡◌, [], ◌∷◌}
 use Rattle.syntax.specs.declared.types.Value.TheVariants.{I32}
 use Rattle.phases.specs.Host.{with_requests}
-use Rattle.phases.specs.Bare.{whole}
-use Rattle.phases.specs.Inner.Keeping.{Keeps}
+use Rattle.phases.specs.Bare.{whole_did}
+use Rattle.phases.specs.Inner.Keeping.{KeepsLoop}
 use Rattle.phases.specs.Inner.Stage.{completion_in}
 use Rattle.phases.specs.Requests.{request_of, without_request}
 use Rattle.events.specs.declared.phase.EntryKind.TheVariants.{After}
@@ -42,7 +42,7 @@ invariant_of-self g c =
     let s = c.self.inside.host.state in
     let rest : State = with_requests s (without_request s.requests c.args.request) in
     let apart = rw (← c.self.view_is) at c.requires.apart in
-    subst (λ (u : State). Keeps l set u c.self.inside.store) (sym c.take_request-completion.ensures.removed)
+    subst (λ (u : State). KeepsLoop l set u c.self.inside.store) (sym c.take_request-completion.ensures.removed)
     (kept_with l set s rest c.self.inside.store c.self.invariant refl
     (ready_without_request set.loaded.contents s c.args.request c.self.invariant.ready apart)
     (other_orders set s.requests c.args.request c.self.invariant.orders))
@@ -67,7 +67,7 @@ returns-clause-step g c =
     let s = c.self.inside.host.state in
     let t = c.take_request-completion.result in
     let old : Loop _ = record { state = s; store = c.self.inside.store; shared = c.self.inside.host.shared } in
-    let did = whole c.call.result in
+    let did = whole_did c.call.result in
     let made = c.call.ensures.run.0 in
     let new = c.call.new.self.loop in
     let exported =

@@ -3,7 +3,7 @@ use Rattle.syntax.specs.declared.types.Value.TheVariants.{I32}
 use Rattle.events.specs.declared.phase.EntryKind.TheVariants.{Async}
 use Rattle.phases.specs.PhaseList.{is_active_handle}
 use Rattle.phases.specs.Roster.{async_handle}
-use Rattle.phases.specs.Bare.{whole}
+use Rattle.phases.specs.Bare.{whole_did}
 use Rattle.phases.specs.Inner.Setting.{setting_of}
 use Rattle.phases.specs.State.{Loop}
 use Rattle.phases.specs.Step.{TakesFirst, Skips, CallsHandle, RunsFrom, handle_function, sharing}
@@ -54,7 +54,7 @@ returns-clause-step g c =
     let same = same_some (async_handle s.roster c.args.async_no) c.in-Some-active_async.field-0-0 handle c.in-Some-active_async.ensures.some.1 is in
     let active = subst (λ n. is_active_handle s.roster.handles (Some n) ≡ true) same c.in-Some-active_async.ensures.some.0 in
     let function = subst (λ n. handle_function s.roster n ≡ Some c.in-Some-active_async.function) same c.in-Some-active_async.ensures.some.2 in
-    let did = whole c.call_handle.result in
+    let did = whole_did c.call_handle.result in
     let made = c.call_handle.ensures.run.0 in
     let new = c.call_handle.new.self.loop in
     let run : CallsHandle g.B.Shared.calls set (sharing old c.take.new.self) s.roster Async handle did made new =

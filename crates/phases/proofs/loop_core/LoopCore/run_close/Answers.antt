@@ -1,7 +1,7 @@
 use Rattle.std.proofs.Common.{refl, sym, subst}
 use Rattle.std.specs.Arc.{arc_value}
 use Rattle.phases.specs.Host.{with_roster}
-use Rattle.phases.specs.Inner.Keeping.{Keeps}
+use Rattle.phases.specs.Inner.Keeping.{KeepsLoop}
 use Rattle.phases.specs.Roster.{without_handle}
 use Rattle.phases.specs.Inner.Setting.{setting_of}
 use Rattle.phases.specs.State.{State}
@@ -21,7 +21,7 @@ invariant_of-self g c =
     let s = c.self.inside.host.state in
     let closed : State = with_roster s (without_handle s.roster c.args.handle) in
     let apart = rw (← c.self.view_is) at c.requires.apart in
-    subst (λ (u : State). Keeps l set u c.self.inside.store) (sym c.finish_closing-function.ensures.removed)
+    subst (λ (u : State). KeepsLoop l set u c.self.inside.store) (sym c.finish_closing-function.ensures.removed)
     (kept_with l set s closed c.self.inside.store c.self.invariant refl (ready_without_handle set.loaded.contents s c.args.handle c.self.invariant.ready apart) c.self.invariant.orders)
 
 pub call_handle-requires-clause-callback : goal.call_handle-requires-clause-callback

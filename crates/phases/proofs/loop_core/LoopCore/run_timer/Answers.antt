@@ -2,7 +2,7 @@ use Rattle.std.proofs.Common.{sym, subst}
 use Rattle.std.specs.Arc.{arc_value}
 use Rattle.handles.specs.Table.{after_again}
 use Rattle.phases.specs.Host.{with_roster}
-use Rattle.phases.specs.Inner.Keeping.{Keeps}
+use Rattle.phases.specs.Inner.Keeping.{KeepsLoop}
 use Rattle.phases.specs.Requests.{Requests}
 use Rattle.phases.specs.Roster.{with_handles}
 use Rattle.phases.specs.Inner.Setting.{setting_of}
@@ -24,7 +24,7 @@ invariant_of-self g c =
     let set = setting_of c.self.inside.host.setting in
     let s = c.self.inside.host.state in
     let fired : State = with_roster s (with_handles s.roster (after_again s.roster.handles c.args.handle s.now)) in
-    subst (λ (u : State). Keeps l set u c.self.inside.store) (sym c.in-Some.ensures.fired)
+    subst (λ (u : State). KeepsLoop l set u c.self.inside.store) (sym c.in-Some.ensures.fired)
     (kept_on l set s fired c.self.inside.store c.self.invariant (grows_again s c.args.handle s.now) c.self.invariant.orders)
 
 pub call_handle-requires-clause-callback : goal.call_handle-requires-clause-callback

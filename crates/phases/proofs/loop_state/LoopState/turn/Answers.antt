@@ -1,5 +1,5 @@
 use Rattle.std.proofs.Common.{sym, subst}
-use Rattle.phases.specs.Fitting.{IsKept, AreKept}
+use Rattle.phases.specs.Fitting.{RosterIsKept, AreKept}
 use Rattle.phases.specs.Inner.Ready.{AreReady}
 use Rattle.phases.specs.State.{State}
 use Rattle.phases.proofs.PhaseListsAreReady.{ready_entered}
@@ -8,4 +8,4 @@ use Rattle.phases.proofs.loop_state.LoopState.turn.Goals as goal
 pub returns-clause-ready : goal.returns-clause-ready
 returns-clause-ready c = λ m empty.
     subst (AreReady m) (sym c.enter-2.ensures.state)
-    (ready_entered m c.args.self.now (subst (λ (u : State). IsKept u.roster) c.self.view_is c.keeps.ensures) (subst (λ (u : State). AreKept u.requests) c.self.view_is c.keeps-2.ensures) c.next.result)
+    (ready_entered m c.args.self.now (subst (λ (u : State). RosterIsKept u.roster) c.self.view_is c.keeps.ensures) (subst (λ (u : State). AreKept u.requests) c.self.view_is c.keeps-2.ensures) c.next.result)

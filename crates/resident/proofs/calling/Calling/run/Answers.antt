@@ -1,34 +1,34 @@
 use Rattle.std.proofs.Common.{◌≡◌, sym, ap, ◌∙◌, subst}
 use Rattle.std.specs.Arc.{arc_value}
 use Rattle.syntax.specs.Loaded.{Loaded}
-use Rattle.resident.specs.Underway.{Called, IsSomeCall}
-use Rattle.resident.specs.Inner.Going.{Runs, called, inside}
-use Rattle.resident.specs.declared.calling.Place.{Place}
-use Rattle.resident.specs.declared.calling.Place.TheVariants.{Inside}
+use Rattle.resident.specs.Underway.{CallUnderway, IsSomeCall}
+use Rattle.resident.specs.Inner.Going.{MachineFits, call_underway, inside_call}
+use Rattle.resident.specs.declared.calling.CallPlace.{CallPlace}
+use Rattle.resident.specs.declared.calling.CallPlace.TheVariants.{Inside}
 use Rattle.resident.proofs.SlicesAreOneCall.{inside_of}
 use Rattle.resident.proofs.calling.Calling.run.Goals as goal
 
 pub go_on-requires-clause-some : goal.go_on-requires-clause-some
 go_on-requires-clause-some c =
     let i = c.self.inside in
-    let place : i.place ≡ Inside c.args.paused = inside_of i.place c.args.paused (ap (λ (x : Called). x.place) c.self.view_is ∙ c.requires.place) in
-    subst (λ (p : Place). IsSomeCall (called c.valid.result.now i.state i.machine p)) place
-    (subst (λ (l : Loaded). IsSomeCall (called l i.state i.machine i.place)) (sym (c.valid.ensures.same ∙ c.deref.ensures)) c.self.invariant.some)
+    let place : i.place ≡ Inside c.args.paused = inside_of i.place c.args.paused (ap (λ (x : CallUnderway). x.place) c.self.view_is ∙ c.requires.place) in
+    subst (λ (p : CallPlace). IsSomeCall (call_underway c.valid.result.now i.state i.machine p)) place
+    (subst (λ (l : Loaded). IsSomeCall (call_underway l i.state i.machine i.place)) (sym (c.valid.ensures.same ∙ c.deref.ensures)) c.self.invariant.some)
 
 pub invariant_of-result : goal.invariant_of-result
 invariant_of-result c =
     let i = c.self.inside in
     let n = c.go_on.new in
     let loaded : c.valid.result.now ≡ arc_value i.linked = c.valid.ensures.same ∙ c.deref.ensures in
-    let place : i.place ≡ Inside c.args.paused = inside_of i.place c.args.paused (ap (λ (x : Called). x.place) c.self.view_is ∙ c.requires.place) in
-    let q : IsSomeCall (inside c.valid.result.now i.state i.machine c.args.paused) =
-    subst (λ (p : Place). IsSomeCall (called c.valid.result.now i.state i.machine p)) place
-    (subst (λ (l : Loaded). IsSomeCall (called l i.state i.machine i.place)) (sym loaded) c.self.invariant.some) in
+    let place : i.place ≡ Inside c.args.paused = inside_of i.place c.args.paused (ap (λ (x : CallUnderway). x.place) c.self.view_is ∙ c.requires.place) in
+    let q : IsSomeCall (inside_call c.valid.result.now i.state i.machine c.args.paused) =
+    subst (λ (p : CallPlace). IsSomeCall (call_underway c.valid.result.now i.state i.machine p)) place
+    (subst (λ (l : Loaded). IsSomeCall (call_underway l i.state i.machine i.place)) (sym loaded) c.self.invariant.some) in
     let again = c.go_on.ensures.paused c.in-None.is in
-    let some : IsSomeCall (inside c.valid.result.now n.state n.self n.slice.paused) =
+    let some : IsSomeCall (inside_call c.valid.result.now n.state n.self n.slice.paused) =
     (q.0, q.1, q.2, q.3, q.4, (again.goes_on q.0 q.1 q.2 q.3 q.4 q.5).0) in
     record {
-      runs = subst (λ (l : Loaded). Runs l n.self) loaded c.go_on.ensures.runs;
+      runs = subst (λ (l : Loaded). MachineFits l n.self) loaded c.go_on.ensures.runs;
       fit = rw (← loaded) c.go_on.ensures.store;
-      some = subst (λ (l : Loaded). IsSomeCall (inside l n.state n.self n.slice.paused)) loaded some;
+      some = subst (λ (l : Loaded). IsSomeCall (inside_call l n.state n.self n.slice.paused)) loaded some;
     }

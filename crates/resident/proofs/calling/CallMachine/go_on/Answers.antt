@@ -3,7 +3,7 @@ use Rattle.std.specs.Arc.{arc_value}
 use Rattle.instance.specs.Stops.{stop_of}
 use Rattle.instance.specs.declared.stack.Caller.{Caller}
 use Rattle.resident.proofs.SlicesAreOneCall.{some_paused, over_calls, goes_on, take_seam}
-use Rattle.resident.proofs.calling.Machine.go_on.Goals as goal
+use Rattle.resident.proofs.calling.CallMachine.go_on.Goals as goal
 
 pub go_on-requires-clause-paused : goal.go_on-requires-clause-paused
 go_on-requires-clause-paused c =

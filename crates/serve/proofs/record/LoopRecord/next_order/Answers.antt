@@ -5,7 +5,7 @@ use Rattle.serve.specs.Histories.{thread_calls}
 use Rattle.serve.specs.Inner.Alone.{IsAlone}
 use Rattle.serve.proofs.OneEventMore.{does_order}
 use Rattle.serve.proofs.Turning.{goes_still, handed_roster, handed_phase}
-use Rattle.serve.proofs.record.Record.next_order.Goals as goal
+use Rattle.serve.proofs.record.LoopRecord.next_order.Goals as goal
 
 pub invariant_of-self : goal.invariant_of-self
 invariant_of-self c =

@@ -2,7 +2,7 @@ use Rattle.std.proofs.Common.{◌≡◌, ◌<◌, ◌≤◌}
 use Rattle.limits.specs.declared.TheConstants.{MAX_CALLBACKS}
 use Rattle.serve.specs.Histories.{thread_calls}
 use Rattle.serve.specs.Inner.Turns.{Drains}
-use Rattle.serve.proofs.record.Record.step_through.Given as goal
+use Rattle.serve.proofs.record.LoopRecord.step_through.Given as goal
 
 abbrev pub invariant-loop : goal.invariant-loop
 invariant-loop g l =

@@ -1,9 +1,9 @@
 use Rattle.std.proofs.Common.{◌++◌, ap, ◌∙◌, arith}
-use Rattle.phases.specs.Bare.{whole}
+use Rattle.phases.specs.Bare.{whole_did}
 use Rattle.serve.proofs.OneEventMore.{does_run, does_other, tells_other}
 use Rattle.serve.proofs.SentAlone.{step_alone}
 use Rattle.serve.proofs.Turning.{step_drains, step_at_turn, step_drained}
-use Rattle.serve.proofs.record.Record.step.Goals as goal
+use Rattle.serve.proofs.record.LoopRecord.step.Goals as goal
 
 pub append-requires : goal.append-requires
 append-requires c =
@@ -15,11 +15,11 @@ pub invariant_of-self-in-Ran : goal.invariant_of-self-in-Ran
 invariant_of-self-in-Ran c =
     let r = c.args.self.now in
     let step = c.step_bare-did in
-    let alone = step_alone r.core.setting r.core.loop (whole step.result) step.new.self.loop step.ensures.step r.alone in
+    let alone = step_alone r.core.setting r.core.loop (whole_did step.result) step.new.self.loop step.ensures.step r.alone in
     record {
       few = omega arith;
       alone = alone;
-      told = does_run step.ensures.setting r.told alone c.append.new.emits.items _ _ _ (whole step.result) (ap whole c.in-Ran.is) step.ensures.step
+      told = does_run step.ensures.setting r.told alone c.append.new.emits.items _ _ _ (whole_did step.result) (ap whole_did c.in-Ran.is) step.ensures.step
           (c.append.ensures ∙ ap (λ xs. xs ++ c.emits.result.now) c.reserve.ensures.items ∙ ap (λ xs. r.emits.items ++ xs) c.emits.ensures.emits);
     }
 
@@ -27,11 +27,11 @@ pub invariant_of-self-in_default : goal.invariant_of-self-in_default
 invariant_of-self-in_default c =
     let r = c.args.self.now in
     let step = c.step_bare-did in
-    let alone = step_alone r.core.setting r.core.loop (whole step.result) step.new.self.loop step.ensures.step r.alone in
+    let alone = step_alone r.core.setting r.core.loop (whole_did step.result) step.new.self.loop step.ensures.step r.alone in
     record {
       few = r.few;
       alone = alone;
-      told = does_other step.ensures.setting r.told alone c.reserve.new.self.items (whole step.result) step.ensures.step c.reserve.ensures.items
+      told = does_other step.ensures.setting r.told alone c.reserve.new.self.items (whole_did step.result) step.ensures.step c.reserve.ensures.items
           (tells_other step.result c.in_default.not-Ran);
     }
 

@@ -1,7 +1,7 @@
 use Rattle.std.proofs.Common.{sym, ◌∙◌}
 use Rattle.serve.specs.Histories.{thread_calls}
 use Rattle.serve.proofs.Turning.{waits}
-use Rattle.serve.proofs.record.Record.wait.Goals as goal
+use Rattle.serve.proofs.record.LoopRecord.wait.Goals as goal
 
 pub returns-in-Forever-clause-comes : goal.returns-in-Forever-clause-comes
 returns-in-Forever-clause-comes g c =

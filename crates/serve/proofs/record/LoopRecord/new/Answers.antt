@@ -2,7 +2,7 @@ use Rattle.std.proofs.Common.{arith}
 use Rattle.serve.specs.Histories.{thread_calls}
 use Rattle.serve.proofs.OneEventMore.{does_nothing}
 use Rattle.serve.proofs.Turning.{opening_goes}
-use Rattle.serve.proofs.record.Record.new.Goals as goal
+use Rattle.serve.proofs.record.LoopRecord.new.Goals as goal
 
 pub invariant_of-result : goal.invariant_of-result
 invariant_of-result c = record {

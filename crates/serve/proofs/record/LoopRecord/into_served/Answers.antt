@@ -1,5 +1,5 @@
 use Rattle.serve.proofs.OneEventMore.{ended_by, served_by}
-use Rattle.serve.proofs.record.Record.into_served.Goals as goal
+use Rattle.serve.proofs.record.LoopRecord.into_served.Goals as goal
 
 pub invariant_of-result : goal.invariant_of-result
 invariant_of-result c =

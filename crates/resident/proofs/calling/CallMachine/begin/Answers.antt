@@ -1,7 +1,7 @@
 use Rattle.std.proofs.Common.{refl, ◌∙◌}
 use Rattle.std.specs.Arc.{arc_value}
 use Rattle.resident.proofs.SlicesAreOneCall.{begun}
-use Rattle.resident.proofs.calling.Machine.begin.Goals as goal
+use Rattle.resident.proofs.calling.CallMachine.begin.Goals as goal
 
 pub returns-clause-comes : goal.returns-clause-comes
 returns-clause-comes c =

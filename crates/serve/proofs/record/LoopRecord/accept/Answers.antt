@@ -4,7 +4,7 @@ use Rattle.serve.specs.Histories.{thread_calls}
 use Rattle.serve.specs.Inner.Alone.{IsAlone}
 use Rattle.serve.proofs.OneEventMore.{does_accept, accepted_leaves}
 use Rattle.serve.proofs.Turning.{goes_still}
-use Rattle.serve.proofs.record.Record.accept.Goals as goal
+use Rattle.serve.proofs.record.LoopRecord.accept.Goals as goal
 
 pub invariant_of-self : goal.invariant_of-self
 invariant_of-self c =

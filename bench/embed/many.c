@@ -1,6 +1,7 @@
-/* LOOPS loops of one guest in one thread, a turn of each in turn, TURNS times. usage: many FILE LOOPS TURNS
-   Prints, of one loop: microseconds to make it, KiB resident once it has run, KiB of address space, nanoseconds of a turn,
-   microseconds to drop it. */
+/* LOOPS loops of one guest in one thread, a turn of each in turn, for ROUNDS rounds of some 1,000 turns at least.
+   usage: many FILE LOOPS ROUNDS
+   Prints, of one loop: microseconds to make it, KiB resident once it has run, KiB of address space, nanoseconds of a turn in the
+   shortest round, microseconds to drop it. */
 #include <stdio.h>
 #include <stdlib.h>
 #include <string.h>
@@ -47,7 +48,7 @@ int main(int argc, char **argv) {
     if (!file) return 2;
     size_t length = fread(bytes, 1, sizeof bytes, file);
     fclose(file);
-    int count = atoi(argv[2]), turns = atoi(argv[3]);
+    int count = atoi(argv[2]), rounds = atoi(argv[3]), turns = count < 1000 ? 1000 / count : 1;
     wasmloop_handle *loops = calloc((size_t)count, sizeof *loops);
     if (!loops) return 2;
     must(wasmloop_load(bytes, length, &module, &fault));
@@ -55,14 +56,19 @@ int main(int argc, char **argv) {
     for (int i = 0; i < count; i++) must(wasmloop_loop(&module, &limits, &loops[i]));
     double made = now() - began;
     for (int i = 0; i < count; i++) turn(&loops[i]);
-    resident = status("VmRSS:") - resident, space = status("VmSize:") - space, began = now();
-    for (int k = 0; k < turns; k++)
-        for (int i = 0; i < count; i++) turn(&loops[i]);
-    double ran = now() - began;
+    resident = status("VmRSS:") - resident, space = status("VmSize:") - space;
+    double least = 1e9;
+    for (int r = 0; r < rounds; r++) {
+        began = now();
+        for (int k = 0; k < turns; k++)
+            for (int i = 0; i < count; i++) turn(&loops[i]);
+        double took = now() - began;
+        if (took < least) least = took;
+    }
     began = now();
     for (int i = 0; i < count; i++) must(wasmloop_drop(&loops[i]));
     double dropped = now() - began;
-    printf("%f %f %f %f %f\n", made / count * 1e6, resident / count, space / count, ran / turns / count * 1e9, dropped / count * 1e6);
+    printf("%f %f %f %f %f\n", made / count * 1e6, resident / count, space / count, least / turns / count * 1e9, dropped / count * 1e6);
     must(wasmloop_drop(&module));
     return 0;
 }

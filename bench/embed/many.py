@@ -5,8 +5,8 @@
 
 1 to 10,000 loops of a guest with one idle, in one thread, a turn of each in turn: what one takes to be made and dropped, its memory, and
 its turn, as a multiple of a turn of one loop alone. libuv's loops have an idle each; they take some file descriptors each, so there are
-fewer. All in turns, the minimum of five. Then the bytes that a loaded module keeps, as a multiple of its own: three of the examples, and
-those that are named.
+fewer. All in turns, the minimum of five processes; of a process the shortest round, so that what else runs counts little. Then the bytes
+that a loaded module keeps, as a multiple of its own: three of the examples, and those that are named.
 """
 import subprocess
 import sys
@@ -17,7 +17,9 @@ HERE = Path(__file__).resolve().parent
 sys.path.insert(0, str(HERE.parent / "cost"))
 import common  # noqa: E402
 
-COUNTS, COUNTS_UV, TURNS, TIMES = (1, 10, 100, 1_000, 10_000), (1, 10, 100, 1_000), 400_000, 5
+COUNTS, COUNTS_UV, TIMES = (1, 100, 200, 300, 500, 1_000, 10_000), (1, 100, 1_000), 5
+# A round has 1,000 turns at least.
+TURNS = 400_000
 EXAMPLES = [common.EXAMPLES / f"{name}.wasm" for name in ("crc32", "sha256", "digest")]
 # A guest whose idle never stops within the turns of a run.
 ENDLESS = 100_000_000
@@ -30,8 +32,8 @@ def host(folder, prefix, name):
     return f"{folder}/{name}"
 
 
-def turns(count):
-    return str(max(TURNS // count, 20))
+def rounds(count):
+    return str(max(TURNS // max(count, 1_000), 20))
 
 
 def numbers(command):
@@ -42,7 +44,7 @@ def loops(folder, prefix):
     """The table of loops."""
     many, many_uv = host(folder, prefix, "many"), common.compiled(f"{folder}/many_uv", HERE / "many_uv.c", "-luv")
     guest = common.guest("guest.c", f"{folder}/idle.wasm", SCENE="IDLE", N=ENDLESS, K=1)
-    commands = [[many, guest, str(it), turns(it)] for it in COUNTS] + [[many_uv, str(it), turns(it)] for it in COUNTS_UV]
+    commands = [[many, guest, str(it), rounds(it)] for it in COUNTS] + [[many_uv, str(it), rounds(it)] for it in COUNTS_UV]
     runs = [[numbers(command) for command in commands] for _ in range(TIMES)]
     least = [[min(it) for it in zip(*of_one)] for of_one in zip(*runs)]
     ours, theirs = least[:len(COUNTS)], dict(zip(COUNTS_UV, least[len(COUNTS):]))
@@ -52,7 +54,8 @@ def loops(folder, prefix):
         if count in theirs:
             made_uv, turn_uv = theirs[count]
             beside = f"{made_uv:18.1f} {turn_uv:9.0f} {turn_uv / theirs[1][1]:8.2f}"
-        print(f"{count:5} {made:8.1f} {resident:14.1f} {space:11.0f} {turn:9.0f} {turn / ours[0][3]:8.2f} {dropped:12.1f}{beside}")
+        kept = f"{resident:14.1f} {space:11.0f}" if count > 1 else " " * 26
+        print(f"{count:5} {made:8.1f} {kept} {turn:9.0f} {turn / ours[0][3]:8.2f} {dropped:12.1f}{beside}")
 
 
 def modules(folder, prefix, files):

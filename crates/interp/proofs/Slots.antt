@@ -22,6 +22,7 @@ pub mod StepsSimulate
 pub mod SlotsAlike
 pub mod RunsOfContexts
 pub mod OperandsAreFound
+pub mod Addresses
 pub mod BodiesEnd
 pub mod Viewed
 pub mod RunsGoOn

@@ -6,7 +6,7 @@ use Rattle.syntax.specs.declared.types.Value.{Value}
 use Rattle.syntax.specs.declared.types.Value.TheVariants.{I32}
 use Rattle.instance.specs.Store.{Store}
 use Rattle.instance.specs.Fresh.{IsFresh}
-use Rattle.instance.specs.declared.stack.Site.{Site}
+use Rattle.instance.specs.Stops.{Halt}
 use Rattle.syntax.specs.declared.contents.Contents.{Contents}
 use Rattle.syntax.specs.declared.contents.FuncType.{FuncType}
 use Rattle.validate.specs.Typing.{HasFunctionType, type_of_function}
@@ -50,7 +50,7 @@ use Rattle.order.proofs.ImportTypes.{import_known}
 use Rattle.order.proofs.FunctionTypes.{has_type, known_as}
 use Rattle.order.proofs.WorkHostAnswers.{work_stops, work_serves, not_returned, served}
 
-module _ (o : WorkOrder) (fuel : ℕ) (s t : Store) (old new : WorkHost) (serves : Serves old o) (function : ℕ) (args : List Value) (ended : Ended) (stop : Option (List Site))
+module _ (o : WorkOrder) (fuel : ℕ) (s t : Store) (old new : WorkHost) (serves : Serves old o) (function : ℕ) (args : List Value) (ended : Ended) (stop : Option Halt)
     (over : RunIsOver o.loaded.contents o.depth WorkAnswered function s old args fuel ended t new stop) where
   -- a call in slices is a call of the order's
   pub over_stops : WorkStop o fuel s old.reply.items function args ended t new.reply.items stop
@@ -64,7 +64,7 @@ pub take_seam : {A : Type 0} (n : ℕ) (xs ys : List A) → length xs ≡ n → 
 take_seam n xs ys e = subst (λ (k : ℕ). take k (xs ++ ys) ≡ xs) e (take-append_seam xs ys)
 
 -- the start function, in slices, is over
-module _ (o : WorkOrder) (s t : Store) (old reply : List ℕ) (function : ℕ) (ended : Ended) (stop : Option (List Site))
+module _ (o : WorkOrder) (s t : Store) (old reply : List ℕ) (function : ℕ) (ended : Ended) (stop : Option Halt)
     (fresh : IsFresh o.loaded.contents s) (is_start : o.loaded.contents.start ≡ Some function) (empty : old ≡ [])
     (ran : WorkStop o o.fuel s old function [] ended t reply stop) where
   start_stops : WorkStop o o.fuel s [] function [] ended t reply stop
@@ -103,7 +103,7 @@ no_start o s reply fresh none empty = record {
 }
 
 -- `uv_work`, in slices, is over: so the order is computed
-pub work_computes : (o : WorkOrder) (mid t : Store) (old reply : List ℕ) (first function : ℕ) (ended : Ended) (stop : Option (List Site)) → StartIsOver o first mid old
+pub work_computes : (o : WorkOrder) (mid t : Store) (old reply : List ℕ) (first function : ℕ) (ended : Ended) (stop : Option Halt) → StartIsOver o first mid old
     → ExportsFunction o.loaded.contents (codes "uv_work") function
     → WorkStop o (o.fuel - first) mid old function (I32 o.op ∷ []) ended t reply stop
     → (e : WorkEnd) → EndsAs (end_of_run ended.ending) reply e

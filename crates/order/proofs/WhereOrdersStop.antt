@@ -5,7 +5,7 @@ use Rattle.syntax.specs.declared.types.Value.{Value}
 use Rattle.syntax.specs.declared.types.Value.TheVariants.{I32}
 use Rattle.instance.specs.Store.{Store}
 use Rattle.instance.specs.Fresh.{IsFresh}
-use Rattle.instance.specs.declared.stack.Site.{Site}
+use Rattle.instance.specs.Stops.{Halt}
 use Rattle.reduction.specs.Run.{Returned}
 use Rattle.reduction.specs.Running.{end_of_run}
 use Rattle.events.specs.declared.ended.Ended.{Ended}
@@ -19,7 +19,7 @@ use Rattle.order.specs.Work as work
 use Rattle.order.proofs.WorkHostAnswers.{not_returned}
 
 -- the start function does not return
-pub stops_to : (o : WorkOrder) (s t : Store) (ended : Ended) (reply : List ℕ) (stop : Option (List Site)) (e : WorkEnd) → IsFresh o.loaded.contents s
+pub stops_to : (o : WorkOrder) (s t : Store) (ended : Ended) (reply : List ℕ) (stop : Option Halt) (e : WorkEnd) → IsFresh o.loaded.contents s
     → StartRun o o.loaded.contents.start s (end_of_run ended.ending) ended.used t reply → ((values : List Value) → ended.ending ≡ Return values → ⊥)
     → ((f : ℕ) → o.loaded.contents.start ≡ Some f → WorkStop o o.fuel s [] f [] ended t reply stop)
     → EndsAs (end_of_run ended.ending) reply e → ComputesTo o e ended.used stop
@@ -29,7 +29,7 @@ stops_to o s t ended reply stop e fresh run not stopped end = by_start o.loaded.
   by_start (Some f) is r = stops s t ended reply f fresh is (stopped f is) (not_returned ended.ending not) refl end
 
 -- it returns, and `uv_work` runs with the fuel that is left
-pub works_to : (o : WorkOrder) (s t u : Store) (started ended : Ended) (values : List Value) (reply reply' : List ℕ) (stop : Option (List Site)) (e : WorkEnd) → IsFresh o.loaded.contents s
+pub works_to : (o : WorkOrder) (s t u : Store) (started ended : Ended) (values : List Value) (reply reply' : List ℕ) (stop : Option Halt) (e : WorkEnd) → IsFresh o.loaded.contents s
     → started.ending ≡ Return values → StartRun o o.loaded.contents.start s (end_of_run started.ending) started.used t reply
     → (f : ℕ) × ExportsFunction o.loaded.contents (codes "uv_work") f × WorkStop o (o.fuel - started.used) t reply f (I32 o.op ∷ []) ended u reply' stop
     → EndsAs (end_of_run ended.ending) reply' e → ComputesTo o e (started.used + ended.used) stop
@@ -48,7 +48,7 @@ is_computed o end used stop (works s t u results ended first reply reply' functi
     work.works s t u results (end_of_run ended.ending) first ended.used reply reply' function fresh started exported ran.run all ends
 
 -- the trail is what is kept of that
-pub leaves : (o : WorkOrder) (e : WorkEnd) (used : ℕ) (stop : Option (List Site)) (trail : Option Innermost) → e ≢ NoMemory → ComputesTo o e used stop → trail ≡ option_map innermost_sites stop
+pub leaves : (o : WorkOrder) (e : WorkEnd) (used : ℕ) (stop : Option Halt) (trail : Option Innermost) → e ≢ NoMemory → ComputesTo o e used stop → trail ≡ option_map innermost_sites stop
     → LeavesTrail o e used trail
 leaves o (Done value bytes) used stop trail told h is = (stop, h, is)
 leaves o (Trap code) used stop trail told h is = (stop, h, is)

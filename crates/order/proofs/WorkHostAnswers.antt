@@ -14,7 +14,7 @@ use Rattle.syntax.specs.declared.types.Value.TheVariants.{I32}
 use Rattle.validate.specs.Valid.{ValidModule}
 use Rattle.instance.specs.Store.{Store}
 use Rattle.instance.specs.Fresh.{IsFresh}
-use Rattle.instance.specs.declared.stack.Site.{Site}
+use Rattle.instance.specs.Stops.{Halt}
 use Rattle.reduction.specs.Hosting.{Names}
 use Rattle.reduction.specs.Invoking.{Invokes}
 use Rattle.reduction.specs.Leading.{Leads, calling, scene}
@@ -71,7 +71,7 @@ names_of v l h same linked other = rw (same, other) (names l.contents linked)
 
 -- a call of a function, as the order's
 module _ (o : WorkOrder) (fuel : ℕ) (v : Loaded) (is : v ≡ o.loaded) (s t : Store) (old new : WorkHost) (serves : Serves old o) (function : ℕ) (args : List Value) (ended : Ended) where
-  pub work_stops : (stop : Option (List Site)) → Leads WorkAnswered (calling v.contents function args fuel o.depth) (scene s old) ended stop (scene t new)
+  pub work_stops : (stop : Option Halt) → Leads WorkAnswered (calling v.contents function args fuel o.depth) (scene s old) ended stop (scene t new)
       → WorkStop o fuel s old.reply.items function args ended t new.reply.items stop
   work_stops stop h = record {
     run = record {
@@ -82,7 +82,7 @@ module _ (o : WorkOrder) (fuel : ℕ) (v : Loaded) (is : v ≡ o.loaded) (s t : 
     stops = subst (λ (l : Loaded). StopsAt l.contents o.depth s function args h.asked ended.ending ended.used t stop) is h.stopped;
   }
 
-  pub work_serves : (stop : Option (List Site)) → Leads WorkAnswered (calling v.contents function args fuel o.depth) (scene s old) ended stop (scene t new) → Serves new o
+  pub work_serves : (stop : Option Halt) → Leads WorkAnswered (calling v.contents function args fuel o.depth) (scene s old) ended stop (scene t new) → Serves new o
   work_serves stop h = (served o h.asked old new serves h.answered).serves
 
 pub not_returned : (how : Ending) → ((values : List Value) → how ≡ Return values → ⊥) → (results : List Value) → end_of_run how ≢ Returned results

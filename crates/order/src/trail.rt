@@ -10,12 +10,14 @@ use std::marker::Model;
 pub const MAX_TRAIL: usize = 17;
 
 /// The operation at which a run stopped and, from the inside outwards, the calls within which it did, at most `MAX_TRAIL`
-/// sites in all; and how many calls were open. A `Stop` has all of them, but goes with its instance.
+/// sites in all; how many calls were open; and the address, if the run stopped for an access outside the memory. A `Stop` has all of them,
+/// but goes with its instance.
 #[derive(Debug, Drop)]
 pub struct Trail {
     sites: [Site; MAX_TRAIL],
     count: usize,
     calls: usize,
+    address: Option<u64>,
 }
 
 impl Model for Trail {
@@ -25,15 +27,15 @@ impl Model for Trail {
 
     ghost Value = { Innermost };
 
-    ghost view = { λ t. record { sites = take t.count t.sites; calls = t.calls } };
+    ghost view = { λ t. record { sites = take t.count t.sites; calls = t.calls; address = t.address } };
 
     ghost invariant = { λ t. (t.count ≤ MAX_TRAIL) × (t.count ≤ t.calls) };
 }
 
 /// Copies the innermost sites, as many as there is room for.
 fn copy_sites(stop: &Stop<'_>, sites: &mut [Site])
-    requires { length sites.old ≤ length stop.now }
-    ensures { sites.new ≡ take (length sites.old) stop.now }
+    requires { length sites.old ≤ length stop.now.sites }
+    ensures { sites.new ≡ take (length sites.old) stop.now.sites }
 {
     for index in 0..sites.len() {
         let Some(site) = stop.get(index) else {
@@ -60,6 +62,7 @@ impl Trail {
             sites,
             count,
             calls,
+            address: stop.address(),
         }
     }
 
@@ -89,6 +92,13 @@ impl Trail {
         ensures { result ≡ self.now.calls }
     {
         self.calls
+    }
+
+    /// The address of the access outside the memory for which the run stopped, if it did for one.
+    pub fn address(&self) -> Option<u64>
+        ensures { result ≡ self.now.address }
+    {
+        self.address
     }
 
     /// How many of them there are around those that it has.

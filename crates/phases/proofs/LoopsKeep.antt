@@ -22,7 +22,7 @@ use Rattle.instance.specs.Store.{Store}
 use Rattle.reduction.specs.Hosting.{Lawful, Names}
 use Rattle.reduction.specs.Invoking.{Invokes, TakesArguments, HasNoResults}
 use Rattle.reduction.specs.Leading.{Leads, calling, scene}
-use Rattle.instance.specs.declared.stack.Site.{Site}
+use Rattle.instance.specs.Stops.{Halt}
 use Rattle.reduction.specs.Running.{end_of_run}
 use Rattle.instance.specs.Storing.{IsStoreOf}
 use Rattle.events.specs.declared.ended.Ended.{Ended}
@@ -182,7 +182,7 @@ module _ (m : Contents) (f n : ℕ) where
 module _ {G S : Type 0} (calls : Calls S) (setting : G → Setting) (standing : G → State × S) (l v : Loaded) (is : v ≡ l) (g : Setting) (old : Loop S)
     (keeps : KeepsLoop l g old.state old.store) (before after : G) (made : setting before ≡ g) (reply : Option (List ℕ))
     (begins : standing before ≡ (begun old.state reply, old.shared)) (t : Store) (function : ℕ) (args : List Value) (ended : Ended)
-    (stop : Option (List Site)) (h : Leads (Answered calls setting standing) (calling v.contents function args g.fuel g.depth) (scene old.store before) ended stop (scene t after)) where
+    (stop : Option Halt) (h : Leads (Answered calls setting standing) (calling v.contents function args g.fuel g.depth) (scene old.store before) ended stop (scene t after)) where
   answered : Lawful (HostStep calls g) h.asked (begun old.state reply, old.shared) (standing after)
   answered =
       let it = served calls setting standing h.asked before after h.answered in

@@ -3,7 +3,7 @@ use Rattle.std.proofs.Common.{ℕ, List, Option, Some, None, IfSome, ◌≡◌, 
 use Rattle.syntax.specs.Loaded.{Loaded}
 use Rattle.syntax.specs.declared.types.Value.{Value}
 use Rattle.instance.specs.Store.{Store}
-use Rattle.instance.specs.declared.stack.Site.{Site}
+use Rattle.instance.specs.Stops.{Halt}
 use Rattle.events.specs.declared.ended.Ended.{Ended}
 use Rattle.reduction.specs.Hosting.{Lawful}
 use Rattle.reduction.specs.Leading.{Leads, calling, scene}
@@ -16,7 +16,7 @@ use Rattle.phases.proofs.GuestCallsKeep.{served}
 
 -- where a call on the host of a loop stopped, if it did
 pub stops_at : {G S : Type 0} (calls : Calls S) (setting : G → Setting) (standing : G → State × S) (v : Loaded) (g : Setting) → v ≡ g.loaded
-    → (before after : G) → setting before ≡ g → (s t : Store) (function : ℕ) (args : List Value) (ended : Ended) (stop : Option (List Site))
+    → (before after : G) → setting before ≡ g → (s t : Store) (function : ℕ) (args : List Value) (ended : Ended) (stop : Option Halt)
     → Leads (Answered calls setting standing) (calling v.contents function args g.fuel g.depth) (scene s before) ended stop (scene t after)
     → IfSome stop (λ sites. ∥ LoopStopsAt calls (setting after) t sites ∥₁)
 stops_at calls setting standing v g is before after made s t function args ended None w = tt

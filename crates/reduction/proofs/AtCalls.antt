@@ -8,10 +8,11 @@ use Rattle.syntax.specs.declared.instruction.Token.TheVariants as op
 use Rattle.syntax.specs.Code.{operations, operations_to}
 use Rattle.validate.specs.Targets.{size}
 use Rattle.instance.specs.declared.stack.Site.{Site}
+use Rattle.instance.specs.Stops.{Halt}
 use Rattle.reduction.specs.Step.{left_with, at_code}
 use Rattle.reduction.specs.Run.{HostCall, RunEnd}
 use Rattle.reduction.specs.Stopping.{Mark, Moment, Inside, Called, RunsTo, ends, traps, spent, too_deep, goes, calls, asks, Stopped, moved, branched_to}
-use Rattle.reduction.specs.Stopping.{returned_to, behind_instruction, behind_first, marks_after, marks_entered, sites, stopped_at}
+use Rattle.reduction.specs.Stopping.{returned_to, behind_instruction, behind_first, marks_after, marks_entered, sites, stopped_at, halt_at}
 use Rattle.reduction.specs.Laws.{CallsFunction, AreInCalls}
 use Rattle.reduction.proofs.PlacesGuided.{first_at, behind_code}
 use Rattle.reduction.proofs.Rules.{Reaches, InCall, Jumps, Calling, Opening, StepRule, next_rule}
@@ -273,9 +274,10 @@ module _ (m : Contents) where
   runs {s = s} {contexts = contexts} {marks = marks} (asks call below e i b run) k =
       runs run (answered call.function below (marks_after contexts marks) (as_operands call.answer) (stepped s contexts marks (Calls call.function call.args below) k e))
 
-pub stops_in_calls : (m : Contents) (depth : ℕ) (s : Store) (function : ℕ) (args : List Value) (trace : List HostCall) (outcome : RunEnd) (used : ℕ) (t : Store) (stop : List Site)
-    → Stopped m depth s function args trace outcome used t (Some stop) → AreInCalls m stop
+pub stops_in_calls : (m : Contents) (depth : ℕ) (s : Store) (function : ℕ) (args : List Value) (trace : List HostCall) (outcome : RunEnd) (used : ℕ) (t : Store) (stop : Halt)
+    → Stopped m depth s function args trace outcome used t (Some stop) → AreInCalls m stop.sites
 stops_in_calls m depth s function args trace outcome used t stop w =
-    let same : stop ≡ stopped_at w.last.marks = let told = w.told in cc in
+    let whole : stop ≡ halt_at outcome w.last = let told = w.told in cc in
+    let same : stop.sites ≡ stopped_at w.last.marks = ap (λ (h : Halt). h.sites) whole in
     let first = begins m w.type w.f args w.defined.0 [] [] w.defined.2 (λ locals arity. outermost refl) in
     subst (AreInCalls m) (sym same) (runs m w.runs first)

@@ -1,7 +1,7 @@
 -- Two calls of a function from outside, from one start.
 use Rattle.reduction.proofs.Words.{◌≡◌, ℕ, List, [], ◌∷◌, reverse, refl, sym, ap, ◌∙◌, subst, Value, Contents, Store, Context, entered, as_operands}
 use Rattle.std.proofs.Common.{Option, get_or}
-use Rattle.instance.specs.declared.stack.Site.{Site}
+use Rattle.instance.specs.Stops.{Halt}
 use Rattle.std.proofs.lemmas.List.{reverse-reverse}
 use Rattle.instance.specs.Store.{with_memory}
 use Rattle.reduction.specs.Run.{HostCall, RunEnd, Returned, Trapped, TooDeep, OutOfFuel, RunsWithin}
@@ -84,7 +84,7 @@ same_ended e e' ending used =
     λ i. record { ending = same i; used = used i }
 
 pub one_invocation : {H V : Type 0} (see : H → V) (moves : H → HostCall → H → Type 0) → IsDetermined see moves
-    → (call : Call) (s : Store) (ended ended' : Ended) (stop stop' : Option (List Site)) (t t' : Store) (old old' new new' : H) → see old ≡ see old'
+    → (call : Call) (s : Store) (ended ended' : Ended) (stop stop' : Option Halt) (t t' : Store) (old old' new new' : H) → see old ≡ see old'
     → Leads moves call (scene s old) ended stop (scene t new) → Leads moves call (scene s old') ended' stop' (scene t' new')
     → (ended ≡ ended') × (stop ≡ stop') × (t ≡ t') × (see new ≡ see new')
 one_invocation see moves determined call s ended ended' stop stop' t t' old old' new new' seen r r' =

@@ -10,8 +10,8 @@ use Rattle.reduction.specs.Step.{Move, Goes, Traps, Calls, Ends, next}
 use Rattle.reduction.specs.Run as run
 use Rattle.reduction.specs.Run.{HostCall, RunEnd, Run, Returned, Trapped, TooDeep, OutOfFuel, IsCharged, IsDefined, IsImported, as_operands}
 use Rattle.reduction.specs.Stopping.{Mark, Moment, RunsTo, ends, traps, spent, too_deep, goes, calls, asks, marks_after, marks_entered}
-use Rattle.reduction.specs.Stopping.{Stopped, StopsAt, stopped_at}
-use Rattle.instance.specs.declared.stack.Site.{Site}
+use Rattle.reduction.specs.Stopping.{Stopped, StopsAt, halt_at}
+use Rattle.instance.specs.Stops.{Halt}
 use Rattle.events.specs.declared.ended.Ending.{Ending}
 use Rattle.events.specs.declared.ended.Ending.TheVariants as how
 use Rattle.reduction.proofs.OneRun.{not_both, one_function, some_charge}
@@ -125,7 +125,7 @@ module _ (m : Contents) (depth : ℕ) where
   one_stop s contexts marks trace outcome used t t' last last' first second = alike first last' trace outcome used t' second refl refl refl
 
   -- so does a call from outside
-  stopped_one : (s : Store) (function : ℕ) (args : List Value) (trace trace' : List HostCall) (o o' : RunEnd) (u u' : ℕ) (t t' : Store) (stop stop' : Option (List Site))
+  stopped_one : (s : Store) (function : ℕ) (args : List Value) (trace trace' : List HostCall) (o o' : RunEnd) (u u' : ℕ) (t t' : Store) (stop stop' : Option Halt)
       → trace' ≡ trace → o' ≡ o → u' ≡ u → Stopped m depth s function args trace o u t stop → Stopped m depth s function args trace' o' u' t' stop' → stop ≡ stop'
   stopped_one s function args trace trace' o o' u u' t t' stop stop' p q w a b =
       let one = one_function m function b.type a.type b.f a.f b.defined a.defined in
@@ -135,9 +135,9 @@ module _ (m : Contents) (depth : ℕ) where
       (subst (λ (g : Func). RunsTo m depth b.last s (entered a.type g args []) (marks_entered g b.defined.0 []) trace' o' u' t') one.1
       (subst (λ (ty : FuncType). RunsTo m depth b.last s (entered ty b.f args []) (marks_entered b.f b.defined.0 []) trace' o' u' t') one.0 b.runs)) in
       let last = alike a.runs b.last trace' o' u' t' run p q w in
-      a.told ∙ ap (λ (x : Moment). Some (stopped_at x.marks)) last ∙ sym b.told
+      a.told ∙ ap (λ (x : Moment). Some (halt_at o x)) last ∙ ap (λ (x : RunEnd). Some (halt_at x b.last)) (sym q) ∙ sym b.told
 
-  pub stops_one : (s : Store) (function : ℕ) (args : List Value) (trace trace' : List HostCall) (e e' : Ending) (u u' : ℕ) (t t' : Store) (stop stop' : Option (List Site))
+  pub stops_one : (s : Store) (function : ℕ) (args : List Value) (trace trace' : List HostCall) (e e' : Ending) (u u' : ℕ) (t t' : Store) (stop stop' : Option Halt)
       → trace' ≡ trace → e' ≡ e → u' ≡ u → StopsAt m depth s function args trace e u t stop → StopsAt m depth s function args trace' e' u' t' stop' → stop ≡ stop'
   stops_one s function args trace trace' e e' u u' t t' stop stop' p q w a b =
       by_ending e a (subst (λ (x : Ending). StopsAt m depth s function args trace' x u' t' stop') q b) where

@@ -18,6 +18,7 @@ use Rattle.validate.specs.Valid.{ValidModule}
 use Rattle.instance.specs.Store.{Store}
 use Rattle.instance.specs.Storing.{HaveGlobalTypes}
 use Rattle.instance.specs.declared.stack.Site.{Site}
+use Rattle.instance.specs.Stops.{Halt}
 use Rattle.reduction.specs.Configuration.{Context, Label, entered, frames, receiving, types_of}
 use Rattle.reduction.specs.Step.{Goes, next}
 use Rattle.reduction.specs.Run.{HostCall, RunEnd, IsDefined, Run, RunsWithin}
@@ -149,7 +150,7 @@ AreInCalls m _ = Unit {0}
 abbrev pub StopsAreInCalls : Type 0
 StopsAreInCalls =
     (m : Contents) (depth : ℕ) (s : Store) (function : ℕ) (args : List Value) (trace : List HostCall) (outcome : RunEnd) (used : ℕ) (t : Store)
-    (stop : List Site) → Stopped m depth s function args trace outcome used t (Some stop) → AreInCalls m stop
+    (stop : Halt) → Stopped m depth s function args trace outcome used t (Some stop) → AreInCalls m stop.sites
 
 -- ---- the table
 
@@ -194,7 +195,7 @@ CallsAreDetermined {H} V moves =
 abbrev pub AnswersAreDetermined : {H : Type 0} → (V : Type 0) → (H → HostCall → H → Type 0) → Type 0
 AnswersAreDetermined {H} V moves =
     (see : H → V) → IsDetermined see moves
-    → (call : Call) (s : Store) (ended ended' : Ended) (stop stop' : Option (List Site)) (t t' : Store) (host host' new new' : H)
+    → (call : Call) (s : Store) (ended ended' : Ended) (stop stop' : Option Halt) (t t' : Store) (host host' new new' : H)
     → see host ≡ see host'
     → Leads moves call (scene s host) ended stop (scene t new)
     → Leads moves call (scene s host') ended' stop' (scene t' new')

@@ -7,7 +7,7 @@ use Rattle.syntax.specs.declared.types.Value.{Value}
 use Rattle.syntax.specs.declared.contents.Contents.{Contents}
 use Rattle.instance.specs.Store.{Store, memory_of}
 use Rattle.instance.specs.declared.stack.Caller.{Caller}
-use Rattle.instance.specs.declared.stack.Site.{Site}
+use Rattle.instance.specs.Stops.{Halt}
 use Rattle.validate.specs.declared.side_table.SideTable.{SideTable}
 use Rattle.events.specs.declared.ended.Ended.{Ended}
 use Rattle.events.specs.declared.ended.Ending.TheVariants.{Return}
@@ -83,7 +83,7 @@ module _ (loaded : Loaded) (tables : List SideTable) (slots : List ℕ) (frames 
     some_paused (a, d, fuel, f, args, come) = (a.store, h, args, fuel, here a d fuel f args come)
 
     module _ (h' : H) where
-      pub over_calls : (ended : Ended) (t : Store) (stop whole : Option (List Site)) → whole ≡ stop
+      pub over_calls : (ended : Ended) (t : Store) (stop whole : Option Halt) → whole ≡ stop
           → ((s : Store) (before : H) (args : List Value) (fuel : ℕ) → RunIsPaused m ts refuses s before args fuel paused slots fs store h
           → RunIsOver m paused.depth refuses paused.function s before args fuel ended t h' stop)
           → ReturnsTyped m paused.function ended.ending
@@ -91,7 +91,7 @@ module _ (loaded : Loaded) (tables : List SideTable) (slots : List ℕ) (frames 
           → CallsInstance a d fuel f args ended (record { loaded = loaded; store = t; stop = whole })
       over_calls ended t stop whole e over typed a d fuel f args come =
           let it : RunIsOver loaded.contents paused.depth refuses paused.function a.store h args fuel ended t h' whole =
-          subst (λ (x : Option (List Site)). RunIsOver loaded.contents paused.depth refuses paused.function a.store h args fuel ended t h' x) (sym e)
+          subst (λ (x : Option Halt). RunIsOver loaded.contents paused.depth refuses paused.function a.store h args fuel ended t h' x) (sym e)
           (subst (λ (x : Contents). RunIsOver x paused.depth refuses paused.function a.store h args fuel ended t h' stop) same (over a.store h args fuel (here a d fuel f args come))) in
           let b : KeptInstance = record { loaded = loaded; store = t; stop = whole } in
           let own : KeptInstance = record { loaded = loaded; store = a.store; stop = a.stop } in

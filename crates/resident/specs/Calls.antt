@@ -10,7 +10,7 @@ use Rattle.syntax.specs.declared.export.Export.{Export}
 use Rattle.syntax.specs.declared.types.Value.{Value}
 use Rattle.instance.specs.Store.{Store}
 use Rattle.instance.specs.Fresh.{IsFresh}
-use Rattle.instance.specs.declared.stack.Site.{Site as Operation}
+use Rattle.instance.specs.Stops.{Halt}
 use Rattle.reduction.specs.Run.{HostCall}
 use Rattle.reduction.specs.Running.{end_of_run}
 use Rattle.reduction.specs.Invoking.{Invokes, ReturnsTyped}
@@ -24,7 +24,7 @@ use Rattle.resident.specs.NoHost.{AnswersMinusOne}
 pub record KeptInstance : Type 0 where
   pub loaded : Loaded
   pub store : Store
-  pub stop : Option (List Operation)
+  pub stop : Option Halt
 
 -- each of the calls is answered with -1
 abbrev pub AllRefused : List HostCall → Type 0
@@ -34,7 +34,7 @@ AllRefused (call ∷ calls) = AnswersMinusOne call × AllRefused calls
 -- A function runs so from one store to another, while every import answers -1, and stops there, if it doesn't return: at this
 -- operation, within these calls.
 pub record Runs (m : Contents) (depth fuel : ℕ) (before : Store) (function : ℕ) (args : List Value) (ended : Ended) (after : Store)
-    (stop : Option (List Operation)) : Type 0 where
+    (stop : Option Halt) : Type 0 where
   pub asked : List HostCall
   pub refused : AllRefused asked
   pub ran : Invokes m depth fuel before function args asked (end_of_run ended.ending) ended.used after

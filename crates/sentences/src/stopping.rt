@@ -168,12 +168,21 @@ fn write_depth<E: Write>(allowed: Allowed, err: &mut E) -> io::Result<()> {
     )
 }
 
+/// Writes the address of an access outside the memory.
+fn write_address<E: Write>(trail: &Trail, err: &mut E) -> io::Result<()> {
+    match trail.address() {
+        Some(address) => write!(err, " at address {address}"),
+        None => Ok(()),
+    }
+}
+
 /// Writes why a run did not return.
 fn write_reason<E: Write>(stopped: &Unfinished<'_>, err: &mut E) -> io::Result<()> {
     match stopped.reason {
         Reason::Trap(trap) => {
             let (meaning, code) = (meaning(trap), trap.code());
-            write!(err, "trapped: {meaning} ({code})")
+            write!(err, "trapped: {meaning} ({code})")?;
+            write_address(stopped.trail, err)
         }
         Reason::Depth => write_depth(stopped.allowed, err),
         Reason::Spent => write!(

@@ -2,6 +2,7 @@
 use Rattle.std.specs.Prelude.{◌≡◌, ℕ, List, length, map, Option, Some, None}
 use Rattle.std.specs.Option.{option_map}
 use Rattle.instance.specs.declared.stack.Site.{Site as Operation}
+use Rattle.instance.specs.Stops.{Halt}
 use Rattle.instance.specs.Store.{Store}
 use Rattle.order.specs.Trails.{Innermost}
 use Rattle.phases.specs.State.{Setting}
@@ -20,8 +21,8 @@ abbrev pub site_numbers : Operation → Site
 site_numbers s = record { function = s.function; operation = s.operation }
 
 -- of a callback all calls are known
-abbrev pub whole_trail : List Operation → Innermost
-whole_trail sites = record { sites = sites; calls = length sites }
+abbrev pub whole_trail : Halt → Innermost
+whole_trail stop = record { sites = stop.sites; calls = length stop.sites; address = stop.address }
 
 abbrev pub told_of : StopPlace → Innermost
 told_of (place.Callback stop) = whole_trail stop
@@ -30,7 +31,8 @@ told_of (place.Job trail) = trail.now
 -- where a callback of a loop of this setting stopped that left this store, and all the calls around it
 abbrev pub IsStopOf : Setting → Store → Option Innermost → Type 0
 IsStopOf g store None = Unit {0}
-IsStopOf g store (Some stop) = (stop.calls ≡ length stop.sites) × ∥ LoopStopsAt desk_calls g store stop.sites ∥₁
+IsStopOf g store (Some stop) =
+    (stop.calls ≡ length stop.sites) × ∥ LoopStopsAt desk_calls g store (record { sites = stop.sites; address = stop.address }) ∥₁
 
 -- the sites are copied as far as there is room, and the count is how many calls were open
 abbrev pub TellsStop : Option Innermost → (old new : List Site) → (before count status : ℕ) → Type 0

@@ -5,8 +5,7 @@ use Rattle.interp.proofs.Slots.CallsBegin.{found_type, can_open, few_results, un
 use Rattle.interp.proofs.invoke.invoke_defined.Goals as goal
 use Rattle.instance.specs.declared.stack.Caller.{Caller}
 use Rattle.instance.specs.declared.stack.Last.{Last}
-use Rattle.instance.specs.declared.stack.Site.{Site}
-use Rattle.instance.specs.Stops.{stop_of}
+use Rattle.instance.specs.Stops.{Halt, stop_of}
 use Rattle.engine.specs.Stepping.{standing}
 use Rattle.interp.specs.Inner.Calling.{CallDoes}
 use Rattle.interp.specs.Slots.Hosted.{IsUnderWay, EndsSo, last_of}
@@ -64,5 +63,5 @@ returns-clause-does g c =
     callers c.args.state.now call.fuel can.store c.as_slice.result.now same
     g.H.Host.moves c.args.host.now n.host n.ended ends.0 kept n.state so in
     let stop : stop_of c.run_within.result n.frames ≡ stop_of (last_of n.ended.ending ends.0) kept = c.run_within.ensures.stop ∙ ap (λ (l : Option Last). stop_of l kept) ends.1 in
-    subst (λ (o : Option (List Site)). CallDoes m call.depth call.fuel g.H.Host.moves c.args.state.now c.args.host.now call.function call.args.now n.ended n.state n.host o) (sym stop)
+    subst (λ (o : Option Halt). CallDoes m call.depth call.fuel g.H.Host.moves c.args.state.now c.args.host.now call.function call.args.now n.ended n.state n.host o) (sym stop)
     (subst (λ (k : ℕ). CallDoes m k call.fuel g.H.Host.moves c.args.state.now c.args.host.now call.function call.args.now n.ended n.state n.host (stop_of (last_of n.ended.ending ends.0) kept)) d does)

@@ -1,7 +1,7 @@
 use Rattle.std.proofs.Common.{◌≡◌, ℕ, List, ◌+◌, ◌-◌, ◌<◌, ◌≤◌, ◌↔◌, IsTrue, Bool, take, Option, true, false, sym, subst, arith}
 use Rattle.events.specs.declared.ended.Ending.TheVariants as ending
 use Rattle.interp.proofs.Slots.Slicing.{going, paused_again, is_over, slice_returns_typed, slice_within, slice_typed, slice_fit, slice_few_results}
-use Rattle.instance.specs.declared.stack.Site.{Site}
+use Rattle.instance.specs.Stops.{Halt}
 use Rattle.interp.specs.Slices.{RunIsOver}
 use Rattle.interp.specs.Slots.Hosted.{IsUnderWay}
 use Rattle.interp.proofs.slices.go_on.Given.{Over}
@@ -83,7 +83,7 @@ returns-clause-over g c s before args fuel q =
     λ is. all_granted c.min-granted.result c.args.slice.now.paused.left (few g a) (λ less. not_paused _ _ c.is_paused.ensures c.if-is_paused.false (is, less)) in
     let n = c.run_within-last.new in
     let p = c.args.slice.now.paused in
-    subst (λ (stop : Option (List Site)). RunIsOver c.args.contents.now p.depth g.H.Host.moves p.function s before args fuel
+    subst (λ (stop : Option Halt). RunIsOver c.args.contents.now p.depth g.H.Host.moves p.function s before args fuel
     (record { ending = n.ended.ending; used = n.ended.used + p.used }) n.state n.host stop) (sym c.run_within-last.ensures.stop)
     (is_over c.args.contents.now c.requires.valid c.args.tables.now c.requires.agree g.H.Host.moves c.args.slice.now.paused
     c.as_slice.result.now c.in-Some.func_type.now c.in-Some.ensures c.as_slice.ensures c.new.result c.new.ensures

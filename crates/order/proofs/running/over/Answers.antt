@@ -1,5 +1,5 @@
 use Rattle.std.proofs.Common.{List, Option, sym, subst}
-use Rattle.instance.specs.declared.stack.Site.{Site}
+use Rattle.instance.specs.Stops.{Halt}
 use Rattle.reduction.specs.Running.{end_of_run}
 use Rattle.order.specs.declared.host.WorkHost.{WorkHost}
 use Rattle.order.specs.Orders.{order_of}
@@ -13,5 +13,5 @@ tell-requires-clause-computes c end reads =
 
 pub tell-requires-clause-stops : goal.tell-requires-clause-stops
 tell-requires-clause-stops c end reads =
-    subst (λ (stop : Option (List Site)). ComputesTo (order_of c.args.order) end c.args.used stop) (sym c.into_parts-stack.ensures.stack)
+    subst (λ (stop : Option Halt). ComputesTo (order_of c.args.order) end c.args.used stop) (sym c.into_parts-stack.ensures.stack)
     (c.requires.computes end (subst (λ (h : WorkHost). EndsAs (end_of_run c.args.ending) h.reply.items end) c.into_parts-stack.ensures.host reads)).1

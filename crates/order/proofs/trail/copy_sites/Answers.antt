@@ -7,7 +7,7 @@ use Rattle.order.proofs.trail.copy_sites.Goals as goal
 pub loop-index-preserved : goal.loop-index-preserved
 loop-index-preserved c =
     let sites = c.loop-index.sites in
-    let stop = c.args.stop.now in
+    let stop = c.args.stop.now.sites in
     let index = c.loop-index.index in
     let site : Site = c.in-Some.site in
     let same = c.loop-index.invariant.same in

@@ -1,18 +1,18 @@
 use Rattle.std.proofs.Common.{rules, ◌≡◌, is_some, List, Option, Some, None, IfSome, refl, sym, ◌∙◌}
 use Rattle.std.specs.Option.{option_map}
 use Rattle.instance.specs.Store.{Store}
-use Rattle.instance.specs.declared.stack.Site.{Site as Operation}
+use Rattle.instance.specs.Stops.{Halt}
 use Rattle.phases.specs.State.{Setting}
 use Rattle.phases.specs.Stopping.{LoopStopsAt}
 use Rattle.desk.specs.Desk.{desk_calls}
 use Rattle.wasmloop_c.specs.Sites.{whole_trail, IsStopOf}
 use Rattle.wasmloop_c.proofs.place.tell_thing.Goals as goal
 
-known : (g : Setting) (store : Store) (stop : Option (List Operation)) → IfSome stop (λ sites. ∥ LoopStopsAt desk_calls g store sites ∥₁) → IsStopOf g store (option_map whole_trail stop)
+known : (g : Setting) (store : Store) (stop : Option Halt) → IfSome stop (λ sites. ∥ LoopStopsAt desk_calls g store sites ∥₁) → IsStopOf g store (option_map whole_trail stop)
 known g store None h = tt
 known g store (Some sites) h = (refl, h)
 
-has_stopped : (stop : Option (List Operation)) → is_some (option_map whole_trail stop) ≡ is_some stop
+has_stopped : (stop : Option Halt) → is_some (option_map whole_trail stop) ≡ is_some stop
 has_stopped None = refl
 has_stopped (Some sites) = refl
 

@@ -1,4 +1,4 @@
-use Rattle.std.proofs.Common.{◌≡◌, ℕ, List, ◌+◌, ◌-◌, ◌<◌, ◌≤◌, ◌↔◌, IsTrue, Bool, take, Option, true, false, sym, subst, arith}
+use Rattle.std.proofs.Common.{◌≡◌, ℕ, ◌+◌, ◌-◌, ◌<◌, ◌≤◌, ◌↔◌, IsTrue, Bool, take, Option, true, false, sym, subst, arith}
 use Rattle.events.specs.declared.ended.Ending.TheVariants as ending
 use Rattle.interp.proofs.Slots.Slicing.{going, paused_again, is_over, slice_returns_typed, slice_within, slice_typed, slice_fit, slice_few_results}
 use Rattle.instance.specs.Stops.{Halt}

@@ -1,4 +1,4 @@
-use Rattle.std.proofs.Common.{List, Option, sym, subst}
+use Rattle.std.proofs.Common.{Option, sym, subst}
 use Rattle.instance.specs.Stops.{Halt}
 use Rattle.reduction.specs.Running.{end_of_run}
 use Rattle.order.specs.declared.host.WorkHost.{WorkHost}

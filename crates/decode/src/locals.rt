@@ -7,8 +7,8 @@ ghost use Rattle.decode.specs.Inner.Locals.{LocalsOf, as_pair};
 
 use crate::fault::DecodeFault;
 use crate::integers::unsigned;
-use crate::spelled::Spelled;
 use crate::stop::ReadingStop;
+use crate::types::val_type;
 use limits::MAX_LOCALS;
 use std::alloc::Global;
 use syntax::items::Items;
@@ -43,7 +43,7 @@ fn read_groups(
     let mut all = Vec::new(alloc);
     let mut rest = bytes;
     for _ in 0..groups {
-        let (next, behind) = group(alloc, rest)?;
+        let (next, behind) = group(rest)?;
         if next.count as usize > MAX_LOCALS - all.len() {
             return Err(ReadingStop::behind(DecodeFault::Limit, behind));
         }
@@ -53,10 +53,10 @@ fn read_groups(
     Ok((Items::from_vec(all), rest))
 }
 
-fn group(alloc: Global, bytes: &[u8]) -> Result<(LocalGroup, &[u8]), ReadingStop>
+fn group(bytes: &[u8]) -> Result<(LocalGroup, &[u8]), ReadingStop>
     ensures { ReadsBy as_pair spells_group bytes.now result }
 {
     let (count, rest) = unsigned(bytes)?;
-    let (value_type, rest) = ValType::read(alloc, rest)?;
+    let (value_type, rest) = val_type(rest)?;
     Ok((LocalGroup { count, value_type }, rest))
 }

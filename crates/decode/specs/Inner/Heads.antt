@@ -1,22 +1,16 @@
 -- What opcodes stand for.
-use Rattle.std.specs.Prelude.{◌≡◌, ℕ, []}
+use Rattle.std.specs.Prelude.{◌≡◌, ℕ, [], None}
 use Rattle.syntax.specs.declared.types.Value.TheVariants as value
-use Rattle.syntax.specs.declared.operator.MemArg.{MemArg}
 use Rattle.syntax.specs.declared.instruction.Instr.{Instr}
 use Rattle.syntax.specs.declared.instruction.Instr.TheVariants as instr
 use Rattle.syntax.specs.declared.instruction.Token.{Token}
 use Rattle.syntax.specs.declared.instruction.Token.TheVariants as operation
-use Rattle.syntax.specs.declared.types.ValType.TheVariants.{I32, I64}
-use Rattle.syntax.specs.declared.operator.Extension.TheVariants.{Signed, Unsigned}
-use Rattle.syntax.specs.declared.operator.Width.TheVariants.{One, Two, Four}
-use Rattle.syntax.specs.Operations.{operation_of}
+use Rattle.syntax.specs.Operations.{operation_of, accessing, long_index}
 use Rattle.syntax.specs.Language.{Language, nothing, only_if}
 use Rattle.syntax.specs.Instructions.{opcode, immediates}
-use Rattle.syntax.specs.Inner.Payloads.{payload, Empty, Reserved, Exists, no_access}
+use Rattle.syntax.specs.Inner.Payloads.{payload, Empty, Reserved, Access, Exists, no_access}
 use Rattle.decode.specs.declared.head.Indexed.{Indexed}
 use Rattle.decode.specs.declared.head.Indexed.TheVariants as index
-use Rattle.decode.specs.declared.head.Access.{Access}
-use Rattle.decode.specs.declared.head.Access.TheVariants as access
 use Rattle.decode.specs.declared.head.Head.{Head}
 use Rattle.decode.specs.declared.head.Head.TheVariants as head
 
@@ -31,28 +25,6 @@ indexed index.LocalTee n = instr.LocalTee n
 indexed index.GlobalGet n = instr.GlobalGet n
 indexed index.GlobalSet n = instr.GlobalSet n
 
--- the load or store with its alignment and offset
-abbrev pub accessing : Access → MemArg → Instr
-accessing access.I32Load m = instr.Load I32 m
-accessing access.I64Load m = instr.Load I64 m
-accessing access.I32Load8S m = instr.LoadNarrow I32 One Signed m
-accessing access.I32Load8U m = instr.LoadNarrow I32 One Unsigned m
-accessing access.I32Load16S m = instr.LoadNarrow I32 Two Signed m
-accessing access.I32Load16U m = instr.LoadNarrow I32 Two Unsigned m
-accessing access.I64Load8S m = instr.LoadNarrow I64 One Signed m
-accessing access.I64Load8U m = instr.LoadNarrow I64 One Unsigned m
-accessing access.I64Load16S m = instr.LoadNarrow I64 Two Signed m
-accessing access.I64Load16U m = instr.LoadNarrow I64 Two Unsigned m
-accessing access.I64Load32S m = instr.LoadNarrow I64 Four Signed m
-accessing access.I64Load32U m = instr.LoadNarrow I64 Four Unsigned m
-accessing access.I32Store m = instr.Store I32 m
-accessing access.I64Store m = instr.Store I64 m
-accessing access.I32Store8 m = instr.StoreNarrow I32 One m
-accessing access.I32Store16 m = instr.StoreNarrow I32 Two m
-accessing access.I64Store8 m = instr.StoreNarrow I64 One m
-accessing access.I64Store16 m = instr.StoreNarrow I64 Two m
-accessing access.I64Store32 m = instr.StoreNarrow I64 Four m
-
 -- no instruction has this opcode
 abbrev pub HasNone : ℕ → Type 0
 HasNone op = (i : Instr) → Exists (payload i) → opcode i ≡ op → ⊥
@@ -63,10 +35,10 @@ IsSuch P (operation.Plain i) = P i
 IsSuch P _ = ⊥
 
 abbrev pub StandsFor : ℕ → Head → Type 0
-StandsFor op (head.Whole o) = IsSuch (λ i. (opcode i ≡ op) × (payload i ≡ Empty)) (operation_of o)
-StandsFor op (head.Reserved o) = IsSuch (λ i. (opcode i ≡ op) × (payload i ≡ Reserved)) (operation_of o)
+StandsFor op (head.Whole o) = (long_index o ≡ None) × IsSuch (λ i. (opcode i ≡ op) × (payload i ≡ Empty)) (operation_of o)
+StandsFor op (head.Reserved o) = (long_index o ≡ None) × IsSuch (λ i. (opcode i ≡ op) × (payload i ≡ Reserved)) (operation_of o)
 StandsFor op (head.WithIndex o) = opcode (indexed o 0) ≡ op
-StandsFor op (head.WithAccess a) = opcode (accessing a no_access) ≡ op
+StandsFor op (head.WithAccess a) = (opcode (accessing a no_access) ≡ op) × (payload (accessing a no_access) ≡ Access no_access)
 StandsFor op head.BrTable = opcode (instr.BrTable [] 0) ≡ op
 StandsFor op head.CallIndirect = opcode (instr.CallIndirect 0) ≡ op
 StandsFor op head.I32Const = opcode (instr.Const (value.I32 0)) ≡ op

@@ -3,9 +3,9 @@ use Rattle.std.proofs.Common.{◌≡◌, ℕ, ◌+◌, ◌<◌, ◌≤◌, List,
 use Rattle.std.specs.Prelude.{unwrap_or}
 use Rattle.syntax.specs.Language.{Language, Leaves, items, counted}
 use Rattle.syntax.specs.Binary.{Section, section, section_of, contents_of}
-use Rattle.decode.specs.Inner.Reading.{IsShort}
+use Rattle.decode.specs.Inner.Reading.{FitsModule}
 
-pub left_short : {L : Language} {bytes rest : List ℕ} → IsShort bytes → Leaves L bytes rest → IsShort rest
+pub left_short : {L : Language} {bytes rest : List ℕ} → FitsModule bytes → Leaves L bytes rest → FitsModule rest
 left_short {bytes = bytes} {rest = rest} short l =
     let e : length bytes ≡ length (l.front ++ rest) = ap length l.split in
     omega (arith, short, e, length-append l.front rest)
@@ -17,7 +17,7 @@ counted_among text bytes c =
     let k : length c.back ≡ length text = ap length c.second in
     omega (arith, e, k, length-append c.front c.back)
 
-pub counted_short : {text bytes rest : List ℕ} → IsShort bytes → Leaves (counted text) bytes rest → IsShort text
+pub counted_short : {text bytes rest : List ℕ} → FitsModule bytes → Leaves (counted text) bytes rest → FitsModule text
 counted_short {text} {bytes} {rest} short l =
     let e : length bytes ≡ length (l.front ++ rest) = ap length l.split in
     omega (arith, short, e, length-append l.front rest, counted_among text l.front l.spelled)
@@ -42,9 +42,9 @@ section_among id (s ∷ ss) bytes h =
     among (nat_eq id s.id) s.contents (section_of id ss) (length bytes) (omega (arith, e, l, a, b, counted_among s.contents h.first.back h.first.second))
     (longer (section_of id ss) (length h.back) (length bytes) (omega (arith, e, a)) (section_among id ss h.back h.second))
 
-or_none : (y : Option (List ℕ)) → IfSome y IsShort → IsShort (unwrap_or y (0x00 ∷ []))
+or_none : (y : Option (List ℕ)) → IfSome y FitsModule → FitsModule (unwrap_or y (0x00 ∷ []))
 or_none None h = omega arith
 or_none (Some c) h = h
 
-pub sections_short : (ss : List Section) (bytes : List ℕ) → IsShort bytes → items section ss bytes → (id : ℕ) → IsShort (contents_of id ss)
+pub sections_short : (ss : List Section) (bytes : List ℕ) → FitsModule bytes → items section ss bytes → (id : ℕ) → FitsModule (contents_of id ss)
 sections_short ss bytes short h id = or_none (section_of id ss) (longer (section_of id ss) (length bytes) 1048576 short (section_among id ss bytes h))

@@ -1,6 +1,6 @@
 // The host is asked for an import.
 
-ghost use Rattle.std.specs.Prelude.{◌≡◌, ◌≤◌, ◌<◌, ◌+◌, ◌^◌, drop, length, option_copied};
+ghost use Rattle.std.specs.Prelude.{◌≡◌, ◌≤◌, ◌<◌, ◌+◌, ◌^◌, drop, length, IsSome, Some};
 ghost use Rattle.validate.specs.Typing.{type_of_function};
 ghost use Rattle.reduction.specs.Run.{IsImported, as_operands};
 ghost use Rattle.reduction.specs.Hosting.{Names};
@@ -15,7 +15,6 @@ use instance::stack::Slots;
 use instance::state::State;
 use syntax::contents::{Contents, FuncType};
 use syntax::types::Value;
-use validate::type_at;
 
 /// Lays an answer down, where there is one, and returns how many slots it takes.
 fn lay_answer(slots: &mut [u64], place: usize, answer: Option<Value>) -> usize
@@ -35,11 +34,13 @@ fn lay_answer(slots: &mut [u64], place: usize, answer: Option<Value>) -> usize
 
 /// The type of an import.
 #[inline(always)]
-fn type_of_import(contents: &Contents, import: usize) -> Option<&FuncType>
-    requires { IsImported contents.now import }
-    ensures { option_copied result ≡ type_of_function contents.now import }
+fn type_of_import(contents: &Contents, import: usize) -> &FuncType
+    requires imported { IsImported contents.now import }
+    requires known { IsSome (type_of_function contents.now import) }
+    ensures { Some result.now ≡ type_of_function contents.now import }
 {
-    type_at(contents, contents.imports.as_slice()[import].type_index)
+    let import = &contents.imports.as_slice()[import];
+    &contents.types.as_slice()[import.type_index as usize]
 }
 
 /// Asks the host for an import, whose arguments are the topmost slots up to a height. Its answer takes their place, and
@@ -60,10 +61,7 @@ fn ask_host<H: Host>(
     ensures asked { AsksImport contents.now H.moves import height at.old slots.old state.old host.old at.new slots.new state.new host.new }
     ensures types { H.types host.new ≡ H.types host.old }
 {
-    let Some(import_type) = type_of_import(contents, import) else {
-        unreachable!()
-    };
-    let params = import_type.params.as_slice();
+    let params = type_of_import(contents, import).params.as_slice();
     let place = height - params.len();
     let lent = &slots[place..height];
     let answer = host.call(import as u32, &Args::laid(params, lent), state.memory_mut());

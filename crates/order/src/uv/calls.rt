@@ -15,7 +15,6 @@ use crate::uv::answers::{INVALID, OUTSIDE_MEMORY};
 use imports::{Call, Linked};
 use instance::memory::Memory;
 use interp::host::Args;
-use syntax::types::Value;
 
 /// The function of "uv" that a linked module imports under this number, which is called with these arguments.
 #[inline(always)]
@@ -25,32 +24,7 @@ pub fn called(linked: &Linked, import: u32, args: &Args) -> Call
     ensures typed { map type_of args.now ≡ (type_of_call result).params }
     ensures answers { slice_get (import_types linked.now.contents) import ≡ Some (type_of_call result) }
 {
-    let Some(call) = linked.call(import) else {
-        unreachable!();
-    };
-    call
-}
-
-#[inline(always)]
-fn number_at(args: &Args, index: usize) -> u32
-    requires { slice_get (map type_of args.now) index ≡ Some valtype.I32 }
-    ensures { slice_get args.now index ≡ Some (value.I32 result) }
-{
-    match args.get(index) {
-        Some(Value::I32(number)) => number,
-        _ => unreachable!(),
-    }
-}
-
-#[inline(always)]
-fn wide_at(args: &Args, index: usize) -> u64
-    requires { slice_get (map type_of args.now) index ≡ Some valtype.I64 }
-    ensures { slice_get args.now index ≡ Some (value.I64 result) }
-{
-    match args.get(index) {
-        Some(Value::I64(number)) => number,
-        _ => unreachable!(),
-    }
+    linked.imported(import)
 }
 
 /// The argument of a call that takes one i32.
@@ -59,7 +33,7 @@ pub fn one(args: &Args) -> u32
     requires { map type_of args.now ≡ valtype.I32 ∷ [] }
     ensures { args.now ≡ value.I32 result ∷ [] }
 {
-    number_at(args, 0)
+    args.narrow(0)
 }
 
 /// The arguments of a call that takes two i32.
@@ -68,7 +42,7 @@ pub fn two(args: &Args) -> (u32, u32)
     requires { map type_of args.now ≡ valtype.I32 ∷ valtype.I32 ∷ [] }
     ensures { args.now ≡ value.I32 result.0 ∷ value.I32 result.1 ∷ [] }
 {
-    (number_at(args, 0), number_at(args, 1))
+    (args.narrow(0), args.narrow(1))
 }
 
 /// The arguments of a call that takes three i32.
@@ -77,7 +51,7 @@ pub fn three(args: &Args) -> (u32, u32, u32)
     requires { map type_of args.now ≡ valtype.I32 ∷ valtype.I32 ∷ valtype.I32 ∷ [] }
     ensures { args.now ≡ value.I32 result.0 ∷ value.I32 result.1 ∷ value.I32 result.2 ∷ [] }
 {
-    (number_at(args, 0), number_at(args, 1), number_at(args, 2))
+    (args.narrow(0), args.narrow(1), args.narrow(2))
 }
 
 /// The argument of a call that takes one i64.
@@ -86,7 +60,7 @@ pub fn one_wide(args: &Args) -> u64
     requires { map type_of args.now ≡ valtype.I64 ∷ [] }
     ensures { args.now ≡ value.I64 result ∷ [] }
 {
-    wide_at(args, 0)
+    args.wide(0)
 }
 
 /// The arguments of a call that takes two i32 and then two i64.
@@ -96,10 +70,10 @@ pub fn two_and_two_wide(args: &Args) -> (u32, u32, u64, u64)
     ensures { args.now ≡ value.I32 result.0 ∷ value.I32 result.1 ∷ value.I64 result.2 ∷ value.I64 result.3 ∷ [] }
 {
     (
-        number_at(args, 0),
-        number_at(args, 1),
-        wide_at(args, 2),
-        wide_at(args, 3),
+        args.narrow(0),
+        args.narrow(1),
+        args.wide(2),
+        args.wide(3),
     )
 }
 

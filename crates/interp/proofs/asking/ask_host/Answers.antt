@@ -12,11 +12,11 @@ use Rattle.interp.proofs.asking.ask_host.Goals as goal
 
 pub call-answer-requires : goal.call-answer-requires
 call-answer-requires g c =
-    let found = c.in-Some.ensures in
+    let found = c.type_of_import.ensures in
     let can = c.requires.can in
     let known = can.known in
-    let both : Some c.in-Some.import_type.now ≡ Some can.type = found ∙ known in
-    let type : c.in-Some.import_type.now ≡ can.type = cc in
+    let both : Some c.type_of_import.result.now ≡ Some can.type = found ∙ known in
+    let type : c.type_of_import.result.now ≡ can.type = cc in
     let params = c.as_slice-params.result.now in
     let is : params ≡ can.type.params = c.as_slice-params.ensures ∙ ap (λ (t : FuncType). t.params) type in
     let count : length params ≡ length can.type.params = ap (λ (ts : List ValType). length ts) is in
@@ -32,10 +32,10 @@ call-answer-requires g c =
 
 pub returns-clause-asked : goal.returns-clause-asked
 returns-clause-asked g c = λ type known.
-    let found = c.in-Some.ensures in
+    let found = c.type_of_import.ensures in
     let can = c.requires.can in
-    let both : Some c.in-Some.import_type.now ≡ Some type = found ∙ known in
-    let same : c.in-Some.import_type.now ≡ type = cc in
+    let both : Some c.type_of_import.result.now ≡ Some type = found ∙ known in
+    let same : c.type_of_import.result.now ≡ type = cc in
     let again : Some can.type ≡ Some type = sym can.known ∙ known in
     let one : can.type ≡ type = cc in
     let height = c.args.height in

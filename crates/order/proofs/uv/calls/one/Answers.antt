@@ -4,4 +4,4 @@ use Rattle.order.proofs.ImportTypes.{one_of}
 use Rattle.order.proofs.uv.calls.one.Goals as goal
 
 pub returns : goal.returns
-returns c = one_of I32 c.args.args.now (value.I32 c.number_at.result) c.requires c.number_at.ensures
+returns c = one_of I32 c.args.args.now (value.I32 c.narrow.result) c.requires c.narrow.ensures

@@ -5,5 +5,5 @@ use Rattle.order.proofs.uv.calls.three.Goals as goal
 
 pub returns : goal.returns
 returns c =
-    three_of I32 I32 I32 c.args.args.now (value.I32 c.number_at.result) (value.I32 c.number_at-2.result) (value.I32 c.number_at-3.result) c.requires
-    c.number_at.ensures c.number_at-2.ensures c.number_at-3.ensures
+    three_of I32 I32 I32 c.args.args.now (value.I32 c.narrow.result) (value.I32 c.narrow-2.result) (value.I32 c.narrow-3.result) c.requires
+    c.narrow.ensures c.narrow-2.ensures c.narrow-3.ensures

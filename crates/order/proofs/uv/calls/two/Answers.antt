@@ -4,4 +4,4 @@ use Rattle.order.proofs.ImportTypes.{two_of}
 use Rattle.order.proofs.uv.calls.two.Goals as goal
 
 pub returns : goal.returns
-returns c = two_of I32 I32 c.args.args.now (value.I32 c.number_at.result) (value.I32 c.number_at-2.result) c.requires c.number_at.ensures c.number_at-2.ensures
+returns c = two_of I32 I32 c.args.args.now (value.I32 c.narrow.result) (value.I32 c.narrow-2.result) c.requires c.narrow.ensures c.narrow-2.ensures

@@ -1,0 +1,42 @@
+use Rattle.std.proofs.Common.{◌≡◌, ◌≤◌, ℕ, List, Some, length, map, slice_get, sym, ap, subst, ◌∙◌}
+use Rattle.std.proofs.lemmas.Option.{get_or_from_slice_get}
+use Rattle.syntax.specs.declared.types.Value.{Value}
+use Rattle.syntax.specs.declared.types.Value.TheVariants as value
+use Rattle.syntax.specs.declared.types.ValType.TheVariants as valtype
+use Rattle.validate.specs.Typing.{type_of}
+use Rattle.instance.specs.Store.{value_of}
+use Rattle.engine.specs.Slots.{number}
+use Rattle.interp.specs.declared.host.Held.{Held}
+use Rattle.interp.specs.Inner.ArgumentsHeld.{held_values, HaveSlots}
+use Rattle.interp.specs.Inner.Slots.ValuesRead.{typed_values}
+use Rattle.interp.proofs.Slots.ValuesRead.{known_at, within_known, typed_at}
+use Rattle.interp.proofs.host.Args.wide.Goals as goal
+
+pub item-value-requires : goal.item-value-requires
+item-value-requires c =
+    let is : c.args.self.now ≡ c.in-Lent.values.now = sym c.self.view_is ∙ ap (λ (h : Held). held_values h) c.in-Lent.is in
+    within_known c.in-Lent.values.now c.args.index valtype.I64 (ap (λ (vs : List Value). slice_get (map type_of vs) c.args.index) (sym is) ∙ c.requires)
+
+pub wide-requires : goal.wide-requires
+wide-requires c =
+    let is : c.args.self.now ≡ c.in-Lent.values.now = sym c.self.view_is ∙ ap (λ (h : Held). held_values h) c.in-Lent.is in
+    known_at c.in-Lent.values.now c.args.index valtype.I64 c.item-value.result c.item-value.ensures (ap (λ (vs : List Value). slice_get (map type_of vs) c.args.index) (sym is) ∙ c.requires)
+
+pub returns-in-Lent : goal.returns-in-Lent
+returns-in-Lent c =
+    let is : c.args.self.now ≡ c.in-Lent.values.now = sym c.self.view_is ∙ ap (λ (h : Held). held_values h) c.in-Lent.is in
+    ap (λ (vs : List Value). slice_get vs c.args.index) is ∙ c.item-value.ensures ∙ ap (λ (v : Value). Some v) c.wide.ensures
+
+pub item-requires : goal.item-requires
+item-requires c =
+    let whole : length c.in-Laid.field-0.now ≤ length c.in-Laid.slots.now = subst (λ (h : Held). HaveSlots h) c.in-Laid.is c.self.invariant in
+    let is : c.args.self.now ≡ typed_values c.in-Laid.field-0.now c.in-Laid.slots.now = sym c.self.view_is ∙ ap (λ (h : Held). held_values h) c.in-Laid.is in
+    (typed_at c.in-Laid.field-0.now c.in-Laid.slots.now c.args.index valtype.I64 whole (ap (λ (vs : List Value). slice_get (map type_of vs) c.args.index) (sym is) ∙ c.requires)).0
+
+pub returns-in-Laid : goal.returns-in-Laid
+returns-in-Laid c =
+    let whole : length c.in-Laid.field-0.now ≤ length c.in-Laid.slots.now = subst (λ (h : Held). HaveSlots h) c.in-Laid.is c.self.invariant in
+    let is : c.args.self.now ≡ typed_values c.in-Laid.field-0.now c.in-Laid.slots.now = sym c.self.view_is ∙ ap (λ (h : Held). held_values h) c.in-Laid.is in
+    let there = (typed_at c.in-Laid.field-0.now c.in-Laid.slots.now c.args.index valtype.I64 whole (ap (λ (vs : List Value). slice_get (map type_of vs) c.args.index) (sym is) ∙ c.requires)).1 in
+    let slot = get_or_from_slice_get c.in-Laid.slots.now c.args.index c.item.result 0 c.item.ensures in
+    ap (λ (vs : List Value). slice_get vs c.args.index) is ∙ there ∙ ap (λ (n : ℕ). Some (value_of valtype.I64 (number valtype.I64 n))) slot

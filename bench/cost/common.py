@@ -41,9 +41,10 @@ def linked(out, sources, *flags, link=()):
     return out
 
 
-def guest(source, out, pages=None, **defines):
-    """A guest of this folder, a scene of it by the defines, whose memory has so many pages."""
+def guest(source, out, pages=None, stack=None, **defines):
+    """A guest of this folder, a scene of it by the defines, whose memory has so many pages, and its C stack so many bytes."""
     link = [f"--initial-memory={pages * PAGE}", f"--max-memory={pages * PAGE}"] if pages else []
+    link += ["-z", f"stack-size={stack}"] if stack else []
     flags = [f"-D{key}={value}" for key, value in defines.items()]
     return linked(out, [HERE / source, EXAMPLES / "mem.c"], *flags, link=link)
 

@@ -1,5 +1,5 @@
-/* LOOPS loops of one guest in one thread, a turn of each in turn, for ROUNDS rounds of some 1,000 turns at least.
-   usage: many FILE LOOPS ROUNDS
+/* LOOPS loops of one guest in one thread, ROW turns of each in turn, for ROUNDS rounds of some 1,000 turns at least.
+   usage: many FILE LOOPS ROUNDS ROW
    Prints, of one loop: microseconds to make it, KiB resident once it has run, KiB of address space, nanoseconds of a turn in the
    shortest round, microseconds to drop it. */
 #include <stdio.h>
@@ -44,11 +44,11 @@ int main(int argc, char **argv) {
     wasmloop_handle module = WASMLOOP_HANDLE_INIT;
     wasmloop_limits limits = { 1000000, 1000000, 0, 64 };
     wasmloop_fault fault;
-    FILE *file = argc == 4 ? fopen(argv[1], "rb") : NULL;
+    FILE *file = argc == 5 ? fopen(argv[1], "rb") : NULL;
     if (!file) return 2;
     size_t length = fread(bytes, 1, sizeof bytes, file);
     fclose(file);
-    int count = atoi(argv[2]), rounds = atoi(argv[3]), turns = count < 1000 ? 1000 / count : 1;
+    int count = atoi(argv[2]), rounds = atoi(argv[3]), row = atoi(argv[4]), turns = count < 1000 ? 1000 / count : 1;
     wasmloop_handle *loops = calloc((size_t)count, sizeof *loops);
     if (!loops) return 2;
     must(wasmloop_load(bytes, length, &module, &fault));
@@ -61,14 +61,15 @@ int main(int argc, char **argv) {
     for (int r = 0; r < rounds; r++) {
         began = now();
         for (int k = 0; k < turns; k++)
-            for (int i = 0; i < count; i++) turn(&loops[i]);
+            for (int i = 0; i < count; i++)
+                for (int j = 0; j < row; j++) turn(&loops[i]);
         double took = now() - began;
         if (took < least) least = took;
     }
     began = now();
     for (int i = 0; i < count; i++) must(wasmloop_drop(&loops[i]));
     double dropped = now() - began;
-    printf("%f %f %f %f %f\n", made / count * 1e6, resident / count, space / count, least / turns / count * 1e9, dropped / count * 1e6);
+    printf("%f %f %f %f %f\n", made / count * 1e6, resident / count, space / count, least / turns / count / row * 1e9, dropped / count * 1e6);
     must(wasmloop_drop(&module));
     return 0;
 }

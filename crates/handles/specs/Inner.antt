@@ -2,3 +2,4 @@
 pub mod Codes
 pub mod Kept
 pub mod Lists
+pub mod Parts

@@ -6,7 +6,7 @@ ghost use Rattle.instance.specs.Inner.Room.{all_bytes, rounded, lengthened_front
 use limits::PAGE_SIZE;
 
 /// By how many bytes at a time a front is lengthened. A page has a whole number of them.
-pub const STEP: usize = 4096;
+pub const STEP: usize = 1024;
 
 /// How many bytes so many pages have.
 #[inline]

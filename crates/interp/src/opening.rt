@@ -7,12 +7,13 @@ ghost use Rattle.interp.specs.Slots.CallsBegun.{CanOpen, CallOpened};
 use crate::reading::number_of;
 use engine::{At, zero};
 use instance::stack::Slots;
-use limits::{MAX_HEIGHT, MAX_LOCALS};
+use limits::MAX_HEIGHT;
 use syntax::contents::Contents;
 use syntax::types::Value;
 
-/// How many slots there are from the first call on: enough for every function called from outside.
-const FIRST_SLOTS: usize = MAX_LOCALS + MAX_HEIGHT;
+/// How many slots there are at least from the first call on. With the one at the bottom, and with what malloc keeps before a block,
+/// they lie in one page of 4 KiB.
+const FIRST_SLOTS: usize = 508;
 
 /// Lays arguments in the lowest slots.
 fn lay_arguments(slots: &mut [u64], args: &[Value])
@@ -55,7 +56,7 @@ fn lay_on(slots: &mut Slots, args: &[Value], zeros: usize)
     lay_above(slots.as_mut_slice(), args, zeros);
 }
 
-/// Lays the locals of a call from outside in the lowest slots, and returns where its run begins.
+/// Lays the locals of a call from outside in the lowest slots, of which there are then enough for it, and returns where its run begins.
 pub fn open(contents: &Contents, slots: &mut Slots, function: u32, args: &[Value]) -> At
     requires { CanOpen contents.now function args.now }
     ensures opened { CallOpened contents.now function args.now result slots.new }
@@ -65,15 +66,17 @@ pub fn open(contents: &Contents, slots: &mut Slots, function: u32, args: &[Value
     let Some(func) = contents.functions.get(index) else {
         unreachable!()
     };
-    if slots.len() < FIRST_SLOTS {
-        slots.lengthen(FIRST_SLOTS);
-    }
     let zeros = func.locals.len();
+    let sp = args.len() + zeros;
+    let room = FIRST_SLOTS.max(sp + MAX_HEIGHT);
+    if slots.len() < room {
+        slots.lengthen(room);
+    }
     lay_on(slots, args, zeros);
     At {
         function: index,
         pc: 0,
-        sp: args.len() + zeros,
+        sp,
         base: 0,
         depth: 0,
     }

@@ -1,3 +1,5 @@
--- No public clause reaches these: operations as tokens, and how they are kept.
+-- No public clause reaches these: operations as tokens, and how they and short lists are kept.
 pub mod Payloads
 pub mod Tokens
+pub mod Lists
+pub mod Kept

@@ -1,4 +1,6 @@
--- No public clause reaches these: operations as tokens, and how they are kept.
+-- No public clause reaches these: operations as tokens, and how they and short lists are kept.
 pub mod Beside
 pub mod Payloads
 pub mod Tokens
+pub mod Lists
+pub mod Kept

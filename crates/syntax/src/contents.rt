@@ -2,12 +2,14 @@
 
 use crate::body::Body;
 use crate::items::Items;
+use crate::names::Name;
+use crate::type_lists::TypeList;
 use crate::types::{Limits, ValType};
 
 /// The type of a function.
 pub struct FuncType {
-    pub params: Items<ValType>,
-    pub results: Items<ValType>,
+    pub params: TypeList,
+    pub results: TypeList,
 }
 
 impl Drop for FuncType {
@@ -21,8 +23,8 @@ impl Drop for FuncType {
 
 /// An imported function. Its names are UTF-8.
 pub struct Import {
-    pub module: Items<u8>,
-    pub name: Items<u8>,
+    pub module: Name,
+    pub name: Name,
     pub type_index: u32,
 }
 
@@ -39,7 +41,7 @@ impl Drop for Import {
 /// A defined function. Its locals come after its parameters.
 pub struct Func {
     pub type_index: u32,
-    pub locals: Items<ValType>,
+    pub locals: TypeList,
     pub body: Body,
 }
 
@@ -88,7 +90,7 @@ pub enum ExternKind {
 
 /// An export: its name, in UTF-8, and what it names, by kind and index.
 pub struct ModuleExport {
-    pub name: Items<u8>,
+    pub name: Name,
     pub kind: ExternKind,
     pub index: u32,
 }

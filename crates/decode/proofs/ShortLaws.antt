@@ -1,5 +1,5 @@
 -- What is read of a module's bytes, and what is left of them, is no longer than they are.
-use Rattle.std.proofs.Common.{◌≡◌, ℕ, ◌+◌, ◌<◌, ◌≤◌, List, [], ◌∷◌, ◌++◌, Bool, true, false, Option, Some, None, IfSome, if◌then◌else◌, length, refl, ap, sym, subst, ◌∙◌, length-append, nat_eq, arith}
+use Rattle.std.proofs.Common.{◌≡◌, ℕ, ◌≤◌, List, [], ◌∷◌, ◌++◌, Bool, true, false, Option, Some, None, IfSome, if◌then◌else◌, length, ap, length-append, nat_eq, arith}
 use Rattle.std.specs.Prelude.{unwrap_or}
 use Rattle.syntax.specs.Language.{Language, Leaves, items, counted}
 use Rattle.syntax.specs.Binary.{Section, section, section_of, contents_of}

@@ -66,8 +66,11 @@ fn of_export(alloc: Global, contents: &Contents, export: &ModuleExport) -> Optio
 
 /// Whether so many elements or bytes from this offset on end beyond the room, and where.
 fn end_behind(room: u64, offset: &Body, count: usize) -> Option<u64> {
-    let Token::Plain(Instr::Const(Value::I32(start))) = offset.as_slice().first()?.operation()
-    else {
+    let ops = offset.ops();
+    if ops.len() == 0 {
+        return None;
+    }
+    let Token::Plain(Instr::Const(Value::I32(start))) = ops.at(0).operation() else {
         return None;
     };
     let end = u64::from(start).saturating_add(count as u64);

@@ -69,12 +69,7 @@ pub fn two_and_two_wide(args: &Args) -> (u32, u32, u64, u64)
     requires { map type_of args.now ≡ valtype.I32 ∷ valtype.I32 ∷ valtype.I64 ∷ valtype.I64 ∷ [] }
     ensures { args.now ≡ value.I32 result.0 ∷ value.I32 result.1 ∷ value.I64 result.2 ∷ value.I64 result.3 ∷ [] }
 {
-    (
-        args.narrow(0),
-        args.narrow(1),
-        args.wide(2),
-        args.wide(3),
-    )
+    (args.narrow(0), args.narrow(1), args.wide(2), args.wide(3))
 }
 
 /// Copies so many bytes of the input, from one place on, to a place of the guest's memory: 0, or -22 where they are not

@@ -91,7 +91,7 @@ impl Parted {
         requires in_bounds { at < length (part kind self.old) }
         ensures { self.new ≡ with_part kind (remove (part kind self.old) at) self.old }
     {
-        // they are few, so that a place's index is a number
+        // the length that is read says that they are few, so that no index overflows
         let _few = self.places.len();
         match kind {
             Kind::Idle => {

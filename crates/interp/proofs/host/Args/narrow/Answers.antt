@@ -9,23 +9,18 @@ use Rattle.engine.specs.Slots.{number}
 use Rattle.interp.specs.declared.host.Held.{Held}
 use Rattle.interp.specs.Inner.ArgumentsHeld.{held_values, HaveSlots}
 use Rattle.interp.specs.Inner.Slots.ValuesRead.{typed_values}
-use Rattle.interp.proofs.Slots.ValuesRead.{known_at, within_known, typed_at}
+use Rattle.interp.proofs.Slots.ValuesRead.{typed_at}
 use Rattle.interp.proofs.host.Args.narrow.Goals as goal
 
-pub item-value-requires : goal.item-value-requires
-item-value-requires c =
+pub lent_narrow-requires : goal.lent_narrow-requires
+lent_narrow-requires c =
     let is : c.args.self.now ≡ c.in-Lent.values.now = sym c.self.view_is ∙ ap (λ (h : Held). held_values h) c.in-Lent.is in
-    within_known c.in-Lent.values.now c.args.index valtype.I32 (ap (λ (vs : List Value). slice_get (map type_of vs) c.args.index) (sym is) ∙ c.requires)
-
-pub narrow-requires : goal.narrow-requires
-narrow-requires c =
-    let is : c.args.self.now ≡ c.in-Lent.values.now = sym c.self.view_is ∙ ap (λ (h : Held). held_values h) c.in-Lent.is in
-    known_at c.in-Lent.values.now c.args.index valtype.I32 c.item-value.result c.item-value.ensures (ap (λ (vs : List Value). slice_get (map type_of vs) c.args.index) (sym is) ∙ c.requires)
+    ap (λ (vs : List Value). slice_get (map type_of vs) c.args.index) (sym is) ∙ c.requires
 
 pub returns-in-Lent : goal.returns-in-Lent
 returns-in-Lent c =
     let is : c.args.self.now ≡ c.in-Lent.values.now = sym c.self.view_is ∙ ap (λ (h : Held). held_values h) c.in-Lent.is in
-    ap (λ (vs : List Value). slice_get vs c.args.index) is ∙ c.item-value.ensures ∙ ap (λ (v : Value). Some v) c.narrow.ensures
+    ap (λ (vs : List Value). slice_get vs c.args.index) is ∙ c.lent_narrow.ensures
 
 pub item-slot-requires : goal.item-slot-requires
 item-slot-requires c =

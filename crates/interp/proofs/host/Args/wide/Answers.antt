@@ -9,23 +9,18 @@ use Rattle.engine.specs.Slots.{number}
 use Rattle.interp.specs.declared.host.Held.{Held}
 use Rattle.interp.specs.Inner.ArgumentsHeld.{held_values, HaveSlots}
 use Rattle.interp.specs.Inner.Slots.ValuesRead.{typed_values}
-use Rattle.interp.proofs.Slots.ValuesRead.{known_at, within_known, typed_at}
+use Rattle.interp.proofs.Slots.ValuesRead.{typed_at}
 use Rattle.interp.proofs.host.Args.wide.Goals as goal
 
-pub item-value-requires : goal.item-value-requires
-item-value-requires c =
+pub lent_wide-requires : goal.lent_wide-requires
+lent_wide-requires c =
     let is : c.args.self.now ≡ c.in-Lent.values.now = sym c.self.view_is ∙ ap (λ (h : Held). held_values h) c.in-Lent.is in
-    within_known c.in-Lent.values.now c.args.index valtype.I64 (ap (λ (vs : List Value). slice_get (map type_of vs) c.args.index) (sym is) ∙ c.requires)
-
-pub wide-requires : goal.wide-requires
-wide-requires c =
-    let is : c.args.self.now ≡ c.in-Lent.values.now = sym c.self.view_is ∙ ap (λ (h : Held). held_values h) c.in-Lent.is in
-    known_at c.in-Lent.values.now c.args.index valtype.I64 c.item-value.result c.item-value.ensures (ap (λ (vs : List Value). slice_get (map type_of vs) c.args.index) (sym is) ∙ c.requires)
+    ap (λ (vs : List Value). slice_get (map type_of vs) c.args.index) (sym is) ∙ c.requires
 
 pub returns-in-Lent : goal.returns-in-Lent
 returns-in-Lent c =
     let is : c.args.self.now ≡ c.in-Lent.values.now = sym c.self.view_is ∙ ap (λ (h : Held). held_values h) c.in-Lent.is in
-    ap (λ (vs : List Value). slice_get vs c.args.index) is ∙ c.item-value.ensures ∙ ap (λ (v : Value). Some v) c.wide.ensures
+    ap (λ (vs : List Value). slice_get vs c.args.index) is ∙ c.lent_wide.ensures
 
 pub item-requires : goal.item-requires
 item-requires c =

@@ -1,0 +1,14 @@
+use Rattle.std.proofs.Common.{Some, ap, ◌∙◌}
+use Rattle.syntax.specs.declared.types.Value.{Value}
+use Rattle.syntax.specs.declared.types.ValType.TheVariants as valtype
+use Rattle.interp.proofs.Slots.ValuesRead.{known_at, within_known}
+use Rattle.interp.proofs.host.lent_wide.Goals as goal
+
+pub item-value-requires : goal.item-value-requires
+item-value-requires c = within_known c.args.values.now c.args.index valtype.I64 c.requires
+
+pub wide-requires : goal.wide-requires
+wide-requires c = known_at c.args.values.now c.args.index valtype.I64 c.item-value.result c.item-value.ensures c.requires
+
+pub returns : goal.returns
+returns c = c.item-value.ensures ∙ ap (λ (v : Value). Some v) c.wide.ensures

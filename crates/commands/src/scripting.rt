@@ -16,13 +16,12 @@ use crate::file::Reader;
 use crate::loading::accept;
 use crate::status::ExitStatus;
 use events::ended::Ended;
+use flaws::script_fault;
 use imports::Linked;
 use limits::{MAX_DEPTH, MAX_SCRIPT_BYTES};
 use order::Trail;
 use script::{LoopPlan, Plan, ScriptFault, print, read};
-use sentences::{
-    Allowed, Counts, Grouped, Missing, Ran, Reason, Unfinished, script_fault, tell_stopped,
-};
+use sentences::{Allowed, Counts, Grouped, Missing, Ran, Reason, Unfinished, tell_stopped};
 use std::alloc::{AllocError, Global};
 use std::io::{self, Write};
 use std::str;

@@ -1,14 +1,12 @@
 //! What standard error says, in words: where and why bytes are refused (`explain`), where a run stopped that did not return
-//! (`tell_stopped`), what a module lacks to run on a loop (`warn`), what arguments a function takes (`Mismatch`), where and why a text is
-//! no script (`script_fault`), what a step of a script names that isn't there (`Missing`). Names that come from a module are printed as a
-//! line can hold them. Clauses say that the place of a refusal is that of what the refusing stage names; of words they say nothing,
+//! (`tell_stopped`), what a module lacks to run on a loop (`warn`), what arguments a function takes (`Mismatch`), what a step of
+//! a script names that isn't there (`Missing`); `flaws` says why a text is no script. Names that come from a module are printed as a line can
+//! hold them. Clauses say that the place of a refusal is that of what the refusing stage names; of words they say nothing,
 //! and tests compare them.
 #![tactic(auto)]
 
 mod count;
 mod extension;
-mod fault;
-mod flaw;
 mod found;
 mod help;
 mod invalid;
@@ -17,7 +15,6 @@ mod listing;
 mod meanings;
 mod mismatch;
 mod missing;
-mod nesting;
 mod ran;
 mod reason;
 mod refusal;
@@ -25,11 +22,9 @@ mod stopping;
 mod types;
 mod undecoded;
 mod unlinked;
-mod walk;
 mod warning;
 
 pub use count::Grouped;
-pub use fault::script_fault;
 pub use line::EndedLine;
 pub use listing::Listing;
 pub use meanings::meaning;

@@ -4,7 +4,6 @@ pub mod Checking
 pub mod Frames
 pub mod Operands
 pub mod Packing
-pub mod Paging
 pub mod Placing
 pub mod Rejecting
 pub mod Room

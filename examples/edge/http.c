@@ -47,8 +47,8 @@ void drop_bytes(bytes *b) {
 static void clear(client *c) {
     wasmloop_drop(&c->task.handle);
     drop_bytes(&c->body);
-    free(c->page);
-    c->page = NULL;
+    free(c->text);
+    c->text = NULL;
 }
 
 static void on_closed(uv_handle_t *handle) {
@@ -106,9 +106,9 @@ void answer(client *c, int status, const char *type, const void *body, size_t le
 void say(client *c, int status, const char *format, ...) {
     va_list words;
     va_start(words, format);
-    vsnprintf(c->text, sizeof c->text, format, words);
+    if (vasprintf(&c->text, format, words) < 0) c->text = NULL;
     va_end(words);
-    answer(c, status, "text/plain", c->text, strlen(c->text));
+    answer(c, status, "text/plain", c->text, c->text ? strlen(c->text) : 0);
 }
 
 /* ---- requests ---- */

@@ -37,12 +37,11 @@ struct client {
     uv_write_t write;
     http_parser parser;
     bool busy, keep;
-    char path[256], head[400], text[336]; /* head and text: of its answer */
-    char *page;                           /* or bytes for people in the text's place */
-    bytes body, rest;                     /* rest: what came behind the request that is being answered, */
-    size_t parsed, head_length;           /* and how much of that is parsed */
-    uint64_t number, came;                /* came: 0 before a request's first byte */
-    int32_t request;                      /* the loop's number of what it asks; 0: it isn't made */
+    char path[256], head[400], *text; /* head and text: of its answer, where that is no reply */
+    bytes body, rest;                 /* rest: what came behind the request that is being answered, */
+    size_t parsed, head_length;       /* and how much of that is parsed */
+    uint64_t number, came;            /* came: 0 before a request's first byte */
+    int32_t request;                  /* the loop's number of what it asks; 0: it isn't made */
 };
 
 extern uint32_t clients, most_clients;

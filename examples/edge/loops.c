@@ -21,8 +21,6 @@ typedef struct loop {
 
 static const kind turns, jobs;
 
-static void on_due(uv_timer_t *timer);
-
 uint32_t loop_did(const tenant *t) { return t->loop ? t->loop->last : 0; }
 
 /* Lets a loop have a turn, unless it has one, or has failed. */
@@ -32,6 +30,18 @@ static void turn_soon(tenant *t) {
     uv_timer_stop(&l->timer);
     l->turn = (task){ .kind = &turns, .of = t };
     wait_for(&l->turn, true);
+}
+
+static void on_due(uv_timer_t *timer) {
+    const loop *l = timer->data;
+    tenant *t = l->turn.of;
+    if (l->last == WASMLOOP_FAILED) make_loop(t);
+    turn_soon(t);
+}
+
+static void restart_later(loop *l) {
+    l->last = WASMLOOP_FAILED;
+    uv_timer_start(&l->timer, on_due, RESTART_MS, 0);
 }
 
 /* ---- those who ask ---- */
@@ -163,11 +173,6 @@ static void run_turn(task *k) {
     k->status = (int)did.what;
 }
 
-static void restart_later(loop *l) {
-    l->last = WASMLOOP_FAILED;
-    uv_timer_start(&l->timer, on_due, RESTART_MS, 0);
-}
-
 /* Lets the jobs that a loop asks for wait for their turns. */
 static void take_jobs(tenant *t) {
     for (task *k; (k = task_of(t, &jobs)); wait_for(k, false)) {
@@ -227,13 +232,6 @@ static void job_done(task *k) {
 static const kind jobs = { ready_job, run_job, job_done };
 
 /* ---- a loop ---- */
-
-static void on_due(uv_timer_t *timer) {
-    const loop *l = timer->data;
-    tenant *t = l->turn.of;
-    if (l->last == WASMLOOP_FAILED) make_loop(t);
-    turn_soon(t);
-}
 
 static void on_closed(uv_handle_t *timer) { free(timer->data); }
 

@@ -233,7 +233,7 @@ void page(client *c, const char *path) {
         there = people && write_file(to, "dashboard.html");
     bool good = fclose(to) == 0;
     if (good && there) {
-        c->page = at;
+        c->text = at;
         answer(c, 200, numbers ? "text/plain; version=0.0.4" : people ? "text/html; charset=utf-8" : "text/plain", at, length);
         return;
     }

@@ -39,8 +39,6 @@ static void do_load(task *k) {
         strcpy(k->said, wasmloop_status_name(k->status));
 }
 
-static void load(tenant *t);
-
 static void loaded(task *k) {
     tenant *t = k->of;
     bool anew = k->status == ABSENT || k->status == WASMLOOP_OK;
@@ -59,10 +57,9 @@ static void loaded(task *k) {
     }
     end_task(k);
     if (anew || !t->module.mark) make_loop(t);
-    if (t->changed) load(t);
 }
 
-/* Loads its module, and once more where it changes meanwhile. */
+/* Loads its module; once more, at the next sweep, where it changes meanwhile. */
 static void load(tenant *t) {
     static const kind loads = { NULL, do_load, loaded };
     t->changed = true;

@@ -30,8 +30,7 @@ void explain(task *k, wasmloop_handle *of, const char *how, uint32_t trap, uint6
     char where[80] = "";
     if (wasmloop_stop(of, &site, 1, &n) == WASMLOOP_OK && n > 0)
         snprintf(where, sizeof where, ", in function %llu at operation %llu", U(site.function), U(site.operation));
-    const char *name = trap ? wasmloop_trap_name(trap) : "";
-    snprintf(k->said, sizeof k->said, "%s%s%s, after %llu units%s", how, trap ? ", " : "", name, U(used), where);
+    snprintf(k->said, SAID, "%s%s%s, after %llu units%s", how, trap ? ", " : "", trap ? wasmloop_trap_name(trap) : "", U(used), where);
 }
 
 /* How many units the next slice has, by what the last took: some 25 us, and none goes much past the deadline. */
@@ -91,19 +90,14 @@ static void look_again(uint64_t ns) {
     uv_timer_start(&rests, on_rested, ns / MS + 1, 0);
 }
 
-/* A request waits for its tenant's first module; one whose request failed has one thread. */
-static bool can_run(const tenant *t) {
-    bool comes = t->load && t->load->state == RUNS && !t->module.mark;
-    return !comes && t->running < (t->fails ? 1 : t->limits[RUN]);
-}
-
+/* One whose request failed has one thread, and so has one whose first module comes. */
 static tenant *next_in_turn(void) {
     tenant *best = NULL;
     uint64_t now = uv_hrtime(), soonest = UINT64_MAX;
     for (tenant *t = LIST_FIRST(&active); t; t = LIST_NEXT(t, active)) {
         if (now < t->rests && !ending)
             soonest = t->rests < soonest ? t->rests : soonest;
-        else if (can_run(t) && (!best || t->share < best->share))
+        else if (t->running < (t->fails || !t->module.mark ? 1 : t->limits[RUN]) && (!best || t->share < best->share))
             best = t;
     }
     if (soonest != UINT64_MAX) look_again(soonest - now);

@@ -1,9 +1,8 @@
 /* Work in the threads of libuv's pool, and whose turn it is: among tenants that wait the one goes first that has used the least processor
  * time. A job runs in slices, so that it makes room for others, and ends when it must. */
-#include <sched.h>
 #include <stdlib.h>
 #include <string.h>
-#include <sys/resource.h>
+#include <sys/syscall.h>
 #include <time.h>
 #include <unistd.h>
 #include "http.h"
@@ -12,8 +11,9 @@ enum { SLICE_NS = 25000, FIRST = 5000, FEWEST = 50, MOST = 50000, MOST_RESTS = 3
 
 uint32_t running, waiting;
 atomic_bool hurry;
-static LIST_HEAD(, tenant) active; /* those that have a task that waits */
-static uint64_t pace;              /* the share of the tenant that was served last */
+static LIST_HEAD(, tenant) active;     /* those that have a task that waits */
+static uint64_t pace;                  /* the share of the tenant that was served last */
+static uint64_t alarm_at = UINT64_MAX; /* the moment at which the next of those that rest is looked for */
 
 /* ---- in a thread of the pool ---- */
 
@@ -60,14 +60,21 @@ void run_job(task *k) {
     if (a->outcome > WASMLOOP_WORK_DONE) explain(k, &k->handle, how, a->outcome == WASMLOOP_WORK_TRAP ? a->value : 0, a->used);
 }
 
-/* The threads have a lower priority than the main one, in whatever class of the scheduler that is: on Linux each has its own. */
+/* The pool's threads have a lower priority than the main one, in whatever class of the scheduler that is, and short slices of a processor,
+ * where the kernel knows such: a guest that runs long doesn't keep waiting who wakes beside it. On Linux each thread has its own. */
 static void lower_priority(void) {
-    struct sched_param own;
-    sched_getparam(0, &own);
-    if (own.sched_priority-- > 1)
-        sched_setparam(0, &own);
-    else
-        setpriority(PRIO_PROCESS, (id_t)gettid(), getpriority(PRIO_PROCESS, 0) + 1);
+    struct {
+        uint32_t size, policy;
+        uint64_t flags;
+        int32_t nice;
+        uint32_t priority;
+        uint64_t slice, deadline, period;
+    } own = { 0 };
+    if (syscall(SYS_sched_getattr, 0, &own, sizeof own, 0) != 0) return;
+    own.priority -= own.priority > 1;
+    own.nice++;
+    own.slice = 4 * SLICE_NS;
+    syscall(SYS_sched_setattr, 0, &own, 0);
 }
 
 static void do_task(uv_work_t *work) {
@@ -82,12 +89,18 @@ static void do_task(uv_work_t *work) {
 
 /* ---- whose turn it is, in the main thread ---- */
 
-static void on_rested(uv_timer_t *timer) { (void)timer, schedule(); }
+static void on_rested(uv_timer_t *timer) {
+    (void)timer;
+    alarm_at = UINT64_MAX;
+    schedule();
+}
 
-static void look_again(uint64_t ns) {
+static void look_again(uint64_t at, uint64_t now) {
     static uv_timer_t rests;
+    if (at >= alarm_at) return;
+    alarm_at = at;
     if (!rests.loop) uv_timer_init(uv, &rests);
-    uv_timer_start(&rests, on_rested, ns / MS + 1, 0);
+    uv_timer_start(&rests, on_rested, (at - now) / MS + 1, 0);
 }
 
 /* One whose request failed has one thread, and so has one whose first module comes. */
@@ -100,7 +113,7 @@ static tenant *next_in_turn(void) {
         else if (t->running < (t->fails || !t->module.mark ? 1 : t->limits[RUN]) && (!best || t->share < best->share))
             best = t;
     }
-    if (soonest != UINT64_MAX) look_again(soonest - now);
+    look_again(soonest, now);
     return best;
 }
 

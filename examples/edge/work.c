@@ -101,6 +101,7 @@ static void look_again(uint64_t at, uint64_t now) {
     alarm_at = at;
     if (!rests.loop) uv_timer_init(uv, &rests);
     uv_timer_start(&rests, on_rested, (at - now) / MS + 1, 0);
+    uv_unref((uv_handle_t *)&rests); /* the end doesn't wait for it */
 }
 
 /* One whose request failed has one thread, and so has one whose first module comes. */

@@ -13,4 +13,4 @@ else
 fi
 # shellcheck disable=SC2086
 "${CC:-cc}" -std=c11 -D_GNU_SOURCE -O2 -Wall -Wextra -Wpedantic ${CFLAGS:-} -I"$header" -o "$1" \
-    "$here/edge.c" "$here/work.c" "$here/tenants.c" "$here/loops.c" "$here/people.c" "$library/libwasmloop.a" -luv $parser -lpthread
+    "$here"/*.c "$library/libwasmloop.a" -luv $parser -lpthread

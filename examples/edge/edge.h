@@ -1,6 +1,9 @@
-/* What the parts of the server share: edge.c has connections and requests, work.c work and whose turn it is, tenants.c tenants and their
- * files, loops.c loops that live, people.c numbers, the access log and pages. The main thread alone parses, decides and answers. A thread of
- * libuv's pool has one task at a time, and touches its task, the name of its tenant, and, where the task is a turn, its loop. */
+/* What the parts of the server share. Who reads it begins here, and goes on with edge.c (the start, the end, and what a path asks), work.c
+ * (work, and whose turn it is) and tenants.c (tenants, and their files). The rest is apart, each behind a few calls: http.c has
+ * connections, loops.c loops that live, people.c numbers, the access log and pages.
+ *
+ * The main thread alone parses, decides and answers. A thread of libuv's pool has one task at a time, and touches that task, the name of
+ * its tenant, and, where the task is a turn, its loop. */
 #ifndef EDGE_H
 #define EDGE_H
 
@@ -9,16 +12,15 @@
 #include <stdio.h>
 #include <sys/queue.h>
 #include <uv.h>
-#include "parse.h"
 #include "wasmloop.h"
 
 #define U(x) ((unsigned long long)(x))
 
-enum { MOST_BYTES = 65536, MOST_HEAD = 16384, MOST_HELD = 64 << 20, MOST_MODULE = 1 << 20, MOST_WAITING = 4096 };
-enum { ABSENT = -1, ASYNCS = 16, MOST_RUNS = 32, MOST_EMITS = MOST_RUNS * 64, MS = 1000000, TURN_NS = 500000, TIMES = 32 };
+enum { ABSENT = -1, MOST_MODULE = 1 << 20, MOST_WAITING = 4096, ASYNCS = 16, MS = 1000000, TURN_NS = 500000, SAID = 256, TIMES = 32 };
 typedef enum limit { FUEL, CALLBACK, DEADLINE, DEPTH, QUEUE, RUN, REST, OUT, LIMITS } limit;           /* the numbers in NAME.conf */
 typedef enum outcome { GONE, DONE, TRAPPED, DEEP, SPENT, NO_MEMORY, LATE, REFUSED, OUTCOMES } outcome; /* the first as WASMLOOP_WORK_* */
 typedef struct tenant tenant;
+typedef struct client client;
 typedef struct task task;
 typedef TAILQ_HEAD(tasks, task) tasks;
 
@@ -37,46 +39,13 @@ struct task {
     enum { IDLE, WAITS, RUNS, ASKS } state; /* ASKS: a request that the tenant's loop is to answer */
     TAILQ_ENTRY(task) next;                 /* of those who wait, or ask */
     atomic_bool gone;                       /* nobody wants it any more: a slice is its last */
-    bool goes_on, late;
-    int status;             /* of a load: the library's, or ABSENT; of a turn: what its last step did */
-    wasmloop_handle handle; /* its job, or the module */
-    wasmloop_about about;
-    uint64_t units, cpu, until; /* until: its deadline, or when patience with a client ends */
-    char *said;                 /* why it failed */
+    bool goes_on;
+    int status;                 /* of a load: the library's, or ABSENT; of a turn: what its last step did */
+    wasmloop_handle handle;     /* its job, or the module */
+    wasmloop_about about;       /* its outcome may be LATE */
+    uint64_t units, cpu, until; /* units: of its next slice; until: its deadline, or when patience with a client ends */
+    char said[SAID];            /* why it failed */
 };
-
-/* Bytes of a client, of which all together hold MOST_HELD at most. */
-typedef struct bytes {
-    char *at;
-    size_t length, room;
-} bytes;
-
-/* A connection, and its request, which comes (is not `busy`), waits or runs as a task, and is answered. */
-typedef struct client {
-    task task; /* the first, so that a request's task is its client */
-    uv_tcp_t tcp;
-    uv_write_t write;
-    http_parser parser;
-    bool busy, keep;
-    char path[256], head[512], text[400]; /* head and text: of its answer */
-    char *page;                           /* or bytes for people in the text's place */
-    bytes body, rest;                     /* rest: what came behind the request that is being answered, */
-    size_t parsed, head_length;           /* and how much of that is parsed */
-    uint64_t number, came;                /* came: 0 before a request's first byte */
-    int32_t request;                      /* the loop's number of what it asks; 0: it isn't made */
-} client;
-
-/* A loop that lives. While its turn runs, that alone touches the handle, the hint and the emits. */
-typedef struct loop {
-    task turn;
-    tasks done; /* jobs, for the next turn */
-    uv_timer_t timer;
-    uint64_t began, hint; /* began: the moment at which its clock is 0, in milliseconds */
-    uint32_t number, last, emit_count;
-    bool renew;
-    wasmloop_handle handle;
-    int64_t emits[MOST_EMITS];
-} loop;
 
 /* What is counted for people. */
 typedef struct counted {
@@ -85,42 +54,38 @@ typedef struct counted {
 } counted;
 
 struct tenant {
-    char name[64], type[64]; /* the name is the first: people look for it by strings */
     LIST_ENTRY(tenant) next, active;
     uint64_t limits[LIMITS];
+    char *type; /* of replies; NULL: bytes */
     wasmloop_handle module;
-    wasmloop_shape shape;
     task *load;
     int status;           /* of its last load */
-    bool changed, fails;  /* its file is newer than the load; its last request failed */
+    bool changed, lives;  /* its file is newer than the load; its module has a loop */
     char *said, *failure; /* why its file was refused, and how its guest failed last */
     tasks waits, asks;
-    uint32_t waiting, running, asking, sends; /* sends: a bit for each async of its loop that was sent to */
+    uint32_t waiting, running, asking, fails; /* fails: how many of its requests failed since one was done */
+    uint32_t sends;                           /* a bit for each async of its loop that was sent to */
     uint64_t rests, sent;                     /* the moments until which it rests, and until which its replies may be sent at its rate */
-    double share, mean;                       /* the processor time that it has used beside the others', and of a task, in nanoseconds */
-    loop *loop;
+    uint64_t share;                           /* the processor time that it has used beside the others', in nanoseconds */
+    struct loop *loop;
     struct steps *steps; /* its loop's last ones: people.c */
     counted counted;
+    char name[];
 };
 
 extern uv_loop_t *uv;
 extern const char *folder;
-extern uint32_t workers, running, waiting, clients;
-extern size_t held;
+extern uint32_t workers, running, waiting;
 extern bool ending;
 extern LIST_HEAD(tenants, tenant) tenants;
 extern atomic_bool hurry; /* a tenant waits that could run, and all threads are taken */
 
 /* edge.c */
-void answer(client *c, int status, const char *type, const void *body, size_t length);
-void say(client *c, int status, const char *format, ...) __attribute__((format(printf, 3, 4)));
-void fail(client *c, outcome what, int status, const char *why);
-void leave(client *c), drop_bytes(bytes *b);
 uint64_t number_of(const char *text, uint64_t most);
 
 /* work.c */
-void work(client *c, tenant *t, uint32_t op);
-bool may_wait(client *c, uint32_t before);
+void work(client *c, tenant *t, uint32_t op), fail(client *c, outcome what, int status, const char *why), too_late(client *c);
+bool may_wait(client *c, uint32_t before), give_up(client *c);
 task *task_of(tenant *t, const kind *kind);
 void wait_for(task *k, bool front), unwait(task *k), end_task(task *k);
 void run_job(task *k), keep_failure(task *k), schedule(void);
@@ -128,18 +93,15 @@ void explain(task *k, wasmloop_handle *of, const char *how, uint32_t trap, uint6
 
 /* tenants.c */
 tenant *tenant_of(const char *name, bool make);
-void tenant_changed(const char *file), refuse(client *c);
-void tenants_sweep(void);
+void tenant_changed(const char *file), refuse(client *c), tenants_sweep(bool all);
 
 /* loops.c */
 void ask(client *c, tenant *t, uint32_t op), send_to(client *c, tenant *t, uint32_t async);
 void make_loop(tenant *t), free_loop(tenant *t);
+uint32_t loop_did(const tenant *t); /* what its loop did last; 0 where there is none */
 
 /* people.c */
-void count(tenant *t, outcome what, uint64_t came);
-void log_answer(client *c, int status, size_t length);
-void log_step(tenant *t, const wasmloop_did *did, const int64_t *emits, uint32_t n);
-void make_steps(tenant *t), free_steps(tenant *t);
-void page(client *c, const char *path);
+void count(tenant *t, outcome what, uint64_t came), log_answer(client *c, int status, size_t length), page(client *c, const char *path);
+void log_step(tenant *t, const wasmloop_did *did, const int64_t *emits, uint32_t n), make_steps(tenant *t), free_steps(tenant *t);
 
 #endif

@@ -1,22 +1,47 @@
-/* Loops that live: a module with uv_main has one, whose turns are tasks like others. An ask is a request of the loop: uv_work computes it, and
- * uv_after_work is given its number; the first number that the loop emits with that one in its upper half answers it. Where the module
+/* Loops that live: a module with uv_main has one, whose turns are tasks like others. An ask is a request of the loop: uv_work computes it,
+ * and uv_after_work is given its number; the first number that the loop emits with that one in its upper half answers it. Where the module
  * changes, its new loop is asked what wasn't answered. A loop that failed is made anew a second later. */
+#include <errno.h>
 #include <stdlib.h>
-#include "edge.h"
+#include "http.h"
 
-enum { RESTART_MS = 1000 };
+enum { RESTART_MS = 1000, MOST_RUNS = 32, MOST_EMITS = MOST_RUNS * 64 };
+
+/* While its turn runs, that alone touches the handle, the hint and the emits. */
+typedef struct loop {
+    task turn;
+    tasks done; /* jobs, for the next turn */
+    uv_timer_t timer;
+    uint64_t began, hint; /* began: the moment at which its clock is 0, in milliseconds */
+    uint32_t number, last, emit_count;
+    bool renew;
+    wasmloop_handle handle;
+    int64_t emits[MOST_EMITS];
+} loop;
 
 static const kind turns, jobs;
 
-static void on_due(uv_timer_t *timer);
+uint32_t loop_did(const tenant *t) { return t->loop ? t->loop->last : 0; }
 
 /* Lets a loop have a turn, unless it has one, or has failed. */
 static void turn_soon(tenant *t) {
     loop *l = t->loop;
     if (!l || l->turn.state != IDLE || l->last >= WASMLOOP_OVER || ending) return;
     uv_timer_stop(&l->timer);
-    l->turn = (task){ .kind = &turns, .of = t, .work.data = &l->turn };
+    l->turn = (task){ .kind = &turns, .of = t };
     wait_for(&l->turn, true);
+}
+
+static void on_due(uv_timer_t *timer) {
+    const loop *l = timer->data;
+    tenant *t = l->turn.of;
+    if (l->last == WASMLOOP_FAILED) make_loop(t);
+    turn_soon(t);
+}
+
+static void restart_later(loop *l) {
+    l->last = WASMLOOP_FAILED;
+    uv_timer_start(&l->timer, on_due, RESTART_MS, 0);
 }
 
 /* ---- those who ask ---- */
@@ -28,7 +53,7 @@ static bool answer_without(client *c) {
     if (!t->module.mark && t->load) return false; /* it comes */
     if (!t->module.mark)
         refuse(c);
-    else if (!t->shape.main)
+    else if (!t->lives)
         fail(c, REFUSED, 404, "it has no loop");
     else if (!l)
         fail(c, NO_MEMORY, 503, "no memory");
@@ -64,16 +89,16 @@ void send_to(client *c, tenant *t, uint32_t async) {
 
 /* Makes the requests that weren't made, as far as more may be outstanding. Whether it has made one. */
 static bool make_requests(tenant *t) {
-    enum { AGAIN = -11, NO_ROOM = -12, NO_REQUESTS = -38 };
     bool made = false;
     int32_t told = 0;
-    for (task *k = TAILQ_FIRST(&t->asks), *next; k && told != AGAIN; k = next) {
+    for (task *k = TAILQ_FIRST(&t->asks), *next; k && told != -EAGAIN; k = next) {
         client *c = (client *)k;
         next = TAILQ_NEXT(k, next);
-        if (c->request || wasmloop_request(&t->loop->handle, k->about.op, (uint8_t *)c->body.at, c->body.length, &told) != WASMLOOP_OK) continue;
+        if (c->request) continue;
+        if (wasmloop_request(&t->loop->handle, k->about.op, (uint8_t *)c->body.at, c->body.length, &told) != WASMLOOP_OK) continue;
         if (told > 0) c->request = told, made = true;
-        if (told == NO_ROOM) fail(c, NO_MEMORY, 503, "no memory");
-        if (told == NO_REQUESTS) fail(c, REFUSED, 404, "it takes no requests");
+        if (told == -ENOMEM) fail(c, NO_MEMORY, 503, "no memory");
+        if (told == -ENOSYS) fail(c, REFUSED, 404, "it takes no requests");
     }
     return made;
 }
@@ -148,11 +173,6 @@ static void run_turn(task *k) {
     k->status = (int)did.what;
 }
 
-static void restart_later(loop *l) {
-    l->last = WASMLOOP_FAILED;
-    uv_timer_start(&l->timer, on_due, RESTART_MS, 0);
-}
-
 /* Lets the jobs that a loop asks for wait for their turns. */
 static void take_jobs(tenant *t) {
     for (task *k; (k = task_of(t, &jobs)); wait_for(k, false)) {
@@ -213,13 +233,6 @@ static const kind jobs = { ready_job, run_job, job_done };
 
 /* ---- a loop ---- */
 
-static void on_due(uv_timer_t *timer) {
-    const loop *l = timer->data;
-    tenant *t = l->turn.of;
-    if (l->last == WASMLOOP_FAILED) make_loop(t);
-    turn_soon(t);
-}
-
 static void on_closed(uv_handle_t *timer) { free(timer->data); }
 
 /* Ends a loop that has no turn now. */
@@ -244,7 +257,7 @@ void make_loop(tenant *t) {
     }
     if (l) t->counted.restarts += l->last >= WASMLOOP_OVER;
     free_loop(t);
-    if (t->shape.main && (l = t->loop = calloc(1, sizeof *l))) {
+    if (t->lives && (l = t->loop = calloc(1, sizeof *l))) {
         wasmloop_limits limits = { t->limits[CALLBACK], t->limits[FUEL], ++loops, (uint32_t)t->limits[DEPTH] };
         l->turn.of = t;
         l->number = loops;

@@ -1,13 +1,13 @@
 /* Numbers for a collector, the access log on standard output, and pages for people:
  *
  *     GET /-/metrics       Prometheus' text form
- *     GET /-/tenants       a line for each tenant: name, state, 1 where it has a loop, why its file was refused, how it failed last, by tabs
+ *     GET /-/tenants       by tabs: name, state, 1 where it has a loop, why its file was refused, how it failed last
  *     GET /-/log/NAME      a loop's last steps
  *     GET /-/              FOLDER/dashboard.html */
 #include <stdlib.h>
 #include <string.h>
 #include <time.h>
-#include "edge.h"
+#include "http.h"
 
 enum { LOG = 512, KEPT = 1024 };
 
@@ -78,7 +78,7 @@ void free_steps(tenant *t) {
 static const char *state_of(const tenant *t) {
     if (t->status == ABSENT) return "absent";
     if (!t->module.mark) return t->load ? "loading" : "refused";
-    if (t->loop && t->loop->last >= WASMLOOP_OVER) return t->loop->last == WASMLOOP_OVER ? "over" : "failed";
+    if (loop_did(t) >= WASMLOOP_OVER) return loop_did(t) == WASMLOOP_OVER ? "over" : "failed";
     return t->said ? "old" : "ready";
 }
 
@@ -153,8 +153,8 @@ static void write_requests(FILE *to) {
     }
     write_type(to, "tenant_tasks", "gauge", "Tasks of a tenant that wait or run.");
     for (tenant *t = LIST_FIRST(&tenants); t; t = LIST_NEXT(t, next))
-        fprintf(to, "edge_tenant_tasks{tenant=\"%s\",are=\"waiting\"} %u\nedge_tenant_tasks{tenant=\"%s\",are=\"running\"} %u\n", t->name, t->waiting,
-            t->name, t->running);
+        fprintf(to, "edge_tenant_tasks{tenant=\"%s\",are=\"waiting\"} %u\nedge_tenant_tasks{tenant=\"%s\",are=\"running\"} %u\n", t->name,
+            t->waiting, t->name, t->running);
     write_type(to, "tenant_state", "gauge", "1 for the state that a tenant is in.");
     for (tenant *t = LIST_FIRST(&tenants); t; t = LIST_NEXT(t, next))
         fprintf(to, "edge_tenant_state{tenant=\"%s\",state=\"%s\"} 1\n", t->name, state_of(t));
@@ -166,7 +166,7 @@ static void write_plain(FILE *to, const char *said) {
 
 static void write_tenants(FILE *to) {
     for (tenant *t = LIST_FIRST(&tenants); t; t = LIST_NEXT(t, next)) {
-        fprintf(to, "%s\t%s\t%u", t->name, state_of(t), t->shape.main);
+        fprintf(to, "%s\t%s\t%u", t->name, state_of(t), t->lives);
         write_plain(to, t->said), write_plain(to, t->failure);
         fputc('\n', to);
     }
@@ -185,7 +185,8 @@ static void write_step(FILE *to, const steps *s, const logged *l) {
         fprintf(to, "run %s %u %s", kinds[d->kind], d->number, wasmloop_ending_name(d->ending));
         if (d->ending == WASMLOOP_TRAP) fprintf(to, " %u", d->trap);
         fprintf(to, " used %llu%s", U(d->used), l->count ? " emit" : "");
-        for (uint64_t n = 0; n < l->count && s->emitted - l->first <= KEPT; n++) fprintf(to, " %lld", (long long)s->kept[(l->first + n) % KEPT]);
+        for (uint64_t n = 0; n < l->count && s->emitted - l->first <= KEPT; n++)
+            fprintf(to, " %lld", (long long)s->kept[(l->first + n) % KEPT]);
     } else {
         fprintf(to, "%s", d->what == WASMLOOP_OVER ? "over" : "failed");
     }
@@ -232,7 +233,7 @@ void page(client *c, const char *path) {
         there = people && write_file(to, "dashboard.html");
     bool good = fclose(to) == 0;
     if (good && there) {
-        c->page = at;
+        c->text = at;
         answer(c, 200, numbers ? "text/plain; version=0.0.4" : people ? "text/html; charset=utf-8" : "text/plain", at, length);
         return;
     }

@@ -5,13 +5,12 @@
 #include <stdlib.h>
 #include <string.h>
 #include <unistd.h>
-#include "edge.h"
+#include "http.h"
 
-enum { SAID = 256 };
 #define MOST_FUEL 1000000000000000000u
 
 struct tenants tenants;
-static void *names; /* the tree of all, by name */
+static void *names; /* the tree of their names */
 
 static FILE *open_file(const tenant *t, const char *kind) {
     char path[512];
@@ -24,48 +23,43 @@ static FILE *open_file(const tenant *t, const char *kind) {
 /* In a thread of the pool. */
 static void do_load(task *k) {
     static _Thread_local uint8_t bytes[MOST_MODULE + 1];
-    char why[SAID] = { 0 };
     wasmloop_fault fault;
     uint64_t n;
     FILE *file = open_file(k->of, "wasm");
     if (!file) {
         k->status = errno == ENOENT ? ABSENT : WASMLOOP_MEMORY;
-        k->said = strdup(errno == ENOENT ? "no such tenant" : "the file can't be read");
+        strcpy(k->said, errno == ENOENT ? "no such tenant" : "the file can't be read");
         return;
     }
     size_t length = fread(bytes, 1, sizeof bytes, file);
     fclose(file);
     k->status = wasmloop_load(bytes, length, &k->handle, &fault);
     if (k->status == WASMLOOP_OK) return;
-    if (k->status != WASMLOOP_REFUSED || wasmloop_explain(bytes, length, why, SAID - 1, &n) != WASMLOOP_OK)
-        strcpy(why, wasmloop_status_name(k->status));
-    k->said = strdup(why);
+    if (k->status != WASMLOOP_REFUSED || wasmloop_explain(bytes, length, k->said, SAID - 1, &n) != WASMLOOP_OK)
+        strcpy(k->said, wasmloop_status_name(k->status));
 }
-
-static void load(tenant *t);
 
 static void loaded(task *k) {
     tenant *t = k->of;
     bool anew = k->status == ABSENT || k->status == WASMLOOP_OK;
+    wasmloop_shape shape = { 0 };
     t->load = NULL;
     t->status = k->status;
     free(t->said);
-    t->said = k->said;
-    k->said = NULL;
+    t->said = *k->said ? strdup(k->said) : NULL;
     if (anew) {
         wasmloop_drop(&t->module);
         t->module = k->handle;
         k->handle = (wasmloop_handle)WASMLOOP_HANDLE_INIT;
-        t->shape = (wasmloop_shape){ 0 };
-        wasmloop_shape_of(&t->module, &t->shape);
+        wasmloop_shape_of(&t->module, &shape);
+        t->lives = shape.main;
         t->counted.loads += k->status == WASMLOOP_OK;
     }
     end_task(k);
     if (anew || !t->module.mark) make_loop(t);
-    if (t->changed) load(t);
 }
 
-/* Loads its module, and once more where it changes meanwhile. */
+/* Loads its module; once more, at the next sweep, where it changes meanwhile. */
 static void load(tenant *t) {
     static const kind loads = { NULL, do_load, loaded };
     t->changed = true;
@@ -93,18 +87,19 @@ static void read_limits(tenant *t) {
         [QUEUE] = { "queue", 64, 1, MOST_WAITING },
         [RUN] = { "run", 1, 1, 128 },
         [REST] = { "rest", 1, 0, 1000 },
-        [OUT] = { "out", 65536, 1, 1 << 30 } };
+        [OUT] = { "out", 32768, 1, 1 << 30 } };
     char key[32], value[64];
     FILE *file = open_file(t, "conf");
     for (int i = 0; i < LIMITS; i++) t->limits[i] = known[i].usual;
     if (workers > 2) t->limits[RUN] = workers - 1;
-    strcpy(t->type, "application/octet-stream");
+    free(t->type);
+    t->type = NULL;
     while (file && fscanf(file, "%31s %63s", key, value) == 2) {
         int i = 0;
         while (i < LIMITS && strcmp(key, known[i].key) != 0) i++;
         uint64_t n = i < LIMITS ? number_of(value, known[i].most) : UINT64_MAX;
         if (strcmp(key, "type") == 0)
-            strcpy(t->type, value);
+            free(t->type), t->type = strdup(value);
         else if (n != UINT64_MAX && n >= known[i].least)
             t->limits[i] = n;
         else
@@ -119,15 +114,13 @@ static int by_name(const void *a, const void *b) { return strcmp(a, b); }
 
 /* The tenant of a name; where `make` says so it is made, if its file is there. */
 tenant *tenant_of(const char *name, bool make) {
-    tenant **found = tfind(name, &names, by_name), *t;
-    char path[512];
-    if (found) return *found;
-    bool good = *name && strlen(name) < sizeof t->name && !name[strspn(name, "abcdefghijklmnopqrstuvwxyz0123456789_-")];
-    if (!make || ending || !good) return NULL;
+    char **found = tfind(name, &names, by_name), path[512];
+    if (found) return (tenant *)(*found - offsetof(tenant, name));
+    size_t length = strspn(name, "abcdefghijklmnopqrstuvwxyz0123456789_-");
+    if (!make || ending || length == 0 || length > 63 || name[length]) return NULL;
     snprintf(path, sizeof path, "%s/%s.wasm", folder, name);
-    if (access(path, F_OK) != 0 || !(t = calloc(1, sizeof *t))) return NULL;
-    strcpy(t->name, name);
-    if (!tsearch(t, &names, by_name)) {
+    tenant *t = access(path, F_OK) == 0 ? calloc(1, sizeof *t + length + 1) : NULL;
+    if (!t || !tsearch(strcpy(t->name, name), &names, by_name)) {
         free(t);
         return NULL;
     }
@@ -147,17 +140,18 @@ void tenant_changed(const char *file) {
     if (t && strcmp(kind, "conf") == 0) read_limits(t);
 }
 
-/* Those go whose file is gone, and where the server ends all, once nobody wants anything of them. */
-void tenants_sweep(void) {
+/* Those go whose file is gone, or all, once nobody wants anything of them. */
+void tenants_sweep(bool all) {
     for (tenant *t = LIST_FIRST(&tenants), *next; t; t = next) {
         next = LIST_NEXT(t, next);
         if (t->changed) load(t);
-        if ((t->status != ABSENT && !(ending && clients == 0)) || t->waiting || t->running || t->asking || t->load) continue;
+        if ((t->status != ABSENT && !all) || t->waiting || t->running || t->asking || t->load) continue;
         LIST_REMOVE(t, next);
         tdelete(t->name, &names, by_name);
         free_loop(t);
         free_steps(t);
         wasmloop_drop(&t->module);
+        free(t->type);
         free(t->said);
         free(t->failure);
         free(t);

@@ -1,18 +1,19 @@
 /* Work in the threads of libuv's pool, and whose turn it is: among tenants that wait the one goes first that has used the least processor
  * time. A job runs in slices, so that it makes room for others, and ends when it must. */
-#include <sched.h>
 #include <stdlib.h>
-#include <sys/resource.h>
+#include <string.h>
+#include <sys/syscall.h>
 #include <time.h>
 #include <unistd.h>
-#include "edge.h"
+#include "http.h"
 
-enum { SLICE_NS = 25000, FIRST = 5000, FEWEST = 50, MOST = 50000 };
+enum { SLICE_NS = 25000, FIRST = 5000, FEWEST = 50, MOST = 50000, MOST_RESTS = 32 };
 
 uint32_t running, waiting;
 atomic_bool hurry;
-static LIST_HEAD(, tenant) active; /* those that have a task that waits */
-static double pace;                /* the share of the tenant that was served last */
+static LIST_HEAD(, tenant) active;     /* those that have a task that waits */
+static uint64_t pace;                  /* the share of the tenant that was served last */
+static uint64_t alarm_at = UINT64_MAX; /* the moment at which the next of those that rest is looked for */
 
 /* ---- in a thread of the pool ---- */
 
@@ -29,8 +30,7 @@ void explain(task *k, wasmloop_handle *of, const char *how, uint32_t trap, uint6
     char where[80] = "";
     if (wasmloop_stop(of, &site, 1, &n) == WASMLOOP_OK && n > 0)
         snprintf(where, sizeof where, ", in function %llu at operation %llu", U(site.function), U(site.operation));
-    const char *name = trap ? wasmloop_trap_name(trap) : "";
-    if (asprintf(&k->said, "%s%s%s, after %llu units%s", how, trap ? ", " : "", name, U(used), where) < 0) k->said = NULL;
+    snprintf(k->said, SAID, "%s%s%s, after %llu units%s", how, trap ? ", " : "", trap ? wasmloop_trap_name(trap) : "", U(used), where);
 }
 
 /* How many units the next slice has, by what the last took: some 25 us, and none goes much past the deadline. */
@@ -39,40 +39,47 @@ static uint64_t units_of(const task *k, uint64_t took, uint64_t now) {
     return units < FEWEST ? FEWEST : units > MOST ? MOST : units;
 }
 
-/* Runs a job in slices, as long as its turn lasts: to its end, to its deadline, until its client has gone, or, after half a millisecond, until
- * another tenant's turn has come. */
+/* Runs a job in slices, as long as its turn lasts: to its end, to its deadline, until its client has gone, or, after half a millisecond,
+ * until another tenant's turn has come. */
 void run_job(task *k) {
     uint32_t over = 0;
+    wasmloop_about *a = &k->about;
     uint64_t began = uv_hrtime(), from = began, now;
     if (k->units == 0) k->units = FIRST;
-    while (!over && !k->late && !k->gone && !(hurry && from - began >= TURN_NS)) {
+    while (!over && a->outcome != LATE && !k->gone && !(hurry && from - began >= TURN_NS)) {
         if (wasmloop_job_run_for(&k->handle, k->units, &over) != WASMLOOP_OK) over = 1;
-        k->about.used += k->units;
         now = uv_hrtime();
-        k->late = !over && now >= k->until;
-        if (!k->late) k->units = units_of(k, now - from, now);
+        if (!over && now >= k->until) a->outcome = LATE;
+        a->used += k->units;
+        k->units = units_of(k, now - from, now);
         from = now;
     }
-    k->goes_on = !over && !k->late;
-    if (over) wasmloop_job_about(&k->handle, &k->about);
-    const wasmloop_about *a = &k->about;
-    const char *how = k->late ? "not done by its deadline" : wasmloop_outcome_name(a->outcome);
-    if (k->late || a->outcome > WASMLOOP_WORK_DONE) explain(k, &k->handle, how, a->outcome == WASMLOOP_WORK_TRAP ? a->value : 0, a->used);
+    k->goes_on = !over && a->outcome != LATE;
+    if (over) wasmloop_job_about(&k->handle, a);
+    const char *how = a->outcome == LATE ? "not done by its deadline" : wasmloop_outcome_name(a->outcome);
+    if (a->outcome > WASMLOOP_WORK_DONE) explain(k, &k->handle, how, a->outcome == WASMLOOP_WORK_TRAP ? a->value : 0, a->used);
 }
 
-/* The threads have a lower priority than the main one, in whatever class of the scheduler that is: on Linux each has its own. */
+/* The pool's threads have a lower priority than the main one, in whatever class of the scheduler that is, and short slices of a processor,
+ * where the kernel knows such: a guest that runs long doesn't keep waiting who wakes beside it. On Linux each thread has its own. */
 static void lower_priority(void) {
-    struct sched_param own;
-    sched_getparam(0, &own);
-    if (own.sched_priority-- > 1)
-        sched_setparam(0, &own);
-    else
-        setpriority(PRIO_PROCESS, (id_t)gettid(), getpriority(PRIO_PROCESS, 0) + 1);
+    struct {
+        uint32_t size, policy;
+        uint64_t flags;
+        int32_t nice;
+        uint32_t priority;
+        uint64_t slice, deadline, period;
+    } own = { 0 };
+    if (syscall(SYS_sched_getattr, 0, &own, sizeof own, 0) != 0) return;
+    own.priority -= own.priority > 1;
+    own.nice++;
+    own.slice = 4 * SLICE_NS;
+    syscall(SYS_sched_setattr, 0, &own, 0);
 }
 
 static void do_task(uv_work_t *work) {
     static _Thread_local bool low;
-    task *k = work->data;
+    task *k = (task *)work;
     if (!low) lower_priority();
     low = true;
     uint64_t began = cpu_now();
@@ -82,41 +89,43 @@ static void do_task(uv_work_t *work) {
 
 /* ---- whose turn it is, in the main thread ---- */
 
-static void on_rested(uv_timer_t *timer) { (void)timer, schedule(); }
+static void on_rested(uv_timer_t *timer) {
+    (void)timer;
+    alarm_at = UINT64_MAX;
+    schedule();
+}
 
-static void look_again(void) {
+static void look_again(uint64_t at, uint64_t now) {
     static uv_timer_t rests;
+    if (at >= alarm_at) return;
+    alarm_at = at;
     if (!rests.loop) uv_timer_init(uv, &rests);
-    uv_timer_start(&rests, on_rested, 1, 0);
+    uv_timer_start(&rests, on_rested, (at - now) / MS + 1, 0);
+    uv_unref((uv_handle_t *)&rests); /* the end doesn't wait for it */
 }
 
-/* A request waits for its tenant's first module; one whose request failed has one thread. */
-static bool can_run(const tenant *t) {
-    bool comes = t->load && t->load->state == RUNS && !t->module.mark;
-    return !comes && t->running < (t->fails ? 1 : t->limits[RUN]);
-}
-
+/* One whose request failed has one thread, and so has one whose first module comes. */
 static tenant *next_in_turn(void) {
     tenant *best = NULL;
-    uint64_t now = uv_hrtime();
+    uint64_t now = uv_hrtime(), soonest = UINT64_MAX;
     for (tenant *t = LIST_FIRST(&active); t; t = LIST_NEXT(t, active)) {
         if (now < t->rests && !ending)
-            look_again();
-        else if (can_run(t) && (!best || t->share < best->share))
+            soonest = t->rests < soonest ? t->rests : soonest;
+        else if (t->running < (t->fails || !t->module.mark ? 1 : t->limits[RUN]) && (!best || t->share < best->share))
             best = t;
     }
+    look_again(soonest, now);
     return best;
 }
 
 static void on_done(uv_work_t *work, int cancelled) {
-    task *k = work->data;
+    task *k = (task *)work;
     tenant *t = k->of;
     (void)cancelled;
     k->state = IDLE;
     running--, t->running--;
     t->counted.cpu += k->cpu;
-    t->share += (double)k->cpu - t->mean; /* the mean was paid before */
-    t->mean += ((double)k->cpu - t->mean) / 8;
+    t->share += k->cpu;
     if (k->goes_on && !k->gone)
         wait_for(k, true);
     else
@@ -132,7 +141,6 @@ void schedule(void) {
         unwait(k);
         pace = t->share;
         if (k->kind->ready && !k->kind->ready(k)) continue;
-        t->share += t->mean;
         running++, t->running++;
         k->state = RUNS;
         uv_queue_work(uv, &k->work, do_task, on_done);
@@ -172,25 +180,56 @@ void unwait(task *k) {
 
 task *task_of(tenant *t, const kind *kind) {
     task *k = calloc(1, sizeof *k);
-    if (k) *k = (task){ .kind = kind, .of = t, .until = UINT64_MAX, .work.data = k };
+    if (k) *k = (task){ .kind = kind, .of = t, .until = UINT64_MAX };
     return k;
 }
 
 void end_task(task *k) {
     wasmloop_drop(&k->handle);
-    free(k->said);
     free(k);
 }
 
 /* Keeps why a task failed as its tenant's last failure. */
 void keep_failure(task *k) {
-    if (!k->said) return;
+    if (!*k->said) return;
     free(k->of->failure);
-    k->of->failure = k->said;
-    k->said = NULL;
+    k->of->failure = strdup(k->said);
 }
 
 /* ---- requests ---- */
+
+/* Says why a request of a tenant has no reply, and counts it. */
+void fail(client *c, outcome what, int status, const char *why) {
+    count(c->task.of, what, c->came);
+    say(c, status, "%s: %s\n", c->task.of->name, why);
+}
+
+/* Its deadline is past, or the server ends. What is begun goes on, and a thread sees to its deadline. */
+void too_late(client *c) {
+    const task *k = &c->task;
+    if (k->state == RUNS || (k->state == WAITS && k->handle.mark)) return;
+    if (ending)
+        fail(c, REFUSED, 503, "the server ends");
+    else
+        fail(c, LATE, 504, k->state == ASKS ? "the loop did not answer before its deadline" : "not begun by its deadline");
+}
+
+/* Its client goes. Whether that may be now: what runs ends with its slice, and the client goes then. */
+bool give_up(client *c) {
+    task *k = &c->task;
+    k->gone = true;
+    if (k->state == RUNS) return false;
+    if (k->state != IDLE) count(k->of, GONE, c->came);
+    unwait(k);
+    return true;
+}
+
+/* Whether one more request may wait beside those before, within the bounds; else it is answered. */
+bool may_wait(client *c, uint32_t before) {
+    bool room = waiting < MOST_WAITING, may = room && before < c->task.of->limits[QUEUE];
+    if (!may) fail(c, REFUSED, room ? 429 : 503, room ? "too many wait" : "the server: too many wait");
+    return may;
+}
 
 /* Makes the job. */
 static bool ready_work(task *k) {
@@ -207,16 +246,16 @@ static bool ready_work(task *k) {
     return false;
 }
 
-/* A tenant whose request failed rests for a while, and has one thread until one is done: its failures must not be its neighbours' loss. One
- * whose replies have more than `out` bytes a millisecond rests until they had not: the main thread writes them. */
+/* A tenant whose request failed rests, the longer the more in a row, and has one thread until one is done: its failures must not be its
+ * neighbours' loss. One whose replies have more than `out` bytes a millisecond rests until they had not: the main thread writes them. */
 static void note_end(tenant *t, outcome what, uint64_t bytes) {
     const uint64_t now = uv_hrtime();
     t->sent = (t->sent > now ? t->sent : now) + bytes * MS / t->limits[OUT];
     if (t->sent > now + MS) t->rests = t->sent - MS;
-    if (what == DONE) t->fails = false;
+    if (what == DONE) t->fails = 0;
     if (what == DONE || what == GONE || what == NO_MEMORY) return;
-    t->fails = true;
-    t->rests = now + t->limits[REST] * MS;
+    if (t->fails == 0 || (what != LATE && t->fails < MOST_RESTS)) t->fails++; /* late it may be by others */
+    t->rests = now + t->limits[REST] * MS * t->fails;
 }
 
 static void worked(task *k) {
@@ -225,7 +264,7 @@ static void worked(task *k) {
     client *c = (client *)k;
     const uint8_t *reply = NULL;
     uint64_t length = 0;
-    outcome what = k->late ? LATE : (outcome)k->about.outcome;
+    outcome what = (outcome)k->about.outcome;
     wasmloop_job_view(&k->handle, &reply, &length);
     t->counted.used += k->about.used;
     t->counted.out += length;
@@ -235,18 +274,11 @@ static void worked(task *k) {
         leave(c);
     } else if (what == DONE) {
         count(t, DONE, c->came);
-        answer(c, 200, t->type, reply, length);
+        answer(c, 200, t->type ? t->type : "application/octet-stream", reply, length);
     } else {
-        fail(c, what, status_of[what], k->said ? k->said : "no memory");
+        fail(c, what, status_of[what], k->said);
     }
     keep_failure(k);
-}
-
-/* Whether one more request may wait beside those before, within the bounds; else it is answered. */
-bool may_wait(client *c, uint32_t before) {
-    bool room = waiting < MOST_WAITING, may = room && before < c->task.of->limits[QUEUE];
-    if (!may) fail(c, REFUSED, room ? 429 : 503, room ? "too many wait" : "the server: too many wait");
-    return may;
 }
 
 /* Lets a request wait for its tenant's turn. */

@@ -8,7 +8,7 @@ out, lets them take turns, and ends them.
 
     flat     wrk, eight connections, each asks again once it is answered
     rate     LOAD asks so many times a second, whatever the server does; a time counts from the moment that was due
-    hostile  hello flat out and at 1,000 a second, alone and then beside four connections that ask a hostile tenant: throughput as a ratio, p99 before and after
+    hostile  hello flat out and at 1,000 a second, alone and then beside four connections that ask a hostile tenant: answers a second and their ratio, p99
     cost     a thousand tenants of crc32: memory of each, a new file's first answer, its second
     exact    a guest that never ends, twenty times: how long, and after how many units
 
@@ -169,28 +169,30 @@ def rate(servers):
               [lambda port, c=c: measure(port, *c, rate) for c in cells])
 
 
-def pairs(port, measure, hostile):
-    """Medians alone, and beside a hostile tenant, in turns."""
-    got = []
-    for _ in range(told.rounds):
-        for _ in range(8):
-            ask(port, "/hello")  # what the last one left is over
-        before = measure(port)
-        with beside(port, hostile):
-            got.append((before, measure(port)))
-    return medians(it for it, _ in got), medians(it for _, it in got)
+def pair(port, measure, hostile):
+    """What is measured alone, and beside a hostile tenant."""
+    for _ in range(8):
+        ask(port, "/hello")  # what the last one left is over
+    before = measure(port)
+    with beside(port, hostile):
+        return before, measure(port)
 
 
 def hostile(servers):
+    """Hello alone and then beside each hostile tenant, which take turns: the ratio is the median of the turns' own."""
     names = told.hostile.split(",")
     for text, measure in (("flat out", lambda port: flat_out(port, "hello")), ("at 1,000 a second", lambda port: at_rate(port, "hello", 1000))):
-        rows = {}
-        for name, (port, _) in servers.items():
-            if name == "fork" and text != "flat out":
-                continue
-            both = [pairs(port, measure, it) for it in names]
-            rows[name] = [f"{after[0] / max(before[0], 1):.2f}; {before[2]:.2f} to {after[2]:.2f}" for before, after in both]
-        table([f"{it}, {text}" for it in names], rows)
+        got = {(name, it): [] for name in servers for it in names if name != "fork" or text == "flat out"}
+        for _ in range(told.rounds):
+            for (name, it), both in got.items():
+                both.append(pair(servers[name][0], measure, it))
+        cells = {}
+        for (name, _), both in got.items():
+            before, after = medians(it for it, _ in both), medians(it for _, it in both)
+            ratio = statistics.median(it[0] / max(alone[0], 1) for alone, it in both)
+            rates = f"{before[0]:,.0f} to {after[0]:,.0f}, {ratio:.3f}; " if text == "flat out" else ""
+            cells.setdefault(name, []).append(f"{rates}{before[2]:.2f} to {after[2]:.2f}")
+        table([f"{it}, {text}" for it in names], cells)
 
 
 def tenants_of(name, port, server, many):

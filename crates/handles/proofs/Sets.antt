@@ -7,7 +7,7 @@ use Rattle.handles.specs.declared.handle.Kind.TheVariants.{Timer, Idle, Check, A
 use Rattle.handles.specs.declared.sorted.ListPlace.{ListPlace}
 use Rattle.handles.specs.Place.{PlaceSet, place_cmp, set_of_sorted, PlacesRise, with}
 use Rattle.handles.specs.Inner.Parts.{Parts, part, with_part, count}
-use Rattle.handles.specs.Inner.Lists.{Lists, lists_of, PartsRise, list, with_list, size}
+use Rattle.handles.specs.Inner.Lists.{ActiveLists, lists_of, PartsRise, list, with_list, how_many_listed}
 use Rattle.handles.proofs.Places.{places_total}
 use Rattle.handles.proofs.RisingLists.{HasGap, len_of, len_with_new}
 
@@ -36,7 +36,7 @@ lists_of-with_part Idle p places = refl
 lists_of-with_part Check p places = refl
 lists_of-with_part Async p places = refl
 
-pub with_own_list : (kind : Kind) (l : Lists) → with_list kind (list kind l) l ≡ l
+pub with_own_list : (kind : Kind) (l : ActiveLists) → with_list kind (list kind l) l ≡ l
 with_own_list Timer l = refl
 with_own_list Idle l = refl
 with_own_list Check l = refl
@@ -44,7 +44,7 @@ with_own_list Async l = refl
 
 -- a place that comes in is one more
 pub one_more : (kind : Kind) (p : Parts) (place : ListPlace) (at : ℕ) → kind ≢ Async → PartsRise p → HasGap place_cmp (part kind p) place at
-    → size (with_list kind (set.insert (list kind (lists_of p)) place tt) (lists_of p)) ≡ count p + 1
+    → how_many_listed (with_list kind (set.insert (list kind (lists_of p)) place tt) (lists_of p)) ≡ count p + 1
 one_more Timer p place at listed rise gap = omega (arith, len_with_new places_total p.timers at place rise.0 gap, len_of places_total p.idle rise.1, len_of places_total p.check rise.2)
 one_more Idle p place at listed rise gap = omega (arith, len_with_new places_total p.idle at place rise.1 gap, len_of places_total p.timers rise.0, len_of places_total p.check rise.2)
 one_more Check p place at listed rise gap = omega (arith, len_with_new places_total p.check at place rise.2 gap, len_of places_total p.timers rise.0, len_of places_total p.idle rise.1)

@@ -4,3 +4,4 @@ pub mod Payloads
 pub mod Tokens
 pub mod Lists
 pub mod Kept
+pub mod Longs

@@ -4,7 +4,7 @@ use Rattle.handles.specs.declared.handle.Kind.TheVariants.{Timer, Idle, Check}
 use Rattle.handles.specs.declared.sorted.ListPlace.{ListPlace}
 use Rattle.handles.specs.Place.{with}
 use Rattle.handles.specs.Table.{place_of}
-use Rattle.handles.specs.Inner.Lists.{Lists, list, with_list, size}
+use Rattle.handles.specs.Inner.Lists.{ActiveLists, list, with_list, how_many_listed}
 use Rattle.handles.proofs.Sets.{no_shorter}
 use Rattle.handles.proofs.sorted.Lists.add.Goals as goal
 
@@ -13,13 +13,13 @@ put_in-requires-clause-room c =
     let l = c.args.self.now in
     let idle = no_shorter (place_of Idle c.args.handle c.args.new.now) l.idle in
     let check = no_shorter (place_of Check c.args.handle c.args.new.now) l.check in
-    subst (λ (o : Option ListPlace). size (with_list Timer (with o l.timers) l) ≤ MAX_HANDLES) (sym c.place.ensures) (omega (arith, c.requires, idle, check))
+    subst (λ (o : Option ListPlace). how_many_listed (with_list Timer (with o l.timers) l) ≤ MAX_HANDLES) (sym c.place.ensures) (omega (arith, c.requires, idle, check))
 
 pub put_in-requires-2-clause-room : goal.put_in-requires-2-clause-room
 put_in-requires-2-clause-room c =
     let l = c.args.self.now in
     let check = no_shorter (place_of Check c.args.handle c.args.new.now) l.check in
     let timers : Option ListPlace = place_of Timer c.args.handle c.args.new.now in
-    let both = subst (λ (o : Option ListPlace). size (with_list Idle (with o l.idle) (with_list Timer (with timers l.timers) l)) ≤ MAX_HANDLES) (sym c.place-2.ensures) (omega (arith, c.requires, check)) in
-    let first = subst (λ (o : Option ListPlace). size (with_list Idle (with c.place-2.result l.idle) (with_list Timer (with o l.timers) l)) ≤ MAX_HANDLES) (sym c.place.ensures) both in
-    subst (λ (m : Lists). size (with_list Idle (with c.place-2.result (list Idle m)) m) ≤ MAX_HANDLES) (sym c.put_in.ensures) first
+    let both = subst (λ (o : Option ListPlace). how_many_listed (with_list Idle (with o l.idle) (with_list Timer (with timers l.timers) l)) ≤ MAX_HANDLES) (sym c.place-2.ensures) (omega (arith, c.requires, check)) in
+    let first = subst (λ (o : Option ListPlace). how_many_listed (with_list Idle (with c.place-2.result l.idle) (with_list Timer (with o l.timers) l)) ≤ MAX_HANDLES) (sym c.place.ensures) both in
+    subst (λ (m : ActiveLists). how_many_listed (with_list Idle (with c.place-2.result (list Idle m)) m) ≤ MAX_HANDLES) (sym c.put_in.ensures) first

@@ -3,7 +3,7 @@ use Rattle.std.specs.FinMap as set
 use Rattle.limits.specs.declared.TheConstants.{MAX_HANDLES}
 use Rattle.handles.specs.Place.{PlaceSet, set_of_sorted}
 use Rattle.handles.specs.Inner.Parts.{part}
-use Rattle.handles.specs.Inner.Lists.{Lists, lists_of, PartsRise, list, with_list, size}
+use Rattle.handles.specs.Inner.Lists.{ActiveLists, lists_of, PartsRise, list, with_list, how_many_listed}
 use Rattle.handles.proofs.RisingLists.{found, gap_found, rises-insert, set-insert, set-insert_present}
 use Rattle.handles.proofs.Places.{places_total, same_place}
 use Rattle.handles.proofs.Sets.{list_of_part, part_rises, parts_rise, lists_of-with_part, with_own_list, one_more}
@@ -15,7 +15,7 @@ insert-requires-clause-room c =
     let p = c.self.inside.places in
     let rises = part_rises kind p c.self.invariant in
     let gap = gap_found places_total _ _ c.args.place c.in-Err.at c.part.ensures.value rises c.in-Err.ensures.bound c.in-Err.ensures.position in
-    let room = subst (λ (l : Lists). size (with_list kind (set.insert (list kind l) c.args.place tt) l) ≤ MAX_HANDLES) (sym c.self.view_is) c.requires.room in
+    let room = subst (λ (l : ActiveLists). how_many_listed (with_list kind (set.insert (list kind l) c.args.place tt) l) ≤ MAX_HANDLES) (sym c.self.view_is) c.requires.room in
     omega (arith, room, one_more kind p c.args.place c.in-Err.at c.requires.listed c.self.invariant gap)
 
 pub invariant_of-self : goal.invariant_of-self
@@ -35,7 +35,7 @@ returns-in-Err c =
     let same = list_of_part kind p c.requires.listed in
     ap lists_of c.insert.ensures ∙ lists_of-with_part kind p _
     ∙ ap (λ (s : PlaceSet). with_list kind s (lists_of p)) (set-insert places_total _ _ _ rises gap ∙ ap (λ (s : PlaceSet). set.insert s c.args.place tt) (sym same))
-    ∙ ap (λ (l : Lists). with_list kind (set.insert (list kind l) c.args.place tt) l) c.self.view_is
+    ∙ ap (λ (l : ActiveLists). with_list kind (set.insert (list kind l) c.args.place tt) l) c.self.view_is
 
 pub returns-in-Ok : goal.returns-in-Ok
 returns-in-Ok c =
@@ -45,5 +45,5 @@ returns-in-Ok c =
     let at = found places_total same_place _ _ _ _ c.part.ensures.value c.in-Ok.ensures.bound c.in-Ok.ensures.ok in
     let same = list_of_part kind p c.requires.listed in
     let kept : set_of_sorted (part kind p) ≡ set.insert (set_of_sorted (part kind p)) c.args.place tt = set-insert_present places_total same_place _ _ _ rises at.0 at.1 in
-    subst (λ (l : Lists). l ≡ with_list kind (set.insert (list kind l) c.args.place tt) l) c.self.view_is
+    subst (λ (l : ActiveLists). l ≡ with_list kind (set.insert (list kind l) c.args.place tt) l) c.self.view_is
     (sym (with_own_list kind (lists_of p)) ∙ ap (λ (s : PlaceSet). with_list kind s (lists_of p)) (same ∙ kept ∙ ap (λ (s : PlaceSet). set.insert s c.args.place tt) (sym same)))

@@ -1,6 +1,6 @@
 use Rattle.std.proofs.Common.{ap, sym, ◌∙◌}
 use Rattle.std.specs.FinMap.{keys}
-use Rattle.handles.specs.Inner.Lists.{Lists, list}
+use Rattle.handles.specs.Inner.Lists.{ActiveLists, list}
 use Rattle.handles.proofs.RisingLists.{keys_of}
 use Rattle.handles.proofs.Places.{places_total}
 use Rattle.handles.proofs.Sets.{list_of_part, part_rises}
@@ -11,4 +11,4 @@ returns-clause-value c =
     let kind = c.args.kind in
     let p = c.self.inside.places in
     c.part.ensures.value ∙ sym (keys_of places_total _ (part_rises kind p c.self.invariant)) ∙ ap keys (sym (list_of_part kind p c.requires))
-    ∙ ap (λ (l : Lists). keys (list kind l)) c.self.view_is
+    ∙ ap (λ (l : ActiveLists). keys (list kind l)) c.self.view_is

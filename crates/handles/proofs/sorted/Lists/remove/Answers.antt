@@ -2,7 +2,7 @@ use Rattle.std.proofs.Common.{◌≡◌, ap, sym, ◌∙◌, subst}
 use Rattle.std.specs.FinMap as set
 use Rattle.handles.specs.Place.{PlaceSet, set_of_sorted}
 use Rattle.handles.specs.Inner.Parts.{part}
-use Rattle.handles.specs.Inner.Lists.{Lists, lists_of, PartsRise, list, with_list}
+use Rattle.handles.specs.Inner.Lists.{ActiveLists, lists_of, PartsRise, list, with_list}
 use Rattle.handles.proofs.RisingLists.{found, gap_found, rises-remove, set-remove, set-remove_absent}
 use Rattle.handles.proofs.Places.{places_total, same_place}
 use Rattle.handles.proofs.Sets.{list_of_part, part_rises, parts_rise, lists_of-with_part, with_own_list}
@@ -25,7 +25,7 @@ returns-in-Ok c =
     let same = list_of_part kind p c.requires in
     ap lists_of c.remove.ensures ∙ lists_of-with_part kind p _
     ∙ ap (λ (s : PlaceSet). with_list kind s (lists_of p)) (set-remove places_total same_place _ _ _ rises at.0 at.1 ∙ ap (λ (s : PlaceSet). set.remove s c.args.place) (sym same))
-    ∙ ap (λ (l : Lists). with_list kind (set.remove (list kind l) c.args.place) l) c.self.view_is
+    ∙ ap (λ (l : ActiveLists). with_list kind (set.remove (list kind l) c.args.place) l) c.self.view_is
 
 pub returns-in-Err : goal.returns-in-Err
 returns-in-Err c =
@@ -35,5 +35,5 @@ returns-in-Err c =
     let gap = gap_found places_total _ _ _ _ c.part.ensures.value rises c.in-Err.ensures.bound c.in-Err.ensures.position in
     let same = list_of_part kind p c.requires in
     let kept : set_of_sorted (part kind p) ≡ set.remove (set_of_sorted (part kind p)) c.args.place = set-remove_absent places_total same_place _ _ _ rises gap in
-    subst (λ (l : Lists). l ≡ with_list kind (set.remove (list kind l) c.args.place) l) c.self.view_is
+    subst (λ (l : ActiveLists). l ≡ with_list kind (set.remove (list kind l) c.args.place) l) c.self.view_is
     (sym (with_own_list kind (lists_of p)) ∙ ap (λ (s : PlaceSet). with_list kind s (lists_of p)) (same ∙ kept ∙ ap (λ (s : PlaceSet). set.remove s c.args.place) (sym same)))

@@ -11,7 +11,7 @@ use Rattle.syntax.specs.Loaded.{Loaded}
 use Rattle.script.specs.declared.plan.LoopPlan.{LoopPlan}
 use Rattle.world.specs.declared.config.LoopConfig.{LoopConfig}
 use Rattle.world.specs.Making.{setting_from, settings_from}
-use Rattle.commands.specs.Scripting.{IsAcceptedModule, bytes_loaded, IsPlanned, ArePlanned}
+use Rattle.scripting.specs.Opening.{IsAcceptedModule, bytes_loaded, IsPlanned, ArePlanned}
 
 -- the front of a list, and one more
 taken : {A : Type 0} (xs : List A) (k : ℕ) (x : A) → slice_get xs k ≡ Some x → k < length xs → take (k + 1) xs ≡ take k xs ++ x ∷ []

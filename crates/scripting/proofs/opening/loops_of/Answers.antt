@@ -2,8 +2,8 @@ use Rattle.std.proofs.Common.{◌<◌, length, map, arith, rules}
 use Rattle.std.specs.Arc.{arc_value}
 use Rattle.std.proofs.lemmas.Option.{slice_get-get_or}
 use Rattle.world.specs.Making.{HasDepth}
-use Rattle.commands.proofs.Planned.{all_more, loop_added}
-use Rattle.commands.proofs.scripting.loops_of.Goals as goal
+use Rattle.scripting.proofs.Planned.{all_more, loop_added}
+use Rattle.scripting.proofs.opening.loops_of.Goals as goal
 
 pub loop-plan-preserved : goal.loop-plan-preserved
 loop-plan-preserved c =

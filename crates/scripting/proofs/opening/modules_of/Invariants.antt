@@ -1,7 +1,7 @@
 use Rattle.std.proofs.Common.{◌≡◌, ◌≤◌, All, length, map, take}
 use Rattle.std.specs.Arc.{arc_value}
-use Rattle.commands.specs.Scripting.{IsAcceptedModule, bytes_loaded}
-use Rattle.commands.proofs.scripting.modules_of.Given as goal
+use Rattle.scripting.specs.Opening.{IsAcceptedModule, bytes_loaded}
+use Rattle.scripting.proofs.opening.modules_of.Given as goal
 
 abbrev pub invariant-loop-number : goal.invariant-loop-number
 invariant-loop-number l = record {

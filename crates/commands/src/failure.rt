@@ -2,8 +2,8 @@
 
 ghost use Rattle.std.specs.Prelude.{◌≡◌};
 
-use crate::file::ReadFault;
 use crate::status::ExitStatus;
+use files::ReadFault;
 use instance::fault::InstFault;
 use limits::{MAX_BYTES, MAX_MODULE_BYTES};
 use loader::Refusal;
@@ -15,6 +15,7 @@ use std::alloc::{AllocError, AllocFailed, Global};
 use std::io::{self, ErrorKind, Write};
 use std::{fmt, str};
 use syntax::contents::{Contents, ExternKind};
+use working::WorkFailure;
 
 /// Why a command has no result.
 #[derive(Drop)]
@@ -77,16 +78,6 @@ impl<'a> Failure<'a> {
         match fault {
             ReadFault::File(reason) => Failure::File { name, reason },
             ReadFault::Memory => Failure::Memory,
-        }
-    }
-
-    /// The file of this name is not written.
-    pub fn unwritten(name: &'a str, reason: io::Error) -> Failure<'a>
-        ensures { status_of_failure result ≡ status.Failed }
-    {
-        match reason.kind() {
-            ErrorKind::OutOfMemory => Failure::Memory,
-            _ => Failure::Unwritten { name, reason },
         }
     }
 
@@ -188,6 +179,18 @@ impl fmt::Display for Failure<'_> {
             }
             Failure::NoFunction { name, .. } => write!(f, "no function {}", Shown(*name)),
             Failure::Arguments(_) | Failure::TooLong(_) => f.write_str("arguments"),
+        }
+    }
+}
+
+impl<'a> From<WorkFailure<'a>> for Failure<'a> {
+    fn from(failure: WorkFailure<'a>) -> Self {
+        match failure {
+            WorkFailure::Memory => Failure::Memory,
+            WorkFailure::Unread { name, fault } => Failure::unread(name, fault),
+            WorkFailure::TooLong(name) => Failure::TooLong(name),
+            WorkFailure::Unwritten { name, reason } => Failure::Unwritten { name, reason },
+            WorkFailure::Output(reason) => Failure::Output(reason),
         }
     }
 }

@@ -7,7 +7,7 @@ ghost use Rattle.commands.specs.Inner.Statuses.{status_of_failure};
 ghost use Rattle.commands.specs.declared.status.ExitStatus.TheVariants as status;
 
 use crate::failure::Failure;
-use crate::file::Reader;
+use files::Reader;
 use imports::Linked;
 use limits::MAX_MODULE_BYTES;
 use loader::Refusal;

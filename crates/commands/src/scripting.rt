@@ -4,8 +4,8 @@ ghost use Rattle.std.specs.Prelude.{◌≡◌, IfOk};
 ghost use Rattle.commands.specs.Scripting.{HasRunFile};
 
 use crate::failure::Failure;
-use crate::file::Reader;
 use crate::status::ExitStatus;
+use files::Reader;
 use limits::MAX_SCRIPT_BYTES;
 use scripting::{ScriptEnd, run_script};
 use std::alloc::Global;

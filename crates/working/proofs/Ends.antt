@@ -7,7 +7,9 @@ use Rattle.order.specs.Orders.{order_of}
 use Rattle.words.specs.declared.command.WorkRequest.{WorkRequest}
 use Rattle.syntax.specs.Loaded.{Loaded}
 use Rattle.std.specs.Arc.{arc_value}
-use Rattle.commands.specs.Working.{IsResult, asked_order}
+use Rattle.working.specs.declared.report.WorkReport.{WorkReport}
+use Rattle.working.specs.declared.report.WorkReport.TheVariants as report
+use Rattle.working.specs.Working.{IsResult, asked_order}
 
 -- an order of these parts is the one that was asked for
 pub is_asked : (o : Order) (work : WorkRequest) (read : List ℕ) (linked : Loaded) → o.loop_no ≡ 0 → o.request ≡ 1 → o.slot ≡ 0
@@ -48,3 +50,6 @@ end_of_order o (Trap code) used valid one uses = record { computed = (used, uses
 end_of_order o Depth used valid one uses = record { computed = (used, uses); only = λ other works. one o other Depth valid works (used, uses) }
 end_of_order o Spent used valid one uses = record { computed = (used, uses); only = λ other works. one o other Spent valid works (used, uses) }
 end_of_order o NoMemory used valid one uses = tt
+
+pub not_both : {r : WorkReport} → r ≡ report.Result → r ≡ report.Stopped → ⊥
+not_both result stopped = cc

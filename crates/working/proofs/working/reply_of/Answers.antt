@@ -1,10 +1,10 @@
 use Rattle.std.proofs.Common.{ap}
 use Rattle.std.specs.Arc.{arc_value}
-use Rattle.commands.proofs.Ends.{is_asked}
-use Rattle.commands.proofs.working.reply_of.Goals as goal
+use Rattle.working.proofs.Ends.{is_asked}
+use Rattle.working.proofs.working.reply_of.Goals as goal
 
 pub run_told-requires-clause-work : goal.run_told-requires-clause-work
-run_told-requires-clause-work c = rw c.in_ok-order.ensures.module (c.in-Some._function, c.in-Some.ensures.found)
+run_told-requires-clause-work c = rw c.in_ok-order.ensures.module c.requires.there
 
 pub returns : goal.returns
 returns c =

@@ -1,9 +1,9 @@
 #!/usr/bin/env python3
 """Lets the program go on with the next steps of a script where one found no memory.
 
-    python3 go_on.py SCRIPTING
+    python3 go_on.py RUNNING
 
-SCRIPTING is the program's file scripting.rt, which is changed in place.
+RUNNING is the file running.rt of the crate `scripting`, which is changed in place.
 """
 import pathlib
 import sys

@@ -19,7 +19,7 @@ cc -std=c11 -O1 -Wall -Wextra -shared -fPIC -o "$work/refuse.so" "$top/trials/me
 copy=$work/copy
 mkdir "$copy"
 cp -a "$top/HANDLES" "$top/crates.txt" "$top/wasmloop" "$top/build.py" "$top/crates" "$copy/"
-python3 "$top/trials/memory/go_on.py" "$copy/crates/commands/src/scripting.rt"
+python3 "$top/trials/memory/go_on.py" "$copy/crates/scripting/src/running.rt"
 "$copy/wasmloop" --version
 
 python3 "$top/trials/memory/ends.py" "$program" "$copy/crates/wasmloop/out/wasmloop" "$work/refuse.so"

@@ -43,9 +43,6 @@ pub at_refused : (r : Result ExitStatus Failure) (A : Type 0) → IfOk r (λ (s 
 at_refused (Ok s) A done refused is = cc
 at_refused (Err f) A done refused is = refused is
 
-pub not_done : {s : ExitStatus} → s ≡ status.Done → s ≡ status.Ended → ⊥
-not_done done ended = cc
-
 pub nothing_ended : {E : Type 0} (r : Result ExitStatus E) → IfOk r (λ (s : ExitStatus). s ≡ status.Ended → Unit {0})
 nothing_ended (Ok s) = λ _. tt
 nothing_ended (Err e) = tt

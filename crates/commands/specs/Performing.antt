@@ -16,7 +16,7 @@ use Rattle.resident.specs.Calls.{HasReturned}
 use Rattle.commands.specs.Calling.{IsCalled, HasFunctionReturned}
 use Rattle.commands.specs.Arguments.{AllSpell}
 use Rattle.commands.specs.Working.{HasWorked, HasStopped}
-use Rattle.commands.specs.Scripting.{HasRun}
+use Rattle.commands.specs.Scripting.{HasRunFile}
 use Rattle.commands.specs.Serving.{HasServedAll}
 
 -- A module with these contents exports a function under the name, the words spell its arguments, and this comes of a call of
@@ -52,7 +52,7 @@ IsDone gives takes before after _ _ (Check file) = ((contents : Contents) × Hol
     × Appends before after (codes "accepted\n")
 IsDone gives takes _ _ _ _ (Invoke invocation) = HasInvoked gives invocation
 IsDone gives takes before after said_before said_after (Work order) = HasWorked gives takes before after said_before said_after order
-IsDone gives takes before after _ _ (Script file) = HasRun gives before after (string_bytes file)
+IsDone gives takes before after _ _ (Script file) = HasRunFile gives before after (string_bytes file)
 -- what loops in threads print is no clause's
 IsDone gives takes _ _ _ _ (Serve service) = HasServedAll gives service
 

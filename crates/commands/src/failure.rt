@@ -2,28 +2,20 @@
 
 ghost use Rattle.std.specs.Prelude.{◌≡◌};
 
-use crate::file::ReadFault;
 use crate::status::ExitStatus;
+use files::ReadFault;
 use instance::fault::InstFault;
 use limits::{MAX_BYTES, MAX_MODULE_BYTES};
 use loader::Refusal;
 use places::Shown;
 use script::ScriptFault;
+use scripting::ScriptFailure;
 use sentences::{Grouped, Listing, Mismatch, RefusalAccount};
 use std::alloc::{AllocError, AllocFailed, Global};
 use std::io::{self, ErrorKind, Write};
 use std::{fmt, str};
 use syntax::contents::{Contents, ExternKind};
-use world::WorldFault;
-
-/// What is known of a refusal beside its own words.
-#[derive(Drop)]
-pub enum RefusalDetail {
-    /// The module has more bytes than one may have.
-    TooLong,
-    /// Where it is, and why.
-    Told(RefusalAccount),
-}
+use working::WorkFailure;
 
 /// Why a command has no result.
 #[derive(Drop)]
@@ -42,11 +34,11 @@ pub enum Failure<'a> {
         name: &'a str,
         reason: io::Error,
     },
-    /// The bytes of the file, or of a module of the script, are no guest.
+    /// The bytes of the file, or of a module of the script, are no guest. Of more bytes than a module may have nothing more is said.
     Refused {
         module: Option<usize>,
         refusal: Refusal,
-        site: RefusalDetail,
+        account: Option<RefusalAccount>,
     },
     /// The file is no script. Where and why is said if that is known, and if there is memory for it.
     Script {
@@ -89,16 +81,6 @@ impl<'a> Failure<'a> {
         }
     }
 
-    /// The file of this name is not written.
-    pub fn unwritten(name: &'a str, reason: io::Error) -> Failure<'a>
-        ensures { status_of_failure result ≡ status.Failed }
-    {
-        match reason.kind() {
-            ErrorKind::OutOfMemory => Failure::Memory,
-            _ => Failure::Unwritten { name, reason },
-        }
-    }
-
     /// The module exports no function of this name.
     pub fn no_function(alloc: Global, contents: &Contents, name: &'a str) -> Failure<'a> {
         Failure::NoFunction {
@@ -126,9 +108,13 @@ impl<'a> Failure<'a> {
     /// Says in a sentence what is wrong, and where.
     pub fn explain<E: Write>(&self, err: &mut E) -> io::Result<()> {
         match self {
-            Failure::Refused { module, site, .. } => {
+            Failure::Refused {
+                module,
+                account,
+                ..
+            } => {
                 let what = if module.is_some() { "module" } else { "file" };
-                tell_site(what, site, err)
+                tell_refusal(what, account, err)
             }
             Failure::Script {
                 told: Some(told),
@@ -160,14 +146,18 @@ fn tell_functions<E: Write>(there: &Option<String>, err: &mut E) -> io::Result<(
     }
 }
 
-fn tell_site<E: Write>(what: &str, site: &RefusalDetail, err: &mut E) -> io::Result<()> {
-    match site {
-        RefusalDetail::TooLong => writeln!(
+fn tell_refusal<E: Write>(
+    what: &str,
+    account: &Option<RefusalAccount>,
+    err: &mut E,
+) -> io::Result<()> {
+    match account {
+        Some(account) => writeln!(err, "{account}"),
+        None => writeln!(
             err,
             "the {what} has more than {} bytes (strip its debug names)",
             Grouped(MAX_MODULE_BYTES as u64)
         ),
-        RefusalDetail::Told(account) => writeln!(err, "{account}"),
     }
 }
 
@@ -193,10 +183,34 @@ impl fmt::Display for Failure<'_> {
     }
 }
 
-/// A world is refused only if memory runs out.
-impl From<WorldFault> for Failure<'_> {
-    fn from(_fault: WorldFault) -> Self {
-        Failure::Memory
+impl<'a> From<WorkFailure<'a>> for Failure<'a> {
+    fn from(failure: WorkFailure<'a>) -> Self {
+        match failure {
+            WorkFailure::Memory => Failure::Memory,
+            WorkFailure::Unread { name, fault } => Failure::unread(name, fault),
+            WorkFailure::TooLong(name) => Failure::TooLong(name),
+            WorkFailure::Unwritten { name, reason } => Failure::Unwritten { name, reason },
+            WorkFailure::Output(reason) => Failure::Output(reason),
+        }
+    }
+}
+
+impl From<ScriptFailure> for Failure<'_> {
+    fn from(failure: ScriptFailure) -> Self {
+        match failure {
+            ScriptFailure::Memory => Failure::Memory,
+            ScriptFailure::Output(reason) => Failure::Output(reason),
+            ScriptFailure::Refused {
+                module,
+                refusal,
+                account,
+            } => Failure::Refused {
+                module: Some(module),
+                refusal,
+                account,
+            },
+            ScriptFailure::NoScript { fault, told } => Failure::Script { fault, told },
+        }
     }
 }
 

@@ -7,13 +7,13 @@
 //! end was reported with 4. Begin with `perform`.
 //!
 //! What a status says is `specs/Inner/Statuses.antt`, and what each command has done `specs/Performing.antt`. Each command has a module of
-//! its own (`calling`, `working`, `scripting`, `serving`); files are read through `Reader`, which `SystemFiles` is for the program.
+//! its own (`calling`, `working`, `scripting`, `serving`); what comes of an order is `working`'s to say, of a script `scripting`'s. Files
+//! are read through `files::Reader`.
 #![tactic(auto)]
 
 mod arguments;
 mod calling;
 mod failure;
-mod file;
 mod loading;
 mod performing;
 mod scripting;
@@ -23,5 +23,4 @@ mod telling;
 mod tracing;
 mod working;
 
-pub use file::{FileWriter, ReadFault, Reader, SystemFiles};
 pub use performing::perform;

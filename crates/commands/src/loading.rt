@@ -6,23 +6,16 @@ ghost use Rattle.commands.specs.Accepted.{enough, AreRefused, HoldsNone};
 ghost use Rattle.commands.specs.Inner.Statuses.{status_of_failure};
 ghost use Rattle.commands.specs.declared.status.ExitStatus.TheVariants as status;
 
-use crate::failure::{Failure, RefusalDetail};
-use crate::file::Reader;
+use crate::failure::Failure;
+use files::Reader;
 use imports::Linked;
 use limits::MAX_MODULE_BYTES;
 use loader::Refusal;
-use sentences::explain;
+use scripting::account_of;
 use std::alloc::Global;
 
 /// One byte more than a module may have: whatever comes after it changes no answer.
 const ENOUGH: usize = MAX_MODULE_BYTES + 1;
-
-fn site_of(alloc: Global, bytes: &[u8], refusal: Refusal) -> RefusalDetail {
-    if bytes.len() > MAX_MODULE_BYTES {
-        return RefusalDetail::TooLong;
-    }
-    RefusalDetail::Told(explain(refusal, alloc, bytes))
-}
 
 fn refused(alloc: Global, bytes: &[u8], refusal: Refusal) -> Failure<'static>
     ensures { status_of_failure result ≡ status.Refused → refusal ≢ Refusal.Memory }
@@ -32,13 +25,13 @@ fn refused(alloc: Global, bytes: &[u8], refusal: Refusal) -> Failure<'static>
         _ => Failure::Refused {
             module: None,
             refusal,
-            site: site_of(alloc, bytes, refusal),
+            account: account_of(alloc, bytes, refusal),
         },
     }
 }
 
 /// The module that the bytes spell, validated and linked.
-pub fn accept(alloc: Global, bytes: &[u8]) -> Result<Linked, Failure<'static>>
+fn accept(alloc: Global, bytes: &[u8]) -> Result<Linked, Failure<'static>>
     ensures same { IfOk result (λ linked. linked.bytes ≡ bytes.now) }
     ensures accepted { IfOk result (λ linked. IsAccepted linked.bytes linked.contents) }
     ensures refused { IfErr result (λ f. status_of_failure f ≡ status.Refused → AreRefused bytes.now) }

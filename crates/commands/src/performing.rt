@@ -13,14 +13,13 @@ ghost use Rattle.commands.specs.Performing.{HasInvoked, IsCallOf, Returns, IsDon
 use crate::arguments::values;
 use crate::calling::{Called, call, has_returned};
 use crate::failure::Failure;
-use crate::file::{FileWriter, Reader};
 use crate::loading::{load, load_whole};
 use crate::scripting::script;
 use crate::serving::serve_file;
 use crate::status::ExitStatus;
-use crate::tracing::tell_used;
 use crate::working::work;
 use events::ended::{Ended, Ending};
+use files::{FileWriter, Reader};
 use imports::Linked;
 use order::Trail;
 use places::Shown;
@@ -32,6 +31,7 @@ use std::io::{self, Write};
 use std::sync::{Arc, Wait};
 use std::thread::Threads;
 use words::{Command, Invocation, WorkOutput, WorkRequest};
+use working::tell_used;
 
 /// Tells whether the module of the file is accepted.
 fn check<'a, R: Reader, O: Write, E: Write>(

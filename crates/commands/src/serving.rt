@@ -7,11 +7,11 @@ ghost use Rattle.commands.specs.Accepted.{IsLoaded};
 ghost use Rattle.commands.specs.Serving.{HasNotFailed, AreServed, HasServedAll};
 
 use crate::failure::Failure;
-use crate::file::Reader;
 use crate::loading::load;
 use crate::status::ExitStatus;
 use crate::telling::Teller;
 use crate::tracing::Trace;
+use files::Reader;
 use imports::Linked;
 use sentences::warn;
 use serve::{Job, LoopEnding, Served, Serving, Task, serve, serve_watched};

@@ -1,21 +1,16 @@
-// What is reported if it is asked for: what was used, and what loops and workers do, as they do it.
+// What loops and workers do, as they do it, if that is asked for.
 
 use events::did::StepDid;
 use order::Reply;
 use script::print_entry;
-use sentences::{ending_of, unit_of};
+use sentences::ending_of;
 use serve::Watch;
 use std::alloc::Global;
-use std::io::{self, Write};
+use std::io::Write;
 use std::sync::{Mutex, Wait};
 use syntax::items::Items;
 use world::told;
 use world_log::{CollectOutcome, FinishOutcome, JobId, LogEntry, PostOutcome, StartOutcome};
-
-/// Tells how many units of fuel were used, of how many.
-pub fn tell_used<E: Write>(used: u64, fuel: u64, err: &mut E) -> io::Result<()> {
-    writeln!(err, "used {used} of {fuel} {}", unit_of(fuel))
-}
 
 /// Writes the lines of the log of what loops and workers do.
 #[derive(Drop)]

@@ -1,6 +1,6 @@
 // The files that a list and its commands make.
 
-use commands::{FileWriter, ReadFault, Reader};
+use files::{FileWriter, ReadFault, Reader};
 use std::alloc::{AllocError, Global};
 use std::cell::RefCell;
 use std::io::{self, ErrorKind};

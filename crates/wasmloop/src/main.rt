@@ -5,7 +5,8 @@ ghost use Rattle.std.specs.Prelude.{◌≡◌};
 ghost use Rattle.board.specs.Jobs.{ticket_of};
 
 use board::JobBox;
-use commands::{SystemFiles, perform};
+use commands::perform;
+use files::SystemFiles;
 use order::Reply;
 use serve::Task;
 use std::alloc::{AllocError, Global};

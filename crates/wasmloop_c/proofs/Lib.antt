@@ -1,3 +1,4 @@
 pub mod Words
 pub mod Front
 mod ValuesRead
+mod Offers

@@ -7,18 +7,19 @@ use Rattle.resident.specs.Slices.{CallGoesOn}
 use Rattle.resident.specs.declared.calling.Going.{Going}
 use Rattle.resident.specs.declared.calling.Going.TheVariants.{Over, Paused}
 use Rattle.wasmloop_c.specs.Calls.{OnHandle}
-use Rattle.wasmloop_c.specs.Instances.{TakesNumbers, IsNoCall}
+use Rattle.wasmloop_c.specs.Instances.{TakesNumbers, IsNoCall, OnInstance}
 use Rattle.wasmloop_c.specs.Values.{call_numbers}
 use Rattle.wasmloop_c.specs.declared.ended.CallEnded.{CallEnded}
 use Rattle.wasmloop_c.specs.declared.instances.CallLimits.{CallLimits}
 use Rattle.wasmloop_c.specs.declared.status.TheConstants.{OK, KIND}
 use Rattle.wasmloop_c.specs.declared.thing.Thing.{Thing}
-use Rattle.wasmloop_c.specs.declared.thing.Thing.TheVariants as thing
+use Rattle.wasmloop_c.specs.declared.thing.InstanceStage.{InstanceStage}
+use Rattle.wasmloop_c.specs.declared.thing.InstanceStage.TheVariants as stage
 
--- the call under way that a thing is
-abbrev pub calling_of : Thing → Option CallUnderway
-calling_of (thing.Calling call) = Some call
-calling_of _ = None
+-- the call under way of an instance
+abbrev pub calling_in : InstanceStage → Option CallUnderway
+calling_in (stage.Calling call) = Some call
+calling_in _ = None
 
 -- a call of the function of this name, which takes these numbers, has begun, and nothing of it has run
 abbrev pub BeginsNamed : KeptInstance → (name numbers : List ℕ) → CallLimits → CallUnderway → Type 0
@@ -27,25 +28,32 @@ BeginsNamed a name numbers limits c =
     × HasCome a limits.depth limits.fuel function args c × (used_by c ≡ 0)
 
 -- A call by name begins. Where it doesn't, nothing changes.
+abbrev pub BeginsStage : (old new : InstanceStage) → (name numbers : List ℕ) → CallLimits → (status : ℕ) → Type 0
+BeginsStage (stage.Resident a) new name numbers limits status =
+    ((status ≡ OK) × IsSomeAnd (calling_in new) (BeginsNamed a name numbers limits))
+    ⊎ (IsNoCall a name numbers status × (new ≡ stage.Resident a))
+BeginsStage other new name numbers limits status = (status ≡ KIND) × (new ≡ other)
+
 abbrev pub BeginsCall : (old new : Thing) → (name numbers : List ℕ) → CallLimits → (status : ℕ) → Type 0
-BeginsCall (thing.Resident a) new name numbers limits status =
-    ((status ≡ OK) × IsSomeAnd (calling_of new) (BeginsNamed a name numbers limits))
-    ⊎ (IsNoCall a name numbers status × (new ≡ thing.Resident a))
-BeginsCall other new name numbers limits status = (status ≡ KIND) × (new ≡ other)
+BeginsCall old new name numbers limits status = OnInstance old new status (Unit {0}) (λ a b. BeginsStage a b name numbers limits status)
 
 abbrev pub BeginsHeldCall : (old new : Option Thing) → (name numbers : List ℕ) → CallLimits → (status : ℕ) → Type 0
 BeginsHeldCall old new name numbers limits status = OnHandle old new status (Unit {0}) (λ t u. BeginsCall t u name numbers limits status)
 
 -- what is left in an instance's handle, whether the call is over, and how it ended
-abbrev pub LeftByCall : Going → Thing → (over : ℕ) → (before told : CallEnded) → Type 0
-LeftByCall (Over b ended) left over before told = (left ≡ thing.Resident b) × (over ≡ 1) × (told ≡ call_numbers ended)
-LeftByCall (Paused call) left over before told = (left ≡ thing.Calling call) × (over ≡ 0) × (told ≡ before)
+abbrev pub LeftByCall : Going → InstanceStage → (over : ℕ) → (before told : CallEnded) → Type 0
+LeftByCall (Over b ended) left over before told = (left ≡ stage.Resident b) × (over ≡ 1) × (told ≡ call_numbers ended)
+LeftByCall (Paused call) left over before told = (left ≡ stage.Calling call) × (over ≡ 0) × (told ≡ before)
 
 -- A call goes on for so many units. One that is over has ended as if it had been made at once; one that isn't has used them all, and some of
 -- its fuel is left. What is no call under way stays.
+abbrev pub RunsStage : (old new : InstanceStage) → (units was over : ℕ) → (before told : CallEnded) → (status : ℕ) → Type 0
+RunsStage (stage.Calling call) new units was over before told status = (status ≡ OK) × ((going : Going) × CallGoesOn call units going × LeftByCall going new over before told)
+RunsStage other new units was over before told status = (status ≡ KIND) × (new ≡ other) × (over ≡ was) × (told ≡ before)
+
 abbrev pub RunsCall : (old new : Thing) → (units was over : ℕ) → (before told : CallEnded) → (status : ℕ) → Type 0
-RunsCall (thing.Calling call) new units was over before told status = (status ≡ OK) × ((going : Going) × CallGoesOn call units going × LeftByCall going new over before told)
-RunsCall other new units was over before told status = (status ≡ KIND) × (new ≡ other) × (over ≡ was) × (told ≡ before)
+RunsCall old new units was over before told status =
+    OnInstance old new status ((over ≡ was) × (told ≡ before)) (λ a b. RunsStage a b units was over before told status)
 
 abbrev pub RunsHeldCall : (old new : Option Thing) → (units was over : ℕ) → (before told : CallEnded) → (status : ℕ) → Type 0
 RunsHeldCall old new units was over before told status =

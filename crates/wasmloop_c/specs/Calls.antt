@@ -40,11 +40,28 @@ use Rattle.wasmloop_c.specs.declared.shape.Shape.{Shape}
 use Rattle.wasmloop_c.specs.declared.status.TheConstants.{OK, NONE, EMPTY, KIND, MEMORY, RANGE, STRANGER, USED_UP, NO_WORK}
 use Rattle.wasmloop_c.specs.declared.thing.Thing.{Thing}
 use Rattle.wasmloop_c.specs.declared.thing.Thing.TheVariants as thing
+use Rattle.wasmloop_c.specs.declared.thing.JobStage.{JobStage}
+use Rattle.wasmloop_c.specs.declared.thing.JobStage.TheVariants as stage
 
 -- the loop that a handle has
 abbrev pub loop_of : Thing → Option (Core Desk)
 loop_of (thing.Loop held) = Some held.core.value
 loop_of _ = None
+
+-- how far the job is that a thing is
+abbrev pub job_stage_of : Thing → Option JobStage
+job_stage_of (thing.Job job) = Some job.value
+job_stage_of _ = None
+
+-- what a job asks for that nothing has run of
+abbrev pub asked_in : JobStage → Option Order
+asked_in (stage.Asked order) = Some order
+asked_in _ = None
+
+-- what the job that a thing is asks for, if nothing has run of it
+abbrev pub asked_of : Thing → Option Order
+asked_of (thing.Job job) = asked_in job.value
+asked_of _ = None
 
 -- a call on a handle: an empty one stays, and the status says so, and `Same` holds
 abbrev pub OnHandle : (old new : Option Thing) → (status : ℕ) → (Same : Type 0) → (Does : Thing → Thing → Type 0) → Type 0
@@ -58,6 +75,11 @@ OnLoop old new status Same Does =
 -- a call on the loop that a handle has
 abbrev pub OnHeldLoop : (old new : Option Thing) → (status : ℕ) → (Same : Type 0) → (Does : Core Desk → Core Desk → Type 0) → Type 0
 OnHeldLoop old new status Same Does = OnHandle old new status Same (λ t u. OnLoop t u status Same Does)
+
+-- a call on what a handle has: where that is no job it stays, and the status says so, and `Same` holds
+abbrev pub OnJob : (old new : Thing) → (status : ℕ) → (Same : Type 0) → (Does : JobStage → JobStage → Type 0) → Type 0
+OnJob old new status Same Does =
+    MatchOption (job_stage_of old) ((status ≡ KIND) × (new ≡ old) × Same) (λ a. IsSomeAnd (job_stage_of new) (λ b. Does a b))
 
 -- a step, in numbers
 abbrev pub StepsNumbered : Core Desk → Core Desk → Did → Type 0
@@ -119,32 +141,42 @@ abbrev pub HandsOut : Core Desk → Core Desk → (job : Option Thing) → (stat
 HandsOut c d None status =
     ((status ≡ NONE) × ((next_order_of c.loop.state).0 ≡ None) × (d.loop ≡ in_state c.loop (next_order_of c.loop.state).1))
     ⊎ ((status ≡ MEMORY) × (c.loop.state.requests.outstanding ≢ []) × (d ≡ c))
-HandsOut c d (Some (thing.Asked order)) status = (status ≡ OK) × ((next_order_of c.loop.state).0 ≡ Some (order_of order)) × (d.loop ≡ in_state c.loop (next_order_of c.loop.state).1)
-HandsOut c d (Some _) status = ⊥
+HandsOut c d (Some job) status =
+    IsSomeAnd (asked_of job)
+    (λ order. (status ≡ OK) × ((next_order_of c.loop.state).0 ≡ Some (order_of order)) × (d.loop ≡ in_state c.loop (next_order_of c.loop.state).1))
 
 -- a job that is run becomes a reply to the very order, with the units that its run used; what is no job stays
-abbrev pub BecomesReply : Order → Thing → Type 0
-BecomesReply order (thing.Answered told) = (told.reply.order ≡ order) × Uses (order_of order) (end_of told.reply.outcome) told.used
+abbrev pub BecomesReply : Order → JobStage → Type 0
+BecomesReply order (stage.Answered told) = (told.reply.order ≡ order) × Uses (order_of order) (end_of told.reply.outcome) told.used
 BecomesReply order _ = ⊥
 
+abbrev pub RunsStageToEnd : (old new : JobStage) → (status : ℕ) → Type 0
+RunsStageToEnd (stage.Asked order) new status = (status ≡ OK) × BecomesReply order new
+RunsStageToEnd other new status = (status ≡ KIND) × (new ≡ other)
+
 abbrev pub RunsToEnd : (old new : Thing) → (status : ℕ) → Type 0
-RunsToEnd (thing.Asked order) new status = (status ≡ OK) × BecomesReply order new
-RunsToEnd other new status = (status ≡ KIND) × (new ≡ other)
+RunsToEnd old new status = OnJob old new status (Unit {0}) (λ a b. RunsStageToEnd a b status)
 
 -- a job's start, reported to its loop; a job of another loop is a stranger, and nothing changes
-abbrev pub StartsOfLoop : Core Desk → Core Desk → (job : Thing) → (status : ℕ) → Type 0
-StartsOfLoop c d (thing.Asked order) status =
+abbrev pub StartsOrder : Core Desk → Core Desk → Order → (status : ℕ) → Type 0
+StartsOrder c d order status =
     ((order.loop_no ≢ c.setting.loop_no) × (status ≡ STRANGER) × (d ≡ c))
     ⊎ ((order.loop_no ≡ c.setting.loop_no)
     × ((started : Bool) × StartsBeside desk_others c.loop order.slot order.request started d.loop × (status ≡ (if started then OK else STRANGER))))
-StartsOfLoop c d _ status = (status ≡ KIND) × (d ≡ c)
 
--- a reply that a loop is offered is taken, and the thing that is left is none; or it is left as it is
-abbrev pub OffersReply : Core Desk → Core Desk → (offered left : Thing) → (status : ℕ) → Type 0
-OffersReply c d (thing.Answered told) left status =
-    ((status ≡ OK) × (left ≡ thing.Gone) × Accepts told.reply c.loop accepted.Accepted d.loop)
-    ⊎ ((status ≡ STRANGER) × (left ≡ thing.Answered told) × Accepts told.reply c.loop (accepted.Stranger told.reply) d.loop)
-OffersReply c d offered left status = (status ≡ KIND) × (left ≡ offered) × (d ≡ c)
+abbrev pub StartsOfLoop : Core Desk → Core Desk → (job : Thing) → (status : ℕ) → Type 0
+StartsOfLoop c d job status = MatchOption (asked_of job) ((status ≡ KIND) × (d ≡ c)) (λ order. StartsOrder c d order status)
+
+-- a reply that a loop is offered is taken, and `Gone` holds; or it is left as it is, and `Same` holds
+abbrev pub OffersStage : Core Desk → Core Desk → (offered : JobStage) → (Same Gone : Type 0) → (status : ℕ) → Type 0
+OffersStage c d (stage.Answered told) Same Gone status =
+    ((status ≡ OK) × Gone × Accepts told.reply c.loop accepted.Accepted d.loop)
+    ⊎ ((status ≡ STRANGER) × Same × Accepts told.reply c.loop (accepted.Stranger told.reply) d.loop)
+OffersStage c d _ Same Gone status = (status ≡ KIND) × Same × (d ≡ c)
+
+abbrev pub OffersReply : Core Desk → Core Desk → (offered : Thing) → (Same Gone : Type 0) → (status : ℕ) → Type 0
+OffersReply c d offered Same Gone status =
+    MatchOption (job_stage_of offered) ((status ≡ KIND) × Same × (d ≡ c)) (λ stage. OffersStage c d stage Same Gone status)
 
 -- bytes that are loaded: a module of these very bytes, which is accepted; or why they are none
 abbrev pub Loads : (bytes : List ℕ) → Thing → Type 0
@@ -160,27 +192,25 @@ ExplainsRefusal bytes old new count =
     ((refusal : Refusal) × IsRefused bytes refusal × (refusal ≢ Memory)) × ((text : List ℕ) × (new ≡ copied text old) × (count ≡ length text))
 
 -- what is reported of a job
+abbrev pub TellsStage : JobStage → (old new : About) → (status : ℕ) → Type 0
+TellsStage (stage.Asked order) old new status = (status ≡ OK) × (new ≡ about_order order)
+TellsStage (stage.Answered told) old new status = (status ≡ OK) × (new ≡ about_told told)
+TellsStage other old new status = (status ≡ KIND) × (new ≡ old)
+
 abbrev pub TellsJob : Thing → (old new : About) → (status : ℕ) → Type 0
-TellsJob (thing.Asked order) old new status = (status ≡ OK) × (new ≡ about_order order)
-TellsJob (thing.Answered told) old new status = (status ≡ OK) × (new ≡ about_told told)
-TellsJob other old new status = (status ≡ KIND) × (new ≡ old)
+TellsJob t old new status = MatchOption (job_stage_of t) ((status ≡ KIND) × (new ≡ old)) (λ stage. TellsStage stage old new status)
 
--- what is left in a job's handle
-abbrev pub left_in : Option Thing → Thing
-left_in None = thing.Gone
-left_in (Some t) = t
-
--- a job that is offered to the loop that a handle has; where there is none the job stays
+-- a job that is offered to the loop that a handle has: its own handle is empty where it is taken, and stays else
 abbrev pub OffersHeld : (old new job left : Option Thing) → (status : ℕ) → Type 0
-OffersHeld old new job left status = IfSome job (λ offered. OnHeldLoop old new status (left ≡ job) (λ c d. OffersReply c d offered (left_in left) status))
+OffersHeld old new job left status =
+    IfSome job (λ offered. OnHeldLoop old new status (left ≡ job) (λ c d. OffersReply c d offered (left ≡ job) (left ≡ None) status))
 
 -- the order of a job that no loop asks for: its loop, request and slot are 0
 abbrev pub lone_order : Loaded → Task → (bytes : List ℕ) → WorkOrder
 lone_order m task bytes = record { loop_no = 0; request = 0; slot = 0; loaded = m; op = task.op; bytes = bytes; fuel = task.fuel; depth = task.depth }
 
 abbrev pub IsLoneJob : Loaded → Task → (bytes : List ℕ) → Thing → Type 0
-IsLoneJob m task bytes (thing.Asked order) = order_of order ≡ lone_order m task bytes
-IsLoneJob m task bytes _ = ⊥
+IsLoneJob m task bytes job = IsSomeAnd (asked_of job) (λ order. order_of order ≡ lone_order m task bytes)
 
 -- bytes that are copied, as far as there is room, and their count
 abbrev pub Copies : (bytes old new : List ℕ) → (count status : ℕ) → Type 0
@@ -191,10 +221,14 @@ abbrev pub CopiesNothing : (old new : List ℕ) → (before count : ℕ) → Typ
 CopiesNothing old new before count = (new ≡ old) × (count ≡ before)
 
 -- the bytes that a job may read
+abbrev pub ReadsStageInput : JobStage → (old new : List ℕ) → (before count status : ℕ) → Type 0
+ReadsStageInput (stage.Asked order) old new before count status = Copies (arc_value order.bytes).items old new count status
+ReadsStageInput (stage.Answered told) old new before count status = Copies (arc_value told.reply.order.bytes).items old new count status
+ReadsStageInput other old new before count status = (status ≡ KIND) × CopiesNothing old new before count
+
 abbrev pub ReadsInput : Thing → (old new : List ℕ) → (before count status : ℕ) → Type 0
-ReadsInput (thing.Asked order) old new before count status = Copies (arc_value order.bytes).items old new count status
-ReadsInput (thing.Answered told) old new before count status = Copies (arc_value told.reply.order.bytes).items old new count status
-ReadsInput other old new before count status = (status ≡ KIND) × CopiesNothing old new before count
+ReadsInput t old new before count status =
+    MatchOption (job_stage_of t) ((status ≡ KIND) × CopiesNothing old new before count) (λ stage. ReadsStageInput stage old new before count status)
 
 -- the bytes of an outcome
 abbrev pub ReadsOutcome : Outcome → (old new : List ℕ) → (before count status : ℕ) → Type 0
@@ -202,10 +236,14 @@ ReadsOutcome (outcome.Done value bytes) old new before count status = Copies byt
 ReadsOutcome other old new before count status = (status ≡ NONE) × CopiesNothing old new before count
 
 -- the bytes of a job's reply, where it was run and is done
+abbrev pub ReadsStageReply : JobStage → (old new : List ℕ) → (before count status : ℕ) → Type 0
+ReadsStageReply (stage.Asked order) old new before count status = (status ≡ NONE) × CopiesNothing old new before count
+ReadsStageReply (stage.Answered told) old new before count status = ReadsOutcome told.reply.outcome old new before count status
+ReadsStageReply other old new before count status = (status ≡ KIND) × CopiesNothing old new before count
+
 abbrev pub ReadsReply : Thing → (old new : List ℕ) → (before count status : ℕ) → Type 0
-ReadsReply (thing.Asked order) old new before count status = (status ≡ NONE) × CopiesNothing old new before count
-ReadsReply (thing.Answered told) old new before count status = ReadsOutcome told.reply.outcome old new before count status
-ReadsReply other old new before count status = (status ≡ KIND) × CopiesNothing old new before count
+ReadsReply t old new before count status =
+    MatchOption (job_stage_of t) ((status ≡ KIND) × CopiesNothing old new before count) (λ stage. ReadsStageReply stage old new before count status)
 
 -- where the bytes of an outcome are
 abbrev pub ViewsOutcome : Outcome → (old new : Ptr) → (before count status : ℕ) → Type 0
@@ -213,10 +251,14 @@ ViewsOutcome (outcome.Done value bytes) old new before count status = (status �
 ViewsOutcome other old new before count status = (status ≡ NONE) × (new ≡ old) × (count ≡ before)
 
 -- where the bytes of a job's reply are, if it was run and is done
+abbrev pub ViewsStageReply : JobStage → (old new : Ptr) → (before count status : ℕ) → Type 0
+ViewsStageReply (stage.Asked order) old new before count status = (status ≡ NONE) × (new ≡ old) × (count ≡ before)
+ViewsStageReply (stage.Answered told) old new before count status = ViewsOutcome told.reply.outcome old new before count status
+ViewsStageReply other old new before count status = (status ≡ KIND) × (new ≡ old) × (count ≡ before)
+
 abbrev pub ViewsReply : Thing → (old new : Ptr) → (before count status : ℕ) → Type 0
-ViewsReply (thing.Asked order) old new before count status = (status ≡ NONE) × (new ≡ old) × (count ≡ before)
-ViewsReply (thing.Answered told) old new before count status = ViewsOutcome told.reply.outcome old new before count status
-ViewsReply other old new before count status = (status ≡ KIND) × (new ≡ old) × (count ≡ before)
+ViewsReply t old new before count status =
+    MatchOption (job_stage_of t) ((status ≡ KIND) × (new ≡ old) × (count ≡ before)) (λ stage. ViewsStageReply stage old new before count status)
 
 -- how many calls may stand open
 abbrev pub IsDepth : ℕ → Type 0

@@ -16,16 +16,36 @@ use Rattle.wasmloop_c.specs.declared.number.Number.{Number}
 use Rattle.wasmloop_c.specs.declared.status.TheConstants.{OK, NONE, KIND, MEMORY, RANGE, ARGUMENTS}
 use Rattle.wasmloop_c.specs.declared.thing.Thing.{Thing}
 use Rattle.wasmloop_c.specs.declared.thing.Thing.TheVariants as thing
+use Rattle.wasmloop_c.specs.declared.thing.InstanceStage.{InstanceStage}
+use Rattle.wasmloop_c.specs.declared.thing.InstanceStage.TheVariants as stage
 
--- the instance that a thing is
+-- the instance that is in no call
+abbrev pub resident_in : InstanceStage → Option KeptInstance
+resident_in (stage.Resident resident) = Some resident
+resident_in _ = None
+
+-- the instance that a thing is, in a call or not
+abbrev pub instance_stage_of : Thing → Option InstanceStage
+instance_stage_of (thing.Instance instance) = Some instance.value
+instance_stage_of _ = None
+
+-- the instance that a thing is, in no call
 abbrev pub resident_of : Thing → Option KeptInstance
-resident_of (thing.Resident resident) = Some resident
+resident_of (thing.Instance instance) = resident_in instance.value
 resident_of _ = None
 
 -- a call on what a handle has: where that is no instance it stays, and the status says so, and `Same` holds
+abbrev pub OnInstance : (old new : Thing) → (status : ℕ) → (Same : Type 0) → (Does : InstanceStage → InstanceStage → Type 0) → Type 0
+OnInstance old new status Same Does =
+    MatchOption (instance_stage_of old) ((status ≡ KIND) × (new ≡ old) × Same) (λ a. IsSomeAnd (instance_stage_of new) (λ b. Does a b))
+
+-- the same of an instance that is in no call
+abbrev pub OnStage : (old new : InstanceStage) → (status : ℕ) → (Same : Type 0) → (Does : KeptInstance → KeptInstance → Type 0) → Type 0
+OnStage old new status Same Does =
+    MatchOption (resident_in old) ((status ≡ KIND) × (new ≡ old) × Same) (λ a. IsSomeAnd (resident_in new) (λ b. Does a b))
+
 abbrev pub OnResident : (old new : Thing) → (status : ℕ) → (Same : Type 0) → (Does : KeptInstance → KeptInstance → Type 0) → Type 0
-OnResident old new status Same Does =
-    MatchOption (resident_of old) ((status ≡ KIND) × (new ≡ old) × Same) (λ a. IsSomeAnd (resident_of new) (λ b. Does a b))
+OnResident old new status Same Does = OnInstance old new status Same (λ a b. OnStage a b status Same Does)
 
 -- a call on the instance that a handle has
 abbrev pub OnHeldResident : (old new : Option Thing) → (status : ℕ) → (Same : Type 0) → (Does : KeptInstance → KeptInstance → Type 0) → Type 0

@@ -15,6 +15,10 @@ use Rattle.wasmloop_c.specs.declared.stops.StopPlace.TheVariants as place
 use Rattle.wasmloop_c.specs.declared.stops.Site.{Site}
 use Rattle.wasmloop_c.specs.declared.thing.Thing.{Thing}
 use Rattle.wasmloop_c.specs.declared.thing.Thing.TheVariants as thing
+use Rattle.wasmloop_c.specs.declared.thing.JobStage.{JobStage}
+use Rattle.wasmloop_c.specs.declared.thing.JobStage.TheVariants as job
+use Rattle.wasmloop_c.specs.declared.thing.InstanceStage.{InstanceStage}
+use Rattle.wasmloop_c.specs.declared.thing.InstanceStage.TheVariants as instance
 
 -- an operation, as C reads it
 abbrev pub site_numbers : Operation → Site
@@ -39,11 +43,21 @@ abbrev pub TellsStop : Option Innermost → (old new : List Site) → (before co
 TellsStop None old new before count status = (status ≡ NONE) × (new ≡ old) × (count ≡ before)
 TellsStop (Some stop) old new before count status = (status ≡ OK) × (new ≡ copied (map site_numbers stop.sites) old) × (count ≡ stop.calls)
 
--- where a loop's last callback or an instance's last call stopped, all of it, or where a job did that was run, as far as that is kept
+-- where a job stopped that was run, as far as that is kept
+abbrev pub ReadsJobStop : JobStage → (old new : List Site) → (before count status : ℕ) → Type 0
+ReadsJobStop (job.Answered told) old new before count status = TellsStop told.trail old new before count status
+ReadsJobStop (job.Asked order) old new before count status = TellsStop None old new before count status
+ReadsJobStop other old new before count status = (status ≡ KIND) × (new ≡ old) × (count ≡ before)
+
+-- where the last call of an instance stopped that is in no call
+abbrev pub ReadsCallStop : InstanceStage → (old new : List Site) → (before count status : ℕ) → Type 0
+ReadsCallStop (instance.Resident resident) old new before count status = TellsStop (option_map whole_trail resident.stop) old new before count status
+ReadsCallStop other old new before count status = (status ≡ KIND) × (new ≡ old) × (count ≡ before)
+
+-- where a loop's last callback or an instance's last call stopped, all of it, or where a job did
 abbrev pub ReadsStop : Thing → (old new : List Site) → (before count status : ℕ) → Type 0
 ReadsStop (thing.Loop held) old new before count status =
     (stop : Option Innermost) × IsStopOf held.core.value.setting held.core.value.loop.store stop × TellsStop stop old new before count status
-ReadsStop (thing.Answered told) old new before count status = TellsStop told.trail old new before count status
-ReadsStop (thing.Resident resident) old new before count status = TellsStop (option_map whole_trail resident.stop) old new before count status
-ReadsStop (thing.Asked order) old new before count status = TellsStop None old new before count status
+ReadsStop (thing.Job job) old new before count status = ReadsJobStop job.value old new before count status
+ReadsStop (thing.Instance instance) old new before count status = ReadsCallStop instance.value old new before count status
 ReadsStop other old new before count status = (status ≡ KIND) × (new ≡ old) × (count ≡ before)

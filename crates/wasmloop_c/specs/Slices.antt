@@ -10,7 +10,9 @@ use Rattle.order.specs.declared.running.OrderGoing.{OrderGoing}
 use Rattle.order.specs.declared.running.OrderGoing.TheVariants.{Over, Paused}
 use Rattle.wasmloop_c.specs.declared.status.TheConstants.{OK, KIND}
 use Rattle.wasmloop_c.specs.declared.thing.Thing.{Thing}
-use Rattle.wasmloop_c.specs.declared.thing.Thing.TheVariants as thing
+use Rattle.wasmloop_c.specs.Calls.{OnJob}
+use Rattle.wasmloop_c.specs.declared.thing.JobStage.{JobStage}
+use Rattle.wasmloop_c.specs.declared.thing.JobStage.TheVariants as stage
 
 -- an order that nothing has run of
 abbrev pub unbegun : Order → Underway
@@ -28,13 +30,16 @@ BeginsJob order units (Over told) = OrderIsOver (order_of order) 0 units told �
 BeginsJob order units (Paused after) = OrderIsPaused (order_of order) 0 units after
 
 -- what is left in a job's handle, and whether the job is over
-abbrev pub LeftBy : OrderGoing → Thing → (over : ℕ) → Type 0
-LeftBy (Over told) left over = (left ≡ thing.Answered told) × (over ≡ 1)
-LeftBy (Paused after) left over = (left ≡ thing.Running after) × (over ≡ 0)
+abbrev pub LeftBy : OrderGoing → JobStage → (over : ℕ) → Type 0
+LeftBy (Over told) left over = (left ≡ stage.Answered told) × (over ≡ 1)
+LeftBy (Paused after) left over = (left ≡ stage.Running after) × (over ≡ 0)
 
 -- A job goes on for so many units: one that is over has its reply, as if it had run at once, and one that isn't has used them all, and
 -- some of its fuel is left. What is no job, or one that was run, stays.
+abbrev pub RunsStageFor : (old new : JobStage) → (units before over status : ℕ) → Type 0
+RunsStageFor (stage.Asked order) new units before over status = (status ≡ OK) × ((going : OrderGoing) × BeginsJob order units going × LeftBy going new over)
+RunsStageFor (stage.Running r) new units before over status = (status ≡ OK) × ((going : OrderGoing) × OrderGoesOn r units going × LeftBy going new over)
+RunsStageFor other new units before over status = (status ≡ KIND) × (new ≡ other) × (over ≡ before)
+
 abbrev pub RunsFor : (old new : Thing) → (units before over status : ℕ) → Type 0
-RunsFor (thing.Asked order) new units before over status = (status ≡ OK) × ((going : OrderGoing) × BeginsJob order units going × LeftBy going new over)
-RunsFor (thing.Running r) new units before over status = (status ≡ OK) × ((going : OrderGoing) × OrderGoesOn r units going × LeftBy going new over)
-RunsFor other new units before over status = (status ≡ KIND) × (new ≡ other) × (over ≡ before)
+RunsFor old new units before over status = OnJob old new status (over ≡ before) (λ a b. RunsStageFor a b units before over status)

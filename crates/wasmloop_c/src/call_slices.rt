@@ -2,17 +2,18 @@
 
 ghost use Rattle.std.specs.Prelude.{◌≡◌, ◌≤◌, ◌<◌, ◌⊎◌};
 ghost use Rattle.limits.specs.declared.TheConstants.{MAX_DEPTH};
-ghost use Rattle.wasmloop_c.specs.CallSlices.{BeginsCall, BeginsHeldCall, LeftByCall, RunsCall, RunsHeldCall};
-ghost use Rattle.wasmloop_c.specs.declared.thing.Thing.TheVariants as thing;
+ghost use Rattle.wasmloop_c.specs.CallSlices.{BeginsCall, BeginsHeldCall, BeginsStage, LeftByCall, RunsCall, RunsHeldCall, RunsStage};
+ghost use Rattle.wasmloop_c.specs.declared.thing.InstanceStage.TheVariants as stage;
 
 use crate::ended::CallEnded;
-use crate::handle::{Handle, through};
+use crate::handle::{Handle, on};
 use crate::instances::{CallLimits, named};
 use crate::status::{KIND, MEMORY, OK, RANGE};
-use crate::thing::Thing;
+use crate::thing::{InstanceStage, Thing};
 use limits::MAX_DEPTH;
 use resident::{Going, Resident};
 use std::alloc::Global;
+use std::mem::replace;
 
 fn begin_on(
     alloc: Global,
@@ -20,34 +21,47 @@ fn begin_on(
     name: &[u8],
     numbers: &[u64],
     limits: CallLimits,
-) -> (Thing, u32)
+) -> (InstanceStage, u32)
     requires { (1 ≤ limits.depth) × (limits.depth ≤ MAX_DEPTH) }
-    ensures { BeginsCall (thing.Resident resident) result.0 name.now numbers.now limits result.1 }
+    ensures { BeginsStage (stage.Resident resident) result.0 name.now numbers.now limits result.1 }
 {
     let (function, args) = match named(alloc, &resident, name, numbers) {
         Ok(found) => found,
-        Err(status) => return (Thing::Resident(resident), status),
+        Err(status) => return (InstanceStage::Resident(resident), status),
     };
     match resident.begin(alloc, function, args.as_slice(), limits.fuel, limits.depth) {
-        Ok(call) => (Thing::Calling(call), OK),
-        Err(same) => (Thing::Resident(same), MEMORY),
+        Ok(call) => (InstanceStage::Calling(call), OK),
+        Err(same) => (InstanceStage::Resident(same), MEMORY),
     }
 }
 
-fn begin(
+fn begin_stage(
     alloc: Global,
-    thing: Thing,
+    stage: InstanceStage,
     name: &[u8],
     numbers: &[u64],
     limits: CallLimits,
-) -> (Thing, u32)
+) -> (InstanceStage, u32)
     requires { (1 ≤ limits.depth) × (limits.depth ≤ MAX_DEPTH) }
-    ensures { BeginsCall thing result.0 name.now numbers.now limits result.1 }
+    ensures { BeginsStage stage result.0 name.now numbers.now limits result.1 }
 {
-    match thing {
-        Thing::Resident(resident) => begin_on(alloc, resident, name, numbers, limits),
+    match stage {
+        InstanceStage::Resident(resident) => begin_on(alloc, resident, name, numbers, limits),
         other => (other, KIND),
     }
+}
+
+fn begin(alloc: Global, thing: &mut Thing, name: &[u8], numbers: &[u64], limits: CallLimits) -> u32
+    requires { (1 ≤ limits.depth) × (limits.depth ≤ MAX_DEPTH) }
+    ensures { BeginsCall thing.old thing.new name.now numbers.now limits result }
+{
+    let Thing::Instance(stage) = thing else {
+        return KIND;
+    };
+    let taken = replace(&mut **stage, InstanceStage::Gone);
+    let (left, status) = begin_stage(alloc, taken, name, numbers, limits);
+    **stage = left;
+    status
 }
 
 /// Begins a call of the function that the module of an instance exports under a name. Nothing of it runs yet.
@@ -66,34 +80,52 @@ pub extern "C" fn wasmloop_rt_call_begin(
     if limits.depth < 1 || limits.depth > MAX_DEPTH {
         return RANGE;
     }
-    through!(handle, alloc, thing => begin(alloc, thing, name, numbers, limits))
+    on!(handle, alloc, held => begin(alloc, &mut held, name, numbers, limits))
 }
 
 /// What a slice leaves of a call.
-fn left_by(going: Going, over: &mut u32, told: &mut CallEnded) -> Thing
+fn left_by(going: Going, over: &mut u32, told: &mut CallEnded) -> InstanceStage
     ensures { LeftByCall going result over.new told.old told.new }
 {
     match going {
         Going::Over(resident, ended) => {
             *over = 1;
             *told = CallEnded::of(&ended);
-            Thing::Resident(resident)
+            InstanceStage::Resident(resident)
         }
         Going::Paused(call) => {
             *over = 0;
-            Thing::Calling(call)
+            InstanceStage::Calling(call)
         }
     }
 }
 
-fn run_for(thing: Thing, units: u64, over: &mut u32, told: &mut CallEnded) -> (Thing, u32)
+fn run_stage(
+    stage: InstanceStage,
+    units: u64,
+    over: &mut u32,
+    told: &mut CallEnded,
+) -> (InstanceStage, u32)
     requires { 1 ≤ units }
-    ensures { RunsCall thing result.0 units over.old over.new told.old told.new result.1 }
+    ensures { RunsStage stage result.0 units over.old over.new told.old told.new result.1 }
 {
-    match thing {
-        Thing::Calling(call) => (left_by(call.go_on(units), over, told), OK),
+    match stage {
+        InstanceStage::Calling(call) => (left_by(call.go_on(units), over, told), OK),
         other => (other, KIND),
     }
+}
+
+fn run_for(thing: &mut Thing, units: u64, over: &mut u32, told: &mut CallEnded) -> u32
+    requires { 1 ≤ units }
+    ensures { RunsCall thing.old thing.new units over.old over.new told.old told.new result }
+{
+    let Thing::Instance(stage) = thing else {
+        return KIND;
+    };
+    let taken = replace(&mut **stage, InstanceStage::Gone);
+    let (left, status) = run_stage(taken, units, over, told);
+    **stage = left;
+    status
 }
 
 /// Goes on with a call of an instance for at most so many units of fuel, at least one, and tells whether it is over, and how it ended.
@@ -111,5 +143,5 @@ pub extern "C" fn wasmloop_rt_call_run_for(
     if units < 1 {
         return RANGE;
     }
-    through!(handle, alloc, thing => run_for(thing, units, over, told))
+    on!(handle, alloc, held => run_for(&mut held, units, over, told))
 }

@@ -6,12 +6,12 @@ ghost use Rattle.limits.specs.declared.TheConstants.{MAX_DEPTH};
 ghost use Rattle.reduction.specs.Invoking.{TakesArguments};
 ghost use Rattle.resident.specs.Calls.{IsNew};
 ghost use Rattle.wasmloop_c.specs.Calls.{AnswersIn, IsDepth, ReadsHandle, module_of};
-ghost use Rattle.wasmloop_c.specs.Instances.{OnResident, OnHeldResident, OpensOver, OpensNone, TakesNumbers, IsNoCall, CallsBy, ReadsMemory, WritesMemory, resident_of};
+ghost use Rattle.wasmloop_c.specs.Instances.{OnResident, OnStage, OnHeldResident, OpensOver, OpensNone, TakesNumbers, IsNoCall, CallsBy, ReadsMemory, WritesMemory, resident_of};
 
 use crate::ended::{CallEnded, values};
 use crate::handle::{Handle, on};
 use crate::status::{ARGUMENTS, KIND, MEMORY, NONE, NOT_STARTED, OK, RANGE};
-use crate::thing::Thing;
+use crate::thing::{InstanceStage, Room, Thing, instance_room};
 use events::ended::Ending;
 use imports::Linked;
 use limits::MAX_DEPTH;
@@ -32,14 +32,14 @@ pub struct CallLimits {
     pub zero: u32,
 }
 
-/// A new instance, and the room for what a handle has.
+/// A new instance, and the room for it in a handle.
 fn opened(
     alloc: Global,
     linked: &Arc<Linked, Global>,
-) -> Result<(Box<Thing, Global>, Resident), AllocError>
+) -> Result<(Room<InstanceStage>, Resident), AllocError>
     ensures { IfOk result (λ made. IsNew (arc_value linked.now) made.1) }
 {
-    let room = Box::new(alloc, Thing::Gone)?;
+    let room = instance_room(alloc)?;
     let resident = Resident::new(alloc, Arc::try_clone(linked)?)?;
     Ok((room, resident))
 }
@@ -63,7 +63,7 @@ fn open(
     let Thing::Module(linked) = module else {
         return KIND;
     };
-    let Ok((mut room, mut resident)) = opened(alloc, linked) else {
+    let Ok(((mut whole, mut stage), mut resident)) = opened(alloc, linked) else {
         return MEMORY;
     };
     let ended = resident.start(limits.fuel, limits.depth);
@@ -71,8 +71,9 @@ fn open(
     let Ending::Return(_) = ended.ending else {
         return NOT_STARTED;
     };
-    *room = Thing::Resident(resident);
-    handle.put(alloc, room);
+    *stage = InstanceStage::Resident(resident);
+    *whole = Thing::Instance(stage);
+    handle.put(alloc, whole);
     OK
 }
 
@@ -146,6 +147,23 @@ fn call_on(
     OK
 }
 
+fn call_stage(
+    alloc: Global,
+    stage: &mut InstanceStage,
+    name: &[u8],
+    numbers: &[u64],
+    limits: CallLimits,
+    told: &mut CallEnded,
+) -> u32
+    requires { (1 ≤ limits.depth) × (limits.depth ≤ MAX_DEPTH) }
+    ensures { OnStage stage.old stage.new result (told.new ≡ told.old) (λ a b. CallsBy a name.now numbers.now limits told.old told.new result b) }
+{
+    let InstanceStage::Resident(resident) = stage else {
+        return KIND;
+    };
+    call_on(alloc, resident, name, numbers, limits, told)
+}
+
 fn call(
     alloc: Global,
     thing: &mut Thing,
@@ -157,10 +175,10 @@ fn call(
     requires { (1 ≤ limits.depth) × (limits.depth ≤ MAX_DEPTH) }
     ensures { OnResident thing.old thing.new result (told.new ≡ told.old) (λ a b. CallsBy a name.now numbers.now limits told.old told.new result b) }
 {
-    let Thing::Resident(resident) = thing else {
+    let Thing::Instance(stage) = thing else {
         return KIND;
     };
-    call_on(alloc, resident, name, numbers, limits, told)
+    call_stage(alloc, stage, name, numbers, limits, told)
 }
 
 /// Calls the function that the module of an instance exports under a name. However it ends, the instance stays as it is then.
@@ -183,10 +201,10 @@ pub extern "C" fn wasmloop_rt_call(
     on!(handle, alloc, held => call(alloc, &mut held, name, numbers, limits, told))
 }
 
-fn read(thing: &mut Thing, at: u32, into: &mut [u8]) -> u32
-    ensures { OnResident thing.old thing.new result (into.new ≡ into.old) (λ a b. ReadsMemory a at into.old into.new result b) }
+fn read_stage(stage: &mut InstanceStage, at: u32, into: &mut [u8]) -> u32
+    ensures { OnStage stage.old stage.new result (into.new ≡ into.old) (λ a b. ReadsMemory a at into.old into.new result b) }
 {
-    let Thing::Resident(resident) = thing else {
+    let InstanceStage::Resident(resident) = stage else {
         return KIND;
     };
     if resident.read(at as usize, into) {
@@ -194,6 +212,15 @@ fn read(thing: &mut Thing, at: u32, into: &mut [u8]) -> u32
     } else {
         RANGE
     }
+}
+
+fn read(thing: &mut Thing, at: u32, into: &mut [u8]) -> u32
+    ensures { OnResident thing.old thing.new result (into.new ≡ into.old) (λ a b. ReadsMemory a at into.old into.new result b) }
+{
+    let Thing::Instance(stage) = thing else {
+        return KIND;
+    };
+    read_stage(stage, at, into)
 }
 
 /// Copies bytes of an instance's memory, as many as there is room for.
@@ -209,10 +236,10 @@ pub extern "C" fn wasmloop_rt_read(
     on!(handle, alloc, held => read(&mut held, at, into))
 }
 
-fn write(thing: &mut Thing, at: u32, bytes: &[u8]) -> u32
-    ensures { OnResident thing.old thing.new result (Unit {0}) (λ a b. WritesMemory a at bytes.now result b) }
+fn write_stage(stage: &mut InstanceStage, at: u32, bytes: &[u8]) -> u32
+    ensures { OnStage stage.old stage.new result (Unit {0}) (λ a b. WritesMemory a at bytes.now result b) }
 {
-    let Thing::Resident(resident) = thing else {
+    let InstanceStage::Resident(resident) = stage else {
         return KIND;
     };
     if resident.write(at as usize, bytes) {
@@ -220,6 +247,15 @@ fn write(thing: &mut Thing, at: u32, bytes: &[u8]) -> u32
     } else {
         RANGE
     }
+}
+
+fn write(thing: &mut Thing, at: u32, bytes: &[u8]) -> u32
+    ensures { OnResident thing.old thing.new result (Unit {0}) (λ a b. WritesMemory a at bytes.now result b) }
+{
+    let Thing::Instance(stage) = thing else {
+        return KIND;
+    };
+    write_stage(stage, at, bytes)
 }
 
 /// Writes bytes to an instance's memory.
@@ -238,7 +274,10 @@ pub extern "C" fn wasmloop_rt_write(
 fn size(thing: &Thing, count: &mut u64) -> u32
     ensures { MatchOption (resident_of thing.now) ((result ≡ KIND) × (count.new ≡ count.old)) (λ a. (result ≡ OK) × (count.new ≡ length a.store.memory)) }
 {
-    let Thing::Resident(resident) = thing else {
+    let Thing::Instance(stage) = thing else {
+        return KIND;
+    };
+    let InstanceStage::Resident(resident) = &**stage else {
         return KIND;
     };
     *count = resident.size() as u64;

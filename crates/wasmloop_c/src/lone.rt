@@ -11,7 +11,7 @@ ghost use Rattle.wasmloop_c.specs.Calls.{AnswersIn, AnswersWork, IsDepth, IsLone
 use crate::handle::{Handle, on};
 use crate::job::RunnableOrder;
 use crate::status::{KIND, MEMORY, NO_WORK, OK, RANGE};
-use crate::thing::Thing;
+use crate::thing::{JobStage, Thing};
 use imports::{EntryPoint, Linked};
 use limits::{MAX_BYTES, MAX_DEPTH};
 use order::Order;
@@ -63,7 +63,8 @@ fn boxed(
     ensures { IfOk result (λ b. IsLoneJob (arc_value linked.now) task bytes.now b.value) }
 {
     let order = order_for(alloc, linked, task, bytes)?;
-    Ok(Box::new(alloc, Thing::Asked(RunnableOrder::new(order)))?)
+    let stage = Box::new(alloc, JobStage::Asked(RunnableOrder::new(order)))?;
+    Ok(Box::new(alloc, Thing::Job(stage))?)
 }
 
 fn put_job(

@@ -7,7 +7,7 @@ ghost use Rattle.wasmloop_c.specs.Values.{value_numbers};
 
 use crate::handle::{Handle, on};
 use crate::status::{KIND, NONE, OK};
-use crate::thing::Thing;
+use crate::thing::{InstanceStage, Thing};
 use resident::Resident;
 use std::alloc::Global;
 use syntax::types::Value;
@@ -51,7 +51,10 @@ fn tell(resident: &Resident, name: &[u8], told: &mut Number) -> u32
 fn global(thing: &Thing, name: &[u8], told: &mut Number) -> u32
     ensures { ReadsGlobal thing.now name.now told.old told.new result }
 {
-    let Thing::Resident(resident) = thing else {
+    let Thing::Instance(stage) = thing else {
+        return KIND;
+    };
+    let InstanceStage::Resident(resident) = &**stage else {
         return KIND;
     };
     tell(resident, name, told)

@@ -2,12 +2,12 @@
 
 ghost use Rattle.std.specs.Prelude.{◌≡◌, is_some};
 ghost use Rattle.wasmloop_c.specs.Calls.{ReadsHandle};
-ghost use Rattle.wasmloop_c.specs.Sentences.{Untold, TellsPlace, TellsPlaceIn};
+ghost use Rattle.wasmloop_c.specs.Sentences.{Untold, TellsPlace, TellsPlaceIn, TellsJobPlace, TellsCallPlace};
 
 use crate::copying::copy_bytes;
 use crate::handle::{Handle, on};
 use crate::status::{KIND, MEMORY, NONE, OK, REFUSED};
-use crate::thing::Thing;
+use crate::thing::{InstanceStage, JobStage, Thing};
 use instance::stack::Stop;
 use order::Trail;
 use sentences::tell_place;
@@ -51,6 +51,36 @@ fn tell(
     copy_bytes(text.as_slice(), into, count)
 }
 
+fn tell_job(alloc: Global, stage: &JobStage, bytes: &[u8], into: &mut [u8], count: &mut u64) -> u32
+    ensures { TellsJobPlace stage.now bytes.now into.old into.new count.old count.new result }
+{
+    match stage {
+        JobStage::Asked(_) => NONE,
+        JobStage::Answered(told) => {
+            let own = told.reply.order.module.valid().module().bytes();
+            tell(alloc, own, told.trail.as_ref(), bytes, into, count)
+        }
+        _ => KIND,
+    }
+}
+
+fn tell_call(
+    alloc: Global,
+    stage: &InstanceStage,
+    bytes: &[u8],
+    into: &mut [u8],
+    count: &mut u64,
+) -> u32
+    ensures { TellsCallPlace stage.now bytes.now into.old into.new count.old count.new result }
+{
+    let InstanceStage::Resident(resident) = stage else {
+        return KIND;
+    };
+    let trail = trail_of(resident.last_stop());
+    let own = resident.module_bytes();
+    tell(alloc, own, trail.as_ref(), bytes, into, count)
+}
+
 fn tell_thing(alloc: Global, thing: &Thing, bytes: &[u8], into: &mut [u8], count: &mut u64) -> u32
     ensures { TellsPlace thing.now bytes.now into.old into.new count.old count.new result }
 {
@@ -66,22 +96,8 @@ fn tell_thing(alloc: Global, thing: &Thing, bytes: &[u8], into: &mut [u8], count
                 count,
             )
         }
-        Thing::Answered(told) => {
-            let own = told.reply.order.module.valid().module().bytes();
-            tell(alloc, own, told.trail.as_ref(), bytes, into, count)
-        }
-        Thing::Resident(resident) => {
-            let trail = trail_of(resident.last_stop());
-            tell(
-                alloc,
-                resident.module_bytes(),
-                trail.as_ref(),
-                bytes,
-                into,
-                count,
-            )
-        }
-        Thing::Asked(_) => NONE,
+        Thing::Job(stage) => tell_job(alloc, stage, bytes, into, count),
+        Thing::Instance(stage) => tell_call(alloc, stage, bytes, into, count),
         _ => KIND,
     }
 }

@@ -3,14 +3,15 @@
 ghost use Rattle.std.specs.Prelude.{◌≡◌, ◌≤◌, ◌<◌};
 ghost use Rattle.order.specs.Slices.{OrderGoesOn};
 ghost use Rattle.wasmloop_c.specs.Calls.{OnHandle};
-ghost use Rattle.wasmloop_c.specs.Slices.{BeginsJob, LeftBy, RunsFor};
+ghost use Rattle.wasmloop_c.specs.Slices.{BeginsJob, LeftBy, RunsFor, RunsStageFor};
 
-use crate::handle::{Handle, through};
+use crate::handle::{Handle, on};
 use crate::job::RunnableOrder;
 use crate::status::{KIND, OK, RANGE};
-use crate::thing::Thing;
+use crate::thing::{JobStage, Thing};
 use order::{OrderGoing, Told};
 use std::alloc::Global;
+use std::mem::replace;
 
 /// The first slice of a job.
 fn begin(alloc: Global, job: RunnableOrder, units: u64) -> OrderGoing
@@ -28,27 +29,40 @@ fn begin(alloc: Global, job: RunnableOrder, units: u64) -> OrderGoing
 }
 
 /// What a slice leaves of a job, and whether the job is over.
-fn left_by(going: OrderGoing) -> (Thing, u32)
+fn left_by(going: OrderGoing) -> (JobStage, u32)
     ensures { LeftBy going result.0 result.1 }
 {
     match going {
-        OrderGoing::Over(told) => (Thing::Answered(told), 1),
-        OrderGoing::Paused(running) => (Thing::Running(running), 0),
+        OrderGoing::Over(told) => (JobStage::Answered(told), 1),
+        OrderGoing::Paused(running) => (JobStage::Running(running), 0),
     }
 }
 
-fn run_for(alloc: Global, thing: Thing, units: u64, over: &mut u32) -> (Thing, u32)
+fn stage_for(alloc: Global, stage: JobStage, units: u64, over: &mut u32) -> (JobStage, u32)
     requires { 1 ≤ units }
-    ensures { RunsFor thing result.0 units over.old over.new result.1 }
+    ensures { RunsStageFor stage result.0 units over.old over.new result.1 }
 {
-    let going = match thing {
-        Thing::Asked(job) => begin(alloc, job, units),
-        Thing::Running(running) => running.go_on(units),
+    let going = match stage {
+        JobStage::Asked(job) => begin(alloc, job, units),
+        JobStage::Running(running) => running.go_on(units),
         other => return (other, KIND),
     };
     let (left, is_over) = left_by(going);
     *over = is_over;
     (left, OK)
+}
+
+fn run_for(alloc: Global, thing: &mut Thing, units: u64, over: &mut u32) -> u32
+    requires { 1 ≤ units }
+    ensures { RunsFor thing.old thing.new units over.old over.new result }
+{
+    let Thing::Job(stage) = thing else {
+        return KIND;
+    };
+    let taken = replace(&mut **stage, JobStage::Gone);
+    let (left, status) = stage_for(alloc, taken, units, over);
+    **stage = left;
+    status
 }
 
 /// Runs a job for at most so many units of fuel, at least one, and answers whether it is over.
@@ -65,5 +79,5 @@ pub extern "C" fn wasmloop_rt_job_run_for(
     if units < 1 {
         return RANGE;
     }
-    through!(job, alloc, thing => run_for(alloc, thing, units, over))
+    on!(job, alloc, held => run_for(alloc, &mut held, units, over))
 }

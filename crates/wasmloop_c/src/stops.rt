@@ -2,11 +2,11 @@
 
 ghost use Rattle.std.specs.Prelude.{◌≡◌, length, map, slice_get, option_map};
 ghost use Rattle.wasmloop_c.specs.Calls.{ReadsHandle, copied};
-ghost use Rattle.wasmloop_c.specs.Sites.{site_numbers, told_of, whole_trail, IsStopOf, TellsStop, ReadsStop};
+ghost use Rattle.wasmloop_c.specs.Sites.{site_numbers, told_of, whole_trail, IsStopOf, TellsStop, ReadsStop, ReadsJobStop, ReadsCallStop};
 
 use crate::handle::{Handle, on};
 use crate::status::{KIND, NONE, OK};
-use crate::thing::Thing;
+use crate::thing::{InstanceStage, JobStage, Thing};
 use desk::Desk;
 use instance::stack::Stop;
 use order::{Told, Trail};
@@ -101,14 +101,32 @@ fn place_of_call(resident: &Resident) -> Option<StopPlace<'_>>
     Some(StopPlace::Callback(resident.last_stop()?))
 }
 
+fn tell_job(stage: &JobStage, into: &mut [Site], count: &mut u64) -> u32
+    ensures { ReadsJobStop stage.now into.old into.new count.old count.new result }
+{
+    match stage {
+        JobStage::Asked(_) => NONE,
+        JobStage::Answered(told) => tell_place(place_of_job(told), into, count),
+        _ => KIND,
+    }
+}
+
+fn tell_call(stage: &InstanceStage, into: &mut [Site], count: &mut u64) -> u32
+    ensures { ReadsCallStop stage.now into.old into.new count.old count.new result }
+{
+    let InstanceStage::Resident(resident) = stage else {
+        return KIND;
+    };
+    tell_place(place_of_call(resident), into, count)
+}
+
 fn tell_stop(thing: &Thing, into: &mut [Site], count: &mut u64) -> u32
     ensures { ReadsStop thing.now into.old into.new count.old count.new result }
 {
     match thing {
         Thing::Loop(held) => tell_place(place_of_loop(&held.core), into, count),
-        Thing::Answered(told) => tell_place(place_of_job(told), into, count),
-        Thing::Resident(resident) => tell_place(place_of_call(resident), into, count),
-        Thing::Asked(_) => NONE,
+        Thing::Job(stage) => tell_job(stage, into, count),
+        Thing::Instance(stage) => tell_call(stage, into, count),
         _ => KIND,
     }
 }

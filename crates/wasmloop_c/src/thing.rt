@@ -5,26 +5,59 @@ use crate::job::RunnableOrder;
 use imports::Linked;
 use order::{Running, Told};
 use resident::{Calling, Resident};
-use std::alloc::Global;
+use std::alloc::{AllocError, Global};
 use std::sync::Arc;
 
-/// What a handle has.
+/// What a handle has. The larger ones stand apart, so that each takes no more than its own room.
 #[derive(Drop)]
 pub enum Thing {
     /// A module.
     Module(Arc<Linked, Global>),
     /// A loop.
     Loop(HeldLoop),
+    /// A job. Its room is as large at each stage, so that none takes memory that the others didn't.
+    Job(Box<JobStage, Global>),
+    /// An instance that is kept from call to call, in room that a call in slices has too.
+    Instance(Box<InstanceStage, Global>),
+    /// Nothing, while a call is at work.
+    Gone,
+}
+
+/// How far a job is.
+#[derive(Drop)]
+pub enum JobStage {
     /// What a loop asks for.
     Asked(RunnableOrder),
-    /// A job between two slices of its run.
+    /// Between two slices of its run.
     Running(Running),
-    /// A job with the reply, what its run used and where it stopped.
+    /// With the reply, what its run used and where it stopped.
     Answered(Told),
-    /// An instance that is kept from call to call.
+    /// Nothing, while a call is at work.
+    Gone,
+}
+
+/// An instance, in a call or not.
+#[derive(Drop)]
+pub enum InstanceStage {
+    /// Between two calls.
     Resident(Resident),
-    /// The same, between two slices of a call.
+    /// Between two slices of a call.
     Calling(Calling),
     /// Nothing, while a call is at work.
     Gone,
+}
+
+/// Room for what a handle has, and for what stands apart of it.
+pub type Room<T> = (Box<Thing, Global>, Box<T, Global>);
+
+/// Room for a job.
+pub fn job_room(alloc: Global) -> Result<Room<JobStage>, AllocError> {
+    let whole = Box::new(alloc, Thing::Gone)?;
+    Ok((whole, Box::new(alloc, JobStage::Gone)?))
+}
+
+/// Room for an instance.
+pub fn instance_room(alloc: Global) -> Result<Room<InstanceStage>, AllocError> {
+    let whole = Box::new(alloc, Thing::Gone)?;
+    Ok((whole, Box::new(alloc, InstanceStage::Gone)?))
 }

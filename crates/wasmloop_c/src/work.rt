@@ -1,18 +1,17 @@
 // Jobs: what a loop asks for, and in time the reply.
 
 ghost use Rattle.std.specs.Prelude.{◌≡◌, ◌≢◌, ◌⊎◌, [], None, IsNone, IsSomeAnd, IfSome, IfOk, IfErr};
-ghost use Rattle.wasmloop_c.specs.Calls.{OnHandle, OnLoop, OnHeldLoop, ReadsHandle, HandsOut, RunsToEnd, StartsOfLoop, OffersReply, OffersHeld, TellsJob, left_in};
-ghost use Rattle.wasmloop_c.specs.declared.thing.Thing.TheVariants.{Gone};
+ghost use Rattle.wasmloop_c.specs.Calls.{OnHandle, OnLoop, OnHeldLoop, ReadsHandle, HandsOut, RunsToEnd, RunsStageToEnd, StartsOfLoop, OffersReply, OffersStage, OffersHeld, TellsJob, TellsStage};
 ghost use Rattle.wasmloop_c.specs.Numbers.{about_order, about_told, outcome_numbers};
 
-use crate::handle::{Handle, on, through};
+use crate::handle::{Handle, on};
 use crate::job::RunnableOrder;
 use crate::status::{EMPTY, KIND, MEMORY, NONE, OK, STRANGER};
-use crate::thing::Thing;
+use crate::thing::{JobStage, Room, Thing, job_room};
 use desk::Desk;
 use order::{Order, Outcome, Told};
 use phases::{Accepted, LoopCore};
-use std::alloc::{AllocFailed, Global};
+use std::alloc::{AllocError, Global};
 use std::mem::replace;
 
 /// What a job is about.
@@ -84,7 +83,7 @@ fn of_told(told: &Told) -> About
 fn hand_out(
     alloc: Global,
     core: &mut LoopCore<Desk>,
-    made: Result<Box<Thing, Global>, AllocFailed<Thing>>,
+    made: Result<Room<JobStage>, AllocError>,
     job: &mut Handle,
 ) -> u32
     requires outstanding { core.old.loop.state.requests.outstanding ≢ [] }
@@ -94,14 +93,15 @@ fn hand_out(
     ensures made { IfOk made (λ _. result ≢ MEMORY) }
     ensures refused { IfErr made (λ _. result ≡ MEMORY) }
 {
-    let Ok(mut room) = made else {
+    let Ok((mut whole, mut stage)) = made else {
         return MEMORY;
     };
     let Some(order) = core.next_order() else {
         return NONE;
     };
-    *room = Thing::Asked(RunnableOrder::new(order));
-    job.put(alloc, room);
+    *stage = JobStage::Asked(RunnableOrder::new(order));
+    *whole = Thing::Job(stage);
+    job.put(alloc, whole);
     OK
 }
 
@@ -115,7 +115,7 @@ fn next_job(alloc: Global, thing: &mut Thing, job: &mut Handle) -> u32
     if held.core.outstanding() == 0 {
         return NONE;
     }
-    let room = Box::new(alloc, Thing::Gone);
+    let room = job_room(alloc);
     hand_out(alloc, &mut held.core, room, job)
 }
 
@@ -131,13 +131,24 @@ pub extern "C" fn wasmloop_rt_next_job(alloc: Global, handle: &mut Handle, job: 
     on!(handle, alloc, held => next_job(alloc, &mut held, job))
 }
 
-fn run(alloc: Global, thing: Thing) -> (Thing, u32)
-    ensures { RunsToEnd thing result.0 result.1 }
+fn run_stage(alloc: Global, stage: JobStage) -> (JobStage, u32)
+    ensures { RunsStageToEnd stage result.0 result.1 }
 {
-    match thing {
-        Thing::Asked(job) => (Thing::Answered(job.run(alloc)), OK),
+    match stage {
+        JobStage::Asked(job) => (JobStage::Answered(job.run(alloc)), OK),
         other => (other, KIND),
     }
+}
+
+fn run(alloc: Global, thing: &mut Thing) -> u32
+    ensures { RunsToEnd thing.old thing.new result }
+{
+    let Thing::Job(stage) = thing else {
+        return KIND;
+    };
+    let (left, status) = run_stage(alloc, replace(&mut **stage, JobStage::Gone));
+    **stage = left;
+    status
 }
 
 /// Runs a job.
@@ -145,23 +156,32 @@ fn run(alloc: Global, thing: Thing) -> (Thing, u32)
 pub extern "C" fn wasmloop_rt_job_run(alloc: Global, job: &mut Handle) -> u32
     ensures { OnHandle job.old.raw.value job.new.raw.value result (Unit {0}) (λ t u. RunsToEnd t u result) }
 {
-    through!(job, alloc, thing => run(alloc, thing))
+    on!(job, alloc, held => run(alloc, &mut held))
 }
 
-fn tell_about(thing: &Thing, about: &mut About) -> u32
-    ensures { TellsJob thing.now about.old about.new result }
+fn tell_stage(stage: &JobStage, about: &mut About) -> u32
+    ensures { TellsStage stage.now about.old about.new result }
 {
-    match thing {
-        Thing::Asked(job) => {
+    match stage {
+        JobStage::Asked(job) => {
             *about = of_order(job.order());
             OK
         }
-        Thing::Answered(told) => {
+        JobStage::Answered(told) => {
             *about = of_told(told);
             OK
         }
         _ => KIND,
     }
+}
+
+fn tell_about(thing: &Thing, about: &mut About) -> u32
+    ensures { TellsJob thing.now about.old about.new result }
+{
+    let Thing::Job(stage) = thing else {
+        return KIND;
+    };
+    tell_stage(stage, about)
 }
 
 /// What a job is about.
@@ -178,7 +198,10 @@ fn start(thing: &mut Thing, job: &Thing) -> u32
     let Thing::Loop(held) = thing else {
         return KIND;
     };
-    let Thing::Asked(job) = job else {
+    let Thing::Job(stage) = job else {
+        return KIND;
+    };
+    let JobStage::Asked(job) = &**stage else {
         return KIND;
     };
     let order = job.order();
@@ -212,20 +235,32 @@ pub extern "C" fn wasmloop_rt_job_start(alloc: Global, handle: &mut Handle, job:
     status
 }
 
-fn accept(thing: &mut Thing, answered: Thing) -> (Thing, u32)
-    ensures offers { OnLoop thing.old thing.new result.1 (result.0 ≡ answered) (λ c d. OffersReply c d answered result.0 result.1) }
-    ensures taken { result.1 ≡ OK → result.0 ≡ Gone }
+/// What is left of a job that a loop is offered.
+fn offer(core: &mut LoopCore<Desk>, stage: JobStage) -> (JobStage, u32)
+    ensures offers { OffersStage core.old core.new stage (result.0 ≡ stage) (Unit {0}) result.1 }
+    ensures setting { core.new.setting ≡ core.old.setting }
+{
+    let JobStage::Answered(Told { reply, used, trail }) = stage else {
+        return (stage, KIND);
+    };
+    match core.accept(reply) {
+        Accepted::Accepted => (JobStage::Gone, OK),
+        Accepted::Stranger(reply) => (JobStage::Answered(Told { reply, used, trail }), STRANGER),
+    }
+}
+
+fn accept(thing: &mut Thing, job: &mut Thing) -> u32
+    ensures { OnLoop thing.old thing.new result (job.new ≡ job.old) (λ c d. OffersReply c d job.old (job.new ≡ job.old) (Unit {0}) result) }
 {
     let Thing::Loop(held) = thing else {
-        return (answered, KIND);
+        return KIND;
     };
-    let Thing::Answered(Told { reply, used, trail }) = answered else {
-        return (answered, KIND);
+    let Thing::Job(stage) = job else {
+        return KIND;
     };
-    match held.core.accept(reply) {
-        Accepted::Accepted => (Thing::Gone, OK),
-        Accepted::Stranger(reply) => (Thing::Answered(Told { reply, used, trail }), STRANGER),
-    }
+    let (left, status) = offer(&mut held.core, replace(&mut **stage, JobStage::Gone));
+    **stage = left;
+    status
 }
 
 /// Brings the reply of a job back to its loop, and leaves the job's handle empty where the loop takes it.
@@ -242,10 +277,9 @@ pub extern "C" fn wasmloop_rt_accept(alloc: Global, handle: &mut Handle, job: &m
         job.put(alloc, answered);
         return EMPTY;
     };
-    let (left, status) = accept(&mut held, replace(&mut *answered, Thing::Gone));
+    let status = accept(&mut held, &mut answered);
     handle.put(alloc, held);
     if status != OK {
-        *answered = left;
         job.put(alloc, answered);
     }
     status

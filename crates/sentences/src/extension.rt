@@ -14,20 +14,26 @@ fn named(name: &'static str, help: &'static str) -> Proposal {
     Proposal { name, help }
 }
 
+/// What operations begin with fc and this byte.
+fn of_fc(behind: Option<&u8>) -> Proposal {
+    match behind {
+        Some(0x00..=0x07) => named("conversions that saturate", LOWERED),
+        Some(0x08..=0x0b) => named("bulk memory", LOWERED),
+        _ => named("bulk memory or reference types", PLAIN),
+    }
+}
+
 /// What operations begin so. The byte after the opcode decides where it stands for operations of several.
 pub fn of_operation(bytes: &[u8], at: usize) -> Option<Proposal> {
-    let behind = bytes.get(at.checked_add(1)?);
-    Some(match (*bytes.get(at)?, behind) {
-        (0x06..=0x0a | 0x18 | 0x19 | 0x1f, _) => named("exceptions", NO_EXCEPTIONS),
-        (0x12..=0x15, _) => named("tail calls and function references", PLAIN),
-        (0x1c, _) => named("reference types", LOWERED),
-        (0x25 | 0x26 | 0xd0..=0xd2, _) => named("reference types", PLAIN),
-        (0xfb, _) => named("garbage collection", PLAIN),
-        (0xfc, Some(0x00..=0x07)) => named("conversions that saturate", LOWERED),
-        (0xfc, Some(0x08..=0x0b)) => named("bulk memory", LOWERED),
-        (0xfc, _) => named("bulk memory or reference types", PLAIN),
-        (0xfd, _) => named("vectors", PLAIN),
-        (0xfe, _) => named("threads", NO_THREADS),
+    Some(match *bytes.get(at)? {
+        0x06..=0x0a | 0x18 | 0x19 | 0x1f => named("exceptions", NO_EXCEPTIONS),
+        0x12..=0x15 => named("tail calls and function references", PLAIN),
+        0x1c => named("reference types", LOWERED),
+        0x25 | 0x26 | 0xd0..=0xd2 => named("reference types", PLAIN),
+        0xfb => named("garbage collection", PLAIN),
+        0xfc => of_fc(bytes.get(at.checked_add(1)?)),
+        0xfd => named("vectors", PLAIN),
+        0xfe => named("threads", NO_THREADS),
         _ => return None,
     })
 }

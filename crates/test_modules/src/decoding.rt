@@ -1,6 +1,6 @@
 // Texts cut short, wrong or too large, and what is reported of them.
 
-use crate::rows::check_rows;
+use crate::rows::{check_rows, shows};
 use decode::{DecodeFault, decode};
 use std::alloc::{AllocError, Global};
 use std::process::Abort;
@@ -202,14 +202,14 @@ fn allows_each(
 ) -> Result<(), AllocError> {
     for length in 0..=text.len() {
         let fault = told(alloc, text[..length].to_vec(alloc)?);
-        assert!(rt; fronts.allow(length, fault), "cut to {length}");
+        shows(rt, (length, fronts.allow(length, fault)), (length, true));
     }
     Ok(())
 }
 
 fn check_fronts(rt: &impl Abort, alloc: Global, fronts: &Fronts) -> Result<(), Fail> {
     let text = bytes_of(alloc, fronts.module)?;
-    assert_eq!(rt; fronts.accepted.last().copied(), Some(text.len()));
+    shows(rt, fronts.accepted.last().copied(), Some(text.len()));
     Ok(allows_each(rt, alloc, fronts, text.as_slice())?)
 }
 
@@ -272,7 +272,7 @@ fn told_of_opcodes(rt: HostRuntime) -> Result<(), Fail> {
             continue;
         };
         let bytes = with_opcode(rt.alloc(), opcode)?;
-        assert_eq!(rt; told(rt.alloc(), bytes), Some(want), "of {opcode}");
+        shows(&rt, (opcode, told(rt.alloc(), bytes)), (opcode, Some(want)));
     }
     Ok(())
 }
@@ -287,9 +287,9 @@ fn has_exports(rt: &impl Abort, module: &Module) {
         index: 5,
     };
     let found = [module.export("f"), module.export("g"), module.export("h")];
-    assert_eq!(rt; found, [Some(first), Some(global), None]);
+    shows(rt, found, [Some(first), Some(global), None]);
     let sizes = [module.contents().exports.len(), module.bytes().len()];
-    assert_eq!(rt; sizes, [3, 23]);
+    shows(rt, sizes, [3, 23]);
 }
 
 /// A module that exports a function and two more under two names.

@@ -1,7 +1,7 @@
 // Instances that take one turn after another: their memories, tables, globals and segments.
 
 use crate::instances::Turn::{Copy, Element, Get, Grow, Length, Load, Read, Set, Store, Write};
-use crate::rows::{check_rows, check_told_of};
+use crate::rows::{check_rows, check_told_of, shows};
 use instance::access::AccessSize::{self, Eight, Four, One, Two};
 use instance::fault::InstFault;
 use instance::memory::Memory;
@@ -307,6 +307,6 @@ fn a_memory_begins_with_its_least_size(rt: HostRuntime) -> Result<(), AllocError
         max: Some(3),
     };
     let memory = Memory::new(rt.alloc(), Some(limits))?;
-    assert_eq!(rt; memory.len(), 131072);
+    shows(&rt, memory.len(), 131072);
     Ok(())
 }

@@ -1,5 +1,5 @@
 use crate::modules::check_sections;
-use crate::rows::check_rows;
+use crate::rows::{check_rows, shows};
 use imports::{Call, CallType, EntryPoint, Linked};
 use std::alloc::Global;
 use std::process::Abort;
@@ -51,13 +51,14 @@ const GUEST: &str = "011b0560037f7f7f017f60017e017f60000060017f017f60037f7f7f00
 
 fn finds(rt: &impl Abort, guest: &Linked) {
     let calls = [guest.call(0), guest.call(1), guest.call(2)];
-    assert!(rt; calls == [Some(Call::QueueWork), Some(Call::Emit), None]);
+    let wanted = [Some(Call::QueueWork), Some(Call::Emit), None];
+    shows(rt, calls == wanted, true);
     let entries = [
         guest.entry(EntryPoint::Main),
         guest.entry(EntryPoint::Work),
         guest.entry(EntryPoint::AfterWork),
     ];
-    assert_eq!(rt; entries, [Some(2), Some(3), Some(4)]);
+    shows(rt, entries, [Some(2), Some(3), Some(4)]);
 }
 
 #[test]

@@ -1,5 +1,6 @@
 // The operators, on values from outside.
 
+use crate::rows::shows;
 use numeric::*;
 use syntax::operator::{IntBinary, IntCompare, IntUnary};
 
@@ -16,7 +17,7 @@ fn counts_bits(rt: HostRuntime) {
         i32_ctz(0),
         i32_popcnt(4_042_322_160),
     ];
-    assert_eq!(rt; counted, [16, 32, 3, 32, 16]);
+    shows(&rt, counted, [16, 32, 3, 32, 16]);
     let counted = [
         i64_clz(0),
         i64_clz(1),
@@ -24,7 +25,7 @@ fn counts_bits(rt: HostRuntime) {
         i64_ctz(I64_MIN),
         i64_popcnt(0xDEAD_BEEF_DEAD_BEEF),
     ];
-    assert_eq!(rt; counted, [64, 63, 64, 63, 48]);
+    shows(&rt, counted, [64, 63, 64, 63, 48]);
 }
 
 #[test]
@@ -38,15 +39,16 @@ fn extends_and_wraps(rt: HostRuntime) {
         i32_wrap_i64(i64_shr_u(i64_extend_i32_u(u32::MAX), 32)),
         i32_wrap_i64(i64_shr_u(i64_extend_i32_s(u32::MAX), 32)),
     ];
-    assert_eq!(rt;
+    shows(
+        &rt,
         made,
-        [0xFFFF_FF80, 0x7F, 0xFFFF_8000, u32::MAX, 1, 0, u32::MAX]
+        [0xFFFF_FF80, 0x7F, 0xFFFF_8000, u32::MAX, 1, 0, u32::MAX],
     );
     let extended = [
         i64_extend8_s(0xFEDC_BA98_7654_3280),
         i64_extend16_s(0x1_7FFF),
     ];
-    assert_eq!(rt; extended, [0xFFFF_FFFF_FFFF_FF80, 0x7FFF]);
+    shows(&rt, extended, [0xFFFF_FFFF_FFFF_FF80, 0x7FFF]);
 }
 
 #[test]
@@ -56,13 +58,13 @@ fn adds_and_multiplies(rt: HostRuntime) {
         i32_sub(0, 1),
         i32_mul(0x0123_4567, 0x7654_3210),
     ];
-    assert_eq!(rt; made, [I32_MIN, u32::MAX, 0x358E_7470]);
+    shows(&rt, made, [I32_MIN, u32::MAX, 0x358E_7470]);
     let made = [
         i64_add(u64::MAX, 1),
         i64_sub(I64_MIN, 1),
         i64_mul(0x0123_4567_89AB_CDEF, 0xFEDC_BA98_7654_3210),
     ];
-    assert_eq!(rt; made, [0, 0x7FFF_FFFF_FFFF_FFFF, 0x2236_D88F_E561_8CF0]);
+    shows(&rt, made, [0, 0x7FFF_FFFF_FFFF_FFFF, 0x2236_D88F_E561_8CF0]);
 }
 
 #[test]
@@ -75,7 +77,7 @@ fn divides(rt: HostRuntime) {
         i32_rem_s(I32_MIN, u32::MAX),
     ];
     let wanted = [4_294_967_293, 4_294_967_295, 2_147_483_644, 1, 0];
-    assert_eq!(rt; divided, wanted.map(Ok));
+    shows(&rt, divided, wanted.map(Ok));
     let divided = [
         i64_div_s(7, 0xFFFF_FFFF_FFFF_FFFE),
         i64_rem_s(7, 0xFFFF_FFFF_FFFF_FFFE),
@@ -84,7 +86,7 @@ fn divides(rt: HostRuntime) {
         i64_rem_s(I64_MIN, u64::MAX),
     ];
     let wanted = [0xFFFF_FFFF_FFFF_FFFD, 1, 0, I64_MIN, 0];
-    assert_eq!(rt; divided, wanted.map(Ok));
+    shows(&rt, divided, wanted.map(Ok));
 }
 
 #[test]
@@ -96,11 +98,19 @@ fn traps(rt: HostRuntime) {
         IntBinary::RemU,
     ] {
         let by_zero = (i32_binary(operator, 1, 0), i64_binary(operator, 1, 0));
-        assert_eq!(rt; by_zero, (Err(Trap::DivideByZero), Err(Trap::DivideByZero)));
+        shows(
+            &rt,
+            by_zero,
+            (Err(Trap::DivideByZero), Err(Trap::DivideByZero)),
+        );
     }
     let least = (i32_div_s(I32_MIN, u32::MAX), i64_div_s(I64_MIN, u64::MAX));
-    assert_eq!(rt; least, (Err(Trap::Overflow), Err(Trap::Overflow)));
-    assert_eq!(rt; (Trap::DivideByZero.code(), Trap::Overflow.code()), (2, 3));
+    shows(&rt, least, (Err(Trap::Overflow), Err(Trap::Overflow)));
+    shows(
+        &rt,
+        (Trap::DivideByZero.code(), Trap::Overflow.code()),
+        (2, 3),
+    );
 }
 
 #[test]
@@ -110,13 +120,17 @@ fn combines_bits(rt: HostRuntime) {
         i32_or(0xF0F0_FFFF, 0xFFFF_F0F0),
         i32_xor(0xF0F0_FFFF, 0xFFFF_F0F0),
     ];
-    assert_eq!(rt; combined, [0xF0F0_F0F0, 0xFFFF_FFFF, 0x0F0F_0F0F]);
+    shows(&rt, combined, [0xF0F0_F0F0, 0xFFFF_FFFF, 0x0F0F_0F0F]);
     let combined = [
         i64_and(0xF0F0_FFFF, 0xFFFF_F0F0),
         i64_or(0xF0F0_0000, 0x0000_F0F0),
         i64_xor(u64::MAX, 0xFFFF_F0F0),
     ];
-    assert_eq!(rt; combined, [0xF0F0_F0F0, 0xF0F0_F0F0, 0xFFFF_FFFF_0000_0F0F]);
+    shows(
+        &rt,
+        combined,
+        [0xF0F0_F0F0, 0xF0F0_F0F0, 0xFFFF_FFFF_0000_0F0F],
+    );
 }
 
 #[test]
@@ -128,7 +142,7 @@ fn shifts_and_rotates(rt: HostRuntime) {
         i32_rotl(2_147_483_649, 33),
         i32_rotr(0xB0C1_D2E3, 5),
     ];
-    assert_eq!(rt; moved, [2, 4_294_967_295, 1, 3, 0x1D86_0E97]);
+    shows(&rt, moved, [2, 4_294_967_295, 1, 3, 0x1D86_0E97]);
     let moved = [
         i64_shl(1, 64),
         i64_shr_s(I64_MIN, 62),
@@ -143,7 +157,7 @@ fn shifts_and_rotates(rt: HostRuntime) {
         0x579B_30EC_048D_159D,
         0x55E6_CC3B_0123_4567,
     ];
-    assert_eq!(rt; moved, wanted);
+    shows(&rt, moved, wanted);
 }
 
 #[test]
@@ -158,7 +172,7 @@ fn compares(rt: HostRuntime) {
         i64_le_s(I64_MIN, 0),
         i64_ge_s(I64_MIN, 0),
     ];
-    assert_eq!(rt; signed, [1, 0, 1, 0, 1, 0, 1, 0]);
+    shows(&rt, signed, [1, 0, 1, 0, 1, 0, 1, 0]);
     let unsigned = [
         i32_lt_u(I32_MIN, 0),
         i32_gt_u(I32_MIN, 0),
@@ -169,7 +183,7 @@ fn compares(rt: HostRuntime) {
         i64_le_u(I64_MIN, 0),
         i64_ge_u(I64_MIN, 0),
     ];
-    assert_eq!(rt; unsigned, [0, 1, 0, 1, 0, 1, 0, 1]);
+    shows(&rt, unsigned, [0, 1, 0, 1, 0, 1, 0, 1]);
     let same = [
         i32_eqz(0),
         i32_eqz(I32_MIN),
@@ -180,7 +194,7 @@ fn compares(rt: HostRuntime) {
         i64_eq(1, 2),
         i64_ne(1, 2),
     ];
-    assert_eq!(rt; same, [1, 0, 1, 0, 1, 0, 0, 1]);
+    shows(&rt, same, [1, 0, 1, 0, 1, 0, 0, 1]);
 }
 
 #[test]
@@ -191,14 +205,15 @@ fn dispatches(rt: HostRuntime) {
         i32_compare(IntCompare::LtS, u32::MAX, 0),
         i64_compare(IntCompare::LtU, u64::MAX, 0),
     ];
-    assert_eq!(rt; answers, [0xFFFF_FF80, I32_MIN, 1, 0]);
+    shows(&rt, answers, [0xFFFF_FF80, I32_MIN, 1, 0]);
     let answers = (
         i64_unary(IntUnary::Extend32S, 0x8000_0000),
         i32_binary(IntBinary::Sub, 1, 2),
         i64_binary(IntBinary::Sub, 1, 2),
     );
-    assert_eq!(rt;
+    shows(
+        &rt,
         answers,
-        (0xFFFF_FFFF_8000_0000, Ok(u32::MAX), Ok(u64::MAX))
+        (0xFFFF_FFFF_8000_0000, Ok(u32::MAX), Ok(u64::MAX)),
     );
 }

@@ -1,5 +1,6 @@
-// Tests as rows of text.
+// Tests as rows of text. Who asserts is lent what is looked at: a test's own exits drop what it holds.
 
+use std::fmt::Debug;
 use std::process::Abort;
 use std::test::Fail;
 
@@ -10,6 +11,11 @@ fn parts_of(row: &str) -> Result<Option<(&str, &str)>, Fail> {
         return Ok(None);
     }
     Ok(Some(row.split_once(" = ").ok_or("a row of one part")?))
+}
+
+/// That what is seen is what is expected.
+pub fn shows<T: Copy + Debug + PartialEq>(rt: &impl Abort, seen: T, expected: T) {
+    assert_eq!(rt; seen, expected);
 }
 
 /// Asserts that what was printed of a text is what is wanted.

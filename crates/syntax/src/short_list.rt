@@ -11,7 +11,7 @@ use std::marker::Model;
 /// How many items are a few.
 const FEW: usize = 14;
 
-/// A few items, with the first in the places behind them.
+/// A few items. The first fills the places behind them.
 #[derive(Drop)]
 pub struct FewItems<T> {
     count: u8,

@@ -41,7 +41,7 @@ WORD = r"[A-Za-z_][\w'-]*"
 NAMES = re.compile(rf"{WORD}(?:\.{WORD})*|[^\w\s]")
 ANTT = re.compile(rf"^(  )?(?:(?:abbrev|unfoldable)(?: pub)?|(?:pub )?(?:record|data)) (◌.◌|{WORD})|^()(?:pub )?(?!mod )({WORD}) :")
 PUBLIC = re.compile(r"^ *(?:abbrev|unfoldable) pub |^ *pub (?:record|data) |^pub (?!mod )", re.M)
-ITEM = re.compile(rf"^(?:pub(?:\([a-z]+\))? )?(struct|enum|trait|const) ({WORD})")
+ITEM = re.compile(rf"^(?:pub(?:\([a-z]+\))? )?(struct|enum|trait|type|const) ({WORD})")
 BLOCK = re.compile(rf"^(?:pub )?(impl|trait)(?:<.*?>(?= ))? (?:(\w+)(?:<.*>)? for )?({WORD})")
 DOC = r"\s*(///|#\[)"
 GHOST = re.compile(r"\s+ghost (\w+) = \{")

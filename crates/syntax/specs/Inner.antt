@@ -2,6 +2,5 @@
 pub mod Beside
 pub mod Payloads
 pub mod Tokens
-pub mod Lists
 pub mod Kept
 pub mod Longs

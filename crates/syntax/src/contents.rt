@@ -2,8 +2,7 @@
 
 use crate::body::Body;
 use crate::items::Items;
-use crate::names::Name;
-use crate::type_lists::TypeList;
+use crate::short_list::{Name, TypeList};
 use crate::types::{Limits, ValType};
 
 /// The type of a function.

@@ -1,15 +1,10 @@
 -- Lists of which the short ones lie in the value that has them.
-use Rattle.std.specs.Prelude.{ℕ, List}
-use Rattle.syntax.specs.declared.types.ValType.{ValType}
-use Rattle.syntax.specs.declared.type_lists.KeptTypes.{KeptTypes}
-use Rattle.syntax.specs.declared.type_lists.KeptTypes.TheVariants as types
-use Rattle.syntax.specs.declared.names.KeptName.{KeptName}
-use Rattle.syntax.specs.declared.names.KeptName.TheVariants as name
+use Rattle.std.specs.Prelude.{List, []}
+use Rattle.syntax.specs.declared.short_list.KeptItems.{KeptItems}
+use Rattle.syntax.specs.declared.short_list.KeptItems.TheVariants.{Empty, Few, Many}
 
-abbrev pub types_listed : KeptTypes → List ValType
-types_listed (types.Few few) = few
-types_listed (types.Many many) = many.value.items
-
-abbrev pub name_listed : KeptName → List ℕ
-name_listed (name.Few few) = few
-name_listed (name.Many many) = many.value.items
+module _ {T : Type 0} where
+  abbrev pub kept_items : KeptItems T → List T
+  kept_items Empty = []
+  kept_items (Few few) = few
+  kept_items (Many many) = many.value.items

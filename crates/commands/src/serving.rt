@@ -1,6 +1,6 @@
 // What comes of loops and workers in threads.
 
-ghost use Rattle.std.specs.Prelude.{◌≡◌, ◌↔◌, All, IfOk, IsTrue, length, string_bytes};
+ghost use Rattle.std.specs.Prelude.{◌≡◌, ◌↔◌, All, IfOk, IsTrue, length};
 ghost use Rattle.std.specs.Arc.{arc_value};
 ghost use Rattle.serve.specs.Answers.{EachServed};
 ghost use Rattle.commands.specs.Accepted.{IsLoaded};

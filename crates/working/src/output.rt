@@ -1,6 +1,6 @@
 // Where the end of a work order is written.
 
-ghost use Rattle.std.specs.Prelude.{◌≡◌, [], ◌∷◌, OnOk};
+ghost use Rattle.std.specs.Prelude.{[], ◌∷◌, OnOk};
 ghost use Rattle.std.specs.Io.KnownBytes.{Appends};
 ghost use Rattle.events.specs.Traps.{trap_number};
 ghost use Rattle.order.specs.Orders.{end_of};

@@ -1,4 +1,3 @@
-use Rattle.std.proofs.Common.{rules}
 use Rattle.validate.proofs.SameTypes.{same_index}
 use Rattle.validate.proofs.function_type.is_of_type.Goals as goal
 

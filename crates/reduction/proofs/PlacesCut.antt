@@ -123,5 +123,5 @@ module _ (m : Contents) (body : ℕ → Body) (place : Place) (callers : List Pl
         start,
         p.tells.1,
         branch_told (slice_get (body place.function).table.chosen (start.pc + min n (length ls))) (label_for (slice_get ls n) default) p.labels values p.after p.behind s to charge contexts there
-            (listed (body place.function).table.chosen p.labels ls start.pc default n p.tells.2) p.over (sym is ∙ e),
+            (listed (body place.function).table.chosen p.labels ls start.pc default n p.tells.3) p.over (sym is ∙ e),
       )

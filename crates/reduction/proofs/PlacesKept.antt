@@ -146,7 +146,7 @@ module _ (m : Contents) (body : ℕ → Body) (function : ℕ) (callers : List P
       → jumped (body function) at (op.Plain i) values ≡ pc_of (slice_get labels label)
   jumped_to rule.br labels at tells = rw tells refl
   jumped_to rule.br_if labels at tells = rw tells refl
-  jumped_to (rule.br_table {labels = ls} {default} {n}) labels at (start, first, lists) = rw (first, listed (body function).table.chosen labels ls start.pc default n lists) refl
+  jumped_to (rule.br_table {labels = ls} {default} {n}) labels at (start, first, count_is, lists) = rw (first, listed (body function).table.chosen labels ls start.pc default n lists) refl
 
   jumped_behind : {i : Instr} {values left : List Value} {f : ℕ} {type : FuncType} → Calling m i values f type left → (at : ℕ) → jumped (body function) at (op.Plain i) values ≡ at + 1
   jumped_behind (rule.direct e) at = refl

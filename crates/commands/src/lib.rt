@@ -7,8 +7,7 @@
 //! end was reported with 4. Begin with `perform`.
 //!
 //! What a status says is `specs/Inner/Statuses.antt`, and what each command has done `specs/Performing.antt`. Each command has a module of
-//! its own (`calling`, `working`, `scripting`, `serving`); what comes of an order is `working`'s to say, of a script `scripting`'s. Files
-//! are read through `files::Reader`.
+//! its own; what comes of an order is the crate `working`'s to say, of a script `scripting`'s. Files are read through `files::Reader`.
 #![tactic(auto)]
 
 mod arguments;
@@ -16,11 +15,11 @@ mod calling;
 mod failure;
 mod loading;
 mod performing;
-mod scripting;
+mod script_command;
 mod serving;
 mod status;
 mod telling;
 mod tracing;
-mod working;
+mod work_command;
 
 pub use performing::perform;

@@ -1,7 +1,7 @@
 use Rattle.std.proofs.Common.{string_bytes}
 use Rattle.std.specs.Arc.{arc_value}
 use Rattle.commands.specs.Accepted.{IsLoaded}
-use Rattle.commands.proofs.working.work.Goals as goal
+use Rattle.commands.proofs.work_command.work.Goals as goal
 
 pub returns-clause-done : goal.returns-clause-done
 returns-clause-done g c = λ done.

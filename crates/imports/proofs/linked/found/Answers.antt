@@ -1,33 +1,54 @@
 use Rattle.std.proofs.Common.{◌≤◌, length, All, ap, sym, subst, ◌∙◌}
+use Rattle.limits.specs.declared.TheConstants.{MAX_IMPORTS, MAX_FUNCTIONS}
 use Rattle.syntax.specs.declared.contents.Contents.{Contents}
 use Rattle.syntax.specs.Loaded.{Loaded}
-use Rattle.imports.specs.Linking.{IsKnown, IsCallable, AreCalls, IsEntry}
+use Rattle.imports.specs.Linking.{IsKnown, IsCallable, AreCalls, IsEntry, entry_kept}
 use Rattle.imports.specs.declared.entry_point.EntryPoint.TheVariants.{Main, Work, AfterWork}
 use Rattle.imports.proofs.linked.found.Goals as goal
 
-pub calls_of-calls-requires-clause-few : goal.calls_of-calls-requires-clause-few
-calls_of-calls-requires-clause-few c =
-    subst (λ (x : Contents). length x.imports ≤ 64) (sym c.contents-contents.ensures.value) c.contents-contents.ensures.spelled.imports.0
-
-pub calls_of-calls-requires-clause-known : goal.calls_of-calls-requires-clause-known
-calls_of-calls-requires-clause-known c =
+pub calls_of-calls-requires : goal.calls_of-calls-requires
+calls_of-calls-requires c =
     let same = c.contents-contents.ensures.value ∙ ap (λ (l : Loaded). l.contents) c.module.ensures.same in
     subst (λ (x : Contents). All (IsKnown x) x.imports) (sym same) c.requires.imports
 
-pub entry_of-main-requires : goal.entry_of-main-requires
-entry_of-main-requires c =
+pub find_entry-main-requires-clause-callable : goal.find_entry-main-requires-clause-callable
+find_entry-main-requires-clause-callable c =
     let same = c.contents-contents.ensures.value ∙ ap (λ (l : Loaded). l.contents) c.module.ensures.same in
     subst (λ (x : Contents). All (IsCallable x) x.exports) (sym same) c.requires.exports
 
-pub entry_of-work-requires : goal.entry_of-work-requires
-entry_of-work-requires c =
+pub find_entry-main-requires-clause-few_imports : goal.find_entry-main-requires-clause-few_imports
+find_entry-main-requires-clause-few_imports c =
+    subst (λ (x : Contents). length x.imports ≤ MAX_IMPORTS) (sym c.contents-contents.ensures.value) c.contents-contents.ensures.spelled.imports.0
+
+pub find_entry-main-requires-clause-few_functions : goal.find_entry-main-requires-clause-few_functions
+find_entry-main-requires-clause-few_functions c =
+    subst (λ (x : Contents). length x.functions ≤ MAX_FUNCTIONS) (sym c.contents-contents.ensures.value) c.contents-contents.ensures.spelled.functions.0
+
+pub find_entry-work-requires-clause-callable : goal.find_entry-work-requires-clause-callable
+find_entry-work-requires-clause-callable c =
     let same = c.contents-contents.ensures.value ∙ ap (λ (l : Loaded). l.contents) c.module.ensures.same in
     subst (λ (x : Contents). All (IsCallable x) x.exports) (sym same) c.requires.exports
 
-pub entry_of-after_work-requires : goal.entry_of-after_work-requires
-entry_of-after_work-requires c =
+pub find_entry-work-requires-clause-few_imports : goal.find_entry-work-requires-clause-few_imports
+find_entry-work-requires-clause-few_imports c =
+    subst (λ (x : Contents). length x.imports ≤ MAX_IMPORTS) (sym c.contents-contents.ensures.value) c.contents-contents.ensures.spelled.imports.0
+
+pub find_entry-work-requires-clause-few_functions : goal.find_entry-work-requires-clause-few_functions
+find_entry-work-requires-clause-few_functions c =
+    subst (λ (x : Contents). length x.functions ≤ MAX_FUNCTIONS) (sym c.contents-contents.ensures.value) c.contents-contents.ensures.spelled.functions.0
+
+pub find_entry-after_work-requires-clause-callable : goal.find_entry-after_work-requires-clause-callable
+find_entry-after_work-requires-clause-callable c =
     let same = c.contents-contents.ensures.value ∙ ap (λ (l : Loaded). l.contents) c.module.ensures.same in
     subst (λ (x : Contents). All (IsCallable x) x.exports) (sym same) c.requires.exports
+
+pub find_entry-after_work-requires-clause-few_imports : goal.find_entry-after_work-requires-clause-few_imports
+find_entry-after_work-requires-clause-few_imports c =
+    subst (λ (x : Contents). length x.imports ≤ MAX_IMPORTS) (sym c.contents-contents.ensures.value) c.contents-contents.ensures.spelled.imports.0
+
+pub find_entry-after_work-requires-clause-few_functions : goal.find_entry-after_work-requires-clause-few_functions
+find_entry-after_work-requires-clause-few_functions c =
+    subst (λ (x : Contents). length x.functions ≤ MAX_FUNCTIONS) (sym c.contents-contents.ensures.value) c.contents-contents.ensures.spelled.functions.0
 
 pub invariant_of-result : goal.invariant_of-result
 invariant_of-result c =
@@ -35,7 +56,7 @@ invariant_of-result c =
     record {
       linked = c.requires;
       calls = subst (λ (x : Contents). AreCalls x c.calls_of-calls.result) same c.calls_of-calls.ensures;
-      main = subst (λ (x : Contents). IsEntry x Main c.entry_of-main.result) same c.entry_of-main.ensures;
-      work = subst (λ (x : Contents). IsEntry x Work c.entry_of-work.result) same c.entry_of-work.ensures;
-      after_work = subst (λ (x : Contents). IsEntry x AfterWork c.entry_of-after_work.result) same c.entry_of-after_work.ensures;
+      main = subst (λ (x : Contents). IsEntry x Main (entry_kept c.find_entry-main.result)) same c.find_entry-main.ensures;
+      work = subst (λ (x : Contents). IsEntry x Work (entry_kept c.find_entry-work.result)) same c.find_entry-work.ensures;
+      after_work = subst (λ (x : Contents). IsEntry x AfterWork (entry_kept c.find_entry-after_work.result)) same c.find_entry-after_work.ensures;
     }

@@ -38,11 +38,11 @@ BESIDE, NEARLY = ["nice", "-n", "10"], 0.9
 QUIET = 30
 # What the crates take of a processor with one job, in seconds (`tools/gate.py`); another one is guessed to take as long as most.
 TAKES = {
-    "limits": 6, "tallies": 7, "slot": 13, "files": 16, "reduction": 24, "world_log": 26, "events": 27, "marks": 27, "desk": 28,
-    "leb": 32, "numeric": 34, "claims": 40, "handles": 55, "pool": 61, "imports": 72, "scripting": 73, "working": 74, "syntax": 83,
-    "order": 85, "interp": 96, "flaws": 100, "board": 102, "loader": 102, "instance": 104, "wasmloop": 105, "places": 112,
-    "words": 132, "world": 140, "script": 151, "wasmloop_c": 155, "engine": 195, "decode": 209, "sentences": 229, "commands": 247,
-    "validate": 251, "phases": 280, "serve": 331,
+    "limits": 6, "tallies": 7, "slot": 13, "files": 16, "reduction": 24, "world_log": 26, "events": 27, "marks": 27, "desk": 28, "leb": 32,
+    "numeric": 34, "claims": 40, "handles": 55, "pool": 61, "imports": 72, "scripting": 73, "working": 74, "order": 85, "interp": 96,
+    "flaws": 100, "board": 102, "loader": 102, "syntax": 104, "instance": 104, "wasmloop": 105, "places": 112, "words": 132, "world": 140,
+    "script": 151, "wasmloop_c": 155, "decode": 209, "sentences": 229, "engine": 244, "commands": 247, "phases": 280, "validate": 314,
+    "serve": 331,
 }
 GUESSED = 100
 # How many seconds the pace that is seen needs before it counts as much as the one that was measured.

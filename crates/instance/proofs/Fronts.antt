@@ -1,12 +1,14 @@
 -- The bytes of a memory of which a front is kept.
-use Rattle.std.proofs.Common.{◌≡◌, ℕ, zero, suc, ◌+◌, ◌-◌, ◌*◌, ◌≤◌, min, List, [], ◌∷◌, ◌++◌, length, take, drop, replicate, Some, true, nat_le, le-leb, refl}
+use Rattle.std.proofs.Common.{◌≡◌, ℕ, zero, suc, ◌+◌, ◌-◌, ◌*◌, ◌%◌, ◌≤◌, min, List, [], ◌∷◌, ◌++◌, length, take, drop, replicate, Some, Bool, true, false, if◌then◌else◌, nat_le, le-leb, refl}
 use Rattle.std.proofs.Common.{sym, ap, ◌∙◌, arith, append_assoc, length-append, length-drop}
 use Rattle.std.proofs.lemmas.List.{length-replicate, replicate-append-replicate, drop-replicate, take-replicate, length-take, take_all}
 use Rattle.std.proofs.Math.Seq.{drop-nil}
+use Rattle.std.specs.Int.{next_multiple_of}
 use Rattle.limits.specs.declared.TheConstants.{PAGE_SIZE}
 use Rattle.instance.specs.Store.{MemoryInstance, bytes_at, number_at, number_of, pages, grown}
 use Rattle.instance.specs.Reads.{with_bytes}
-use Rattle.instance.specs.Inner.Room.{all_bytes}
+use Rattle.instance.specs.Inner.Room.{all_bytes, rounded}
+use Rattle.instance.specs.declared.front.TheConstants.{STEP, FINE_STEP, NEAR}
 
 length-all_bytes : (total : ℕ) (front : List ℕ) → length front ≤ total → length (all_bytes total front) ≡ total
 length-all_bytes total front within =
@@ -19,6 +21,29 @@ all_bytes-grown total more front within =
     append_assoc front (replicate (total - length front) 0) (replicate more 0)
     ∙ ap (λ (zs : List ℕ). front ++ zs) (replicate-append-replicate {A = ℕ} (total - length front) more 0)
     ∙ ap (λ (k : ℕ). front ++ replicate k 0) l
+
+-- a front that is longer by zeros is one of the same bytes
+pub same_with_zeros : (total more : ℕ) (front longer : List ℕ) → longer ≡ front ++ replicate more 0 → length front + more ≤ total
+    → all_bytes total longer ≡ all_bytes total front
+same_with_zeros total more front longer is fits =
+    let left = total - length (front ++ replicate more 0) in
+    let l : length (front ++ replicate more 0) ≡ length front + more = omega (arith, length-append front (replicate more 0), length-replicate {A = ℕ} more 0) in
+    let m : more + left ≡ total - length front = omega (arith, l, fits) in
+    rw is (append_assoc front (replicate more 0) (replicate left 0)
+    ∙ ap (λ (zs : List ℕ). front ++ zs) (replicate-append-replicate {A = ℕ} more left 0)
+    ∙ ap (λ (k : ℕ). front ++ replicate k 0) m)
+
+-- a page has a whole number of steps, of both sizes
+rounded_by : (fine : Bool) (end count : ℕ) → end ≤ count * PAGE_SIZE → next_multiple_of end (if fine then FINE_STEP else STEP) ≤ count * PAGE_SIZE
+rounded_by true end count within =
+    let r : end + (256 - end % 256) % 256 ≤ count * 65536 = omega arith in
+    r
+rounded_by false end count within =
+    let r : end + (1024 - end % 1024) % 1024 ≤ count * 65536 = omega arith in
+    r
+
+pub rounded_within : (end count : ℕ) → end ≤ count * PAGE_SIZE → rounded end ≤ count * PAGE_SIZE
+rounded_within end count = rounded_by (nat_le end NEAR) end count
 
 abbrev limited : ℕ → List ℕ → MemoryInstance
 limited limit bytes = record { bytes = bytes; limit = limit }

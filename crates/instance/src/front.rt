@@ -7,6 +7,10 @@ use limits::PAGE_SIZE;
 
 /// By how many bytes at a time a front is lengthened. A page has a whole number of them.
 pub const STEP: usize = 1024;
+/// By how many up to `NEAR`, so that a small memory keeps little more than was written.
+pub const FINE_STEP: usize = 256;
+/// The first bytes of a memory.
+pub const NEAR: usize = 4096;
 
 /// How many bytes so many pages have.
 #[inline]
@@ -25,7 +29,8 @@ fn lengthen(front: &mut Vec<u8>, end: usize)
     ensures items { front.new.items ≡ lengthened_front end front.old.items }
     ensures capacity { vec_capacity front.old ≤ vec_capacity front.new }
 {
-    let Ok(()) = front.resize(end.next_multiple_of(STEP), 0) else {
+    let step = if end <= NEAR { FINE_STEP } else { STEP };
+    let Ok(()) = front.resize(end.next_multiple_of(step), 0) else {
         unreachable!();
     };
 }

@@ -6,10 +6,14 @@ ghost use Rattle.interp.specs.Slots.CallsBegun.{CanOpen, CallOpened};
 
 use crate::reading::number_of;
 use engine::{At, zero};
-use instance::stack::{FEW_SLOTS, Slots};
+use instance::stack::Slots;
 use limits::MAX_HEIGHT;
 use syntax::contents::Contents;
 use syntax::types::Value;
+
+/// How many slots there are at least from the first call on. With the one at the bottom, and with what malloc keeps before a block,
+/// they lie in one page of 4 KiB.
+const FIRST_SLOTS: usize = 508;
 
 /// Lays arguments in the lowest slots.
 fn lay_arguments(slots: &mut [u64], args: &[Value])
@@ -64,7 +68,7 @@ pub fn open(contents: &Contents, slots: &mut Slots, function: u32, args: &[Value
     };
     let zeros = func.locals.len();
     let sp = args.len() + zeros;
-    let room = FEW_SLOTS.max(sp + MAX_HEIGHT);
+    let room = FIRST_SLOTS.max(sp + MAX_HEIGHT);
     if slots.len() < room {
         slots.lengthen(room);
     }

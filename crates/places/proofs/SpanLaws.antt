@@ -105,9 +105,6 @@ pub record PastBodies (bytes : List ℕ) (first number at : ℕ) : Type 0 where
   pub order : first ≤ at
   pub stand : Leaves (items counted before) (drop first bytes) (drop at bytes)
 
-pub bodies_none : (bytes : List ℕ) (first : ℕ) → PastBodies bytes first 0 first
-bodies_none bytes first = record { before = []; as_many = refl; order = omega arith; stand = no_items counted (drop first bytes) }
-
 pub bodies_more : {bytes : List ℕ} {first number at to : ℕ} (text : List ℕ) → PastBodies bytes first number at → StandsBetween (counted text) bytes at to
     → PastBodies bytes first (number + 1) to
 bodies_more {bytes} {first} {number} {at} {to} text p h = record {

@@ -13,9 +13,8 @@ use limits::PAGE_SIZE;
 use loader::validated;
 use places::{DATA, ELEMENTS, Place, place_of_section};
 use std::alloc::{AllocError, Global};
-use syntax::body::Body;
 use syntax::contents::{Contents, ExternKind, FuncType, Import, ModuleExport};
-use syntax::instruction::{Instr, Token};
+use syntax::initializer::Initializer;
 use syntax::types::Value;
 use validate::{type_at, type_of_function};
 
@@ -65,12 +64,8 @@ fn of_export(alloc: Global, contents: &Contents, export: &ModuleExport) -> Optio
 }
 
 /// Whether so many elements or bytes from this offset on end beyond the room, and where.
-fn end_behind(room: u64, offset: &Body, count: usize) -> Option<u64> {
-    let ops = offset.ops();
-    if ops.len() == 0 {
-        return None;
-    }
-    let Token::Plain(Instr::Const(Value::I32(start))) = ops.at(0).operation() else {
+fn end_behind(room: u64, offset: &Initializer, count: usize) -> Option<u64> {
+    let Some(Value::I32(start)) = offset.constant() else {
         return None;
     };
     let end = u64::from(start).saturating_add(count as u64);

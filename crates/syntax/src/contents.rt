@@ -1,6 +1,7 @@
 // What a module contains (WebAssembly Core 1.0, 2.5).
 
 use crate::body::Body;
+use crate::initializer::Initializer;
 use crate::items::Items;
 use crate::short_list::{Name, TypeList};
 use crate::types::{Limits, ValType};
@@ -65,7 +66,7 @@ pub enum Mutability {
 pub struct Global {
     pub value_type: ValType,
     pub mutability: Mutability,
-    pub init: Body,
+    pub init: Initializer,
 }
 
 impl Drop for Global {
@@ -107,7 +108,7 @@ impl Drop for ModuleExport {
 /// An element segment: functions that are written into a table, from the offset on.
 pub struct Element {
     pub table: u32,
-    pub offset: Body,
+    pub offset: Initializer,
     pub functions: Items<u32>,
 }
 
@@ -124,7 +125,7 @@ impl Drop for Element {
 /// A data segment: bytes that are written into a memory, from the offset on.
 pub struct Data {
     pub memory: u32,
-    pub offset: Body,
+    pub offset: Initializer,
     pub bytes: Items<u8>,
 }
 

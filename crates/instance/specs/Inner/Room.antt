@@ -1,8 +1,8 @@
 -- The room of a memory, and what of it is kept.
-use Rattle.std.specs.Prelude.{ℕ, ◌-◌, ◌*◌, ◌≤◌, List, ◌++◌, length, replicate}
+use Rattle.std.specs.Prelude.{ℕ, ◌-◌, ◌*◌, ◌≤◌, List, ◌++◌, length, replicate, if◌then◌else◌, nat_le}
 use Rattle.std.specs.Int.{next_multiple_of}
 use Rattle.limits.specs.declared.TheConstants.{PAGE_SIZE}
-use Rattle.instance.specs.declared.front.TheConstants.{STEP}
+use Rattle.instance.specs.declared.front.TheConstants.{STEP, FINE_STEP, NEAR}
 
 -- so many bytes, of which a front is kept: after it all are zero
 abbrev pub all_bytes : (total : ℕ) → (front : List ℕ) → List ℕ
@@ -16,7 +16,7 @@ pub record HasRoomForPages (front capacity count limit : ℕ) : Type 0 where
 
 -- how long a front is made that is to reach over an end
 abbrev pub rounded : (end : ℕ) → ℕ
-rounded end = next_multiple_of end STEP
+rounded end = next_multiple_of end (if nat_le end NEAR then FINE_STEP else STEP)
 
 -- the front then: what is new is zero
 abbrev pub lengthened_front : (end : ℕ) → (front : List ℕ) → List ℕ

@@ -1,0 +1,20 @@
+use Rattle.std.proofs.Common.{◌≡◌, Option, Some, refl, sym, ap, subst, ◌∙◌}
+use Rattle.std.specs.Prelude.{IsSome}
+use Rattle.syntax.specs.declared.types.Value.{Value}
+use Rattle.syntax.specs.Code.{Code}
+use Rattle.validate.specs.Segments.{constant_in}
+use Rattle.validate.proofs.segments.constant_of.Goals as goal
+
+pub unwrap-requires : goal.unwrap-requires
+unwrap-requires c =
+    let one = c.requires.1 in
+    let found : c.constant.result ≡ Some one.0 = (c.constant.ensures one.0).1 one.1 in
+    subst (λ (o : Option Value). IsSome o) (sym found) refl
+
+pub returns : goal.returns
+returns c =
+    let one = c.requires.1 in
+    let found : c.constant.result ≡ Some one.0 = (c.constant.ensures one.0).1 one.1 in
+    let taken = c.unwrap.ensures in
+    let same : c.unwrap.result ≡ one.0 = cc in
+    same ∙ sym (ap (λ (code : Code). constant_in code) one.1)

@@ -13,7 +13,7 @@ use Rattle.commands.specs.declared.calling.Called.{Called}
 use Rattle.commands.specs.declared.calling.Called.TheVariants.{Function}
 use Rattle.commands.specs.Accepted.{HoldsModule, HoldsNone}
 use Rattle.resident.specs.Calls.{HasReturned}
-use Rattle.commands.specs.Calling.{IsCalled, HasFunctionReturned}
+use Rattle.commands.specs.Calling.{IsCalled}
 use Rattle.commands.specs.Arguments.{AllSpell}
 use Rattle.commands.specs.Working.{HasWorked, HasStopped}
 use Rattle.commands.specs.Scripting.{HasRunFile}
@@ -28,21 +28,13 @@ pub record IsCallOf (contents : Contents) (i : Invocation) (called : Called) : T
   pub spelled : AllSpell (map string_bytes i.arguments.items) args
   pub gives : IsCalled contents i.fuel i.depth function args called
 
--- called so, the function returns
-abbrev pub Returns : Contents → Invocation → Type 0
-Returns contents i = (called : Called) × IsCallOf contents i called × HasFunctionReturned called
-
 -- The file's module exports a function under the name, the words spell its arguments, and called with them on a new
 -- instance, it returns.
 pub record HasInvoked (gives : List ℕ → ℕ → List ℕ → Type 0) (i : Invocation) : Type 0 where
   pub contents : Contents
   pub held : HoldsModule gives (string_bytes i.file) contents
-  pub function : ℕ
-  pub named : IsFirst contents.exports (string_bytes i.name) (Some (record { kind = Func; index = function }))
-  pub args : List Value
-  pub spelled : AllSpell (map string_bytes i.arguments.items) args
   pub ended : Ended
-  pub called : IsCalled contents i.fuel i.depth function args (Function ended)
+  pub called : IsCallOf contents i (Function ended)
   pub returned : HasReturned ended.ending
 
 -- Of an output whose bytes are known it is said what was appended to them.

@@ -1,39 +1,26 @@
 // Why a command has no result.
 
 ghost use Rattle.std.specs.Prelude.{◌≡◌};
+ghost use Rattle.commands.specs.Inner.Statuses.{status_of_io};
 
 use crate::status::ExitStatus;
-use files::ReadFault;
-use instance::fault::InstFault;
-use limits::{MAX_BYTES, MAX_MODULE_BYTES};
+use files::IoFault;
+use limits::MAX_MODULE_BYTES;
 use loader::Refusal;
 use places::Shown;
 use script::ScriptFault;
 use scripting::ScriptFailure;
 use sentences::{Grouped, Listing, Mismatch, RefusalAccount};
 use std::alloc::{AllocError, AllocFailed, Global};
-use std::io::{self, ErrorKind, Write};
+use std::io::{self, Write};
 use std::{fmt, str};
 use syntax::contents::{Contents, ExternKind};
-use working::WorkFailure;
 
 /// Why a command has no result.
 #[derive(Drop)]
 pub enum Failure<'a> {
-    /// The file of this name can't be read, for this reason.
-    File {
-        name: &'a str,
-        reason: io::Error,
-    },
-    /// There is not enough memory.
-    Memory,
-    /// The result can't be written, for this reason.
-    Output(io::Error),
-    /// The file of this name can't be written, for this reason.
-    Unwritten {
-        name: &'a str,
-        reason: io::Error,
-    },
+    /// A file, the memory or the output stands in the way.
+    Io(IoFault<'a>),
     /// The bytes of the file, or of a module of the script, are no guest. Of more bytes than a module may have nothing more is said.
     Refused {
         module: Option<usize>,
@@ -52,8 +39,6 @@ pub enum Failure<'a> {
     },
     /// The words are not the arguments that the function takes.
     Arguments(Mismatch<'a>),
-    /// The file of this name, which is the input of a work order, has more than `MAX_BYTES` bytes.
-    TooLong(&'a str),
 }
 
 /// The names under which the module exports functions.
@@ -69,17 +54,6 @@ fn exported_functions(alloc: Global, contents: &Contents) -> Result<String, Allo
 
 impl<'a> Failure<'a> {
     ghost use Rattle.commands.specs.Inner.Statuses.{status_of_failure};
-    ghost use Rattle.commands.specs.declared.status.ExitStatus.TheVariants as status;
-
-    /// The file of this name is not read.
-    pub fn unread(name: &'a str, fault: ReadFault) -> Failure<'a>
-        ensures { status_of_failure result ≡ status.Failed }
-    {
-        match fault {
-            ReadFault::File(reason) => Failure::File { name, reason },
-            ReadFault::Memory => Failure::Memory,
-        }
-    }
 
     /// The module exports no function of this name.
     pub fn no_function(alloc: Global, contents: &Contents, name: &'a str) -> Failure<'a> {
@@ -94,20 +68,17 @@ impl<'a> Failure<'a> {
         ensures { result ≡ status_of_failure self.now }
     {
         match self {
-            Failure::File { .. }
-            | Failure::Memory
-            | Failure::Output(_)
-            | Failure::Unwritten { .. }
-            | Failure::Script { .. } => ExitStatus::Failed,
+            Failure::Io(fault) => status_of_fault(fault),
+            Failure::Script { .. } => ExitStatus::Failed,
             Failure::Refused { .. } => ExitStatus::Refused,
-            Failure::NoFunction { .. } | Failure::Arguments(_) | Failure::TooLong(_) =>
-                ExitStatus::Usage,
+            Failure::NoFunction { .. } | Failure::Arguments(_) => ExitStatus::Usage,
         }
     }
 
     /// Says in a sentence what is wrong, and where.
     pub fn explain<E: Write>(&self, err: &mut E) -> io::Result<()> {
         match self {
+            Failure::Io(fault) => tell_fault(fault, err),
             Failure::Refused {
                 module,
                 account,
@@ -123,18 +94,34 @@ impl<'a> Failure<'a> {
             Failure::Script { fault, told: None } => writeln!(err, "{}", fault.meaning()),
             Failure::NoFunction { there, .. } => tell_functions(there, err),
             Failure::Arguments(mismatch) => writeln!(err, "{mismatch}"),
-            Failure::Output(reason) => writeln!(err, "standard output: {reason}"),
-            Failure::Unwritten { name, reason } => writeln!(err, "{}: {reason}", Shown(*name)),
-            Failure::TooLong(name) => writeln!(
-                err,
-                "{}: more than {MAX_BYTES} bytes; at most so many can be given",
-                Shown(*name)
-            ),
-            Failure::File { name, .. } if *name == "-" => {
-                writeln!(err, "standard input is /dev/stdin")
-            }
-            Failure::File { .. } | Failure::Memory => Ok(()),
         }
+    }
+}
+
+/// What the program ends with where this stands in the way.
+fn status_of_fault(fault: &IoFault<'_>) -> ExitStatus
+    ensures { result ≡ status_of_io fault.now }
+{
+    match fault {
+        IoFault::TooLong { .. } => ExitStatus::Usage,
+        IoFault::Memory | IoFault::Unread { .. } | IoFault::Unwritten { .. } | IoFault::Output(_) =>
+            ExitStatus::Failed,
+    }
+}
+
+fn tell_fault<E: Write>(fault: &IoFault<'_>, err: &mut E) -> io::Result<()> {
+    match fault {
+        IoFault::Output(reason) => writeln!(err, "standard output: {reason}"),
+        IoFault::Unwritten { name, reason } => writeln!(err, "{}: {reason}", Shown(*name)),
+        IoFault::TooLong { name, most } => writeln!(
+            err,
+            "{}: more than {most} bytes; at most so many can be given",
+            Shown(*name)
+        ),
+        IoFault::Unread { name, .. } if *name == "-" => {
+            writeln!(err, "standard input is /dev/stdin")
+        }
+        IoFault::Unread { .. } | IoFault::Memory => Ok(()),
     }
 }
 
@@ -161,12 +148,19 @@ fn tell_refusal<E: Write>(
     }
 }
 
+fn write_fault<W: fmt::Write>(f: &mut fmt::Formatter<W>, fault: &IoFault<'_>) -> fmt::Result {
+    match fault {
+        IoFault::Unread { name, reason } => write!(f, "file\n{}: {reason}", Shown(*name)),
+        IoFault::Memory => f.write_str("memory"),
+        IoFault::Output(_) | IoFault::Unwritten { .. } => f.write_str("output"),
+        IoFault::TooLong { .. } => f.write_str("arguments"),
+    }
+}
+
 impl fmt::Display for Failure<'_> {
     fn fmt<W: fmt::Write>(&self, f: &mut fmt::Formatter<W>) -> fmt::Result {
         match self {
-            Failure::File { name, reason } => write!(f, "file\n{}: {reason}", Shown(*name)),
-            Failure::Memory => f.write_str("memory"),
-            Failure::Output(_) | Failure::Unwritten { .. } => f.write_str("output"),
+            Failure::Io(fault) => write_fault(f, fault),
             Failure::Refused {
                 module: Some(number),
                 refusal,
@@ -178,28 +172,54 @@ impl fmt::Display for Failure<'_> {
                 write!(f, "script {code} {fault}")
             }
             Failure::NoFunction { name, .. } => write!(f, "no function {}", Shown(*name)),
-            Failure::Arguments(_) | Failure::TooLong(_) => f.write_str("arguments"),
+            Failure::Arguments(_) => f.write_str("arguments"),
         }
     }
 }
 
-impl<'a> From<WorkFailure<'a>> for Failure<'a> {
-    fn from(failure: WorkFailure<'a>) -> Self {
-        match failure {
-            WorkFailure::Memory => Failure::Memory,
-            WorkFailure::Unread { name, fault } => Failure::unread(name, fault),
-            WorkFailure::TooLong(name) => Failure::TooLong(name),
-            WorkFailure::Unwritten { name, reason } => Failure::Unwritten { name, reason },
-            WorkFailure::Output(reason) => Failure::Output(reason),
-        }
+/// What stands in the way refuses no module.
+impl<'a> From<IoFault<'a>> for Failure<'a> {
+    ghost use Rattle.std.specs.Prelude.{◌≢◌};
+    ghost use Rattle.commands.specs.Inner.Statuses.{status_of_failure};
+    ghost use Rattle.commands.specs.declared.status.ExitStatus.TheVariants.{Refused};
+
+    ghost from_gives = { λ _ failure. status_of_failure failure ≢ Refused };
+
+    #[tactic(auto, using(crate::proofs::Done::refuses_none))]
+    fn from(fault: IoFault<'a>) -> Self {
+        Failure::Io(fault)
+    }
+}
+
+impl From<io::Error> for Failure<'_> {
+    ghost use Rattle.std.specs.Prelude.{◌≢◌};
+    ghost use Rattle.commands.specs.Inner.Statuses.{status_of_failure};
+    ghost use Rattle.commands.specs.declared.status.ExitStatus.TheVariants.{Refused};
+
+    ghost from_gives = { λ _ failure. status_of_failure failure ≢ Refused };
+
+    #[tactic(auto, using(crate::proofs::Done::refuses_none))]
+    fn from(error: io::Error) -> Self {
+        Failure::Io(IoFault::from(error))
+    }
+}
+
+impl From<AllocError> for Failure<'_> {
+    fn from(_error: AllocError) -> Self {
+        Failure::Io(IoFault::Memory)
+    }
+}
+
+impl<T: Drop> From<AllocFailed<T>> for Failure<'_> {
+    fn from(_error: AllocFailed<T>) -> Self {
+        Failure::Io(IoFault::Memory)
     }
 }
 
 impl From<ScriptFailure> for Failure<'_> {
     fn from(failure: ScriptFailure) -> Self {
         match failure {
-            ScriptFailure::Memory => Failure::Memory,
-            ScriptFailure::Output(reason) => Failure::Output(reason),
+            ScriptFailure::Io(fault) => Failure::Io(fault),
             ScriptFailure::Refused {
                 module,
                 refusal,
@@ -210,41 +230,6 @@ impl From<ScriptFailure> for Failure<'_> {
                 account,
             },
             ScriptFailure::NoScript { fault, told } => Failure::Script { fault, told },
-        }
-    }
-}
-
-/// A linked module's segments fit, so its instance fails only if memory runs out.
-impl From<InstFault> for Failure<'_> {
-    fn from(_fault: InstFault) -> Self {
-        Failure::Memory
-    }
-}
-
-impl From<AllocError> for Failure<'_> {
-    fn from(_error: AllocError) -> Self {
-        Failure::Memory
-    }
-}
-
-impl<T: Drop> From<AllocFailed<T>> for Failure<'_> {
-    fn from(_error: AllocFailed<T>) -> Self {
-        Failure::Memory
-    }
-}
-
-/// What is written can't be, or there is no memory to write it.
-impl From<io::Error> for Failure<'_> {
-    ghost use Rattle.std.specs.Prelude.{◌≡◌};
-    ghost use Rattle.commands.specs.Inner.Statuses.{status_of_failure};
-    ghost use Rattle.commands.specs.declared.status.ExitStatus.TheVariants.{Failed};
-
-    ghost from_gives = { λ _ failure. status_of_failure failure ≡ Failed };
-
-    fn from(error: io::Error) -> Self {
-        match error.kind() {
-            ErrorKind::OutOfMemory => Failure::Memory,
-            _ => Failure::Output(error),
         }
     }
 }

@@ -2,16 +2,16 @@
 
 ghost use Rattle.std.specs.Prelude.{◌≡◌, ◌≢◌, IfOk, IfErr};
 ghost use Rattle.loader.specs.Loading.{IsAccepted};
-ghost use Rattle.commands.specs.Accepted.{enough, AreRefused, HoldsNone};
+ghost use Rattle.commands.specs.Accepted.{AreRefused, HoldsNone, IsLoaded};
 ghost use Rattle.commands.specs.Inner.Statuses.{status_of_failure};
 ghost use Rattle.commands.specs.declared.status.ExitStatus.TheVariants as status;
 
 use crate::failure::Failure;
-use files::Reader;
+use files::{IoFault, Reader};
 use imports::Linked;
 use limits::MAX_MODULE_BYTES;
 use loader::Refusal;
-use scripting::account_of;
+use sentences::account_of;
 use std::alloc::Global;
 
 /// One byte more than a module may have: whatever comes after it changes no answer.
@@ -21,11 +21,11 @@ fn refused(alloc: Global, bytes: &[u8], refusal: Refusal) -> Failure<'static>
     ensures { status_of_failure result ≡ status.Refused → refusal ≢ Refusal.Memory }
 {
     match refusal {
-        Refusal::Memory => Failure::Memory,
+        Refusal::Memory => Failure::Io(IoFault::Memory),
         _ => Failure::Refused {
             module: None,
             refusal,
-            account: account_of(alloc, bytes, refusal),
+            account: account_of(refusal, alloc, bytes),
         },
     }
 }
@@ -42,31 +42,11 @@ fn accept(alloc: Global, bytes: &[u8]) -> Result<Linked, Failure<'static>>
     }
 }
 
-/// The module of the file, read, validated and linked, with the bytes of the file.
-pub fn load_whole<'a, R: Reader>(
-    alloc: Global,
-    reader: &R,
-    file: &'a str,
-) -> Result<(Linked, Vec<u8>), Failure<'a>>
-    ensures read { IfOk result (λ loaded. R.gives reader.now file.now enough loaded.0.bytes) }
-    ensures accepted { IfOk result (λ loaded. IsAccepted loaded.0.bytes loaded.0.contents) }
-    ensures refused { IfErr result (λ f. status_of_failure f ≡ status.Refused → HoldsNone (R.gives reader.now) file.now) }
-{
-    match reader.read(alloc, file, ENOUGH) {
-        Ok(bytes) => {
-            let linked = accept(alloc, bytes.as_slice())?;
-            Ok((linked, bytes))
-        }
-        Err(fault) => Err(Failure::unread(file, fault)),
-    }
-}
-
 /// The module of the file, read, validated and linked.
 pub fn load<'a, R: Reader>(alloc: Global, reader: &R, file: &'a str) -> Result<Linked, Failure<'a>>
-    ensures read { IfOk result (λ linked. R.gives reader.now file.now enough linked.bytes) }
-    ensures accepted { IfOk result (λ linked. IsAccepted linked.bytes linked.contents) }
+    ensures loaded { IfOk result (λ linked. IsLoaded (R.gives reader.now) file.now linked) }
     ensures refused { IfErr result (λ f. status_of_failure f ≡ status.Refused → HoldsNone (R.gives reader.now) file.now) }
 {
-    let loaded = load_whole(alloc, reader, file)?;
-    Ok(loaded.0)
+    let bytes = reader.read(alloc, file, ENOUGH)?;
+    Ok(accept(alloc, bytes.as_slice())?)
 }

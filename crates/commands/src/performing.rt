@@ -8,18 +8,18 @@ ghost use Rattle.commands.specs.Accepted.{HoldsModule, HoldsNone};
 ghost use Rattle.resident.specs.Calls.{HasReturned};
 ghost use Rattle.commands.specs.Calling.{HasFunctionReturned};
 ghost use Rattle.commands.specs.Inner.Statuses.{status_of_failure, status_of_end, OnDone, OnEnded};
-ghost use Rattle.commands.specs.Performing.{HasInvoked, IsCallOf, Returns, IsDone, IsRefusedBy, IsEnded};
+ghost use Rattle.commands.specs.Performing.{HasInvoked, IsCallOf, IsDone, IsRefusedBy, IsEnded};
 
 use crate::arguments::values;
 use crate::calling::{Called, call, has_returned};
 use crate::failure::Failure;
-use crate::loading::{load, load_whole};
+use crate::loading::load;
 use crate::script_command::script;
 use crate::serving::serve_file;
 use crate::status::ExitStatus;
 use crate::work_command::work;
 use events::ended::{Ended, Ending};
-use files::{FileWriter, Reader};
+use files::{FileWriter, IoFault, Reader};
 use imports::Linked;
 use order::Trail;
 use places::Shown;
@@ -118,7 +118,6 @@ fn ended_call<'c>(name: &'c str, called: &'c Called) -> (&'c str, &'c Ended) {
 /// Says in a sentence where a call stopped.
 fn explain<E: Write>(
     invocation: &Invocation,
-    bytes: &[u8],
     called: &Called,
     resident: &Resident,
     err: &mut E,
@@ -129,7 +128,7 @@ fn explain<E: Write>(
     };
     let allowed = Allowed::by_options(invocation.depth);
     match Unfinished::of_call(ended, &Trail::of(&stop), allowed) {
-        Some(stopped) => tell_stopped(&Shown(what), bytes, &stopped, err),
+        Some(stopped) => tell_stopped(&Shown(what), resident.module_bytes(), &stopped, err),
         None => Ok(()),
     }
 }
@@ -143,25 +142,6 @@ fn trace<E: Write>(invocation: &Invocation, called: &Called, err: &mut E) -> io:
     tell_used(ended.used, invocation.fuel, err)
 }
 
-/// Calls the function of the module that the words name, and reports how it ended.
-fn call_and_tell<'a, O: Write, E: Write>(
-    alloc: Global,
-    linked: Arc<Linked>,
-    bytes: &[u8],
-    invocation: &'a Invocation,
-    out: &mut O,
-    err: &mut E,
-) -> Result<ExitStatus, Failure<'a>>
-    ensures { IfOk result (λ status. status ≡ ExitStatus.Done → Returns (arc_value linked).contents invocation.now) }
-{
-    let (called, resident) = call_named(alloc, linked, invocation)?;
-    let status = tell_called(&called, out)?;
-    // a sentence that can't be written changes nothing
-    let _ = explain(invocation, bytes, &called, &resident, err);
-    let _ = trace(invocation, &called, err);
-    Ok(status)
-}
-
 /// Calls an exported function of the file's module, and reports how it ended.
 fn invoke<'a, R: Reader, O: Write, E: Write>(
     alloc: Global,
@@ -172,14 +152,19 @@ fn invoke<'a, R: Reader, O: Write, E: Write>(
 ) -> Result<ExitStatus, Failure<'a>>
     ensures { IfOk result (λ status. status ≡ ExitStatus.Done → HasInvoked (R.gives reader.now) invocation.entry.now) }
 {
-    let loaded = load_whole(alloc, reader, invocation.file.as_str())?;
-    let linked = Arc::new(alloc, loaded.0)?;
-    call_and_tell(alloc, linked, loaded.1.as_slice(), invocation, out, err)
+    let linked = load(alloc, reader, invocation.file.as_str())?;
+    let shared = Arc::new(alloc, linked)?;
+    let (called, resident) = call_named(alloc, shared, invocation)?;
+    let status = tell_called(&called, out)?;
+    // a sentence that can't be written changes nothing
+    let _ = explain(invocation, &called, &resident, err);
+    let _ = trace(invocation, &called, err);
+    Ok(status)
 }
 
 /// Tells to `err` that what should be printed can't be.
 fn tell_unprinted<E: Write>(reason: io::Error, err: &mut E) -> io::Result<()> {
-    let failure = Failure::Output(reason);
+    let failure = Failure::Io(IoFault::Output(reason));
     writeln!(err, "{failure}")?;
     failure.explain(err)
 }

@@ -31,10 +31,7 @@ pub fn script<'a, R: Reader, O: Write, E: Write>(
 ) -> Result<ExitStatus, Failure<'a>>
     ensures { IfOk result (λ status. status ≡ ExitStatus.Done → HasRunFile (R.gives reader.now) (O.contents out.old) (O.contents out.new) file.now) }
 {
-    let text = match reader.read(alloc, file, MAX_SCRIPT_BYTES + 1) {
-        Ok(text) => text,
-        Err(fault) => return Err(Failure::unread(file, fault)),
-    };
+    let text = reader.read(alloc, file, MAX_SCRIPT_BYTES + 1)?;
     let end = run_script(alloc, text, out, err)?;
     Ok(status_of(end))
 }

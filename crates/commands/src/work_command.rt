@@ -8,7 +8,7 @@ use crate::failure::Failure;
 use crate::loading::load;
 use crate::status::ExitStatus;
 use files::{FileWriter, Reader};
-use imports::{EntryPoint, Linked};
+use imports::EntryPoint;
 use std::alloc::Global;
 use std::io::Write;
 use words::WorkRequest;
@@ -22,10 +22,6 @@ fn status_of(report: WorkReport) -> ExitStatus
         WorkReport::Result => ExitStatus::Done,
         WorkReport::Stopped => ExitStatus::Ended,
     }
-}
-
-fn no_work(alloc: Global, linked: &Linked) -> Failure<'static> {
-    Failure::no_function(alloc, linked.valid().contents(), EntryPoint::Work.name())
 }
 
 /// Lets the module of the file compute the reply of a work order, and reports what came of it. Done, where that is a value
@@ -43,7 +39,8 @@ pub fn work<'a, F: Reader + FileWriter, O: Write, E: Write>(
     let bytes = input_of(alloc, files, work)?;
     let linked = load(alloc, files, work.file.as_str())?;
     let Some(_function) = linked.entry(EntryPoint::Work) else {
-        return Err(no_work(alloc, &linked));
+        let contents = linked.valid().contents();
+        return Err(Failure::no_function(alloc, contents, EntryPoint::Work.name()));
     };
     let report = working::work(alloc, linked, bytes, work, files, out, err)?;
     Ok(status_of(report))

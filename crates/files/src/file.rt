@@ -2,28 +2,11 @@
 
 ghost use Rattle.std.specs.Prelude.{List, ℕ, IfOk, OnOk};
 
+use crate::fault::IoFault;
 use std::alloc::Global;
 use std::fs::{self, File};
-use std::io::{self, ErrorKind, Read};
+use std::io::{self, Read};
 use std::rt::Files;
-
-/// Why a file is not read.
-#[derive(Clone, Copy, Debug)]
-pub enum ReadFault {
-    /// It isn't there, or can't be read, for this reason.
-    File(io::Error),
-    /// There is not enough memory.
-    Memory,
-}
-
-impl From<io::Error> for ReadFault {
-    fn from(error: io::Error) -> ReadFault {
-        match error.kind() {
-            ErrorKind::OutOfMemory => ReadFault::Memory,
-            _ => ReadFault::File(error),
-        }
-    }
-}
 
 /// Reads files by their names.
 pub trait Reader {
@@ -31,7 +14,7 @@ pub trait Reader {
     ghost gives: { Self → List ℕ → ℕ → List ℕ → Type 0 };
 
     /// The bytes of the file from its front on, `most` of them at most.
-    fn read(&self, alloc: Global, name: &str, most: usize) -> Result<Vec<u8>, ReadFault>
+    fn read<'a>(&self, alloc: Global, name: &'a str, most: usize) -> Result<Vec<u8>, IoFault<'a>>
         ensures { IfOk result (λ bytes. gives self.now name.now most bytes.items) };
 }
 
@@ -41,7 +24,7 @@ pub trait FileWriter {
     ghost takes: { Self → List ℕ → List ℕ → Type 0 };
 
     /// Makes the file of these bytes, or replaces it.
-    fn write(&self, name: &str, bytes: &[u8]) -> io::Result<()>
+    fn write<'a>(&self, name: &'a str, bytes: &[u8]) -> Result<(), IoFault<'a>>
         ensures { OnOk result (takes self.now name.now bytes.now) };
 }
 
@@ -56,12 +39,8 @@ impl<'a, R: Files> SystemFiles<'a, R> {
     pub fn new(runtime: &'a R) -> SystemFiles<'a, R> {
         SystemFiles { runtime }
     }
-}
 
-impl<'a, R: Files> Reader for SystemFiles<'a, R> {
-    ghost gives = { λ _ _ _ _. Unit {0} };
-
-    fn read(&self, alloc: Global, name: &str, most: usize) -> Result<Vec<u8>, ReadFault> {
+    fn front(&self, alloc: Global, name: &str, most: usize) -> io::Result<Vec<u8>> {
         let file = File::open(self.runtime, name)?;
         let mut bytes = Vec::new(alloc);
         file.take(most as u64).read_to_end(&mut bytes)?;
@@ -69,10 +48,19 @@ impl<'a, R: Files> Reader for SystemFiles<'a, R> {
     }
 }
 
-impl<'a, R: Files> FileWriter for SystemFiles<'a, R> {
+impl<R: Files> Reader for SystemFiles<'_, R> {
+    ghost gives = { λ _ _ _ _. Unit {0} };
+
+    fn read<'a>(&self, alloc: Global, name: &'a str, most: usize) -> Result<Vec<u8>, IoFault<'a>> {
+        self.front(alloc, name, most)
+            .map_err(|reason| IoFault::unread(name, reason))
+    }
+}
+
+impl<R: Files> FileWriter for SystemFiles<'_, R> {
     ghost takes = { λ _ _ _. Unit {0} };
 
-    fn write(&self, name: &str, bytes: &[u8]) -> io::Result<()> {
-        fs::write(self.runtime, name, bytes)
+    fn write<'a>(&self, name: &'a str, bytes: &[u8]) -> Result<(), IoFault<'a>> {
+        fs::write(self.runtime, name, bytes).map_err(|reason| IoFault::unwritten(name, reason))
     }
 }

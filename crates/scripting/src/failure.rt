@@ -1,24 +1,17 @@
 // Why nothing comes of a script.
 
-ghost use Rattle.std.specs.Prelude.{IfSome};
-ghost use Rattle.sentences.specs.RefusalPlaces.{IsPlaceOf};
-
-use limits::MAX_MODULE_BYTES;
+use files::IoFault;
 use loader::Refusal;
 use script::ScriptFault;
-use sentences::{RefusalAccount, explain};
-use std::alloc::{AllocError, AllocFailed, Global};
-use std::io::{self, ErrorKind};
-use world::WorldFault;
+use sentences::{RefusalAccount, account_of};
+use std::alloc::Global;
 
 /// Why nothing comes of a script.
 #[derive(Drop)]
 pub enum ScriptFailure {
-    /// There is not enough memory.
-    Memory,
-    /// The log can't be written, for this reason.
-    Output(io::Error),
-    /// The module of this number is no guest. Of it is said what `account_of` says.
+    /// The memory or the output stands in the way.
+    Io(IoFault<'static>),
+    /// The module of this number is no guest. Of more bytes than a module may have nothing more is said.
     Refused {
         module: usize,
         refusal: Refusal,
@@ -31,21 +24,11 @@ pub enum ScriptFailure {
     },
 }
 
-/// Where these bytes are refused so, and why; of more bytes than a module may have nothing is said.
-pub fn account_of(alloc: Global, bytes: &[u8], refusal: Refusal) -> Option<RefusalAccount>
-    ensures { IfSome result (λ account. IfSome account.place (IsPlaceOf refusal bytes.now)) }
-{
-    if bytes.len() > MAX_MODULE_BYTES {
-        return None;
-    }
-    Some(explain(refusal, alloc, bytes))
-}
-
 impl ScriptFailure {
     /// The text is no script.
     pub(crate) fn no_script(fault: ScriptFault, told: Option<String>) -> ScriptFailure {
         match fault {
-            ScriptFault::Memory => ScriptFailure::Memory,
+            ScriptFault::Memory => ScriptFailure::Io(IoFault::Memory),
             _ => ScriptFailure::NoScript { fault, told },
         }
     }
@@ -58,41 +41,21 @@ impl ScriptFailure {
         refusal: Refusal,
     ) -> ScriptFailure {
         match refusal {
-            Refusal::Memory => ScriptFailure::Memory,
+            Refusal::Memory => ScriptFailure::Io(IoFault::Memory),
             _ => ScriptFailure::Refused {
                 module,
                 refusal,
-                account: account_of(alloc, bytes, refusal),
+                account: account_of(refusal, alloc, bytes),
             },
         }
     }
 }
 
-/// A world is refused only if memory runs out.
-impl From<WorldFault> for ScriptFailure {
-    fn from(_fault: WorldFault) -> Self {
-        ScriptFailure::Memory
-    }
-}
-
-impl From<AllocError> for ScriptFailure {
-    fn from(_error: AllocError) -> Self {
-        ScriptFailure::Memory
-    }
-}
-
-impl<T: Drop> From<AllocFailed<T>> for ScriptFailure {
-    fn from(_error: AllocFailed<T>) -> Self {
-        ScriptFailure::Memory
-    }
-}
-
-/// What is written can't be, or there is no memory to write it.
-impl From<io::Error> for ScriptFailure {
-    fn from(error: io::Error) -> Self {
-        match error.kind() {
-            ErrorKind::OutOfMemory => ScriptFailure::Memory,
-            _ => ScriptFailure::Output(error),
-        }
+impl<E> From<E> for ScriptFailure
+where
+    IoFault<'static>: From<E>,
+{
+    fn from(error: E) -> Self {
+        ScriptFailure::Io(IoFault::from(error))
     }
 }

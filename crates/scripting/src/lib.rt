@@ -14,5 +14,5 @@ mod running;
 mod stops;
 
 pub use end::ScriptEnd;
-pub use failure::{ScriptFailure, account_of};
+pub use failure::ScriptFailure;
 pub use running::run_script;

@@ -7,6 +7,7 @@ ghost use Rattle.world.specs.Making.{HasDepth, setting_from, settings_from};
 ghost use Rattle.scripting.specs.Opening.{IsAcceptedModule, bytes_loaded, IsPlanned, ArePlanned, IsWorldOf};
 
 use crate::failure::ScriptFailure;
+use files::IoFault;
 use imports::Linked;
 use loader::load;
 use script::{LoopPlan, Plan};
@@ -83,5 +84,9 @@ pub fn world_of(alloc: Global, plan: &Plan) -> Result<World, ScriptFailure>
         loops,
         workers: plan.workers,
     };
-    Ok(World::new(alloc, config)?)
+    match World::new(alloc, config) {
+        Ok(world) => Ok(world),
+        // it is refused only if memory runs out
+        Err(_) => Err(ScriptFailure::Io(IoFault::Memory)),
+    }
 }

@@ -31,6 +31,6 @@ pub use meanings::meaning;
 pub use mismatch::Mismatch;
 pub use missing::{Counts, Missing};
 pub use ran::{Ran, What};
-pub use refusal::{RefusalAccount, explain, place_of};
+pub use refusal::{RefusalAccount, account_of, explain};
 pub use stopping::{Allowed, Reason, Unfinished, ending_of, tell_place, tell_stopped, unit_of};
 pub use warning::{Warning, warn, warn_refused, warnings};

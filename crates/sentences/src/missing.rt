@@ -44,24 +44,16 @@ fn write_step<W: fmt::Write>(f: &mut fmt::Formatter<W>, step: Step) -> fmt::Resu
     }
 }
 
-fn write_loop<W: fmt::Write>(
+/// Writes that there is no loop or worker of this number, of so many.
+fn write_absent<W: fmt::Write>(
     f: &mut fmt::Formatter<W>,
+    name: &str,
     number: u32,
-    counts: Counts,
+    count: usize,
 ) -> fmt::Result {
-    let loops = counts.loops;
-    write!(f, "there is no loop {number}; loops of the script: {loops}")
-}
-
-fn write_worker<W: fmt::Write>(
-    f: &mut fmt::Formatter<W>,
-    number: u32,
-    counts: Counts,
-) -> fmt::Result {
-    let workers = counts.workers;
     write!(
         f,
-        "there is no worker {number}; workers of the script: {workers}"
+        "there is no {name} {number}; {name}s of the script: {count}"
     )
 }
 
@@ -71,7 +63,7 @@ impl fmt::Display for Missing {
         f.write_str(": ")?;
         match self.step {
             Step::Take(number) | Step::Start(number) | Step::Finish(number) => {
-                write_worker(f, number, self.counts)
+                write_absent(f, "worker", number, self.counts.workers as usize)
             }
             Step::Send(loop_no, number) if (loop_no as usize) < self.counts.loops => {
                 write!(
@@ -84,7 +76,7 @@ impl fmt::Display for Missing {
             | Step::Collect(number)
             | Step::Send(number, _)
             | Step::Cancel(number, _)
-            | Step::Clock(number, _) => write_loop(f, number, self.counts),
+            | Step::Clock(number, _) => write_absent(f, "loop", number, self.counts.loops),
         }
     }
 }

@@ -9,6 +9,7 @@ use crate::meanings::meaning;
 use crate::reason::Reason;
 use crate::undecoded::undecoded;
 use crate::unlinked::unlinked;
+use limits::MAX_MODULE_BYTES;
 use loader::Refusal;
 use places::{Place, is_object};
 use std::alloc::Global;
@@ -58,9 +59,12 @@ pub fn explain(refusal: Refusal, alloc: Global, bytes: &[u8]) -> RefusalAccount
     RefusalAccount { place, reason }
 }
 
-/// Where these bytes are refused so, as `explain` says it.
-pub fn place_of(refusal: Refusal, alloc: Global, bytes: &[u8]) -> Option<Place>
-    ensures { IfSome result (IsPlaceOf refusal bytes.now) }
+/// Where these bytes are refused so, and why; of more bytes than a module may have nothing is said.
+pub fn account_of(refusal: Refusal, alloc: Global, bytes: &[u8]) -> Option<RefusalAccount>
+    ensures { IfSome result (λ account. IfSome account.place (IsPlaceOf refusal bytes.now)) }
 {
-    explain(refusal, alloc, bytes).place
+    if bytes.len() > MAX_MODULE_BYTES {
+        return None;
+    }
+    Some(explain(refusal, alloc, bytes))
 }

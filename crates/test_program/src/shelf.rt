@@ -1,6 +1,6 @@
 // The files that a list and its commands make.
 
-use files::{FileWriter, ReadFault, Reader};
+use files::{FileWriter, IoFault, Reader};
 use std::alloc::{AllocError, Global};
 use std::cell::RefCell;
 use std::io::{self, ErrorKind};
@@ -24,8 +24,9 @@ fn wrong() -> io::Error {
     io::Error::from(ErrorKind::InvalidData)
 }
 
-fn absent() -> ReadFault {
-    ReadFault::File(io::Error::from(ErrorKind::NotFound))
+fn absent(name: &str) -> IoFault<'_> {
+    let reason = io::Error::from(ErrorKind::NotFound);
+    IoFault::Unread { name, reason }
 }
 
 impl Shelf {
@@ -78,7 +79,7 @@ impl Shelf {
         alloc: Global,
         name: &str,
         most: usize,
-    ) -> Option<Result<Vec<u8>, ReadFault>> {
+    ) -> Option<Result<Vec<u8>, AllocError>> {
         let written = self.written.try_borrow().ok()?;
         let kept = written
             .iter()
@@ -96,37 +97,42 @@ impl Shelf {
     }
 }
 
-fn front(alloc: Global, bytes: &[u8], most: usize) -> Result<Vec<u8>, ReadFault> {
-    Vec::from_slice(alloc, &bytes[..bytes.len().min(most)]).map_err(|_| ReadFault::Memory)
+fn front(alloc: Global, bytes: &[u8], most: usize) -> Result<Vec<u8>, AllocError> {
+    Vec::from_slice(alloc, &bytes[..bytes.len().min(most)])
 }
 
 impl Reader for Shelf {
     ghost gives = { λ _ _ _ _. Unit {0} };
 
-    fn read(&self, alloc: Global, name: &str, most: usize) -> Result<Vec<u8>, ReadFault> {
+    fn read<'a>(&self, alloc: Global, name: &'a str, most: usize) -> Result<Vec<u8>, IoFault<'a>> {
         if let Some(found) = self.find_written(alloc, name, most) {
-            return found;
+            return Ok(found?);
         }
         match name.strip_prefix("hex:") {
             Some(digits) => match hex::decode(alloc, digits) {
-                Ok(bytes) => front(alloc, bytes.as_slice(), most),
-                Err(_) => Err(absent()),
+                Ok(bytes) => Ok(front(alloc, bytes.as_slice(), most)?),
+                Err(_) => Err(absent(name)),
             },
             None => match self.named(name) {
-                Some(bytes) => front(alloc, bytes, most),
-                None => Err(absent()),
+                Some(bytes) => Ok(front(alloc, bytes, most)?),
+                None => Err(absent(name)),
             },
         }
     }
+}
+
+fn unwritten(name: &str, kind: ErrorKind) -> IoFault<'_> {
+    let reason = io::Error::from(kind);
+    IoFault::Unwritten { name, reason }
 }
 
 /// Under `/nowhere/` no file can be made.
 impl FileWriter for Shelf {
     ghost takes = { λ _ _ _. Unit {0} };
 
-    fn write(&self, name: &str, bytes: &[u8]) -> io::Result<()> {
+    fn write<'a>(&self, name: &'a str, bytes: &[u8]) -> Result<(), IoFault<'a>> {
         if name.starts_with("/nowhere/") {
-            return Err(io::Error::from(ErrorKind::NotFound));
+            return Err(unwritten(name, ErrorKind::NotFound));
         }
         let kept = Kept {
             name: String::from_str(self.alloc, name)?,
@@ -134,7 +140,7 @@ impl FileWriter for Shelf {
         };
         match self.written.try_borrow_mut() {
             Ok(mut written) => Ok(written.push(kept)?),
-            Err(_) => Err(io::Error::from(ErrorKind::ResourceBusy)),
+            Err(_) => Err(unwritten(name, ErrorKind::ResourceBusy)),
         }
     }
 }

@@ -9,11 +9,7 @@ use crate::status::OK;
 pub fn copy_front<T: Copy>(from: &[T], into: &mut [T])
     ensures { into.new ≡ copied from.now into.old }
 {
-    let count = if from.len() < into.len() {
-        from.len()
-    } else {
-        into.len()
-    };
+    let count = from.len().min(into.len());
     into[..count].copy_from_slice(&from[..count]);
 }
 

@@ -5,7 +5,7 @@ ghost use Rattle.wasmloop_c.specs.Numbers.{stage_number, code_number};
 
 use loader::Refusal;
 use places::{Part, Place};
-use sentences::place_of;
+use sentences::explain;
 use std::alloc::Global;
 
 /// Why bytes are no guest, and where.
@@ -125,7 +125,8 @@ impl Fault {
         ensures { (result.stage ≡ stage_number refusal) × (result.code ≡ code_number refusal) }
     {
         let fault = Fault::nowhere(refusal);
-        match place_of(refusal, alloc, bytes) {
+        let place = explain(refusal, alloc, bytes).place;
+        match place {
             Some(place) => fault.at_place(place),
             None => fault,
         }

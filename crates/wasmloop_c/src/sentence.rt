@@ -9,17 +9,9 @@ use crate::copying::copy_bytes;
 use crate::status::{MEMORY, NONE, OK};
 use loader::{Refusal, load};
 use sentences::explain;
-use std::alloc::{AllocError, Global};
+use std::alloc::Global;
 
-/// The sentence on a refusal of these bytes, as `check` prints it.
-fn sentence(alloc: Global, refusal: Refusal, bytes: &[u8]) -> Result<String, AllocError> {
-    let account = explain(refusal, alloc, bytes);
-    let mut text = String::new(alloc);
-    write!(text, "{account}")?;
-    Ok(text)
-}
-
-/// Copies the sentence on why bytes are no guest, as far as there is room.
+/// Copies the sentence on why bytes are no guest, as `check` prints it, as far as there is room.
 #[unsafe(no_mangle)]
 pub extern "C" fn wasmloop_rt_explain(
     alloc: Global,
@@ -37,7 +29,8 @@ pub extern "C" fn wasmloop_rt_explain(
         Err(Refusal::Memory) => return MEMORY,
         Err(refusal) => refusal,
     };
-    let Ok(text) = sentence(alloc, refusal, bytes) else {
+    let account = explain(refusal, alloc, bytes);
+    let Ok(text) = format!(in alloc; "{account}") else {
         return MEMORY;
     };
     copy_bytes(text.as_bytes(), into, count)

@@ -9,14 +9,8 @@ use crate::handle::{Handle, on};
 use crate::status::{KIND, MEMORY, NONE};
 use crate::thing::Thing;
 use imports::Linked;
-use sentences::{Warning, warnings};
-use std::alloc::{AllocError, Global};
-
-fn sentence(alloc: Global, warning: Warning) -> Result<String, AllocError> {
-    let mut text = String::new(alloc);
-    write!(text, "{warning}")?;
-    Ok(text)
-}
+use sentences::warnings;
+use std::alloc::Global;
 
 fn tell_warning(
     alloc: Global,
@@ -31,7 +25,7 @@ fn tell_warning(
     let Some(warning) = found.iter().flatten().nth(number as usize) else {
         return NONE;
     };
-    let Ok(text) = sentence(alloc, *warning) else {
+    let Ok(text) = format!(in alloc; "{warning}") else {
         return MEMORY;
     };
     copy_bytes(text.as_bytes(), into, count)

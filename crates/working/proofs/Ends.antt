@@ -2,44 +2,23 @@
 use Rattle.std.proofs.Common.{◌≡◌, ℕ, List, refl}
 use Rattle.validate.specs.Valid.{ValidModule}
 use Rattle.order.specs.Work.{WorkOrder, WorkEnd, Done, Trap, Depth, Spent, NoMemory, Works, Uses, IsTheEnd, IsEndOf}
-use Rattle.order.specs.declared.order.Order.{Order}
-use Rattle.order.specs.Orders.{order_of}
-use Rattle.words.specs.declared.command.WorkRequest.{WorkRequest}
-use Rattle.syntax.specs.Loaded.{Loaded}
-use Rattle.std.specs.Arc.{arc_value}
 use Rattle.working.specs.declared.report.WorkReport.{WorkReport}
 use Rattle.working.specs.declared.report.WorkReport.TheVariants as report
-use Rattle.working.specs.Working.{IsResult, asked_order}
+use Rattle.working.specs.Working.{IsResult}
 
--- an order of these parts is the one that was asked for
-pub is_asked : (o : Order) (work : WorkRequest) (read : List ℕ) (linked : Loaded) → o.loop_no ≡ 0 → o.request ≡ 1 → o.slot ≡ 0
-    → arc_value o.module ≡ linked → o.op ≡ work.operation → (arc_value o.bytes).items ≡ read → o.fuel ≡ work.fuel
-    → o.depth ≡ work.depth → order_of o ≡ asked_order work read linked
-is_asked o work read linked loop_no number slot loaded op bytes fuel depth = rw (loop_no, number, slot, loaded, op, bytes, fuel, depth) refl
-
--- a result, and where one thread computes one end at most it is the end
+-- a result, which is the end of the order
 pub record Result (o : WorkOrder) (end : WorkEnd) : Type 0 where
   pub value : ℕ
   pub bytes : List ℕ
   pub is : end ≡ Done value bytes
   pub computed : IsTheEnd o (Done value bytes)
 
-pub result : (o : WorkOrder) (end : WorkEnd) (used : ℕ) → ValidModule o.loaded.contents
-    → ((o : WorkOrder) (end other : WorkEnd) → ValidModule o.loaded.contents → Works o end → Works o other → end ≡ other)
-    → Uses o end used → IsResult end → Result o end
-result o (Done value bytes) used valid one uses is = record {
-  value = value;
-  bytes = bytes;
-  is = refl;
-  computed = record {
-    computed = (used, uses);
-    only = λ other works. one o other (Done value bytes) valid works (used, uses);
-  };
-}
-result o (Trap code) used valid one uses is = absurd is
-result o Depth used valid one uses is = absurd is
-result o Spent used valid one uses is = absurd is
-result o NoMemory used valid one uses is = absurd is
+pub result : (o : WorkOrder) (end : WorkEnd) → IsEndOf o end → IsResult end → Result o end
+result o (Done value bytes) computed is = record { value = value; bytes = bytes; is = refl; computed = computed }
+result o (Trap code) computed is = absurd is
+result o Depth computed is = absurd is
+result o Spent computed is = absurd is
+result o NoMemory computed is = absurd is
 
 -- any end is the order's, or tells of want of memory
 pub end_of_order : (o : WorkOrder) (end : WorkEnd) (used : ℕ) → ValidModule o.loaded.contents

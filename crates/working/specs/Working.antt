@@ -1,6 +1,7 @@
 -- What comes of a work order, and where it is written.
 use Rattle.std.specs.Prelude.{◌≡◌, ◌≤◌, ℕ, ◌+◌, List, length, string_bytes, Option, Result, IfOk, false}
 use Rattle.std.specs.Io.KnownBytes.{Appends}
+use Rattle.files.specs.declared.fault.IoFault.{IoFault}
 use Rattle.limits.specs.declared.TheConstants.{MAX_BYTES}
 use Rattle.syntax.specs.Loaded.{Loaded}
 use Rattle.order.specs.Work.{WorkOrder, WorkEnd, Done, Trap, Depth, Spent, NoMemory, IsTheEnd, IsEndOf}
@@ -9,7 +10,6 @@ use Rattle.words.specs.declared.command.WorkInput.TheVariants as input
 use Rattle.words.specs.declared.command.WorkOutput.{WorkOutput}
 use Rattle.words.specs.declared.command.WorkOutput.TheVariants as output
 use Rattle.words.specs.declared.command.WorkRequest.{WorkRequest}
-use Rattle.working.specs.declared.failure.WorkFailure.{WorkFailure}
 use Rattle.working.specs.declared.report.WorkReport.{WorkReport}
 use Rattle.working.specs.declared.report.WorkReport.TheVariants as report
 use Rattle.working.specs.Lines.{end_line, short_line}
@@ -86,9 +86,9 @@ pub record HasNoResult (takes : List ℕ → List ℕ → Type 0) (out_before ou
   pub printed : PutsOut takes work.output out_before out_after end
 
 -- this holds where a work order ended with a value and bytes
-abbrev pub OnResult : Result WorkReport WorkFailure → Type 0 → Type 0
+abbrev pub OnResult : Result WorkReport IoFault → Type 0 → Type 0
 OnResult end holds = IfOk end (λ r. r ≡ report.Result → holds)
 
 -- this holds where a work order ended otherwise
-abbrev pub OnStopped : Result WorkReport WorkFailure → Type 0 → Type 0
+abbrev pub OnStopped : Result WorkReport IoFault → Type 0 → Type 0
 OnStopped end holds = IfOk end (λ r. r ≡ report.Stopped → holds)

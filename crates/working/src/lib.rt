@@ -5,13 +5,11 @@
 //! the one end of the order, and the line of it was written. Begin with `specs/Working.antt`; the lines are `specs/Lines.antt`.
 #![tactic(auto)]
 
-mod failure;
 mod input;
 mod output;
 mod report;
 mod working;
 
-pub use failure::WorkFailure;
 pub use input::input_of;
 pub use report::WorkReport;
 pub use working::{tell_used, work};

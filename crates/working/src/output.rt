@@ -8,12 +8,11 @@ ghost use Rattle.order.specs.Work.{Done, Trap};
 ghost use Rattle.working.specs.Lines.{done_words, line, end_line, short_line};
 ghost use Rattle.working.specs.Working.{IsRaw, IsSaid, TakesReply, PutsOut};
 
-use crate::failure::WorkFailure;
 use events::trap::TrapCode;
-use files::FileWriter;
+use files::{FileWriter, IoFault};
 use order::Outcome;
 use std::alloc::Global;
-use std::io::{self, ErrorKind, Write};
+use std::io::{self, Write};
 use words::WorkOutput;
 
 /// Writes a result, as a signed number, and how many bytes there are.
@@ -33,79 +32,54 @@ fn write_bytes<O: Write>(value: u32, count: usize, digits: &str, out: &mut O) ->
 }
 
 /// Writes a result, with the digits of its bytes where there are any.
-fn tell_done<O: Write>(
+fn write_done<O: Write>(
     alloc: Global,
     value: u32,
     bytes: &[u8],
     out: &mut O,
-) -> Result<(), WorkFailure<'static>>
+) -> Result<(), IoFault<'static>>
     ensures { OnOk result (Appends (O.contents out.old) (O.contents out.new) (end_line (Done value bytes.now))) }
 {
     if bytes.is_empty() {
-        write_value(value, bytes.len(), out)?;
-        return Ok(());
+        return Ok(write_value(value, bytes.len(), out)?);
     }
     let digits = hex::encode(alloc, bytes)?;
-    write_bytes(value, bytes.len(), digits.as_str(), out)?;
-    Ok(())
+    Ok(write_bytes(value, bytes.len(), digits.as_str(), out)?)
 }
 
-fn tell_trap<O: Write>(trap: TrapCode, out: &mut O) -> Result<(), WorkFailure<'static>>
+fn write_trap<O: Write>(trap: TrapCode, out: &mut O) -> io::Result<()>
     ensures { OnOk result (Appends (O.contents out.old) (O.contents out.new) (end_line (Trap (trap_number trap)))) }
 {
     let code = trap.code();
-    writeln!(out, "trap {code}")?;
-    Ok(())
-}
-
-fn tell_end<O: Write>(line: &[u8], out: &mut O) -> Result<(), WorkFailure<'static>>
-    ensures { OnOk result (Appends (O.contents out.old) (O.contents out.new) line.now) }
-{
-    out.write_all(line)?;
-    Ok(())
+    writeln!(out, "trap {code}")
 }
 
 /// Writes the line of an end, of a result how many bytes it has and not which.
-fn tell_short<O: Write>(outcome: &Outcome, out: &mut O) -> Result<(), WorkFailure<'static>>
+fn write_short<O: Write>(outcome: &Outcome, out: &mut O) -> io::Result<()>
     ensures { OnOk result (Appends (O.contents out.old) (O.contents out.new) (short_line (end_of outcome.now))) }
 {
     match outcome {
-        Outcome::Done(value, bytes) => Ok(write_value(*value, bytes.len(), out)?),
-        Outcome::Trap(trap) => tell_trap(*trap, out),
-        Outcome::Depth => tell_end(b"depth\n", out),
-        Outcome::Spent => tell_end(b"spent\n", out),
-        Outcome::NoMemory => tell_end(b"nomemory\n", out),
+        Outcome::Done(value, bytes) => write_value(*value, bytes.len(), out),
+        Outcome::Trap(trap) => write_trap(*trap, out),
+        Outcome::Depth => out.write_all(b"depth\n"),
+        Outcome::Spent => out.write_all(b"spent\n"),
+        Outcome::NoMemory => out.write_all(b"nomemory\n"),
     }
 }
 
 /// Writes the line of an end, of a result with its bytes.
-fn tell_whole<O: Write>(
+fn write_whole<O: Write>(
     alloc: Global,
     outcome: &Outcome,
     out: &mut O,
-) -> Result<(), WorkFailure<'static>>
+) -> Result<(), IoFault<'static>>
     ensures { OnOk result (Appends (O.contents out.old) (O.contents out.new) (end_line (end_of outcome.now))) }
 {
     match outcome {
-        Outcome::Done(value, bytes) => tell_done(alloc, *value, bytes.as_slice(), out),
-        Outcome::Trap(_) | Outcome::Depth | Outcome::Spent | Outcome::NoMemory => tell_short(
+        Outcome::Done(value, bytes) => write_done(alloc, *value, bytes.as_slice(), out),
+        Outcome::Trap(_) | Outcome::Depth | Outcome::Spent | Outcome::NoMemory => Ok(write_short(
             outcome, out,
-        ),
-    }
-}
-
-/// Makes a file of these bytes.
-fn write_file<'a, W: FileWriter>(
-    name: &'a str,
-    bytes: &[u8],
-    writer: &W,
-) -> Result<(), WorkFailure<'a>>
-    ensures { OnOk result (W.takes writer.now name.now bytes.now) }
-{
-    match writer.write(name, bytes) {
-        Ok(()) => Ok(()),
-        Err(reason) if reason.kind() == ErrorKind::OutOfMemory => Err(WorkFailure::Memory),
-        Err(reason) => Err(WorkFailure::Unwritten { name, reason }),
+        )?),
     }
 }
 
@@ -114,21 +88,21 @@ fn keep_reply<'a, W: FileWriter>(
     outcome: &Outcome,
     name: &'a str,
     writer: &W,
-) -> Result<(), WorkFailure<'a>>
+) -> Result<(), IoFault<'a>>
     ensures { OnOk result (TakesReply (W.takes writer.now) name.now (end_of outcome.now)) }
 {
     match outcome {
-        Outcome::Done(_, bytes) => write_file(name, bytes.as_slice(), writer),
+        Outcome::Done(_, bytes) => writer.write(name, bytes.as_slice()),
         Outcome::Trap(_) | Outcome::Depth | Outcome::Spent | Outcome::NoMemory => Ok(()),
     }
 }
 
 /// Writes a result's bytes, and of another end nothing.
-fn write_raw<O: Write>(outcome: &Outcome, out: &mut O) -> Result<(), WorkFailure<'static>>
+fn write_raw<O: Write>(outcome: &Outcome, out: &mut O) -> io::Result<()>
     ensures { OnOk result (IsRaw (O.contents out.old) (O.contents out.new) (end_of outcome.now)) }
 {
     match outcome {
-        Outcome::Done(_, bytes) => Ok(out.write_all(bytes.as_slice())?),
+        Outcome::Done(_, bytes) => out.write_all(bytes.as_slice()),
         Outcome::Trap(_) | Outcome::Depth | Outcome::Spent | Outcome::NoMemory => Ok(()),
     }
 }
@@ -141,19 +115,19 @@ pub fn tell_outcome<'a, W: FileWriter, O: Write, E: Write>(
     writer: &W,
     out: &mut O,
     err: &mut E,
-) -> Result<(), WorkFailure<'a>>
+) -> Result<(), IoFault<'a>>
     ensures told { OnOk result (PutsOut (W.takes writer.now) output.entry.now (O.contents out.old) (O.contents out.new) (end_of outcome.now)) }
     ensures said { OnOk result (IsSaid output.entry.now (E.contents err.old) (E.contents err.new) (end_of outcome.now)) }
 {
     match output {
-        WorkOutput::Line => tell_whole(alloc, outcome, out),
+        WorkOutput::Line => write_whole(alloc, outcome, out),
         WorkOutput::File(name) => {
             keep_reply(outcome, name.as_str(), writer)?;
-            tell_short(outcome, out)
+            Ok(write_short(outcome, out)?)
         }
         WorkOutput::Standard => {
             write_raw(outcome, out)?;
-            tell_short(outcome, err)
+            Ok(write_short(outcome, err)?)
         }
     }
 }

@@ -4,14 +4,13 @@ ghost use Rattle.std.specs.Prelude.{◌≡◌, ◌≤◌, ◌↔◌, ℕ, IfOk, 
 ghost use Rattle.std.specs.Arc.{arc_value};
 ghost use Rattle.imports.specs.Linking.{ExportsFunction};
 ghost use Rattle.limits.specs.declared.TheConstants.{MAX_BYTES};
-ghost use Rattle.order.specs.Orders.{end_of};
-ghost use Rattle.order.specs.Work.{Uses};
+ghost use Rattle.order.specs.Orders.{end_of, order_of};
+ghost use Rattle.order.specs.Work.{IsEndOf};
 ghost use Rattle.working.specs.Working.{IsResult, OnResult, OnStopped, asked_order, HasComputed, HasNoResult};
 
-use crate::failure::WorkFailure;
 use crate::output::tell_outcome;
 use crate::report::WorkReport;
-use files::FileWriter;
+use files::{FileWriter, IoFault};
 use imports::{EntryPoint, Linked};
 use order::laws::one_end;
 use order::{Order, Outcome, Told, Trail};
@@ -29,14 +28,7 @@ fn request(
     work: &WorkRequest,
     bytes: Arc<Vec<u8>>,
 ) -> Result<Order, AllocError>
-    ensures loop_no { IfOk result (λ order. order.loop_no ≡ 0) }
-    ensures number { IfOk result (λ order. order.request ≡ 1) }
-    ensures slot { IfOk result (λ order. order.slot ≡ 0) }
-    ensures module { IfOk result (λ order. arc_value order.«module» ≡ linked) }
-    ensures operation { IfOk result (λ order. order.op ≡ work.now.operation) }
-    ensures bytes { IfOk result (λ order. arc_value order.bytes ≡ arc_value bytes) }
-    ensures fuel { IfOk result (λ order. order.fuel ≡ work.now.fuel) }
-    ensures depth { IfOk result (λ order. order.depth ≡ work.now.depth) }
+    ensures { IfOk result (λ order. order_of order ≡ asked_order work.now (arc_value bytes).items linked) }
 {
     let module = Arc::new(alloc, linked)?;
     Ok(Order {
@@ -70,8 +62,11 @@ fn reply_of(
 ) -> Result<Told, AllocError>
     requires there { (f : ℕ) × ExportsFunction linked.contents (codes "uv_work") f }
     requires short { length (arc_value bytes).items ≤ MAX_BYTES }
-    ensures { IfOk result (λ told. Uses (asked_order work.now (arc_value bytes).items linked) (end_of told.reply.outcome) told.used) }
+    ensures { IfOk result (λ told. IsEndOf (asked_order work.now (arc_value bytes).items linked) (end_of told.reply.outcome)) }
 {
+    one_end();
+    // valid, as its type says
+    let _contents = linked.valid().contents();
     let order = request(alloc, linked, work, bytes)?;
     Ok(order.run_told(alloc))
 }
@@ -154,15 +149,12 @@ pub fn work<'a, F: FileWriter, O: Write, E: Write>(
     files: &F,
     out: &mut O,
     err: &mut E,
-) -> Result<WorkReport, WorkFailure<'a>>
+) -> Result<WorkReport, IoFault<'a>>
     requires there { (f : ℕ) × ExportsFunction linked.contents (codes "uv_work") f }
     requires short { length (arc_value bytes).items ≤ MAX_BYTES }
     ensures computed { OnResult result (HasComputed (F.takes files.now) (O.contents out.old) (O.contents out.new) (E.contents err.old) (E.contents err.new) work.now (arc_value bytes).items linked) }
     ensures ended { OnStopped result (HasNoResult (F.takes files.now) (O.contents out.old) (O.contents out.new) work.now (arc_value bytes).items linked) }
 {
-    one_end();
-    // valid, as its type says
-    let _contents = linked.valid().contents();
     let told = reply_of(alloc, linked, work, bytes)?;
     tell_outcome(alloc, &told.reply.outcome, &work.output, files, out, err)?;
     say_more(&told, work, err);

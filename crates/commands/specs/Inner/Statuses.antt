@@ -1,20 +1,25 @@
 -- What the program ends with.
 use Rattle.std.specs.Prelude.{◌≡◌, ℕ, Result, Ok, Err, IfOk}
+use Rattle.files.specs.declared.fault.IoFault.{IoFault}
+use Rattle.files.specs.declared.fault.IoFault.TheVariants as fault
 use Rattle.commands.specs.declared.status.ExitStatus.{ExitStatus}
 use Rattle.commands.specs.declared.status.ExitStatus.TheVariants as status
 use Rattle.commands.specs.declared.failure.Failure.{Failure}
 use Rattle.commands.specs.declared.failure.Failure.TheVariants as failure
 
+abbrev pub status_of_io : IoFault → ExitStatus
+status_of_io (fault.TooLong _ _) = status.Usage
+status_of_io fault.Memory = status.Failed
+status_of_io (fault.Unread _ _) = status.Failed
+status_of_io (fault.Unwritten _ _) = status.Failed
+status_of_io (fault.Output _) = status.Failed
+
 abbrev pub status_of_failure : Failure → ExitStatus
-status_of_failure (failure.File _ _) = status.Failed
-status_of_failure failure.Memory = status.Failed
-status_of_failure (failure.Output _) = status.Failed
-status_of_failure (failure.Unwritten _ _) = status.Failed
+status_of_failure (failure.Io io) = status_of_io io
 status_of_failure (failure.Script _ _) = status.Failed
 status_of_failure (failure.Refused _ _ _) = status.Refused
 status_of_failure (failure.NoFunction _ _) = status.Usage
 status_of_failure (failure.Arguments _) = status.Usage
-status_of_failure (failure.TooLong _) = status.Usage
 
 -- the status of a command that ended so
 abbrev pub status_of_end : Result ExitStatus Failure → ExitStatus

@@ -1,13 +1,19 @@
-use Rattle.std.proofs.Common.{ap}
+use Rattle.std.proofs.Common.{ap, subst}
 use Rattle.std.specs.Arc.{arc_value}
-use Rattle.working.proofs.Ends.{is_asked}
+use Rattle.syntax.specs.Loaded.{Loaded}
+use Rattle.validate.specs.Valid.{ValidModule}
+use Rattle.order.specs.Orders.{end_of}
+use Rattle.order.specs.Work.{WorkOrder}
+use Rattle.working.specs.Working.{asked_order}
+use Rattle.working.proofs.Ends.{end_of_order}
 use Rattle.working.proofs.working.reply_of.Goals as goal
 
 pub run_told-requires-clause-work : goal.run_told-requires-clause-work
-run_told-requires-clause-work c = rw c.in_ok-order.ensures.module c.requires.there
+run_told-requires-clause-work c = rw (ap (λ (o : WorkOrder). o.loaded) c.in_ok-order.ensures) c.requires.there
 
 pub returns : goal.returns
 returns c =
-    let e = c.in_ok-order.ensures in
-    let asked = is_asked c.in_ok-order.order c.args.work.now (arc_value c.args.bytes).items c.args.linked e.loop_no e.number e.slot e.module e.operation (ap (λ v. v.items) e.bytes) e.fuel e.depth in
-    rw asked at c.run_told.ensures.used
+    let asked = asked_order c.args.work.now (arc_value c.args.bytes).items c.args.linked in
+    let valid = subst (λ (l : Loaded). ValidModule l.contents) c.valid.ensures.same c.contents-contents.ensures.valid in
+    end_of_order asked (end_of c.run_told.result.reply.outcome) c.run_told.result.used valid c.one_end.ensures
+    (rw c.in_ok-order.ensures at c.run_told.ensures.used)

@@ -1,19 +1,14 @@
-use Rattle.std.proofs.Common.{subst}
 use Rattle.std.specs.Arc.{arc_value}
-use Rattle.syntax.specs.Loaded.{Loaded}
-use Rattle.validate.specs.Valid.{ValidModule}
 use Rattle.order.specs.Orders.{end_of}
 use Rattle.working.specs.Working.{asked_order}
-use Rattle.working.proofs.Ends.{result, end_of_order, not_both}
+use Rattle.working.proofs.Ends.{result, not_both}
 use Rattle.working.proofs.working.work.Goals as goal
 
 pub returns-clause-computed : goal.returns-clause-computed
 returns-clause-computed g c = λ is.
-    let told = c.in_ok-told.told in
-    let valid = subst (λ (l : Loaded). ValidModule l.contents) c.valid.ensures.same c.contents-contents.ensures.valid in
     let is_result = c.report_of.ensures.0 is in
-    let end = result (asked_order c.args.work.now (arc_value c.args.bytes).items c.args.linked) (end_of told.reply.outcome) told.used valid
-    c.one_end.ensures c.in_ok-told.ensures is_result in
+    let end = result (asked_order c.args.work.now (arc_value c.args.bytes).items c.args.linked) (end_of c.in_ok-told.told.reply.outcome)
+    c.in_ok-told.ensures is_result in
     record {
       value = end.value;
       bytes = end.bytes;
@@ -23,13 +18,9 @@ returns-clause-computed g c = λ is.
     }
 
 pub returns-clause-ended : goal.returns-clause-ended
-returns-clause-ended g c = λ is.
-    let told = c.in_ok-told.told in
-    let valid = subst (λ (l : Loaded). ValidModule l.contents) c.valid.ensures.same c.contents-contents.ensures.valid in
-    record {
-      end = end_of told.reply.outcome;
-      computed = end_of_order (asked_order c.args.work.now (arc_value c.args.bytes).items c.args.linked) (end_of told.reply.outcome) told.used valid
-          c.one_end.ensures c.in_ok-told.ensures;
-      no_result = λ end. not_both (c.report_of.ensures.1 end) is;
-      printed = c.in_ok-tell_outcome.ensures.told;
-    }
+returns-clause-ended g c = λ is. record {
+  end = end_of c.in_ok-told.told.reply.outcome;
+  computed = c.in_ok-told.ensures;
+  no_result = λ end. not_both (c.report_of.ensures.1 end) is;
+  printed = c.in_ok-tell_outcome.ensures.told;
+}

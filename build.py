@@ -29,7 +29,7 @@ import time
 from concurrent.futures import FIRST_COMPLETED, ThreadPoolExecutor, wait
 
 TOP = os.path.dirname(os.path.realpath(__file__))
-# Libraries that are built as static ones, for C.
+# Libraries that are built as static ones, for C; what tools/statement.py says of them is of this proof.
 FOR_C = ("wasmloop_c",)
 # What one job of a check takes at most, as measured, in bytes.
 JOB = 1_500_000_000

@@ -16,9 +16,11 @@ import subprocess
 import sys
 
 TOP = os.path.dirname(os.path.dirname(os.path.realpath(__file__)))
+sys.dont_write_bytecode = True
+sys.path.insert(0, TOP)
+from build import FOR_C  # noqa: E402
+
 MADE = f"{TOP}/dist/PROOF.json"
-# Proved by build.py as the static library that is shipped, which `rt ci` proves as any other.
-LIBRARY = "wasmloop_c"
 # What of a verdict is said of a crate, by the words that stand there. Axioms are C functions whose contracts are taken as written.
 TOLD = {"functions": int, "axioms": int, "may-wait": int, "may-abort": int}
 
@@ -102,7 +104,7 @@ def gate(paths, known):
     if refused != every or not re.search(r"^[1-9]\d* passed, 0 failed$", logs[-1], re.M):
         sys.exit(f"{paths[-1]}: {refused} of {every} edits refused, and no last line that says that nothing failed")
     found = {name: verdict(part) for log in logs for name, part in parts_of(log).items()}
-    return lambda crate: built(crate) if crate == LIBRARY else found[crate] if crate in found else known[crate]
+    return lambda crate: built(crate) if crate in FOR_C else found[crate] if crate in found else known[crate]
 
 
 def write(made):

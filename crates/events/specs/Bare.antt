@@ -1,4 +1,4 @@
--- How a run ended that has no results to give.
+-- How a run ended, without the results.
 use Rattle.std.specs.Prelude.{◌≡◌, []}
 use Rattle.events.specs.declared.ended.BareEnded.{BareEnded}
 use Rattle.events.specs.declared.ended.BareEnding.{BareEnding}

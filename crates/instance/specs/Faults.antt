@@ -1,4 +1,4 @@
--- Why there is no instance of a module.
+-- Why an instance of a module could not be created.
 use Rattle.std.specs.Prelude.{ℕ, All}
 use Rattle.syntax.specs.declared.contents.Contents.{Contents}
 use Rattle.validate.specs.Segments.{ElementFits, DataFits, SegmentsFit}

@@ -1,4 +1,4 @@
--- Which stores are of a module (WebAssembly Core 1.0, appendix, store validity).
+-- Which stores belong to a module (WebAssembly Core 1.0, appendix, store validity).
 use Rattle.std.specs.Prelude.{◌≡◌, ℕ, ◌*◌, ◌<◌, ◌≤◌, max, List, length, map, Option, Some, None, All}
 use Rattle.limits.specs.declared.TheConstants.{PAGE_SIZE}
 use Rattle.syntax.specs.declared.types.Value.{Value}

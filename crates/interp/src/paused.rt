@@ -1,12 +1,15 @@
 // A call between two slices.
 
-ghost use Rattle.std.specs.Prelude.{◌≡◌, ◌+◌, ◌^◌, ◌<◌, ◌≤◌};
+ghost use Rattle.std.specs.Prelude.{◌≡◌, ◌+◌, ◌^◌, ◌<◌, ◌≤◌, length, IfSome};
 ghost use Rattle.limits.specs.declared.TheConstants.{MAX_DEPTH};
+ghost use Rattle.instance.specs.Stops.{stop_of};
 
 use engine::At;
+use instance::stack::{Caller, Last, Stop};
 
 /// A call of a defined function between two slices: of which, and with how many calls open at most, where it goes on, how much fuel it has
-/// used, and how much is left. What it works on stays in the slots, the callers and the state of its instance.
+/// used, and how much is left; and where it stands, once something of it has run. What it works on stays in the slots, the callers and the
+/// state of its instance.
 #[derive(Clone, Copy)]
 pub struct Paused {
     pub(crate) function: u32,
@@ -14,6 +17,7 @@ pub struct Paused {
     pub(crate) at: At,
     pub(crate) used: u64,
     pub(crate) left: u64,
+    pub(crate) last: Option<Last>,
     pub ghost deep: { (1 ≤ depth) × (depth ≤ MAX_DEPTH) },
     pub ghost sum: { used + left < 2 ^ 64 },
 }
@@ -24,5 +28,14 @@ impl Paused {
         ensures { result ≡ self.now.used }
     {
         self.used
+    }
+
+    /// Where it stands over these callers, once something of it has run.
+    pub fn stop<'a>(&self, frames: &'a [Caller]) -> Option<Stop<'a>>
+        requires { IfSome self.now.last (λ l. l.depth ≤ length frames.now) }
+        ensures { result ≡ stop_of self.now.last frames.now }
+    {
+        let last = self.last?;
+        Some(Stop::of(last, frames))
     }
 }

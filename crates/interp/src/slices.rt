@@ -1,6 +1,6 @@
 // Calls in slices.
 
-ghost use Rattle.std.specs.Prelude.{◌≡◌, ℕ, List, ◌+◌, ◌<◌, ◌≤◌, ◌↔◌, IsTrue, length, None, IfSome};
+ghost use Rattle.std.specs.Prelude.{◌≡◌, ℕ, List, ◌+◌, ◌<◌, ◌≤◌, ◌↔◌, IsTrue, length, None, IsSome, IfSome};
 ghost use Rattle.syntax.specs.declared.types.Value.{Value as Argument};
 ghost use Rattle.validate.specs.Valid.{ValidModule};
 ghost use Rattle.validate.specs.Targets.{AreTables};
@@ -70,6 +70,7 @@ pub fn begin<H: Host>(
         at,
         used: 0,
         left: call.fuel,
+        last: None,
     }
 }
 
@@ -81,7 +82,8 @@ fn is_paused(ending: &Ending, granted: u64, left: u64) -> bool
 }
 
 /// Goes on with a call for at most the units of the slice. If it is over then, its ending is returned, with all fuel that it has used
-/// since it began; else it has used exactly so many units more, and some are left.
+/// since it began; else it has used exactly so many units more, some are left, and it stands where a run with just so much fuel as it has
+/// used is over as spent.
 pub fn go_on<H: Host>(
     contents: &Contents,
     tables: &[SideTable],
@@ -102,6 +104,7 @@ pub fn go_on<H: Host>(
     ensures paused { result ≡ None → (s : Store) (before : H) (args : List Argument) (fuel : ℕ)
         → RunIsPaused contents.now tables.now H.moves s before args fuel slice.old.paused slots.old frames.old state.old host.old
         → RunIsPaused contents.now tables.now H.moves s before args fuel slice.new.paused slots.new frames.new state.new host.new }
+    ensures stands { result ≡ None → IsSome slice.new.paused.last }
     ensures call { (slice.new.paused.function ≡ slice.old.paused.function) × (slice.new.paused.depth ≡ slice.old.paused.depth) }
     ensures slice { result ≡ None → UsesAll slice.old.paused slice.old.units slice.new.paused }
     ensures last { IfSome result (λ o. UsesSome slice.old.paused slice.old.units o.ended.used) }
@@ -137,6 +140,7 @@ pub fn go_on<H: Host>(
             at: place.at,
             used: paused.used + granted,
             left: paused.left - granted,
+            last,
         };
         return None;
     }

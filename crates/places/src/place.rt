@@ -99,10 +99,8 @@ impl fmt::Display for Place {
                 part: Some(part),
             } => write!(f, "byte {at} ({part})"),
             Place::Byte { at, part: None } => write!(f, "byte {at}"),
-            Place::Section { id, at } => write!(f, "section {id}, which begins at byte {at}"),
-            Place::Function { number, at } => {
-                write!(f, "function {number}, whose body begins at byte {at}")
-            }
+            Place::Section { id, at } => write!(f, "section {id} at byte {at}"),
+            Place::Function { number, at } => { write!(f, "function {number}, body at byte {at}") }
             Place::Operation {
                 function,
                 number,
@@ -111,7 +109,7 @@ impl fmt::Display for Place {
             } => {
                 write!(
                     f,
-                    "function {function}, operation {number} ({name}) at byte {at}"
+                    "function {function}, instruction {number} ({name}) at byte {at}"
                 )
             }
             Place::Import {

@@ -1,4 +1,4 @@
--- Rules of an instruction that don't speak of operands: what it names, where a memory is reached, and what it sets.
+-- Rules of an instruction that do not concern operands: the indexes that it names, its memory access, and what it sets.
 use Rattle.std.specs.Prelude.{◌≡◌, ◌^◌, ◌≤◌, All, Some, IsSome, slice_get}
 use Rattle.syntax.specs.declared.types.BlockType.{BlockType}
 use Rattle.syntax.specs.declared.instruction.Instr.{Instr}

@@ -1,4 +1,4 @@
-use Rattle.std.proofs.Common.{◌-◌, List, take, arith}
+use Rattle.std.proofs.Common.{◌-◌, List, take, refl, arith}
 use Rattle.instance.specs.declared.stack.Caller.{Caller}
 use Rattle.engine.specs.Programs.{program_of}
 use Rattle.engine.specs.Stepping.{standing}
@@ -30,4 +30,5 @@ returns-clause-paused g c =
       paid = omega arith;
       comes = comes_nowhere m (program_of m c.args.tables.now) call.depth g.H.Host.moves c.requires.typed.type.results
           (standing c.open-at.result c.open-at.new.slots callers c.args.state.now call.fuel) c.args.host.now;
+      stands = refl;
     }

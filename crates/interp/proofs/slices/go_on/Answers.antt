@@ -1,6 +1,6 @@
 use Rattle.std.proofs.Common.{◌≡◌, ℕ, ◌+◌, ◌-◌, ◌<◌, ◌≤◌, ◌↔◌, IsTrue, Bool, take, Option, true, false, sym, subst, arith}
 use Rattle.events.specs.declared.ended.Ending.TheVariants as ending
-use Rattle.interp.proofs.Slots.Slicing.{going, paused_again, is_over, slice_returns_typed, slice_within, slice_typed, slice_fit, slice_few_results}
+use Rattle.interp.proofs.Slots.Slicing.{going, paused_again, is_over, stands_there, slice_returns_typed, slice_all, slice_kept, slice_within, slice_typed, slice_fit, slice_few_results}
 use Rattle.instance.specs.Stops.{Halt}
 use Rattle.interp.specs.Slices.{RunIsOver}
 use Rattle.interp.specs.Slots.Hosted.{IsUnderWay}
@@ -59,10 +59,23 @@ returns-then-is_paused-clause-paused g c _ s before args fuel q =
     let a = (goal.at.returns-then-is_paused-clause-paused g c).After-run_within-last in
     let paused = c.is_paused.ensures.0 c.if-is_paused.true in
     let there = c.run_within-last.ensures.spent paused.0 in
+    let n = c.run_within-last.new in
+    let all = slice_all _ _ _ _ _ _ c.args.host.now (began g a) _ _ _ _ _ c.run_within-last.ensures.ends paused.0 in
+    let stands =
+    stands_there c.args.contents.now c.requires.valid c.args.tables.now c.requires.agree g.H.Host.moves c.args.slice.now.paused
+    c.as_slice.result.now c.in-Some.func_type.now c.in-Some.ensures c.as_slice.ensures c.new.result c.new.ensures
+    c.args.slots.now c.args.frames.now c.args.state.now c.args.host.now
+    s before args fuel q c.min-granted.result (few g a) n.ended c.run_within-last.result _ n.frames n.state n.host paused.0 all c.run_within-last.ensures.ends
+    c.run_within-last.ensures.stop c.run_within-last.ensures.callers in
     paused_again c.args.contents.now c.requires.valid c.args.tables.now c.requires.agree g.H.Host.moves c.args.slice.now.paused
     c.as_slice.result.now c.in-Some.func_type.now c.in-Some.ensures c.as_slice.ensures c.new.result c.new.ensures
     c.args.slots.now c.args.frames.now c.args.state.now c.args.host.now
-    s before args fuel q c.min-granted.result (few g a) _ _ _ _ _ _ _ _ there.0 there.1
+    s before args fuel q c.min-granted.result (few g a) _ _ _ _ _ _ _ _ c.run_within-last.result stands there.0 there.1
+
+pub returns-then-is_paused-clause-stands : goal.returns-then-is_paused-clause-stands
+returns-then-is_paused-clause-stands g c none =
+    let a = (goal.at.returns-then-is_paused-clause-stands g c).After-run_within-last in
+    slice_kept _ _ _ _ _ _ c.args.host.now (began g a) _ _ _ _ _ c.run_within-last.ensures.ends (c.is_paused.ensures.0 c.if-is_paused.true).0
 
 pub returns-then-is_paused-clause-kept : goal.returns-then-is_paused-clause-kept
 returns-then-is_paused-clause-kept g c =

@@ -2,8 +2,9 @@
 
 ghost use Rattle.std.specs.Prelude.{◌≡◌, ◌<◌, ◌≤◌, ◌∷◌, ◌++◌, ℕ, length, map, All, IfOk, OnOk, IfErr, IfSome, IfNone};
 ghost use Rattle.limits.specs.declared.TheConstants.{MAX_LOOPS};
-ghost use Rattle.board.specs.Views.{IsIdle, makers_at, one_later};
+ghost use Rattle.board.specs.Views.{IsIdle, IsWhole, HasAll, makers_at, one_later};
 ghost use Rattle.board.specs.Boards.{IsPassOf, IsNewPass, AreNumbered, IsEventOf, Posts, TakesJob, Puts, Collects};
+ghost use Rattle.board.specs.Boards.{IsNewGathering, IsGatheringOf, JoinsPass, GathersReplies, EachMaker, AreAllIn, AreWhole, AreRepliesWhole};
 
 use crate::event::{Event, Heard};
 use crate::event_count::EventCount;
@@ -86,6 +87,45 @@ impl<J> Model for Pass<J> {
     ghost invariant = { λ p. AreOfTheirLoops p.replies.items };
 }
 
+/// With which all passes of a board are taken in, once their threads have ended. To a contract it is a `GatheringView`: what was taken
+/// in of each line.
+pub struct Gathering<J = JobBox> {
+    jobs: Maker<J>,
+    replies: Vec<Maker<Reply>>,
+}
+
+impl<J: Drop> Drop for Gathering<J> {
+    fn drop(self) {
+        let Gathering {
+            jobs: _,
+            replies: _,
+        } = self;
+    }
+}
+
+impl<J> Model for Gathering<J> {
+    ghost use Rattle.board.specs.Boards.{GatheringView};
+
+    ghost Value = { GatheringView J };
+
+    ghost use Rattle.order.specs.contracts.reply.Reply as reply;
+    ghost use Rattle.std.specs.Coded.{codes};
+
+    ghost coded = { Prim.hlevel (codes, reply.the_row.coded) };
+
+    ghost view = { λ g. record { jobs = g.jobs; replies = g.replies.items } };
+}
+
+impl<J> Pass<J> {
+    /// Its hands.
+    fn into_hands(self) -> (Hand<J>, Vec<Hand<Reply>>)
+        ensures { (result.0 ≡ self.jobs) × (result.1.items ≡ self.replies) }
+    {
+        let Pass { jobs, replies } = self;
+        (jobs, replies)
+    }
+}
+
 impl<J: Drop> Board<J> {
     /// A board for 1 to `MAX_LOOPS` loops, with all its lines empty, and passes that have done nothing, numbered from 1. There is at
     /// least one.
@@ -104,6 +144,25 @@ impl<J: Drop> Board<J> {
         ensures passes { IfOk result (λ b. All (IsNewPass b.0) b.1.items) }
         ensures numbers { IfOk result (λ b. AreNumbered b.1.items) }
     {
+        let (board, passes, _) = Board::with_gathering(alloc, loops, passes)?;
+        Ok((board, passes))
+    }
+
+    /// As `new`, and with what the passes are taken in by at the end.
+    pub fn with_gathering(
+        alloc: Global,
+        loops: u32,
+        passes: usize,
+    ) -> Result<(Board<J>, Vec<Pass<J>>, Gathering<J>), AllocError>
+        requires loops { (0 < loops) × (loops ≤ MAX_LOOPS) }
+        requires passes { 0 < passes }
+        ensures jobs { IfOk result (λ b. b.0.jobs.places ≡ MAX_JOBS) }
+        ensures replies { IfOk result (λ b. (length b.0.replies ≡ loops) × All (λ l. l.places ≡ MAX_REPLIES) b.0.replies) }
+        ensures count { IfOk result (λ b. length b.1.items ≡ passes) }
+        ensures passes { IfOk result (λ b. All (IsNewPass b.0) b.1.items) }
+        ensures numbers { IfOk result (λ b. AreNumbered b.1.items) }
+        ensures gathering { IfOk result (λ b. IsNewGathering b.0 passes b.2) }
+    {
         let (jobs, mut jobs_maker) = Line::new(alloc, MAX_JOBS, 0)?;
         let (replies, mut makers) = reply_lines(alloc, loops)?;
         let mut passes_made = Vec::with_capacity(alloc, passes)?;
@@ -118,7 +177,11 @@ impl<J: Drop> Board<J> {
             replies,
             closed: AtomicBool::new(false),
         };
-        Ok((board, passes_made))
+        let gathering = Gathering {
+            jobs: jobs_maker,
+            replies: makers,
+        };
+        Ok((board, passes_made, gathering))
     }
 
     /// Posts a job, by one push. It comes back where the line was full at some moment, or the pass has posted `2^64 - 1`
@@ -165,6 +228,43 @@ impl<J: Drop> Board<J> {
     {
         let loop_no = loop_no as usize;
         self.replies[loop_no].take(rt, &mut pass.replies[loop_no])
+    }
+
+    /// Takes all passes in, in the order of their numbers, once their threads have ended. What was taken of a line was given there by
+    /// one of the passes, and each gift was taken once at most.
+    pub fn gather_all(&self, mut all: Gathering<J>, passes: Vec<Pass<J>>)
+        requires new { IsNewGathering self.now (length passes.items) all }
+        requires passes { All (IsPassOf self.now) passes.items }
+        requires numbers { AreNumbered passes.items }
+        ensures jobs { IsWhole (map (λ p. p.jobs) passes.items) }
+        ensures replies { AreRepliesWhole (length self.now.replies) passes.items }
+    {
+        for pass in passes {
+            self.gather(&mut all, pass);
+        }
+        self.count(&mut all);
+    }
+
+    /// Where all passes were taken in, what that means.
+    fn count(&self, all: &mut Gathering<J>)
+        requires own { IsGatheringOf self.now all.old }
+        requires all { AreAllIn all.old }
+        ensures jobs { IsWhole all.old.jobs.hands }
+        ensures replies { AreWhole all.old.replies }
+    {
+        self.jobs.count(&mut all.jobs);
+        count_replies(self.replies.as_slice(), &mut all.replies);
+    }
+
+    /// Takes a pass in.
+    fn gather(&self, all: &mut Gathering<J>, pass: Pass<J>)
+        requires own { IsPassOf self.now pass × IsGatheringOf self.now all.old }
+        ensures own { IsGatheringOf self.now all.new }
+        ensures gathered { JoinsPass all.old pass all.new }
+    {
+        let (jobs, replies) = pass.into_hands();
+        self.jobs.gather(&mut all.jobs, jobs);
+        gather_replies(self.replies.as_slice(), &mut all.replies, replies);
     }
 
     /// Tells workers to end, and wakes all that wait. The other calls go on as before.
@@ -255,4 +355,32 @@ fn hands_of(
         hands.push(lines[i].hand(&mut makers[i]))?;
     }
     Ok(hands)
+}
+
+/// Takes a hand of each of the lines in.
+fn gather_replies(
+    lines: &[Line<Reply, OfLoop>],
+    makers: &mut Vec<Maker<Reply>>,
+    mut hands: Vec<Hand<Reply>>,
+)
+    requires makers { map (λ m. m.line) makers.old.items ≡ map (λ l. l.id) lines.now }
+    requires hands { map (λ h. h.line) hands.items ≡ map (λ l. l.id) lines.now }
+    ensures makers { map (λ m. m.line) makers.new.items ≡ map (λ l. l.id) lines.now }
+    ensures gathered { GathersReplies makers.old.items hands.items makers.new.items }
+{
+    while let Some(hand) = hands.pop() {
+        let loop_no = hands.len();
+        lines[loop_no].gather(&mut makers[loop_no], hand);
+    }
+}
+
+/// What it means of each line that all hands were taken in.
+fn count_replies(lines: &[Line<Reply, OfLoop>], makers: &mut Vec<Maker<Reply>>)
+    requires makers { map (λ m. m.line) makers.old.items ≡ map (λ l. l.id) lines.now }
+    requires all { EachMaker HasAll makers.old.items }
+    ensures whole { AreWhole makers.old.items }
+{
+    for i in 0..lines.len() {
+        lines[i].count(&mut makers[i]);
+    }
 }

@@ -2,7 +2,9 @@
 
 ghost use Rattle.std.specs.Prelude.{◌≡◌, ◌<◌, length};
 ghost use Rattle.board.specs.Boards.{IsPassOf};
+ghost use Rattle.claims.specs.Views.{EachOnce};
 ghost use Rattle.pool.specs.Work.{DidSo};
+ghost use Rattle.pool.specs.Turns.{TookSome, PutsOrNot};
 
 use crate::gate::{Gate, Point};
 use board::{Board, Event, Pass};
@@ -36,6 +38,7 @@ pub fn work_one<G: Gate, R: Wait>(
     requires loops { length board.now.replies ≡ claims.now.loops }
     ensures own { IsPassOf board.now pass.new × (seat.new.claims ≡ seat.old.claims) }
     ensures did { DidSo (λ job. job.ticket) board.now pass.old pass.new seat.old seat.new result }
+    ensures once { EachOnce seat.old.started → EachOnce seat.new.started }
 {
     let Some(job) = board.take(rt, pass) else {
         return WorkerDid::Nothing;
@@ -61,6 +64,9 @@ pub fn work_one<G: Gate, R: Wait>(
 
 /// Works until the board is found closed, with no job in hand, and sleeps while no job is there. A reply that the board
 /// refuses is put again, each time that one of its loop is collected, until that works or the board is closed.
+///
+/// All that it did with its pass and its seat are its turns: each job that it took it started, called, and put its reply, once, or
+/// dropped it uncalled; only at the end a reply may be given up.
 pub fn work_until_closed<G: Gate, R: Wait>(
     rt: &R,
     board: &Board,
@@ -71,6 +77,9 @@ pub fn work_until_closed<G: Gate, R: Wait>(
 )
     requires own { IsPassOf board.now pass.old × (seat.old.claims ≡ claims.now.id) }
     requires loops { length board.now.replies ≡ claims.now.loops }
+    ensures own { IsPassOf board.now pass.new × (seat.new.claims ≡ seat.old.claims) }
+    ensures turns { TookSome (λ job. job.ticket) pass.old pass.new seat.old seat.new }
+    ensures once { EachOnce seat.old.started → EachOnce seat.new.started }
 {
     for _ in rt.forever() {
         let heard = board.listen(Event::Posted);
@@ -96,6 +105,7 @@ fn put_until_closed<G: Gate, R: Wait>(
     requires own { IsPassOf board.now pass.old }
     requires there { reply.order.loop_no < length board.now.replies }
     ensures own { IsPassOf board.now pass.new }
+    ensures put { PutsOrNot pass.old pass.new reply }
 {
     let ticket = Ticket {
         loop_no: reply.order.loop_no,

@@ -1,8 +1,8 @@
 -- Lists whose elements are numbered in order.
-use Rattle.std.proofs.Common.{Result, Ok, Err, OnOk, ◌≡◌, ℕ, zero, suc, ◌+◌, ◌<◌, List, [], ◌∷◌, ◌++◌, length, Some, sym, ap, subst, ◌∙◌, arith}
+use Rattle.std.proofs.Common.{Result, Ok, Err, OnOk, ◌≡◌, ℕ, zero, suc, ◌+◌, ◌<◌, List, [], ◌∷◌, ◌++◌, length, Some, refl, sym, ap, subst, ◌∙◌, arith}
 use Rattle.std.proofs.lemmas.List.{length_push}
 use Rattle.std.specs.List.{slice_get}
-use Rattle.serve.specs.Inner.Places.{EachFrom}
+use Rattle.serve.specs.Inner.Places.{EachFrom, EachPair}
 
 module _ {A : Type 0} (P : ℕ → A → Type 0) where
   pub from_push : (n : ℕ) (xs : List A) (x : A) → EachFrom P n xs → P (n + length xs) x → EachFrom P n (xs ++ x ∷ [])
@@ -38,6 +38,19 @@ module _ {A : Type 0} (P : ℕ → A → Type 0) where
       let up : suc n ≡ m = omega arith in
       subst (λ k. EachFrom P k more) up (subst (EachFrom P n) e h).1
 
+  from_end : (n : ℕ) (ys : List A) (x : A) → EachFrom P n (ys ++ x ∷ []) → EachFrom P n ys × P (n + length ys) x
+  from_end n [] x h = (tt, subst (λ k. P k x) (omega arith) h.0)
+  from_end n (y ∷ ys) x h =
+      let rest = from_end (suc n) ys x h.1 in
+      ((h.0, rest.0), subst (λ k. P k x) (omega arith) rest.1)
+
+  -- without the last, and the last, under its place
+  pub from_front : (xs ys : List A) (x : A) → xs ≡ ys ++ x ∷ [] → EachFrom P 0 xs → EachFrom P 0 ys
+  from_front xs ys x e h = (from_end 0 ys x (subst (EachFrom P 0) e h)).0
+
+  pub from_last : (xs ys : List A) (x : A) → xs ≡ ys ++ x ∷ [] → EachFrom P 0 xs → P (length ys) x
+  from_last xs ys x e h = subst (λ k. P k x) (omega arith) (from_end 0 ys x (subst (EachFrom P 0) e h)).1
+
   -- one more at the end, under its place
   pub push_at : (xs : List A) (x : A) (ys : List A) → ys ≡ xs ++ x ∷ [] → EachFrom P 0 xs → P (length xs) x → EachFrom P 0 ys
   push_at xs x ys e h last = subst (EachFrom P 0) (sym e) (from_push 0 xs x h (subst (λ k. P k x) (omega arith) last))
@@ -52,3 +65,41 @@ longer_by xs x ys e = ap length e ∙ length_push xs x
 
 pub shorter_by : {A : Type 0} (xs : List A) (x : A) (more : List A) → xs ≡ x ∷ more → length xs ≡ length more + 1
 shorter_by xs x more e = subst (λ ys. length ys ≡ length more + 1) (sym e) (omega arith)
+
+-- pairs of lists
+module _ {A B : Type 0} (R : ℕ → A → B → Type 0) where
+  pair_from : (n : ℕ) (xs : List A) (ys : List B) (x : A) (y : B) → EachPair R n xs ys → R (n + length xs) x y → EachPair R n (xs ++ x ∷ []) (ys ++ y ∷ [])
+  pair_from n [] [] x y h last = (subst (λ k. R k x y) (omega arith) last, tt)
+  pair_from n [] (b ∷ ys) x y h last = absurd h
+  pair_from n (a ∷ xs) [] x y h last = absurd h
+  pair_from n (a ∷ xs) (b ∷ ys) x y h last = (h.0, pair_from (suc n) xs ys x y h.1 (subst (λ k. R k x y) (omega arith) last))
+
+  -- one more at the end of each, under its place
+  pub pair_push : (xs : List A) (ys : List B) (x : A) (y : B) (us : List A) (vs : List B) → us ≡ xs ++ x ∷ [] → vs ≡ ys ++ y ∷ [] → EachPair R 0 xs ys → R (length xs) x y → EachPair R 0 us vs
+  pair_push xs ys x y us vs e f h last =
+      subst (λ us. EachPair R 0 us vs) (sym e) (subst (EachPair R 0 (xs ++ x ∷ [])) (sym f) (pair_from 0 xs ys x y h (subst (λ k. R k x y) (omega arith) last)))
+
+  pub pair_lengths : (n : ℕ) (xs : List A) (ys : List B) → EachPair R n xs ys → length xs ≡ length ys
+  pair_lengths n [] [] h = refl
+  pair_lengths n [] (y ∷ ys) h = absurd h
+  pair_lengths n (x ∷ xs) [] h = absurd h
+  pair_lengths n (x ∷ xs) (y ∷ ys) h = ap suc (pair_lengths (suc n) xs ys h.1)
+
+  -- what is so of each first, and of each second
+  pub firsts : (P : ℕ → A → Type 0) → ((k : ℕ) (x : A) (y : B) → R k x y → P k x) → (n : ℕ) (xs : List A) (ys : List B) → EachPair R n xs ys → EachFrom P n xs
+  firsts P f n [] [] h = tt
+  firsts P f n [] (y ∷ ys) h = absurd h
+  firsts P f n (x ∷ xs) [] h = absurd h
+  firsts P f n (x ∷ xs) (y ∷ ys) h = (f n x y h.0, firsts P f (suc n) xs ys h.1)
+
+  pub seconds : (P : ℕ → B → Type 0) → ((k : ℕ) (x : A) (y : B) → R k x y → P k y) → (n : ℕ) (xs : List A) (ys : List B) → EachPair R n xs ys → EachFrom P n ys
+  seconds P f n [] [] h = tt
+  seconds P f n [] (y ∷ ys) h = absurd h
+  seconds P f n (x ∷ xs) [] h = absurd h
+  seconds P f n (x ∷ xs) (y ∷ ys) h = (f n x y h.0, seconds P f (suc n) xs ys h.1)
+
+  pub pair_map : (S : ℕ → A → B → Type 0) → ((k : ℕ) (x : A) (y : B) → R k x y → S k x y) → (n : ℕ) (xs : List A) (ys : List B) → EachPair R n xs ys → EachPair S n xs ys
+  pair_map S f n [] [] h = tt
+  pair_map S f n [] (y ∷ ys) h = absurd h
+  pair_map S f n (x ∷ xs) [] h = absurd h
+  pair_map S f n (x ∷ xs) (y ∷ ys) h = (f n x y h.0, pair_map S f (suc n) xs ys h.1)

@@ -1,15 +1,29 @@
 -- What a thread that keeps its promise gives.
-use Rattle.std.proofs.Common.{ℕ, subst}
+use Rattle.std.proofs.Common.{◌≡◌, ℕ, subst}
 use Rattle.std.specs.Arc.{arc_value}
+use Rattle.claims.specs.declared.seats.Ticket.{Ticket}
+use Rattle.claims.specs.Views.{ClaimsView, WorkerView}
+use Rattle.board.specs.Boards.{BoardView, PassView}
+use Rattle.serve.specs.declared.crew.ThreadOfWorker.{ThreadOfWorker}
 use Rattle.serve.specs.declared.served.Served.{Served}
 use Rattle.serve.specs.declared.plan.ThreadOfLoop.{ThreadOfLoop}
 use Rattle.serve.specs.declared.plan.ServicePlan.{ServicePlan}
-use Rattle.serve.specs.Answers.{IsServed}
 use Rattle.serve.specs.Histories.{setting_at}
-use Rattle.serve.specs.Inner.Promises.{IsThreadOf}
+use Rattle.serve.specs.Inner.Ends.{LoopEnds, WorkerEnds}
+use Rattle.serve.specs.Inner.Promises.{IsThreadOf, IsWorkerThreadOf}
 
-pub served_of : (plan : ServicePlan) (k : ℕ) (promise : ThreadOfLoop) (s : Served) → IsThreadOf plan k promise
-    → IsServed (setting_at (arc_value promise.plan.now.linked) promise.plan.now.serving promise.loop_no) s → IsServed (setting_at (arc_value plan.linked) plan.serving k) s
-served_of plan k promise s h served =
-    subst (λ n. IsServed (setting_at (arc_value plan.linked) plan.serving n) s) h.number
-    (subst (λ p. IsServed (setting_at (arc_value p.linked) p.serving promise.loop_no) s) h.plan_is served)
+module _ {J : Type 0} (ticket : J → Ticket) where
+  pub loop_ended : (plan : ServicePlan) (board : BoardView) (k : ℕ) (promise : ThreadOfLoop J) (s : Served) (p : PassView J) → IsThreadOf plan board k promise
+      → LoopEnds ticket promise.board.now (setting_at (arc_value promise.plan.now.linked) promise.plan.now.serving promise.loop_no) s p
+      → LoopEnds ticket board (setting_at (arc_value plan.linked) plan.serving k) s p
+  loop_ended plan board k promise s p h ended =
+      subst (λ n. LoopEnds ticket board (setting_at (arc_value plan.linked) plan.serving n) s p) h.number
+      (subst (λ x. LoopEnds ticket board (setting_at (arc_value x.linked) x.serving promise.loop_no) s p) h.plan_is
+      (subst (λ b. LoopEnds ticket b (setting_at (arc_value promise.plan.now.linked) promise.plan.now.serving promise.loop_no) s p) h.board_is ended))
+
+  pub worker_ended : (board : BoardView) (claims : ClaimsView) (w : ℕ) (promise : ThreadOfWorker J) (p : PassView J) (seat : WorkerView) → IsWorkerThreadOf board claims w promise
+      → WorkerEnds ticket promise.board.now promise.claims.now promise.worker_no p seat → WorkerEnds ticket board claims w p seat
+  worker_ended board claims w promise p seat h ended =
+      subst (λ n. WorkerEnds ticket board claims n p seat) h.number
+      (subst (λ x. WorkerEnds ticket board x promise.worker_no p seat) h.claims_are
+      (subst (λ b. WorkerEnds ticket b promise.claims.now promise.worker_no p seat) h.board_is ended))

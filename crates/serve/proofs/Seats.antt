@@ -1,26 +1,25 @@
--- The seats of new loops know nothing, and their loops are there. New workers' seats are of their claims.
-use Rattle.std.proofs.Common.{◌≡◌, ℕ, ◌<◌, List, All, refl, sym, ap, subst, arith}
-use Rattle.std.proofs.lemmas.Option.{get_or_from_slice_get}
+-- New seats and new passes, in the order of their numbers.
+use Rattle.std.proofs.Common.{◌≡◌, ℕ, ◌+◌, ◌<◌, List, [], ◌∷◌, All, get_or, length, Some, refl, sym, subst, arith}
+use Rattle.std.specs.List.{slice_get}
+use Rattle.std.proofs.lemmas.Option.{slice_get-get_or}
 use Rattle.claims.specs.Views.{ClaimsView, LoopView, WorkerView, AreNewLoops, AreNewWorkers, new_loop_view, new_worker_view}
-use Rattle.serve.specs.Inner.Places.{IsNewSeat, EachFrom}
+use Rattle.board.specs.Boards.{BoardView, PassView, IsNewPass, AreNumbered}
+use Rattle.serve.specs.Inner.Places.{IsPassAt, EachFrom}
 use Rattle.serve.proofs.NumberedLists.{all_from}
 
-new_seat : (claims : ClaimsView) (k : ℕ) → k < claims.loops → IsNewSeat claims (new_loop_view claims.id k)
-new_seat claims k below = record { fresh = refl; there = below }
-
-pub all_new : (claims : ClaimsView) (n : ℕ) (seats : List LoopView) → AreNewLoops claims.id n seats → claims.loops ≡ n → All (IsNewSeat claims) seats
-all_new claims n seats h loops k d below =
+pub new_loops : (claims : ClaimsView) (n : ℕ) (seats : List LoopView) → AreNewLoops claims.id n seats → EachFrom (λ k (s : LoopView). s ≡ new_loop_view claims.id k) 0 seats
+new_loops claims n seats h =
     let count = h.count in
-    let there : k < claims.loops = omega arith in
-    subst (IsNewSeat claims) (sym (get_or_from_slice_get seats k (new_loop_view claims.id k) d (h.each k (omega arith)))) (new_seat claims k there)
+    all_from (λ k (s : LoopView). s ≡ new_loop_view claims.id k) seats (λ k below. (new_loop_view claims.id k, h.each k (omega arith), refl))
 
-pub all_own : (claims : ClaimsView) (n : ℕ) (seats : List WorkerView) → AreNewWorkers claims.id n seats → All (λ s. s.claims ≡ claims.id) seats
-all_own claims n seats h k d below =
+pub new_workers : (claims : ClaimsView) (n : ℕ) (seats : List WorkerView) → AreNewWorkers claims.id n seats → EachFrom (λ k (s : WorkerView). s ≡ new_worker_view claims.id k) 0 seats
+new_workers claims n seats h =
     let count = h.count in
-    ap (λ (s : WorkerView). s.claims) (get_or_from_slice_get seats k (new_worker_view claims.id k) d (h.each k (omega arith)))
+    all_from (λ k (s : WorkerView). s ≡ new_worker_view claims.id k) seats (λ k below. (new_worker_view claims.id k, h.each k (omega arith), refl))
 
--- each new loop has its place as its number
-pub all_numbered : (claims : ClaimsView) (n : ℕ) (seats : List LoopView) → AreNewLoops claims.id n seats → EachFrom (λ k (s : LoopView). s.loop_no ≡ k) 0 seats
-all_numbered claims n seats h =
-    let count = h.count in
-    all_from (λ k (s : LoopView). s.loop_no ≡ k) seats (λ k below. (new_loop_view claims.id k, h.each k (omega arith), refl))
+pub new_passes : {J : Type 0} (board : BoardView) (passes : List (PassView J)) → All (IsNewPass board) passes → AreNumbered passes → EachFrom (IsPassAt board) 0 passes
+new_passes board [] new numbered = tt
+new_passes board (p ∷ ps) new numbered =
+    all_from (IsPassAt board) (p ∷ ps) (λ k below.
+    let at = slice_get-get_or (p ∷ ps) k p below in
+    (get_or (p ∷ ps) k p, at, record { new = new k p below; number = numbered k (get_or (p ∷ ps) k p) at }))

@@ -1,4 +1,4 @@
--- What an answer says of the after-work callbacks of its loop.
+-- What an answer says about the after-work callbacks of its loop.
 use Rattle.std.specs.Prelude.{◌≡◌, ℕ, ◌≤◌, true, List, ◌∷◌, ◌++◌, count_by}
 use Rattle.events.specs.declared.did.StepDid.{StepDid}
 use Rattle.phases.specs.Guests.{GuestCall}

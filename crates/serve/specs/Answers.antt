@@ -1,4 +1,4 @@
--- What an answer says of its loop.
+-- What an answer says about its loop.
 use Rattle.std.specs.Prelude.{◌≡◌, ℕ, List, Some, slice_get}
 use Rattle.syntax.specs.Loaded.{Loaded}
 use Rattle.phases.specs.State.{Setting}

@@ -1,5 +1,7 @@
--- No public clause reaches these: what a thread has promised, and what its loop's seats are.
+-- No public clause reaches these: what a thread has promised, what its seats are, and what it has done with them.
 pub mod Alone
+pub mod Ends
+pub mod Moves
 pub mod Places
 pub mod Promises
 pub mod Threads

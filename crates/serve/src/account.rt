@@ -139,7 +139,7 @@ impl Account {
     /// The loop was offered this reply.
     pub(crate) fn heard(&mut self, reply: &Reply) {
         match reply.outcome {
-            Outcome::Done(_, _) | Outcome::NoMemory => {}
+            Outcome::Done(_, _) | Outcome::NoMemory(_) => {}
             Outcome::Trap(_) | Outcome::Depth | Outcome::Spent => self.keep(&reply.order),
         }
     }

@@ -2,6 +2,8 @@
 
 ghost use Rattle.std.specs.Prelude.{◌≡◌, length};
 ghost use Rattle.board.specs.Boards.{IsPassOf};
+ghost use Rattle.claims.specs.Views.{EachOnce};
+ghost use Rattle.pool.specs.Turns.{TookSome};
 
 use crate::watch::Watch;
 use board::{Board, JobBox, Pass};
@@ -15,6 +17,15 @@ use std::sync::Wait;
 /// What makes jobs is a type parameter of what serves, and a bound on it can't name a job that is a box of a closure.
 /// So what jobs it makes is a type parameter too.
 pub trait Job: Drop {
+    ghost use Rattle.claims.specs.declared.seats.Ticket.{Ticket};
+
+    /// The ticket of the request that it works on.
+    ghost ticket: { Self → Ticket };
+
+    /// The ticket of the request that it works on.
+    fn ticket(&self) -> Ticket
+        ensures { result ≡ ticket self.now };
+
     /// Works on the jobs of the board until it is closed, and reports what is done with each.
     fn work<R: Wait, W: Watch>(
         rt: &R,
@@ -25,7 +36,10 @@ pub trait Job: Drop {
         watch: &W,
     )
         requires own { IsPassOf board.now pass.old × (seat.old.claims ≡ claims.now.id) }
-        requires loops { length board.now.replies ≡ claims.now.loops };
+        requires loops { length board.now.replies ≡ claims.now.loops }
+        ensures own { IsPassOf board.now pass.new × (seat.new.claims ≡ seat.old.claims) }
+        ensures turns { TookSome ticket pass.old pass.new seat.old seat.new }
+        ensures once { EachOnce seat.old.started → EachOnce seat.new.started };
 }
 
 /// Tells what a worker does. It holds nobody.
@@ -54,6 +68,12 @@ impl<R: Wait, W: Watch> Gate for Watched<'_, R, W> {
 }
 
 impl Job for JobBox {
+    ghost ticket = { λ job. job.ticket };
+
+    fn ticket(&self) -> Ticket {
+        self.ticket
+    }
+
     fn work<R: Wait, W: Watch>(
         rt: &R,
         board: &Board<JobBox>,

@@ -9,7 +9,9 @@
 #![tactic(auto)]
 
 mod account;
+mod crew;
 mod job;
+mod joint;
 pub mod laws;
 mod loop_thread;
 mod meter;
@@ -26,8 +28,8 @@ mod watch;
 
 pub use account::{Account, Callback};
 pub use job::Job;
+pub use joint::{JointlyServed, serve, serve_joint, serve_watched};
 pub use served::{LoopEnding, Served};
 pub use serving::Serving;
 pub use task::Task;
-pub use threads::{serve, serve_watched};
 pub use watch::{Nobody, Watch};

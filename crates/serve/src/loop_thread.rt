@@ -1,16 +1,11 @@
 // A loop in its thread.
 
-ghost use Rattle.std.specs.Prelude.{◌≡◌, ◌<◌, Some, length, IfOk, IfSome};
-ghost use Rattle.std.specs.Arc.{arc_value};
+ghost use Rattle.std.specs.Prelude.{◌≡◌, ◌<◌, ◌+◌, length};
 ghost use Rattle.limits.specs.declared.TheConstants.{MAX_LOOPS};
-ghost use Rattle.board.specs.Boards.{IsPassOf, IsEventOf};
-ghost use Rattle.marks.specs.Counts.{new_taker};
-ghost use Rattle.serve.specs.Answers.{IsServed};
-ghost use Rattle.serve.specs.Histories.{EndsBy, IsDrained, setting_at, thread_calls};
-ghost use Rattle.serve.specs.Inner.Threads.{CanGoOn, KeepsGoing, ComesServing};
-ghost use Rattle.serve.specs.Inner.Turns.{IsAtTurn};
+ghost use Rattle.board.specs.Boards.{IsPassOf, HasNumber};
 
 use crate::account::Account;
+use crate::job::Job;
 use crate::place::LoopPlace;
 use crate::record::LoopRecord;
 use crate::served::{LoopEnding, Served};
@@ -34,12 +29,22 @@ pub struct LoopThread<'a, J> {
     recorded: LoopRecord<'a>,
     kept: Option<J>,
     ghost of_board: { IsPassOf board.now pass },
+    ghost number: { HasNumber (loop_no + 1) pass },
     ghost there: { loop_no < length board.now.replies },
     ghost below: { loop_no < MAX_LOOPS },
     ghost numbered: { recorded.core.setting.loop_no ≡ loop_no },
 }
 
-impl<'a, J: Drop> LoopThread<'a, J> {
+impl<'a, J: Job> LoopThread<'a, J> {
+    ghost use Rattle.std.specs.Prelude.{◌≡◌, ◌<◌, [], Some, None, length, option_to_list, IfOk, IfSome};
+    ghost use Rattle.std.specs.Arc.{arc_value};
+    ghost use Rattle.board.specs.Boards.{IsEventOf};
+    ghost use Rattle.marks.specs.Counts.{new_taker};
+    ghost use Rattle.serve.specs.Histories.{EndsBy, IsDrained, setting_at, thread_calls};
+    ghost use Rattle.serve.specs.Inner.Ends.{LoopEnds};
+    ghost use Rattle.serve.specs.Inner.Threads.{CanGoOn, HasTied, IsTiedSoFar, KeepsGoing, ComesServing};
+    ghost use Rattle.serve.specs.Inner.Turns.{IsAtTurn};
+
     /// A loop that has done nothing, over a new instance of the module.
     #[tactic(auto, using(crate::proofs::OneEventMore::opens_new))]
     pub fn new(
@@ -52,6 +57,8 @@ impl<'a, J: Drop> LoopThread<'a, J> {
         measures_work: bool,
     ) -> Result<LoopThread<'a, J>, AllocError>
         requires { taker ≡ new_taker marks.now 0 }
+        ensures board { IfOk result (λ t. t.board ≡ place.entry.board) }
+        ensures told { IfOk result (λ t. IsTiedSoFar J.ticket t) }
         ensures setting { IfOk result (λ t. t.recorded.core.setting ≡ setting_at (arc_value linked) serving place.entry.seat.loop_no) }
         ensures goes { IfOk result (λ t. CanGoOn t.recorded) }
     {
@@ -82,28 +89,31 @@ impl<'a, J: Drop> LoopThread<'a, J> {
         })
     }
 
-    /// Takes turns until the loop has ended.
-    pub fn run<S: Serves<J>>(mut self, service: &S) -> Result<Served, AllocError>
+    /// Takes turns until the loop has ended. What it did, with its pass.
+    pub fn run<S: Serves<J>>(mut self, service: &S) -> Result<(Served, Pass<J>), AllocError>
         requires ready { S.ready service.now }
         requires goes { CanGoOn self.recorded }
-        ensures { IfOk result (λ served. IsServed self.entry.recorded.core.setting served) }
+        requires told { IsTiedSoFar J.ticket self }
+        ensures { IfOk result (λ r. LoopEnds J.ticket self.entry.board.now self.entry.recorded.core.setting r.0 r.1) }
     {
         let ending = self.until_ended(service)?;
         Ok(self.into_served(ending))
     }
 
     /// What the loop has done, and how it ended.
-    fn into_served(self, ending: LoopEnding) -> Served
-        requires { EndsBy thread_calls ending self.recorded.core.loop self.recorded.ran }
-        ensures { IsServed self.entry.recorded.core.setting result }
+    fn into_served(self, ending: LoopEnding) -> (Served, Pass<J>)
+        requires ends { EndsBy thread_calls ending self.recorded.core.loop self.recorded.ran }
+        requires told { IsTiedSoFar J.ticket self }
+        ensures { LoopEnds J.ticket self.entry.board.now self.entry.recorded.core.setting result.0 result.1 }
     {
-        self.recorded.into_served(self.loop_no, ending)
+        let served = self.recorded.into_served(self.loop_no, ending);
+        (served, self.pass)
     }
 
     fn until_ended<S: Serves<J>>(&mut self, service: &S) -> Result<LoopEnding, AllocError>
         requires ready { S.ready service.now }
         requires goes { CanGoOn self.old.recorded }
-        ensures ends { IfOk result (λ ending. ComesServing self.old.recorded (Some ending) self.new.recorded) }
+        ensures ends { IfOk result (λ ending. ComesServing J.ticket self.old (Some ending) self.new) }
     {
         for _ in service.rt().forever() {
             if let Some(ending) = self.turn(service)? {
@@ -117,7 +127,7 @@ impl<'a, J: Drop> LoopThread<'a, J> {
     fn turn<S: Serves<J>>(&mut self, service: &S) -> Result<Option<LoopEnding>, AllocError>
         requires ready { S.ready service.now }
         requires goes { CanGoOn self.old.recorded }
-        ensures comes { IfOk result (λ ended. ComesServing self.old.recorded ended self.new.recorded) }
+        ensures comes { IfOk result (λ ended. ComesServing J.ticket self.old ended self.new) }
     {
         let board = self.board;
         let heard = self.exchange_if_any(service)?;
@@ -127,7 +137,7 @@ impl<'a, J: Drop> LoopThread<'a, J> {
     /// The exchange with the board. Without requests and without a job that was kept there is none.
     fn exchange_if_any<S: Serves<J>>(&mut self, service: &S) -> Result<Option<Heard>, AllocError>
         requires ready { S.ready service.now }
-        ensures keeps { KeepsGoing self.old.recorded self.new.recorded }
+        ensures keeps { KeepsGoing J.ticket self.old self.new }
         ensures heard { IfOk result (λ heard. IfSome heard (λ h. IsEventOf self.old.board.now h.event)) }
     {
         if !self.recorded.has_requests() && self.kept.is_none() {
@@ -139,7 +149,7 @@ impl<'a, J: Drop> LoopThread<'a, J> {
     /// Accepts the replies and posts the orders that are there. What the loop waits for if it has nothing else to do.
     fn exchange<S: Serves<J>>(&mut self, service: &S) -> Result<Heard, AllocError>
         requires ready { S.ready service.now }
-        ensures keeps { KeepsGoing self.old.recorded self.new.recorded }
+        ensures keeps { KeepsGoing J.ticket self.old self.new }
         ensures heard { IfOk result (λ heard. IsEventOf self.old.board.now heard.event) }
     {
         let reply = self.board.listen(Event::Put(self.loop_no));
@@ -158,7 +168,7 @@ impl<'a, J: Drop> LoopThread<'a, J> {
     ) -> Result<Option<LoopEnding>, AllocError>
         requires goes { CanGoOn self.old.recorded }
         requires heard { IfSome heard (λ h. IsEventOf board.now h.event) }
-        ensures comes { IfOk result (λ ended. ComesServing self.old.recorded ended self.new.recorded) }
+        ensures comes { IfOk result (λ ended. ComesServing J.ticket self.old ended self.new) }
     {
         let ran = self.recorded.ran;
         let ended = self
@@ -183,7 +193,7 @@ impl<'a, J: Drop> LoopThread<'a, J> {
         requires at_turn { IsAtTurn self.old.recorded.core.loop.state }
         requires drained { IsDrained thread_calls self.old.recorded.core.loop }
         requires heard { IfSome heard (λ h. IsEventOf board.now h.event) }
-        ensures comes { ComesServing self.old.recorded result self.new.recorded }
+        ensures comes { ComesServing J.ticket self.old result self.new }
     {
         if self.recorded.has_requests() {
             if let Some(heard) = heard {
@@ -197,7 +207,7 @@ impl<'a, J: Drop> LoopThread<'a, J> {
 
     /// Accepts all replies that are there.
     fn accept_all<S: Serves<J>>(&mut self, service: &S)
-        ensures keeps { KeepsGoing self.old.recorded self.new.recorded }
+        ensures keeps { KeepsGoing J.ticket self.old self.new }
     {
         let rt = service.rt();
         for _ in rt.forever() {
@@ -213,7 +223,7 @@ impl<'a, J: Drop> LoopThread<'a, J> {
     /// Posts the job that was kept and all orders that are there, until a post is refused. That job is kept.
     fn post_all<S: Serves<J>>(&mut self, service: &S) -> Result<(), AllocError>
         requires ready { S.ready service.now }
-        ensures keeps { KeepsGoing self.old.recorded self.new.recorded }
+        ensures keeps { KeepsGoing J.ticket self.old self.new }
     {
         let rt = service.rt();
         for _ in rt.forever() {
@@ -228,10 +238,13 @@ impl<'a, J: Drop> LoopThread<'a, J> {
         unreachable!()
     }
 
-    /// The job that was kept, or one for the next order, which is reported as posted.
+    /// The job that was kept, or one for the next order, which is reported as posted. None if there is no order, or its job has another
+    /// ticket.
     fn next_job<S: Serves<J>>(&mut self, service: &S) -> Result<Option<J>, AllocError>
         requires ready { S.ready service.now }
-        ensures keeps { KeepsGoing self.old.recorded self.new.recorded }
+        ensures keeps { KeepsGoing J.ticket self.old self.new }
+        ensures none { self.new.kept ≡ None }
+        ensures told { IfOk result (λ job. IsTiedSoFar J.ticket self.old → ∥ HasTied J.ticket self.new (option_to_list job) ∥₁) }
     {
         if let Some(job) = self.kept.take() {
             return Ok(Some(job));
@@ -243,6 +256,7 @@ impl<'a, J: Drop> LoopThread<'a, J> {
             .watch()
             .post(service.rt(), self.loop_no, order.request);
         let meter = self.recorded.meter()?;
-        Ok(Some(service.job(order, meter)?))
+        let made = service.job(order, meter)?;
+        Ok(made)
     }
 }

@@ -3,16 +3,18 @@
 ghost use Rattle.std.specs.Prelude.{◌≡◌, IfOk};
 ghost use Rattle.std.specs.Arc.{arc_value};
 ghost use Rattle.marks.specs.Counts.{new_taker};
-ghost use Rattle.serve.specs.Answers.{IsServed};
 ghost use Rattle.serve.specs.Histories.{setting_at};
-ghost use Rattle.serve.specs.Inner.Threads.{CanGoOn};
+ghost use Rattle.serve.specs.Inner.Ends.{LoopEnds};
+ghost use Rattle.serve.specs.Inner.Threads.{CanGoOn, IsTiedSoFar};
 
+use crate::job::Job;
 use crate::loop_thread::LoopThread;
 use crate::place::LoopPlace;
 use crate::served::Served;
 use crate::service::Serves;
 use crate::serving::Serving;
 use crate::watch::Watch;
+use board::{Board, Pass};
 use imports::Linked;
 use marks::{Marks, TakeSeat};
 use std::alloc::{AllocError, Global};
@@ -29,18 +31,19 @@ pub struct ServicePlan {
     ran_out: AtomicBool,
 }
 
-/// What comes of a loop's thread.
-pub type LoopResult = Result<Served, AllocError>;
+/// What comes of a loop's thread: what the loop did, with its pass.
+pub type LoopResult<J> = Result<(Served, Pass<J>), AllocError>;
 
 /// That what comes of a thread is said of this loop.
-#[derive(Clone, Copy)]
-pub struct ThreadOfLoop<'a> {
+#[derive(Drop)]
+pub struct ThreadOfLoop<'a, J> {
     pub plan: &'a ServicePlan,
+    pub board: &'a Board<J>,
     pub loop_no: u32,
 }
 
-impl<'a> Promise<LoopResult> for ThreadOfLoop<'a> {
-    ghost kept_by = { λ p r. IfOk r (λ s. IsServed (setting_at (arc_value p.plan.now.linked) p.plan.now.serving p.loop_no) s) };
+impl<'a, J: Job> Promise<LoopResult<J>> for ThreadOfLoop<'a, J> {
+    ghost kept_by = { λ p r. IfOk r (λ end. LoopEnds J.ticket p.board.now (setting_at (arc_value p.plan.now.linked) p.plan.now.serving p.loop_no) end.0 end.1) };
 }
 
 impl ServicePlan {
@@ -63,9 +66,9 @@ impl ServicePlan {
     }
 
     /// One loop, until it has ended.
-    pub fn run<S: Serves<J>, J: Drop>(&self, service: &S, place: LoopPlace<'_, J>) -> LoopResult
+    pub fn run<S: Serves<J>, J: Job>(&self, service: &S, place: LoopPlace<'_, J>) -> LoopResult<J>
         requires { S.ready service.now }
-        ensures { IfOk result (λ s. IsServed (setting_at (arc_value self.now.linked) self.now.serving place.entry.seat.loop_no) s) }
+        ensures { IfOk result (λ r. LoopEnds J.ticket place.entry.board.now (setting_at (arc_value self.now.linked) self.now.serving place.entry.seat.loop_no) r.0 r.1) }
     {
         let outcome = self.turns(service, place);
         if outcome.is_err() {
@@ -74,9 +77,9 @@ impl ServicePlan {
         outcome
     }
 
-    fn turns<S: Serves<J>, J: Drop>(&self, service: &S, place: LoopPlace<'_, J>) -> LoopResult
+    fn turns<S: Serves<J>, J: Job>(&self, service: &S, place: LoopPlace<'_, J>) -> LoopResult<J>
         requires { S.ready service.now }
-        ensures { IfOk result (λ s. IsServed (setting_at (arc_value self.now.linked) self.now.serving place.entry.seat.loop_no) s) }
+        ensures { IfOk result (λ r. LoopEnds J.ticket place.entry.board.now (setting_at (arc_value self.now.linked) self.now.serving place.entry.seat.loop_no) r.0 r.1) }
     {
         let (marks, taker) = own_marks(self.alloc)?;
         let thread = self.begin(&marks, taker, place, service.watch().measures_work())?;
@@ -84,7 +87,7 @@ impl ServicePlan {
     }
 
     /// A loop that has taken no turn yet.
-    fn begin<'a, J: Drop>(
+    fn begin<'a, J: Job>(
         &self,
         marks: &'a Marks,
         taker: TakeSeat,
@@ -92,6 +95,8 @@ impl ServicePlan {
         measures_work: bool,
     ) -> Result<LoopThread<'a, J>, AllocError>
         requires { taker ≡ new_taker marks.now 0 }
+        ensures board { IfOk result (λ t. t.board ≡ place.entry.board) }
+        ensures told { IfOk result (λ t. IsTiedSoFar J.ticket t) }
         ensures setting { IfOk result (λ t. t.recorded.core.setting ≡ setting_at (arc_value self.now.linked) self.now.serving place.entry.seat.loop_no) }
         ensures goes { IfOk result (λ t. CanGoOn t.recorded) }
     {

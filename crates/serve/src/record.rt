@@ -1,19 +1,9 @@
 // A loop, with how many of its callbacks ran and what they have emitted.
 
-ghost use Rattle.std.specs.Prelude.{◌≡◌, ◌<◌, ◌≤◌, ◌+◌, ◌++◌, [], true, false, None, length, vec_len, vec_capacity, IfOk, IfSome};
-ghost use Rattle.std.specs.Bool.{OnFalse};
-ghost use Rattle.limits.specs.declared.TheConstants.{MAX_CALLBACKS, MAX_REQUESTS};
-ghost use Rattle.order.specs.Orders.{order_of};
-ghost use Rattle.phases.specs.History.{IsOpening};
-ghost use Rattle.order.specs.Runnable.{CanRun};
-ghost use Rattle.phases.specs.PhaseList.{hint_of};
-ghost use Rattle.phases.specs.declared.entry.Status.TheVariants as status;
-ghost use Rattle.serve.specs.Answers.{IsServed};
-ghost use Rattle.phases.specs.Bare.{whole_did};
-ghost use Rattle.phases.specs.Step.{LoopStep};
-ghost use Rattle.serve.specs.Histories.{HasDone, EndsBy, IsDrained, thread_calls};
+ghost use Rattle.std.specs.Prelude.{◌≡◌, ◌≤◌, ◌+◌, ◌++◌, length, vec_len, vec_capacity};
+ghost use Rattle.limits.specs.declared.TheConstants.{MAX_CALLBACKS};
 ghost use Rattle.serve.specs.Inner.Alone.{IsAlone};
-ghost use Rattle.serve.specs.Inner.Turns.{enters_timers, runs, IsAtTurn, Drains, MayGoOn, StepsTo, EndsOrGoesOn};
+ghost use Rattle.serve.specs.Inner.Turns.{enters_timers};
 
 use crate::account::Account;
 use crate::meter::Meter;
@@ -28,17 +18,15 @@ use pool::Seats;
 use std::alloc::{AllocError, Global};
 use std::sync::Wait;
 
-/// A loop, with how many of its callbacks ran and all that they have emitted: it has a history from its opening that
-/// says so.
+/// A loop, with how many of its callbacks ran and all that they have emitted. A call's contract says by which events it moves the loop.
 #[derive(Drop)]
 pub struct LoopRecord<'a> {
     pub(crate) core: LoopCore<Seats<'a>>,
     pub(crate) ran: u32,
-    emits: Vec<u64>,
+    pub(crate) emits: Vec<u64>,
     account: Account,
     ghost few: { ran ≤ MAX_CALLBACKS },
     ghost alone: { IsAlone core.loop.shared.taker },
-    ghost told: { ∥ HasDone thread_calls core.setting core.loop ran emits.items ∥₁ },
 }
 
 fn enters_timers(did: &BareDid) -> bool
@@ -76,11 +64,27 @@ fn last_trail(core: &LoopCore<Seats<'_>>) -> Option<Trail> {
 }
 
 impl<'a> LoopRecord<'a> {
+    ghost use Rattle.std.specs.Prelude.{◌≡◌, ◌<◌, ◌≤◌, [], true, None, IfOk, IfSome};
+    ghost use Rattle.std.specs.Bool.{OnFalse};
+    ghost use Rattle.limits.specs.declared.TheConstants.{MAX_CALLBACKS, MAX_REQUESTS};
+    ghost use Rattle.order.specs.Orders.{order_of};
+    ghost use Rattle.order.specs.Runnable.{CanRun};
+    ghost use Rattle.phases.specs.History.{IsOpening};
+    ghost use Rattle.phases.specs.PhaseList.{hint_of};
+    ghost use Rattle.phases.specs.declared.did.BareDid.TheVariants as BareDid;
+    ghost use Rattle.events.specs.declared.did.Hint.TheVariants as Hint;
+    ghost use Rattle.phases.specs.declared.entry.Status.TheVariants as status;
+    ghost use Rattle.serve.specs.Histories.{HasDone, EndsBy, IsDrained, thread_calls};
+    ghost use Rattle.serve.specs.Inner.Alone.{IsAlone};
+    ghost use Rattle.serve.specs.Inner.Moves.{MovesAlone, RecordHandsOut, IsOffered};
+    ghost use Rattle.serve.specs.Inner.Turns.{enters_timers, IsAtTurn, Drains, MayGoOn, StepsTo, EndsOrGoesOn};
+
     /// Of a loop that has done nothing.
     pub fn new(alloc: Global, core: LoopCore<Seats<'a>>, account: Account) -> LoopRecord<'a>
         requires opens { IsOpening thread_calls core.setting core.loop }
         requires alone { IsAlone core.loop.shared.taker }
         ensures setting { result.core.setting ≡ core.entry.setting }
+        ensures done { (d : HasDone thread_calls result.core.setting result.core.loop result.ran result.emits.items) × (d.events ≡ []) }
         ensures goes { MayGoOn thread_calls result.core.loop result.ran }
     {
         LoopRecord {
@@ -93,6 +97,7 @@ impl<'a> LoopRecord<'a> {
 
     /// Offers a reply to the loop, which drops it where it is not the loop's. Whether the loop takes it.
     pub fn accept(&mut self, reply: Reply) -> bool
+        ensures offered { IsOffered self.old reply self.new }
         ensures setting { self.new.core.setting ≡ self.old.core.setting }
         ensures goes { MayGoOn thread_calls self.old.core.loop self.old.ran → MayGoOn thread_calls self.new.core.loop self.new.ran }
     {
@@ -103,6 +108,7 @@ impl<'a> LoopRecord<'a> {
 
     /// The loop's next order, if there is one.
     pub fn next_order(&mut self) -> Option<Order>
+        ensures handed { RecordHandsOut self.old result self.new }
         ensures can_run { IfSome result (λ o. CanRun (order_of o)) }
         ensures own { IfSome result (λ o. o.loop_no ≡ self.old.core.setting.loop_no) }
         ensures slot { IfSome result (λ o. o.slot < MAX_REQUESTS) }
@@ -125,6 +131,7 @@ impl<'a> LoopRecord<'a> {
         watch: &W,
     ) -> Result<Option<LoopEnding>, AllocError>
         requires goes { MayGoOn thread_calls self.old.core.loop self.old.ran }
+        ensures moves { MovesAlone self.old self.new }
         ensures setting { self.new.core.setting ≡ self.old.core.setting }
         ensures comes { IfOk result (λ ended. EndsOrGoesOn thread_calls ended self.new.core.loop self.new.ran) }
         ensures at_turn { IfOk result (λ ended. ended ≡ None → IsAtTurn self.new.core.loop.state) }
@@ -149,6 +156,7 @@ impl<'a> LoopRecord<'a> {
     #[inline(always)]
     fn step(&mut self) -> Result<BareDid, AllocError>
         requires room { self.old.ran < MAX_CALLBACKS }
+        ensures moves { MovesAlone self.old self.new }
         ensures setting { self.new.core.setting ≡ self.old.core.setting }
         ensures over { IfOk result (λ did. did ≡ BareDid.Over → self.new.core.loop.state.status ≡ status.Over) }
         ensures more { IfOk result (λ did. self.old.ran ≤ self.new.ran) }
@@ -191,6 +199,7 @@ impl<'a> LoopRecord<'a> {
         requires at_turn { IsAtTurn self.old.core.loop.state }
         requires none { self.old.core.loop.state.requests.outstanding ≡ [] }
         requires drained { IsDrained thread_calls self.old.core.loop }
+        ensures moves { MovesAlone self.old self.new }
         ensures setting { self.new.core.setting ≡ self.old.core.setting }
         ensures comes { EndsOrGoesOn thread_calls result self.new.core.loop self.new.ran }
     {
@@ -210,6 +219,7 @@ impl<'a> LoopRecord<'a> {
         requires none { self.old.core.loop.state.requests.outstanding ≡ [] }
         requires still { self.old.core.loop.state.clock ≡ self.old.core.loop.state.now }
         requires hint { hint_of self.old.core.loop.state ≡ Hint.For ms }
+        ensures moves { MovesAlone self.old self.new }
         ensures setting { self.new.core.setting ≡ self.old.core.setting }
         ensures goes { MayGoOn thread_calls self.old.core.loop self.old.ran → MayGoOn thread_calls self.new.core.loop self.new.ran }
     {
@@ -230,7 +240,10 @@ impl<'a> LoopRecord<'a> {
     pub fn into_served(self, loop_no: u32, ending: LoopEnding) -> Served
         requires loop_no { loop_no ≡ self.core.setting.loop_no }
         requires ends { EndsBy thread_calls ending self.core.loop self.ran }
-        ensures { IsServed self.entry.core.setting result }
+        requires done { ∥ HasDone thread_calls self.core.setting self.core.loop self.ran self.emits.items ∥₁ }
+        ensures loop_no { result.loop_no ≡ loop_no }
+        ensures ending { result.ending ≡ ending }
+        ensures emits { result.emits ≡ self.entry.emits }
     {
         let trail = last_trail(&self.core);
         let mut account = self.account;

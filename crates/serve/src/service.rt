@@ -1,10 +1,12 @@
 // What loops are served with.
 
-ghost use Rattle.std.specs.Prelude.{◌<◌};
+ghost use Rattle.std.specs.Prelude.{◌≡◌, ◌<◌, IfOk, IfSome};
 ghost use Rattle.limits.specs.declared.TheConstants.{MAX_LOOPS, MAX_REQUESTS};
 ghost use Rattle.order.specs.Orders.{order_of};
 ghost use Rattle.order.specs.Runnable.{CanRun};
+ghost use Rattle.board.specs.Jobs.{ticket_of};
 
+use crate::job::Job;
 use crate::meter::Meter;
 use crate::rooms::Rooms;
 use crate::task::Task;
@@ -14,7 +16,7 @@ use std::alloc::AllocError;
 use std::sync::{Arc, Wait};
 
 /// What loops are served with: how they wait, who is told what they do, and what makes the job of an order.
-pub trait Serves<J> {
+pub trait Serves<J: Job> {
     /// How they wait.
     type Rt: Wait;
 
@@ -30,11 +32,13 @@ pub trait Serves<J> {
     /// Who is told.
     fn watch(&self) -> &Self::Watcher;
 
-    /// The job of an order, which tells the meter what it uses.
-    fn job(&self, order: Order, meter: Meter) -> Result<J, AllocError>
+    /// The job of an order, which has the order's ticket and tells the meter what it uses. None if the job that was made has another
+    /// ticket: that one is dropped.
+    fn job(&self, order: Order, meter: Meter) -> Result<Option<J>, AllocError>
         requires ready { ready self.now }
         requires runs { CanRun (order_of order) }
-        requires there { (order.loop_no < MAX_LOOPS) × (order.slot < MAX_REQUESTS) };
+        requires there { (order.loop_no < MAX_LOOPS) × (order.slot < MAX_REQUESTS) }
+        ensures ticket { IfOk result (λ made. IfSome made (λ job. J.ticket job ≡ ticket_of order)) };
 }
 
 /// The same as values, and the rooms that the tasks share.
@@ -50,7 +54,7 @@ pub struct Service<'a, R, M, W> {
     pub rooms: &'a Arc<Rooms>,
 }
 
-impl<R: Wait, M: Fn(Task) -> Result<J, AllocError>, J, W: Watch> Serves<J>
+impl<R: Wait, M: Fn(Task) -> Result<J, AllocError>, J: Job, W: Watch> Serves<J>
     for Service<'_, R, M, W> {
     type Rt = R;
 
@@ -66,8 +70,14 @@ impl<R: Wait, M: Fn(Task) -> Result<J, AllocError>, J, W: Watch> Serves<J>
         self.watch
     }
 
-    fn job(&self, order: Order, meter: Meter) -> Result<J, AllocError> {
+    fn job(&self, order: Order, meter: Meter) -> Result<Option<J>, AllocError> {
         let rooms = Arc::try_clone(self.rooms)?;
-        (self.make)(Task::new(order, meter, rooms))
+        let task = Task::new(order, meter, rooms);
+        let ticket = task.ticket();
+        let job = (self.make)(task)?;
+        if job.ticket() == ticket {
+            return Ok(Some(job));
+        }
+        Ok(None)
     }
 }

@@ -1,30 +1,61 @@
-use Rattle.std.proofs.Common.{◌≡◌, length, subst, ◌∙◌, arith}
-use Rattle.std.proofs.lemmas.List.Elements.{All-tail}
-use Rattle.std.specs.List.{All}
-use Rattle.claims.specs.Views.{LoopView}
-use Rattle.serve.specs.Inner.Places.{IsNewSeat}
-use Rattle.serve.proofs.NumberedLists.{from_first, from_rest, push_at, longer_by, shorter_by}
+use Rattle.std.proofs.Common.{◌≡◌, ◌+◌, length, sym, ap, subst, ◌∙◌, arith}
+use Rattle.claims.specs.Views.{LoopView, new_loop_view}
+use Rattle.serve.specs.Inner.Places.{IsPassAt, EachDown}
+use Rattle.serve.proofs.NumberedLists.{from_front, from_last, longer_by}
+use Rattle.serve.proofs.Placing.{one_less, down_push}
 use Rattle.serve.proofs.place.loop_places.Goals as goal
+
+pub loop_place-requires-clause-seat : goal.loop_place-requires-clause-seat
+loop_place-requires-clause-seat g c =
+    let kept = c.loop-seat.invariant in
+    let seat = from_last (λ k (s : LoopView). s ≡ new_loop_view c.args.claims.now.id k) c.loop-seat.seats.items c.pop.new.self.items c.in-Some.seat c.in-Some.ensures.items kept.1 in
+    seat ∙ ap (new_loop_view c.args.claims.now.id) (sym (ap (λ (s : LoopView). s.loop_no) seat))
+
+pub loop_place-requires-clause-pass : goal.loop_place-requires-clause-pass
+loop_place-requires-clause-pass g c =
+    let kept = c.loop-seat.invariant in
+    let seat = from_last (λ k (s : LoopView). s ≡ new_loop_view c.args.claims.now.id k) c.loop-seat.seats.items c.pop.new.self.items c.in-Some.seat c.in-Some.ensures.items kept.1 in
+    let number = ap (λ (s : LoopView). s.loop_no) seat in
+    let fewer = one_less c.loop-seat.seats.items c.pop.new.self.items c.in-Some.seat c.in-Some.ensures.items in
+    let less = one_less c.loop-seat.passes.items c.take_pass-pass.new.passes.items c.take_pass-pass.result c.take_pass-pass.ensures in
+    let all = kept.2 in
+    let place : length c.take_pass-pass.new.passes.items ≡ c.in-Some.seat.loop_no = omega arith in
+    subst (λ n. IsPassAt c.args.board.now n c.take_pass-pass.result) place
+    (from_last (IsPassAt c.args.board.now) c.loop-seat.passes.items c.take_pass-pass.new.passes.items c.take_pass-pass.result c.take_pass-pass.ensures kept.0)
 
 pub loop-seat-preserved : goal.loop-seat-preserved
 loop-seat-preserved g c =
     let kept = c.loop-seat.invariant in
-    let places = c.loop-seat.places.items in
-    let rest = c.loop-seat.seat-iterator.rest.items in
-    let more = c.next.new.self.rest.items in
-    let split = c.in-Some.ensures.steps.0 in
-    let shorter = shorter_by rest c.in-Some.seat more split in
-    let first = from_first (λ k (s : LoopView). s.loop_no ≡ k) (length places) rest c.in-Some.seat more split kept.2 in
+    let seat = from_last (λ k (s : LoopView). s ≡ new_loop_view c.args.claims.now.id k) c.loop-seat.seats.items c.pop.new.self.items c.in-Some.seat c.in-Some.ensures.items kept.1 in
+    let number = ap (λ (s : LoopView). s.loop_no) seat in
+    let same = c.loop_place.ensures.number in
+    let fewer = one_less c.loop-seat.seats.items c.pop.new.self.items c.in-Some.seat c.in-Some.ensures.items in
+    let less = one_less c.loop-seat.passes.items c.take_pass-pass.new.passes.items c.take_pass-pass.result c.take_pass-pass.ensures in
     let pushed = c.in_ok-push.ensures.items in
-    let longer = longer_by places c.loop_place.result c.push.new.self.items pushed in
-    let room = kept.4 in
-    let all = kept.5 in
-    let taken = c.take_pass-pass.ensures.count in
-    let seats : All (IsNewSeat c.args.claims.now) more = All-tail (IsNewSeat c.args.claims.now) c.in-Some.seat more (subst (All (IsNewSeat c.args.claims.now)) split kept.1) in (
-      c.take_pass-pass.ensures.rest,
-      seats,
-      from_rest (λ k (s : LoopView). s.loop_no ≡ k) (length places) (length c.push.new.self.items) rest c.in-Some.seat more split longer kept.2,
-      push_at _ places c.loop_place.result c.push.new.self.items pushed kept.3 (c.loop_place.ensures ∙ first),
-      omega (arith, shorter, room, taken),
-      omega (arith, shorter, all, longer),
+    let longer = longer_by c.loop-seat.places.items c.loop_place.result c.push.new.self.items pushed in
+    let all = kept.2 in
+    let made = kept.3 in (
+      from_front (IsPassAt c.args.board.now) c.loop-seat.passes.items c.take_pass-pass.new.passes.items c.take_pass-pass.result c.take_pass-pass.ensures kept.0,
+      from_front (λ k (s : LoopView). s ≡ new_loop_view c.args.claims.now.id k) c.loop-seat.seats.items c.pop.new.self.items c.in-Some.seat c.in-Some.ensures.items kept.1,
+      omega arith,
+      omega arith,
+      down_push _ (length c.args.seats.items) c.loop-seat.places.items c.push.new.self.items c.loop_place.result c.in-Some.seat.loop_no pushed (omega arith)
+          (c.loop_place.ensures.board, same) kept.4,
     )
+
+pub loop_place-requires-clause-there : goal.loop_place-requires-clause-there
+loop_place-requires-clause-there g c =
+    let kept = c.loop-seat.invariant in
+    let seat = from_last (λ k (s : LoopView). s ≡ new_loop_view c.args.claims.now.id k) c.loop-seat.seats.items c.pop.new.self.items c.in-Some.seat c.in-Some.ensures.items kept.1 in
+    let number = ap (λ (s : LoopView). s.loop_no) seat in
+    let fewer = one_less c.loop-seat.seats.items c.pop.new.self.items c.in-Some.seat c.in-Some.ensures.items in
+    let made = kept.3 in
+    let loops = c.requires.loops in
+    omega arith
+
+pub returns-clause-each : goal.returns-clause-each
+returns-clause-each g c =
+    let kept = c.loop-seat.invariant in
+    let over = c.in_default.ensures.cases in
+    let made = kept.3 in
+    subst (λ n. EachDown (λ k p. (p.board.now ≡ c.args.board.now) × (p.seat.loop_no ≡ k)) n c.loop-seat.places.items) (omega arith) kept.4

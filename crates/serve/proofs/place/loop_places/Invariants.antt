@@ -1,14 +1,15 @@
-use Rattle.std.proofs.Common.{◌≡◌, ◌+◌, ◌≤◌, length, All}
-use Rattle.board.specs.Boards.{IsNewPass}
-use Rattle.serve.specs.Inner.Places.{IsNewSeat, EachFrom}
+use Rattle.std.proofs.Common.{◌≡◌, ◌+◌, length}
+use Rattle.claims.specs.Views.{new_loop_view}
+use Rattle.serve.specs.Inner.Places.{IsPassAt, EachFrom, EachDown}
 use Rattle.serve.proofs.place.loop_places.Given as goal
 
 abbrev pub invariant-loop-seat : goal.invariant-loop-seat
 invariant-loop-seat g l =
-    let rest = l.seat-iterator.rest.items in
-    All (IsNewPass l.board) l.passes.items
-    × All (IsNewSeat l.claims) rest
-    × EachFrom (λ k s. s.loop_no ≡ k) (length l.places.items) rest
-    × EachFrom (λ k p. p.seat.loop_no ≡ k) 0 l.places.items
-    × (length rest ≤ length l.passes.items)
-    × (length l.places.items + length rest ≡ length l.fn.seats.items)
+    EachFrom (IsPassAt l.board) 0 l.passes.items
+    × EachFrom (λ k s. s ≡ new_loop_view l.claims.id k) 0 l.seats.items
+    × (length l.passes.items ≡ length l.seats.items)
+    × (length l.places.items + length l.seats.items ≡ length l.fn.seats.items)
+    × EachDown (λ k p. (p.board.now ≡ l.board) × (p.seat.loop_no ≡ k)) (length l.fn.seats.items) l.places.items
+
+abbrev pub decreases-loop-seat : goal.decreases-loop-seat
+decreases-loop-seat g l = length l.seats.items

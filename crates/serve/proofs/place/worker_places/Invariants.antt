@@ -1,13 +1,15 @@
-use Rattle.std.proofs.Common.{◌≡◌, ◌+◌, ◌≤◌, length, All}
-use Rattle.board.specs.Boards.{IsNewPass}
+use Rattle.std.proofs.Common.{◌≡◌, ◌+◌, length}
+use Rattle.claims.specs.Views.{new_worker_view}
+use Rattle.serve.specs.Inner.Places.{IsPassAt, EachFrom, EachDown}
 use Rattle.serve.proofs.place.worker_places.Given as goal
 
 abbrev pub invariant-loop-seat : goal.invariant-loop-seat
 invariant-loop-seat g l =
-    All (IsNewPass l.board) l.passes.items
-    × All (λ s. s.claims ≡ l.claims.id) l.seats.items
-    × (length l.seats.items ≤ length l.passes.items)
-    × (length l.fn.passes.items + length l.seats.items ≡ length l.passes.items + length l.fn.seats.items)
+    EachFrom (IsPassAt l.board) 0 l.passes.items
+    × EachFrom (λ k s. s ≡ new_worker_view l.claims.id k) 0 l.seats.items
+    × (length l.passes.items ≡ l.claims.loops + length l.seats.items)
+    × (length l.places.items + length l.seats.items ≡ length l.fn.seats.items)
+    × EachDown (λ w p. (p.board.now ≡ l.board) × (p.claims.now ≡ l.claims) × (p.seat.worker_no ≡ w)) (length l.fn.seats.items) l.places.items
 
 abbrev pub decreases-loop-seat : goal.decreases-loop-seat
 decreases-loop-seat g l = length l.seats.items

@@ -5,4 +5,4 @@ abbrev pub invariant-loop : goal.invariant-loop
 invariant-loop g l =
     (goal.iterator-loop g).can_next l.iterator'
     × (goal.iterator-loop g).is_finite l.iterator'
-    × KeepsGoing l.fn.self.recorded l.self.recorded
+    × KeepsGoing g.J.Job.ticket l.fn.self l.self

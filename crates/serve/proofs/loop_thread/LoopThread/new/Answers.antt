@@ -1,11 +1,14 @@
-use Rattle.std.proofs.Common.{◌≡◌, refl, sym, ap, subst, ◌∙◌}
+use Rattle.std.proofs.Common.{◌≡◌, [], refl, sym, ap, subst, ◌∙◌}
+use Rattle.std.proofs.Math.Logic.{∥∥₁_map}
 use Rattle.phases.specs.View.{new_view}
 use Rattle.pool.specs.Share.{view_by}
 use Rattle.pool.specs.declared.seats.Seats.{Seats}
 use Rattle.serve.specs.Histories.{thread_calls}
 use Rattle.serve.specs.Inner.Alone.{IsAlone}
 use Rattle.serve.proofs.OneEventMore.{opens_new}
+use Rattle.serve.specs.Inner.Ends.{IsTied}
 use Rattle.serve.proofs.SentAlone.{none_sent}
+use Rattle.serve.proofs.Tying.{tied_new}
 use Rattle.serve.proofs.loop_thread.LoopThread.new.Goals as goal
 
 pub new-requires-2-clause-opens : goal.new-requires-2-clause-opens
@@ -21,3 +24,9 @@ pub new-requires-2-clause-alone : goal.new-requires-2-clause-alone
 new-requires-2-clause-alone g c =
     let taker = ap (λ (s : Seats). s.taker) c.in_ok-core.ensures.shared ∙ c.new-seats.ensures.taker ∙ c.requires in
     subst IsAlone (sym taker) (refl, refl, refl, none_sent)
+
+pub returns-clause-told : goal.returns-clause-told
+returns-clause-told g c =
+    let done = c.new-2.ensures.done in
+    let place = c.args.place in
+    ∥∥₁_map place.new (λ new. record { done = done.0; tied = subst (IsTied g.J.Job.ticket c.loop_no-loop_no.result place.pass []) (sym done.1) (tied_new g.J.Job.ticket place.board.now c.loop_no-loop_no.result place.pass new) })

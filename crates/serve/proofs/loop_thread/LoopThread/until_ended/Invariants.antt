@@ -1,10 +1,8 @@
-use Rattle.std.proofs.Common.{◌≡◌}
-use Rattle.serve.specs.Inner.Threads.{CanGoOn}
+use Rattle.serve.specs.Inner.Threads.{KeepsGoing}
 use Rattle.serve.proofs.loop_thread.LoopThread.until_ended.Given as goal
 
 abbrev pub invariant-loop : goal.invariant-loop
 invariant-loop g l =
     (goal.iterator-loop g).can_next l.iterator'
     × (goal.iterator-loop g).is_finite l.iterator'
-    × (l.self.recorded.core.setting ≡ l.fn.self.recorded.core.setting)
-    × CanGoOn l.self.recorded
+    × KeepsGoing g.J.Job.ticket l.fn.self l.self

@@ -1,8 +1,8 @@
-use Rattle.std.proofs.Common.{sym, subst}
+use Rattle.std.proofs.Common.{refl, sym, subst}
 use Rattle.pool.specs.declared.seats.Seats.{Seats}
 use Rattle.serve.specs.Histories.{thread_calls}
 use Rattle.serve.specs.Inner.Alone.{IsAlone}
-use Rattle.serve.proofs.OneEventMore.{does_accept, accepted_leaves}
+use Rattle.serve.proofs.OneEventMore.{moves_accept, accepted_leaves}
 use Rattle.serve.proofs.Turning.{goes_still}
 use Rattle.serve.proofs.record.LoopRecord.accept.Goals as goal
 
@@ -15,8 +15,11 @@ invariant_of-self c =
     record {
       few = r.few;
       alone = alone;
-      told = does_accept c.accept-accepted.ensures.setting r.told alone c.args.reply c.accept-accepted.result told;
     }
+
+pub returns-clause-offered : goal.returns-clause-offered
+returns-clause-offered c =
+    moves_accept _ _ c.accept-accepted.ensures.setting c.args.reply c.accept-accepted.result c.accept-accepted.ensures.told refl refl
 
 pub returns-clause-goes : goal.returns-clause-goes
 returns-clause-goes c =

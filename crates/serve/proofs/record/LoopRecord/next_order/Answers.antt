@@ -1,9 +1,9 @@
-use Rattle.std.proofs.Common.{sym, ap, subst, ◌∙◌}
+use Rattle.std.proofs.Common.{refl, sym, ap, subst, ◌∙◌}
 use Rattle.pool.specs.declared.seats.Seats.{Seats}
 use Rattle.phases.specs.State.{Loop}
 use Rattle.serve.specs.Histories.{thread_calls}
 use Rattle.serve.specs.Inner.Alone.{IsAlone}
-use Rattle.serve.proofs.OneEventMore.{does_order}
+use Rattle.serve.proofs.OneEventMore.{moves_order}
 use Rattle.serve.proofs.Turning.{goes_still, handed_roster, handed_phase}
 use Rattle.serve.proofs.record.LoopRecord.next_order.Goals as goal
 
@@ -14,8 +14,11 @@ invariant_of-self c =
     record {
       few = r.few;
       alone = alone;
-      told = does_order c.next_order.ensures.setting r.told alone c.next_order.ensures.core;
     }
+
+pub returns-clause-handed : goal.returns-clause-handed
+returns-clause-handed c =
+    moves_order _ _ c.next_order.ensures.setting c.next_order.result c.next_order.ensures.order c.next_order.ensures.core refl refl
 
 pub returns-clause-goes : goal.returns-clause-goes
 returns-clause-goes c =

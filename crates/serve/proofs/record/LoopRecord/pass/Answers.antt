@@ -1,9 +1,9 @@
-use Rattle.std.proofs.Common.{ap, sym, subst, ◌∙◌, arith}
+use Rattle.std.proofs.Common.{refl, ap, sym, subst, ◌∙◌, arith}
 use Rattle.pool.specs.declared.seats.Seats.{Seats}
 use Rattle.phases.specs.State.{Loop}
 use Rattle.serve.specs.Histories.{thread_calls}
 use Rattle.serve.specs.Inner.Alone.{IsAlone}
-use Rattle.serve.proofs.OneEventMore.{does_wait}
+use Rattle.serve.proofs.OneEventMore.{moves_wait}
 use Rattle.serve.proofs.Turning.{goes_still}
 use Rattle.serve.proofs.record.LoopRecord.pass.Goals as goal
 
@@ -11,15 +11,19 @@ pub invariant_of-self : goal.invariant_of-self
 invariant_of-self c =
     let r = c.args.self.now in
     let read = c.clock-clock in
-    let sum = c.saturating_add-moment.ensures in
     let shared = ap (λ (l : Loop Seats). l.shared) c.clock.ensures.core ∙ ap (λ (l : Loop Seats). l.shared) read.ensures.core in
     let alone : IsAlone c.clock.new.self.loop.shared.taker = subst (λ (s : Seats). IsAlone s.taker) (sym shared) r.alone in
     record {
       few = r.few;
       alone = alone;
-      told = does_wait (c.clock.ensures.setting ∙ read.ensures.setting) r.told alone c.args.ms read.result c.saturating_add-moment.result
-          read.ensures.core read.ensures.clock (omega arith) c.clock.ensures.core c.requires.none c.requires.still c.requires.hint;
     }
+
+pub returns-clause-moves : goal.returns-clause-moves
+returns-clause-moves c =
+    let read = c.clock-clock in
+    let sum = c.saturating_add-moment.ensures in
+    moves_wait _ _ (c.clock.ensures.setting ∙ read.ensures.setting) read.new.self.loop c.args.ms read.result c.saturating_add-moment.result
+    read.ensures.core read.ensures.clock (omega arith) c.clock.ensures.core c.requires.none c.requires.still c.requires.hint refl refl
 
 pub returns-clause-goes : goal.returns-clause-goes
 returns-clause-goes c =

@@ -1,6 +1,6 @@
-use Rattle.std.proofs.Common.{◌++◌, ap, ◌∙◌, arith}
+use Rattle.std.proofs.Common.{◌++◌, refl, ap, ◌∙◌, arith}
 use Rattle.phases.specs.Bare.{whole_did}
-use Rattle.serve.proofs.OneEventMore.{does_run, does_other, tells_other}
+use Rattle.serve.proofs.OneEventMore.{moves_run, moves_other, tells_other}
 use Rattle.serve.proofs.SentAlone.{step_alone}
 use Rattle.serve.proofs.Turning.{step_drains, step_at_turn, step_drained}
 use Rattle.serve.proofs.record.LoopRecord.step.Goals as goal
@@ -19,8 +19,6 @@ invariant_of-self-in-Ran c =
     record {
       few = omega arith;
       alone = alone;
-      told = does_run step.ensures.setting r.told alone c.append.new.emits.items _ _ _ (whole_did step.result) (ap whole_did c.in-Ran.is) step.ensures.step
-          (c.append.ensures ∙ ap (λ xs. xs ++ c.emits.result.now) c.reserve.ensures.items ∙ ap (λ xs. r.emits.items ++ xs) c.emits.ensures.emits);
     }
 
 pub invariant_of-self-in_default : goal.invariant_of-self-in_default
@@ -31,9 +29,19 @@ invariant_of-self-in_default c =
     record {
       few = r.few;
       alone = alone;
-      told = does_other step.ensures.setting r.told alone c.reserve.new.self.items (whole_did step.result) step.ensures.step c.reserve.ensures.items
-          (tells_other step.result c.in_default.not-Ran);
     }
+
+pub returns-in-Ran-clause-moves : goal.returns-in-Ran-clause-moves
+returns-in-Ran-clause-moves c =
+    let r = c.args.self.now in
+    let step = c.step_bare-did in
+    moves_run _ _ step.ensures.setting _ _ _ (whole_did step.result) (ap whole_did c.in-Ran.is) step.ensures.step refl
+    (c.append.ensures ∙ ap (λ xs. xs ++ c.emits.result.now) c.reserve.ensures.items ∙ ap (λ xs. r.emits.items ++ xs) c.emits.ensures.emits)
+
+pub returns-in_default-clause-moves : goal.returns-in_default-clause-moves
+returns-in_default-clause-moves c =
+    let step = c.step_bare-did in
+    moves_other _ _ step.ensures.setting (whole_did step.result) step.ensures.step refl c.reserve.ensures.items (tells_other step.result c.in_default.not-Ran)
 
 pub returns-in-Ran-clause-at_turn : goal.returns-in-Ran-clause-at_turn
 returns-in-Ran-clause-at_turn c =

@@ -1,6 +1,7 @@
 use Rattle.std.proofs.Common.{◌≡◌, ◌<◌, ◌≤◌}
 use Rattle.limits.specs.declared.TheConstants.{MAX_CALLBACKS}
 use Rattle.serve.specs.Histories.{thread_calls}
+use Rattle.serve.specs.Inner.Moves.{MovesAlone}
 use Rattle.serve.specs.Inner.Turns.{Drains}
 use Rattle.serve.proofs.record.LoopRecord.step_through.Given as goal
 
@@ -8,6 +9,7 @@ abbrev pub invariant-loop : goal.invariant-loop
 invariant-loop g l =
     (goal.iterator-loop g).can_next l.iterator'
     × (goal.iterator-loop g).is_finite l.iterator'
+    × MovesAlone l.fn.self l.self
     × (l.self.core.setting ≡ l.fn.self.core.setting)
     × (l.self.ran < MAX_CALLBACKS)
     × (l.fn.self.ran ≤ l.self.ran)

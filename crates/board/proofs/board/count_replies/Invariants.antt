@@ -1,0 +1,10 @@
+use Rattle.std.proofs.Common.{◌≡◌, ◌<◌, ◌≤◌, ℕ, length, Some, slice_get}
+use Rattle.order.specs.declared.reply.Reply.{Reply}
+use Rattle.board.specs.Views.{MakerView, IsWhole}
+use Rattle.board.proofs.board.count_replies.Given as goal
+
+abbrev pub invariant-loop-i : goal.invariant-loop-i
+invariant-loop-i l =
+    (l.makers.items ≡ l.fn.makers.items)
+    × (l.i ≤ length l.lines)
+    × ((k : ℕ) (m : MakerView Reply) → k < l.i → slice_get l.fn.makers.items k ≡ Some m → IsWhole m.hands)

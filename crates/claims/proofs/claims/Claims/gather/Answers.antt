@@ -1,0 +1,29 @@
+use Rattle.std.proofs.Common.{sym, ap, ◌∙◌, arith}
+use Rattle.claims.proofs.Allowed.{joins_allowed, counts_allowed, both_workers}
+use Rattle.claims.proofs.claims.Claims.gather.Goals as goal
+
+pub join_seat-requires : goal.join_seat-requires
+join_seat-requires c =
+    let id = sym (ap (λ u. u.id) c.self.view_is) in
+    let mine = ap (λ u. u.claims) c.seat.view_is ∙ c.requires.0 ∙ id in
+    let theirs = ap (λ u. u.claims) c.other.view_is ∙ c.requires.1 ∙ id in
+    let size = c.self.invariant.1 in
+    let words = ap (λ t. t.words) mine in
+    let known = c.other.invariant in
+    (mine, theirs, known.0, omega arith, joins_allowed _ _ _ _ known.1)
+
+pub load-requires : goal.load-requires
+load-requires c =
+    let id = sym (ap (λ u. u.id) c.self.view_is) in
+    let mine = ap (λ u. u.claims) c.seat.view_is ∙ c.requires.0 ∙ id in
+    let size = c.self.invariant.1 in
+    let words = ap (λ t. t.words) mine in
+    (c.join_seat.ensures.0 ∙ mine, omega arith, counts_allowed _ _ _ _)
+
+pub invariant_of-seat : goal.invariant_of-seat
+invariant_of-seat c =
+    let me = c.join_seat.ensures.2 in
+    let counted = c.load.ensures.2 in (
+      counted.0 ∙ (ap (λ m. m.1) me ∙ c.seat.invariant.0),
+      both_workers _ c.other.inside.seat.me.0 _ (counted.1.0 ∙ ap (λ m. m.0) me) c.seat.invariant.1,
+    )

@@ -1,0 +1,34 @@
+-- What a loop that has ended in its thread gives back.
+use Rattle.std.proofs.Common.{◌≡◌, ℕ, ◌+◌, List, [], ◌++◌, append-nil, refl, sym, ap, subst, ◌∙◌}
+use Rattle.std.proofs.Math.Logic.{∥∥₁_map}
+use Rattle.std.specs.Prelude.{option_to_list}
+use Rattle.claims.specs.declared.seats.Ticket.{Ticket}
+use Rattle.board.specs.Boards.{HasNumber}
+use Rattle.serve.specs.declared.loop_thread.LoopThread.{LoopThread}
+use Rattle.serve.specs.declared.served.LoopEnding.{LoopEnding}
+use Rattle.serve.specs.declared.served.Served.{Served}
+use Rattle.serve.specs.Histories.{HasDone, HasEnded, EndsBy, thread_calls}
+use Rattle.serve.specs.Inner.Ends.{IsTied, DidEvents, LoopEnds}
+use Rattle.serve.specs.Inner.Threads.{HasTied, IsTiedSoFar}
+use Rattle.serve.proofs.Tying.{tied_less}
+
+module _ {J : Type 0} (ticket : J → Ticket) (t : LoopThread J) where
+  pub done_of : IsTiedSoFar ticket t → ∥ HasDone thread_calls t.recorded.core.setting t.recorded.core.loop t.recorded.ran t.recorded.emits.items ∥₁
+  done_of h = ∥∥₁_map h (λ tied. tied.done)
+
+  did : (ending : LoopEnding) → EndsBy thread_calls ending t.recorded.core.loop t.recorded.ran → HasTied ticket t (option_to_list t.kept)
+      → DidEvents ticket t.recorded.core.setting ending t.recorded.emits.items t.pass
+  did ending ends tied = record {
+    ended = record { now = t.recorded.core.loop; ran = t.recorded.ran; few = t.recorded.few; done = tied.done; ends = ends };
+    tied = subst (λ n. IsTied ticket n t.pass [] tied.done.events) (sym t.numbered) (tied_less ticket t.loop_no t.pass (option_to_list t.kept) tied.done.events tied.tied);
+  }
+
+  pub loop_ends : (ending : LoopEnding) (served : Served) → served.loop_no ≡ t.loop_no → served.ending ≡ ending → served.emits ≡ t.recorded.emits → EndsBy thread_calls ending t.recorded.core.loop t.recorded.ran → IsTiedSoFar ticket t
+      → LoopEnds ticket t.board.now t.recorded.core.setting served t.pass
+  loop_ends ending served number how emits ends told = record {
+    own = t.of_board;
+    number = subst (λ n. HasNumber (n + 1) t.pass) (sym t.numbered) t.number;
+    numbered = number ∙ sym t.numbered;
+    did = subst (λ how. ∥ DidEvents ticket t.recorded.core.setting how served.emits.items t.pass ∥₁) (sym how)
+        (subst (λ emits. ∥ DidEvents ticket t.recorded.core.setting ending emits.items t.pass ∥₁) (sym emits) (∥∥₁_map told (did ending ends)));
+  }

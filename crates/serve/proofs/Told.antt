@@ -1,0 +1,170 @@
+-- How the history of a loop in its thread goes on, tied to its pass.
+use Rattle.std.proofs.Common.{◌≡◌, ◌≢◌, ℕ, ◌+◌, List, [], ◌∷◌, ◌++◌, Option, Some, None, refl, sym, ap, subst, ◌∙◌, append_assoc, arith}
+use Rattle.std.proofs.Math.Logic.{∥∥₁_map}
+use Rattle.std.specs.Prelude.{option_to_list, IfSome, IfNone, OnOk, Result, Ok, Err}
+use Rattle.claims.specs.declared.seats.Ticket.{Ticket}
+use Rattle.order.specs.Orders.{order_of, end_of}
+use Rattle.order.specs.declared.order.Order.{Order}
+use Rattle.order.specs.declared.reply.Reply.{Reply}
+use Rattle.board.specs.Jobs.{ticket_of}
+use Rattle.board.specs.Boards.{BoardView, PassView, IsNewPass, Posts, Collects}
+use Rattle.phases.specs.History.{Event, OrderAsked, EndOffered, emitted}
+use Rattle.serve.specs.declared.loop_thread.LoopThread.{LoopThread}
+use Rattle.serve.specs.declared.record.LoopRecord.{LoopRecord}
+use Rattle.serve.specs.Histories.{HasDone, thread_calls, callbacks_in}
+use Rattle.serve.specs.Inner.Ends.{IsTied}
+use Rattle.serve.specs.Inner.Moves.{MovesBy, MovesAlone, RecordHandsOut, IsOffered}
+use Rattle.serve.specs.Inner.Threads.{HasTied, IsTiedSoFar, Stays, KeepsGoing}
+use Rattle.serve.proofs.OneEventMore.{no_move, then_more, emitted_append, callbacks_append}
+use Rattle.serve.proofs.Tying.{tied_more, tied_less, tied_made, tied_post, tied_collect}
+
+pub when_none : {A P : Type 0} (r : Option A) → ((x : A) → r ≢ Some x) → IfNone r P → P
+when_none None not h = h
+when_none (Some x) not h = absurd (not x refl)
+
+pub is_none : {A : Type 0} (r : Option A) → ((x : A) → r ≢ Some x) → r ≡ None
+is_none None not = refl
+is_none (Some x) not = absurd (not x refl)
+
+pub when_ok : {T E P : Type 0} (r : Result T E) → ((x : E) → r ≢ Err x) → OnOk r P → P
+when_ok (Ok x) not h = h
+when_ok (Err e) not h = absurd (not e refl)
+
+-- a history, and more events
+pub done_more : (old new : LoopRecord) (events : List Event) → MovesBy old events new → (d : HasDone thread_calls old.core.setting old.core.loop old.ran old.emits.items)
+    → (e : HasDone thread_calls new.core.setting new.core.loop new.ran new.emits.items) × (e.events ≡ d.events ++ events)
+done_more old new events moves d =
+    subst (λ g. (e : HasDone thread_calls g new.core.loop new.ran new.emits.items) × (e.events ≡ d.events ++ events)) (sym moves.setting) (
+      record {
+        start = d.start;
+        opens = d.opens;
+        events = d.events ++ events;
+        history = then_more old.core.setting d.events events d.start old.core.loop new.core.loop d.history moves.history;
+        alone = new.alone.3;
+        counted = (let a = d.counted in let b = moves.counted in let c = callbacks_append d.events events in omega arith);
+        told = moves.told ∙ ap (λ xs. xs ++ emitted events) d.told ∙ sym (emitted_append d.events events);
+      },
+      refl,
+    )
+
+module _ {J : Type 0} (ticket : J → Ticket) (old new : LoopThread J) where
+  pub told_more : (kept kept' : List J) (events : List Event) → MovesBy old.recorded events new.recorded
+      → ((was : List Event) → IsTied ticket old.loop_no old.pass kept was → IsTied ticket new.loop_no new.pass kept' (was ++ events)) → ∥ HasTied ticket old kept ∥₁ → ∥ HasTied ticket new kept' ∥₁
+  told_more kept kept' events moves f h = ∥∥₁_map h one where
+    one : HasTied ticket old kept → HasTied ticket new kept'
+    one t = let e = done_more old.recorded new.recorded events moves t.done in record { done = e.0; tied = subst (IsTied ticket new.loop_no new.pass kept') (sym e.1) (f t.done.events t.tied) }
+
+  -- the record stays
+  pub told_still : (kept kept' : List J) → new.recorded ≡ old.recorded → ((was : List Event) → IsTied ticket old.loop_no old.pass kept was → IsTied ticket new.loop_no new.pass kept' was)
+      → ∥ HasTied ticket old kept ∥₁ → ∥ HasTied ticket new kept' ∥₁
+  told_still kept kept' same f h = ∥∥₁_map h one where
+    Done : LoopRecord → List Event → Type 0
+    Done r events = (d : HasDone thread_calls r.core.setting r.core.loop r.ran r.emits.items) × (d.events ≡ events)
+
+    one : HasTied ticket old kept → HasTied ticket new kept'
+    one t = let e : Done new.recorded t.done.events = subst (λ r. Done r t.done.events) (sym same) (t.done, refl) in record { done = e.0; tied = subst (IsTied ticket new.loop_no new.pass kept') (sym e.1) (f t.done.events t.tied) }
+
+  -- the loop moves alone
+  pub stays_alone : new.board ≡ old.board → new.loop_no ≡ old.loop_no → new.pass ≡ old.pass → new.kept ≡ old.kept → MovesAlone old.recorded new.recorded → Stays ticket old new
+  stays_alone board number pass kept moves = record {
+    board = board;
+    setting = moves.moves.setting;
+    told = told_more (option_to_list old.kept) (option_to_list new.kept) moves.events moves.moves
+        (λ was tied.
+        subst (λ n. IsTied ticket n new.pass (option_to_list new.kept) (was ++ moves.events)) (sym number)
+        (subst (λ p. IsTied ticket old.loop_no p (option_to_list new.kept) (was ++ moves.events)) (sym pass)
+        (subst (λ k. IsTied ticket old.loop_no old.pass (option_to_list k) (was ++ moves.events)) (sym kept) (tied_more ticket old.loop_no old.pass (option_to_list old.kept) was moves.events moves.none tied))));
+  }
+
+  pub stays_same : new.board ≡ old.board → new.loop_no ≡ old.loop_no → new.pass ≡ old.pass → new.kept ≡ old.kept → new.recorded ≡ old.recorded → Stays ticket old new
+  stays_same board number pass kept same =
+      stays_alone board number pass kept
+      (no_move old.recorded new.recorded (ap (λ (r : LoopRecord). r.core.setting) same) (ap (λ (r : LoopRecord). r.core.loop) same) (ap (λ (r : LoopRecord). r.ran) same) (ap (λ (r : LoopRecord). r.emits.items) same))
+
+  -- it is offered a reply that was collected
+  pub stays_offered : (reply : Reply) → new.board ≡ old.board → new.loop_no ≡ old.loop_no → new.kept ≡ old.kept → reply.order.loop_no ≡ old.loop_no → Collects old.pass new.pass old.loop_no reply
+      → IsOffered old.recorded reply new.recorded → Stays ticket old new
+  stays_offered reply board number kept of_loop collects offered =
+      let e : List Event = EndOffered (order_of reply.order) (end_of reply.outcome) offered.0 ∷ [] in
+      record {
+        board = board;
+        setting = offered.1.setting;
+        told = told_more (option_to_list old.kept) (option_to_list new.kept) e offered.1
+            (λ was tied.
+            subst (λ n. IsTied ticket n new.pass (option_to_list new.kept) (was ++ e)) (sym number)
+            (subst (λ k. IsTied ticket old.loop_no new.pass (option_to_list k) (was ++ e)) (sym kept) (tied_collect ticket old.loop_no old.pass new.pass (option_to_list old.kept) reply offered.0 was of_loop collects tied)));
+      }
+
+  -- it hands out an order, of which no job is kept
+  pub stays_asked : (order : Option Order) → new.board ≡ old.board → new.loop_no ≡ old.loop_no → new.pass ≡ old.pass → old.kept ≡ None → new.kept ≡ None → RecordHandsOut old.recorded order new.recorded → Stays ticket old new
+  stays_asked order board number pass was_none none handed =
+      stays_alone board number pass (none ∙ sym was_none) (record { events = _; moves = handed; none = refl })
+
+  -- or one whose job was made
+  pub told_made : (order : Order) (job : J) → new.loop_no ≡ old.loop_no → new.pass ≡ old.pass → old.kept ≡ None → RecordHandsOut old.recorded (Some order) new.recorded → ticket job ≡ ticket_of order
+      → IsTiedSoFar ticket old → ∥ HasTied ticket new (job ∷ []) ∥₁
+  told_made order job number pass none handed made h =
+      told_more [] (job ∷ []) (OrderAsked (Some (order_of order)) ∷ []) handed
+      (λ was tied.
+      subst (λ n. IsTied ticket n new.pass (job ∷ []) (was ++ OrderAsked (Some (order_of order)) ∷ [])) (sym number)
+      (subst (λ p. IsTied ticket old.loop_no p (job ∷ []) (was ++ OrderAsked (Some (order_of order)) ∷ [])) (sym pass) (tied_made ticket old.loop_no old.pass order job was made tied)))
+      (subst (λ k. ∥ HasTied ticket old (option_to_list k) ∥₁) none h)
+
+  -- no job is kept
+  pub told_none : new.kept ≡ None → IsTiedSoFar ticket new → ∥ HasTied ticket new [] ∥₁
+  told_none none h = subst (λ k. ∥ HasTied ticket new (option_to_list k) ∥₁) none h
+
+  -- it hands out an order, whose job was made, unless that has another ticket
+  pub told_maybe : (order : Order) (made : Option J) → new.board ≡ old.board → new.loop_no ≡ old.loop_no → new.pass ≡ old.pass → old.kept ≡ None → new.kept ≡ None
+      → RecordHandsOut old.recorded (Some order) new.recorded → IfSome made (λ job. ticket job ≡ ticket_of order) → IsTiedSoFar ticket old → ∥ HasTied ticket new (option_to_list made) ∥₁
+  told_maybe order (Some job) board number pass was_none none handed made h = told_made order job number pass was_none handed made h
+  told_maybe order None board number pass was_none none handed made h =
+      told_none none ((stays_asked (Some order) board number pass was_none none handed).told h)
+
+  -- the job that was kept is taken
+  pub told_taken : (job : J) → new.loop_no ≡ old.loop_no → new.pass ≡ old.pass → new.recorded ≡ old.recorded → old.kept ≡ Some job → IsTiedSoFar ticket old → ∥ HasTied ticket new (job ∷ []) ∥₁
+  told_taken job number pass same some h =
+      told_still (job ∷ []) (job ∷ []) same
+      (λ was tied.
+      subst (λ n. IsTied ticket n new.pass (job ∷ []) was) (sym number) (subst (λ p. IsTied ticket old.loop_no p (job ∷ []) was) (sym pass) tied))
+      (subst (λ k. ∥ HasTied ticket old (option_to_list k) ∥₁) some h)
+
+  pub stays_less : new.board ≡ old.board → new.loop_no ≡ old.loop_no → new.pass ≡ old.pass → new.recorded ≡ old.recorded → new.kept ≡ None → Stays ticket old new
+  stays_less board number pass same none = record {
+    board = board;
+    setting = ap (λ (r : LoopRecord). r.core.setting) same;
+    told = told_still (option_to_list old.kept) (option_to_list new.kept) same
+        (λ was tied.
+        subst (λ k. IsTied ticket new.loop_no new.pass (option_to_list k) was) (sym none)
+        (subst (λ n. IsTied ticket n new.pass [] was) (sym number)
+        (subst (λ p. IsTied ticket old.loop_no p [] was) (sym pass) (tied_less ticket old.loop_no old.pass (option_to_list old.kept) was tied))));
+  }
+
+  -- it is posted
+  pub told_post : (job : J) → new.loop_no ≡ old.loop_no → new.recorded ≡ old.recorded → new.kept ≡ None → Posts old.pass new.pass job → ∥ HasTied ticket old (job ∷ []) ∥₁ → IsTiedSoFar ticket new
+  told_post job number same none posts h =
+      subst (λ k. ∥ HasTied ticket new (option_to_list k) ∥₁) (sym none)
+      (told_still (job ∷ []) [] same (λ was tied. subst (λ n. IsTied ticket n new.pass [] was) (sym number) (tied_post ticket old.loop_no old.pass new.pass job was posts tied)) h)
+
+  -- or kept again
+  pub told_kept : (job : J) → new.loop_no ≡ old.loop_no → new.recorded ≡ old.recorded → new.pass ≡ old.pass → new.kept ≡ Some job → ∥ HasTied ticket old (job ∷ []) ∥₁ → IsTiedSoFar ticket new
+  told_kept job number same pass some h =
+      subst (λ k. ∥ HasTied ticket new (option_to_list k) ∥₁) (sym some)
+      (told_still (job ∷ []) (job ∷ []) same
+      (λ was tied. subst (λ n. IsTied ticket n new.pass (job ∷ []) was) (sym number) (subst (λ p. IsTied ticket old.loop_no p (job ∷ []) was) (sym pass) tied)) h)
+
+module _ {J : Type 0} (ticket : J → Ticket) where
+  pub stays_then : (a b c : LoopThread J) → Stays ticket a b → Stays ticket b c → Stays ticket a c
+  stays_then a b c h rest = record { board = rest.board ∙ h.board; setting = rest.setting ∙ h.setting; told = λ t. rest.told (h.told t) }
+
+  pub keeps_then : (a b c : LoopThread J) → KeepsGoing ticket a b → KeepsGoing ticket b c → KeepsGoing ticket a c
+  keeps_then a b c h rest = (stays_then a b c h.0 rest.0, λ goes. rest.1 (h.1 goes))
+
+  -- a job is made, and then it is posted or kept
+  pub stays_with : (a b c : LoopThread J) (job : J) → Stays ticket a b → (IsTiedSoFar ticket a → ∥ HasTied ticket b (job ∷ []) ∥₁) → c.board ≡ b.board → c.recorded ≡ b.recorded
+      → (∥ HasTied ticket b (job ∷ []) ∥₁ → IsTiedSoFar ticket c) → Stays ticket a c
+  stays_with a b c job h made board same told = record {
+    board = board ∙ h.board;
+    setting = ap (λ (r : LoopRecord). r.core.setting) same ∙ h.setting;
+    told = λ t. told (made t);
+  }

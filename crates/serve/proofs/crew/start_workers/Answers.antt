@@ -1,0 +1,28 @@
+use Rattle.std.proofs.Common.{◌≡◌, length, sym, subst, arith}
+use Rattle.serve.specs.Inner.Promises.{IsWorkerThreadOf}
+use Rattle.serve.proofs.NumberedLists.{push_at, longer_by}
+use Rattle.serve.proofs.Placing.{one_less, down_front, down_last}
+use Rattle.serve.proofs.crew.start_workers.Goals as goal
+
+pub loop-place-preserved : goal.loop-place-preserved
+loop-place-preserved g c =
+    let kept = c.loop-place.invariant in
+    let started = c.loop-place.started.items in
+    let places = c.loop-place.places.items in
+    let split = c.in-Some.ensures.items in
+    let fewer = one_less places c.pop.new.self.items c.in-Some.place split in
+    let known = down_last (λ w p. (p.board.now ≡ c.args.board.now) × (p.claims.now ≡ c.args.claims.now) × (p.seat.worker_no ≡ w)) (length c.args.places.items) (length started) places c.pop.new.self.items c.in-Some.place split kept.1 kept.2 in
+    let made = c.in_ok-thread.ensures in
+    let pushed = c.push_reserved.ensures.items in
+    let longer = longer_by started c.in_ok-thread.thread c.push_reserved.new.self.items pushed in
+    let capacity = c.push_reserved.ensures.capacity in
+    let room = kept.0 in
+    let all = kept.1 in (
+      omega arith,
+      omega arith,
+      down_front (λ w p. (p.board.now ≡ c.args.board.now) × (p.claims.now ≡ c.args.claims.now) × (p.seat.worker_no ≡ w)) (length c.args.places.items) places c.pop.new.self.items c.in-Some.place split kept.2,
+      push_at _ started c.in_ok-thread.thread c.push_reserved.new.self.items pushed kept.3
+          (subst (λ w. IsWorkerThreadOf c.args.board.now c.args.claims.now w c.in_ok-thread.thread.promise) known.2
+          (subst (λ x. IsWorkerThreadOf c.args.board.now x c.in-Some.place.seat.worker_no c.in_ok-thread.thread.promise) known.1
+          (subst (λ b. IsWorkerThreadOf b c.in-Some.place.claims.now c.in-Some.place.seat.worker_no c.in_ok-thread.thread.promise) known.0 made))),
+    )

@@ -1,0 +1,51 @@
+use Rattle.std.proofs.Common.{◌≡◌, ◌+◌, length, sym, ap, subst, ◌∙◌, arith}
+use Rattle.claims.specs.Views.{WorkerView, new_worker_view}
+use Rattle.serve.specs.Inner.Places.{IsPassAt, EachDown}
+use Rattle.serve.proofs.NumberedLists.{from_front, from_last, longer_by}
+use Rattle.serve.proofs.Placing.{one_less, down_push}
+use Rattle.serve.proofs.place.worker_places.Goals as goal
+
+pub worker_place-requires-clause-seat : goal.worker_place-requires-clause-seat
+worker_place-requires-clause-seat g c =
+    let kept = c.loop-seat.invariant in
+    let seat = from_last (λ k (s : WorkerView). s ≡ new_worker_view c.args.claims.now.id k) c.loop-seat.seats.items c.pop.new.self.items c.in-Some.seat c.in-Some.ensures.items kept.1 in
+    seat ∙ ap (new_worker_view c.args.claims.now.id) (sym (ap (λ (s : WorkerView). s.worker_no) seat))
+
+pub worker_place-requires-clause-pass : goal.worker_place-requires-clause-pass
+worker_place-requires-clause-pass g c =
+    let kept = c.loop-seat.invariant in
+    let seat = from_last (λ k (s : WorkerView). s ≡ new_worker_view c.args.claims.now.id k) c.loop-seat.seats.items c.pop.new.self.items c.in-Some.seat c.in-Some.ensures.items kept.1 in
+    let number = ap (λ (s : WorkerView). s.worker_no) seat in
+    let fewer = one_less c.loop-seat.seats.items c.pop.new.self.items c.in-Some.seat c.in-Some.ensures.items in
+    let less = one_less c.loop-seat.passes.items c.take_pass-pass.new.passes.items c.take_pass-pass.result c.take_pass-pass.ensures in
+    let all = kept.2 in
+    let place : length c.take_pass-pass.new.passes.items ≡ c.args.claims.now.loops + c.in-Some.seat.worker_no = omega arith in
+    subst (λ n. IsPassAt c.args.board.now n c.take_pass-pass.result) place
+    (from_last (IsPassAt c.args.board.now) c.loop-seat.passes.items c.take_pass-pass.new.passes.items c.take_pass-pass.result c.take_pass-pass.ensures kept.0)
+
+pub loop-seat-preserved : goal.loop-seat-preserved
+loop-seat-preserved g c =
+    let kept = c.loop-seat.invariant in
+    let seat = from_last (λ k (s : WorkerView). s ≡ new_worker_view c.args.claims.now.id k) c.loop-seat.seats.items c.pop.new.self.items c.in-Some.seat c.in-Some.ensures.items kept.1 in
+    let number = ap (λ (s : WorkerView). s.worker_no) seat in
+    let same = c.worker_place.ensures.number in
+    let fewer = one_less c.loop-seat.seats.items c.pop.new.self.items c.in-Some.seat c.in-Some.ensures.items in
+    let less = one_less c.loop-seat.passes.items c.take_pass-pass.new.passes.items c.take_pass-pass.result c.take_pass-pass.ensures in
+    let pushed = c.in_ok-push.ensures.items in
+    let longer = longer_by c.loop-seat.places.items c.worker_place.result c.push.new.self.items pushed in
+    let all = kept.2 in
+    let made = kept.3 in (
+      from_front (IsPassAt c.args.board.now) c.loop-seat.passes.items c.take_pass-pass.new.passes.items c.take_pass-pass.result c.take_pass-pass.ensures kept.0,
+      from_front (λ k (s : WorkerView). s ≡ new_worker_view c.args.claims.now.id k) c.loop-seat.seats.items c.pop.new.self.items c.in-Some.seat c.in-Some.ensures.items kept.1,
+      omega arith,
+      omega arith,
+      down_push _ (length c.args.seats.items) c.loop-seat.places.items c.push.new.self.items c.worker_place.result c.in-Some.seat.worker_no pushed (omega arith)
+          (c.worker_place.ensures.board, c.worker_place.ensures.claims, same) kept.4,
+    )
+
+pub returns-clause-each : goal.returns-clause-each
+returns-clause-each g c =
+    let kept = c.loop-seat.invariant in
+    let over = c.in_default.ensures.cases in
+    let made = kept.3 in
+    subst (λ n. EachDown (λ w p. (p.board.now ≡ c.args.board.now) × (p.claims.now ≡ c.args.claims.now) × (p.seat.worker_no ≡ w)) n c.loop-seat.places.items) (omega arith) kept.4

@@ -1,0 +1,40 @@
+use Rattle.std.proofs.Common.{◌≡◌, ◌+◌, length, arith}
+use Rattle.std.specs.Arc.{arc_value}
+use Rattle.std.proofs.lemmas.Result.{on_ok_weaker}
+use Rattle.serve.specs.Histories.{setting_at}
+use Rattle.serve.specs.Inner.Ends.{LoopEnds}
+use Rattle.serve.specs.Inner.Promises.{IsThreadOf}
+use Rattle.serve.proofs.NumberedLists.{from_first, from_rest, pair_push, longer_by, shorter_by, on_both}
+use Rattle.serve.proofs.Promised.{loop_ended}
+use Rattle.serve.proofs.threads.join_loops.Goals as goal
+
+pub loop-thread-preserved-in-Ok : goal.loop-thread-preserved-in-Ok
+loop-thread-preserved-in-Ok g c =
+    let kept = c.loop-thread.invariant in
+    let served = c.loop-thread.served.items in
+    let passes = c.loop-thread.passes.items in
+    let rest = c.loop-thread.thread-iterator.rest.items in
+    let more = c.next.new.self.rest.items in
+    let thread = c.in-Some.thread in
+    let split = c.in-Some.ensures.steps.0 in
+    let shorter = shorter_by rest thread more split in
+    let first = c.push_reserved.ensures in
+    let second = c.push_reserved-in-Ok.ensures in
+    let longer = longer_by served c.in-Ok.one c.push_reserved.new.self.items first.items in
+    let passes_longer = longer_by passes c.in-Ok.pass c.push_reserved-in-Ok.new.self.items second.items in
+    let capacity = first.capacity in
+    let passes_capacity = second.capacity in
+    let room = kept.0 in
+    let passes_room = kept.1 in (
+      omega arith,
+      omega arith,
+      on_ok_weaker c.loop-thread.ending (λ all. omega (arith, all, shorter, longer)) kept.2,
+      on_ok_weaker c.loop-thread.ending (λ h. from_rest (λ k t. IsThreadOf c.args.plan.now c.args.board.now k t.promise) (length served) (length c.push_reserved.new.self.items) rest thread more split longer h) kept.3,
+      on_both _ _ _ c.loop-thread.ending
+          (λ h done.
+          pair_push (λ k s p. LoopEnds g.J.Job.ticket c.args.board.now (setting_at (arc_value c.args.plan.now.linked) c.args.plan.now.serving k) s p) served passes c.in-Ok.one c.in-Ok.pass
+          c.push_reserved.new.self.items c.push_reserved-in-Ok.new.self.items first.items second.items done
+          (loop_ended g.J.Job.ticket c.args.plan.now c.args.board.now (length served) thread.promise c.in-Ok.one c.in-Ok.pass
+          (from_first (λ k t. IsThreadOf c.args.plan.now c.args.board.now k t.promise) (length served) rest thread more split h) c.in-Ok.ensures))
+          kept.3 kept.4,
+    )

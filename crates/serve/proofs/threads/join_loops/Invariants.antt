@@ -1,0 +1,16 @@
+use Rattle.std.proofs.Common.{◌≡◌, ◌≤◌, ◌+◌, length, vec_capacity, OnOk}
+use Rattle.std.specs.Arc.{arc_value}
+use Rattle.serve.specs.Histories.{setting_at}
+use Rattle.serve.specs.Inner.Ends.{LoopEnds}
+use Rattle.serve.specs.Inner.Places.{EachFrom, EachPair}
+use Rattle.serve.specs.Inner.Promises.{IsThreadOf}
+use Rattle.serve.proofs.threads.join_loops.Given as goal
+
+abbrev pub invariant-loop-thread : goal.invariant-loop-thread
+invariant-loop-thread g l =
+    let rest = l.thread-iterator.rest.items in
+    (length l.served.items + length rest ≤ vec_capacity l.served)
+    × (length l.passes.items + length rest ≤ vec_capacity l.passes)
+    × OnOk l.ending (length l.served.items + length rest ≡ length l.fn.started.items)
+    × OnOk l.ending (EachFrom (λ k h. IsThreadOf l.plan l.board k h.promise) (length l.served.items) rest)
+    × OnOk l.ending (EachPair (λ k s p. LoopEnds g.J.Job.ticket l.board (setting_at (arc_value l.plan.linked) l.plan.serving k) s p) 0 l.served.items l.passes.items)

@@ -7,3 +7,4 @@ pub mod Short
 pub mod OneEnd
 pub mod RepliesAgree
 pub mod InSlices
+pub mod Standing

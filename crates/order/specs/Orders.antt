@@ -1,4 +1,4 @@
--- Orders and outcomes, as definitions speak of them.
+-- Orders and outcomes, as used in definitions.
 use Rattle.std.specs.Arc.{arc_value}
 use Rattle.events.specs.Traps.{trap_number}
 use Rattle.order.specs.declared.order.Order.{Order}
@@ -23,4 +23,4 @@ end_of (outcome.Done value bytes) = Done value bytes.items
 end_of (outcome.Trap code) = Trap (trap_number code)
 end_of outcome.Depth = Depth
 end_of outcome.Spent = Spent
-end_of outcome.NoMemory = NoMemory
+end_of (outcome.NoMemory refused) = NoMemory

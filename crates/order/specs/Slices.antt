@@ -1,12 +1,13 @@
 -- What a slice leaves of an order under way.
-use Rattle.std.specs.Prelude.{◌≡◌, ◌≢◌, ℕ, ◌+◌, ◌<◌, ◌≤◌}
+use Rattle.std.specs.Prelude.{◌≡◌, ◌≢◌, ℕ, ◌+◌, ◌<◌, ◌≤◌, Option, Some, None}
+use Rattle.instance.specs.Stops.{Halt}
 use Rattle.order.specs.declared.run.Told.{Told}
 use Rattle.order.specs.declared.running.OrderGoing.{OrderGoing}
 use Rattle.order.specs.declared.running.OrderGoing.TheVariants.{Over, Paused}
 use Rattle.order.specs.Orders.{order_of, end_of}
-use Rattle.order.specs.Stopping.{LeavesTrail}
+use Rattle.order.specs.Stopping.{ComputesTo, LeavesTrail}
 use Rattle.order.specs.Underway.{Underway}
-use Rattle.order.specs.Work.{WorkOrder, NoMemory, Uses}
+use Rattle.order.specs.Work.{WorkOrder, NoMemory, Spent, Uses}
 
 -- The order is over, and there was memory. What is answered is what is answered for a run of the whole order: its reply's type says of what becomes
 -- of it that one thread computes it, and so much fuel is used for it in all, of which the slice used at most its units.
@@ -29,3 +30,22 @@ pub record OrderIsPaused (o : WorkOrder) (before units : ℕ) (r : Underway) : T
 abbrev pub OrderGoesOn : Underway → (units : ℕ) → OrderGoing → Type 0
 OrderGoesOn r units (Over told) = OrderIsOver r.order r.used units told
 OrderGoesOn r units (Paused after) = OrderIsPaused r.order r.used units after
+
+-- the same order, with so much fuel
+abbrev pub with_fuel : ℕ → WorkOrder → WorkOrder
+with_fuel fuel o = record {
+  loop_no = o.loop_no;
+  request = o.request;
+  slot = o.slot;
+  loaded = o.loaded;
+  op = o.op;
+  bytes = o.bytes;
+  fuel = fuel;
+  depth = o.depth;
+}
+
+-- Where an order under way stands: there the order with just so much fuel as it has used ends as spent. Before anything of it has run, it stands
+-- nowhere.
+abbrev pub OrderStandsAt : Underway → Option Halt → Type 0
+OrderStandsAt r None = r.used ≡ 0
+OrderStandsAt r (Some stop) = ComputesTo (with_fuel r.used r.order) Spent r.used (Some stop)

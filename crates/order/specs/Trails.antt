@@ -1,4 +1,4 @@
--- What is kept of where a run stopped.
+-- What a trail keeps of where a run stopped.
 use Rattle.std.specs.Prelude.{ℕ, List, take, length, Option}
 use Rattle.instance.specs.declared.stack.Site.{Site}
 use Rattle.instance.specs.Stops.{Halt}

@@ -1,4 +1,4 @@
--- What one work request is, and what becomes of it.
+-- A work request, and its outcome.
 use Rattle.std.specs.Prelude.{◌≡◌, ◌≢◌, ℕ, ◌+◌, ◌-◌, ◌^◌, ◌≤◌, List, [], ◌∷◌, length, Some, None, Option, codes}
 use Rattle.limits.specs.declared.TheConstants.{MAX_BYTES}
 use Rattle.syntax.specs.declared.types.Value.{Value}
@@ -73,6 +73,7 @@ pub record WorkRun (o : WorkOrder) (fuel : ℕ) (s : Store) (reply : List ℕ) (
   pub answers : Lawful (WorkCall o) trace reply reply'
 
 -- the start function, where there is one, runs so on a new instance
+-- Core 1.0, 4.5.4: instantiation, the start function
 abbrev pub StartRun : WorkOrder → Option ℕ → Store → RunEnd → (used : ℕ) → Store → List ℕ → Type 0
 StartRun o None s outcome used t reply = (outcome ≡ Returned []) × (used ≡ 0) × (t ≡ s) × (reply ≡ [])
 StartRun o (Some function) s outcome used t reply = WorkRun o o.fuel s [] function [] outcome used t reply

@@ -15,6 +15,7 @@ pub mod laws;
 mod machine;
 mod order;
 mod reply;
+mod reserving;
 mod run;
 mod running;
 mod stage;
@@ -23,6 +24,7 @@ pub mod uv;
 
 pub use order::{Order, Outcome};
 pub use reply::Reply;
+pub use reserving::RefusedMemory;
 pub use run::Told;
 pub use running::{OrderGoing, Running};
 pub use trail::{MAX_TRAIL, Trail};

@@ -1,9 +1,10 @@
 // What an order under way runs on.
 
-ghost use Rattle.std.specs.Prelude.{◌≡◌, ◌<◌, ◌≤◌, ℕ, List, length, None, IfOk, IfSome};
+ghost use Rattle.std.specs.Prelude.{◌≡◌, ◌<◌, ◌≤◌, ℕ, List, length, None, IsSome, IfSome};
 ghost use Rattle.std.specs.Arc.{arc_value};
 ghost use Rattle.limits.specs.declared.TheConstants.{MAX_DEPTH};
 ghost use Rattle.syntax.specs.declared.types.Value.{Value as Argument};
+ghost use Rattle.validate.specs.Targets.{AreTables};
 ghost use Rattle.instance.specs.Store.{Store};
 ghost use Rattle.instance.specs.Storing.{IsStoreOf};
 ghost use Rattle.instance.specs.Stops.{stop_of};
@@ -13,18 +14,19 @@ ghost use Rattle.order.specs.declared.host.WorkHost.{WorkHost as Answering};
 ghost use Rattle.order.specs.Orders.{order_of};
 ghost use Rattle.order.specs.Runnable.{CanRun};
 ghost use Rattle.order.specs.Stopping.{WorkStop};
+ghost use Rattle.order.specs.Inner.Ready.{IsReadyToRun};
 ghost use Rattle.order.specs.Inner.Serving.{Serves};
 ghost use Rattle.order.specs.Inner.Going.{IsCallingOn, IsUnbegun, RunsOrder};
 
 use crate::host::WorkHost;
 use crate::order::Order;
+use crate::reserving::ReservedParts;
 use events::ended::Ended;
 use instance::stack::{CallStack, Caller, Last, Slots};
 use instance::state::State;
 use interp::call::FunctionCall;
 use interp::slices::{Paused, Slice, begin, go_on};
-use limits::MAX_DEPTH;
-use std::alloc::{AllocError, Global};
+use std::alloc::Global;
 use std::sync::Arc;
 use syntax::items::Items;
 use syntax::types::Value;
@@ -54,36 +56,41 @@ impl Drop for Machine {
     }
 }
 
-impl Order {
-    /// Reserves all that the order runs on.
-    pub(crate) fn machine(&self, alloc: Global) -> Result<Machine, AllocError>
-        requires { CanRun (order_of self.now) }
-        ensures runs { IfOk result (λ m. RunsOrder (order_of self.now) m) }
-        ensures unbegun { IfOk result (λ m. IsUnbegun (order_of self.now) m) }
+impl Machine {
+    /// The machine of an order, in what was reserved for it.
+    pub(crate) fn of(order: &Order, reserved: ReservedParts<Vec<u8>>) -> Machine
+        requires can { CanRun (order_of order.now) }
+        requires ready { IsReadyToRun (arc_value order.now.module).contents reserved.state }
+        requires agree { AreTables (arc_value order.now.module).contents (arc_value reserved.tables) }
+        requires callers { MAX_DEPTH ≤ length reserved.frames.items }
+        requires linked { arc_value reserved.linked ≡ arc_value order.now.module }
+        requires input { arc_value reserved.input ≡ arc_value order.now.bytes }
+        ensures runs { RunsOrder (order_of order.now) result }
+        ensures unbegun { IsUnbegun (order_of order.now) result }
     {
-        let (state, _) = self.new_instance(alloc)?.into_parts();
-        let host = WorkHost::new(alloc, &self.module, &self.bytes)?;
-        let tables = self.module.valid().share_tables()?;
-        let slots = Slots::new(alloc)?;
-        let nowhere = Caller {
-            function: 0,
-            pc: 0,
-            base: 0,
-        };
-        let mut frames = Vec::new(alloc);
-        frames.resize(MAX_DEPTH as usize, nowhere)?;
-        Ok(Machine {
+        let ReservedParts {
+            state,
+            slots,
+            frames,
+            tables,
+            linked,
+            input,
+            reply,
+        } = reserved;
+        Machine {
             state,
             slots,
             frames,
             last: None,
-            host,
+            host: WorkHost {
+                linked,
+                bytes: input,
+                reply,
+            },
             tables,
-        })
+        }
     }
-}
 
-impl Machine {
     /// Begins a call of a defined function of the order's module. Nothing of it runs yet.
     pub(crate) fn begin(
         &mut self,
@@ -141,6 +148,7 @@ impl Machine {
         ensures paused { result ≡ None → (s : Store) (old : Answering) (args : List Argument) (fuel : ℕ)
             → IsCallingOn (order_of order.now) self.old s old slice.old.paused fuel args
             → IsCallingOn (order_of order.now) self.new s old slice.new.paused fuel args }
+        ensures stands { result ≡ None → IsSome slice.new.paused.last }
         ensures function { slice.new.paused.function ≡ slice.old.paused.function }
         ensures slice { result ≡ None → UsesAll slice.old.paused slice.old.units slice.new.paused }
         ensures last { IfSome result (λ e. UsesSome slice.old.paused slice.old.units e.used) }

@@ -3,6 +3,7 @@
 ghost use Rattle.std.specs.Prelude.{◌≡◌, ◌↔◌, IsTrue};
 ghost use Rattle.order.specs.Orders.{order_of};
 
+use crate::reserving::RefusedMemory;
 use events::trap::TrapCode;
 use imports::Linked;
 use std::alloc::Global;
@@ -57,8 +58,8 @@ pub enum Outcome {
     Depth,
     /// The fuel was spent.
     Spent,
-    /// There was no memory for the instance or the reply.
-    NoMemory,
+    /// There was no memory for the instance or the reply: it was refused.
+    NoMemory(RefusedMemory),
 }
 
 /// Whether two modules have the same bytes, and so are the same.

@@ -1,10 +1,9 @@
 // What one thread computes from an order.
 
-ghost use Rattle.std.specs.Prelude.{◌≡◌, ◌≢◌, ◌≤◌, ℕ, [], ◌∷◌, Some, length, vec_capacity, codes, IfOk, IfErr};
+ghost use Rattle.std.specs.Prelude.{◌≡◌, ◌≢◌, ◌≤◌, ℕ, [], ◌∷◌, Some, length, codes, IfOk, IfErr};
 ghost use Rattle.std.specs.Arc.{arc_value};
 ghost use Rattle.limits.specs.declared.TheConstants.{MAX_BYTES, MAX_DEPTH};
 ghost use Rattle.syntax.specs.declared.types.ValType.TheVariants as valtype;
-ghost use Rattle.validate.specs.Valid.{ValidModule};
 ghost use Rattle.instance.specs.Fresh.{IsFresh};
 ghost use Rattle.instance.specs.Storing.{IsStoreOf};
 ghost use Rattle.reduction.specs.Invoking.{TakesArguments, ReturnsTyped};
@@ -20,20 +19,18 @@ ghost use Rattle.order.specs.Work.{WorkEnd, NoMemory, StartRun, Computes, Uses, 
 use crate::host::WorkHost;
 use crate::order::{Order, Outcome};
 use crate::reply::Reply;
+use crate::reserving::{RefusedMemory, Reserved, reserve};
 use crate::trail::Trail;
 use events::ended::{Ended, Ending};
 use events::values::Values;
+use imports::EntryPoint;
 use imports::laws::names_are_apart;
-use imports::{EntryPoint, Linked};
-use instance::fault::InstFault;
 use instance::room::Room;
 use instance::stack::CallStack;
-use instance::state::{Instance, State};
+use instance::state::State;
 use interp::call::FunctionCall;
 use interp::invoke::invoke_on;
-use limits::MAX_BYTES;
-use std::alloc::{AllocError, Global};
-use std::sync::Arc;
+use std::alloc::Global;
 use syntax::types::Value;
 
 /// How `uv_work`, or the start function where that did not return, reads as an outcome.
@@ -71,51 +68,6 @@ struct Computed {
     outcome: Outcome,
     used: u64,
     trail: Option<Trail>,
-}
-
-/// All memory that a run of an order takes: a new instance of its module, room for the bytes of its reply, and a share of the module
-/// and of the input each.
-struct Reserved<T> {
-    instance: Instance,
-    linked: Arc<Linked, Global>,
-    input: Arc<T, Global>,
-    reply: Vec<u8>,
-    ghost empty: { reply.items ≡ [] },
-    ghost room: { MAX_BYTES ≤ vec_capacity reply },
-}
-
-/// A new instance of a module, in the room that another one had.
-fn instance_of(alloc: Global, linked: &Linked, room: &mut Room) -> Result<Instance, AllocError>
-    ensures { IfOk result (λ i. IsReadyToRun linked.now.contents i.state) }
-{
-    let valid = linked.valid();
-    // by its contract the module is valid
-    let _contents = valid.contents();
-    match Instance::new_in(alloc, valid, room) {
-        Ok(instance) => Ok(instance),
-        Err(InstFault::Memory) => Err(AllocError),
-        Err(_) => unreachable!(),
-    }
-}
-
-/// Reserves what a run of a module takes. It sees neither the operation nor what is in the input, so whether memory is refused can't
-/// depend on these.
-fn reserve<T: Drop>(
-    alloc: Global,
-    linked: &Arc<Linked, Global>,
-    input: &Arc<T, Global>,
-    room: &mut Room,
-) -> Result<Reserved<T>, AllocError>
-    ensures ready { IfOk result (λ r. IsReadyToRun (arc_value linked.now).contents r.instance.state) }
-    ensures linked { IfOk result (λ r. arc_value r.linked ≡ arc_value linked.now) }
-    ensures input { IfOk result (λ r. arc_value r.input ≡ arc_value input.now) }
-{
-    Ok(Reserved {
-        instance: instance_of(alloc, linked, room)?,
-        linked: Arc::try_clone(linked)?,
-        input: Arc::try_clone(input)?,
-        reply: Vec::with_capacity(alloc, MAX_BYTES)?,
-    })
 }
 
 impl Order {
@@ -160,7 +112,11 @@ impl Order {
     }
 
     /// Runs the order in what was reserved for it. There was no memory where that was refused, and nowhere else.
-    fn run_reserved(self, reserved: Result<Reserved<Vec<u8>>, AllocError>, room: &mut Room) -> Told
+    fn run_reserved(
+        self,
+        reserved: Result<Reserved<Vec<u8>>, RefusedMemory>,
+        room: &mut Room,
+    ) -> Told
         requires runs { CanRun (order_of self) }
         requires ready { IfOk reserved (λ r. IsReadyToRun (arc_value self.module).contents r.instance.state) }
         requires linked { IfOk reserved (λ r. arc_value r.linked ≡ arc_value self.module) }
@@ -174,8 +130,8 @@ impl Order {
     {
         let computed = match reserved {
             Ok(reserved) => self.compute(reserved, room),
-            Err(AllocError) => Computed {
-                outcome: Outcome::NoMemory,
+            Err(refused) => Computed {
+                outcome: Outcome::NoMemory(refused),
                 used: 0,
                 trail: None,
             },
@@ -246,14 +202,6 @@ impl Order {
             ending: ended.ending,
             used: started.used + ended.used,
         }
-    }
-
-    pub(crate) fn new_instance(&self, alloc: Global) -> Result<Instance, AllocError>
-        ensures valid { IfOk result (λ _. ValidModule (arc_value self.now.module).contents) }
-        ensures fresh { IfOk result (λ i. IsFresh (arc_value self.now.module).contents i.state) }
-        ensures store { IfOk result (λ i. IsStoreOf (arc_value self.now.module).contents i.state) }
-    {
-        instance_of(alloc, &self.module, &mut Room::empty())
     }
 
     /// The start function, where there is one.

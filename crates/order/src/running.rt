@@ -5,6 +5,7 @@ ghost use Rattle.std.specs.Arc.{arc_value};
 ghost use Rattle.limits.specs.declared.TheConstants.{MAX_BYTES, MAX_DEPTH};
 ghost use Rattle.syntax.specs.declared.types.ValType.TheVariants as valtype;
 ghost use Rattle.validate.specs.Valid.{ValidModule};
+ghost use Rattle.validate.specs.Targets.{AreTables};
 ghost use Rattle.instance.specs.Storing.{IsStoreOf};
 ghost use Rattle.instance.specs.Stops.{stop_of};
 ghost use Rattle.reduction.specs.Running.{end_of_run, AreResults};
@@ -15,7 +16,9 @@ ghost use Rattle.imports.specs.declared.entry_point.EntryPoint.TheVariants.{Work
 ghost use Rattle.order.specs.Orders.{order_of, end_of};
 ghost use Rattle.order.specs.Work.{WorkEnd, NoMemory, EndsAs, Computes, Uses};
 ghost use Rattle.order.specs.Stopping.{ComputesTo, LeavesTrail};
-ghost use Rattle.order.specs.Slices.{OrderGoesOn};
+ghost use Rattle.order.specs.Runnable.{CanRun};
+ghost use Rattle.order.specs.Slices.{OrderGoesOn, OrderStandsAt};
+ghost use Rattle.order.specs.Inner.Ready.{IsReadyToRun};
 ghost use Rattle.order.specs.Inner.Serving.{Serves};
 ghost use Rattle.order.specs.Inner.Going.{RunsOrder, IsUnbegun, IsStarting, StartIsOver, IsWorking};
 
@@ -23,15 +26,16 @@ use crate::host::WorkHost;
 use crate::machine::Machine;
 use crate::order::{Order, Outcome};
 use crate::reply::Reply;
+use crate::reserving::{RefusedMemory, ReservedParts, reserve_parts};
 use crate::run::{Told, outcome_from};
 use crate::stage::RunStage;
 use crate::trail::Trail;
 use events::ended::Ending;
 use imports::EntryPoint;
 use imports::laws::names_are_apart;
-use instance::stack::CallStack;
+use instance::stack::{CallStack, Stop};
 use interp::slices::{Paused, Slice};
-use std::alloc::{AllocError, Global};
+use std::alloc::Global;
 use std::marker::Model;
 use syntax::types::Value;
 
@@ -88,15 +92,36 @@ impl Order {
         ensures begun { IfOk result (λ r. (r.order ≡ order_of self) × (r.used ≡ 0)) }
         ensures refused { IfErr result (λ reply. (reply.order ≡ self) × (end_of reply.outcome ≡ NoMemory)) }
     {
-        match self.machine(alloc) {
-            Ok(machine) => Ok(Running {
+        let reserved = reserve_parts(alloc, &self.module, &self.bytes);
+        self.begin_reserved(reserved)
+    }
+
+    /// Begins it in what was reserved for it. There was no memory where that was refused, and nowhere else.
+    fn begin_reserved(
+        self,
+        reserved: Result<ReservedParts<Vec<u8>>, RefusedMemory>,
+    ) -> Result<Running, Reply>
+        requires runs { CanRun (order_of self) }
+        requires ready { IfOk reserved (λ r. IsReadyToRun (arc_value self.module).contents r.state) }
+        requires agree { IfOk reserved (λ r. AreTables (arc_value self.module).contents (arc_value r.tables)) }
+        requires callers { IfOk reserved (λ r. MAX_DEPTH ≤ length r.frames.items) }
+        requires linked { IfOk reserved (λ r. arc_value r.linked ≡ arc_value self.module) }
+        requires input { IfOk reserved (λ r. arc_value r.input ≡ arc_value self.bytes) }
+        ensures begun { IfOk result (λ r. (r.order ≡ order_of self) × (r.used ≡ 0)) }
+        ensures refused { IfErr result (λ reply. (reply.order ≡ self) × (end_of reply.outcome ≡ NoMemory)) }
+    {
+        match reserved {
+            Ok(reserved) => {
+                let machine = Machine::of(&self, reserved);
+                Ok(Running {
+                    order: self,
+                    machine,
+                    stage: RunStage::Fresh,
+                })
+            }
+            Err(refused) => Err(Reply {
                 order: self,
-                machine,
-                stage: RunStage::Fresh,
-            }),
-            Err(AllocError) => Err(Reply {
-                order: self,
-                outcome: Outcome::NoMemory,
+                outcome: Outcome::NoMemory(refused),
             }),
         }
     }
@@ -119,6 +144,25 @@ impl Running {
             RunStage::Starting(paused) => start_on(order, machine, paused, units),
             RunStage::Working(first, paused) => work_on(order, machine, first, paused, units),
         }
+    }
+
+    /// Where the order stands, once something of it has run: there the order with just so much fuel as it has used ends as spent.
+    pub fn stop(&self) -> Option<Stop<'_>>
+        ensures { OrderStandsAt self.now result }
+    {
+        let callers = self.machine.frames.as_slice();
+        match &self.stage {
+            RunStage::Fresh => None,
+            RunStage::Starting(paused) => paused.stop(callers),
+            RunStage::Working(_, paused) => paused.stop(callers),
+        }
+    }
+
+    /// The bytes of its module.
+    pub fn module_bytes(&self) -> &[u8]
+        ensures { result.now ≡ self.now.order.loaded.bytes }
+    {
+        self.order.module.valid().module().bytes()
     }
 }
 

@@ -1,4 +1,4 @@
--- What becomes of a reply that is offered to a loop.
+-- What a loop does with a reply.
 use Rattle.std.specs.Prelude.{◌≡◌}
 use Rattle.order.specs.declared.reply.Reply.{Reply}
 use Rattle.order.specs.Orders.{order_of, end_of}

@@ -1,4 +1,4 @@
--- What a step did, without room for results.
+-- What a step did, without the results.
 use Rattle.events.specs.Bare.{whole as whole_ended}
 use Rattle.events.specs.declared.did.StepDid.{StepDid}
 use Rattle.events.specs.declared.did.StepDid.TheVariants.{Entered, Ran, Skipped, Over, Failed}

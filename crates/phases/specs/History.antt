@@ -1,4 +1,4 @@
--- What the owner of one loop does with it, and what it is answered.
+-- What the owner of a loop does with it, and the results.
 use Rattle.std.specs.Prelude.{◌≡◌, ℕ, Bool, MatchBool, List, [], ◌∷◌, ◌++◌, length, Option, Some}
 use Rattle.syntax.specs.declared.types.Value.TheVariants.{I32}
 use Rattle.imports.specs.declared.call.Call.TheVariants.{QueueWork}

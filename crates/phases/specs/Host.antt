@@ -1,4 +1,4 @@
--- What a loop answers to a guest in a callback: each function of "uv".
+-- What each function of "uv" returns to a guest in a callback.
 use Rattle.std.specs.Prelude.{◌≡◌, ℕ, ◌+◌, ◌<◌, ◌==◌, Bool, true, ◌&&◌, not, MatchBool, ◌⊎◌, List, [], ◌∷◌, ◌++◌, length}
 use Rattle.std.specs.Prelude.{nat_le, nat_lt, Option, Some, None, codes, if◌then◌else◌}
 use Rattle.limits.specs.declared.TheConstants.{MAX_BYTES, MAX_REQUESTS, MAX_EMITS, MAX_REQUEST_NUMBER}

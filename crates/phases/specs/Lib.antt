@@ -15,3 +15,4 @@ pub mod State
 pub mod Step
 pub mod Stopping
 pub mod View
+pub mod Kinds

@@ -1,4 +1,4 @@
--- The handles of a loop, and what a guest is answered who makes, starts, stops or closes one.
+-- The handles of a loop, and what the calls return that create, start, stop or close one.
 use Rattle.std.specs.Prelude.{◌≡◌, ℕ, ◌^◌, ◌<◌, ◌==◌, Bool, true, false, ◌&&◌, not, MatchBool, List, [], ◌∷◌, ◌++◌, length, map}
 use Rattle.std.specs.Prelude.{filter, Option, Some, None, slice_get, if◌then◌else◌}
 use Rattle.std.specs.Option.{option_map_or, is_some}

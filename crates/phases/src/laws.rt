@@ -1,5 +1,6 @@
 //! Laws of what the owner of a loop does with it. Their functions do nothing: each contract is the law.
 
+ghost use Rattle.phases.specs.Kinds.{AreKinds};
 ghost use Rattle.phases.specs.Laws.{IsAfterOnce, IsAfterOwn, IsAfterLast, IsAskedOnce, IsHandedOnce, IsHandedOwn};
 
 use crate::shared::Shared;
@@ -19,4 +20,9 @@ pub fn asked_once<B: Shared>()
     ensures asked { IsAskedOnce B.calls }
     ensures handed { IsHandedOnce B.calls }
     ensures own { IsHandedOwn B.calls }
+{}
+
+/// The kinds that an after-work callback is given are those of docs/UV.md.
+pub fn kinds_are_numbers()
+    ensures { AreKinds }
 {}

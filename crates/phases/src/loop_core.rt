@@ -379,6 +379,20 @@ impl<B: Shared + Drop> LoopCore<B> {
         self.linked.valid().module().bytes()
     }
 
+    /// Its module.
+    pub fn linked(&self) -> &Linked
+        ensures { result.now ≡ self.now.setting.loaded }
+    {
+        &self.linked
+    }
+
+    /// Its instance as the last callback left it, however that ended.
+    pub fn store(&self) -> &State
+        ensures { result.now ≡ self.now.loop.store }
+    {
+        &self.store
+    }
+
     /// What the last callback emitted, `MAX_EMITS` values at most.
     pub fn emits(&self) -> &[u64]
         ensures emits { result.now ≡ self.now.loop.state.emits }

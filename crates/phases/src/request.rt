@@ -157,7 +157,7 @@ fn outcome_completion(alloc: Global, outcome: Outcome) -> Completion
         Outcome::Trap(trap) => Completion::without_bytes(alloc, completion_kind::TRAP, trap.code()),
         Outcome::Depth => Completion::without_bytes(alloc, completion_kind::DEPTH, 0),
         Outcome::Spent => Completion::without_bytes(alloc, completion_kind::SPENT, 0),
-        Outcome::NoMemory => Completion::without_bytes(
+        Outcome::NoMemory(_) => Completion::without_bytes(
             alloc,
             completion_kind::NO_MEMORY,
             NO_MEMORY,

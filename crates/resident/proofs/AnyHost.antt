@@ -1,18 +1,19 @@
 -- A run whose host answers every import with -1 is one whatever else is seen of the host.
-use Rattle.std.proofs.Common.{◌≡◌, ℕ, List, [], ◌∷◌, refl}
+use Rattle.std.proofs.Common.{◌≡◌, ℕ, List, [], ◌∷◌, Option, Some, None, refl}
 use Rattle.syntax.specs.declared.types.Value.{Value}
 use Rattle.syntax.specs.declared.types.ValType.{ValType}
 use Rattle.syntax.specs.declared.contents.Contents.{Contents}
 use Rattle.validate.specs.declared.side_table.SideTable.{SideTable}
 use Rattle.instance.specs.Store.{Store}
 use Rattle.instance.specs.declared.stack.Caller.{Caller}
+use Rattle.instance.specs.declared.stack.Last.{Last}
 use Rattle.reduction.specs.Run.{HostCall}
 use Rattle.reduction.specs.Hosting.{Lawful}
 use Rattle.engine.specs.Programs.{Program}
 use Rattle.engine.specs.Stepping.{MachineState}
 use Rattle.interp.specs.declared.paused.Paused.{Paused}
 use Rattle.interp.specs.Slots.Hosted.{ComesFromAny}
-use Rattle.interp.specs.Slices.{RunIsPaused}
+use Rattle.interp.specs.Slices.{RunIsPaused, RunStandsAt}
 use Rattle.resident.specs.NoHost.{AnswersMinusOne}
 use Rattle.resident.specs.Underway.{answers}
 
@@ -58,6 +59,30 @@ module _ {H : Type 0} where
         }
 
   module _ (m : Contents) (tables : List SideTable) (s t : Store) (args : List Value) (fuel : ℕ) (paused : Paused) (slots : List ℕ) (frames : List Caller) where
+    stands_unseen : (old new : H) (last : Option Last) → RunStandsAt m paused.depth refuses paused.function s old args paused.used t new last frames
+        → RunStandsAt m paused.depth answers paused.function s tt args paused.used t tt last frames
+    stands_unseen old new None q = q
+    stands_unseen old new (Some last) q =
+        let led = q.1.leads in (
+          q.0,
+          record {
+            leads = record { asked = led.asked; ran = led.ran; answered = unseen led.asked old new led.answered; stopped = led.stopped };
+            within = q.1.within;
+          },
+        )
+
+    stands_seen : (h : H) (last : Option Last) → RunStandsAt m paused.depth answers paused.function s tt args paused.used t tt last frames
+        → RunStandsAt m paused.depth refuses paused.function s h args paused.used t h last frames
+    stands_seen h None q = q
+    stands_seen h (Some last) q =
+        let led = q.1.leads in (
+          q.0,
+          record {
+            leads = record { asked = led.asked; ran = led.ran; answered = seen led.asked tt tt h led.answered; stopped = led.stopped };
+            within = q.1.within;
+          },
+        )
+
     pub paused_unseen : (old new : H) → RunIsPaused m tables refuses s old args fuel paused slots frames t new → RunIsPaused m tables answers s tt args fuel paused slots frames t tt
     paused_unseen old new q = record {
       takes = q.takes;
@@ -71,6 +96,7 @@ module _ {H : Type 0} where
       deep = q.deep;
       paid = q.paid;
       comes = comes_unseen m _ paused.depth q.takes.type.results _ _ old new q.comes;
+      stands = stands_unseen old new paused.last q.stands;
     }
 
     pub paused_seen : (h : H) → RunIsPaused m tables answers s tt args fuel paused slots frames t tt → RunIsPaused m tables refuses s h args fuel paused slots frames t h
@@ -86,4 +112,5 @@ module _ {H : Type 0} where
       deep = q.deep;
       paid = q.paid;
       comes = comes_seen m _ paused.depth q.takes.type.results _ _ h q.comes;
+      stands = stands_seen h paused.last q.stands;
     }

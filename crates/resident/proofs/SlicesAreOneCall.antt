@@ -1,26 +1,28 @@
 -- A call of an instance in slices is a call of it.
 use Rattle.std.proofs.Common.{◌≡◌, ℕ, ◌<◌, ◌≤◌, List, ◌++◌, length, take, Option, Some, None, refl, sym, ap, ◌∙◌, subst, arith}
-use Rattle.std.specs.Prelude.{slice_get}
+use Rattle.std.specs.Prelude.{slice_get, IfSome}
+use Rattle.limits.specs.declared.TheConstants.{MAX_DEPTH}
 use Rattle.std.proofs.Math.Seq.{take-append_seam}
 use Rattle.syntax.specs.Loaded.{Loaded}
 use Rattle.syntax.specs.declared.types.Value.{Value}
 use Rattle.syntax.specs.declared.contents.Contents.{Contents}
 use Rattle.instance.specs.Store.{Store, memory_of}
 use Rattle.instance.specs.declared.stack.Caller.{Caller}
-use Rattle.instance.specs.Stops.{Halt}
+use Rattle.instance.specs.declared.stack.Last.{Last}
+use Rattle.instance.specs.Stops.{Halt, stop_of}
 use Rattle.validate.specs.declared.side_table.SideTable.{SideTable}
 use Rattle.events.specs.declared.ended.Ended.{Ended}
-use Rattle.events.specs.declared.ended.Ending.TheVariants.{Return}
+use Rattle.events.specs.declared.ended.Ending.TheVariants.{Return, Spent}
 use Rattle.reduction.specs.Run.{as_operands}
 use Rattle.reduction.specs.Hosting.{Answers, Names}
 use Rattle.reduction.specs.Invoking.{ReturnsTyped}
 use Rattle.reduction.proofs.Outside.{invoked_import, answer_returns}
 use Rattle.interp.specs.declared.paused.Paused.{Paused}
-use Rattle.interp.specs.Slices.{RunIsPaused, IsSomePaused, RunIsOver}
+use Rattle.interp.specs.Slices.{RunIsPaused, IsSomePaused, RunIsOver, RunStandsAt}
 use Rattle.resident.specs.NoHost.{IsMinusOne, types_of_imports}
 use Rattle.resident.specs.Calls.{KeptInstance, CallsInstance}
 use Rattle.resident.specs.Underway.{CallUnderway, HasCome, ComesTo, IsSomeCall, used_at, used_by, answers}
-use Rattle.resident.specs.Slices.{CallIsOver as IsOverCall}
+use Rattle.resident.specs.Slices.{CallIsOver as IsOverCall, CallStandsAt}
 use Rattle.resident.specs.Inner.Going.{paused_at}
 use Rattle.resident.specs.declared.calling.CallPlace.{CallPlace}
 use Rattle.resident.specs.declared.calling.CallPlace.TheVariants.{Import, Inside}
@@ -71,6 +73,36 @@ module _ (loaded : Loaded) (tables : List SideTable) (slots : List ℕ) (frames 
     callers = frames;
     store = store;
   }
+
+  -- where a call that has come here stands
+  stands_so : (a : KeptInstance) (d fuel f : ℕ) (args : List Value) → HasCome a d fuel f args now
+      → RunStandsAt loaded.contents paused.depth (refuses {H = Unit {0}}) paused.function a.store tt args paused.used store tt paused.last frames
+  stands_so a d fuel f args come = (paused_seen loaded.contents tables a.store store args fuel paused slots frames tt come.comes.2).stands
+
+  by_last : (last : Option Last) → IsSomeCall now
+      → ((a : KeptInstance) (d fuel f : ℕ) (args : List Value) → HasCome a d fuel f args now
+      → RunStandsAt loaded.contents paused.depth (refuses {H = Unit {0}}) paused.function a.store tt args paused.used store tt last frames)
+      → CallStandsAt now (stop_of last frames)
+  by_last None (a, d, fuel, f, args, come) says = says a d fuel f args come
+  by_last (Some last) some says = λ a d fuel f args come.
+      let it = (says a d fuel f args come).1 in
+      let spent : Ended = record { ending = Spent; used = paused.used } in
+      let b : KeptInstance = record { loaded = loaded; store = store; stop = stop_of (Some last) frames } in
+      let own : KeptInstance = record { loaded = loaded; store = a.store; stop = a.stop } in
+      as_told loaded paused.function paused.depth spent b paused.used args a d f come.same come.named come.deep
+      (called own paused.depth paused.used paused.function args tt tt spent b refl it.leads it.within (λ type has. tt))
+
+  pub stands_at : IsSomeCall now → CallStandsAt now (stop_of paused.last frames)
+  stands_at some = by_last paused.last some stands_so
+
+  shallow_by : (last : Option Last) (s : Store) (args : List Value)
+      → RunStandsAt loaded.contents paused.depth (refuses {H = Unit {0}}) paused.function s tt args paused.used store tt last frames
+      → MAX_DEPTH ≤ length frames → IfSome last (λ l. l.depth ≤ length frames)
+  shallow_by None s args stands room = tt
+  shallow_by (Some last) s args stands room = omega (arith, stands.0, room)
+
+  pub stands_within : IsSomeCall now → MAX_DEPTH ≤ length frames → IfSome paused.last (λ l. l.depth ≤ length frames)
+  stands_within (a, d, fuel, f, args, come) room = shallow_by paused.last a.store args (stands_so a d fuel f args come) room
 
   module _ {H : Type 0} (m : Contents) (ts : List SideTable) (fs : List Caller) (same : m ≡ loaded.contents) (same_tables : ts ≡ tables) (same_frames : fs ≡ frames) (h : H) where
     -- a call that has come here is paused here, over whatever host

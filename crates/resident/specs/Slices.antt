@@ -1,7 +1,9 @@
 -- What a slice leaves of a call of an instance.
-use Rattle.std.specs.Prelude.{◌≡◌, ℕ, ◌+◌, ◌<◌, ◌≤◌, List}
+use Rattle.std.specs.Prelude.{◌≡◌, ℕ, ◌+◌, ◌<◌, ◌≤◌, List, Option, Some, None}
 use Rattle.syntax.specs.declared.types.Value.{Value}
+use Rattle.instance.specs.Stops.{Halt}
 use Rattle.events.specs.declared.ended.Ended.{Ended}
+use Rattle.events.specs.declared.ended.Ending.TheVariants.{Spent}
 use Rattle.resident.specs.Calls.{KeptInstance, CallsInstance}
 use Rattle.resident.specs.Underway.{CallUnderway, HasCome, used_by}
 use Rattle.resident.specs.declared.calling.Going.{Going}
@@ -24,3 +26,12 @@ pub record IsPausedAgain (c : CallUnderway) (units : ℕ) (d : CallUnderway) : T
 abbrev pub CallGoesOn : CallUnderway → (units : ℕ) → Going → Type 0
 CallGoesOn c units (Over b ended) = CallIsOver c units b ended
 CallGoesOn c units (Paused d) = IsPausedAgain c units d
+
+-- Where a call under way stands: there a call with just so much fuel as it has used is over as spent, and leaves the instance as it is now.
+-- Before anything of it has run, it stands nowhere.
+abbrev pub CallStandsAt : CallUnderway → Option Halt → Type 0
+CallStandsAt c None = used_by c ≡ 0
+CallStandsAt c (Some stop) =
+    (a : KeptInstance) (depth fuel function : ℕ) (args : List Value) → HasCome a depth fuel function args c
+    → CallsInstance a depth (used_by c) function args (record { ending = Spent; used = used_by c })
+    (record { loaded = c.loaded; store = c.store; stop = Some stop })

@@ -1,13 +1,13 @@
 // A call of an instance in slices.
 
-ghost use Rattle.std.specs.Prelude.{◌≡◌, ◌≤◌, ℕ, length, Some, None, IfOk, IfErr, IfSome};
+ghost use Rattle.std.specs.Prelude.{◌≡◌, ◌≤◌, ℕ, length, Option, Some, None, IfOk, IfErr, IfSome};
 ghost use Rattle.limits.specs.declared.TheConstants.{MAX_DEPTH};
 ghost use Rattle.events.specs.declared.ended.Ending.TheVariants.{Return};
 ghost use Rattle.instance.specs.Storing.{IsStoreOf};
-ghost use Rattle.instance.specs.Stops.{stop_of};
+ghost use Rattle.instance.specs.Stops.{stop_of, Halt};
 ghost use Rattle.reduction.specs.Invoking.{TakesArguments};
 ghost use Rattle.reduction.specs.Run.{as_operands};
-ghost use Rattle.resident.specs.Slices.{CallGoesOn, CallIsOver, IsPausedAgain};
+ghost use Rattle.resident.specs.Slices.{CallGoesOn, CallIsOver, CallStandsAt, IsPausedAgain};
 ghost use Rattle.resident.specs.Underway.{HasCome, ComesTo, IsSomeCall, used_by};
 ghost use Rattle.resident.specs.Inner.Going.{MachineFits, call_underway, inside_call, kept, paused_at};
 
@@ -16,7 +16,7 @@ use crate::resident::Resident;
 use events::ended::{Ended, Ending};
 use events::values::Values;
 use imports::Linked;
-use instance::stack::{CallStack, Caller, Last, Slots};
+use instance::stack::{CallStack, Caller, Last, Slots, Stop};
 use instance::state::State;
 use interp::call::FunctionCall;
 use interp::slices::{Paused, Slice, begin, go_on};
@@ -271,6 +271,38 @@ impl Calling {
             CallPlace::Import(function, _) => self.ask(function),
             CallPlace::Inside(paused) => self.run(paused, units),
         }
+    }
+
+    /// Where the call stands, once something of it has run: there a call with just so much fuel as it has used is over as spent.
+    pub fn stop(&self) -> Option<Stop<'_>>
+        ensures { CallStandsAt self.now result }
+    {
+        match self.place {
+            CallPlace::Import(_, _) => None,
+            CallPlace::Inside(paused) => paused.stop(self.machine.frames.as_slice()),
+        }
+    }
+
+    /// Its module.
+    pub fn linked(&self) -> &Linked
+        ensures { result.now ≡ self.now.loaded }
+    {
+        &self.linked
+    }
+
+    /// The bytes of its module.
+    pub fn module_bytes(&self) -> &[u8]
+        ensures { result.now ≡ self.now.loaded.bytes }
+    {
+        self.linked.valid().module().bytes()
+    }
+
+    /// Its instance as it stands: as a call with just so much fuel as this one has used leaves it.
+    pub fn store(&self) -> &State
+        ensures value { result.now ≡ self.now.store }
+        ensures stands { (stop : Option Halt) × CallStandsAt self.now stop }
+    {
+        &self.state
     }
 
     /// Asks the import of which it is.

@@ -1,13 +1,15 @@
-// The function of a module that is exported under a name.
+// What a module exports under a name.
 
 ghost use Rattle.std.specs.Prelude.{IfSome, MatchOption};
 ghost use Rattle.syntax.specs.Exporting.{IsFirst};
 ghost use Rattle.validate.specs.Typing.{HasFunctionType};
-ghost use Rattle.resident.specs.Calls.{ExportsFirst, ExportsNoFunction};
+ghost use Rattle.resident.specs.Calls.{ExportsFirst, ExportsNoFunction, ExportsGlobal, ExportsNoGlobal};
 
+use instance::state::State;
 use syntax::contents::{ExternKind, FuncType};
 use syntax::export::Export;
 use syntax::module::Module;
+use syntax::types::Value;
 use validate::{Valid, type_of_function};
 
 /// The first export with this name.
@@ -33,6 +35,17 @@ pub fn exported_function<'a>(valid: &'a Valid, name: &[u8]) -> Option<(u32, &'a 
             let func_type = type_of_function(valid.contents(), export.index)?;
             Some((export.index, func_type))
         }
+        _ => None,
+    }
+}
+
+/// The value that an instance of this module has in the global that is exported under a name, where there is one.
+pub fn exported_global(valid: &Valid, store: &State, name: &[u8]) -> Option<Value>
+    ensures { MatchOption result (ExportsNoGlobal valid.now.contents name.now store.now.globals) (ExportsGlobal valid.now.contents name.now store.now.globals) }
+{
+    let export = export(valid.module(), name)?;
+    match export.kind {
+        ExternKind::Global => store.global(export.index),
         _ => None,
     }
 }

@@ -13,7 +13,7 @@ ghost use Rattle.resident.specs.Inner.Going.{MachineFits};
 ghost use Rattle.resident.specs.Calls.{CallsInstance, IsNew, StartsInstance, ExportsFirst, ExportsNoFunction, ExportsGlobal, ExportsNoGlobal};
 
 use crate::calling::CallMachine;
-use crate::exported::{export, exported_function};
+use crate::exported::{exported_function, exported_global};
 use crate::no_host::NoHost;
 use events::ended::{Ended, Ending};
 use events::values::Values;
@@ -27,7 +27,7 @@ use interp::invoke::invoke_on;
 use std::alloc::{AllocError, Global};
 use std::marker::Model;
 use std::sync::Arc;
-use syntax::contents::{ExternKind, FuncType};
+use syntax::contents::FuncType;
 use syntax::types::Value;
 
 /// An instance of a module that is kept from call to call, with its module. Every import answers -1.
@@ -173,11 +173,21 @@ impl Resident {
     pub fn global(&self, name: &[u8]) -> Option<Value>
         ensures { MatchOption result (ExportsNoGlobal self.now.loaded.contents name.now self.now.store.globals) (ExportsGlobal self.now.loaded.contents name.now self.now.store.globals) }
     {
-        let export = export(self.linked.valid().module(), name)?;
-        match export.kind {
-            ExternKind::Global => self.state.global(export.index),
-            _ => None,
-        }
+        exported_global(self.linked.valid(), &self.state, name)
+    }
+
+    /// Its module.
+    pub fn linked(&self) -> &Linked
+        ensures { result.now ≡ self.now.loaded }
+    {
+        &self.linked
+    }
+
+    /// Its instance as the last call left it, however that ended.
+    pub fn store(&self) -> &State
+        ensures { result.now ≡ self.now.store }
+    {
+        &self.state
     }
 
     /// The bytes of its module.
@@ -196,10 +206,9 @@ impl Resident {
 
     /// Copies the bytes of the memory from an address on, as many as there is room for. False, and nothing is copied, where they are
     /// not all there.
-    pub fn read(&mut self, at: usize, into: &mut [u8]) -> bool
-        ensures kept { self.new ≡ self.old }
-        ensures found { result ≡ true → bytes_at at (length into.old) self.old.store.memory ≡ Some into.new }
-        ensures missing { result ≡ false → bytes_at at (length into.old) self.old.store.memory ≡ None }
+    pub fn read(&self, at: usize, into: &mut [u8]) -> bool
+        ensures found { result ≡ true → bytes_at at (length into.old) self.now.store.memory ≡ Some into.new }
+        ensures missing { result ≡ false → bytes_at at (length into.old) self.now.store.memory ≡ None }
         ensures same { result ≡ false → into.new ≡ into.old }
     {
         self.state.memory().read_into(at, into)

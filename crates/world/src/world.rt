@@ -125,7 +125,7 @@ fn ending_of(outcome: &Outcome) -> JobEnd
         Outcome::Trap(trap) => JobEnd::Trap(*trap),
         Outcome::Depth => JobEnd::Depth,
         Outcome::Spent => JobEnd::Spent,
-        Outcome::NoMemory => JobEnd::NoMemory,
+        Outcome::NoMemory(_) => JobEnd::NoMemory,
     }
 }
 

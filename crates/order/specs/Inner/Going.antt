@@ -1,5 +1,5 @@
 -- An order under way, between two slices.
-use Rattle.std.specs.Prelude.{◌≡◌, ℕ, ◌+◌, ◌-◌, ◌≤◌, List, [], ◌∷◌, length, Some, codes, IfSome}
+use Rattle.std.specs.Prelude.{◌≡◌, ℕ, ◌+◌, ◌-◌, ◌≤◌, List, [], ◌∷◌, length, Some, codes, IsSome, IfSome}
 use Rattle.std.specs.Arc.{arc_value}
 use Rattle.limits.specs.declared.TheConstants.{MAX_DEPTH}
 use Rattle.syntax.specs.declared.types.Value.{Value}
@@ -82,7 +82,7 @@ pub record IsWorking (o : WorkOrder) (m : Machine) (first : ℕ) (paused : Pause
 abbrev pub IsAtStage : WorkOrder → Machine → RunStage → Type 0
 IsAtStage o m Fresh = IsUnbegun o m
 IsAtStage o m (Starting paused) = IsStarting o m paused
-IsAtStage o m (Working first paused) = IsWorking o m first paused
+IsAtStage o m (Working first paused) = IsWorking o m first paused × IsSome paused.last
 
 pub record IsGoing (o : WorkOrder) (m : Machine) (stage : RunStage) : Type 0 where
   pub runs : RunsOrder o m

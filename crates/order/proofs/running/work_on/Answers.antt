@@ -16,14 +16,17 @@ invariant_of-result c =
     let w = c.requires.working in
     record {
       runs = c.go_on.ensures.runs;
-      at = record {
-        t = w.t;
-        old = w.old;
-        started = w.started;
-        exported = subst (λ (f : ℕ). ExportsFunction (arc_value c.args.order.module).contents (codes "uv_work") f) (sym c.go_on.ensures.function) w.exported;
-        typed = subst (λ (f : ℕ). type_of_function (arc_value c.args.order.module).contents f ≡ Some (type_of_entry Work)) (sym c.go_on.ensures.function) w.typed;
-        calling = c.go_on.ensures.paused c.in_default.is w.t w.old (I32 c.args.order.op ∷ []) (c.args.order.fuel - c.args.first) w.calling;
-      };
+      at = (
+        record {
+          t = w.t;
+          old = w.old;
+          started = w.started;
+          exported = subst (λ (f : ℕ). ExportsFunction (arc_value c.args.order.module).contents (codes "uv_work") f) (sym c.go_on.ensures.function) w.exported;
+          typed = subst (λ (f : ℕ). type_of_function (arc_value c.args.order.module).contents f ≡ Some (type_of_entry Work)) (sym c.go_on.ensures.function) w.typed;
+          calling = c.go_on.ensures.paused c.in_default.is w.t w.old (I32 c.args.order.op ∷ []) (c.args.order.fuel - c.args.first) w.calling;
+        },
+        c.go_on.ensures.stands c.in_default.is,
+      );
     }
 
 pub over-requires-clause-computes : goal.over-requires-clause-computes

@@ -1,0 +1,148 @@
+// The memory of an order's run, which is reserved before it.
+
+ghost use Rattle.std.specs.Prelude.{◌≡◌, ◌≤◌, [], length, vec_capacity, IfOk};
+ghost use Rattle.std.specs.Arc.{arc_value};
+ghost use Rattle.limits.specs.declared.TheConstants.{MAX_BYTES, MAX_DEPTH};
+ghost use Rattle.validate.specs.Targets.{AreTables};
+ghost use Rattle.order.specs.Inner.Ready.{IsReadyToRun};
+
+use imports::Linked;
+use instance::fault::InstFault;
+use instance::room::Room;
+use instance::stack::{Caller, Slots};
+use instance::state::{Instance, State};
+use limits::{MAX_BYTES, MAX_DEPTH};
+use std::alloc::{AllocError, Global};
+use std::sync::Arc;
+use syntax::items::Items;
+use validate::SideTable;
+
+/// Memory was refused. One is made in this module alone, where an allocation was, by functions that see neither the operation nor what is
+/// in the input: so there is no memory for an order only where it was refused.
+#[derive(Drop)]
+pub struct RefusedMemory {
+    by: AllocError,
+}
+
+/// All memory that a run of an order takes: a new instance of its module, room for the bytes of its reply, and a share of the module
+/// and of the input each.
+pub(crate) struct Reserved<T> {
+    pub(crate) instance: Instance,
+    pub(crate) linked: Arc<Linked, Global>,
+    pub(crate) input: Arc<T, Global>,
+    pub(crate) reply: Vec<u8>,
+    pub ghost empty: { reply.items ≡ [] },
+    pub ghost room: { MAX_BYTES ≤ vec_capacity reply },
+}
+
+/// The same for a run in slices: the parts of the instance, and its side tables.
+pub(crate) struct ReservedParts<T> {
+    pub(crate) state: State,
+    pub(crate) slots: Slots,
+    pub(crate) frames: Vec<Caller>,
+    pub(crate) tables: Arc<Items<SideTable>, Global>,
+    pub(crate) linked: Arc<Linked, Global>,
+    pub(crate) input: Arc<T, Global>,
+    pub(crate) reply: Vec<u8>,
+    pub ghost empty: { reply.items ≡ [] },
+    pub ghost room: { MAX_BYTES ≤ vec_capacity reply },
+}
+
+/// A new instance of a module, in the room that another one had.
+fn instance_of(alloc: Global, linked: &Linked, room: &mut Room) -> Result<Instance, AllocError>
+    ensures { IfOk result (λ i. IsReadyToRun linked.now.contents i.state) }
+{
+    let valid = linked.valid();
+    // by its contract the module is valid
+    let _contents = valid.contents();
+    match Instance::new_in(alloc, valid, room) {
+        Ok(instance) => Ok(instance),
+        Err(InstFault::Memory) => Err(AllocError),
+        Err(_) => unreachable!(),
+    }
+}
+
+fn all<T: Drop>(
+    alloc: Global,
+    linked: &Arc<Linked, Global>,
+    input: &Arc<T, Global>,
+    room: &mut Room,
+) -> Result<Reserved<T>, AllocError>
+    ensures ready { IfOk result (λ r. IsReadyToRun (arc_value linked.now).contents r.instance.state) }
+    ensures linked { IfOk result (λ r. arc_value r.linked ≡ arc_value linked.now) }
+    ensures input { IfOk result (λ r. arc_value r.input ≡ arc_value input.now) }
+{
+    Ok(Reserved {
+        instance: instance_of(alloc, linked, room)?,
+        linked: Arc::try_clone(linked)?,
+        input: Arc::try_clone(input)?,
+        reply: Vec::with_capacity(alloc, MAX_BYTES)?,
+    })
+}
+
+fn all_parts<T: Drop>(
+    alloc: Global,
+    linked: &Arc<Linked, Global>,
+    input: &Arc<T, Global>,
+) -> Result<ReservedParts<T>, AllocError>
+    ensures ready { IfOk result (λ r. IsReadyToRun (arc_value linked.now).contents r.state) }
+    ensures agree { IfOk result (λ r. AreTables (arc_value linked.now).contents (arc_value r.tables)) }
+    ensures callers { IfOk result (λ r. MAX_DEPTH ≤ length r.frames.items) }
+    ensures linked { IfOk result (λ r. arc_value r.linked ≡ arc_value linked.now) }
+    ensures input { IfOk result (λ r. arc_value r.input ≡ arc_value input.now) }
+{
+    let (state, _) = instance_of(alloc, linked, &mut Room::empty())?.into_parts();
+    let tables = linked.valid().share_tables()?;
+    let slots = Slots::new(alloc)?;
+    let nowhere = Caller {
+        function: 0,
+        pc: 0,
+        base: 0,
+    };
+    let mut frames = Vec::new(alloc);
+    frames.resize(MAX_DEPTH as usize, nowhere)?;
+    Ok(ReservedParts {
+        state,
+        slots,
+        frames,
+        tables,
+        linked: Arc::try_clone(linked)?,
+        input: Arc::try_clone(input)?,
+        reply: Vec::with_capacity(alloc, MAX_BYTES)?,
+    })
+}
+
+/// Reserves what a run of a module takes.
+pub(crate) fn reserve<T: Drop>(
+    alloc: Global,
+    linked: &Arc<Linked, Global>,
+    input: &Arc<T, Global>,
+    room: &mut Room,
+) -> Result<Reserved<T>, RefusedMemory>
+    ensures ready { IfOk result (λ r. IsReadyToRun (arc_value linked.now).contents r.instance.state) }
+    ensures linked { IfOk result (λ r. arc_value r.linked ≡ arc_value linked.now) }
+    ensures input { IfOk result (λ r. arc_value r.input ≡ arc_value input.now) }
+{
+    match all(alloc, linked, input, room) {
+        Ok(reserved) => Ok(reserved),
+        Err(by) => Err(RefusedMemory { by }),
+    }
+}
+
+/// Reserves what a run in slices takes.
+pub(crate) fn reserve_parts<T: Drop>(
+    alloc: Global,
+    linked: &Arc<Linked, Global>,
+    input: &Arc<T, Global>,
+) -> Result<ReservedParts<T>, RefusedMemory>
+    ensures ready { IfOk result (λ r. IsReadyToRun (arc_value linked.now).contents r.state) }
+    ensures agree { IfOk result (λ r. AreTables (arc_value linked.now).contents (arc_value r.tables)) }
+    ensures callers { IfOk result (λ r. MAX_DEPTH ≤ length r.frames.items) }
+    ensures linked { IfOk result (λ r. arc_value r.linked ≡ arc_value linked.now) }
+    ensures input { IfOk result (λ r. arc_value r.input ≡ arc_value input.now) }
+{
+    match all_parts(alloc, linked, input) {
+        Ok(reserved) => Ok(reserved),
+        Err(by) => Err(RefusedMemory { by }),
+    }
+}

@@ -1,0 +1,26 @@
+use Rattle.std.proofs.Common.{◌≡◌, Option, None, refl, subst}
+use Rattle.std.specs.Arc.{arc_value}
+use Rattle.syntax.specs.Loaded.{Loaded}
+use Rattle.instance.specs.Store.{Store}
+use Rattle.instance.specs.Stops.{Halt, stop_of}
+use Rattle.resident.specs.Slices.{CallStandsAt}
+use Rattle.resident.specs.Underway.{CallUnderway, IsSomeCall}
+use Rattle.resident.specs.Inner.Going.{call_underway}
+use Rattle.resident.specs.declared.calling.CallMachine.{CallMachine}
+use Rattle.resident.specs.declared.calling.CallPlace.{CallPlace}
+use Rattle.resident.specs.declared.calling.CallPlace.TheVariants.{Import, Inside}
+use Rattle.resident.proofs.SlicesAreOneCall.{stands_at}
+use Rattle.resident.proofs.calling.Calling.store.Goals as goal
+
+-- some call stands there, or nothing of it has run
+standing : (loaded : Loaded) (state : Store) (machine : CallMachine) (place : CallPlace) → IsSomeCall (call_underway loaded state machine place)
+    → (stop : Option Halt) × CallStandsAt (call_underway loaded state machine place) stop
+standing loaded state machine (Import function depth) some = (None, refl)
+standing loaded state machine (Inside paused) some =
+    (stop_of paused.last machine.frames.items, stands_at loaded (arc_value machine.tables) machine.slots machine.frames.items state paused some)
+
+pub returns-clause-stands : goal.returns-clause-stands
+returns-clause-stands c =
+    let i = c.self.inside in
+    subst (λ (call : CallUnderway). (stop : Option Halt) × CallStandsAt call stop) c.self.view_is
+    (standing (arc_value i.linked) i.state i.machine i.place c.self.invariant.some)

@@ -1,4 +1,4 @@
-"""Makes the wheel of Python's wasmloop: capi/python/wasmloop.py and dist/libwasmloop.so.0, with the same bytes wherever it is made.
+"""Makes the wheel of Python's wasmloop: the package capi/python/wasmloop and dist/libwasmloop.so.0, with the same bytes wherever it is made.
 
 It is what pip calls for `pip install ./capi` (PEP 517), and a program: make_wheel.py FOLDER
 """
@@ -12,6 +12,7 @@ import zipfile
 
 CAPI = os.path.dirname(os.path.realpath(__file__))
 TOP = os.path.dirname(CAPI)
+KIT = "guest.h guest.c wasi.c nofiles.c setjmp.h setjmp.c soft.c".split()
 # The library takes malloc, realloc, free and three functions on bytes of glibc, the youngest since 2.14; no older one has a tag than 2.17.
 TAG = "py3-none-manylinux_2_17_x86_64.manylinux2014_x86_64"
 
@@ -25,11 +26,23 @@ def version():
     return re.search(r'#define WASMLOOP_VERSION "(.*)"', read(f"{CAPI}/include/wasmloop.h").decode())[1]
 
 
+def package():
+    """The files of the package, as where they go and where they are: the tools, and the headers and sources for guests."""
+    for folder in ("wasmloop", "wasmloop/lowering"):
+        for name in sorted(os.listdir(f"{CAPI}/python/{folder}")):
+            if name.endswith((".py", ".wasm")):
+                yield f"{folder}/{name}", f"{CAPI}/python/{folder}/{name}"
+    for name in ("uv.h", "uv.rs", "mem.c", *(f"kit/{it}" for it in KIT)):
+        yield f"wasmloop/guest/{os.path.basename(name)}", f"{TOP}/examples/{name}"
+    for name in ("fuzz_guest.c", "include/wasmloop.h"):
+        yield f"wasmloop/guest/{os.path.basename(name)}", f"{CAPI}/{name}"
+
+
 def build_wheel(folder, config_settings=None, metadata_directory=None):
     name, tags = f"wasmloop-{version()}", "".join(f"Tag: py3-none-{it}\n" for it in TAG.split("-")[2].split("."))
     info = f"{name}.dist-info"
     files = {
-        "wasmloop/__init__.py": read(f"{CAPI}/python/wasmloop.py"),
+        **{path: read(file) for path, file in package()},
         "wasmloop/py.typed": b"",
         "wasmloop/libwasmloop.so.0": read(f"{TOP}/dist/libwasmloop.so.0"),
         f"{info}/PROOF.json": read(f"{TOP}/dist/PROOF.json"),

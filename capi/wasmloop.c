@@ -10,6 +10,7 @@ uint32_t wasmloop_rt_load(const uint8_t *, size_t, wasmloop_handle *, wasmloop_f
 uint32_t wasmloop_rt_loop(wasmloop_handle *, const wasmloop_limits *, wasmloop_handle *);
 uint32_t wasmloop_rt_drop(wasmloop_handle *);
 uint32_t wasmloop_rt_step(wasmloop_handle *, wasmloop_did *);
+uint32_t wasmloop_rt_turn(wasmloop_handle *, uint32_t, wasmloop_turned *);
 uint32_t wasmloop_rt_emits(wasmloop_handle *, int64_t *, size_t, uint32_t *);
 uint32_t wasmloop_rt_clock(wasmloop_handle *, uint64_t, uint64_t *);
 uint32_t wasmloop_rt_hint(wasmloop_handle *, uint64_t *);
@@ -27,6 +28,7 @@ uint32_t wasmloop_rt_share(wasmloop_handle *, wasmloop_handle *);
 uint32_t wasmloop_rt_shape(wasmloop_handle *, wasmloop_shape *);
 uint32_t wasmloop_rt_explain(const uint8_t *, size_t, char *, size_t, uint64_t *);
 uint32_t wasmloop_rt_stop(wasmloop_handle *, wasmloop_site *, size_t, uint64_t *);
+uint32_t wasmloop_rt_stop_places(wasmloop_handle *, wasmloop_place *, size_t, uint64_t *);
 uint32_t wasmloop_rt_stop_told(const uint8_t *, size_t, wasmloop_handle *, char *, size_t, uint64_t *);
 uint32_t wasmloop_rt_warning(wasmloop_handle *, uint32_t, char *, size_t, uint64_t *);
 uint32_t wasmloop_rt_job_new(wasmloop_handle *, const wasmloop_task *, const uint8_t *, size_t, wasmloop_handle *);
@@ -77,32 +79,8 @@ int wasmloop_step(wasmloop_handle *loop, wasmloop_did *did) {
     return loop && did ? (int)wasmloop_rt_step(loop, did) : WASMLOOP_NULL;
 }
 
-/* Whether a step ends a call of wasmloop_turn, of which so many callbacks ran before it. */
-static int ends_turn(const wasmloop_did *did, uint32_t ran, uint32_t most_callbacks) {
-    switch (did->what) {
-    case WASMLOOP_ENTERED: return did->phase == WASMLOOP_TIMERS;
-    case WASMLOOP_RAN: return did->emits || did->ending != WASMLOOP_RETURN || ran + 1 == most_callbacks;
-    case WASMLOOP_SKIPPED: return 0;
-    default: return 1;
-    }
-}
-
 int wasmloop_turn(wasmloop_handle *loop, uint32_t most_callbacks, wasmloop_turned *told) {
-    if (!loop || !told) return WASMLOOP_NULL;
-    if (!most_callbacks) return WASMLOOP_RANGE;
-    wasmloop_turned now = *told;
-    if (now.did.what == WASMLOOP_ENTERED && now.did.phase == WASMLOOP_TIMERS) now.callbacks = 0;
-    now.wait = 0;
-    for (uint32_t ran = 0;;) {
-        int status = (int)wasmloop_rt_step(loop, &now.did);
-        if (status != WASMLOOP_OK) return status;
-        int ends = ends_turn(&now.did, ran, most_callbacks);
-        if (now.did.what == WASMLOOP_RAN) ran++, now.callbacks++;
-        if (ends) break;
-    }
-    if (now.did.what == WASMLOOP_ENTERED && !now.callbacks) wasmloop_rt_hint(loop, &now.wait);
-    *told = now;
-    return WASMLOOP_OK;
+    return loop && told ? (int)wasmloop_rt_turn(loop, most_callbacks, told) : WASMLOOP_NULL;
 }
 
 int wasmloop_emits(wasmloop_handle *loop, int64_t *into, size_t room, uint32_t *count) {
@@ -182,6 +160,12 @@ int wasmloop_stop(wasmloop_handle *handle, wasmloop_site *into, size_t room, uin
     return (int)wasmloop_rt_stop(handle, room ? into : (wasmloop_site *)&nothing, room, count);
 }
 
+int wasmloop_stop_places(wasmloop_handle *handle, wasmloop_place *into, size_t room, uint64_t *count) {
+    if (!handle || !count || (!into && room)) return WASMLOOP_NULL;
+    if (room > PTRDIFF_MAX / sizeof *into) return WASMLOOP_RANGE;
+    return (int)wasmloop_rt_stop_places(handle, room ? into : (wasmloop_place *)&nothing, room, count);
+}
+
 int wasmloop_stop_told(const uint8_t *bytes, size_t length, wasmloop_handle *handle, char *into, size_t room, uint64_t *count) {
     if (!handle || !count || (!bytes && length) || (!into && room)) return WASMLOOP_NULL;
     if (length > PTRDIFF_MAX || room > PTRDIFF_MAX) return WASMLOOP_RANGE;
@@ -259,14 +243,14 @@ int wasmloop_call_run_for(wasmloop_handle *instance, uint64_t units, uint32_t *o
     return instance && over && ended ? (int)wasmloop_rt_call_run_for(instance, units, over, ended) : WASMLOOP_NULL;
 }
 
-int wasmloop_size(wasmloop_handle *instance, uint64_t *bytes) {
-    return instance && bytes ? (int)wasmloop_rt_size(instance, bytes) : WASMLOOP_NULL;
+int wasmloop_size(wasmloop_handle *handle, uint64_t *bytes) {
+    return handle && bytes ? (int)wasmloop_rt_size(handle, bytes) : WASMLOOP_NULL;
 }
 
-int wasmloop_read(wasmloop_handle *instance, uint32_t at, uint8_t *into, size_t length) {
-    if (!instance || (!into && length)) return WASMLOOP_NULL;
+int wasmloop_read(wasmloop_handle *handle, uint32_t at, uint8_t *into, size_t length) {
+    if (!handle || (!into && length)) return WASMLOOP_NULL;
     if (length > PTRDIFF_MAX) return WASMLOOP_RANGE;
-    return (int)wasmloop_rt_read(instance, at, length ? into : (uint8_t *)&nothing, length);
+    return (int)wasmloop_rt_read(handle, at, length ? into : (uint8_t *)&nothing, length);
 }
 
 int wasmloop_write(wasmloop_handle *instance, uint32_t at, const uint8_t *from, size_t length) {
@@ -275,6 +259,6 @@ int wasmloop_write(wasmloop_handle *instance, uint32_t at, const uint8_t *from, 
     return (int)wasmloop_rt_write(instance, at, length ? from : (const uint8_t *)&nothing, length);
 }
 
-int wasmloop_global(wasmloop_handle *instance, const char *name, wasmloop_number *value) {
-    return instance && name && value ? (int)wasmloop_rt_global(instance, (const uint8_t *)name, length_of(name), value) : WASMLOOP_NULL;
+int wasmloop_global(wasmloop_handle *handle, const char *name, wasmloop_number *value) {
+    return handle && name && value ? (int)wasmloop_rt_global(handle, (const uint8_t *)name, length_of(name), value) : WASMLOOP_NULL;
 }

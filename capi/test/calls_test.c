@@ -644,7 +644,74 @@ static void stops(void) {
     IS(wasmloop_stop(&loop, sites, 4, &count), WASMLOOP_EMPTY);
 }
 
-/* the same in words */
+/* the same with the byte of each instruction */
+static void stop_places(void) {
+    wasmloop_handle loop = loop_of("endless.wasm"), none = WASMLOOP_HANDLE_INIT, module = module_of("endless.wasm");
+    wasmloop_shape shape;
+    wasmloop_place places[4];
+    uint64_t count = 7;
+    size_t length = read_file("endless.wasm");
+    IS(wasmloop_shape_of(&module, &shape), WASMLOOP_OK);
+    IS(wasmloop_stop_places(&loop, places, 4, &count), WASMLOOP_NONE);
+    IS(wasmloop_stop_places(NULL, places, 4, &count), WASMLOOP_NULL);
+    IS(wasmloop_stop_places(&loop, NULL, 4, &count), WASMLOOP_NULL);
+    IS(wasmloop_stop_places(&loop, places, 4, NULL), WASMLOOP_NULL);
+    IS(wasmloop_stop_places(&none, places, SIZE_MAX, &count), WASMLOOP_RANGE);
+    IS(wasmloop_stop_places(&none, places, 4, &count), WASMLOOP_EMPTY);
+    IS(wasmloop_stop_places(&module, places, 4, &count), WASMLOOP_KIND);
+    IS(count, 7);
+    run_to(&loop, 99);
+    memset(places, 0x55, sizeof places);
+    IS(wasmloop_stop_places(&loop, places, 3, &count), WASMLOOP_OK);
+    IS(count, usual.depth);
+    for (int i = 0; i < 3; i++) IS(places[i].function == shape.imports && places[i].instruction == 0 && places[i].byte < length, 1);
+    IS(places[0].byte == places[2].byte && places[3].function == 0x5555555555555555, 1);
+    IS(wasmloop_stop_places(&loop, NULL, 0, &count), WASMLOOP_OK);
+    IS(wasmloop_drop(&loop), WASMLOOP_OK);
+    IS(wasmloop_drop(&module), WASMLOOP_OK);
+}
+
+/* the memory and the globals of a loop: before its first step, and after it has failed */
+static void inspects(void) {
+    static uint8_t memories[2][64 << 16];
+    static const wasmloop_call_limits limits = { 1000000, 64, 0 };
+    wasmloop_handle module = module_of("digest.wasm"), loop = WASMLOOP_HANDLE_INIT, instance = WASMLOOP_HANDLE_INIT, none = WASMLOOP_HANDLE_INIT;
+    wasmloop_limits few = usual;
+    wasmloop_ended ended;
+    wasmloop_number value;
+    wasmloop_standing standing;
+    uint64_t size = 7, fresh = 8;
+    few.fuel = 20;
+    IS(wasmloop_loop(&module, &few, &loop), WASMLOOP_OK);
+    IS(wasmloop_instance(&module, &limits, &instance, &ended), WASMLOOP_OK);
+    IS(wasmloop_size(&none, &size), WASMLOOP_EMPTY);
+    IS(wasmloop_size(&module, &size), WASMLOOP_KIND);
+    IS(wasmloop_read(&module, 0, memories[0], 1), WASMLOOP_KIND);
+    IS(wasmloop_global(&module, "memory", &value), WASMLOOP_KIND);
+    IS(size, 7);
+    IS(wasmloop_size(&instance, &fresh), WASMLOOP_OK);
+    for (int turn = 0; turn < 2; turn++) {
+        IS(wasmloop_size(&loop, &size), WASMLOOP_OK);
+        IS(size >= fresh && size <= sizeof memories[0], 1);
+        IS(wasmloop_read(&loop, 0, memories[0], size), WASMLOOP_OK);
+        IS(wasmloop_read(&loop, 1, memories[1], size), WASMLOOP_RANGE);
+        IS(wasmloop_read(&loop, (uint32_t)size, NULL, 0), WASMLOOP_OK);
+        IS(wasmloop_read(&loop, (uint32_t)size, memories[1], 1), WASMLOOP_RANGE);
+        IS(wasmloop_write(&loop, 0, memories[0], 1), WASMLOOP_KIND);
+        IS(wasmloop_global(&loop, "memory", &value), WASMLOOP_NONE);
+        if (turn) break;
+        IS(wasmloop_read(&instance, 0, memories[1], size), WASMLOOP_OK);
+        IS(memcmp(memories[0], memories[1], size), 0);
+        IS(run_to(&loop, 99).what, WASMLOOP_FAILED);
+        IS(wasmloop_standing_of(&loop, &standing), WASMLOOP_OK);
+        IS(standing.failed, 1);
+    }
+    IS(wasmloop_drop(&loop), WASMLOOP_OK);
+    IS(wasmloop_drop(&instance), WASMLOOP_OK);
+    IS(wasmloop_drop(&module), WASMLOOP_OK);
+}
+
+/* where it stopped, in words */
 static void stops_told(void) {
     wasmloop_handle loop = loop_of("endless.wasm"), none = WASMLOOP_HANDLE_INIT, module = module_of("crc32.wasm"), job = WASMLOOP_HANDLE_INIT;
     wasmloop_task task = { 3, 0, 64 };
@@ -654,7 +721,7 @@ static void stops_told(void) {
     IS(wasmloop_stop_told(bytes, length, &loop, text, sizeof text, &count), WASMLOOP_NONE);
     run_to(&loop, 99);
     IS(wasmloop_stop_told(bytes, length, &loop, text, sizeof text - 1, &room), WASMLOOP_OK);
-    IS(room == strlen(text) && strncmp(text, "in function ", 12) == 0 && strstr(text, "operation 0 (") && strstr(text, "; called by function "), 1);
+    IS(room == strlen(text) && strncmp(text, "in function ", 12) == 0 && strstr(text, "instruction 0 (") && strstr(text, "; called by function "), 1);
     IS(strstr(text, "; and 47 more") != NULL, 1);
     memset(text, 'x', sizeof text);
     IS(wasmloop_stop_told(bytes, length, &loop, text, 2, &count), WASMLOOP_OK);
@@ -760,6 +827,8 @@ int main(int argc, char **argv) {
     threads();
     works();
     stops();
+    stop_places();
+    inspects();
     stops_told();
     tells();
     warns();

@@ -1,4 +1,4 @@
-"""The library against the program: random modules, work requests, and right and wrong calls of wasmloop.py.
+"""The library against the program: random modules, work requests, and right and wrong calls of the package wasmloop.
 
 usage: calls_test.py EXAMPLES PROGRAM [COUNT]
 """
@@ -48,7 +48,7 @@ def by_library(data, op, word):
         return "no function uv_work\n", ""
     if reply.outcome == "done":
         return f"done {reply.value} bytes {len(reply.data)}{' ' if reply.data else ''}{reply.data.hex()}\n", ""
-    return (f"trap {reply.value}\n" if reply.outcome == "trap" else f"{reply.outcome}\n"), ""
+    return (f"trap {reply.number}\n" if reply.outcome == "trap" else f"{reply.outcome}\n"), ""
 
 
 def by_program(file, data, op, word):
@@ -95,7 +95,10 @@ def calls():
     same(module.job(0, b"abc").input(), b"abc")
     job = module.job(0, b"abc", fuel=3).run()
     same((job.reply().outcome, job.reply().used, len(job.stop())), ("spent", 3, 1))
-    same(job.stop_told(data).startswith("in function "), True)
+    (site,), (place,) = job.stop(), job.stop_places()
+    same((place.function, place.instruction), (site[0] + module.shape().imports, site[1]))
+    told = job.stop_told(data)
+    same((told.startswith(f"in function {place.function}"), f"instruction {site[1]} (" in told, told.endswith(f" at byte {place.byte}")), (True, True, True))
     refused(lambda: job.stop_told(data[:-1]), wasmloop.REFUSED)
     job = module.job(0, b"abc").run()
     same((job.reply().outcome, job.reply().used > 3, job.stop()), ("done", True, []))
@@ -107,6 +110,9 @@ def calls():
             pass
         standing = loop.standing()
         same((standing.alive, standing.failed, standing.outstanding), (1, 0, 4))
+        with asking.instance() as instance:
+            same((len(loop.memory), loop.memory[:0], loop.stop_places()), (len(instance.memory), b"", []))
+        refused(lambda: loop.value("nothing"), wasmloop.NONE)
         with wasmloop.Loop(asking, number=1) as other:
             job = loop.next_job()
             same((other.start(job), loop.start(job), loop.start(job)), (False, True, False))
@@ -131,37 +137,49 @@ def said(call):
 
 
 def wrong_words():
-    """Each word of a wrong type and each number out of its range is told, with the range."""
+    """Wrong types, numbers out of range and calls in the wrong state: one sentence each."""
     module = wasmloop.Module((EXAMPLES / "crc32.wasm").read_bytes())
-    loop, job, plugin = wasmloop.Loop(module), module.job(0, b"abc"), module.instance()
+    loop, job, plugin, busy = wasmloop.Loop(module), module.job(0, b"abc"), module.instance(), module.instance()
+    spent, paused = module.job(0, b"abc", fuel=3).run(), module.job(0, b"abc")
+    same((paused.run_for(1), busy.begin("uv_work", 0).run_for(1)), (False, False))
+    same((len(paused.stop()), len(busy.stop()), len(busy.stop_places()), len(busy.memory)), (1, 1, 1, len(plugin.memory)))
     most = 2**64 - 1
     wanted = [
-        (lambda: module.work(0, "abc"), "TypeError: bytes are wanted, and str is there: encode it"),
-        (lambda: module.work(0, 5), "TypeError: bytes are wanted, and int is there"),
-        (lambda: module.work(0, [1, 2]), "TypeError: bytes are wanted, and list is there"),
-        (lambda: module.work(0.5), "TypeError: op: a whole number is wanted, and float is there"),
-        (lambda: module.work(2**32), f"OutOfRange: op {2**32}: from -2147483648 to 4294967295"),
-        (lambda: module.work(0, fuel=-1), f"OutOfRange: fuel -1: from 0 to {most}"),
-        (lambda: module.work(0, fuel=2**64 + 5), f"OutOfRange: fuel {2**64 + 5}: from 0 to {most}"),
-        (lambda: module.work(0, depth=0), "OutOfRange: depth 0: from 1 to 128"),
-        (lambda: module.work(0, bytes(65_537)), "OutOfRange: length 65537: from 0 to 65536"),
-        (lambda: wasmloop.Module("x"), "TypeError: bytes are wanted, and str is there: encode it"),
+        (lambda: module.work(0, "abc"), "TypeError: expected bytes, got str: encode it, as text.encode()"),
+        (lambda: module.work(0, 5), "TypeError: expected bytes, got int"),
+        (lambda: module.work(0, [1, 2]), "TypeError: expected bytes, got list"),
+        (lambda: module.work(0.5), "TypeError: op: expected a whole number, got float"),
+        (lambda: module.work(2**32), f"OutOfRange: op {2**32} is out of range: expected -2147483648 to 4294967295"),
+        (lambda: module.work(0, fuel=-1), f"OutOfRange: fuel -1 is out of range: expected 0 to {most}"),
+        (lambda: module.work(0, fuel=2**64 + 5), f"OutOfRange: fuel {2**64 + 5} is out of range: expected 0 to {most}"),
+        (lambda: module.work(0, depth=0), "OutOfRange: depth 0 is out of range: expected 1 to 128"),
+        (lambda: module.work(0, bytes(65_537)), "OutOfRange: length 65537 is out of range: expected 0 to 65536"),
+        (lambda: wasmloop.Module("x"), "TypeError: expected the bytes of a module, got str: if it is a path, pass open('x', 'rb').read()"),
         (lambda: wasmloop.Module(b"x"), "Refused: byte 0: the bytes don't begin with 00 61 73 6d"),
-        (lambda: wasmloop.Loop(3), "TypeError: a Module is wanted, and int is there"),
-        (lambda: wasmloop.Loop(module, number=-1), "OutOfRange: number -1: from 0 to 4294967295"),
-        (lambda: loop.accept(None), "TypeError: a Job is wanted, and NoneType is there"),
-        (lambda: loop.send("1"), "TypeError: number: a whole number is wanted, and str is there"),
-        (lambda: loop.turn(0), "OutOfRange: most 0: from 1 to 4294967295"),
-        (lambda: job.run_for(0), f"OutOfRange: units 0: from 1 to {most}"),
-        (job.reply, "Error: the job was run already, or was not run yet; of an instance: a call is under way, or none is"),
-        (lambda: job.reply_into(b"abc"), "TypeError: a buffer that can be written is wanted, and bytes is there"),
+        (lambda: wasmloop.Loop(3), "TypeError: expected a Module, got int"),
+        (lambda: wasmloop.Loop(module, number=-1), "OutOfRange: number -1 is out of range: expected 0 to 4294967295"),
+        (lambda: loop.accept(None), "TypeError: expected a Job, got NoneType"),
+        (lambda: loop.send("1"), "TypeError: number: expected a whole number, got str"),
+        (lambda: loop.turn(0), "OutOfRange: most 0 is out of range: expected 1 to 4294967295"),
+        (lambda: job.run_for(0), f"OutOfRange: units 0 is out of range: expected 1 to {most}"),
+        (job.reply, "Error: the job has not run yet"),
+        (lambda: job.reply_into(bytearray(1)), "Error: the job has no reply: it has not run yet"),
+        (lambda: spent.reply_into(bytearray(1)), "Error: the job has no reply: it ran out of fuel"),
+        (spent.run, "Error: the job has already run"),
+        (lambda: loop.accept(job), "Error: the job has not run yet"),
+        (paused.about, "Error: the job is paused: continue it with run_for"),
+        (lambda: busy.call("uv_work", 0), "Error: a call is in progress"),
+        (lambda: busy.memory.__setitem__(slice(0, 1), b"x"), "Error: a call is in progress"),
+        (lambda: loop.memory.__setitem__(slice(0, 1), b"x"), "Error: the memory of a loop can only be read"),
+        (lambda: module.instance().call("uv_work", 0, fuel=1), "Stopped: uv_work ran out of fuel, after 1 unit"),
+        (lambda: job.reply_into(b"abc"), "TypeError: expected a writable buffer, got bytes"),
         (lambda: plugin.call("nothing"), "Error: no function is exported as 'nothing'"),
         (lambda: plugin.call("uv_work\0", 0), r"Error: no function is exported as 'uv_work\x00'"),
-        (lambda: plugin.call(3), "TypeError: the name of a function, a str, is wanted, and int is there"),
-        (lambda: plugin.call("uv_work"), "TypeError: uv_work takes 1 numbers, not 0"),
-        (lambda: plugin.call("uv_work", 2**32), f"OutOfRange: argument 1 (i32) {2**32}: from -2147483648 to 4294967295"),
-        (lambda: plugin.memory[-1:3], "OutOfRange: start -1: from 0 to 131072"),
-        (lambda: plugin.memory[3], "TypeError: a memory is read and written by slices, memory[at:at + n]"),
+        (lambda: plugin.call(3), "TypeError: name: expected a str, got int"),
+        (lambda: plugin.call("uv_work"), "TypeError: uv_work takes 1 argument, got 0"),
+        (lambda: plugin.call("uv_work", 2**32), f"OutOfRange: argument 1 (i32) {2**32} is out of range: expected -2147483648 to 4294967295"),
+        (lambda: plugin.memory[-1:3], "OutOfRange: start -1 is out of range: expected 0 to 131072"),
+        (lambda: plugin.memory[3], "TypeError: read and write memory by slices, as memory[at:at + n]"),
     ]
     for call, words in wanted:
         same(said(call), words)
@@ -171,7 +189,7 @@ def wrong_words():
     same((job.run().reply_into(room), bytes(room)), (4, b"\x35\x24\x41\xc2\0\0"))
     module.close()
     same((repr(module), other.work(0, bytearray(b"abc")).value), ("<Module: closed>", 891568578))
-    same(said(module.shape), "Error: it was closed, or its job was accepted")
+    same(said(module.shape), "Error: the module is closed")
     return len(wanted)
 
 

@@ -184,10 +184,28 @@ static void make_loop(slot *from, slot *into) {
     fill(into, LOOP), into->number = limits.number, into->file = from->file;
 }
 
+static int is_between_slices(slot *it) { return it->kind == PAUSED || it->kind == CALLING; }
+
 static void reads_stop(slot *it, int status, int stopped) {
-    if (stopped >= 0) told("stop", status, stopped ? WASMLOOP_OK : WASMLOOP_NONE);
+    if (is_between_slices(it)) told("stop of what is paused", status, it->used ? WASMLOOP_OK : WASMLOOP_NONE);
+    else if (stopped >= 0) told("stop", status, stopped ? WASMLOOP_OK : WASMLOOP_NONE);
     else if (it->kind == LOOP || it->kind == JOB || it->kind == INSTANCE) told_one("stop", status, WASMLOOP_OK, WASMLOOP_NONE);
     else told("stop", status, of_kind(it, LOOP));
+}
+
+/* The places of the sites that `stop` has told, as many as it kept. */
+static void stop_places(slot *it, int stopped, const wasmloop_site *sites, uint64_t kept) {
+    wasmloop_place places[128];
+    uint64_t count = GUARD;
+    memset(places, GUARD, sizeof places);
+    int status = CALL(wasmloop_stop_places(&it->handle, places, 128, &count));
+    told("stop_places", status, stopped);
+    if (status != WASMLOOP_OK) { untouched("places", places, sizeof places); return; }
+    for (uint64_t i = 0; i < kept; i++) {
+        if (it->file >= 0) is("a place's function", (long)places[i].function, (long)(sites[i].function + files[it->file].shape.imports));
+        if (it->file >= 0) is("a place's byte", places[i].byte >= 8 && places[i].byte < files[it->file].length, 1);
+        is("a place's instruction", (long)places[i].instruction, (long)sites[i].operation);
+    }
 }
 
 /* `stopped`: whether the last run is known to have stopped, or -1 */
@@ -199,6 +217,7 @@ static void stop(slot *it, int stopped) {
     reads_stop(it, status, stopped);
     if (status == WASMLOOP_OK) is("a stop's count", count >= 1 && count <= 128, 1);
     uint64_t kept = status != WASMLOOP_OK ? 0 : it->kind == JOB && count > 17 ? 17 : count;
+    stop_places(it, status, into, kept < room ? kept : room);
     done_with("stop", into, length, kept * sizeof(wasmloop_site));
 }
 
@@ -210,9 +229,11 @@ static void stop_told(slot *it) {
     int number = it->file >= 0 && below(4) ? it->file : (int)below(file_count);
     int status = CALL(wasmloop_stop_told(files[number].bytes, files[number].length, &it->handle, into, room, &count));
     int stops = it->kind == LOOP || it->kind == INSTANCE || (it->kind == JOB && it->has_run);
-    if (it->kind == JOB && !it->has_run) told("stop_told of a job that was not run", status, WASMLOOP_NONE);
+    int fits = number == it->file ? WASMLOOP_OK : WASMLOOP_REFUSED;
+    if (is_between_slices(it)) told("stop_told of what is paused", status, it->used ? fits : WASMLOOP_NONE);
+    else if (it->kind == JOB && !it->has_run) told("stop_told of a job that was not run", status, WASMLOOP_NONE);
     else if (!stops) told("stop_told", status, of_kind(it, LOOP));
-    else if (status != WASMLOOP_NONE) told("stop_told", status, number == it->file ? WASMLOOP_OK : WASMLOOP_REFUSED);
+    else if (status != WASMLOOP_NONE) told("stop_told", status, fits);
     if (status == WASMLOOP_OK) is("a place in words", count >= 12 && count < 4000 && !memcmp(into, "in function ", room < 12 ? room : 12), 1);
     done_with("stop_told", into, room, status == WASMLOOP_OK ? count : 0);
 }
@@ -276,7 +297,10 @@ static void turn(slot *it) {
     int status = CALL(wasmloop_turn(&it->handle, most, &turned));
     if (!told("turn", status, most ? of_kind(it, LOOP) : WASMLOOP_RANGE)) { is("turned", memcmp(&turned, &before, sizeof turned), 0); return; }
     is("a turn's callbacks", turned.callbacks <= most, 1);
-    is("a turn's wait", turned.wait == 0 || !turned.callbacks, 1);
+    wasmloop_standing standing = { 0 };
+    wasmloop_standing_of(&it->handle, &standing);
+    if (standing.failed) is("a failed loop's wait", turned.wait == WASMLOOP_FOREVER, 1);
+    else is("a turn's wait", turned.wait == 0 || !turned.callbacks, 1);
     did_right(it, &turned.did);
 }
 
@@ -490,16 +514,21 @@ static void call_for(slot *it) {
     }
 }
 
+/* Whether it has an instance that can be inspected. */
+static int has_instance(const slot *it) { return it->kind == INSTANCE || it->kind == CALLING || it->kind == LOOP; }
+
 static void memory(slot *it) {
     uint64_t bytes = 0;
     uint8_t written[64], *into = room_for(64);
     uint32_t length = below(64);
-    int wanted = of_kind(it, INSTANCE);
+    int wanted = has_instance(it) ? WASMLOOP_OK : of_kind(it, INSTANCE), writes = of_kind(it, INSTANCE);
     for (uint32_t i = 0; i < length; i++) written[i] = (uint8_t)draw();
     told("size", CALL(wasmloop_size(&it->handle, &bytes)), wanted);
     uint32_t at = below(4) && bytes ? below((uint32_t)bytes) : draw();
-    if (wanted == WASMLOOP_OK && (uint64_t)at + length > bytes) wanted = WASMLOOP_RANGE;
-    int wrote = told("write", CALL(wasmloop_write(&it->handle, at, written, length)), wanted);
+    int is_past = (uint64_t)at + length > bytes;
+    if (wanted == WASMLOOP_OK && is_past) wanted = WASMLOOP_RANGE;
+    if (writes == WASMLOOP_OK && is_past) writes = WASMLOOP_RANGE;
+    int wrote = told("write", CALL(wasmloop_write(&it->handle, at, written, length)), writes);
     if (told("read", CALL(wasmloop_read(&it->handle, at, into, length)), wanted) && wrote) is("what was written", memcmp(into, written, length), 0);
     done_with("read", into, 64, wanted == WASMLOOP_OK ? length : 0);
 }
@@ -508,7 +537,7 @@ static void global(slot *it) {
     wasmloop_number value;
     memset(&value, GUARD, sizeof value);
     int status = CALL(wasmloop_global(&it->handle, names[below(NAMES)], &value));
-    if (it->kind == INSTANCE) told_one("global", status, WASMLOOP_OK, WASMLOOP_NONE);
+    if (has_instance(it)) told_one("global", status, WASMLOOP_OK, WASMLOOP_NONE);
     else told("global", status, of_kind(it, INSTANCE));
     if (status != WASMLOOP_OK) { untouched("global", &value, sizeof value); return; }
     is("a global's value", (value.value_type == 1 && value.number <= UINT32_MAX) || value.value_type == 2, 1);
@@ -557,7 +586,7 @@ static const struct { void (*call)(slot *, slot *); int first, second; } all[] =
     { drops, PAUSED, NOTHING }, { runs, PAUSED, NOTHING }, { reads_job, PAUSED, NOTHING }, { accept, LOOP, PAUSED },
     { begins, INSTANCE, NOTHING }, { begins, INSTANCE, NOTHING }, { calls_for, CALLING, NOTHING }, { calls_for, CALLING, NOTHING },
     { begins, CALLING, NOTHING }, { call_of, CALLING, NOTHING }, { memories, CALLING, NOTHING }, { globals, CALLING, NOTHING },
-    { looks, CALLING, NOTHING }, { drops, CALLING, NOTHING },
+    { looks, CALLING, NOTHING }, { looks, PAUSED, NOTHING }, { drops, CALLING, NOTHING }, { memories, LOOP, NOTHING }, { globals, LOOP, NOTHING },
     { tells, CALLING, NOTHING }, { tells, LOOP, NOTHING }, { tells, INSTANCE, NOTHING }, { tells, JOB, NOTHING }, { tells, MODULE, NOTHING },
 };
 

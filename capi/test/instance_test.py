@@ -41,7 +41,7 @@ for k in range(60):
 assert all(get(b"key%d" % k) == b"value of %d" % k for k in range(60)) and get(b"none") is None
 assert it.call("count") == 60 and two.call("count") == 0
 print(fails(w.Stopped, lambda: it.call("divide", 1, 0), ending="trap", trap=2))
-assert it.stop() and "(divide), operation " in it.stop_told(data)
+assert it.stop() and "(divide), instruction " in it.stop_told(data)
 assert it.call("add", 0) == 992 and not it.stop() and it.stop_told(data) is None
 assert it.call("divide", -7, 2) == -3 and it.call("divide", 2**32 - 7, 2) == -3
 print(fails(w.Stopped, lambda: it.call("spin", fuel=1000), ending="spent"))
@@ -63,7 +63,8 @@ def in_slices(units, name, *args, **limits):
     call, pauses = two.begin(name, *args, **limits), 0
     while not call.run_for(units):
         fails(w.Error, lambda: two.call("count"), status=w.KIND)
-        fails(w.Error, lambda: len(two.memory), status=w.KIND)
+        fails(w.Error, lambda: two.memory.__setitem__(slice(0, 1), b"x"), status=w.KIND)
+        assert len(two.memory) >= 65536
         fails(w.Error, call.result, status=w.KIND)
         pauses += 1
     fails(w.Error, lambda: call.run_for(1), status=w.KIND)

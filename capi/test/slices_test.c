@@ -1,4 +1,4 @@
-/* Jobs and calls of instances in slices: each length of slice gives what one run gives, and what is paused answers nothing else. Prints
+/* Jobs and calls of instances in slices: each length of slice gives what one run gives, and what is paused tells where it stands. Prints
  * "all N checks hold", or the lines that don't. Run it under AddressSanitizer, which also looks for leaks.
  *
  * usage: slices_test FOLDER      (examples/ of this repository)
@@ -65,6 +65,55 @@ static void agrees(const char *name, uint64_t fuel, uint32_t depth) {
     IS(wasmloop_drop(&module), WASMLOOP_OK);
 }
 
+/* whether the innermost site, its place and the words for it have the same numbers */
+static int is_one_place(const wasmloop_site *site, const wasmloop_place *place, const char *text, uint64_t imports) {
+    unsigned long long function, instruction, byte;
+    const char *number = strstr(text, "instruction "), *at = strstr(text, " at byte ");
+    if (sscanf(text, "in function %llu", &function) != 1 || !number || sscanf(number, "instruction %llu", &instruction) != 1) return 0;
+    if (!at || sscanf(at, " at byte %llu", &byte) != 1) return 0;
+    return place->function == function && place->instruction == instruction && place->byte == byte
+        && site->function + imports == function && site->operation == instruction;
+}
+
+/* a job that has used so much stands where one stops that has no more, in the innermost 17 sites, their places, and in words */
+static void stands(const char *name, uint64_t units, unsigned slices) {
+    static char text[2][4096];
+    wasmloop_handle module = module_of(name), job = job_of(&module, 1000000, 64);
+    size_t length = read_file(name);
+    uint32_t over = 0;
+    uint64_t used = 0;
+    wasmloop_shape shape;
+    IS(wasmloop_shape_of(&module, &shape), WASMLOOP_OK);
+    for (unsigned k = 0; k < slices && over == 0; k++) {
+        wasmloop_site sites[17];
+        wasmloop_place places[2][17];
+        uint64_t count = 7, words[2] = { 0, 0 };
+        memset(sites, 0, sizeof sites);
+        memset(places, 0, sizeof places);
+        IS(wasmloop_job_run_for(&job, units, &over), WASMLOOP_OK);
+        used += units;
+        if (over) break;
+        IS(wasmloop_stop(&job, sites, 17, &count), WASMLOOP_OK);
+        IS(wasmloop_stop_places(&job, places[0], 17, &count), WASMLOOP_OK);
+        IS(wasmloop_stop_told(bytes, length, &job, text[0], sizeof text[0] - 1, &words[0]), WASMLOOP_OK);
+        text[0][words[0]] = 0;
+        IS(is_one_place(&sites[0], &places[0][0], text[0], shape.imports), 1);
+        wasmloop_handle once = job_of(&module, used, 64);
+        IS(wasmloop_job_run(&once), WASMLOOP_OK);
+        struct told told = told_of(&once);
+        IS(told.about.outcome, WASMLOOP_WORK_SPENT);
+        IS(wasmloop_stop_told(bytes, length, &once, text[1], sizeof text[1], &words[1]), WASMLOOP_OK);
+        IS(wasmloop_stop_places(&once, places[1], 17, &count), WASMLOOP_OK);
+        IS(wasmloop_drop(&once), WASMLOOP_OK);
+        IS(count, told.sites);
+        IS(memcmp(sites, told.site, sizeof sites), 0);
+        IS(memcmp(places[0], places[1], sizeof places[0]), 0);
+        IS(words[0] == words[1] && memcmp(text[0], text[1], words[0]) == 0, 1);
+    }
+    IS(wasmloop_drop(&job), WASMLOOP_OK);
+    IS(wasmloop_drop(&module), WASMLOOP_OK);
+}
+
 /* a loop with an open request, and the job for it */
 static void asked(wasmloop_handle *loop, wasmloop_handle *job) {
     static const wasmloop_limits limits = { 1000000, 1000000, 0, 64 };
@@ -91,8 +140,9 @@ static void paused(void) {
     IS(wasmloop_job_about(&job, &about), WASMLOOP_KIND);
     IS(wasmloop_job_input(&job, &byte, 1, &count), WASMLOOP_KIND);
     IS(wasmloop_job_reply(&job, &byte, 1, &count), WASMLOOP_KIND);
-    IS(wasmloop_stop(&job, &site, 1, &count), WASMLOOP_KIND);
     IS(byte == 7 && count == 7, 1);
+    IS(wasmloop_stop(&job, &site, 1, &count), WASMLOOP_OK);
+    IS(count >= 1, 1);
     IS(wasmloop_job_run(&job), WASMLOOP_KIND);
     IS(wasmloop_job_start(&loop, &job), WASMLOOP_KIND);
     IS(wasmloop_accept(&loop, &job), WASMLOOP_KIND);
@@ -199,7 +249,8 @@ static void paused_call(void) {
     wasmloop_ended ended;
     wasmloop_number value;
     wasmloop_site site;
-    uint64_t args[1] = { 0 }, count = 7;
+    wasmloop_place place;
+    uint64_t args[1] = { 0 }, count = 7, open = 7;
     uint32_t over = 7;
     uint8_t byte = 7;
     IS(wasmloop_call_run_for(&it, 5, &over, &ended), WASMLOOP_KIND);
@@ -208,11 +259,15 @@ static void paused_call(void) {
     for (int slice = 0; slice < 2; slice++) {
         IS(wasmloop_call_begin(&it, "uv_work", args, 1, &limits), WASMLOOP_KIND);
         IS(wasmloop_call(&it, "uv_work", args, 1, &limits, &ended), WASMLOOP_KIND);
-        IS(wasmloop_read(&it, 0, &byte, 1), WASMLOOP_KIND);
         IS(wasmloop_write(&it, 0, &byte, 1), WASMLOOP_KIND);
-        IS(wasmloop_size(&it, &count), WASMLOOP_KIND);
-        IS(wasmloop_global(&it, "memory", &value), WASMLOOP_KIND);
-        IS(wasmloop_stop(&it, &site, 1, &count), WASMLOOP_KIND);
+        IS(wasmloop_size(&it, &count), WASMLOOP_OK);
+        IS(count >= 65536 && count % 65536 == 0, 1);
+        IS(wasmloop_read(&it, 0, &byte, 0), WASMLOOP_OK);
+        IS(wasmloop_read(&it, (uint32_t)count, &byte, 1), WASMLOOP_RANGE);
+        IS(wasmloop_global(&it, "memory", &value), WASMLOOP_NONE);
+        IS(wasmloop_stop(&it, &site, 1, &open), slice ? WASMLOOP_OK : WASMLOOP_NONE);
+        IS(wasmloop_stop_places(&it, &place, 1, &open), slice ? WASMLOOP_OK : WASMLOOP_NONE);
+        IS(open, slice ? 1 : 7);
         IS(wasmloop_job_run_for(&it, 1, &over), WASMLOOP_KIND);
         IS(wasmloop_instance(&module, &limits, &it, &ended), WASMLOOP_KIND);
         IS(wasmloop_instance(&it, &limits, &none, &ended), WASMLOOP_KIND);
@@ -227,7 +282,7 @@ static void paused_call(void) {
         IS(over, 0);
     }
     for (size_t k = 0; k < sizeof ended; k++) IS(((uint8_t *)&ended)[k], 0xab);
-    IS(byte == 7 && count == 7, 1);
+    IS(byte, 7);
     IS(wasmloop_call_run_for(&it, UINT64_MAX, &over, &ended), WASMLOOP_OK);
     IS(over, 1);
     IS(ended.ending, WASMLOOP_RETURN);
@@ -243,6 +298,48 @@ static void paused_call(void) {
     IS(wasmloop_drop(&module), WASMLOOP_OK);
 }
 
+/* whether two instances have the same memory */
+static int have_one_memory(wasmloop_handle *a, wasmloop_handle *b) {
+    static uint8_t memories[2][64 << 16];
+    uint64_t sizes[2] = { 0, 1 };
+    IS(wasmloop_size(a, &sizes[0]), WASMLOOP_OK);
+    IS(wasmloop_size(b, &sizes[1]), WASMLOOP_OK);
+    if (sizes[0] != sizes[1]) return 0;
+    IS(wasmloop_read(a, 0, memories[0], sizes[0]), WASMLOOP_OK);
+    IS(wasmloop_read(b, 0, memories[1], sizes[1]), WASMLOOP_OK);
+    return memcmp(memories[0], memories[1], sizes[0]) == 0;
+}
+
+/* a call that has used so much stands where one stops that has no more, and has left the memory so */
+static void call_stands(const char *name, uint64_t units, unsigned slices) {
+    uint64_t args[1] = { 0 }, used = 0;
+    wasmloop_call_limits limits = { .fuel = 1000000, .depth = 64 };
+    wasmloop_handle it = instance_of(name);
+    wasmloop_ended ended;
+    uint32_t over = 0;
+    IS(wasmloop_call_begin(&it, "uv_work", args, 1, &limits), WASMLOOP_OK);
+    for (unsigned k = 0; k < slices; k++) {
+        wasmloop_site paused[64], stopped[64];
+        uint64_t count = 7, open = 8;
+        memset(paused, 0, sizeof paused);
+        memset(stopped, 0, sizeof stopped);
+        IS(wasmloop_call_run_for(&it, units, &over, &ended), WASMLOOP_OK);
+        used += units;
+        if (over) break;
+        IS(wasmloop_stop(&it, paused, 64, &count), WASMLOOP_OK);
+        wasmloop_handle once = instance_of(name);
+        wasmloop_call_limits less = { .fuel = used, .depth = 64 };
+        IS(wasmloop_call(&once, "uv_work", args, 1, &less, &ended), WASMLOOP_OK);
+        IS(ended.ending, WASMLOOP_SPENT);
+        IS(wasmloop_stop(&once, stopped, 64, &open), WASMLOOP_OK);
+        IS(have_one_memory(&it, &once), 1);
+        IS(wasmloop_drop(&once), WASMLOOP_OK);
+        IS(count, open);
+        IS(memcmp(paused, stopped, sizeof paused), 0);
+    }
+    IS(wasmloop_drop(&it), WASMLOOP_OK);
+}
+
 int main(int argc, char **argv) {
     if (argc != 2) return 2;
     folder = argv[1];
@@ -251,12 +348,14 @@ int main(int argc, char **argv) {
         agrees(names[k], 20000, 64);
         agrees(names[k], 20000, 1);
         for (uint64_t fuel = 0; fuel < 12; fuel++) agrees(names[k], fuel, 64);
+        for (uint64_t units = 1; units < 100; units += 7) stands(names[k], units, 50);
     }
     static const char *const files[] = { "crc32.wasm", "sha256.wasm", "adds_one.wasm", "copies.wasm" };
     for (size_t k = 0; k < sizeof files / sizeof *files; k++) {
         calls_agree(files[k], "uv_work", 1, 20000, 64);
         calls_agree(files[k], "uv_work", 1, 20000, 1);
         for (uint64_t fuel = 0; fuel < 12; fuel++) calls_agree(files[k], "uv_work", 1, fuel, 64);
+        for (uint64_t units = 1; units < 100; units += 7) call_stands(files[k], units, 50);
     }
     calls_agree("countdown.wasm", "uv_main", 0, 20000, 64);
     paused();

@@ -48,7 +48,7 @@ static void makes_job(void) {
 }
 static void runs(void) { wasmloop_job_run(&job); }
 static void stops(void) {
-    wasmloop_site sites[130];
+    static wasmloop_site sites[130];
     uint64_t count;
     wasmloop_stop(&job, sites, 130, &count);
 }
@@ -77,6 +77,80 @@ static void calls(void) {
     wasmloop_call(&instance, "uv_work", args, 1, &limits, &ended);
     wasmloop_call(&instance, "uv_main", NULL, 0, &limits, &ended);
 }
+static void begins(void) {
+    wasmloop_call_limits limits = { 100000, 128, 0 };
+    uint64_t args[1] = { 0 };
+    wasmloop_call_begin(&instance, "uv_work", args, 1, &limits);
+}
+static void goes_on(void) {
+    wasmloop_ended ended;
+    uint32_t over;
+    wasmloop_call_run_for(&instance, 100, &over, &ended);
+}
+static void runs_for(void) {
+    uint32_t over;
+    wasmloop_job_run_for(&job, 1000, &over);
+}
+static void works(void) {
+    wasmloop_handle made = WASMLOOP_HANDLE_INIT;
+    wasmloop_task task = { 100000, 0, 128 };
+    wasmloop_work(&module, &task, (const uint8_t *)text, 65536, &made);
+    wasmloop_drop(&made);
+}
+static void tells_places(void) {
+    static wasmloop_place places[130];
+    uint64_t count;
+    wasmloop_stop_places(&job, places, 130, &count);
+    wasmloop_stop_places(&loop, places, 130, &count);
+    wasmloop_stop_places(&instance, places, 130, &count);
+}
+static void steps(void) {
+    wasmloop_did did;
+    for (int i = 0; i < 100; i++) wasmloop_step(&loop, &did);
+}
+static void starts(void) { wasmloop_job_start(&loop, &job); }
+static void reads_module(void) {
+    wasmloop_handle other = WASMLOOP_HANDLE_INIT;
+    wasmloop_type type;
+    wasmloop_shape shape;
+    wasmloop_function(&module, "uv_work", &type);
+    wasmloop_shape_of(&module, &shape);
+    wasmloop_share(&module, &other);
+    wasmloop_drop(&other);
+}
+static void reads_loop(void) {
+    wasmloop_standing standing;
+    static int64_t values[64];
+    uint64_t number;
+    uint32_t count;
+    int32_t answer;
+    wasmloop_standing_of(&loop, &standing);
+    wasmloop_emits(&loop, values, 64, &count);
+    wasmloop_hint(&loop, &number);
+    wasmloop_clock(&loop, 1000, &number);
+    wasmloop_async_send(&loop, 0);
+    wasmloop_cancel(&loop, 1, &answer);
+}
+static void reads_job(void) {
+    wasmloop_about about;
+    const uint8_t *at;
+    uint64_t count;
+    wasmloop_job_about(&job, &about);
+    wasmloop_job_input(&job, (uint8_t *)text, sizeof text, &count);
+    wasmloop_job_reply(&job, (uint8_t *)text, sizeof text, &count);
+    wasmloop_job_view(&job, &at, &count);
+}
+static void inspects(void) {
+    wasmloop_handle *const of[] = { &instance, &loop };
+    for (int k = 0; k < 2; k++) {
+        wasmloop_number value;
+        uint64_t size;
+        wasmloop_size(of[k], &size);
+        wasmloop_read(of[k], 0, (uint8_t *)text, 65536);
+        wasmloop_global(of[k], "g", &value);
+    }
+    wasmloop_write(&instance, 0, (const uint8_t *)text, 16);
+}
 static void drops(void) {
     wasmloop_drop(&job);
     wasmloop_drop(&loop);
@@ -88,7 +162,10 @@ static const struct { const char *name; void (*call)(void); } all[] = {
     { "load", loads }, { "explain", explains }, { "loop", makes_loop },
     { "loop of nothing", makes_none }, { "request", asks }, { "warning", warns }, { "turn", turns }, { "next_job", hands_out }, { "job_run", runs },
     { "accept", accepts }, { "job_new", makes_job }, { "job_run", runs }, { "stop", stops }, { "stop_told", stops_told },
-    { "instance", makes_instance }, { "call", calls }, { "drop", drops },
+    { "stop_places", tells_places }, { "instance", makes_instance }, { "call", calls }, { "call_begin", begins }, { "call_run_for", goes_on },
+    { "call_run_for", goes_on }, { "work", works }, { "step", steps }, { "of a module", reads_module }, { "of a loop", reads_loop }, { "of a job", reads_job },
+    { "of an instance", inspects }, { "drop", drops }, { "load", loads }, { "loop", makes_loop }, { "job_new", makes_job }, { "job_start", starts },
+    { "job_run_for", runs_for }, { "job_run_for", runs_for }, { "stop_places", tells_places }, { "drop", drops },
 };
 enum { CALLS = sizeof all / sizeof *all };
 

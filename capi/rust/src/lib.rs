@@ -1,4 +1,4 @@
-//! The host of wasmloop, over libwasmloop.a. What the calls mean is told in wasmloop.h.
+//! Run untrusted WebAssembly modules: a binding of libwasmloop.a. `wasmloop.h` documents the calls in full.
 //!
 //! ```no_run
 //! # fn main() -> Result<(), Box<dyn std::error::Error>> {
@@ -6,19 +6,19 @@
 //!
 //! let module = Module::new(&std::fs::read("crc32.wasm")?)?;
 //! let mut job = module.work(Task { fuel: 1_000_000, op: 0, depth: 64 }, b"abc")?;
-//! println!("{}", job.about()?.value as i32);
+//! println!("{}", job.value()?);
 //! # Ok(())
 //! # }
 //! ```
 //!
-//! A `Module` may be used by several threads at once. A `Loop`, an `Instance` and a `Job` may go from one thread to another.
+//! A `Module` is `Sync`: several threads may use it at once. A `Loop`, an `Instance` and a `Job` are `Send`.
 
 use std::ffi::{CStr, CString};
 use std::fmt;
 use std::os::raw::c_char;
 use std::ptr::{null, null_mut};
 
-/// What a call answers, as `Error::Status` has it.
+/// The statuses of wasmloop.h, as in `Error::Status` and `Error::State`.
 pub const OK: i32 = 0;
 pub const NONE: i32 = 1;
 pub const EMPTY: i32 = 2;
@@ -33,26 +33,25 @@ pub const NO_WORK: i32 = 10;
 pub const NOT_STARTED: i32 = 11;
 pub const ARGUMENTS: i32 = 12;
 
-/// How many sites of a loop or an instance there can be, as its depth is at most that.
+/// The most sites of a backtrace of a loop or an instance: the greatest call-depth limit.
 const MOST_CALLS: usize = 128;
-/// How many sites of a job are kept.
+/// The most sites of a backtrace of a job.
 const MOST_SITES: usize = 17;
 
-
-/// What a step was, in `Did::what`.
+/// The values of `Did::what`.
 pub const ENTERED: u32 = 1;
 pub const RAN: u32 = 2;
 pub const SKIPPED: u32 = 3;
 pub const OVER: u32 = 4;
 pub const FAILED: u32 = 5;
 
-/// How a callback or a call ended.
+/// How a callback or a call ended: `DEPTH` exceeded the call-depth limit, `SPENT` ran out of fuel.
 pub const RETURN: u32 = 0;
 pub const TRAP: u32 = 1;
 pub const DEPTH: u32 = 2;
 pub const SPENT: u32 = 3;
 
-/// What became of a job, in `About::outcome`.
+/// The values of `About::outcome`: how a job ended.
 pub const NOT_RUN: u32 = 0;
 pub const WORK_DONE: u32 = 1;
 pub const WORK_TRAP: u32 = 2;
@@ -66,7 +65,7 @@ struct Handle {
     at: *mut u8,
 }
 
-// What a handle has may go to another thread, as the library proves.
+// An object may move to another thread, as the library proves.
 unsafe impl Send for Handle {}
 
 const NOTHING: Handle = Handle { mark: 0, at: null_mut() };
@@ -77,7 +76,7 @@ impl Drop for Handle {
     }
 }
 
-/// Why bytes are no module, and where.
+/// Why and where a module was rejected.
 #[repr(C)]
 #[derive(Clone, Copy, Debug, Default)]
 pub struct Fault {
@@ -90,7 +89,7 @@ pub struct Fault {
     pub number: u64,
 }
 
-/// What a loop is made with: the fuel of a callback and of a job, the loop's number, and how many calls may stand open.
+/// The limits of a loop: the fuel of each callback and each job, an identifier copied into its jobs, and the call-depth limit.
 #[repr(C)]
 #[derive(Clone, Copy, Debug)]
 pub struct Limits {
@@ -100,7 +99,7 @@ pub struct Limits {
     pub depth: u32,
 }
 
-/// An operation of a module's uv_work, and what it may use.
+/// What a job runs, and its limits: the fuel, the argument of `uv_work`, and the call-depth limit.
 #[repr(C)]
 #[derive(Clone, Copy, Debug)]
 pub struct Task {
@@ -125,7 +124,7 @@ pub struct Did {
     pub used: u64,
 }
 
-/// What a job is about; its `value` is the result of a job that is done, and the number of a trap.
+/// A job's request, and its outcome. `value` is the result if the outcome is `WORK_DONE`, and the trap's number if it is `WORK_TRAP`.
 #[repr(C)]
 #[derive(Clone, Copy, Debug, Default)]
 pub struct About {
@@ -140,7 +139,7 @@ pub struct About {
     pub used: u64,
 }
 
-/// An operation of one of the functions that the module defines.
+/// An instruction: the index of its function, without the imports, and its index in the body, as wasm-objdump lists it.
 #[repr(C)]
 #[derive(Clone, Copy, Debug, Default)]
 pub struct Site {
@@ -148,7 +147,16 @@ pub struct Site {
     pub operation: u64,
 }
 
-/// What a module has that a host looks for: 1 where it does, and its memory's pages.
+/// An instruction: the index of its function, with the imports, its index in the body, and its byte in the module.
+#[repr(C)]
+#[derive(Clone, Copy, Debug, Default)]
+pub struct Place {
+    pub function: u64,
+    pub instruction: u64,
+    pub byte: u64,
+}
+
+/// What a module has that a host looks for: 1 if it does, and the size of its memory in pages.
 #[repr(C)]
 #[derive(Clone, Copy, Debug, Default)]
 pub struct Shape {
@@ -161,7 +169,7 @@ pub struct Shape {
     pub imports: u64,
 }
 
-/// How a loop stands.
+/// The status of a loop.
 #[repr(C)]
 #[derive(Clone, Copy, Debug, Default)]
 pub struct Standing {
@@ -170,7 +178,7 @@ pub struct Standing {
     pub outstanding: u64,
 }
 
-/// Where a turn stands: its last step, for how many milliseconds there is nothing to do, and how many callbacks ran in it so far.
+/// The progress of a loop iteration: the last step, the poll timeout in milliseconds, and how many callbacks ran so far.
 #[repr(C)]
 #[derive(Clone, Copy, Debug, Default)]
 pub struct Turned {
@@ -188,7 +196,7 @@ struct CallLimits {
     zero: u32,
 }
 
-/// How a call of an instance that returned has ended.
+/// How a call of an instance ended.
 #[repr(C)]
 #[derive(Clone, Copy, Debug, Default)]
 pub struct Ended {
@@ -200,7 +208,7 @@ pub struct Ended {
 }
 
 impl Ended {
-    /// The results, an i32 in the lower half; none where it did not return.
+    /// The results, an i32 in the low half; empty if the call did not return.
     pub fn results(&self) -> &[u64] {
         &self.result[..self.results as usize]
     }
@@ -214,7 +222,7 @@ impl Ended {
     }
 }
 
-/// The type of a function: of each parameter and each result 1 for an i32, 2 for an i64.
+/// The type of a function. Each parameter and each result is 1 for i32, 2 for i64.
 #[repr(C)]
 #[derive(Clone, Copy, Debug)]
 pub struct Signature {
@@ -234,7 +242,7 @@ impl Signature {
     }
 }
 
-/// A number with its type, 1 for an i32, 2 for an i64; an i32 in the lower half.
+/// A number with its type, 1 for i32 or 2 for i64. An i32 is in the low half.
 #[repr(C)]
 #[derive(Clone, Copy, Debug, Default)]
 pub struct Number {
@@ -269,10 +277,10 @@ extern "C" {
     ) -> i32;
     fn wasmloop_call_begin(instance: *mut Handle, name: *const c_char, args: *const u64, count: usize, limits: *const CallLimits) -> i32;
     fn wasmloop_call_run_for(instance: *mut Handle, units: u64, over: *mut u32, ended: *mut Ended) -> i32;
-    fn wasmloop_size(instance: *mut Handle, bytes: *mut u64) -> i32;
-    fn wasmloop_read(instance: *mut Handle, at: u32, into: *mut u8, length: usize) -> i32;
+    fn wasmloop_size(handle: *mut Handle, bytes: *mut u64) -> i32;
+    fn wasmloop_read(handle: *mut Handle, at: u32, into: *mut u8, length: usize) -> i32;
     fn wasmloop_write(instance: *mut Handle, at: u32, from: *const u8, length: usize) -> i32;
-    fn wasmloop_global(instance: *mut Handle, name: *const c_char, value: *mut Number) -> i32;
+    fn wasmloop_global(handle: *mut Handle, name: *const c_char, value: *mut Number) -> i32;
     fn wasmloop_loop(module: *const Handle, limits: *const Limits, made: *mut Handle) -> i32;
     fn wasmloop_drop(handle: *mut Handle) -> i32;
     fn wasmloop_step(handle: *mut Handle, did: *mut Did) -> i32;
@@ -285,6 +293,7 @@ extern "C" {
     fn wasmloop_request(handle: *mut Handle, op: u32, bytes: *const u8, length: usize, answer: *mut i32) -> i32;
     fn wasmloop_standing_of(handle: *mut Handle, standing: *mut Standing) -> i32;
     fn wasmloop_stop(handle: *mut Handle, into: *mut Site, room: usize, count: *mut u64) -> i32;
+    fn wasmloop_stop_places(handle: *mut Handle, into: *mut Place, room: usize, count: *mut u64) -> i32;
     fn wasmloop_stop_told(bytes: *const u8, length: usize, handle: *mut Handle, into: *mut u8, room: usize, count: *mut u64) -> i32;
     fn wasmloop_next_job(handle: *mut Handle, job: *mut Handle) -> i32;
     fn wasmloop_job_start(handle: *mut Handle, job: *mut Handle) -> i32;
@@ -297,7 +306,7 @@ extern "C" {
     fn wasmloop_accept(handle: *mut Handle, job: *mut Handle) -> i32;
 }
 
-/// A text of the library, which is never freed.
+/// A static string of the library.
 fn static_text(at: *const c_char) -> Option<&'static str> {
     if at.is_null() { None } else { unsafe { CStr::from_ptr(at) }.to_str().ok() }
 }
@@ -307,45 +316,47 @@ pub fn version() -> &'static str {
     static_text(unsafe { wasmloop_version() }).unwrap_or_default()
 }
 
-/// The name of a status of wasmloop.h, as "MEMORY".
+/// The name of a status, such as "MEMORY".
 pub fn status_name(status: i32) -> Option<&'static str> {
     static_text(unsafe { wasmloop_status_name(status) })
 }
 
-/// What a trap is, as "division by zero".
+/// The name of a trap, such as "division by zero".
 pub fn trap_name(trap: u32) -> Option<&'static str> {
     static_text(unsafe { wasmloop_trap_name(trap) })
 }
 
-/// How a call ended: "return", "trap", "depth" or "spent".
+/// The name of an ending: "return", "trap", "depth" or "spent".
 pub fn ending_name(ending: u32) -> Option<&'static str> {
     static_text(unsafe { wasmloop_ending_name(ending) })
 }
 
-/// What became of a job, as "done".
+/// The name of an outcome, such as "done".
 pub fn outcome_name(outcome: u32) -> Option<&'static str> {
     static_text(unsafe { wasmloop_outcome_name(outcome) })
 }
 
 impl Fault {
-    /// The fault's name, as "Opcode".
+    /// The fault's name, such as "Opcode".
     pub fn name(&self) -> Option<&'static str> {
         static_text(unsafe { wasmloop_fault_name(self.stage, self.code) })
     }
 }
 
-/// Why a call was not done. Its text says so.
+/// Why a call failed. `Display` gives one sentence.
 #[derive(Clone, Debug)]
 pub enum Error {
-    /// The bytes are no module; `why` is the sentence that `wasmloop check` prints.
+    /// The bytes are not a module that this host runs; `why` is the sentence of `wasmloop check`.
     Refused { fault: Fault, why: String },
-    /// A number is out of its range.
+    /// A number is out of range.
     Range { what: &'static str, value: u64, least: u64, most: u64 },
     /// No function is exported under this name.
     NoFunction(String),
-    /// A call of an instance, or its start function, did not return.
+    /// A work function, a call of an instance, or its start function did not return.
     Stopped { ending: u32, trap: u32, used: u64 },
-    /// A status of wasmloop.h.
+    /// The job or the instance is in the wrong state for this call. `status` is `KIND`, or `NONE` for a reply that does not exist.
+    State { status: i32, why: &'static str },
+    /// Another status of wasmloop.h.
     Status(i32),
 }
 
@@ -353,12 +364,17 @@ impl fmt::Display for Error {
     fn fmt(&self, to: &mut fmt::Formatter) -> fmt::Result {
         match self {
             Error::Refused { why, .. } => to.write_str(why),
-            Error::Range { what, value, least, most } => write!(to, "{what} {value}: from {least} to {most}"),
+            Error::Range { what, value, least, most } => write!(to, "{what} {value} is out of range: expected {least} to {most}"),
             Error::NoFunction(name) => write!(to, "no function is exported as {name:?}"),
             Error::Stopped { ending, trap, used } => {
-                let why = trap_name(*trap).map(|it| format!(": {it}")).unwrap_or_default();
-                write!(to, "{}{why}, after {used} units", ending_name(*ending).unwrap_or_default())
+                let units = if *used == 1 { "unit" } else { "units" };
+                match *ending {
+                    DEPTH => write!(to, "the call exceeded the call-depth limit, after {used} {units}"),
+                    SPENT => write!(to, "the call ran out of fuel, after {used} {units}"),
+                    _ => write!(to, "the call trapped: {}, after {used} {units}", trap_name(*trap).unwrap_or_default()),
+                }
             }
+            Error::State { why, .. } => to.write_str(why),
             Error::Status(status) => to.write_str(sentence(*status)),
         }
     }
@@ -366,13 +382,15 @@ impl fmt::Display for Error {
 
 fn sentence(status: i32) -> &'static str {
     match status {
-        NONE => "there is none",
+        NONE => "there is nothing to return",
         EMPTY => "the handle is empty",
-        KIND => "the job was run already, or was not run yet; of an instance: a call is under way, or none is",
-        MEMORY => "memory was refused",
-        USED_UP => "2^32 sends were made",
+        KIND => "the object is of another kind, or in another state",
+        MEMORY => "an allocation failed",
+        REFUSED => "the bytes are not those of the module",
+        RANGE => "a number is out of range",
+        USED_UP => "the host has sent 2^32 times",
         NO_WORK => "the module exports no uv_work",
-        ARGUMENTS => "not as many arguments as the function takes, or one past its type",
+        ARGUMENTS => "wrong number of arguments, or one out of its type's range",
         _ => status_name(status).unwrap_or("an unknown status"),
     }
 }
@@ -383,9 +401,40 @@ fn done(status: i32) -> Result<(), Error> {
     if status == OK { Ok(()) } else { Err(Error::Status(status)) }
 }
 
-/// Whether the loop knows the job.
-fn known(status: i32) -> Result<bool, Error> {
-    if status == STRANGER { Ok(false) } else { done(status).map(|()| true) }
+/// Why a call on a job failed, by the job's state.
+fn job_error(job: &mut Handle, status: i32) -> Error {
+    let mut about = About::default();
+    let is_paused = unsafe { wasmloop_job_about(job, &mut about) } != OK;
+    let why = match (status, about.outcome) {
+        (KIND, _) if is_paused => "the job is paused: continue it with run_for",
+        (KIND, NOT_RUN) => "the job has not run yet",
+        (KIND, _) => "the job has already run",
+        (NONE, WORK_TRAP) => "the job has no reply: it trapped",
+        (NONE, WORK_DEPTH) => "the job has no reply: it exceeded the call-depth limit",
+        (NONE, WORK_SPENT) => "the job has no reply: it ran out of fuel",
+        (NONE, WORK_MEMORY) => "the job has no reply: an allocation failed",
+        (NONE, _) => "the job has no reply: it has not run yet",
+        _ => return Error::Status(status),
+    };
+    Error::State { status, why }
+}
+
+/// Why a call on an instance failed: `call`, `begin` and `write` fail with `KIND` while a call is in progress.
+fn instance_error(_instance: &mut Handle, status: i32) -> Error {
+    if status == KIND { Error::State { status, why: "a call is in progress" } } else { Error::Status(status) }
+}
+
+fn loop_error(_loop: &mut Handle, status: i32) -> Error {
+    Error::Status(status)
+}
+
+fn job_done(job: &mut Handle, status: i32) -> Result<(), Error> {
+    if status == OK { Ok(()) } else { Err(job_error(job, status)) }
+}
+
+/// False if the loop does not wait for the job.
+fn known(job: &mut Handle, status: i32) -> Result<bool, Error> {
+    if status == STRANGER { Ok(false) } else { job_done(job, status).map(|()| true) }
 }
 
 fn within(what: &'static str, value: u64, least: u64, most: u64) -> Result<(), Error> {
@@ -400,7 +449,7 @@ fn call_limits(fuel: u64, depth: u32) -> Result<CallLimits, Error> {
     depth_is_right(depth).map(|()| CallLimits { fuel, depth, zero: 0 })
 }
 
-/// The name of an export as C has it. None has a NUL.
+/// The name of an export as a C string. No name has a NUL.
 fn export(name: &str) -> Result<CString, Error> {
     CString::new(name).map_err(|_| Error::NoFunction(name.into()))
 }
@@ -409,7 +458,12 @@ fn exported(status: i32, name: &str) -> Result<(), Error> {
     if status == NONE { Err(Error::NoFunction(name.into())) } else { done(status) }
 }
 
-/// What a call writes that copies a text as far as there is room; `None` where there is none.
+/// As `exported`, of a call on an instance.
+fn called(instance: &mut Handle, status: i32, name: &str) -> Result<(), Error> {
+    if status == KIND { Err(instance_error(instance, status)) } else { exported(status, name) }
+}
+
+/// The text that a call writes; `None` if it returns `NONE`.
 fn text(call: impl Fn(*mut u8, usize, &mut u64) -> i32) -> Result<Option<String>, Error> {
     let (mut into, mut count) = (Vec::new(), 0);
     loop {
@@ -425,47 +479,85 @@ fn text(call: impl Fn(*mut u8, usize, &mut u64) -> i32) -> Result<Option<String>
     }
 }
 
-/// Why bytes are refused, in the words of `wasmloop check`; `None` where they are a module.
+/// Why bytes are rejected, in the words of `wasmloop check`; `None` if they are not.
 pub fn explain(bytes: &[u8]) -> Result<Option<String>, Error> {
     text(|into, room, count| unsafe { wasmloop_explain(bytes.as_ptr(), bytes.len(), into, room, count) })
 }
 
-/// Where it stopped, in the words of the program, by the bytes of its module; `None` where it returned.
-fn stop_told(handle: &mut Handle, bytes: &[u8]) -> Result<Option<String>, Error> {
-    let handle: *mut Handle = handle;
-    text(|into, room, count| unsafe { wasmloop_stop_told(bytes.as_ptr(), bytes.len(), handle, into, room, count) })
+type Fails = fn(&mut Handle, i32) -> Error;
+
+/// The backtrace as text, given the bytes of the module; `None` if it returned.
+fn stop_told(handle: &mut Handle, bytes: &[u8], fails: Fails) -> Result<Option<String>, Error> {
+    let at: *mut Handle = handle;
+    let told = text(|into, room, count| unsafe { wasmloop_stop_told(bytes.as_ptr(), bytes.len(), at, into, room, count) });
+    told.map_err(|error| if let Error::Status(status) = error { fails(handle, status) } else { error })
 }
 
-/// Where a loop's last callback stopped, or a job, and the calls around it outwards, at most so many sites; none where it returned.
-fn stopped(handle: &mut Handle, most: usize) -> Result<Vec<Site>, Error> {
-    let (mut sites, mut count) = (vec![Site::default(); most], 0);
-    match unsafe { wasmloop_stop(handle, sites.as_mut_ptr(), most, &mut count) } {
+/// A backtrace that a call of the library copies: none if it returns `NONE`.
+fn backtrace<T: Clone + Default>(
+    handle: &mut Handle,
+    call: unsafe extern "C" fn(*mut Handle, *mut T, usize, *mut u64) -> i32,
+    most: usize,
+    fails: Fails,
+) -> Result<Vec<T>, Error> {
+    let (mut sites, mut count) = (vec![T::default(); most], 0);
+    match unsafe { call(handle, sites.as_mut_ptr(), most, &mut count) } {
+        OK => {}
         NONE => count = 0,
-        status => done(status)?,
+        status => return Err(fails(handle, status)),
     }
     sites.truncate(count as usize);
     Ok(sites)
 }
 
-/// A module, which several threads may use at once.
+/// The value of the global exported under a name; `None` if there is none.
+fn global(handle: &mut Handle, name: &str, fails: Fails) -> Result<Option<Number>, Error> {
+    // (no name has a NUL)
+    let (told, mut value) = (CString::new(name).ok(), Number::default());
+    match told.map_or(NONE, |it| unsafe { wasmloop_global(handle, it.as_ptr(), &mut value) }) {
+        OK => Ok(Some(value)),
+        NONE => Ok(None),
+        status => Err(fails(handle, status)),
+    }
+}
+
+/// The size of the memory in bytes.
+fn size(handle: &mut Handle, fails: Fails) -> Result<u64, Error> {
+    let mut bytes = 0;
+    match unsafe { wasmloop_size(handle, &mut bytes) } {
+        OK => Ok(bytes),
+        status => Err(fails(handle, status)),
+    }
+}
+
+fn has(handle: &mut Handle, at: u32, length: usize, fails: Fails) -> Result<(), Error> {
+    within("end", u64::from(at) + length as u64, 0, size(handle, fails)?)
+}
+
+fn read(handle: &mut Handle, at: u32, into: &mut [u8], fails: Fails) -> Result<(), Error> {
+    has(handle, at, into.len(), fails)?;
+    done(unsafe { wasmloop_read(handle, at, into.as_mut_ptr(), into.len()) })
+}
+
+/// A loaded module. Several threads may use it at once.
 pub struct Module(Handle);
 
-// The calls on a shared module only read it, but for atomic counts.
+// Calls on a shared module only read it, except for atomic reference counts.
 unsafe impl Sync for Module {}
 
-/// A loop, with where its turn stands.
+/// An event loop, with the progress of its iteration.
 pub struct Loop(Handle, Turned);
 
-/// An instance that keeps its memory from call to call.
+/// An instance. It keeps its memory from call to call; calls to "uv" imports return -1.
 pub struct Instance(Handle);
 
-/// Work that any thread may run.
+/// One run of a module's `uv_work`. Any thread may run it.
 pub struct Job(Handle);
 
 type MakesJob = unsafe extern "C" fn(*const Handle, *const Task, *const u8, usize, *mut Handle) -> i32;
 
 impl Module {
-    /// A module of these bytes, or why they are none.
+    /// Loads a module from its bytes. `Error::Refused` says why they are rejected.
     pub fn new(bytes: &[u8]) -> Result<Module, Error> {
         let (mut made, mut fault) = (NOTHING, Fault::default());
         match unsafe { wasmloop_load(bytes.as_ptr(), bytes.len(), &mut made, &mut fault) } {
@@ -474,25 +566,26 @@ impl Module {
         }
     }
 
-    /// A second handle of the same module, which is not copied.
+    /// A second handle to the same module, reference-counted.
     pub fn share(&self) -> Result<Module, Error> {
         let mut other = NOTHING;
         done(unsafe { wasmloop_share(&self.0, &mut other) })?;
         Ok(Module(other))
     }
 
+    /// What the module has that a host looks for.
     pub fn shape(&self) -> Result<Shape, Error> {
         let mut shape = Shape::default();
         done(unsafe { wasmloop_shape_of(&self.0, &mut shape) })?;
         Ok(shape)
     }
 
-    /// What the module lacks to run on a loop, in the sentences of `wasmloop check`.
+    /// What the module lacks to run on a loop, in the words of `wasmloop check`.
     pub fn warnings(&self) -> Result<Vec<String>, Error> {
         (0..).map_while(|number| text(|into, room, count| unsafe { wasmloop_warning(&self.0, number, into, room, count) }).transpose()).collect()
     }
 
-    /// The type of the function that is exported under a name.
+    /// The type of the function exported under a name.
     pub fn function(&self, name: &str) -> Result<Signature, Error> {
         let (told, mut signature) = (export(name)?, Signature { params: 0, results: 0, param: [0; 256], result: [0; 16] });
         exported(unsafe { wasmloop_function(&self.0, told.as_ptr(), &mut signature) }, name)?;
@@ -507,19 +600,19 @@ impl Module {
         Ok(Job(job))
     }
 
-    /// Work on an operation and at most 65,536 bytes, which is still to be run.
+    /// A job for `Job::run`, with at most 65,536 input bytes.
     pub fn job(&self, task: Task, bytes: &[u8]) -> Result<Job, Error> {
         self.make(wasmloop_job_new, task, bytes)
     }
 
-    /// Such work, run in this thread.
+    /// A job that has run in this thread. Check the outcome in `Job::about` before the value.
     pub fn work(&self, task: Task, bytes: &[u8]) -> Result<Job, Error> {
         self.make(wasmloop_work, task, bytes)
     }
 }
 
 impl Instance {
-    /// An instance whose start function returned, or how that ended.
+    /// Creates an instance and runs its start function, if any. `Error::Stopped` if that does not return.
     pub fn new(module: &Module, fuel: u64, depth: u32) -> Result<Instance, Error> {
         let (mut made, mut ended, limits) = (NOTHING, Ended::default(), call_limits(fuel, depth)?);
         match unsafe { wasmloop_instance(&module.0, &limits, &mut made, &mut ended) } {
@@ -528,126 +621,153 @@ impl Instance {
         }
     }
 
-    /// Calls the function that is exported under a name. However it ends, the instance stays as it is then.
+    /// Calls the function exported under a name. A call that does not return is not rolled back, and you may call the instance again.
     pub fn call(&mut self, name: &str, args: &[u64], fuel: u64, depth: u32) -> Result<Ended, Error> {
         let (told, limits, mut ended) = (export(name)?, call_limits(fuel, depth)?, Ended::default());
         let status = unsafe { wasmloop_call(&mut self.0, told.as_ptr(), args.as_ptr(), args.len(), &limits, &mut ended) };
-        exported(status, name)?;
+        called(&mut self.0, status, name)?;
         ended.returned()
     }
 
-    /// Begins such a call, to be made in slices: nothing of it runs yet. Until it is over the instance may be dropped, and does nothing else.
+    /// Begins a call to be run in slices; nothing runs yet. Until it is over, you may inspect the instance; every other call but `run_for` fails.
     pub fn begin(&mut self, name: &str, args: &[u64], fuel: u64, depth: u32) -> Result<(), Error> {
         let (told, limits) = (export(name)?, call_limits(fuel, depth)?);
-        exported(unsafe { wasmloop_call_begin(&mut self.0, told.as_ptr(), args.as_ptr(), args.len(), &limits) }, name)
+        let status = unsafe { wasmloop_call_begin(&mut self.0, told.as_ptr(), args.as_ptr(), args.len(), &limits) };
+        called(&mut self.0, status, name)
     }
 
-    /// Goes on with that call for at most so many units of fuel; `None` where it is not over. Else the answer is that of `call`.
+    /// Runs a slice of that call: at most `units` units of fuel. `None` if the call is not over; else the result of `call`.
     pub fn run_for(&mut self, units: u64) -> Result<Option<Ended>, Error> {
         let (mut over, mut ended) = (0, Ended::default());
         within("units", units, 1, u64::MAX)?;
-        done(unsafe { wasmloop_call_run_for(&mut self.0, units, &mut over, &mut ended) })?;
+        match unsafe { wasmloop_call_run_for(&mut self.0, units, &mut over, &mut ended) } {
+            KIND => return Err(Error::State { status: KIND, why: "no call is in progress" }),
+            status => done(status)?,
+        }
         if over == 1 { ended.returned().map(Some) } else { Ok(None) }
     }
 
-    /// The value of the global that is exported under a name; `None` where there is none.
+    /// The value of the global exported under a name; `None` if there is none. This, `size` and `read` also answer while a call is in progress:
+    /// as a call with just the fuel that it has used would leave the instance.
     pub fn global(&mut self, name: &str) -> Result<Option<Number>, Error> {
-        // (no name has a NUL)
-        let (told, mut value) = (CString::new(name).ok(), Number::default());
-        match told.map_or(NONE, |it| unsafe { wasmloop_global(&mut self.0, it.as_ptr(), &mut value) }) {
-            NONE => Ok(None),
-            status => done(status).map(|()| Some(value)),
+        global(&mut self.0, name, instance_error)
+    }
+
+    /// The size of the memory in bytes.
+    pub fn size(&mut self) -> Result<u64, Error> {
+        size(&mut self.0, instance_error)
+    }
+
+    /// Copies bytes out of the memory, from address `at`.
+    pub fn read(&mut self, at: u32, into: &mut [u8]) -> Result<(), Error> {
+        read(&mut self.0, at, into, instance_error)
+    }
+
+    /// Copies bytes into the memory, from address `at`.
+    pub fn write(&mut self, at: u32, from: &[u8]) -> Result<(), Error> {
+        has(&mut self.0, at, from.len(), instance_error)?;
+        match unsafe { wasmloop_write(&mut self.0, at, from.as_ptr(), from.len()) } {
+            OK => Ok(()),
+            status => Err(instance_error(&mut self.0, status)),
         }
     }
 
-    /// How many bytes the memory has.
-    pub fn size(&mut self) -> Result<u64, Error> {
-        let mut bytes = 0;
-        done(unsafe { wasmloop_size(&mut self.0, &mut bytes) })?;
-        Ok(bytes)
-    }
-
-    fn has(&mut self, at: u32, length: usize) -> Result<(), Error> {
-        let size = self.size()?;
-        within("end", u64::from(at) + length as u64, 0, size)
-    }
-
-    /// Copies bytes of the memory out, from an address on.
-    pub fn read(&mut self, at: u32, into: &mut [u8]) -> Result<(), Error> {
-        self.has(at, into.len())?;
-        done(unsafe { wasmloop_read(&mut self.0, at, into.as_mut_ptr(), into.len()) })
-    }
-
-    /// Copies bytes into the memory, from an address on.
-    pub fn write(&mut self, at: u32, from: &[u8]) -> Result<(), Error> {
-        self.has(at, from.len())?;
-        done(unsafe { wasmloop_write(&mut self.0, at, from.as_ptr(), from.len()) })
-    }
-
-    /// Where the last call stopped and the calls around it outwards; none where it returned.
+    /// The backtrace of the last call, innermost first; empty if it returned.
     pub fn stop(&mut self) -> Result<Vec<Site>, Error> {
-        stopped(&mut self.0, MOST_CALLS)
+        backtrace(&mut self.0, wasmloop_stop, MOST_CALLS, instance_error)
     }
 
-    /// The same in the words of the program, by the bytes of the module; `None` where it returned.
+    /// The same backtrace with function indexes that include the imports, and the byte of each instruction in the module.
+    pub fn stop_places(&mut self) -> Result<Vec<Place>, Error> {
+        backtrace(&mut self.0, wasmloop_stop_places, MOST_CALLS, instance_error)
+    }
+
+    /// The backtrace as text, given the bytes of the module; `None` if it returned.
     pub fn stop_told(&mut self, bytes: &[u8]) -> Result<Option<String>, Error> {
-        stop_told(&mut self.0, bytes)
+        stop_told(&mut self.0, bytes, instance_error)
     }
 }
 
 impl Job {
+    /// Runs the job in this thread.
     pub fn run(&mut self) -> Result<(), Error> {
-        done(unsafe { wasmloop_job_run(&mut self.0) })
+        let status = unsafe { wasmloop_job_run(&mut self.0) };
+        job_done(&mut self.0, status)
     }
 
-    /// Runs the job for at most so many units of fuel; true where it is over, as if `run` had run it.
+    /// Runs a slice: at most `units` units of fuel. True if the job is over, with the result that `run` gives.
     pub fn run_for(&mut self, units: u64) -> Result<bool, Error> {
         let mut over = 0;
         within("units", units, 1, u64::MAX)?;
-        done(unsafe { wasmloop_job_run_for(&mut self.0, units, &mut over) })?;
+        let status = unsafe { wasmloop_job_run_for(&mut self.0, units, &mut over) };
+        job_done(&mut self.0, status)?;
         Ok(over == 1)
     }
 
+    /// The job's request, and its outcome.
     pub fn about(&mut self) -> Result<About, Error> {
         let mut about = About::default();
-        done(unsafe { wasmloop_job_about(&mut self.0, &mut about) })?;
+        let status = unsafe { wasmloop_job_about(&mut self.0, &mut about) };
+        job_done(&mut self.0, status)?;
         Ok(about)
     }
 
-    /// The bytes that the job may read.
+    /// The signed result of `uv_work`; `Error::Stopped` if it did not return.
+    pub fn value(&mut self) -> Result<i32, Error> {
+        let about = self.about()?;
+        let (ending, trap) = match about.outcome {
+            WORK_DONE => return Ok(about.value as i32),
+            WORK_TRAP => (TRAP, about.value),
+            WORK_DEPTH => (DEPTH, 0),
+            WORK_SPENT => (SPENT, 0),
+            _ => return Err(job_error(&mut self.0, NONE)),
+        };
+        Err(Error::Stopped { ending, trap, used: about.used })
+    }
+
+    /// The input bytes.
     pub fn input(&mut self) -> Result<Vec<u8>, Error> {
         let (mut bytes, mut count) = (vec![0; self.about()?.bytes as usize], 0);
-        done(unsafe { wasmloop_job_input(&mut self.0, bytes.as_mut_ptr(), bytes.len(), &mut count) })?;
+        let status = unsafe { wasmloop_job_input(&mut self.0, bytes.as_mut_ptr(), bytes.len(), &mut count) };
+        job_done(&mut self.0, status)?;
         Ok(bytes)
     }
 
-    /// The bytes of the reply of a job that was run and is done, where they are.
+    /// The reply, in place. An error unless the outcome is `WORK_DONE`.
     pub fn reply(&mut self) -> Result<&[u8], Error> {
         let (mut bytes, mut count) = (null(), 0);
-        done(unsafe { wasmloop_job_view(&mut self.0, &mut bytes, &mut count) })?;
-        // (they stay there until the job is dropped, accepted or run, which takes it for itself)
+        let status = unsafe { wasmloop_job_view(&mut self.0, &mut bytes, &mut count) };
+        job_done(&mut self.0, status)?;
+        // (they stay until the job is dropped, accepted or run, each of which needs it mutably)
         Ok(if count == 0 { &[] } else { unsafe { std::slice::from_raw_parts(bytes, count as usize) } })
     }
 
-    /// Copies those bytes as far as there is room, and answers how many there are.
+    /// Copies as much of the reply as fits, and returns its whole length.
     pub fn reply_into(&mut self, into: &mut [u8]) -> Result<usize, Error> {
         let mut count = 0;
-        done(unsafe { wasmloop_job_reply(&mut self.0, into.as_mut_ptr(), into.len(), &mut count) })?;
+        let status = unsafe { wasmloop_job_reply(&mut self.0, into.as_mut_ptr(), into.len(), &mut count) };
+        job_done(&mut self.0, status)?;
         Ok(count as usize)
     }
 
-    /// Where the job stopped and the calls around it outwards, at most 17 sites; none where it returned.
+    /// The backtrace, innermost first, at most 17 sites; empty if it returned.
     pub fn stop(&mut self) -> Result<Vec<Site>, Error> {
-        stopped(&mut self.0, MOST_SITES)
+        backtrace(&mut self.0, wasmloop_stop, MOST_SITES, job_error)
     }
 
-    /// The same in the words of the program, by the bytes of the module; `None` where it returned.
+    /// The same backtrace with function indexes that include the imports, and the byte of each instruction in the module.
+    pub fn stop_places(&mut self) -> Result<Vec<Place>, Error> {
+        backtrace(&mut self.0, wasmloop_stop_places, MOST_SITES, job_error)
+    }
+
+    /// The backtrace as text, given the bytes of the module; `None` if it returned.
     pub fn stop_told(&mut self, bytes: &[u8]) -> Result<Option<String>, Error> {
-        stop_told(&mut self.0, bytes)
+        stop_told(&mut self.0, bytes, job_error)
     }
 }
 
 impl Loop {
+    /// Creates a loop of a module.
     pub fn new(module: &Module, limits: Limits) -> Result<Loop, Error> {
         let mut made = NOTHING;
         depth_is_right(limits.depth)?;
@@ -655,32 +775,52 @@ impl Loop {
         Ok(Loop(made, Turned::default()))
     }
 
-    /// Where the last callback stopped and the calls around it outwards; none where it returned.
+    /// The backtrace of the last callback, innermost first; empty if it returned.
     pub fn stop(&mut self) -> Result<Vec<Site>, Error> {
-        stopped(&mut self.0, MOST_CALLS)
+        backtrace(&mut self.0, wasmloop_stop, MOST_CALLS, loop_error)
     }
 
-    /// The same in the words of the program, by the bytes of the module; `None` where it returned.
+    /// The same backtrace with function indexes that include the imports, and the byte of each instruction in the module.
+    pub fn stop_places(&mut self) -> Result<Vec<Place>, Error> {
+        backtrace(&mut self.0, wasmloop_stop_places, MOST_CALLS, loop_error)
+    }
+
+    /// The backtrace as text, given the bytes of the module; `None` if it returned.
     pub fn stop_told(&mut self, bytes: &[u8]) -> Result<Option<String>, Error> {
-        stop_told(&mut self.0, bytes)
+        stop_told(&mut self.0, bytes, loop_error)
     }
 
-    /// Takes steps until the timers phase is entered, a callback puts out values or doesn't return, so many callbacks have run, or the loop
-    /// is over or has failed.
+    /// Takes steps until the loop enters its timers phase, a callback emits values or does not return, `most_callbacks` callbacks have run,
+    /// or the loop is over or has failed.
     pub fn turn(&mut self, most_callbacks: u32) -> Result<Turned, Error> {
         within("most_callbacks", most_callbacks.into(), 1, u32::MAX.into())?;
         done(unsafe { wasmloop_turn(&mut self.0, most_callbacks, &mut self.1) })?;
         Ok(self.1)
     }
 
-    /// Cancels a request, and answers as the guest's own cancel.
+    /// The value of the global exported under a name, as the last callback left it, also the one that failed; `None` if there is none.
+    pub fn global(&mut self, name: &str) -> Result<Option<Number>, Error> {
+        global(&mut self.0, name, loop_error)
+    }
+
+    /// The size of the memory in bytes.
+    pub fn size(&mut self) -> Result<u64, Error> {
+        size(&mut self.0, loop_error)
+    }
+
+    /// Copies bytes out of the memory, from address `at`.
+    pub fn read(&mut self, at: u32, into: &mut [u8]) -> Result<(), Error> {
+        read(&mut self.0, at, into, loop_error)
+    }
+
+    /// Cancels a request, and returns what the guest's own cancel returns.
     pub fn cancel(&mut self, request: u32) -> Result<i32, Error> {
         let mut answer = 0;
         done(unsafe { wasmloop_cancel(&mut self.0, request, &mut answer) })?;
         Ok(answer)
     }
 
-    /// Makes a request of the loop's owner, which goes the way of the guest's own, and answers as `queue_work` does; -1 on a loop that is over or
+    /// Submits a work request from the host, processed like the guest's own. Returns what `queue_work` returns; -1 if the loop is over or
     /// has failed.
     pub fn request(&mut self, op: u32, bytes: &[u8]) -> Result<i32, Error> {
         let mut answer = 0;
@@ -688,6 +828,7 @@ impl Loop {
         Ok(answer)
     }
 
+    /// The status of the loop.
     pub fn standing(&mut self) -> Result<Standing, Error> {
         let mut standing = Standing::default();
         done(unsafe { wasmloop_standing_of(&mut self.0, &mut standing) })?;
@@ -701,34 +842,34 @@ impl Loop {
         Ok(did)
     }
 
-    /// The values that the last callback put out.
+    /// The values that the last callback emitted.
     pub fn emits(&mut self) -> Result<Vec<i64>, Error> {
         let (mut room, mut count) = ([0; 64], 0);
         done(unsafe { wasmloop_emits(&mut self.0, room.as_mut_ptr(), room.len(), &mut count) })?;
         Ok(room[..count as usize].to_vec())
     }
 
-    /// Raises the clock, and answers it.
+    /// Advances the clock to `ms` milliseconds, and returns the new time. A smaller `ms` has no effect.
     pub fn clock(&mut self, ms: u64) -> Result<u64, Error> {
         let mut now = 0;
         done(unsafe { wasmloop_clock(&mut self.0, ms, &mut now) })?;
         Ok(now)
     }
 
-    /// For how many milliseconds the loop has nothing to do, or `None` where nothing comes of itself.
+    /// The poll timeout in milliseconds; `None` if the loop needs replies or sends. Call it only after a step that entered the timers phase.
     pub fn hint(&mut self) -> Result<Option<u64>, Error> {
         let mut ms = 0;
         done(unsafe { wasmloop_hint(&mut self.0, &mut ms) })?;
         Ok(if ms == u64::MAX { None } else { Some(ms) })
     }
 
-    /// Sends to the guest's async of that number, from 0 on as the guest makes them.
+    /// Sends to the guest's async `number`, counted from 0 in the order of creation.
     pub fn send(&mut self, number: u32) -> Result<(), Error> {
         within("number", number.into(), 0, 15)?;
         done(unsafe { wasmloop_async_send(&mut self.0, number) })
     }
 
-    /// The lowest request that is not handed out, as a job.
+    /// A job for the lowest request not returned yet.
     pub fn next_job(&mut self) -> Result<Option<Job>, Error> {
         let mut job = NOTHING;
         match unsafe { wasmloop_next_job(&mut self.0, &mut job) } {
@@ -737,13 +878,15 @@ impl Loop {
         }
     }
 
-    /// Tells the loop that a job is started; false where its request was cancelled, or is another loop's.
+    /// Reports that a job is about to run. False if its request was cancelled or started before, or is another loop's.
     pub fn start(&mut self, job: &mut Job) -> Result<bool, Error> {
-        known(unsafe { wasmloop_job_start(&mut self.0, &mut job.0) })
+        let status = unsafe { wasmloop_job_start(&mut self.0, &mut job.0) };
+        known(&mut job.0, status)
     }
 
-    /// Brings a job back that was run; false where the loop doesn't wait for it.
+    /// Completes the request of a job that has run. False if the reply is stale: the request was cancelled, or is another loop's.
     pub fn accept(&mut self, mut job: Job) -> Result<bool, Error> {
-        known(unsafe { wasmloop_accept(&mut self.0, &mut job.0) })
+        let status = unsafe { wasmloop_accept(&mut self.0, &mut job.0) };
+        known(&mut job.0, status)
     }
 }

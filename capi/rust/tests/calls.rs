@@ -54,7 +54,7 @@ fn a_module_is_shared_by_threads() {
 fn work_is_told_in_words() {
     let crc = module("crc32");
     let mut job = crc.work(task(1_000_000), b"abc").unwrap();
-    assert_eq!(job.about().unwrap().value, 891568578);
+    assert_eq!(job.value().unwrap(), 891568578);
     let mut reply = [0; 8];
     assert_eq!(job.reply_into(&mut reply).unwrap(), 4);
     assert_eq!(reply, [0x35, 0x24, 0x41, 0xc2, 0, 0, 0, 0]);
@@ -69,11 +69,21 @@ fn work_is_told_in_words() {
 #[test]
 fn it_is_told_where_work_stopped() {
     let mut job = module("crc32").job(task(3), b"abc").unwrap();
-    assert!(!job.run_for(1).unwrap() && job.run_for(9).unwrap());
-    assert!(matches!(job.reply(), Err(Error::Status(wasmloop::NONE))));
-    assert_eq!(job.stop().unwrap().len(), 1);
+    assert_eq!(said(job.reply()), "the job has no reply: it has not run yet");
+    assert!(!job.run_for(1).unwrap());
+    assert_eq!(said(job.about()), "the job is paused: continue it with run_for");
+    assert!(job.run_for(9).unwrap());
+    assert!(matches!(job.reply(), Err(Error::State { status: wasmloop::NONE, .. })));
+    assert_eq!(said(job.reply()), "the job has no reply: it ran out of fuel");
+    assert!(matches!(job.value(), Err(Error::Stopped { ending: wasmloop::SPENT, trap: 0, used: 3 })));
+    let (sites, places) = (job.stop().unwrap(), job.stop_places().unwrap());
+    assert_eq!((sites.len(), places.len()), (1, 1));
+    let imports = module("crc32").shape().unwrap().imports;
+    assert_eq!((places[0].function, places[0].instruction), (sites[0].function + imports, sites[0].operation));
     let bytes = fs::read(format!("{}/../../examples/crc32.wasm", env!("CARGO_MANIFEST_DIR"))).unwrap();
-    assert!(job.stop_told(&bytes).unwrap().unwrap().starts_with("in function "));
+    let told = job.stop_told(&bytes).unwrap().unwrap();
+    assert!(told.starts_with(&format!("in function {} (", places[0].function)));
+    assert!(told.contains(&format!(", instruction {} (", places[0].instruction)) && told.contains(&format!(" at byte {}", places[0].byte)));
     assert!(matches!(job.stop_told(b"asm"), Err(Error::Status(wasmloop::REFUSED))));
 }
 
@@ -83,20 +93,20 @@ fn a_wrong_number_is_told_with_its_range() {
     assert_eq!(said(Module::new(b"asm")), "byte 0: the bytes don't begin with 00 61 73 6d");
     assert_eq!(wasmloop::explain(b"asm").unwrap(), Some("byte 0: the bytes don't begin with 00 61 73 6d".into()));
     assert!(matches!(Module::new(b"asm"), Err(Error::Refused { fault, .. }) if fault.name() == Some("Magic")));
-    assert_eq!(said(crc.job(task(1), &[0; 65_537])), "length 65537: from 0 to 65536");
-    assert_eq!(said(crc.work(Task { depth: 0, ..task(1) }, b"")), "depth 0: from 1 to 128");
+    assert_eq!(said(crc.job(task(1), &[0; 65_537])), "length 65537 is out of range: expected 0 to 65536");
+    assert_eq!(said(crc.work(Task { depth: 0, ..task(1) }, b"")), "depth 0 is out of range: expected 1 to 128");
     assert_eq!(said(crc.function("nothing")), "no function is exported as \"nothing\"");
     assert_eq!(said(crc.function("uv_work\0")), "no function is exported as \"uv_work\\0\"");
     assert_eq!(said(module("seven").job(task(1), b"")), "the module exports no uv_work");
-    assert_eq!(said(Instance::new(&crc, 1, 129)), "depth 129: from 1 to 128");
-    assert_eq!(said(Loop::new(&digest, Limits { depth: 129, ..LIMITS })), "depth 129: from 1 to 128");
+    assert_eq!(said(Instance::new(&crc, 1, 129)), "depth 129 is out of range: expected 1 to 128");
+    assert_eq!(said(Loop::new(&digest, Limits { depth: 129, ..LIMITS })), "depth 129 is out of range: expected 1 to 128");
     let mut one = Loop::new(&digest, LIMITS).unwrap();
-    assert_eq!(said(one.turn(0)), "most_callbacks 0: from 1 to 4294967295");
-    assert_eq!(said(one.send(16)), "number 16: from 0 to 15");
+    assert_eq!(said(one.turn(0)), "most_callbacks 0 is out of range: expected 1 to 4294967295");
+    assert_eq!(said(one.send(16)), "number 16 is out of range: expected 0 to 15");
     let mut job = crc.job(task(1_000_000), b"").unwrap();
-    assert_eq!(said(job.run_for(0)), "units 0: from 1 to 18446744073709551615");
+    assert_eq!(said(job.run_for(0)), "units 0 is out of range: expected 1 to 18446744073709551615");
     job.run().unwrap();
-    assert_eq!(said(job.run()), "the job was run already, or was not run yet; of an instance: a call is under way, or none is");
+    assert_eq!(said(job.run()), "the job has already run");
 }
 
 #[test]
@@ -112,8 +122,14 @@ fn a_loop_goes_by_turns() {
     assert_eq!((standing.alive, standing.failed), (1, 0));
     job.run().unwrap();
     assert!(one.accept(job).unwrap());
+    let unrun = one.next_job().unwrap().unwrap();
+    assert_eq!(said(one.accept(unrun)), "the job has not run yet");
     assert_eq!((one.request(0, b"abc").unwrap(), one.request(0, &[0; 65_537]).unwrap()), (5, -22));
-    assert!(one.stop_told(b"").unwrap().is_none());
+    assert!(one.stop_told(b"").unwrap().is_none() && one.stop_places().unwrap().is_empty());
+    let (size, mut first) = (one.size().unwrap(), [7; 4]);
+    one.read(0, &mut first).unwrap();
+    assert_eq!(said(one.read(size as u32, &mut first)), format!("end {} is out of range: expected 0 to {size}", size + 4));
+    assert!(one.global("absent").unwrap().is_none());
 }
 
 #[test]
@@ -132,18 +148,23 @@ fn an_instance_keeps_its_memory() {
     it.read(at, &mut bytes).unwrap();
     assert_eq!(&bytes, b"apple");
     let size = it.size().unwrap() as u32;
-    assert_eq!(said(it.read(size, &mut bytes)), format!("end {}: from 0 to {size}", size + 5));
-    assert_eq!(said(it.write(size, b"x")), format!("end {}: from 0 to {size}", size + 1));
-    assert!(said(it.call("divide", &[1, 0], 1_000_000, 64)).starts_with("trap: division by zero, after "));
+    assert_eq!(said(it.read(size, &mut bytes)), format!("end {} is out of range: expected 0 to {size}", size + 5));
+    assert_eq!(said(it.write(size, b"x")), format!("end {} is out of range: expected 0 to {size}", size + 1));
+    assert!(said(it.call("divide", &[1, 0], 1_000_000, 64)).starts_with("the call trapped: division by zero, after "));
     assert!(!it.stop().unwrap().is_empty());
     assert_eq!(said(it.call("absent", &[], 1, 64)), "no function is exported as \"absent\"");
     assert!(matches!(it.call("add", &[], 1, 64), Err(Error::Status(wasmloop::ARGUMENTS))));
     it.begin("add", &[10], 1_000_000, 64).unwrap();
     assert!(it.run_for(1).unwrap().is_none());
-    assert!(matches!(it.call("count", &[], 1, 64), Err(Error::Status(wasmloop::KIND))));
-    assert_eq!(said(it.run_for(0)), "units 0: from 1 to 18446744073709551615");
+    assert_eq!(said(it.call("count", &[], 1, 64)), "a call is in progress");
+    assert_eq!(said(it.write(at, b"x")), "a call is in progress");
+    assert_eq!(said(it.stop_told(b"")), "the bytes are not those of the module");
+    assert_eq!((it.stop().unwrap().len(), it.stop_places().unwrap().len(), it.size().unwrap()), (1, 1, u64::from(size)));
+    it.read(at, &mut bytes).unwrap();
+    assert_eq!(&bytes, b"apple");
+    assert_eq!(said(it.run_for(0)), "units 0 is out of range: expected 1 to 18446744073709551615");
     assert_eq!(it.run_for(1_000).unwrap().unwrap().results(), &[1022]);
-    assert!(matches!(it.run_for(1), Err(Error::Status(wasmloop::KIND))));
+    assert_eq!(said(it.run_for(1)), "no call is in progress");
     assert_eq!(said(it.begin("absent", &[], 1, 64)), "no function is exported as \"absent\"");
     assert!(it.global("absent").unwrap().is_none());
     assert!(it.call("add", &[0], 1_000_000, 64).is_ok() && it.stop().unwrap().is_empty());

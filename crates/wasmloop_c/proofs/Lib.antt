@@ -2,3 +2,5 @@ pub mod Words
 pub mod Front
 mod ValuesRead
 mod Offers
+mod Sites
+mod Turning

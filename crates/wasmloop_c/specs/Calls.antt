@@ -184,7 +184,8 @@ Loads bytes (thing.Module m) = ((arc_value m).bytes ≡ bytes) × IsAccepted byt
 Loads bytes _ = ⊥
 
 abbrev pub RefusesBytes : (bytes : List ℕ) → Fault → Type 0
-RefusesBytes bytes fault = (refusal : Refusal) × IsRefused bytes refusal × (fault.stage ≡ stage_number refusal) × (fault.code ≡ code_number refusal)
+RefusesBytes bytes fault =
+    (refusal : Refusal) × IsRefused bytes refusal × (refusal ≢ Memory) × (fault.stage ≡ stage_number refusal) × (fault.code ≡ code_number refusal)
 
 -- a sentence on why these bytes are refused, as far as there is room, and its length
 abbrev pub ExplainsRefusal : (bytes old new : List ℕ) → (count : ℕ) → Type 0

@@ -1,18 +1,17 @@
 -- What each call does to the instance that its handle has.
-use Rattle.std.specs.Prelude.{◌≡◌, ◌⊎◌, ℕ, Bool, List, length, Option, Some, None, MatchOption, IsSomeAnd, if◌then◌else◌}
+use Rattle.std.specs.Prelude.{◌≡◌, ◌⊎◌, ℕ, Bool, List, Option, Some, None, MatchOption, IsSomeAnd, if◌then◌else◌}
 use Rattle.syntax.specs.Loaded.{Loaded}
 use Rattle.syntax.specs.declared.contents.FuncType.{FuncType}
 use Rattle.syntax.specs.declared.types.Value.{Value}
 use Rattle.validate.specs.Typing.{HasFunctionType}
-use Rattle.instance.specs.Store.{bytes_at, memory_of, with_memory_instance}
+use Rattle.instance.specs.Store.{memory_of, with_memory_instance}
 use Rattle.instance.specs.Reads.{WritesAt}
 use Rattle.events.specs.declared.ended.Ended.{Ended}
-use Rattle.resident.specs.Calls.{KeptInstance, CallsInstance, IsNew, StartsInstance, HasReturned, ExportsFirst, ExportsNoFunction, ExportsGlobal, ExportsNoGlobal}
+use Rattle.resident.specs.Calls.{KeptInstance, CallsInstance, IsNew, StartsInstance, HasReturned, ExportsFirst, ExportsNoFunction}
 use Rattle.wasmloop_c.specs.Calls.{OnHandle}
-use Rattle.wasmloop_c.specs.Values.{values_of, call_numbers, value_numbers}
+use Rattle.wasmloop_c.specs.Values.{values_of, call_numbers}
 use Rattle.wasmloop_c.specs.declared.ended.CallEnded.{CallEnded}
 use Rattle.wasmloop_c.specs.declared.instances.CallLimits.{CallLimits}
-use Rattle.wasmloop_c.specs.declared.number.Number.{Number}
 use Rattle.wasmloop_c.specs.declared.status.TheConstants.{OK, NONE, KIND, MEMORY, RANGE, ARGUMENTS}
 use Rattle.wasmloop_c.specs.declared.thing.Thing.{Thing}
 use Rattle.wasmloop_c.specs.declared.thing.Thing.TheVariants as thing
@@ -99,13 +98,6 @@ CallsBy a name numbers limits old told status b =
     ((status ≡ OK) × ((ended : Ended) × CallsNamed a name numbers limits ended b × (told ≡ call_numbers ended)))
     ⊎ (IsNoCall a name numbers status × (b ≡ a) × (told ≡ old))
 
--- bytes of its memory, as many as there is room for, where they are all there
-abbrev pub ReadsMemory : KeptInstance → (at : ℕ) → (old new : List ℕ) → (status : ℕ) → KeptInstance → Type 0
-ReadsMemory a at old new status b =
-    (b ≡ a)
-    × (((status ≡ OK) × (bytes_at at (length old) a.store.memory ≡ Some new))
-    ⊎ ((status ≡ RANGE) × (bytes_at at (length old) a.store.memory ≡ None) × (new ≡ old)))
-
 -- bytes that are written to its memory, where they all fit
 pub record WritesMemory (a : KeptInstance) (at : ℕ) (bytes : List ℕ) (status : ℕ) (b : KeptInstance) : Type 0 where
   pub all : Bool
@@ -114,12 +106,3 @@ pub record WritesMemory (a : KeptInstance) (at : ℕ) (bytes : List ℕ) (status
   pub rest : b.store ≡ with_memory_instance (memory_of b.store) a.store
   pub same : b.loaded ≡ a.loaded
   pub stop : b.stop ≡ a.stop
-
--- the value of the global of this name, or there is none
-abbrev pub TellsGlobal : KeptInstance → (name : List ℕ) → (old told : Number) → (status : ℕ) → Type 0
-TellsGlobal a name old told status =
-    ((status ≡ OK) × ((value : Value) × ExportsGlobal a.loaded.contents name a.store.globals value × (told ≡ value_numbers value)))
-    ⊎ ((status ≡ NONE) × ExportsNoGlobal a.loaded.contents name a.store.globals × (told ≡ old))
-
-abbrev pub ReadsGlobal : Thing → (name : List ℕ) → (old told : Number) → (status : ℕ) → Type 0
-ReadsGlobal t name old told status = MatchOption (resident_of t) ((status ≡ KIND) × (told ≡ old)) (λ a. TellsGlobal a name old told status)

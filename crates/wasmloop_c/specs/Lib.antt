@@ -4,7 +4,10 @@ pub mod Numbers
 pub mod Inner
 pub mod Sites
 pub mod Values
+pub mod Inspecting
 pub mod Instances
 pub mod Signatures
 pub mod Slices
 pub mod Sentences
+pub mod Statuses
+pub mod Turning

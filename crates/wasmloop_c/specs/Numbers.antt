@@ -96,7 +96,7 @@ outcome_numbers (outcome.Done value bytes) = (1, (value, length bytes.items))
 outcome_numbers (outcome.Trap trap) = (2, (trap_number trap, 0))
 outcome_numbers outcome.Depth = (3, (0, 0))
 outcome_numbers outcome.Spent = (4, (0, 0))
-outcome_numbers outcome.NoMemory = (5, (0, 0))
+outcome_numbers (outcome.NoMemory refused) = (5, (0, 0))
 
 -- of one that was run
 abbrev pub about_told : Told → About

@@ -1,16 +1,9 @@
 -- What is said in words: where something stopped, and what a module lacks. No clause says which words.
-use Rattle.std.specs.Prelude.{◌≡◌, ◌≢◌, ◌⊎◌, ℕ, Bool, true, false, List, length, Option, is_some, MatchOption}
-use Rattle.std.specs.Arc.{arc_value}
-use Rattle.order.specs.Trails.{Innermost}
+use Rattle.std.specs.Prelude.{◌≡◌, ◌≢◌, ◌⊎◌, ℕ, Bool, true, false, List, length, Some, None, is_some, MatchOption}
 use Rattle.wasmloop_c.specs.Calls.{copied, module_of}
-use Rattle.wasmloop_c.specs.Sites.{IsStopOf}
+use Rattle.wasmloop_c.specs.Sites.{FoundStop, StopsAs}
 use Rattle.wasmloop_c.specs.declared.status.TheConstants.{OK, NONE, KIND, MEMORY, REFUSED}
 use Rattle.wasmloop_c.specs.declared.thing.Thing.{Thing}
-use Rattle.wasmloop_c.specs.declared.thing.Thing.TheVariants as thing
-use Rattle.wasmloop_c.specs.declared.thing.JobStage.{JobStage}
-use Rattle.wasmloop_c.specs.declared.thing.JobStage.TheVariants as job
-use Rattle.wasmloop_c.specs.declared.thing.InstanceStage.{InstanceStage}
-use Rattle.wasmloop_c.specs.declared.thing.InstanceStage.TheVariants as instance
 
 -- some words are copied as far as there is room, and the count is how many bytes they have
 abbrev pub CopiesWords : (old new : List ℕ) → (count : ℕ) → Type 0
@@ -29,27 +22,13 @@ TellsPlaceIn has_stopped own bytes old new before count status =
     ⊎ ((has_stopped ≡ true) × (status ≡ REFUSED) × (bytes ≢ own) × Untold old new before count)
     ⊎ ((has_stopped ≡ true) × (status ≡ MEMORY) × Untold old new before count)
 
--- the bytes are those of the module of a job that was run
-abbrev pub TellsJobPlace : JobStage → (bytes old new : List ℕ) → (before count status : ℕ) → Type 0
-TellsJobPlace (job.Answered told) bytes old new before count status =
-    TellsPlaceIn (is_some told.trail) (arc_value told.reply.order.module).bytes bytes old new before count status
-TellsJobPlace (job.Asked order) bytes old new before count status = (status ≡ NONE) × Untold old new before count
-TellsJobPlace other bytes old new before count status = (status ≡ KIND) × Untold old new before count
-
--- the bytes are those of the module of an instance that is in no call
-abbrev pub TellsCallPlace : InstanceStage → (bytes old new : List ℕ) → (before count status : ℕ) → Type 0
-TellsCallPlace (instance.Resident resident) bytes old new before count status =
-    TellsPlaceIn (is_some resident.stop) resident.loaded.bytes bytes old new before count status
-TellsCallPlace other bytes old new before count status = (status ≡ KIND) × Untold old new before count
-
 -- the bytes are those of the module of a loop, of a job or of an instance
+abbrev pub TellsPlaceOf : FoundStop → (bytes old new : List ℕ) → (before count status : ℕ) → Type 0
+TellsPlaceOf None bytes old new before count status = (status ≡ KIND) × Untold old new before count
+TellsPlaceOf (Some found) bytes old new before count status = TellsPlaceIn (is_some found.0) found.1 bytes old new before count status
+
 abbrev pub TellsPlace : Thing → (bytes old new : List ℕ) → (before count status : ℕ) → Type 0
-TellsPlace (thing.Loop held) bytes old new before count status =
-    (stop : Option Innermost) × IsStopOf held.core.value.setting held.core.value.loop.store stop
-    × TellsPlaceIn (is_some stop) held.core.value.setting.loaded.bytes bytes old new before count status
-TellsPlace (thing.Job job) bytes old new before count status = TellsJobPlace job.value bytes old new before count status
-TellsPlace (thing.Instance instance) bytes old new before count status = TellsCallPlace instance.value bytes old new before count status
-TellsPlace other bytes old new before count status = (status ≡ KIND) × Untold old new before count
+TellsPlace t bytes old new before count status = (found : FoundStop) × StopsAs t found × TellsPlaceOf found bytes old new before count status
 
 -- a sentence, or there is none of its number, or no memory for it
 abbrev pub TellsWarningOf : (old new : List ℕ) → (before count status : ℕ) → Type 0

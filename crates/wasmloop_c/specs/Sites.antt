@@ -1,28 +1,28 @@
 -- What is reported of where a loop's last callback stopped, or a job, or an instance's last call.
-use Rattle.std.specs.Prelude.{◌≡◌, ℕ, List, length, map, Option, Some, None}
+use Rattle.std.specs.Prelude.{◌≡◌, ◌⊎◌, ◌≤◌, ◌<◌, ℕ, List, length, slice_get, Option, Some, None}
+use Rattle.std.specs.Arc.{arc_value}
 use Rattle.std.specs.Option.{option_map}
 use Rattle.instance.specs.declared.stack.Site.{Site as Operation}
 use Rattle.instance.specs.Stops.{Halt}
 use Rattle.instance.specs.Store.{Store}
 use Rattle.order.specs.Trails.{Innermost}
+use Rattle.order.specs.Slices.{OrderStandsAt}
+use Rattle.resident.specs.Slices.{CallStandsAt}
 use Rattle.phases.specs.State.{Setting}
 use Rattle.phases.specs.Stopping.{LoopStopsAt}
+use Rattle.places.specs.Spans.{CodeAt}
 use Rattle.desk.specs.Desk.{desk_calls}
-use Rattle.wasmloop_c.specs.Calls.{copied}
 use Rattle.wasmloop_c.specs.declared.status.TheConstants.{OK, NONE, KIND}
 use Rattle.wasmloop_c.specs.declared.stops.StopPlace.{StopPlace}
 use Rattle.wasmloop_c.specs.declared.stops.StopPlace.TheVariants as place
 use Rattle.wasmloop_c.specs.declared.stops.Site.{Site}
+use Rattle.wasmloop_c.specs.declared.stops.SpelledSite.{SpelledSite}
 use Rattle.wasmloop_c.specs.declared.thing.Thing.{Thing}
 use Rattle.wasmloop_c.specs.declared.thing.Thing.TheVariants as thing
 use Rattle.wasmloop_c.specs.declared.thing.JobStage.{JobStage}
 use Rattle.wasmloop_c.specs.declared.thing.JobStage.TheVariants as job
 use Rattle.wasmloop_c.specs.declared.thing.InstanceStage.{InstanceStage}
 use Rattle.wasmloop_c.specs.declared.thing.InstanceStage.TheVariants as instance
-
--- an operation, as C reads it
-abbrev pub site_numbers : Operation → Site
-site_numbers s = record { function = s.function; operation = s.operation }
 
 -- of a callback all calls are known
 abbrev pub whole_trail : Halt → Innermost
@@ -38,26 +38,67 @@ IsStopOf g store None = Unit {0}
 IsStopOf g store (Some stop) =
     (stop.calls ≡ length stop.sites) × ∥ LoopStopsAt desk_calls g store (record { sites = stop.sites; address = stop.address }) ∥₁
 
--- the sites are copied as far as there is room, and the count is how many calls were open
-abbrev pub TellsStop : Option Innermost → (old new : List Site) → (before count status : ℕ) → Type 0
-TellsStop None old new before count status = (status ≡ NONE) × (new ≡ old) × (count ≡ before)
-TellsStop (Some stop) old new before count status = (status ≡ OK) × (new ≡ copied (map site_numbers stop.sites) old) × (count ≡ stop.calls)
+-- where something stopped, unless it returned or nothing of it has run, and its module's bytes; or nothing where it is of another kind
+abbrev pub FoundStop : Type 0
+FoundStop = Option (Option Innermost × List ℕ)
 
--- where a job stopped that was run, as far as that is kept
-abbrev pub ReadsJobStop : JobStage → (old new : List Site) → (before count status : ℕ) → Type 0
-ReadsJobStop (job.Answered told) old new before count status = TellsStop told.trail old new before count status
-ReadsJobStop (job.Asked order) old new before count status = TellsStop None old new before count status
-ReadsJobStop other old new before count status = (status ≡ KIND) × (new ≡ old) × (count ≡ before)
+-- where a job stopped that was run, as far as that is kept, or where it stands between two slices
+abbrev pub JobStopsAs : JobStage → FoundStop → Type 0
+JobStopsAs (job.Answered told) found = found ≡ Some (told.trail, (arc_value told.reply.order.module).bytes)
+JobStopsAs (job.Running r) found = (stop : Option Halt) × OrderStandsAt r stop × (found ≡ Some (option_map whole_trail stop, r.order.loaded.bytes))
+JobStopsAs (job.Asked order) found = found ≡ Some (None, (arc_value order.module).bytes)
+JobStopsAs job.Gone found = found ≡ None
 
--- where the last call of an instance stopped that is in no call
-abbrev pub ReadsCallStop : InstanceStage → (old new : List Site) → (before count status : ℕ) → Type 0
-ReadsCallStop (instance.Resident resident) old new before count status = TellsStop (option_map whole_trail resident.stop) old new before count status
-ReadsCallStop other old new before count status = (status ≡ KIND) × (new ≡ old) × (count ≡ before)
+-- where the last call of an instance stopped, or where it stands, between two slices
+abbrev pub CallStopsAs : InstanceStage → FoundStop → Type 0
+CallStopsAs (instance.Resident resident) found = found ≡ Some (option_map whole_trail resident.stop, resident.loaded.bytes)
+CallStopsAs (instance.Calling call) found = (stop : Option Halt) × CallStandsAt call stop × (found ≡ Some (option_map whole_trail stop, call.loaded.bytes))
+CallStopsAs instance.Gone found = found ≡ None
 
 -- where a loop's last callback or an instance's last call stopped, all of it, or where a job did
-abbrev pub ReadsStop : Thing → (old new : List Site) → (before count status : ℕ) → Type 0
-ReadsStop (thing.Loop held) old new before count status =
-    (stop : Option Innermost) × IsStopOf held.core.value.setting held.core.value.loop.store stop × TellsStop stop old new before count status
-ReadsStop (thing.Job job) old new before count status = ReadsJobStop job.value old new before count status
-ReadsStop (thing.Instance instance) old new before count status = ReadsCallStop instance.value old new before count status
-ReadsStop other old new before count status = (status ≡ KIND) × (new ≡ old) × (count ≡ before)
+abbrev pub StopsAs : Thing → FoundStop → Type 0
+StopsAs (thing.Loop held) found =
+    (stop : Option Innermost) × IsStopOf held.core.value.setting held.core.value.loop.store stop × (found ≡ Some (stop, held.core.value.setting.loaded.bytes))
+StopsAs (thing.Job job) found = JobStopsAs job.value found
+StopsAs (thing.Instance instance) found = CallStopsAs instance.value found
+StopsAs other found = found ≡ None
+
+-- An operation of the decoded body is the instruction of this number that the body spells, and begins at this byte, which lies in the body.
+-- (A body in which each `if` has an `else` spells each operation; else the `end` of an `if` without `else` stands for two.) Where the bytes
+-- have no such instruction, the number is the operation's, and the byte 0.
+abbrev pub IsSpelled : List ℕ → Operation → (number byte : ℕ) → Type 0
+IsSpelled bytes s number byte =
+    ((begin : ℕ) × (from : ℕ) × (to : ℕ) × CodeAt bytes s.function begin from to × (from ≤ byte) × (byte < to)
+    × (number ≤ s.operation))
+    ⊎ ((number ≡ s.operation) × (byte ≡ 0))
+
+-- an operation, as C reads it
+abbrev pub IsSiteOf : List ℕ → Operation → Site → Type 0
+IsSiteOf bytes s told = (told.function ≡ s.function) × ((byte : ℕ) × IsSpelled bytes s told.operation byte)
+
+-- the same with its byte; which number its function has with the imports, no clause says
+abbrev pub IsByteOf : List ℕ → Operation → SpelledSite → Type 0
+IsByteOf bytes s told = IsSpelled bytes s told.instruction told.byte
+
+-- the sites are copied as far as there is room, each as `Is` says, and what is behind them stays
+pub record CopiesSites {X : Type 0} (Is : Operation → X → Type 0) (sites : List Operation) (old new : List X) : Type 0 where
+  pub room : length new ≡ length old
+  pub each : (i : ℕ) (s : Operation) → slice_get sites i ≡ Some s → i < length old → (told : X) × (slice_get new i ≡ Some told) × Is s told
+  pub rest : (i : ℕ) → slice_get sites i ≡ None → slice_get new i ≡ slice_get old i
+
+-- nothing is copied
+abbrev pub Uncopied : {X : Type 0} → (old new : List X) → (before count : ℕ) → Type 0
+Uncopied old new before count = (new ≡ old) × (count ≡ before)
+
+module _ {X : Type 0} (Is : List ℕ → Operation → X → Type 0) where
+  -- the sites of a stop are copied, and the count is how many calls were open
+  abbrev pub TellsSites : List ℕ → Option Innermost → (old new : List X) → (before count status : ℕ) → Type 0
+  TellsSites bytes None old new before count status = (status ≡ NONE) × Uncopied old new before count
+  TellsSites bytes (Some stop) old new before count status = (status ≡ OK) × CopiesSites (Is bytes) stop.sites old new × (count ≡ stop.calls)
+
+  abbrev pub TellsStop : FoundStop → (old new : List X) → (before count status : ℕ) → Type 0
+  TellsStop None old new before count status = (status ≡ KIND) × Uncopied old new before count
+  TellsStop (Some found) old new before count status = TellsSites found.1 found.0 old new before count status
+
+  abbrev pub ReadsStop : Thing → (old new : List X) → (before count status : ℕ) → Type 0
+  ReadsStop t old new before count status = (found : FoundStop) × StopsAs t found × TellsStop found old new before count status

@@ -10,7 +10,7 @@ use Rattle.events.specs.declared.ended.Ending.{Ending}
 use Rattle.events.specs.declared.ended.Ending.TheVariants.{Return}
 use Rattle.wasmloop_c.specs.Calls.{copied}
 use Rattle.wasmloop_c.specs.Numbers.{ending_numbers}
-use Rattle.wasmloop_c.specs.declared.number.Number.{Number}
+use Rattle.wasmloop_c.specs.declared.inspect.Number.{Number}
 use Rattle.wasmloop_c.specs.declared.ended.CallEnded.{CallEnded}
 
 -- a number of 64 bits as a value of a type: an i32 is below 2^32

@@ -1,12 +1,12 @@
 // Why bytes are no guest, in numbers.
 
-ghost use Rattle.std.specs.Prelude.{◌≡◌};
+ghost use Rattle.std.specs.Prelude.{◌≡◌, IfOk};
 ghost use Rattle.wasmloop_c.specs.Numbers.{stage_number, code_number};
 
 use loader::Refusal;
 use places::{Part, Place};
-use sentences::explain;
-use std::alloc::Global;
+use sentences::try_explain;
+use std::alloc::{AllocError, Global};
 
 /// Why bytes are no guest, and where.
 #[repr(C)]
@@ -121,14 +121,14 @@ impl Fault {
     }
 
     /// Why these bytes are refused, and where, as far as that is known.
-    pub fn new(alloc: Global, refusal: Refusal, bytes: &[u8]) -> Fault
-        ensures { (result.stage ≡ stage_number refusal) × (result.code ≡ code_number refusal) }
+    pub fn new(alloc: Global, refusal: Refusal, bytes: &[u8]) -> Result<Fault, AllocError>
+        ensures { IfOk result (λ fault. (fault.stage ≡ stage_number refusal) × (fault.code ≡ code_number refusal)) }
     {
         let fault = Fault::nowhere(refusal);
-        let place = explain(refusal, alloc, bytes).place;
+        let place = try_explain(refusal, alloc, bytes)?.place;
         match place {
-            Some(place) => fault.at_place(place),
-            None => fault,
+            Some(place) => Ok(fault.at_place(place)),
+            None => Ok(fault),
         }
     }
 }

@@ -1,12 +1,12 @@
 // Instances that are kept from call to call.
 
-ghost use Rattle.std.specs.Prelude.{◌≡◌, ◌≤◌, ◌<◌, ◌↔◌, ◌⊎◌, Some, None, length, IfOk, IfErr, IsSomeAnd, MatchOption};
+ghost use Rattle.std.specs.Prelude.{◌≡◌, ◌≤◌, ◌<◌, ◌↔◌, ◌⊎◌, Some, None, IfOk, IfErr, IsSomeAnd};
 ghost use Rattle.std.specs.Arc.{arc_value};
 ghost use Rattle.limits.specs.declared.TheConstants.{MAX_DEPTH};
 ghost use Rattle.reduction.specs.Invoking.{TakesArguments};
 ghost use Rattle.resident.specs.Calls.{IsNew};
-ghost use Rattle.wasmloop_c.specs.Calls.{AnswersIn, IsDepth, ReadsHandle, module_of};
-ghost use Rattle.wasmloop_c.specs.Instances.{OnResident, OnStage, OnHeldResident, OpensOver, OpensNone, TakesNumbers, IsNoCall, CallsBy, ReadsMemory, WritesMemory, resident_of};
+ghost use Rattle.wasmloop_c.specs.Calls.{AnswersIn, IsDepth, module_of};
+ghost use Rattle.wasmloop_c.specs.Instances.{OnResident, OnStage, OnHeldResident, OpensOver, OpensNone, TakesNumbers, IsNoCall, CallsBy, WritesMemory, resident_of};
 
 use crate::ended::{CallEnded, values};
 use crate::handle::{Handle, on};
@@ -201,41 +201,6 @@ pub extern "C" fn wasmloop_rt_call(
     on!(handle, alloc, held => call(alloc, &mut held, name, numbers, limits, told))
 }
 
-fn read_stage(stage: &mut InstanceStage, at: u32, into: &mut [u8]) -> u32
-    ensures { OnStage stage.old stage.new result (into.new ≡ into.old) (λ a b. ReadsMemory a at into.old into.new result b) }
-{
-    let InstanceStage::Resident(resident) = stage else {
-        return KIND;
-    };
-    if resident.read(at as usize, into) {
-        OK
-    } else {
-        RANGE
-    }
-}
-
-fn read(thing: &mut Thing, at: u32, into: &mut [u8]) -> u32
-    ensures { OnResident thing.old thing.new result (into.new ≡ into.old) (λ a b. ReadsMemory a at into.old into.new result b) }
-{
-    let Thing::Instance(stage) = thing else {
-        return KIND;
-    };
-    read_stage(stage, at, into)
-}
-
-/// Copies bytes of an instance's memory, as many as there is room for.
-#[unsafe(no_mangle)]
-pub extern "C" fn wasmloop_rt_read(
-    alloc: Global,
-    handle: &mut Handle,
-    at: u32,
-    into: &mut [u8],
-) -> u32
-    ensures { OnHeldResident handle.old.raw.value handle.new.raw.value result (into.new ≡ into.old) (λ a b. ReadsMemory a at into.old into.new result b) }
-{
-    on!(handle, alloc, held => read(&mut held, at, into))
-}
-
 fn write_stage(stage: &mut InstanceStage, at: u32, bytes: &[u8]) -> u32
     ensures { OnStage stage.old stage.new result (Unit {0}) (λ a b. WritesMemory a at bytes.now result b) }
 {
@@ -269,25 +234,4 @@ pub extern "C" fn wasmloop_rt_write(
     ensures { OnHeldResident handle.old.raw.value handle.new.raw.value result (Unit {0}) (λ a b. WritesMemory a at bytes.now result b) }
 {
     on!(handle, alloc, held => write(&mut held, at, bytes))
-}
-
-fn size(thing: &Thing, count: &mut u64) -> u32
-    ensures { MatchOption (resident_of thing.now) ((result ≡ KIND) × (count.new ≡ count.old)) (λ a. (result ≡ OK) × (count.new ≡ length a.store.memory)) }
-{
-    let Thing::Instance(stage) = thing else {
-        return KIND;
-    };
-    let InstanceStage::Resident(resident) = &**stage else {
-        return KIND;
-    };
-    *count = resident.size() as u64;
-    OK
-}
-
-/// How many bytes an instance's memory has.
-#[unsafe(no_mangle)]
-pub extern "C" fn wasmloop_rt_size(alloc: Global, handle: &mut Handle, count: &mut u64) -> u32
-    ensures { ReadsHandle handle.old.raw.value handle.new.raw.value result (count.new ≡ count.old) (λ t. MatchOption (resident_of t) ((result ≡ KIND) × (count.new ≡ count.old)) (λ a. (result ≡ OK) × (count.new ≡ length a.store.memory))) }
-{
-    on!(handle, alloc, held => size(&held, count))
 }

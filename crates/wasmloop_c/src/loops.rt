@@ -14,6 +14,7 @@ use crate::handle::{Handle, on};
 use crate::held::HeldLoop;
 use crate::status::{KIND, MEMORY, OK, RANGE, USED_UP};
 use crate::thing::Thing;
+use crate::turn::numbered_step;
 use desk::Desk;
 use events::did::Hint;
 use imports::Linked;
@@ -117,9 +118,7 @@ fn step(thing: &mut Thing, did: &mut Did) -> u32
     let Thing::Loop(held) = thing else {
         return KIND;
     };
-    let told = held.core.step();
-    let emits = held.core.emits().len() as u32;
-    *did = Did::of(&told, emits);
+    *did = numbered_step(&mut held.core);
     OK
 }
 
@@ -205,17 +204,24 @@ pub extern "C" fn wasmloop_rt_clock(
     on!(handle, alloc, held => clock(&mut held, ms, now))
 }
 
+/// A hint in milliseconds.
+pub fn ms_of(hint: Hint) -> u64
+    ensures { result ≡ hint_number hint }
+{
+    match hint {
+        Hint::Now => 0,
+        Hint::For(wait) => wait,
+        Hint::Forever => u64::MAX,
+    }
+}
+
 fn hint(thing: &Thing, ms: &mut u64) -> u32
     ensures { ReadsLoop thing.now result (ms.new ≡ ms.old) (λ c. ms.new ≡ hint_number (hint_of c.loop.state)) }
 {
     let Thing::Loop(held) = thing else {
         return KIND;
     };
-    *ms = match held.core.hint() {
-        Hint::Now => 0,
-        Hint::For(wait) => wait,
-        Hint::Forever => u64::MAX,
-    };
+    *ms = ms_of(held.core.hint());
     OK
 }
 

@@ -47,7 +47,10 @@ pub extern "C" fn wasmloop_rt_load(
         Ok(linked) => module.put_made(alloc, boxed(alloc, linked)),
         Err(Refusal::Memory) => MEMORY,
         Err(refusal) => {
-            *fault = Fault::new(alloc, refusal, bytes);
+            let Ok(found) = Fault::new(alloc, refusal, bytes) else {
+                return MEMORY;
+            };
+            *fault = found;
             REFUSED
         }
     }

@@ -1,26 +1,20 @@
 // Where a loop's last callback stopped, or a job, or an instance's last call, in words.
 
-ghost use Rattle.std.specs.Prelude.{◌≡◌, is_some};
+ghost use Rattle.std.specs.Prelude.{◌≡◌, option_map};
 ghost use Rattle.wasmloop_c.specs.Calls.{ReadsHandle};
-ghost use Rattle.wasmloop_c.specs.Sentences.{Untold, TellsPlace, TellsPlaceIn, TellsJobPlace, TellsCallPlace};
+ghost use Rattle.wasmloop_c.specs.Sites.{told_of};
+ghost use Rattle.wasmloop_c.specs.Sentences.{Untold, TellsPlace, TellsPlaceOf};
 
 use crate::copying::copy_bytes;
 use crate::handle::{Handle, on};
-use crate::status::{KIND, MEMORY, NONE, OK, REFUSED};
-use crate::thing::{InstanceStage, JobStage, Thing};
-use instance::stack::Stop;
+use crate::status::{KIND, MEMORY, NONE, REFUSED};
+use crate::stops::{StopPlace, Stopped, stopped};
+use crate::thing::Thing;
 use order::Trail;
 use sentences::tell_place;
 use std::alloc::{AllocError, Global};
 
-fn trail_of(stop: Option<Stop<'_>>) -> Option<Trail>
-    ensures { is_some result ≡ is_some stop.entry }
-{
-    Some(Trail::of(&stop?))
-}
-
-/// The words for a place in a module of these bytes, as `tell_stopped` has them.
-fn words(alloc: Global, bytes: &[u8], trail: &Trail) -> Result<Vec<u8>, AllocError> {
+fn written(alloc: Global, bytes: &[u8], trail: &Trail) -> Result<Vec<u8>, AllocError> {
     let mut text = Vec::new(alloc);
     match tell_place(bytes, trail, "in ", &mut text) {
         Ok(()) => Ok(text),
@@ -28,78 +22,43 @@ fn words(alloc: Global, bytes: &[u8], trail: &Trail) -> Result<Vec<u8>, AllocErr
     }
 }
 
+/// The words for a place in a module of these bytes, as `tell_stopped` has them.
+fn words(alloc: Global, bytes: &[u8], stop: &StopPlace<'_>) -> Result<Vec<u8>, AllocError> {
+    match stop {
+        StopPlace::Callback(stop) => written(alloc, bytes, &Trail::of(stop)),
+        StopPlace::Job(trail) => written(alloc, bytes, trail),
+    }
+}
+
 /// Tells the place in a module of its own bytes, if these are they.
 fn tell(
     alloc: Global,
-    own: &[u8],
-    trail: Option<&Trail>,
+    found: Option<Stopped<'_>>,
     bytes: &[u8],
     into: &mut [u8],
     count: &mut u64,
 ) -> u32
-    ensures { TellsPlaceIn (is_some trail.entry) own.now bytes.now into.old into.new count.old count.new result }
+    ensures { TellsPlaceOf (option_map (λ s. (option_map told_of s.0, s.1.now)) found.entry) bytes.now into.old into.new count.old count.new result }
 {
-    let Some(trail) = trail else {
+    let Some((stop, own)) = found else {
+        return KIND;
+    };
+    let Some(stop) = stop else {
         return NONE;
     };
     if own != bytes {
         return REFUSED;
     }
-    let Ok(text) = words(alloc, bytes, trail) else {
+    let Ok(text) = words(alloc, bytes, &stop) else {
         return MEMORY;
     };
     copy_bytes(text.as_slice(), into, count)
 }
 
-fn tell_job(alloc: Global, stage: &JobStage, bytes: &[u8], into: &mut [u8], count: &mut u64) -> u32
-    ensures { TellsJobPlace stage.now bytes.now into.old into.new count.old count.new result }
-{
-    match stage {
-        JobStage::Asked(_) => NONE,
-        JobStage::Answered(told) => {
-            let own = told.reply.order.module.valid().module().bytes();
-            tell(alloc, own, told.trail.as_ref(), bytes, into, count)
-        }
-        _ => KIND,
-    }
-}
-
-fn tell_call(
-    alloc: Global,
-    stage: &InstanceStage,
-    bytes: &[u8],
-    into: &mut [u8],
-    count: &mut u64,
-) -> u32
-    ensures { TellsCallPlace stage.now bytes.now into.old into.new count.old count.new result }
-{
-    let InstanceStage::Resident(resident) = stage else {
-        return KIND;
-    };
-    let trail = trail_of(resident.last_stop());
-    let own = resident.module_bytes();
-    tell(alloc, own, trail.as_ref(), bytes, into, count)
-}
-
 fn tell_thing(alloc: Global, thing: &Thing, bytes: &[u8], into: &mut [u8], count: &mut u64) -> u32
     ensures { TellsPlace thing.now bytes.now into.old into.new count.old count.new result }
 {
-    match thing {
-        Thing::Loop(held) => {
-            let trail = trail_of(held.core.last_stop());
-            tell(
-                alloc,
-                held.core.module_bytes(),
-                trail.as_ref(),
-                bytes,
-                into,
-                count,
-            )
-        }
-        Thing::Job(stage) => tell_job(alloc, stage, bytes, into, count),
-        Thing::Instance(stage) => tell_call(alloc, stage, bytes, into, count),
-        _ => KIND,
-    }
+    tell(alloc, stopped(thing), bytes, into, count)
 }
 
 /// Tells in words where a loop's last callback stopped, or a job, or an instance's last call, of a module of these bytes.

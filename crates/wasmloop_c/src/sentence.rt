@@ -8,7 +8,7 @@ ghost use Rattle.wasmloop_c.specs.Calls.{ExplainsRefusal};
 use crate::copying::copy_bytes;
 use crate::status::{MEMORY, NONE, OK};
 use loader::{Refusal, load};
-use sentences::explain;
+use sentences::try_explain;
 use std::alloc::Global;
 
 /// Copies the sentence on why bytes are no guest, as `check` prints it, as far as there is room.
@@ -29,7 +29,9 @@ pub extern "C" fn wasmloop_rt_explain(
         Err(Refusal::Memory) => return MEMORY,
         Err(refusal) => refusal,
     };
-    let account = explain(refusal, alloc, bytes);
+    let Ok(account) = try_explain(refusal, alloc, bytes) else {
+        return MEMORY;
+    };
     let Ok(text) = format!(in alloc; "{account}") else {
         return MEMORY;
     };

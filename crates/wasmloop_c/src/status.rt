@@ -1,5 +1,7 @@
 // What a call answers.
 
+ghost use Rattle.wasmloop_c.specs.Statuses.{AreStatuses};
+
 /// It is done.
 pub const OK: u32 = 0;
 
@@ -35,3 +37,8 @@ pub const NOT_STARTED: u32 = 11;
 
 /// The arguments are not as many as the function takes, or one is past its type.
 pub const ARGUMENTS: u32 = 12;
+
+/// The statuses are those of capi/include/wasmloop.h.
+pub fn are_numbers()
+    ensures { AreStatuses }
+{}

@@ -1,27 +1,44 @@
-// Where a loop's last callback stopped, or a job, or an instance's last call.
+// Where a loop's last callback stopped, or a job, or an instance's last call; or where a job or a call stands between two slices.
 
-ghost use Rattle.std.specs.Prelude.{◌≡◌, length, map, slice_get, option_map};
-ghost use Rattle.wasmloop_c.specs.Calls.{ReadsHandle, copied};
-ghost use Rattle.wasmloop_c.specs.Sites.{site_numbers, told_of, whole_trail, IsStopOf, TellsStop, ReadsStop, ReadsJobStop, ReadsCallStop};
+ghost use Rattle.std.specs.Prelude.{◌≡◌, Option, length, slice_get, option_map};
+ghost use Rattle.instance.specs.Stops.{Halt};
+ghost use Rattle.order.specs.Slices.{OrderStandsAt};
+ghost use Rattle.resident.specs.Slices.{CallStandsAt};
+ghost use Rattle.wasmloop_c.specs.Calls.{ReadsHandle};
+ghost use Rattle.wasmloop_c.specs.Sites.{told_of, whole_trail, IsStopOf, StopsAs, JobStopsAs, CallStopsAs};
+ghost use Rattle.wasmloop_c.specs.Sites.{IsSiteOf, IsByteOf, CopiesSites, Uncopied, TellsStop, ReadsStop};
 
 use crate::handle::{Handle, on};
 use crate::status::{KIND, NONE, OK};
 use crate::thing::{InstanceStage, JobStage, Thing};
 use desk::Desk;
-use instance::stack::Stop;
-use order::{Told, Trail};
+use instance::stack::{Site as Operation, Stop};
+use order::{Running, Told, Trail};
 use phases::LoopCore;
-use resident::Resident;
+use places::{Place, place_of_operation};
+use resident::{Calling, Resident};
 use std::alloc::Global;
 
-/// An operation of a function.
+/// An instruction of a function.
 #[repr(C)]
 #[derive(Clone, Copy)]
 pub struct Site {
     /// The function's number among those that the module defines.
     pub function: u64,
-    /// The operation's number in its body.
+    /// The instruction's number in its body, as the module's bytes spell it.
     pub operation: u64,
+}
+
+/// The same, and where it is in the module.
+#[repr(C)]
+#[derive(Clone, Copy)]
+pub struct SpelledSite {
+    /// The function's number. Imported functions are counted first.
+    pub function: u64,
+    /// The instruction's number in its body, as the module's bytes spell it.
+    pub instruction: u64,
+    /// The byte at which it begins.
+    pub byte: u64,
 }
 
 /// Where a callback or a job stopped.
@@ -31,19 +48,18 @@ pub enum StopPlace<'a> {
     Job(&'a Trail),
 }
 
+/// Where it stopped, unless it returned, and the bytes of its module.
+pub type Stopped<'a> = (Option<StopPlace<'a>>, &'a [u8]);
+
 impl<'a> StopPlace<'a> {
     /// The operation at which it stopped (0), the call around it (1), and so on outwards, as far as they are known.
-    fn get(&self, index: usize) -> Option<Site>
-        ensures { result ≡ option_map site_numbers (slice_get (told_of self.now).sites index) }
+    fn get(&self, index: usize) -> Option<Operation>
+        ensures { result ≡ slice_get (told_of self.now).sites index }
     {
-        let site = match self {
-            StopPlace::Callback(stop) => stop.get(index)?,
-            StopPlace::Job(trail) => trail.get(index)?,
-        };
-        Some(Site {
-            function: site.function as u64,
-            operation: site.operation as u64,
-        })
+        match self {
+            StopPlace::Callback(stop) => stop.get(index),
+            StopPlace::Job(trail) => trail.get(index),
+        }
     }
 
     /// How many calls were open.
@@ -57,36 +73,71 @@ impl<'a> StopPlace<'a> {
     }
 }
 
-/// Copies the sites as far as there is room.
-fn copy_sites(place: &StopPlace<'_>, into: &mut [Site])
-    ensures { into.new ≡ copied (map site_numbers (told_of place.now).sites) into.old }
+/// The place of an operation as its module's bytes spell it.
+fn place_of(bytes: &[u8], site: Operation) -> SpelledSite
+    ensures { IsByteOf bytes.now site result }
 {
-    for index in 0..into.len() {
-        let Some(site) = place.get(index) else {
-            return;
-        };
-        into[index] = site;
+    match place_of_operation(bytes, site.function, site.operation) {
+        Some(
+            Place::Operation {
+                function,
+                number,
+                name: _,
+                at,
+            },
+        ) => SpelledSite {
+            function,
+            instruction: number as u64,
+            byte: at as u64,
+        },
+        _ => SpelledSite {
+            function: site.function as u64,
+            instruction: site.operation as u64,
+            byte: 0,
+        },
     }
 }
 
-fn tell_place(place: Option<StopPlace<'_>>, into: &mut [Site], count: &mut u64) -> u32
-    ensures { TellsStop (option_map told_of place.entry) into.old into.new count.old count.new result }
+fn site_of(bytes: &[u8], site: Operation) -> Site
+    ensures { IsSiteOf bytes.now site result }
 {
-    let Some(place) = place else {
-        return NONE;
-    };
-    copy_sites(&place, into);
-    *count = place.calls();
-    OK
+    Site {
+        function: site.function as u64,
+        operation: place_of(bytes, site).instruction,
+    }
 }
 
-fn place_of_loop(core: &LoopCore<Desk>) -> Option<StopPlace<'_>>
+/// Copies the sites as far as there is room.
+fn copy_sites(stop: &StopPlace<'_>, bytes: &[u8], into: &mut [Site])
+    ensures { CopiesSites (IsSiteOf bytes.now) (told_of stop.now).sites into.old into.new }
+{
+    for index in 0..into.len() {
+        let Some(site) = stop.get(index) else {
+            return;
+        };
+        into[index] = site_of(bytes, site);
+    }
+}
+
+/// Copies the places as far as there is room.
+fn copy_places(stop: &StopPlace<'_>, bytes: &[u8], into: &mut [SpelledSite])
+    ensures { CopiesSites (IsByteOf bytes.now) (told_of stop.now).sites into.old into.new }
+{
+    for index in 0..into.len() {
+        let Some(site) = stop.get(index) else {
+            return;
+        };
+        into[index] = place_of(bytes, site);
+    }
+}
+
+fn stop_of_loop(core: &LoopCore<Desk>) -> Option<StopPlace<'_>>
     ensures { IsStopOf core.now.setting core.now.loop.store (option_map told_of result) }
 {
     Some(StopPlace::Callback(core.last_stop()?))
 }
 
-fn place_of_job(told: &Told) -> Option<StopPlace<'_>>
+fn stop_of_job(told: &Told) -> Option<StopPlace<'_>>
     ensures { option_map told_of result ≡ told.now.trail }
 {
     match &told.trail {
@@ -95,44 +146,105 @@ fn place_of_job(told: &Told) -> Option<StopPlace<'_>>
     }
 }
 
-fn place_of_call(resident: &Resident) -> Option<StopPlace<'_>>
+fn stop_of_instance(resident: &Resident) -> Option<StopPlace<'_>>
     ensures { option_map told_of result ≡ option_map whole_trail resident.now.stop }
 {
     Some(StopPlace::Callback(resident.last_stop()?))
 }
 
-fn tell_job(stage: &JobStage, into: &mut [Site], count: &mut u64) -> u32
-    ensures { ReadsJobStop stage.now into.old into.new count.old count.new result }
+fn stop_of_running(running: &Running) -> Option<StopPlace<'_>>
+    ensures { (stop : Option Halt) × OrderStandsAt running.now stop × (option_map told_of result ≡ option_map whole_trail stop) }
+{
+    Some(StopPlace::Callback(running.stop()?))
+}
+
+fn stop_of_calling(calling: &Calling) -> Option<StopPlace<'_>>
+    ensures { (stop : Option Halt) × CallStandsAt calling.now stop × (option_map told_of result ≡ option_map whole_trail stop) }
+{
+    Some(StopPlace::Callback(calling.stop()?))
+}
+
+fn job_stopped(stage: &JobStage) -> Option<Stopped<'_>>
+    ensures { JobStopsAs stage.now (option_map (λ s. (option_map told_of s.0, s.1.now)) result) }
 {
     match stage {
-        JobStage::Asked(_) => NONE,
-        JobStage::Answered(told) => tell_place(place_of_job(told), into, count),
-        _ => KIND,
+        JobStage::Asked(job) => { Some((None, job.order().module.valid().module().bytes())) }
+        JobStage::Running(running) => Some((stop_of_running(running), running.module_bytes())),
+        JobStage::Answered(told) => {
+            let bytes = told.reply.order.module.valid().module().bytes();
+            Some((stop_of_job(told), bytes))
+        }
+        JobStage::Gone => None,
     }
 }
 
-fn tell_call(stage: &InstanceStage, into: &mut [Site], count: &mut u64) -> u32
-    ensures { ReadsCallStop stage.now into.old into.new count.old count.new result }
+fn call_stopped(stage: &InstanceStage) -> Option<Stopped<'_>>
+    ensures { CallStopsAs stage.now (option_map (λ s. (option_map told_of s.0, s.1.now)) result) }
 {
-    let InstanceStage::Resident(resident) = stage else {
-        return KIND;
-    };
-    tell_place(place_of_call(resident), into, count)
+    match stage {
+        InstanceStage::Resident(resident) => {
+            Some((stop_of_instance(resident), resident.module_bytes()))
+        }
+        InstanceStage::Calling(calling) => Some((stop_of_calling(calling), calling.module_bytes())),
+        InstanceStage::Gone => None,
+    }
 }
 
-fn tell_stop(thing: &Thing, into: &mut [Site], count: &mut u64) -> u32
-    ensures { ReadsStop thing.now into.old into.new count.old count.new result }
+/// Where the last callback of a loop stopped, or a job, or the last call of an instance, and its module's bytes. A job or a call between two slices
+/// stands where it would have stopped with just so much fuel as it has used.
+pub fn stopped(thing: &Thing) -> Option<Stopped<'_>>
+    ensures { StopsAs thing.now (option_map (λ s. (option_map told_of s.0, s.1.now)) result) }
 {
     match thing {
-        Thing::Loop(held) => tell_place(place_of_loop(&held.core), into, count),
-        Thing::Job(stage) => tell_job(stage, into, count),
-        Thing::Instance(stage) => tell_call(stage, into, count),
-        _ => KIND,
+        Thing::Loop(held) => Some((stop_of_loop(&held.core), held.core.module_bytes())),
+        Thing::Job(stage) => job_stopped(stage),
+        Thing::Instance(stage) => call_stopped(stage),
+        _ => None,
     }
 }
 
-/// Copies the operation at which the last callback of a loop stopped, or a job, or the last call of an instance, and the calls around it outwards, as far as there is room
-/// and they are known: of a job the first `MAX_TRAIL`. The count is how many calls were open.
+fn tell_sites(found: Option<Stopped<'_>>, into: &mut [Site], count: &mut u64) -> u32
+    ensures { TellsStop IsSiteOf (option_map (λ s. (option_map told_of s.0, s.1.now)) found.entry) into.old into.new count.old count.new result }
+{
+    let Some((stop, bytes)) = found else {
+        return KIND;
+    };
+    let Some(stop) = stop else {
+        return NONE;
+    };
+    copy_sites(&stop, bytes, into);
+    *count = stop.calls();
+    OK
+}
+
+fn tell_places(found: Option<Stopped<'_>>, into: &mut [SpelledSite], count: &mut u64) -> u32
+    ensures { TellsStop IsByteOf (option_map (λ s. (option_map told_of s.0, s.1.now)) found.entry) into.old into.new count.old count.new result }
+{
+    let Some((stop, bytes)) = found else {
+        return KIND;
+    };
+    let Some(stop) = stop else {
+        return NONE;
+    };
+    copy_places(&stop, bytes, into);
+    *count = stop.calls();
+    OK
+}
+
+fn read_sites(thing: &Thing, into: &mut [Site], count: &mut u64) -> u32
+    ensures { ReadsStop IsSiteOf thing.now into.old into.new count.old count.new result }
+{
+    tell_sites(stopped(thing), into, count)
+}
+
+fn read_places(thing: &Thing, into: &mut [SpelledSite], count: &mut u64) -> u32
+    ensures { ReadsStop IsByteOf thing.now into.old into.new count.old count.new result }
+{
+    tell_places(stopped(thing), into, count)
+}
+
+/// Copies the backtrace, as far as there is room and the calls are known: of a job that is over the first `MAX_TRAIL`. The count is how many
+/// calls were open.
 #[unsafe(no_mangle)]
 pub extern "C" fn wasmloop_rt_stop(
     alloc: Global,
@@ -140,7 +252,20 @@ pub extern "C" fn wasmloop_rt_stop(
     into: &mut [Site],
     count: &mut u64,
 ) -> u32
-    ensures { ReadsHandle handle.old.raw.value handle.new.raw.value result ((into.new ≡ into.old) × (count.new ≡ count.old)) (λ t. ReadsStop t into.old into.new count.old count.new result) }
+    ensures { ReadsHandle handle.old.raw.value handle.new.raw.value result (Uncopied into.old into.new count.old count.new) (λ t. ReadsStop IsSiteOf t into.old into.new count.old count.new result) }
 {
-    on!(handle, alloc, held => tell_stop(&held, into, count))
+    on!(handle, alloc, held => read_sites(&held, into, count))
+}
+
+/// Copies the same backtrace with the byte of each instruction.
+#[unsafe(no_mangle)]
+pub extern "C" fn wasmloop_rt_stop_places(
+    alloc: Global,
+    handle: &mut Handle,
+    into: &mut [SpelledSite],
+    count: &mut u64,
+) -> u32
+    ensures { ReadsHandle handle.old.raw.value handle.new.raw.value result (Uncopied into.old into.new count.old count.new) (λ t. ReadsStop IsByteOf t into.old into.new count.old count.new result) }
+{
+    on!(handle, alloc, held => read_places(&held, into, count))
 }

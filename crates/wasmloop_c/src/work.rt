@@ -62,7 +62,7 @@ fn of_outcome(outcome: &Outcome) -> (u32, (u32, u64))
         Outcome::Trap(trap) => (2, (trap.code(), 0)),
         Outcome::Depth => (3, (0, 0)),
         Outcome::Spent => (4, (0, 0)),
-        Outcome::NoMemory => (5, (0, 0)),
+        Outcome::NoMemory(_) => (5, (0, 0)),
     }
 }
 

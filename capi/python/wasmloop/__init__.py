@@ -1,14 +1,17 @@
-"""WebAssembly modules on event loops, over libwasmloop.so.
+"""Run untrusted WebAssembly modules: a binding of libwasmloop.so.
 
     from wasmloop import Module
     with Module(open("crc32.wasm", "rb").read()) as module:
         print(module.work(0, b"abc").value)
 
-The library is the file that WASMLOOP_LIBRARY names, else libwasmloop.so.0 beside this file, as in a wheel, else as the system finds
-it. A Module may be used by several threads; a Loop and an Instance by one at a time. A Job may be run in any thread.
+The library is $WASMLOOP_LIBRARY, else libwasmloop.so.0 beside this file (as in a wheel), else in `lib` of the prefix under which
+this file is installed, else in `dist` of the checkout, else the one that the system's linker finds.
+Several threads may share a Module; a Loop or an Instance serves one thread at a time; a Job may run in any thread. The GIL is released
+while a guest runs.
 
-A call that is not done raises Error, whose text says why. A number out of its range raises OutOfRange, which is an Error and a
-ValueError, and a word of a wrong type TypeError. capi/include/wasmloop.h says what each number means.
+A call that fails raises Error with a sentence; a number out of range raises OutOfRange, an Error and a ValueError; an argument of the
+wrong type raises TypeError. capi/include/wasmloop.h documents each number. `python3 -m wasmloop` lists the tools of
+this package.
 """
 
 from __future__ import annotations
@@ -27,19 +30,20 @@ RETURN, TRAP, DEPTH, SPENT = range(4)
 NOT_RUN, WORK_DONE, WORK_TRAP, WORK_DEPTH, WORK_SPENT, WORK_MEMORY = range(6)
 FOREVER = 2**64 - 1
 
-# Types of a struct's fields, by their names: a number for who reads this, and a width for ctypes.
+# The types of struct fields: plain numbers for a type checker, widths for ctypes.
 U32 = int
 U64 = int
 _WIDTHS = {"U32": c.c_uint32, "U64": c.c_uint64}
 
-# What is called on bytes; and an operation of a module: its function, counted among those that the module defines, and the operation there.
+# Anything that holds bytes; and an instruction: the index of its function, without the imports, and its index in the body, as wasm-objdump
+# lists it.
 Buffer = Union[bytes, bytearray, memoryview]
 Site = Tuple[int, int]
 _Kind = TypeVar("_Kind")
 
 
 def _fields(kind: Any) -> Any:
-    """Gives a struct the fields that its annotations name."""
+    """Makes ctypes fields of a struct's annotations."""
     kind._fields_ = [(name, _WIDTHS.get(told) or globals()[told]) for name, told in kind.__annotations__.items()]
     return kind
 
@@ -51,12 +55,16 @@ class _Struct(c.Structure):
 
 
 class _Handle(c.Structure):
+    """A handle, with what errors say of it: its kind, and why it is empty, once it was closed or accepted."""
+
     _fields_ = [("mark", c.c_uint64), ("at", c.c_void_p)]
+    kind: str = "object"
+    gone: Optional[str] = None
 
 
 @_fields
 class Did(_Struct):
-    """What one step of a loop did."""
+    """What one step of a loop did (wasmloop_did)."""
 
     what: U32
     phase: U32
@@ -72,7 +80,7 @@ class Did(_Struct):
 
 @_fields
 class About(_Struct):
-    """What a job is about."""
+    """A job's request, and its outcome (wasmloop_about)."""
 
     loop: U32
     request: U32
@@ -87,7 +95,7 @@ class About(_Struct):
 
 @_fields
 class Fault(_Struct):
-    """Why bytes are no module, and where."""
+    """Why and where a module was rejected (wasmloop_fault)."""
 
     stage: U32
     code: U32
@@ -99,13 +107,13 @@ class Fault(_Struct):
 
     @property
     def name(self) -> Optional[str]:
-        """The fault's name, as "Opcode"."""
+        """The fault's name, such as "Opcode"."""
         return _name_of(_lib.wasmloop_fault_name(c.c_uint32(self.stage), c.c_uint32(self.code)))
 
 
 @_fields
 class Shape(_Struct):
-    """What a module has that a host looks for: 1 where it does."""
+    """What a module has that a host looks for: 1 if it does (wasmloop_shape)."""
 
     main: U32
     work: U32
@@ -123,8 +131,17 @@ class _Site(_Struct):
 
 
 @_fields
+class Place(_Struct):
+    """An instruction: the index of its function, with the imports, its index in the body, and its byte in the module (wasmloop_place)."""
+
+    function: U64
+    instruction: U64
+    byte: U64
+
+
+@_fields
 class Standing(_Struct):
-    """Whether a loop is alive, whether it has failed, and how many requests are outstanding."""
+    """The status of a loop: whether it is alive, whether it has failed, and how many requests are outstanding."""
 
     alive: U32
     failed: U32
@@ -133,7 +150,7 @@ class Standing(_Struct):
 
 @_fields
 class Turned(_Struct):
-    """Where a turn of a loop stands: its last step, for how long there is nothing to do, and how many callbacks ran in it so far."""
+    """The progress of a loop iteration: the last step, the poll timeout, and how many callbacks ran so far (wasmloop_turned)."""
 
     did: Did
     wait: U64
@@ -179,17 +196,23 @@ class _Signature(_Struct):
 
 
 _SAYS = {
-    NONE: "there is none",
-    EMPTY: "it was closed, or its job was accepted",
-    KIND: "the job was run already, or was not run yet; of an instance: a call is under way, or none is",
-    MEMORY: "memory was refused",
-    USED_UP: "2^32 sends were made",
+    NONE: "there is nothing to return",
+    EMPTY: "the object is closed",
+    KIND: "the object is of another kind, or in another state",
+    MEMORY: "an allocation failed",
+    REFUSED: "the bytes are not those of the module",
+    RANGE: "a number is out of range",
+    STRANGER: "the reply is stale: its request was cancelled, or is another loop's",
+    USED_UP: "the host has sent 2^32 times",
+    NULL: "a pointer is NULL",
     NO_WORK: "the module exports no uv_work",
+    NOT_STARTED: "the start function did not return",
+    ARGUMENTS: "wrong number of arguments, or one out of its type's range",
 }
 
 
 class Error(Exception):
-    """A call that was not done. `status` is its number."""
+    """A call failed. `status` is the library's number, such as NO_WORK."""
 
     def __init__(self, status: int, text: Optional[str] = None):
         super().__init__(text or _SAYS.get(status) or _name_of(_lib.wasmloop_status_name(status)) or f"status {status}")
@@ -200,11 +223,11 @@ class Error(Exception):
 
 
 class OutOfRange(Error, ValueError):
-    """A number that is out of its range, which the text names."""
+    """A number is out of range; the text gives the range."""
 
 
 class Refused(Error):
-    """Bytes that are no module for this host. `fault` says where, and the text why."""
+    """The bytes were rejected: they are not a module that this host runs. The text says why, `fault` where."""
 
     def __init__(self, fault: Fault, text: Optional[str]):
         super().__init__(REFUSED, text)
@@ -215,21 +238,31 @@ class Refused(Error):
 
 
 class Stopped(Error):
-    """A call that did not return. `ending` is "trap", "depth" or "spent", `trap` the trap's number or 0, and `used` the units of fuel."""
+    """A call did not return: it trapped, exceeded the call-depth limit or ran out of fuel. `ending` is "trap", "depth" or "spent", `trap` the
+    trap's number or 0, and `used` the fuel used, in units."""
 
     def __init__(self, what: str, ended: _Ended):
         self._what, self._ended = what, ended
         self.ending = _name_of(_lib.wasmloop_ending_name(c.c_uint32(ended.ending)))
         self.trap, self.used = ended.trap, ended.used
         name = _name_of(_lib.wasmloop_trap_name(c.c_uint32(ended.trap)))
-        super().__init__(OK, f"{what}: {self.ending}{f': {name}' if name else ''}, after {self.used} units")
+        why = {"depth": "exceeded the call-depth limit", "spent": "ran out of fuel"}.get(str(self.ending), f"trapped: {name}")
+        super().__init__(OK, f"{what} {why}, after {self.used} unit{'' if self.used == 1 else 's'}")
 
     def __reduce__(self) -> Any:
         return type(self), (self._what, self._ended)
 
 
-_beside = os.path.join(os.path.dirname(os.path.abspath(__file__)), "libwasmloop.so.0")
-_lib = c.CDLL(os.environ.get("WASMLOOP_LIBRARY") or (_beside if os.path.isfile(_beside) else "libwasmloop.so.0"))
+def _library() -> str:
+    here = os.path.dirname(os.path.abspath(__file__))
+    for folder in ("", "../../../../lib", "../../../dist"):
+        file = os.path.normpath(os.path.join(here, folder, "libwasmloop.so.0"))
+        if os.path.isfile(file):
+            return file
+    return "libwasmloop.so.0"
+
+
+_lib = c.CDLL(os.environ.get("WASMLOOP_LIBRARY") or _library())
 for _name in "version status_name trap_name fault_name ending_name outcome_name".split():
     getattr(_lib, f"wasmloop_{_name}").restype = c.c_char_p
 
@@ -238,33 +271,75 @@ def _name_of(text: Optional[bytes]) -> Optional[str]:
     return None if text is None else text.decode()
 
 
+def _outcome_of(job: _Handle) -> Optional[int]:
+    """The outcome of a job; None while it is paused, or in use."""
+    about = About()
+    return about.outcome if _lib.wasmloop_job_about(c.byref(job), c.byref(about)) == OK else None
+
+
+_ENDED = {NOT_RUN: "it has not run yet", WORK_TRAP: "it trapped", WORK_DEPTH: "it exceeded the call-depth limit",
+          WORK_SPENT: "it ran out of fuel", WORK_MEMORY: "an allocation failed"}
+
+
+def _why(status: int, call: str, handles: List[_Handle]) -> Optional[str]:
+    """Why a call failed, by the state of its handles: one sentence for each state."""
+    job = next((it for it in handles if it.kind == "job" and it.at), None)
+    if status == EMPTY:
+        it = next((it for it in handles if not it.at), None)
+        if it and it.gone:
+            return it.gone
+        return f"the {it.kind if it else 'object'} is in use by another thread"
+    if status == KIND and job:
+        outcome = _outcome_of(job)
+        return "the job has not run yet" if outcome == NOT_RUN else "the job has already run" if outcome else "the job is paused: continue it with run_for"
+    if status == KIND and handles[0].kind == "loop" and call == "write":
+        return "the memory of a loop can only be read"
+    if status == KIND and handles[0].kind == "instance":
+        return "no call is in progress" if call == "call_run_for" else "a call is in progress"
+    if status == NONE and job:
+        return f"the job has no reply: {_ENDED.get(_outcome_of(job) or NOT_RUN, 'it is in use')}"
+    return None
+
+
+def _failed(status: int, call: str, *handles: _Handle) -> Error:
+    # (the last handle of these is the one to be filled)
+    return Error(status, _why(status, call, list(handles[:1] if call in ("share", "job_new", "loop") else handles)))
+
+
 def _call(name: str, *words: Any) -> None:
     status = getattr(_lib, f"wasmloop_{name}")(*(c.byref(it) if isinstance(it, c.Structure) else it for it in words))
     if status != OK:
-        raise Error(status)
+        raise _failed(status, name, *(it for it in words if isinstance(it, _Handle)))
 
 
-def _is_wanted(what: str, given: object) -> TypeError:
-    return TypeError(f"{what} wanted, and {type(given).__name__} is there")
+def _expected(what: str, given: object) -> TypeError:
+    return TypeError(f"expected {what}, got {type(given).__name__}")
 
 
 def _data(given: Buffer) -> bytes:
-    """The bytes of what is given: bytes, bytearray, memoryview, an array. A str has none until it is encoded."""
+    """The bytes of an argument: bytes, bytearray, memoryview, an array. A str must be encoded first."""
     if isinstance(given, bytes):
         return given
     try:
         return bytes(memoryview(given))
     except TypeError:
-        raise TypeError(f"{_is_wanted('bytes are', given)}{': encode it' if isinstance(given, str) else ''}") from None
+        raise TypeError(f"{_expected('bytes', given)}{': encode it, as text.encode()' if isinstance(given, str) else ''}") from None
+
+
+def _module_data(given: Buffer) -> bytes:
+    """The bytes of a module, not the path of its file."""
+    if isinstance(given, (str, os.PathLike)):
+        raise TypeError(f"{_expected('the bytes of a module', given)}: if it is a path, pass open({os.fspath(given)!r}, 'rb').read()")
+    return _data(given)
 
 
 def _whole(name: str, value: int, least: int, most: int, status: int = RANGE) -> int:
     try:
         value = operator.index(value)
     except TypeError:
-        raise _is_wanted(f"{name}: a whole number is", value) from None
+        raise TypeError(f"{name}: {_expected('a whole number', value)}") from None
     if not least <= value <= most:
-        raise OutOfRange(status, f"{name} {value}: from {least} to {most}")
+        raise OutOfRange(status, f"{name} {value} is out of range: expected {least} to {most}")
     return value
 
 
@@ -277,9 +352,9 @@ def _depth(value: int) -> int:
 
 
 def _held(kind: Any, given: Any) -> Any:
-    """The handle of what is given, which must be of that class."""
+    """The handle of an argument, which must be of that class."""
     if not isinstance(given, kind):
-        raise _is_wanted(f"a {kind.__name__} is", given)
+        raise _expected(f"a {kind.__name__}", given)
     return given.handle
 
 
@@ -288,9 +363,9 @@ def _no_function(name: str) -> Error:
 
 
 def _export(name: str) -> bytes:
-    """The name of an export as C has it."""
+    """The name of an export as a C string."""
     if not isinstance(name, str):
-        raise _is_wanted("the name of a function, a str, is", name)
+        raise TypeError(f"name: {_expected('a str', name)}")
     if "\0" in name:
         raise _no_function(name)
     return name.encode(errors="surrogatepass")
@@ -302,7 +377,7 @@ def version() -> str:
 
 
 def _text(name: str, *words: Any) -> Optional[str]:
-    """What a call writes that copies a text as far as there is room, or None where there is none."""
+    """The text that a call writes; None if it returns NONE."""
     call, count = getattr(_lib, f"wasmloop_{name}"), c.c_uint64()
     status = call(*words, None, c.c_size_t(0), c.byref(count))
     if status == NONE:
@@ -316,32 +391,24 @@ def _text(name: str, *words: Any) -> Optional[str]:
 
 
 def explain(data: Buffer) -> Optional[str]:
-    """Why these bytes are no module, in the words of `wasmloop check`; None where they are one."""
+    """Why these bytes are rejected, in the words of `wasmloop check`; None if they are not."""
     data = _data(data)
     return _text("explain", data, c.c_size_t(len(data)))
 
 
-def _stop_told(held: Any, data: Buffer) -> Optional[str]:
-    data = _data(data)
-    return _text("stop_told", data, c.c_size_t(len(data)), c.byref(held.handle))
-
-
 class _Held:
-    """What a handle has. It is dropped at the end of a `with`, by close(), or when nothing refers to it."""
+    """An object of the library. Released at the end of a `with` block, by close(), or when nothing refers to it."""
+
+    _kind = "object"
 
     def __init__(self) -> None:
         self.handle = _Handle()
+        self.handle.kind = self._kind
 
     def close(self) -> None:
-        """Drops it. Every other call answers then that it was closed."""
+        """Releases the object. Every later call raises Error with the status EMPTY."""
+        self.handle.gone = self.handle.gone or f"the {self.handle.kind} is closed"
         _lib.wasmloop_drop(c.byref(self.handle))
-
-    def _stop(self, most: int) -> List[Site]:
-        room, count = (_Site * most)(), c.c_uint64()
-        status = _lib.wasmloop_stop(c.byref(self.handle), room, c.c_size_t(most), c.byref(count))
-        if status not in (OK, NONE):
-            raise Error(status)
-        return [(it.function, it.operation) for it in room[: min(count.value, most)]] if status == OK else []
 
     def __enter__(self: _Kind) -> _Kind:
         return self
@@ -360,35 +427,97 @@ class _Held:
         try:
             told = self._about()
         except Error as error:
-            told = "closed" if error.status == EMPTY else str(error)
+            told = "closed" if error.status == EMPTY and self.handle.gone else str(error)
         return f"<{type(self).__name__}: {told}>"
 
 
+class _Runs(_Held):
+    """An object whose last run may have stopped. A job or a call that is paused stands where it would have stopped with just the fuel that it
+    has used."""
+
+    _most = 128
+
+    def _copied(self, call: str, status: int, room: Any, count: Any) -> List[Any]:
+        if status not in (OK, NONE):
+            raise _failed(status, call, self.handle)
+        return list(room[: min(count.value, self._most)]) if status == OK else []
+
+    def stop(self) -> List[Site]:
+        """The backtrace of the last run, innermost first, as (function, instruction); empty if it returned. Of a job at most 17."""
+        room, count = (_Site * self._most)(), c.c_uint64()
+        status = _lib.wasmloop_stop(c.byref(self.handle), room, c.c_size_t(self._most), c.byref(count))
+        return [(it.function, it.operation) for it in self._copied("stop", status, room, count)]
+
+    def stop_places(self) -> List[Place]:
+        """The same backtrace with function indexes that include the imports, and the byte of each instruction in the module."""
+        room, count = (Place * self._most)(), c.c_uint64()
+        status = _lib.wasmloop_stop_places(c.byref(self.handle), room, c.c_size_t(self._most), c.byref(count))
+        return self._copied("stop_places", status, room, count)
+
+    def stop_told(self, data: Buffer) -> Optional[str]:
+        """The backtrace as text, given the bytes of the module; None if it returned."""
+        data = _data(data)
+        try:
+            return _text("stop_told", data, c.c_size_t(len(data)), c.byref(self.handle))
+        except Error as error:
+            raise _failed(error.status, "stop_told", self.handle) from None
+
+
+class _Inspected(_Runs):
+    """An object with an instance, which can be inspected between two runs, or two slices of one."""
+
+    def __init__(self) -> None:
+        super().__init__()
+        self.memory = Memory(self)
+
+    def value(self, name: str) -> int:
+        """The signed value of the global exported as `name`."""
+        told, called = _Number(), _export(name)
+        status = _lib.wasmloop_global(c.byref(self.handle), called, c.byref(told))
+        if status == NONE:
+            raise Error(status, f"no global is exported as {name!r}")
+        if status != OK:
+            raise _failed(status, "global", self.handle)
+        return _signed(told.number, 32 * told.value_type)
+
+
 class Reply(NamedTuple):
-    """What became of a job: "done", "trap", "depth", "spent" or "nomemory"; its value as a signed number, of a trap the trap's; its bytes; and
-    the units of fuel that it used."""
+    """The result of a job. `outcome` is "done", "trap", "depth" (call-depth limit exceeded), "spent" (out of fuel) or "nomemory" (allocation
+    failed); `number` the signed result if it is "done", else the trap's number or 0; `data` the reply's bytes; `used` the fuel used, in units."""
 
     outcome: str
-    value: int
+    number: int
     data: bytes
     used: int
 
+    @property
+    def value(self) -> int:
+        """The signed result. Raises Stopped if uv_work did not return, and Error if its memory could not be allocated."""
+        if self.outcome == "done":
+            return self.number
+        if self.outcome == "nomemory":
+            raise Error(MEMORY)
+        endings = {"trap": TRAP, "depth": DEPTH, "spent": SPENT}
+        raise Stopped("uv_work", _Ended(ending=endings[self.outcome], trap=self.number, used=self.used))
 
-class Job(_Held):
-    """Work that any thread may run."""
+
+class Job(_Runs):
+    """One run of a module's uv_work. Any thread may run it."""
+
+    _kind, _most = "job", 17
 
     def _about(self) -> str:
         about = self.about()
         return f"op {about.op}, {_outcome(about)}"
 
     def about(self) -> About:
-        """What it is about, before or after its run."""
+        """Its request, and its outcome, before or after it runs."""
         about = About()
         _call("job_about", self.handle, about)
         return about
 
     def input(self) -> bytes:
-        """The bytes that it may read."""
+        """The input bytes."""
         size, count = self.about().bytes, c.c_uint64()
         room = c.create_string_buffer(max(size, 1))
         _call("job_input", self.handle, room, c.c_size_t(size), c.byref(count))
@@ -400,29 +529,29 @@ class Job(_Held):
         return c.string_at(at, count.value) if count.value else b""
 
     def run(self) -> Job:
-        """Runs it, in this thread. Other threads of Python run meanwhile."""
+        """Runs the job in this thread, without holding the GIL, and returns it."""
         _call("job_run", self.handle)
         return self
 
     def run_for(self, units: int) -> bool:
-        """Runs it for at most so many units of fuel; True where it is over, as if run() had run it."""
+        """Runs a slice of at most `units` units of fuel. True if the job is over, with the result that run() gives."""
         over = c.c_uint32()
         _call("job_run_for", self.handle, c.c_uint64(_whole("units", units, 1, 2**64 - 1)), c.byref(over))
         return bool(over.value)
 
     def reply(self) -> Reply:
-        """What became of it, once it was run."""
+        """The result, once the job has run."""
         about = self.about()
         if about.outcome == NOT_RUN:
-            raise Error(KIND)
+            raise Error(KIND, "the job has not run yet")
         data = self._reply() if about.outcome == WORK_DONE else b""
         return Reply(_outcome(about), c.c_int32(about.value).value, data, about.used)
 
     def reply_into(self, room: Union[bytearray, memoryview]) -> int:
-        """Copies the bytes of the reply into a buffer as far as they fit, and answers how many there are."""
+        """Copies as much of the reply as fits into a writable buffer, and returns the length of the whole reply."""
         with memoryview(room) as view:
             if view.readonly:
-                raise _is_wanted("a buffer that can be written is", room)
+                raise _expected("a writable buffer", room)
             count, into = c.c_uint64(), (c.c_char * view.nbytes).from_buffer(view)
             try:
                 _call("job_reply", self.handle, into, c.c_size_t(view.nbytes), c.byref(count))
@@ -430,25 +559,19 @@ class Job(_Held):
                 del into
         return count.value
 
-    def stop(self) -> List[Site]:
-        """Where it stopped and the calls around it, as (function, operation), at most 17 in all, or nothing where it returned."""
-        return self._stop(17)
-
-    def stop_told(self, data: Buffer) -> Optional[str]:
-        """The same in the words of the program, by the bytes of the module; None where it returned."""
-        return _stop_told(self, data)
-
 
 def _outcome(about: About) -> str:
     return str(_name_of(_lib.wasmloop_outcome_name(c.c_uint32(about.outcome))))
 
 
 class Module(_Held):
-    """A module of these bytes, or Refused."""
+    """A module, loaded from its bytes. Raises Refused if they are not a module that this host runs."""
+
+    _kind = "module"
 
     def __init__(self, data: Buffer):
         super().__init__()
-        fault, data = Fault(), _data(data)
+        fault, data = Fault(), _module_data(data)
         status = _lib.wasmloop_load(data, c.c_size_t(len(data)), c.byref(self.handle), c.byref(fault))
         if status == REFUSED:
             raise Refused(fault, explain(data))
@@ -458,45 +581,45 @@ class Module(_Held):
     def _about(self) -> str:
         shape = self.shape()
         exports = [f"uv_{it}" for it in ("main", "work", "after_work") if getattr(shape, it)]
-        return f"{', '.join(exports) or 'no function of a guest'}, {shape.imports} imports, {shape.pages} pages"
+        return f"{', '.join(exports) or 'no uv exports'}, {shape.imports} imports, {shape.pages} pages"
 
     def share(self) -> Module:
-        """A second handle of the same module, which is not copied: each may be closed apart from the other."""
+        """A second handle to the same module, reference-counted. Close each on its own."""
         other = Module.__new__(Module)
         _Held.__init__(other)
         _call("share", self.handle, other.handle)
         return other
 
     def shape(self) -> Shape:
-        """What it has that a host looks for."""
+        """What the module has that a host looks for."""
         shape = Shape()
         _call("shape_of", self.handle, shape)
         return shape
 
     @property
     def warnings(self) -> List[str]:
-        """What the module lacks to run on a loop, in the sentences of `wasmloop check`."""
+        """What the module lacks to run on a loop, in the words of `wasmloop check`."""
         told: List[str] = []
         while text := _text("warning", c.byref(self.handle), c.c_uint32(len(told))):
             told.append(text)
         return told
 
     def function(self, name: str) -> Tuple[List[int], List[int]]:
-        """The bits of each parameter and of each result of the function that is exported as `name`."""
+        """The parameter and result types of the function exported as `name`, each as 32 or 64 bits."""
         told, called = _Signature(), _export(name)
         status = _lib.wasmloop_function(c.byref(self.handle), called, c.byref(told))
         if status == NONE:
             raise _no_function(name)
         if status != OK:
-            raise Error(status)
+            raise _failed(status, "function", self.handle)
         return [32 * it for it in told.param[: told.params]], [32 * it for it in told.result[: told.results]]
 
     def instance(self, fuel: int = 1_000_000, depth: int = 64) -> Instance:
-        """An instance that keeps its memory from call to call."""
+        """A new instance, which keeps its memory from call to call."""
         return Instance(self, fuel, depth)
 
     def job(self, op: int, data: Buffer = b"", fuel: int = 1_000_000, depth: int = 64) -> Job:
-        """Work on `op`, from -2^31 to 2^32 - 1, and on at most 65,536 bytes."""
+        """A job that runs uv_work with `op`, from -2^31 to 2^32 - 1, and at most 65,536 input bytes."""
         job, data = Job(), _data(data)
         _whole("length", len(data), 0, 65_536)
         task = _Task(_fuel("fuel", fuel), _whole("op", op, -(2**31), 2**32 - 1) % 2**32, _depth(depth))
@@ -504,15 +627,17 @@ class Module(_Held):
         return job
 
     def work(self, op: int, data: Buffer = b"", fuel: int = 1_000_000, depth: int = 64) -> Reply:
-        """Runs one operation of the module's uv_work. Other threads run meanwhile."""
+        """Runs the module's uv_work once, without holding the GIL. If it did not return, the reply's `outcome` says how, and its `value` raises
+        Stopped."""
         with self.job(op, data, fuel, depth) as job:
             return job.run().reply()
 
 
 class Memory:
-    """The memory of an instance, as bytes: memory[at:at + n], memory[at:at + n] = data, len(memory)."""
+    """The memory of an instance, as bytes: memory[at:at + n], memory[at:at + n] = data, len(memory). That of a loop, or of a call that is paused,
+    can only be read."""
 
-    def __init__(self, instance: Instance):
+    def __init__(self, instance: _Inspected):
         self._instance = instance
 
     def __len__(self) -> int:
@@ -525,7 +650,7 @@ class Memory:
 
     def _range(self, index: slice) -> Tuple[int, int]:
         if not isinstance(index, slice) or index.step not in (None, 1):
-            raise TypeError("a memory is read and written by slices, memory[at:at + n]")
+            raise TypeError("read and write memory by slices, as memory[at:at + n]")
         size = len(self)
         start = 0 if index.start is None else _whole("start", index.start, 0, size)
         stop = size if index.stop is None else _whole("stop", index.stop, start, size)
@@ -541,45 +666,40 @@ class Memory:
     def __setitem__(self, index: slice, data: Buffer) -> None:
         (at, count), data = self._range(index), _data(data)
         if len(data) != count:
-            raise ValueError(f"{len(data)} bytes for a place of {count}")
+            raise ValueError(f"expected {count} bytes, got {len(data)}")
         if count:
             _call("write", self._instance.handle, c.c_uint32(at), data, c.c_size_t(count))
 
 
-class Instance(_Held):
-    """An instance of a module that keeps its memory and globals from call to call. Its imports answer -1. One thread at a time."""
+class Instance(_Inspected):
+    """An instance of a module. It keeps its memory and globals from call to call. Calls to "uv" imports return -1: an instance has no timers
+    and no work requests. One thread at a time."""
+
+    _kind = "instance"
 
     def __init__(self, module: Module, fuel: int = 1_000_000, depth: int = 64):
         super().__init__()
         of, limits, ended = _held(Module, module), _call_limits(fuel, depth), _Ended()
-        self.module, self.memory, self.used, self._types = module, Memory(self), 0, {}  # type: ignore[var-annotated]
+        self.module, self.used, self._types = module, 0, {}  # type: ignore[var-annotated]
         status = _lib.wasmloop_instance(c.byref(of), c.byref(limits), c.byref(self.handle), c.byref(ended))
         if status == NOT_STARTED:
             raise Stopped("the start function", ended)
         if status != OK:
-            raise Error(status)
+            raise _failed(status, "instance", of)
         self.used = ended.used
 
     def _about(self) -> str:
         return f"{len(self.memory)} bytes of memory"
 
-    def value(self, name: str) -> int:
-        """The value of the global that is exported as `name`, as a signed number."""
-        told, called = _Number(), _export(name)
-        status = _lib.wasmloop_global(c.byref(self.handle), called, c.byref(told))
-        if status != OK:
-            raise Error(status, f"no global is exported as {name!r}" if status == NONE else None)
-        return _signed(told.number, 32 * told.value_type)
-
     def call(self, name: str, *args: int, fuel: int = 1_000_000, depth: int = 64) -> Union[None, int, Tuple[int, ...]]:
-        """Calls the function that is exported as `name`, with whole numbers, negative or not. Its results as signed numbers: nothing where it has
-        none, the one where it has one, else a tuple. A call that doesn't return raises Stopped, and the instance stays as it is then."""
+        """Calls the function exported as `name`; arguments may be negative. Returns its signed results: None, one number, or a tuple. A call that
+        does not return raises Stopped; it is not rolled back, and you may call the instance again."""
         numbers, limits, ended = self._words(name, args), _call_limits(fuel, depth), _Ended()
         _call("call", self.handle, _export(name), numbers, c.c_size_t(len(args)), limits, ended)
         return self._results(name, ended)
 
     def begin(self, name: str, *args: int, fuel: int = 1_000_000, depth: int = 64) -> Call:
-        """Begins such a call, to be made in slices: nothing of it runs yet. Until it is over the instance may be closed, and does nothing else."""
+        """Begins a call to be run in slices; nothing runs yet. Until it is over, the instance can only be inspected and closed."""
         numbers, limits = self._words(name, args), _call_limits(fuel, depth)
         _call("call_begin", self.handle, _export(name), numbers, c.c_size_t(len(args)), limits)
         return Call(self, name)
@@ -591,10 +711,10 @@ class Instance(_Held):
         return kinds  # type: ignore[no-any-return]
 
     def _words(self, name: str, args: Tuple[int, ...]) -> Any:
-        """The arguments of a call as C has them."""
+        """The arguments of a call as a C array."""
         kinds = self._kinds(name)[0]
         if len(args) != len(kinds):
-            raise TypeError(f"{name} takes {len(kinds)} numbers, not {len(args)}")
+            raise TypeError(f"{name} takes {len(kinds)} argument{'' if len(kinds) == 1 else 's'}, got {len(args)}")
         return (c.c_uint64 * len(args))(*(_number(number + 1, it, bits) for number, (it, bits) in enumerate(zip(args, kinds))))
 
     def _results(self, name: str, ended: _Ended) -> Union[None, int, Tuple[int, ...]]:
@@ -604,23 +724,15 @@ class Instance(_Held):
         told = tuple(_signed(it, bits) for it, bits in zip(ended.result[: ended.results], self._kinds(name)[1]))
         return told[0] if len(told) == 1 else told or None
 
-    def stop(self) -> List[Site]:
-        """Where the last call stopped and the calls around it, as (function, operation), or nothing where it returned."""
-        return self._stop(128)
-
-    def stop_told(self, data: Buffer) -> Optional[str]:
-        """The same in the words of the program, by the bytes of the module; None where it returned."""
-        return _stop_told(self, data)
-
 
 class Call:
-    """A call of an instance in slices, which Instance.begin has begun."""
+    """A call that Instance.begin began, to be run in slices."""
 
     def __init__(self, instance: Instance, name: str):
         self._instance, self._name, self._ended = instance, name, None  # type: Instance, str, Optional[_Ended]
 
     def run_for(self, units: int) -> bool:
-        """Goes on with it for at most so many units of fuel; True where it is over, as if Instance.call had made it."""
+        """Runs a slice of at most `units` units of fuel. True if the call is over, with the result that Instance.call gives."""
         if self._ended is not None:
             raise Error(KIND, "the call is over")
         over, ended = c.c_uint32(), _Ended()
@@ -630,9 +742,9 @@ class Call:
         return bool(over.value)
 
     def result(self) -> Union[None, int, Tuple[int, ...]]:
-        """What Instance.call answers, once it is over, or Stopped."""
+        """What Instance.call returns or raises, once the call is over."""
         if self._ended is None:
-            raise Error(KIND, "the call is not over")
+            raise Error(KIND, "the call is not over yet")
         return self._instance._results(self._name, self._ended)
 
 
@@ -649,8 +761,10 @@ def _number(place: int, value: int, bits: int) -> int:
     return _whole(f"argument {place} (i{bits})", value, -(1 << bits - 1), (1 << bits) - 1, ARGUMENTS) & (1 << bits) - 1
 
 
-class Loop(_Held):
-    """A loop of a module. One thread at a time."""
+class Loop(_Inspected):
+    """An event loop of a module. One thread at a time."""
+
+    _kind = "loop"
 
     def __init__(self, module: Module, number: int = 0, fuel: int = 1_000_000, work_fuel: int = 1_000_000, depth: int = 64):
         super().__init__()
@@ -664,89 +778,84 @@ class Loop(_Held):
         return f"{ended}, {standing.outstanding} requests outstanding"
 
     def step(self) -> Did:
-        """Takes one step: a callback runs, an entry is skipped, a phase is entered, or the loop is over or has failed."""
+        """Takes one step: runs or skips a callback, enters a phase, or finds that the loop is over or has failed."""
         did = Did()
         _call("step", self.handle, did)
         return did
 
     def turn(self, most: int = 2**32 - 1) -> Turned:
-        """Takes steps until the timers phase is entered, a callback puts out values or doesn't return, so many have run, or the loop is over. The
-        last step is `did` of what it returns, and `wait` for how many milliseconds there is nothing to do but for replies and sends."""
+        """Takes steps until the loop enters its timers phase, a callback emits values or does not return, `most` callbacks have run, or the loop is
+        over. Of the result, `did` is the last step and `wait` the poll timeout in milliseconds."""
         _call("turn", self.handle, c.c_uint32(_whole("most", most, 1, 2**32 - 1)), self.turned)
         return self.turned
 
     def emits(self) -> List[int]:
-        """The values that the last callback put out."""
+        """The values that the last callback emitted."""
         room, count = (c.c_int64 * 64)(), c.c_uint32()
         _call("emits", self.handle, room, c.c_size_t(64), c.byref(count))
         return room[: count.value]
 
     def clock(self, ms: int) -> int:
-        """Raises the clock to `ms` milliseconds, and answers the clock; a smaller `ms` leaves it."""
+        """Advances the clock to `ms` milliseconds, and returns the new time. A smaller `ms` has no effect."""
         now = c.c_uint64()
         _call("clock", self.handle, c.c_uint64(_whole("ms", ms, 0, 2**64 - 1)), c.byref(now))
         return now.value
 
     def hint(self) -> int:
-        """For how many milliseconds there is nothing to do, or FOREVER; asked where a step has entered the timers phase."""
+        """The poll timeout in milliseconds, or FOREVER. Call it only after a step that entered the timers phase."""
         ms = c.c_uint64()
         _call("hint", self.handle, c.byref(ms))
         return ms.value
 
     def standing(self) -> Standing:
-        """Whether it is alive, whether it has failed, and how many requests are outstanding."""
+        """The status of the loop."""
         standing = Standing()
         _call("standing_of", self.handle, standing)
         return standing
 
     def send(self, number: int) -> None:
-        """Sends to the guest's async of that number, from 0 on as the guest makes them."""
+        """Sends to the guest's async `number`, counted from 0 in the order of creation."""
         _call("async_send", self.handle, c.c_uint32(_whole("number", number, 0, 15)))
 
     def cancel(self, request: int) -> int:
-        """Cancels a request, and answers as the guest's own cancel: 0, -22, -16, or -1 on a failed loop."""
+        """Cancels a request. Returns what the guest's own cancel returns: 0, -22 or -16; -1 if the loop has failed."""
         answer = c.c_int32()
         _call("cancel", self.handle, c.c_uint32(_whole("request", request, 0, 2**32 - 1)), c.byref(answer))
         return answer.value
 
     def request(self, op: int, data: Buffer = b"") -> int:
-        """Makes a request of its owner, which goes the way of the guest's own: its number, above 0, or what queue_work answers, as -11 where 32
-        are outstanding; and -1 on a loop that is over or has failed."""
+        """Submits a work request from the host, processed like the guest's own. Returns its number, above 0, or an error of queue_work, such as -11
+        if 32 are outstanding; -1 if the loop is over or has failed."""
         answer, data = c.c_int32(), _data(data)
         op = _whole("op", op, -(2**31), 2**32 - 1) % 2**32
         _call("request", self.handle, c.c_uint32(op), data, c.c_size_t(len(data)), c.byref(answer))
         return answer.value
 
     def next_job(self) -> Optional[Job]:
-        """The lowest request that is not handed out, as a job, or None."""
+        """A job for the lowest request not returned yet, or None."""
         job = Job()
         status = _lib.wasmloop_next_job(c.byref(self.handle), c.byref(job.handle))
         if status == NONE:
             return None
         if status != OK:
-            raise Error(status)
+            raise _failed(status, "next_job", self.handle)
         return job
 
-    def _known(self, status: int) -> bool:
+    def _known(self, status: int, job: Job) -> bool:
         if status not in (OK, STRANGER):
-            raise Error(status)
+            raise _failed(status, "accept", self.handle, job.handle)
         return status == OK
 
     def start(self, job: Job) -> bool:
-        """Tells the loop that a job is started. False where its request was cancelled, or is another loop's."""
-        return self._known(_lib.wasmloop_job_start(c.byref(self.handle), c.byref(_held(Job, job))))
+        """Reports that a job is about to run. False if its request was cancelled or started before, or is another loop's."""
+        return self._known(_lib.wasmloop_job_start(c.byref(self.handle), c.byref(_held(Job, job))), job)
 
     def accept(self, job: Job) -> bool:
-        """Brings a job back that was run. False where the loop doesn't wait for it."""
-        return self._known(_lib.wasmloop_accept(c.byref(self.handle), c.byref(_held(Job, job))))
-
-    def stop(self) -> List[Site]:
-        """Where the last callback stopped and the calls around it, as (function, operation), or nothing where it returned."""
-        return self._stop(128)
-
-    def stop_told(self, data: Buffer) -> Optional[str]:
-        """The same in the words of the program, by the bytes of the module; None where it returned."""
-        return _stop_told(self, data)
+        """Completes the request of a job that has run. False if the reply is stale: the request was cancelled, or is another loop's."""
+        known = self._known(_lib.wasmloop_accept(c.byref(self.handle), c.byref(_held(Job, job))), job)
+        if known:
+            job.handle.gone = "the job was accepted"
+        return known
 
 
 @functools.lru_cache(maxsize=8)
@@ -755,5 +864,5 @@ def _kept(data: bytes) -> Module:
 
 
 def work(data: bytes, op: int, word: Buffer = b"", fuel: int = 1_000_000, depth: int = 64) -> Reply:
-    """Runs one operation of the module of these bytes, which the process keeps for the next call."""
-    return _kept(_data(data)).work(op, word, fuel, depth)
+    """Runs uv_work of the module of these bytes once. The process caches the module for the next call."""
+    return _kept(_module_data(data)).work(op, word, fuel, depth)

@@ -1,0 +1,165 @@
+"""Makes a plug-in that asks its host questions, of a module that is linked with examples/kit/ask/ask.c.
+
+    python3 -m wasmloop.ask cart.wasm cart.wasm
+
+It runs binaryen's `wasm-opt --asyncify`, which adds to each function that may ask the code to put its locals away and to go on with them. Run it
+before wasmloop.lower, if the module needs both. With --never, a function named in it is left as it is: it must never lead to a question.
+
+The host calls the plug-in by the class Plugin:
+
+    async def look_up(question: bytes) -> bytes: ..
+
+    with Module(data) as module, ask.Plugin(module, look_up) as plugin:
+        print(await plugin.call("total", 12))
+"""
+
+from __future__ import annotations
+
+import os
+import shutil
+import struct
+import subprocess
+import sys
+import tempfile
+from typing import Any, Awaitable, Callable, Generator, Optional, Tuple, Union
+
+from . import KIND, RANGE, Error, Module, _tool, explain
+
+Results = Union[None, int, Tuple[int, ...]]
+Steps = Generator[bytes, Optional[bytes], Results]
+Answer = Callable[[bytes], Awaitable[Optional[bytes]]]
+
+NO_ANSWER = -2                                          # what `ask` of the guest returns where the host has no answer
+MOST = 65536                                            # bytes of a question
+
+
+class Plugin:
+    """An instance whose functions may ask. `answer` is given the bytes of each question and returns those of the answer, or None if there is
+    none; it may await. While a question waits, nothing of the guest runs, and `instance` may be called for functions that do not ask."""
+
+    def __init__(self, module: Module, answer: Answer, fuel: int = 1_000_000, depth: int = 64):
+        self.instance, self.answer, self.used, self._state = module.instance(fuel, depth), answer, 0, ""
+        try:
+            module.function("ask_next")
+            self._asks = True
+        except Error:
+            self._asks = False
+
+    def close(self) -> None:
+        """Releases the instance."""
+        self.instance.close()
+
+    def __enter__(self) -> Plugin:
+        return self
+
+    def __exit__(self, *_: object) -> None:
+        self.close()
+
+    @property
+    def busy(self) -> bool:
+        """Whether the plug-in stands in the middle of a call."""
+        return bool(self._state)
+
+    def check(self) -> None:
+        """Raises Error if it does."""
+        if self._state:
+            raise Error(KIND, self._state)
+
+    async def call(self, name: str, *args: int, fuel: int = 1_000_000, depth: int = 64) -> Results:
+        """Calls the function exported as `name`, as Instance.call does, and answers its questions. `fuel` is for the whole call. If the call does
+        not return, or `answer` raises, the plug-in stands in the middle of it, and can only be closed."""
+        steps = self.steps(name, *args, fuel=fuel, depth=depth)
+        try:
+            waits, it = moved(steps, None)
+            while waits:
+                waits, it = moved(steps, await self.answer(it))
+        finally:
+            steps.close()
+        return it  # type: ignore[no-any-return]
+
+    def steps(self, name: str, *args: int, fuel: int = 1_000_000, depth: int = 64, resumed: bool = False) -> Steps:
+        """The same call as a generator, for a host that doesn't use asyncio: it yields each question, is sent the answer, and returns the results.
+        With `resumed`, it begins with the question that waits: in an instance of a module that freeze.left_by wrote meanwhile."""
+        self.check()
+        self._state, self.used = f"the plug-in stands in the middle of a call of {name}", 0
+        told = None if resumed else self._call(fuel, depth, name, *args)
+        while self._asks and (at := self._call(fuel, depth, "ask_next")):
+            question, place, room = self._question(int(at) % 2**32)
+            self._put(place, room, (yield question), fuel, depth)
+            told, resumed = self._call(fuel, depth, name, *args), False
+        if resumed:
+            raise Error(KIND, "no question waits")
+        self._state = ""
+        return told
+
+    def _call(self, fuel: int, depth: int, name: str, *args: int) -> Any:
+        """A call with the fuel that is left."""
+        try:
+            return self.instance.call(name, *args, fuel=fuel - self.used, depth=depth)
+        finally:
+            self.used += self.instance.used
+
+    def _question(self, at: int) -> Tuple[bytes, int, int]:
+        """The bytes of the question, and where the answer goes."""
+        memory = self.instance.memory
+        start, length, place, room = struct.unpack("<4I", memory[at:at + 16])
+        if length > MOST or max(start + length, place + room) > len(memory):
+            raise Error(RANGE, f"the question is outside the memory, or longer than {MOST} bytes")
+        return memory[start:start + length], place, room
+
+    def _put(self, place: int, room: int, answer: Optional[bytes], fuel: int, depth: int) -> None:
+        held = (answer or b"")[:room]
+        self.instance.memory[place:place + len(held)] = held
+        if self._call(fuel, depth, "ask_answer", NO_ANSWER if answer is None else len(answer)):
+            raise Error(KIND, "the plug-in does not wait for an answer")
+
+
+def moved(steps: Steps, answer: Optional[bytes]) -> Tuple[bool, Any]:
+    """Whether the call waits for another answer, and its question; else its results."""
+    try:
+        return True, steps.send(answer)
+    except StopIteration as over:
+        return False, over.value
+
+
+# What the host accepts; and what wasmloop.lower rewrites.
+PLAIN = ["--mvp-features", "--enable-sign-ext", "--enable-multivalue"]
+NEWER = [*PLAIN, "--enable-bulk-memory", "--enable-nontrapping-float-to-int", "--enable-mutable-globals", "--enable-reference-types"]
+
+
+def asyncified(data: bytes, never: str = "", asks: bool = True) -> bytes:
+    """The module with the code by which its functions ask; or, to compare, with the other changes of wasm-opt alone."""
+    tool = os.environ.get("WASM_OPT") or shutil.which("wasm-opt")
+    if not tool:
+        raise _tool.Failed("there is no wasm-opt: install Debian's package binaryen")
+    # (of imports, those of setjmp alone lead back into the module)
+    words = ["--asyncify", "--pass-arg=asyncify-imports@env.invoke_*", *([f"--pass-arg=asyncify-removelist@{never}"] if never else [])] if asks else []
+    with tempfile.TemporaryDirectory() as room:
+        before, after = os.path.join(room, "before.wasm"), os.path.join(room, "after.wasm")
+        _tool.write(before, data)
+        for features in (PLAIN, NEWER):
+            # (-O1 joins the many locals that Asyncify makes: a function may have 256)
+            ran = subprocess.run([tool, *features, "-g", before, "-o", after, *words, "-O1"], stdout=subprocess.DEVNULL, stderr=subprocess.PIPE, check=False)
+            if ran.returncode == 0:
+                return bytes(_tool.read(after))
+    raise _tool.Failed(f"wasm-opt: {ran.stderr.decode(errors='replace').strip()[-1000:]}")
+
+
+def main() -> int:
+    parser = _tool.words("ask", __doc__)
+    parser.add_argument("before", metavar="IN", help="the linked module")
+    parser.add_argument("after", metavar="OUT", help="the plug-in")
+    parser.add_argument("--never", metavar="NAMES", default="", help="functions that never lead to a question, with commas between them")
+    given = parser.parse_args()
+    data = _tool.read(given.before)
+    made = asyncified(data, given.never)
+    _tool.write(given.after, made)
+    why = explain(made)
+    if why:
+        print(f"the host does not run it yet: {why}", file=sys.stderr)
+    print(f"{len(data):,} bytes became {len(made):,}")
+    return 0
+
+
+if __name__ == "__main__":
+    _tool.run("ask", main)

@@ -1,0 +1,176 @@
+"""Adds FILE:LINE to each `at byte N` that the program or the library prints.
+
+    python3 -m wasmloop.lines guest.wasm -- wasmloop work guest.wasm 0 --in request
+    wasmloop serve guest.wasm --loops 1 --workers 1 2>&1 | python3 -m wasmloop.lines guest.wasm
+    python3 -m wasmloop.lines guest.wasm --byte 463
+    python3 -m wasmloop.lines guest.wasm --site 1,35
+
+GUEST is the module that ran. If it has no DWARF, --debug names the module that it was made from, before `llvm-objcopy --strip-debug` or
+`wasmloop.lower`. Inlined functions are named too. The tool runs llvm-symbolizer (Debian: llvm), or the program that SYMBOLIZER names.
+"""
+
+import bisect
+import difflib
+import os
+import re
+import shutil
+import subprocess
+import sys
+import tempfile
+
+from . import _tool, runs, wasm
+
+PLACE = re.compile(r"\bat byte (\d+)")
+KNOWN = ("llvm-symbolizer", "llvm-addr2line", *(f"llvm-symbolizer-{it}" for it in range(25, 10, -1)))
+
+
+def symbolizer():
+    found = os.environ.get("SYMBOLIZER") or next(filter(shutil.which, KNOWN), None)
+    if not found:
+        raise _tool.Failed("llvm-symbolizer is missing (Debian: apt install llvm); the variable SYMBOLIZER may name another")
+    return found
+
+
+def spelled(data, ops):
+    """Instructions for a comparison: locals and constants with their numbers."""
+    return [(op, wasm.number(data, start + 1)[0]) if 0x20 <= op <= 0x22 or op in (0x41, 0x42) else op for start, op, _ in ops]
+
+
+class Lines:
+    """The source line of each byte of a module. `ran` is the module that ran, `debug` the one with DWARF, which may differ."""
+
+    def __init__(self, ran, debug, name="the module"):
+        self.module, self.other = wasm.Module(ran), wasm.Module(debug)
+        if not self.other.custom(".debug_line"):
+            raise _tool.Failed(f"{name} has no DWARF: compile with -g, or name the module that it was made from by --debug")
+        mine, its = (it.data[slice(*it.places[wasm.CODE])] if it.bodies else b"" for it in (self.module, self.other))
+        self.alike, self.known, self.moves = mine == its, {}, {}
+        self.starts = [it.start for it in self.module.bodies]
+        shift = len(self.other.imported)
+        self.named = {name: index - shift for index, name in self.other.names.items() if index >= shift}
+
+    def _moved(self, defined):
+        """For each instruction of a function the byte of its instruction in the debug module; None if that has no such function. A
+        rewritten instruction, such as one on floats that became a call, is taken for the one between the same two neighbours."""
+        name = self.module.names.get(defined + len(self.module.imported))
+        there = self.named.get(name, None if name and self.named else defined)
+        if there is None or not 0 <= there < len(self.other.bodies):
+            return None
+        mine, its = self.module.bodies[defined].ops, self.other.bodies[there].ops
+        blocks = [("equal", 0, len(mine), 0, len(its))]
+        if [it[1] for it in mine] != [it[1] for it in its]:
+            blocks = difflib.SequenceMatcher(None, spelled(self.module.data, mine), spelled(self.other.data, its), autojunk=False).get_opcodes()
+        found = [0] * len(mine)
+        for _, a, b, c, d in blocks:
+            for k in range(a, b):
+                found[k] = its[max(min(c + k - a, d - 1), 0)][0]
+        return found
+
+    def address(self, byte):
+        """The DWARF address of a byte of the module that ran, or None."""
+        if self.alike:
+            return byte - self.module.code_start
+        defined = bisect.bisect_right(self.starts, byte) - 1
+        if defined < 0:
+            return None
+        if defined not in self.moves:
+            self.moves[defined] = self._moved(defined)
+        moved = self.moves[defined]
+        if moved is None:
+            return None
+        place = bisect.bisect_right([it[0] for it in self.module.bodies[defined].ops], byte) - 1
+        return moved[max(place, 0)] - self.other.code_start
+
+    def look_up(self, places):
+        """For each byte its frames, innermost first, as (function, file, line)."""
+        new = {it: self.address(it) for it in dict.fromkeys(places) if it not in self.known}
+        self.known.update(dict.fromkeys(new, ()))
+        asked = {it: address for it, address in new.items() if address is not None}
+        if asked:
+            for place, part in zip(asked, self._ask(asked.values()).split("\n\n")):
+                rows = part.strip().split("\n")
+                frames = [(name, *where.rsplit(":", 2)[:2]) for name, where in zip(rows[::2], rows[1::2])]
+                self.known[place] = [(name, file, int(line)) for name, file, line in frames if file != "??" and line != "0"]
+        return [self.known[it] for it in places]
+
+    def _ask(self, addresses):
+        with tempfile.NamedTemporaryFile(suffix=".wasm") as file:
+            file.write(self.other.data)
+            file.flush()
+            command = [symbolizer(), f"--obj={file.name}", "--inlines", "--functions=short", "--output-style=LLVM", "--demangle"]
+            done = subprocess.run(command, input="".join(f"{it:#x}\n" for it in addresses).encode(), stdout=subprocess.PIPE, check=False)
+        if done.returncode:
+            raise _tool.Failed(f"{command[0]} failed with status {done.returncode}")
+        return done.stdout.decode(errors="replace")
+
+    def of(self, byte):
+        """FILE:LINE of a byte, with the functions that it was inlined into; empty if there is none."""
+        here = self.look_up([byte])[0]
+        if not here:
+            return ""
+        (name, file, line), outer = here[0], here[1:]
+        told = f"{_tool.near(file)}:{line}"
+        if outer:
+            told += f" {name}" + "".join(f", inlined into {name} {_tool.near(file)}:{line}" for name, file, line in outer)
+        return told
+
+    def told(self, text):
+        """The text with a line added to each `at byte N`."""
+        self.look_up([int(it) for it in PLACE.findall(text)])
+
+        def with_line(found):
+            where = self.of(int(found[1]))
+            return f"{found[0]} [{where}]" if where else found[0]
+
+        return PLACE.sub(with_line, text)
+
+
+def wanted(ran, debug):
+    """The Lines of a module, or None without DWARF or a symbolizer, for tools that work without lines. `debug` is a file, or None."""
+    if debug:
+        return Lines(ran, _tool.read(debug), debug)
+    if not wasm.Module(ran).custom(".debug_line") or not (os.environ.get("SYMBOLIZER") or any(map(shutil.which, KNOWN))):
+        return None
+    return Lines(ran, ran)
+
+
+def byte_of(module, site):
+    """The byte of FUNCTION,INSTRUCTION."""
+    try:
+        function, operation = map(int, site.split(","))
+        return runs.byte_of(module, (function, operation))
+    except (ValueError, IndexError):
+        raise _tool.Failed(f"--site {site}: expected FUNCTION,INSTRUCTION of the module", 2) from None
+
+
+def main():
+    parser = _tool.words("lines", __doc__, "; with a command, the command's status")
+    parser.add_argument("guest", metavar="GUEST", help="the module that ran")
+    parser.add_argument("--debug", metavar="FILE", help="the module with DWARF; default: GUEST")
+    parser.add_argument("--byte", metavar="N", type=int, action="append", help="print the line of this byte of GUEST, and read no input")
+    parser.add_argument("--site", metavar="FUNCTION,INSTRUCTION", action="append", help="the same for a site that wasmloop_stop and Job.stop() return")
+    parser.usage = "%(prog)s [-h] [--debug FILE] GUEST [--byte N | --site FUNCTION,INSTRUCTION | -- COMMAND ..]"
+    mine, its = sys.argv[1:], []
+    if "--" in mine:
+        mine, its = mine[:mine.index("--")], mine[mine.index("--") + 1:]
+    given = parser.parse_args(mine)
+    ran = _tool.read(given.guest)
+    lines = Lines(ran, _tool.read(given.debug) if given.debug else ran, given.debug or given.guest)
+    places = [*(given.byte or []), *(byte_of(lines.module, it) for it in given.site or [])]
+    if places:
+        for byte in places:
+            print(lines.of(byte) or "no line")
+        return 0
+    if not its:
+        sys.stdin.reconfigure(errors="replace")
+        for line in sys.stdin:
+            sys.stdout.write(lines.told(line))
+        return 0
+    done = subprocess.run(its, stderr=subprocess.PIPE, check=False)
+    sys.stdout.flush()
+    sys.stderr.write(lines.told(done.stderr.decode(errors="replace")))
+    return done.returncode
+
+
+if __name__ == "__main__":
+    _tool.run("lines", main)

@@ -1,0 +1,91 @@
+"""Prints what a guest has logged by guest_log of uv.h: the last lines in a ring of its own memory.
+
+    python3 -m wasmloop.log guest.wasm 0 --in request
+    python3 -m wasmloop.log guest.record
+    python3 -m wasmloop.log guest.record --callback 73
+
+The first form runs uv_work, the others read the memory of a recorded loop after its failure, its last callback or another one. In your own
+host, `wasmloop.log.read(instance)` returns the lines of an instance, also after a call that stopped.
+
+The convention: the export guest_log_ring is a function without parameters that returns an address, where three i32 are: the size of the ring,
+how many bytes were written (modulo 2^32), and the address of the ring.
+"""
+
+import sys
+
+from . import Error, _tool, callbacks, replay, runs, wasm
+from .counts import Counted, Writer
+
+EXPORT, HEAD = "guest_log_ring", 12
+
+
+def address_of(module):
+    """The address that guest_log_ring returns, if it is a constant; None if it is not, or there is no such export."""
+    index = next((it - len(module.imported) for name, kind, it in module.exports if (name, kind) == (EXPORT, 0)), -1)
+    if index < 0:
+        return None
+    ops = module.bodies[index].ops
+    return wasm.signed(module.data, ops[0][0] + 1)[0] % 2**32 if [op for _, op, _ in ops] == [0x41, wasm.END] else None
+
+
+def lines_in(read, at):
+    """The lines of the ring whose head is at this address; `read` takes an address and a length. The first may be cut."""
+    head = read(at, HEAD)
+    size, written, ring = (int.from_bytes(head[k:k + 4], "little") for k in (0, 4, 8))
+    data = read(ring, size) if written > size else read(ring, written)
+    if written > size:
+        cut = written % size
+        data = data[cut:] + data[:cut]
+    return data.decode(errors="replace").splitlines()
+
+
+def read(instance):
+    """The lines that the guest of an instance has logged; none if it exports no guest_log_ring."""
+    try:
+        at = instance.call(EXPORT) % 2**32
+    except Error:
+        return []
+    return lines_in(lambda start, count: instance.memory[start:start + count], at)
+
+
+def of_callback(run):
+    """The lines in the memory of a recorded loop, after a callback."""
+    at = address_of(wasm.Module(run.data))
+    if at is None:
+        raise _tool.Failed(f"the guest exports no {EXPORT} that returns a constant: write GUEST_LOG(4096); in it, and compile with -O1 or more")
+    return lines_in(run.read, at)
+
+
+def of_request(run):
+    """The lines of a request, and the sentence on it if it stopped."""
+    counted = Counted(run.data, (Writer.NONE,))
+    with counted.fresh(run.given, run.depth) as it:
+        try:
+            it.call(run.name, *run.args, fuel=run.fuel, depth=run.depth)
+        except Error:
+            pass
+        return read(it), run.run().told
+
+
+def main():
+    parser = _tool.words("log", __doc__)
+    runs.add_words(parser)
+    parser.add_argument("--in", dest="request", metavar="FILE", help="the bytes of the request, - for standard input; default: none")
+    parser.add_argument("--callback", metavar="N", type=_tool.whole(1), help="of a record, the Nth callback; default: the one that failed, or the last")
+    given = parser.parse_args()
+    data = _tool.read(given.guest)
+    if data.startswith(b'["loop"'):
+        run = callbacks.Callback(replay.rows_of(given.guest), given.callback or callbacks.LAST)
+        found, told = of_callback(run), run.told
+    else:
+        host, _ = _tool.load(data, given.guest)
+        found, told = of_request(runs.of_words(given, data, host, [_tool.read(given.request) if given.request else b""])[0])
+    print("\n".join(found)) if found else None
+    if told:
+        sys.stdout.flush()
+        print(told, file=sys.stderr)
+    return 4 if told else 0
+
+
+if __name__ == "__main__":
+    _tool.run("log", main)

@@ -1,0 +1,46 @@
+"""setjmp and longjmp, as clang lowers them with -mllvm -enable-emscripten-sjlj: what stands for their imports."""
+from .binary import CALL, CALL_INDIRECT, GLOBAL_GET, GLOBAL_SET, I32, Refused, constant, operations, u, vec
+
+
+def look_at_import(module, field):
+    if module != "env" or not (field.startswith("invoke_") or field == "emscripten_longjmp"):
+        raise Refused(f'the import "{module}" "{field}", which is not from "uv"')
+
+
+def who_unwinds(module, made):
+    """longjmp and who calls a function that may unwind, itself or through the table; and whether the table has one."""
+    unwinding = {i for i in made if not module.imports[i][1].startswith("invoke_")}
+    in_table = {f for _, functions in module.elements for f in functions}
+    calls = [calls_of(body) for _, body in module.bodies] if unwinding else []
+    first, size = len(module.imports), -1
+    while size != len(unwinding):
+        size, by_table = len(unwinding), bool(unwinding & in_table)
+        unwinding |= {first + k for k, (direct, indirect) in enumerate(calls)
+                      if direct & unwinding or indirect and by_table}
+    return unwinding, bool(unwinding & in_table)
+
+
+def calls_of(body):
+    found = [(op, behind) for op, _, behind in operations(body) if op in (CALL, CALL_INDIRECT)]
+    return {f for op, f in found if op == CALL}, any(op == CALL_INDIRECT for op, _ in found)
+
+
+def leave(flag, results):
+    """Behind a call: returns with zeros where the stack is being unwound."""
+    zeros = b"".join(constant(t, 0) for t in results)
+    return bytes([GLOBAL_GET]) + u(flag) + b"\x04\x40" + zeros + b"\x0f\x0b"
+
+
+def longjmp(flag, parameters, threw):
+    """Begins an unwinding."""
+    given = b"".join(b"\x20" + u(i) for i in range(len(parameters)))
+    return b"\0" + given + b"\x10" + u(threw) + b"\x41\1" + bytes([GLOBAL_SET]) + u(flag) + b"\x0b"
+
+
+def invoke(flag, parameters, callee, marks):
+    """Calls with so many marks (tables.py), and ends an unwinding: global 0 is the stack's pointer, as wasm-ld has it."""
+    stack = len(parameters)
+    given = b"".join(b"\x20" + u(i) for i in range(1, stack)) + marks * constant(I32, 0) + b"\x20\0"
+    call = b"\x23\0\x21" + u(stack) + given + b"\x11" + u(callee) + b"\0"
+    end = b"\x23" + u(flag) + b"\x04\x40\x41\0\x24" + u(flag) + b"\x20" + u(stack) + b"\x24\0\x0b\x0b"
+    return vec([u(1) + bytes([I32])]) + call + end

@@ -1,0 +1,213 @@
+"""Shows where the fuel of a guest goes, by function, line and call path, exactly and the same each time.
+
+    python3 -m wasmloop.profile guest.wasm 0 --in request --svg guest.svg
+    python3 -m wasmloop.profile guest.wasm --call add,7 --budget 5000 --budget parse=2000
+    python3 -m wasmloop.profile guest.record --callback 73
+
+The units are exact: a copy of the guest counts its basic blocks and its call tree, and their sum must be what the host charged. If the
+counters do not fit, the tool says so, and call paths are sampled. --budget N fails if the run takes more than N units, --budget NAME=N if
+that function does, without what it calls.
+"""
+
+import collections
+import os
+import sys
+
+from . import Error, _tool, callbacks, callgrind, counts, flame, lines, replay, runs, tree, wasm
+
+
+class Profile:
+    """The units of one run, by function, line and call path. They are exact, with the call tree in `nodes`; else `why` says why not, and call
+    paths are sampled."""
+
+    def __init__(self, module, run, source=None, samples=200, threads=3):
+        self.module, self.run, self.source, self.why, self.nodes = module, run, source, "", []
+        self.functions, self.lines, self.inlined = collections.Counter(), collections.Counter(), collections.defaultdict(collections.Counter)
+        self.ran = run.run()
+        try:
+            operations, self.nodes = tree.measured(module, run, self.ran)
+            weights = self._of_nodes()
+        except (_tool.Failed, Error) as why:
+            if not run.can_be_sampled:
+                raise
+            self.why = str(why)
+            operations, weights = self._counted(), self._of_samples(run.sampled(samples, threads))
+        for (function, _), units in operations.items():
+            self.functions[function] += units
+        if source:
+            self._count_lines(operations)
+        self.paths = self._paths(weights)
+
+    def _counted(self):
+        """How often each instruction ran, by counters of blocks alone; empty if there is no exact count."""
+        if self.ran.ending != "done":
+            return {}
+        try:
+            counted = counts.Counted(self.module.data)
+            ended, found = self.run.counted(counted)
+        except (_tool.Failed, Error):
+            return {}
+        operations = collections.Counter()
+        for function, byte, count in counts.by_operation(self.module, counted.rows, found):
+            operations[function, byte] += count
+        return operations if ended[:3] == self.ran[:3] and sum(operations.values()) == self.ran.used else {}
+
+    def _count_lines(self, operations):
+        """Units by line, and of each function by what was inlined into it."""
+        for ((function, _), units), frames in zip(operations.items(), self.source.look_up([byte for _, byte in operations])):
+            self.lines[(function, *frames[0][1:]) if frames else (function, "", 0)] += units
+            self.inlined[function][tuple(clean(name) for name, _, _ in reversed(frames[:-1]))] += units
+
+    def byte_at(self, function, operation):
+        return self.module.bodies[function].ops[operation][0]
+
+    def lines_of(self, places):
+        """For each (function, byte) its file and line."""
+        frames = dict(zip(places, self.source.look_up([byte for _, byte in places]))) if self.source else {}
+        return {it: frames[it][0][1:] if frames.get(it) else ("", 0) for it in places}
+
+    def _of_nodes(self):
+        """The units of each call path: the calls, as (function, byte) from the outside, and the function."""
+        weights = collections.Counter()
+        for k, node in enumerate(self.nodes):
+            if node.units:
+                path = tree.path_of(self.nodes, k)
+                calls = tuple((caller, self.byte_at(caller, site)) for (_, caller), (site, _) in zip(path, path[1:]))
+                weights[calls, node.function] += node.units
+        return weights
+
+    def _of_samples(self, samples):
+        """How often each call path was met."""
+        guests, weights = len(self.module.bodies), collections.Counter()
+        for sites in ([site for site in it if site[0] < guests] for it in samples):     # (functions after them stand for imports)
+            if sites:
+                weights[tuple((site[0], runs.byte_of(self.module, site)) for site in reversed(sites[1:])), sites[0][0]] += 1
+        return weights
+
+    def _paths(self, weights):
+        """Each call path with its units. The exact units of a function are shared among its paths by weight; a function on no path stands by
+        itself. What was inlined into it is on top. Without exact units, weights alone count."""
+        callers, met = self._callers({call for calls, _ in weights for call in calls}), collections.defaultdict(list)
+        for (calls, function), weight in sorted(weights.items()):
+            met[function].append((tuple(name for call in calls for name in callers[call]), weight))
+        found, exact = collections.Counter(), self.functions
+        if not exact:
+            exact = collections.Counter()
+            share(exact, [(function, sum(weight for _, weight in paths)) for function, paths in sorted(met.items())], self.ran.used)
+        for function, units in exact.items():
+            inner = self.inlined.get(function) if exact is self.functions else None
+            for names, mine in sorted((inner or {(): units}).items()):
+                share(found, [(";".join([*path, self.named(function), *names]), weight) for path, weight in met.get(function, [((), 1)])], mine)
+        return found
+
+    def _callers(self, calls):
+        """For each call the names of its frames, the outermost first: the function's own, and what was inlined there."""
+        frames = dict(zip(calls, self.source.look_up([byte for _, byte in calls]))) if self.source else {}
+        return {it: [self.named(it[0]), *(clean(name) for name, _, _ in reversed(frames.get(it, ())[:-1]))] for it in calls}
+
+    def named(self, function):
+        return clean(self.module.name(function))
+
+    def by_name(self):
+        """Of each function, inlined ones too, its own units, and those of what it called with it."""
+        alone, within = collections.Counter(), collections.Counter()
+        for path, units in self.paths.items():
+            for name in set(path.split(";")):
+                within[name] += units
+            alone[path.split(";")[-1]] += units
+        return alone, within
+
+
+def clean(name):
+    """A name for a folded stack."""
+    return name.replace(";", ":").replace("\n", " ")
+
+
+def share(found, parts, units):
+    """Shares whole units among the parts by weight."""
+    rest, weight = units, sum(it for _, it in parts)
+    for name, mine in parts:
+        given = rest * mine // weight
+        found[name] += given
+        rest, weight = rest - given, weight - mine
+
+
+def tell(profile, guest, most):
+    ran, whole = profile.ran, max(profile.ran.used, 1)
+    print(f"{os.path.basename(guest)}: {profile.run}: {ran.ending}, {ran.used:,} units")
+    if profile.why:
+        print(f"call paths are sampled{'' if profile.functions else ', functions and lines too'}: {profile.why}")
+    alone, within = profile.by_name()
+    if alone:
+        print(f"\n{'alone':>14} {'percent':>7} {'within':>7}  function")
+    for name, units in alone.most_common(most):
+        print(f"{units:>14,} {100 * units / whole:7.2f} {100 * within[name] / whole:7.2f}  {name}")
+    by_line = collections.Counter()
+    for (_, file, line), units in profile.lines.items():
+        by_line[f"{_tool.near(file)}:{line}" if file else "without a line"] += units
+    if by_line:
+        print(f"\n{'units':>14} {'percent':>7}  line")
+    for line, units in by_line.most_common(most):
+        print(f"{units:>14,} {100 * units / whole:7.2f}  {line}")
+
+
+def over_budget(profile, budgets):
+    """A sentence on each budget that is exceeded."""
+    alone, _ = profile.by_name()
+    known = {profile.named(it) for it in range(len(profile.module.bodies))} | set(alone)
+    for budget in budgets:
+        name, _, most = budget.rpartition("=")
+        try:
+            most = int(most)
+        except ValueError:
+            raise _tool.Failed(f"--budget {budget}: expected [FUNCTION=]UNITS", 2) from None
+        if name and not profile.functions:
+            yield f"{name}: its exact units are unknown: {profile.why}"
+        elif name and name not in known:
+            raise _tool.Failed(f"--budget {budget}: the module has no function {name}", 2)
+        elif (alone[name] if name else profile.ran.used) > most:
+            yield f"{name or profile.run}: {alone[name] if name else profile.ran.used:,} units exceed the budget of {most:,}"
+
+
+def main():
+    parser = _tool.words("profile", __doc__, ";\n1 also if a budget is exceeded")
+    runs.add_words(parser)
+    parser.add_argument("--in", dest="request", metavar="FILE", help="the bytes of the request, - for standard input; default: none")
+    parser.add_argument("--callback", metavar="N", type=_tool.whole(1), help="of a record, the Nth callback; default: the one that failed or used most")
+    parser.add_argument("--samples", metavar="N", type=_tool.whole(0), default=200, help="the number of samples, if the call tree does not fit (200)")
+    parser.add_argument("--threads", metavar="N", type=_tool.whole(1), default=max(os.cpu_count() or 1, 2) - 1, help="threads for samples")
+    parser.add_argument("--most", metavar="N", type=_tool.whole(1), default=12, help="rows in each table (12)")
+    parser.add_argument("--svg", metavar="FILE", help="write a flame graph")
+    parser.add_argument("--folded", metavar="FILE", help="write folded stacks: a call path and its units on each line")
+    parser.add_argument("--callgrind", metavar="FILE", help="write units and calls by line, for kcachegrind")
+    parser.add_argument("--budget", metavar="[FUNCTION=]UNITS", action="append", default=[], help="fail if it takes more; may be repeated")
+    given = parser.parse_args()
+    data = _tool.read(given.guest)
+    if data.startswith(b'["loop"'):
+        run = callbacks.Callback(replay.rows_of(given.guest), given.callback)
+        data, module = run.data, wasm.Module(run.data)
+    else:
+        host, module = _tool.load(data, given.guest)
+        run = runs.of_words(given, data, host, [_tool.read(given.request) if given.request else b""])[0]
+    source = lines.wanted(data, given.debug)
+    profile = Profile(module, run, source, given.samples, given.threads)
+    tell(profile, given.guest, given.most)
+    exact = "call paths sampled" if profile.why else "exact"
+    if given.svg:
+        title = f"{os.path.basename(given.guest)}: {run}"
+        _tool.write(given.svg, flame.picture(profile.paths, title, f"{profile.ran.used:,} units, {exact}; width is fuel, callers below"))
+    if given.folded:
+        _tool.write(given.folded, "".join(f"{path} {units}\n" for path, units in sorted(profile.paths.items()) if units))
+    if given.callgrind:
+        _tool.write(given.callgrind, callgrind.written(profile, given.guest))
+    passed = list(over_budget(profile, given.budget))
+    for why in passed:
+        print(f"over budget: {why}", file=sys.stderr)
+    if profile.ran.ending != "done":
+        print(source.told(profile.ran.told) if source else profile.ran.told, file=sys.stderr)
+        return 4
+    return 1 if passed else 0
+
+
+if __name__ == "__main__":
+    _tool.run("profile", main)

@@ -1,0 +1,191 @@
+"""Records the calls on a loop, for `python3 -m wasmloop.replay`.
+
+In your own host, use its Loop:
+
+    from wasmloop import record
+    loop = record.Loop(module, data, "guest.record", fuel=.., work_fuel=.., depth=..)
+
+As a program, it runs a guest as `wasmloop serve --loops 1` does, in real time and with threads, and records it:
+
+    python3 -m wasmloop.record guest.wasm -o guest.record --seconds 10
+
+Module, limits and calls determine everything else a loop does: callbacks, replies, fuel and failures are not written. capi/record_wrap.c
+records the loops of an unmodified host in C.
+"""
+
+import hashlib
+import os
+import queue
+import sys
+import threading
+import time
+
+from . import ENTERED, FAILED, FOREVER, OVER, RAN, TIMERS, WORK_MEMORY, Loop as Plain, _tool, lines, replay
+
+
+class Loop(Plain):
+    """A Loop that writes its calls to `note`, a path or a text file, up to `most` characters: then the last line is ["full"], and the loop runs
+    on unrecorded. A call that raises has no effect, and is not written."""
+
+    def __init__(self, module, data, note, number=0, fuel=1_000_000, work_fuel=1_000_000, depth=64, most=256 << 20):
+        super().__init__(module, number, fuel, work_fuel, depth)
+        self._number, self._steps, self._left = number, 0, most
+        self._file, self._mine = (open(note, "w", encoding="ascii"), True) if isinstance(note, (str, bytes, os.PathLike)) else (note, False)
+        self.note("loop", hashlib.sha256(data).hexdigest(), bytes(data).hex(), fuel, work_fuel, depth)
+
+    def note(self, word, *more):
+        """Writes a line: a word, and numbers or texts without quotes."""
+        self._note_steps()
+        rest = "".join([f",{it}" if type(it) is int else f',"{it}"' for it in more])
+        self._write(f'["{word}"{rest}]\n')
+
+    def _note_steps(self):
+        if self._steps:
+            self._write(f'["step",{self._steps}]\n')
+            self._steps = 0
+
+    def _write(self, line):
+        if self._left >= 0:
+            self._left -= len(line)
+            self._file.write(line if self._left >= 0 else '["full"]\n')
+
+    def close(self):
+        super().close()
+        if hasattr(self, "_file"):
+            self._note_steps()
+        if getattr(self, "_mine", False):
+            self._file.close()
+
+    def _flushed(self, did):
+        """After a failure, nothing stays in a buffer."""
+        if did.what == FAILED or did.what == RAN and did.ending:
+            self._note_steps()
+            self._file.flush()
+
+    def step(self):
+        did = super().step()
+        self._steps += 1
+        self._flushed(did)
+        return did
+
+    def turn(self, most=2**32 - 1):
+        turned = super().turn(most)
+        self.note("turn", most)
+        self._flushed(turned.did)
+        return turned
+
+    def clock(self, ms):
+        now = super().clock(ms)
+        self.note("clock", ms)
+        return now
+
+    def send(self, number):
+        super().send(number)
+        self.note("send", number)
+
+    def cancel(self, request):
+        answer = super().cancel(request)
+        self.note("cancel", request, answer)
+        return answer
+
+    def request(self, op, data=b""):
+        answer = super().request(op, data)
+        self.note("request", op % 2**32, bytes(data).hex(), answer)
+        return answer
+
+    def next_job(self):
+        job = super().next_job()
+        if job:
+            self.note("next", job.about().request)
+        return job
+
+    def start(self, job):
+        known, about = super().start(job), job.about()
+        if about.loop == self._number:                  # (a job of another loop has no effect)
+            self.note("start", about.request, int(known))
+        return known
+
+    def accept(self, job):
+        about = job.about()
+        known = super().accept(job)
+        if about.loop == self._number:
+            self.note("accept", about.request, int(known), *(["no memory"] if about.outcome == WORK_MEMORY else []))
+        return known
+
+
+class Workers:
+    """Threads that run jobs, and return them by `done`."""
+
+    def __init__(self, count):
+        self.todo, self.done, self.under_way = queue.Queue(), queue.Queue(), 0
+        for _ in range(count):
+            threading.Thread(target=self._work, daemon=True).start()
+
+    def _work(self):
+        while True:
+            self.done.put(self.todo.get().run())
+
+    def give(self, job):
+        self.under_way += 1
+        self.todo.put(job)
+
+    def back(self, seconds):
+        """The completed jobs. Waits at most so long for the first."""
+        try:
+            while True:
+                yield self.done.get(timeout=seconds) if seconds else self.done.get_nowait()
+                self.under_way, seconds = self.under_way - 1, 0
+        except queue.Empty:
+            return
+
+
+def serve(loop, workers, seconds):
+    """Drives a loop until it is over, fails, waits forever or reaches the time limit: "over", "failed", "waiting" or "limit", with the values
+    it emitted and its last step."""
+    began, emits = time.monotonic(), []
+    while time.monotonic() - began < seconds:
+        loop.clock(int((time.monotonic() - began) * 1000))
+        while job := loop.next_job():
+            if loop.start(job):
+                workers.give(job)
+        turned = loop.turn()
+        did = turned.did
+        if did.what == RAN:
+            emits += loop.emits()
+        if did.what == OVER:
+            return "over", emits, did
+        if did.what == FAILED or did.what == RAN and did.ending:
+            return "failed", emits, did
+        if turned.wait == FOREVER and not workers.under_way:
+            return "waiting", emits, did
+        pause = 0 if did.what != ENTERED or did.phase != TIMERS else min(turned.wait, 1000) / 1000
+        for job in workers.back(pause):
+            loop.accept(job)
+    return "limit", emits, None
+
+
+def main():
+    parser = _tool.words("record", __doc__)
+    parser.add_argument("guest", metavar="GUEST", help="the module")
+    parser.add_argument("-o", dest="record", metavar="RECORD", required=True, help="the file to write")
+    parser.add_argument("--seconds", metavar="N", type=float, default=10, help="the time limit (10)")
+    parser.add_argument("--workers", metavar="N", type=_tool.whole(1), default=2, help="worker threads (2)")
+    parser.add_argument("--fuel", metavar="N", type=int, default=1_000_000, help="fuel per callback, in units (1000000)")
+    parser.add_argument("--work-fuel", metavar="N", type=int, default=1_000_000, help="fuel per work function, in units (1000000)")
+    parser.add_argument("--depth", metavar="N", type=int, default=64, help="the call-depth limit (64)")
+    parser.add_argument("--debug", metavar="FILE", help="the module with DWARF, if GUEST was stripped or lowered")
+    given = parser.parse_args()
+    data = _tool.read(given.guest)
+    host, _ = _tool.load(data, given.guest)
+    with Loop(host, data, given.record, 0, given.fuel, given.work_fuel, given.depth) as loop:
+        ending, emits, did = serve(loop, Workers(given.workers), given.seconds)
+        print(" ".join(["loop 0", ending, *(["emits"] if emits else []), *map(str, emits)]))
+        if ending != "failed":
+            return 0
+        source, told = lines.wanted(data, given.debug), replay.failure(did, loop.stop_told(data), given.depth)
+        print(source.told(told) if source else told, file=sys.stderr)
+        return 4
+
+
+if __name__ == "__main__":
+    _tool.run("record", main)

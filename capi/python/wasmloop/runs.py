@@ -1,0 +1,203 @@
+"""The runs that profile and cover measure: a request of uv_work, or a call of an export on an instance."""
+
+import functools
+from concurrent.futures import ThreadPoolExecutor
+from typing import NamedTuple, Optional
+
+from . import KIND, Error, Module, Stopped, _tool
+from .counts import ENOUGH, Counted, Writer
+
+
+JOB_CALLS = 17                                          # how many calls of a backtrace a job keeps
+
+
+class Ran(NamedTuple):
+    """How a run ended, its result, its reply, its units, and the sentence on one that did not return."""
+
+    ending: str
+    answer: Optional[int]
+    reply: bytes
+    used: int
+    told: Optional[str]
+
+
+# f: i32.const 0, if, end, unreachable. The last is instruction 3; libraries up to 0.2 return 4.
+PROBE = bytes.fromhex("0061736d010000000104016000000302010007050101660000" "0a0a01080041000440" "0b000b")
+
+
+@functools.lru_cache(maxsize=None)
+def counts_decoded():
+    """Whether this library counts the `end` of an `if` without `else` as two instructions of a site."""
+    with Module(PROBE).instance() as it:
+        try:
+            it.call("f")
+        except Stopped:
+            pass
+        return it.stop()[0][1] == 4
+
+
+def instruction_of(module, site):
+    """The number of the instruction in its function, as it is written, of a site that `stop` returns."""
+    function, operation = site
+    return module.bodies[function].decoded[operation] if counts_decoded() else operation
+
+
+def byte_of(module, site):
+    """The byte in the file of a site that `stop` returns."""
+    return module.bodies[site[0]].ops[instruction_of(module, site)][0]
+
+
+class Call:
+    """An exported function, called with numbers on a new instance."""
+
+    can_be_sampled = True
+    with_start = False                                  # whether it includes the units of the start function
+
+    def __init__(self, data, host, name, args, depth=64, fuel=ENOUGH):
+        self.data, self.host, self.name, self.args, self.depth, self.fuel, self.given = data, host, name, args, depth, fuel, b""
+
+    def __str__(self):
+        return f"{self.name}({', '.join(map(str, self.args))})"
+
+    def _fresh(self):
+        return self.host.instance(fuel=ENOUGH, depth=self.depth)
+
+    def run(self):
+        """Runs the unmodified guest."""
+        with self._fresh() as it:
+            try:
+                return Ran("done", it.call(self.name, *self.args, fuel=self.fuel, depth=self.depth), b"", it.used, None)
+            except Stopped as why:
+                told = _tool.ended(self, why.ending, why.trap, why.used, it.stop_told(self.data), self.depth)
+                return Ran(why.ending, None, b"", why.used, told)
+
+    def counted(self, counted, fuel=None):
+        """Runs the guest with counters, and returns what they read, too."""
+        with counted.fresh(self.given, min(self.depth + 1, 128)) as it:
+            before = None if self.with_start else counted.read(it)
+            counted.begin(it)
+            try:
+                answer, ending = it.call(self.name, *self.args, fuel=fuel or min(32 * self.fuel, ENOUGH), depth=min(self.depth + 1, 128)), "done"
+            except Stopped as why:
+                answer, ending = None, why.ending
+            return Ran(ending, answer, counted.reply(it) if ending == "done" else b"", it.used, None), counted.read(it, before)
+
+    def treed(self, most):
+        """Runs the guest with a counted call tree, up to so many units: how it ended, the counts of its blocks, and its nodes."""
+        from .tree import Tree                          # (which imports this module)
+        tree = Tree(self.data, most)
+        ended, (counts, nodes) = self.counted(tree, ENOUGH)
+        if tree.writer.light and not most:
+            ended, counts = self.counted(Counted(self.data), ENOUGH)
+        return ended, counts, nodes
+
+    def backtrace(self):
+        """The backtrace of a run that stopped, innermost first, as (function, instruction); None if it may not be complete."""
+        return self._path_at(self.fuel)[0]
+
+    def _path_at(self, fuel):
+        """The backtrace of a run with so much fuel, and its units."""
+        with self._fresh() as it:
+            try:
+                it.call(self.name, *self.args, fuel=fuel, depth=self.depth)
+            except Stopped:
+                pass
+            return it.stop(), it.used
+
+    def _paths(self, each):
+        """The backtraces of one run in slices. Raises Error if the library has none for a paused call."""
+        with self._fresh() as it:
+            call, found, units = it.begin(self.name, *self.args, fuel=self.fuel, depth=self.depth), [], max(each // 2, 1)
+            while not call.run_for(units):
+                found.append(it.stop())
+                units = each
+            return found
+
+    def sampled(self, count, threads):
+        """The backtraces at `count` points of a run, at equal distances in fuel. One run in slices, if the library has the backtrace of a paused
+        call; else a run for each, with so much fuel that it stops there."""
+        if not count:
+            return []
+        whole = self._path_at(self.fuel)[1]
+        each = max(whole // count, 1)
+        try:
+            return self._paths(each)
+        except Error:
+            with ThreadPoolExecutor(threads) as pool:
+                return [path for path, _ in pool.map(self._path_at, range(each // 2, whole, each))]
+
+
+class Request(Call):
+    """uv_work on one request. Its backtraces come from an instance of the guest with functions in place of its imports, because an instance keeps
+    128 calls of a backtrace and a job 17."""
+
+    with_start = True
+
+    def __init__(self, data, host, op, given, depth=64, fuel=ENOUGH):
+        super().__init__(data, host, "uv_work", (op,), depth, fuel)
+        self.given, self._plain = given, None
+        if not host.shape().work:
+            raise _tool.Failed("the module exports no uv_work: give --call", 2)
+
+    def __str__(self):
+        return f"uv_work({self.args[0]}) on {len(self.given)} bytes"
+
+    def _fresh(self):
+        return self._plain.fresh(self.given, self.depth)
+
+    def backtrace(self):
+        with self.host.job(self.args[0], self.given, fuel=self.fuel, depth=self.depth) as job:
+            found = job.run().stop()
+            return found if len(found) < JOB_CALLS else None
+
+    def sampled(self, count, threads):
+        try:
+            self._plain = Counted(self.data, (Writer.NONE,))
+        except (_tool.Failed, Error):                   # (it does not fit: the 17 calls of a job, then)
+            self._plain = None
+        return super().sampled(count, threads)
+
+    def _path_at(self, fuel):
+        if self._plain:
+            return super()._path_at(fuel)
+        with self.host.job(self.args[0], self.given, fuel=fuel, depth=self.depth) as job:
+            return job.run().stop(), job.about().used
+
+    def _paths(self, each):
+        if self._plain:
+            return super()._paths(each)
+        raise Error(KIND)
+
+    def run(self):
+        with self.host.job(self.args[0], self.given, fuel=self.fuel, depth=self.depth) as job:
+            reply = job.run().reply()
+            if reply.outcome == "done":
+                return Ran("done", reply.value, reply.data, reply.used, None)
+            told = _tool.ended(self, reply.outcome, reply.number, reply.used, job.stop_told(self.data), self.depth)
+            return Ran(reply.outcome, None, b"", reply.used, told)
+
+
+def add_words(parser):
+    parser.add_argument("guest", metavar="GUEST", help="the module; with DWARF, its lines are reported too")
+    parser.add_argument("op", metavar="OP", nargs="?", type=int, default=0, help="the argument of uv_work (0)")
+    parser.add_argument("--call", metavar="NAME[,NUMBER..]", help="call this export on an instance instead of uv_work")
+    parser.add_argument("--fuel", metavar="N", type=int, default=10**9, help="the fuel of a run, in units (1000000000)")
+    parser.add_argument("--depth", metavar="N", type=int, default=64, help="the call-depth limit (64)")
+    parser.add_argument("--debug", metavar="FILE", help="the module with DWARF, if GUEST was stripped or lowered")
+
+
+def of_words(given, data, host, requests):
+    """The runs that the arguments describe: a call, or one for each request."""
+    if given.call is None:
+        return [Request(data, host, given.op, it, given.depth, given.fuel) for it in requests]
+    name, *numbers = given.call.split(",")
+    try:
+        args = tuple(int(it, 0) for it in numbers)
+        takes = len(host.function(name)[0])
+    except ValueError:
+        raise _tool.Failed(f"--call {given.call}: expected NAME,NUMBER..", 2) from None
+    except Error as why:
+        raise _tool.Failed(f"--call {given.call}: {why}", 2) from None
+    if takes != len(args):
+        raise _tool.Failed(f"--call {given.call}: {name} takes {takes} arguments, got {len(args)}", 2)
+    return [Call(data, host, name, args, given.depth, given.fuel)]

@@ -1,0 +1,255 @@
+"""Counts the call tree of a run inside the guest: for each call path its calls and its units, exactly, in one run.
+
+Each function begins by a call of `enter`, which finds or makes the node of its call path; after each call its node is current again. Each
+basic block adds its cost to the node and to its own counter. A run that stopped is exact too: `most` ends the counted run in the block where
+the original stopped.
+"""
+
+import collections
+from typing import List, NamedTuple, Tuple
+
+from . import Module as Host, _tool, runs, wasm
+from .counts import ENOUGH, Counted, Writer, blocks, by_operation
+from .lowering.bulk import assembled
+from .wasm import FREE, I32, I64, LOOP, MOST_BYTES, MOST_PAGES, PAGE, constant, i32, text, u
+
+NODE, MOST_NODES = 32, 32768                            # the bytes of a node; how many there may be
+ROOT = 0                                                # the index of the root, which is no call
+GLOBALS = "node site next total most on inside seen target first emitted working".split()
+
+ENTER = """
+    global on i32.eqz if global node return end
+    global node i32.load 12 set child
+    block loop
+        get child i32.eqz br_if 1
+        get child i32.load 0 global site i32.eq get child i32.load 4 get function i32.eq i32.and if
+            get child get child i32.load 20 i32 1 i32.add i32.store 20
+            get child global-set node get child return
+        end
+        get child i32.load 16 set child br 0
+    end end
+    global next i32 BEHIND i32.ge_u if i32 NODES i32 1 i32.store 0 global node return end
+    global next set child
+    get child i32 32 i32.add global-set next
+    get child global site i32.store 0
+    get child get function i32.store 4
+    get child global node i32.store 8
+    get child global node i32.load 12 i32.store 16
+    global node get child i32.store 12
+    get child i32 1 i32.store 20
+    get child global-set node get child
+end"""
+
+COUNT = """
+    global on i32.eqz if ELSEWHERE return end
+    BLOCK
+    get me get me i64.load 24 get cost i64.extend i64.add i64.store 24
+    global total get cost i64.extend i64.add global-set total
+    global total global most i64.ge_u if OVER unreachable end
+end"""
+
+
+BLOCK = "get row i32 4 i32.mul i32 COUNTERS i32.add tee row get row i32.load 0 i32 1 i32.add i32.store 0"
+
+
+class Node(NamedTuple):
+    """A node of the tree: its call site (the number of the instruction in the caller) and function, its parent's index, calls and units."""
+
+    site: int
+    function: int
+    parent: int
+    calls: int
+    units: int
+
+
+class TreeWriter(Writer):
+    """Writes the guest with counters of blocks and of call paths; `light` ones are of call paths alone. `most` units end a run; 0: it is not
+    limited."""
+
+    def __init__(self, module, most=0, light=False):
+        least = (module.memory or (0, 0))[0]
+        rows = 4 * sum(len(body.ops) for body in module.bodies) // PAGE + 4
+        self.nodes_room = NODE * min(MOST_NODES, max((MOST_PAGES - least - rows) * PAGE // NODE // 2, 64))
+        super().__init__(module, self.CALLS)
+        self.nodes = (self.counters + 4 * len(self.rows) + 15) // 16 * 16
+        self.most, self.first_global, self.light = most or ENOUGH, len(module.globals()) + 1, light
+        self.names = {name: self.first_global + k for k, name in enumerate(GLOBALS)}
+
+    def more_room(self):
+        return self.nodes_room + 16
+
+    def values(self):
+        """The initial values of the globals."""
+        return {"node": self.nodes, "next": self.nodes + NODE, "on": 1, "most": self.most}
+
+    def more_globals(self):
+        values = self.values()
+        return [bytes([kind, 1]) + constant(kind, values.get(name, 0)) for name, kind in ((it, I64 if it in ("total", "most") else I32) for it in GLOBALS)]
+
+    def assembled(self, words, variables, **numbers):
+        """The code of a function that is written in the words of the text format, without its end."""
+        for word, number in {"NODES": self.nodes, "BEHIND": self.nodes + self.nodes_room, "COUNTERS": self.counters, **numbers}.items():
+            words = words.replace(word, str(number))
+        return assembled(words, {**self.names, **{it: k for k, it in enumerate(variables)}})[:-1]
+
+    def added_function(self, name, words, params, results, *more, **numbers):
+        """The index of such a function, whose parameters are i32."""
+        code = self.assembled(words, [*params, *(it for it, _ in more)], **numbers)
+        return self.function(name, [I32] * len(params), results, [kind for _, kind in more], code)
+
+    def enter(self):
+        return self.added_function("enter", ENTER, ["function"], [I32], ("child", I32))
+
+    def me(self, number):
+        """The local that keeps a function's own node."""
+        return len(self.module.types[self.module.functions[number]][0]) + self.module.bodies[number].local_count
+
+    def head(self, number, body):
+        groups, at = wasm.number(body.data, body.start)
+        locals_ = u(groups + 1) + body.data[at:body.code] + u(1) + bytes([I32])
+        return locals_ + i32(number) + b"\x10" + u(self.enter()) + b"\x21" + u(self.me(number))
+
+    def elsewhere(self):
+        """What a block does outside of what is measured."""
+        return ""
+
+    def over(self):
+        """What happens where the units of `most` are spent, before the run traps."""
+        return ""
+
+    def counter(self, place):
+        row = self.rows[place]
+        params = ["cost", "me"] if self.light else ["row", "cost", "me"]
+        words = COUNT.replace("BLOCK", "" if self.light else BLOCK)
+        count = self.added_function("count", words, params, [], ELSEWHERE=self.elsewhere(), OVER=self.over())
+        given = b"" if self.light else i32(place)
+        return given + i32(row.cost) + b"\x20" + u(self.me(row.function)) + b"\x10" + u(count) if row.cost else b""
+
+    def call(self, place, callee, piece):
+        written = super().call(place, callee, piece)
+        if callee is not None and callee < len(self.module.imported):
+            return written
+        site, node = self.names["site"], self.names["node"]
+        return i32(place) + b"\x24" + u(site) + written + b"\x20" + u(self.me(self.number)) + b"\x24" + u(node)
+
+    def body(self, number, body):
+        self.number = number                            # (of the function that `call` is in)
+        return super().body(number, body)
+
+    def begin(self):
+        return self.added_function("begin", "i32 NODES global-set node i32 0 global-set site end", [], [])
+
+    def exports(self):
+        return [*super().exports(), text("profile begin") + b"\0" + u(self.begin())]
+
+
+class Tree(Counted):
+    """A guest with a counted call tree, loaded: a light one if the other does not fit."""
+
+    def __init__(self, data, most=0):
+        for light in (False, True):
+            self.writer = TreeWriter(wasm.Module(data), most, light)
+            code = self.writer.written()
+            if len(code) <= MOST_BYTES:
+                break
+        else:
+            raise _tool.Failed(f"with the call tree the module has {len(code):,} bytes, more than {MOST_BYTES:,}")
+        self.rows, self.host = self.writer.rows, Host(code)
+
+    def begin(self, instance):
+        instance.call("profile begin", depth=128)
+
+    def read(self, instance, before=None):
+        """How often each row has run, and the nodes, since `before` was read."""
+        counts, nodes = super().read(instance, before and before[0]), self.nodes(instance)
+        return counts, less(nodes, before[1]) if before else nodes
+
+    def nodes(self, instance) -> List[Node]:
+        """The nodes so far, a parent before its children."""
+        at, found = self.writer.nodes, []
+        room = memoryview(instance.memory[at:at + self.writer.nodes_room])
+        if room[0]:
+            raise _tool.Failed(f"there are more than {len(room) // NODE:,} call paths")
+        for start in range(0, len(room), NODE):
+            site, function, parent, _, _, calls = room[start:start + 24].cast("I")
+            units, = room[start + 24:start + 32].cast("Q")
+            if start and not calls:
+                break
+            found.append(Node(site, function, (parent - at) // NODE if start else ROOT, calls, units))
+        return found
+
+
+def less(nodes, before):
+    """The nodes without the calls and units of an earlier moment."""
+    earlier = [*before, *[Node(0, 0, 0, 0, 0)] * (len(nodes) - len(before))]
+    return [it._replace(calls=it.calls - was.calls, units=it.units - was.units) for it, was in zip(nodes, earlier)]
+
+
+def path_of(nodes, index) -> Tuple[Tuple[int, int], ...]:
+    """The calls that lead to a node, from the outside: (site, function) each."""
+    found = []
+    while index != ROOT:
+        found.append((nodes[index].site, nodes[index].function))
+        index = nodes[index].parent
+    return tuple(reversed(found))
+
+
+class Measured(NamedTuple):
+    """The exact cost of a run: how often each instruction ran, by its function and byte, and the nodes of its call tree."""
+
+    operations: collections.Counter
+    nodes: List[Node]
+
+
+def measured(module, run, ran) -> Measured:
+    """Runs it with a counted call tree. Raises Failed or Error if the tree does not fit, or the run ends differently with it."""
+    sites, cut = stop_of(module, run, ran)
+    rows = [row for number, body in enumerate(module.bodies) for row in blocks(number, body)]
+    ended, counted, nodes = run.treed(ran.used + sum(map(len, cut)) if sites else 0)
+    if sites and not any(counted):
+        raise _tool.Failed("the counters of blocks do not fit beside the call tree, which a run that stopped needs")
+    if not sites and ended[:3] != ran[:3]:
+        raise _tool.Failed(f"with counters it ends differently: {ended.ending}")
+    operations = collections.Counter()
+    for function, byte, count in by_operation(module, rows, counted):
+        operations[function, byte] += count
+    operations.subtract(it for part in cut for it in part)
+    nodes = without(nodes, sites, [len(it) for it in cut])
+    for found in (sum(it.units for it in nodes), sum(operations.values())):
+        if found != ran.used:
+            raise _tool.Failed(f"with counters it uses {found:,} units, not {ran.used:,}")
+    return Measured(+operations, nodes)
+
+
+def stop_of(module, run, ran):
+    """The backtrace of a run that stopped, innermost first, as (function, instruction), and of each call what has not run of its block; both
+    empty if it returned."""
+    if ran.ending == "done":
+        return [], []
+    sites = run.backtrace()
+    if sites is None:
+        raise _tool.Failed("its backtrace is not complete")
+    sites = [(site[0], runs.instruction_of(module, site)) for site in sites]
+    return sites, [rest_of(module, site, ran.ending != "spent" or place > 0) for place, site in enumerate(sites)]
+
+
+def rest_of(module, site, is_charged):
+    """What has not run of the block in which a call stopped, as (function, byte) of each instruction: those after the site, and the one
+    there unless it is charged."""
+    function, operation = site
+    ops = module.bodies[function].ops
+    for row in blocks(function, module.bodies[function]):
+        first = row.first - 1 if row.first and ops[row.first - 1][1] == LOOP else row.first
+        if first <= operation < row.end:
+            return [(function, start) for start, op, _ in ops[operation + is_charged:row.end] if op not in FREE]
+    raise _tool.Failed(f"instruction {operation} of function {function} is in no block")
+
+
+def without(nodes, sites, units):
+    """The nodes without what the calls of a backtrace have not run."""
+    nodes, at, site = list(nodes), ROOT, 0
+    for (function, operation), rest in zip(reversed(sites), reversed(units)):
+        at = next(k for k, it in enumerate(nodes) if k and (it.parent, it.site, it.function) == (at, site, function))
+        nodes[at] = nodes[at]._replace(units=nodes[at].units - rest)
+        site = operation
+    return nodes

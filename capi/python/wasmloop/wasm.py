@@ -1,0 +1,270 @@
+"""Reads a module: its sections, and each instruction with its byte in the file. All tools use this reader but `lower`.
+
+It reads what `wasmloop check` accepts, and what the debug module of a guest may have beside that.
+"""
+
+import functools
+
+BLOCK, LOOP, IF, ELSE, END, BR, BR_IF, BR_TABLE, RETURN, CALL, CALL_INDIRECT = 2, 3, 4, 5, 11, 12, 13, 14, 15, 16, 17
+MEMORY_SIZE, MEMORY_GROW = 0x3F, 0x40
+FREE = ELSE, END                                        # these cost no fuel
+I32, I64 = 0x7F, 0x7E
+TYPE, IMPORT, FUNCTION, TABLE, MEMORY, GLOBAL, EXPORT, START, ELEMENT, CODE, DATA = range(1, 12)
+PAGE, MOST_PAGES, MOST_BYTES = 65536, 64, 1 << 20       # the host's limits
+
+# How many numbers follow an opcode; two opcodes, the constants of floats, are followed by bytes.
+NUMBERS = {**dict.fromkeys((BLOCK, LOOP, IF, BR, BR_IF, CALL, MEMORY_SIZE, MEMORY_GROW, 0x12, 0x41, 0x42, *range(0x20, 0x27), 0xD0, 0xD2), 1),
+           CALL_INDIRECT: 2, 0x13: 2, **dict.fromkeys(range(0x28, 0x3F), 2)}
+BYTES = {0x43: 4, 0x44: 8}
+# The same for the opcodes of the prefix 0xFC: conversions, memory and tables.
+WIDE = {**dict.fromkeys(range(8), 0), 8: 2, 9: 1, 10: 2, 11: 1, 12: 2, 13: 1, 14: 2, **dict.fromkeys((15, 16, 17), 1)}
+
+
+class Malformed(Exception):
+    """The bytes are not a module that this reader knows."""
+
+
+def number(data, at):
+    """An unsigned LEB128 number, and its end."""
+    value = shift = 0
+    while True:
+        byte = data[at]
+        at += 1
+        value |= (byte & 127) << shift
+        shift += 7
+        if byte < 128:
+            return value, at
+
+
+def signed(data, at):
+    value, end = number(data, at)
+    bits = 7 * (end - at)
+    return (value - (1 << bits) if value >> bits - 1 else value), end
+
+
+def u(value):
+    """The bytes of an unsigned number."""
+    return bytes([value]) if value < 128 else bytes([value & 127 | 128]) + u(value >> 7)
+
+
+def s(value):
+    """The bytes of a signed number."""
+    return bytes([value & 127]) if -64 <= value < 64 else bytes([value & 127 | 128]) + s(value >> 7)
+
+
+def sized(data):
+    return u(len(data)) + data
+
+
+def vec(items):
+    return u(len(items)) + b"".join(items)
+
+
+def text(name):
+    return sized(name.encode())
+
+
+def i32(value):
+    """The instruction i32.const."""
+    return b"\x41" + s((value + (1 << 31)) % (1 << 32) - (1 << 31))
+
+
+def i64(value):
+    return b"\x42" + s((value + (1 << 63)) % (1 << 64) - (1 << 63))
+
+
+def constant(kind, value):
+    """A constant expression of that type."""
+    return (i32 if kind == I32 else i64)(value) + b"\x0b"
+
+
+def operations(data, at, end):
+    """The start, the opcode and the end of each instruction."""
+    while at < end:
+        start, op = at, data[at]
+        at += 1
+        count = NUMBERS.get(op, 0)
+        if op == BR_TABLE:
+            labels, at = number(data, at)
+            count = labels + 1
+        elif op == 0x1C:
+            count, at = number(data, at)
+        elif op == 0xFC:
+            wide, at = number(data, at)
+            if wide not in WIDE:
+                raise Malformed(f"byte {start}: unknown instruction 0xFC {wide}")
+            op, count = 0xFC00 | wide, WIDE[wide]
+        elif op > 0xD2:
+            raise Malformed(f"byte {start}: unknown instruction {op:#x}")
+        for _ in range(count):
+            _, at = number(data, at)
+        at += BYTES.get(op, 0)
+        yield start, op, at
+
+
+class Body:
+    """A function: `start` is after its size, `code` its first instruction."""
+
+    def __init__(self, data, start, end):
+        self.data, self.start, self.end = data, start, end
+        groups, at = number(data, start)
+        self.local_count = 0                            # without the parameters
+        for _ in range(groups):
+            count, at = number(data, at)
+            self.local_count += count
+            at += 1
+        self.code = at
+
+    @functools.cached_property
+    def ops(self):
+        return list(operations(self.data, self.code, self.end))
+
+    @functools.cached_property
+    def decoded(self):
+        """For a library that counts the `end` of an `if` without `else` as two instructions: the index in `ops` of each that it counts."""
+        found, opened = [], []
+        for at, (_, op, _) in enumerate(self.ops):
+            if op in (BLOCK, LOOP, IF):
+                opened.append(op == IF)
+            elif op == ELSE:
+                opened[-1] = False
+            elif op == END and opened and opened.pop():
+                found.append(at)
+            found.append(at)
+        return found
+
+
+class Module:
+    def __init__(self, data):
+        if data[:8] != b"\0asm\1\0\0\0":
+            raise Malformed("not a WebAssembly module")
+        self.data, self.sections, at = data, [], 8
+        try:
+            while at < len(data):
+                kind = data[at]
+                size, at = number(data, at + 1)
+                self.sections.append((kind, at, at + size))
+                at += size
+            self.places = {kind: (start, end) for kind, start, end in self.sections if kind}
+            self.types = self._items(TYPE, self._type)
+            self.imports = self._items(IMPORT, self._import)
+            self.functions = self._items(FUNCTION, lambda at: number(data, at))
+            self.memory = (self._items(MEMORY, self._limits) or [None])[0]
+            self.exports = self._items(EXPORT, self._export)
+            self.bodies = self._items(CODE, self._body)
+            self.names = self._names()
+        except (IndexError, UnicodeDecodeError):
+            raise Malformed("it ends in a section, or contains an invalid number") from None
+        self.imported = [name for _, name, kind, _ in self.imports if kind == 0]
+        self.code_start = self.places.get(CODE, (0, 0))[0]
+
+    def _items(self, kind, read):
+        if kind not in self.places:
+            return []
+        count, at = number(self.data, self.places[kind][0])
+        found = []
+        for _ in range(count):
+            item, at = read(at)
+            found.append(item)
+        return found
+
+    def _bytes(self, at):
+        size, at = number(self.data, at)
+        return self.data[at:at + size], at + size
+
+    def _type(self, at):
+        params, at = self._bytes(at + 1)
+        results, at = self._bytes(at)
+        return (params, results), at
+
+    def _import(self, at):
+        module, at = self._bytes(at)
+        name, at = self._bytes(at)
+        kind, about = self.data[at], None
+        if kind == 0:
+            about, at = number(self.data, at + 1)
+        elif kind in (1, 2):
+            about, at = self._limits(at + 1 + (kind == 1))
+        else:
+            at += 3
+        return (module.decode(), name.decode(), kind, about), at
+
+    def _limits(self, at):
+        flags = self.data[at]
+        least, at = number(self.data, at + 1)
+        most = None
+        if flags & 1:
+            most, at = number(self.data, at)
+        return (least, most), at
+
+    def globals(self):
+        """The type, the mutability and the initial value of each global that it defines. For accepted modules alone."""
+        def read(at):
+            value, end = signed(self.data, at + 3)
+            return (self.data[at], self.data[at + 1], value), end + 1
+        return self._items(GLOBAL, read)
+
+    def elements(self):
+        """For each segment of the table its bytes before the functions, and the functions. For accepted modules alone."""
+        def read(at):
+            _, body = number(self.data, at)
+            body = next(end for _, op, end in operations(self.data, body, len(self.data)) if op == END)
+            count, end = number(self.data, body)
+            found = []
+            for _ in range(count):
+                function, end = number(self.data, end)
+                found.append(function)
+            return (self.data[at:body], found), end
+        return self._items(ELEMENT, read)
+
+    def _export(self, at):
+        name, at = self._bytes(at)
+        kind = self.data[at]
+        index, at = number(self.data, at + 1)
+        return (name.decode(), kind, index), at
+
+    def _body(self, at):
+        size, at = number(self.data, at)
+        return Body(self.data, at, at + size), at + size
+
+    def custom(self, wanted):
+        """The start and the end of the contents of a custom section, or None."""
+        for kind, start, end in self.sections:
+            if kind == 0:
+                name, at = self._bytes(start)
+                if name == wanted.encode():
+                    return at, end
+        return None
+
+    def _names(self):
+        at, end = self.custom("name") or (0, 0)
+        while at < end:
+            sub = self.data[at]
+            size, at = number(self.data, at + 1)
+            if sub == 1:
+                count, here = number(self.data, at)
+                found = {}
+                for _ in range(count):
+                    index, here = number(self.data, here)
+                    name, here = self._bytes(here)
+                    found[index] = name.decode(errors="replace")
+                return found
+            at += size
+        return {}
+
+    def name(self, defined):
+        """The name of a function, by its index without the imports, as wasmloop_stop counts."""
+        index = defined + len(self.imported)
+        exported = next((name for name, kind, it in self.exports if kind == 0 and it == index), None)
+        return self.names.get(index) or exported or f"function {index}"
+
+    def export_bytes(self):
+        """The bytes of each export, for a new export section."""
+        return [text(name) + bytes([kind]) + u(index) for name, kind, index in self.exports]
+
+    def written(self, replaced, dropped=()):
+        """The module with these sections instead of its own or added, without those of `dropped`."""
+        parts = {kind: self.data[start:end] for kind, start, end in self.sections if kind and kind not in dropped}
+        parts.update(replaced)
+        out = b"\0asm\1\0\0\0" + b"".join(bytes([kind]) + sized(body) for kind, body in sorted(parts.items()))
+        return out + b"".join(b"\0" + sized(self.data[start:end]) for kind, start, end in self.sections if kind == 0 and 0 not in dropped)

@@ -1,0 +1,303 @@
+"""Questions: a fuzzer of guests and hosts, the examples, what a guest pays that never asks.
+
+usage: PYTHONPATH=capi/python WASMLOOP_LIBRARY=LIBRARY ask_test.py OUT [SEED]
+
+Needs clang, wasm-ld, cc and wasm-opt; a guest in Rust is left out where there is no rustc for wasm32, and said.
+"""
+
+import asyncio
+import ctypes
+import random
+import shutil
+import struct
+import subprocess
+import sys
+from pathlib import Path
+
+from wasmloop import Error, Module, Stopped, _header, ask, bind, explain, freeze, wasm
+
+OUT, SEED = Path(sys.argv[1]), int(sys.argv[2]) if sys.argv[2:] else 1
+HERE = Path(__file__).resolve().parent
+TOP = HERE.parent.parent
+ASK = TOP / "examples" / "kit" / "ask"
+PROGRAMS, WAITING = 1500, 40
+AMPLE = 1 << 40
+RUST = ["--edition", "2021", "--target", "wasm32-unknown-unknown", "--crate-type", "cdylib", "-O", "-C", "target-cpu=mvp", "-C", "linker=wasm-ld",
+        "-C", "panic=abort", "-C", "strip=debuginfo", "-C", "link-args=--demangle --stack-first -zstack-size=16384"]
+wrong = 0
+
+
+def same(what, got, expected):
+    global wrong
+    if got != expected:
+        wrong += 1
+        if wrong < 10:
+            print(f"WRONG: {what}: expected {expected!r}, found {got!r}")
+
+
+def run(*words):
+    done = subprocess.run([str(it) for it in words], capture_output=True, check=False)
+    if done.returncode:
+        sys.exit(f"{' '.join(map(str, words))}\n{done.stderr.decode()}")
+    return done.stdout.decode()
+
+
+def linked(*sources):
+    made = []
+    for source in sources:
+        made.append(OUT / f"{source.stem}.o")
+        run("clang", "--target=wasm32", "-mcpu=mvp", "-O2", "-ffreestanding", "-Wall", "-Wextra", "-Werror", "-I", ASK, "-c", "-o", made[-1], source)
+    run("wasm-ld", "--no-entry", "--stack-first", "-z", "stack-size=16384", "-o", OUT / "linked.wasm", *made)
+    return (OUT / "linked.wasm").read_bytes()
+
+
+def plugin(*sources):
+    """The plug-in of these files of C."""
+    made = ask.asyncified(linked(*sources))
+    same(f"whether the host runs {sources[0].name}", explain(made), None)
+    return made
+
+
+class Native:
+    """The native build of asks.c: what a program asks, in order, and returns."""
+
+    def __init__(self):
+        run("cc", "-O1", "-shared", "-fPIC", "-I", ASK, "-o", OUT / "asks.so", HERE / "ask" / "asks.c")
+        self.code = ctypes.CDLL(str(OUT / "asks.so"))
+        self.code.program_at.restype = ctypes.c_void_p
+        self.code.run.restype = ctypes.c_int64
+        kind = ctypes.CFUNCTYPE(ctypes.c_int32, ctypes.c_void_p, ctypes.c_uint32, ctypes.c_void_p, ctypes.c_uint32)
+        self.by = kind(self.ask)
+        ctypes.c_void_p.in_dll(self.code, "ask_by").value = ctypes.cast(self.by, ctypes.c_void_p).value
+
+    def ask(self, question, length, answer, room):
+        self.questions.append(ctypes.string_at(question, length))
+        told = answer_of(self.seed, len(self.questions))
+        held = (told or b"")[:room]
+        ctypes.memmove(answer, held, len(held))
+        return ask.NO_ANSWER if told is None else len(told)
+
+    def run(self, program, seed):
+        self.seed, self.questions = seed, []
+        ctypes.memmove(self.code.program_at(), program, len(program))
+        return self.code.run(len(program), ctypes.c_int64(seed)), self.questions
+
+
+def answer_of(seed, number):
+    """The answer to the question of this number: some are longer than there is room, some are none."""
+    rng = random.Random(seed << 16 | number)
+    return None if rng.random() < 0.1 else bytes(rng.randrange(256) for _ in range(rng.randrange(33)))
+
+
+class Running:
+    """A call of the guest that waits for an answer, or is over."""
+
+    def __init__(self, module, program, seed, fuel):
+        self.seed, self.words, self.fuel, self.used, self.questions = seed, (len(program), seed), fuel, 0, []
+        self.ended, self.result = None, None
+        self.plugin = ask.Plugin(module, None)
+        at = self.plugin.instance.call("program_at")
+        self.plugin.instance.memory[at:at + len(program)] = program
+        same("an answer before a question", self.plugin.instance.call("ask_answer", 0), -1)
+        self.steps = self.plugin.steps("run", *self.words, fuel=fuel, depth=128)
+        self.move(None)
+
+    def move(self, answer):
+        try:
+            waits, it = ask.moved(self.steps, answer)
+        except Stopped as why:
+            self.ended, self.used = why.ending, self.used + self.plugin.used
+            return
+        if waits:
+            self.questions.append(it)
+        else:
+            self.ended, self.result, self.used = "return", it, self.used + self.plugin.used
+
+    def answer(self):
+        self.move(answer_of(self.seed, len(self.questions)))
+
+    def disturb(self):
+        """What a host may do meanwhile: other functions run, and can't ask."""
+        same("a question while one waits", self.plugin.instance.call("other", 5), -1000)
+
+    def put_away(self, opened, reader):
+        """Goes on in an instance of another module: the one that begins where this one stands."""
+        made, _ = freeze.left_by(reader, self.plugin.instance)
+        self.used += self.plugin.used
+        self.plugin.close()
+        self.plugin = ask.Plugin(Module(freeze.with_globals(wasm.Module(made))), None)
+        self.steps = self.plugin.steps("run", *self.words, fuel=self.fuel - self.used, depth=128, resumed=True)
+        same("the question that waits", ask.moved(self.steps, None), (True, self.questions[-1]))
+
+
+def fuzz():
+    """Programs in a crowd of instances, answered in any order: each question once, in its order, none lost; and the result of the native build."""
+    native, rng = Native(), random.Random(SEED)
+    data = plugin(ASK / "ask.c", HERE / "ask" / "asks.c")
+    reader = wasm.Module(data)
+    module = Module(freeze.with_globals(reader))
+    crowd, counts = [], {"return": 0, "spent": 0, "questions": 0, "put away": 0}
+    begun = 0
+    while begun < PROGRAMS or crowd:
+        if begun < PROGRAMS and len(crowd) < WAITING:
+            program, seed = bytes(rng.randrange(256) for _ in range(rng.randrange(1, 60))), rng.randrange(1 << 40)
+            fuel = rng.randrange(100_000) if rng.random() < 0.2 else AMPLE
+            crowd.append((Running(module, program, seed, fuel), native.run(program, seed)))
+            begun += 1
+        place = rng.randrange(len(crowd))
+        one, (result, questions) = crowd[place]
+        if one.ended:
+            counts[one.ended] += 1
+            counts["questions"] += len(one.questions)
+            same("the questions", one.questions, questions if one.ended == "return" else questions[:len(one.questions)])
+            same("the result and whether it fits the fuel", (one.result, one.used <= one.fuel), (result if one.ended == "return" else None, True))
+            one.plugin.close()
+            del crowd[place]
+        elif rng.random() < 0.02:
+            counts["put away"] += 1
+            one.put_away(module, reader)
+        elif rng.random() < 0.1:
+            one.disturb()
+        else:
+            one.answer()
+    print(f"questions: {PROGRAMS} programs, {counts['questions']} questions, each answered once and in order; {counts['put away']} instances went on "
+          f"as another module, {counts['spent']} ran out of fuel")
+
+
+async def price(question):
+    await asyncio.sleep(0)
+    number, = struct.unpack("<i", question)
+    return struct.pack("<i", number * 7 % 1000)
+
+
+def total(articles):
+    return sum(it * 7 % 1000 * (it + 1) for it in range(articles))
+
+
+async def crowd_of(module, count):
+    plugins = [ask.Plugin(module, price) for _ in range(count)]
+    told = await asyncio.gather(*(it.call("total", 20) for it in plugins))
+    same(f"the results of {count} plug-ins", set(told), {total(20)})
+    return plugins[0].used
+
+
+def examples():
+    """The plug-ins of the kit in C and in Rust, by asyncio and by the host in C."""
+    run("cc", "-std=c11", "-Wall", "-Wextra", "-Werror", "-g", "-O1", "-fsanitize=address,undefined", "-fno-sanitize-recover", "-I", ASK, "-I",
+        TOP / "capi" / "include", "-o", OUT / "host", ASK / "host.c", TOP / "dist" / "libwasmloop.a")
+    for language, made in (("C", plugin(ASK / "ask.c", ASK / "cart.c")), ("Rust", in_rust())):
+        if made is None:
+            print("left out: the plug-in in Rust: there is no rustc with the target wasm32-unknown-unknown")
+            continue
+        units = asyncio.run(crowd_of(Module(made), 500))
+        (OUT / "cart.wasm").write_bytes(made)
+        expected = [f"{20 + it} articles: return {total(20 + it)}, {20 + it} questions" for it in range(10)]
+        same(f"the host in C on the plug-in in {language}", run(OUT / "host", OUT / "cart.wasm", 500, 20).split("\n")[:-1], expected)
+        print(f"questions: 500 plug-ins in {language} waited in one thread, {units / 20:.0f} units a question")
+
+
+def in_rust():
+    """The plug-in in Rust, by a rustc that has the target: Debian's, or the first in PATH."""
+    for rustc in ("/usr/bin/rustc", shutil.which("rustc")):
+        words = [rustc, *RUST, "-o", OUT / "rust.wasm", ASK / "cart.rs"]
+        if rustc and Path(rustc).exists() and subprocess.run(words, capture_output=True, check=False).returncode == 0:
+            return ask.asyncified((OUT / "rust.wasm").read_bytes())
+    return None
+
+
+def never():
+    """A function that leads to no question has the same units with Asyncify and without."""
+    (OUT / "none.c").write_text('#include "ask.h"\nint32_t ask(const void *question, uint32_t length, void *answer, uint32_t room)\n'
+                                "{\n    (void)question, (void)length, (void)answer, (void)room;\n    return ASK_NONE;\n}\n")
+    with_it, without = linked(ASK / "ask.c", ASK / "cart.c"), linked(OUT / "none.c", ASK / "cart.c")
+    (OUT / "without.wasm").write_bytes(without)
+    run(shutil.which("wasm-opt"), *ask.PLAIN, "-g", OUT / "without.wasm", "-o", OUT / "without.wasm", "-O1")
+    units = []
+    for made in ((OUT / "without.wasm").read_bytes(), ask.asyncified(with_it)):
+        with Module(made).instance() as it:
+            it.call("estimate", 1000)
+            units.append(it.used)
+    same("the units of a function that never asks", units[1], units[0])
+    same("whether --never leaves a function as it is", len(ask.asyncified(with_it, "total")) < len(ask.asyncified(with_it)), True)
+    print(f"questions: a function that never asks uses {units[0]} units with Asyncify and without")
+
+
+def typed():
+    """A class that `bind` writes, with methods that are awaited."""
+    made = plugin(ASK / "ask.c", HERE / "ask" / "greets.c")
+    header = _header.read("greets", "int32_t greet(const char *name, uint32_t name_size, char *into, uint32_t into_room); void *room(uint32_t size);")
+    names = {}
+    exec(compile(bind.written(header, asks=True), "greets.py", "exec"), names)
+
+    async def greeting(name):
+        await asyncio.sleep(0)
+        return None if name == b"nobody" else b"Good day, "
+
+    async def greet(name, *room):
+        with names["Greets"](Module(made), greeting) as it:
+            told = it.greet(name, *room)
+            other = it.greet("another")
+            told, other = await asyncio.gather(told, other, return_exceptions=True)
+            same("a call while a question waits", str(other), "the plug-in stands in the middle of a call of greet")
+            return told
+
+    for words, told in ((("Ada",), "Good day, Ada"), (("",), "Good day, "), (("Ada", 11), "greet has 13 bytes for a room of 11"),
+                        (("nobody",), "greet returned -2")):
+        same(f"the greeting of {words}", str(asyncio.run(greet(*words))), told)
+
+
+LIES = """
+#include <stdint.h>
+#define EXPORT(name) __attribute__((export_name(#name)))
+uint32_t long_one[] = { 8, 70000, 8, 8 }, outside[] = { 8, 4, 0xffffff00, 8 }, endless[] = { 8, 4, 8, 8 };
+EXPORT(run) void run(void) {}
+EXPORT(ask_next) void *ask_next(void) { return KIND; }
+EXPORT(ask_answer) int32_t ask_answer(int32_t length) { (void)length; return 0; }
+"""
+
+
+def faults():
+    """What a host is told of plug-ins that lack something, stop, or lie."""
+    made = plugin(ASK / "ask.c", ASK / "cart.c")
+
+    async def fails(question):
+        raise KeyError("no database")
+
+    async def silent(question):
+        return None
+
+    one = ask.Plugin(Module(made), fails)
+    same("an exception of the answer", raised(lambda: asyncio.run(one.call("total", 3))), "'no database'")
+    same("a call after it", raised(lambda: asyncio.run(one.call("total", 3))), "the plug-in stands in the middle of a call of total")
+    same("no answer", asyncio.run(ask.Plugin(Module(made), silent).call("total", 3)), -1)
+    outside = "the question is outside the memory, or longer than 65536 bytes"
+    for kind, told in (("(void *)0xfffffff0", "start 4294967280 is out of range: expected 0 to 65536"), ("long_one", outside), ("outside", outside),
+                       ("endless", "ask_next ran out of fuel, after ")):
+        (OUT / "lies.c").write_text(LIES.replace("KIND", kind))
+        one = ask.Plugin(Module(linked(OUT / "lies.c")), price)
+        same(f"a plug-in that lies: {kind}", raised(lambda: asyncio.run(one.call("run", fuel=1000))), told)
+    same("no question to go on with", raised(lambda: ask.moved(ask.Plugin(Module(made), price).steps("total", 3, resumed=True), None)), "no question waits")
+    one = ask.Plugin(Module(made), price)
+    same("too little fuel", raised(lambda: asyncio.run(one.call("total", 9, fuel=700))), "total ran out of fuel, after ")
+    same("the fuel of the whole call", one.used, 700)
+
+
+def raised(call):
+    try:
+        return f"it returned {call()}"
+    except (Error, KeyError) as why:
+        return str(why).split("after ")[0] + "after " * ("after " in str(why))
+
+
+def main():
+    for tool in ("clang", "wasm-ld", "cc", "wasm-opt"):
+        if not shutil.which(tool):
+            print(f"left out: questions: there is no {tool}")
+            return 0
+    for part in (fuzz, examples, never, typed, faults):
+        part()
+    return wrong != 0
+
+
+if __name__ == "__main__":
+    sys.exit(main())

@@ -1,0 +1,532 @@
+"""The tools of the package for Python: lines, record and replay, profile, cover, freeze.
+
+usage: PYTHONPATH=capi/python WASMLOOP_LIBRARY=LIBRARY desk_test.py PROGRAM OUT [PART..]
+
+The parts are lines, hosts, units, callbacks, warm, log, fuzz and words; default: all. Parts that need a missing compiler are skipped with a message.
+"""
+
+import collections
+import json
+import os
+import random
+import shutil
+import subprocess
+import sys
+from concurrent.futures import ThreadPoolExecutor
+from pathlib import Path
+
+import desk_guests as guests
+import wasmloop
+from wasmloop import _tool, callbacks, callgrind, counts, freeze, lines, log, lower, profile, record, replay, runs, tree, wasm
+
+PROGRAM, OUT = os.path.abspath(sys.argv[1]), Path(sys.argv[2])
+EXAMPLES = Path(__file__).resolve().parent.parent.parent / "examples"
+HOSTS, CALLBACKS, REQUESTS, THREADS = 300, 150, 200, max(os.cpu_count() or 1, 2) - 1
+wrong = 0
+
+
+def bad(text):
+    global wrong
+    wrong += 1
+    print(f"WRONG: {text}")
+
+
+def same(what, got, wanted):
+    if got != wanted:
+        bad(f"{what}: expected {wanted!r}, found {got!r}")
+
+
+def lines_part():
+    """Each planted trap gets its line: in the guest as it is, stripped, linked with shorter numbers, and lowered."""
+    if not (shutil.which("clang") and shutil.which("wasm-ld") and any(map(shutil.which, lines.KNOWN))):
+        print("skipped: lines: clang, wasm-ld or llvm-symbolizer is missing")
+        return
+    for language, made in (("C", guests.in_c(OUT, EXAMPLES)), ("Rust", guests.in_rust(OUT, EXAMPLES))):
+        if made is None:
+            print("skipped: lines in Rust: rustc has no wasm32-unknown-unknown")
+            continue
+        source, variants = made
+        wanted = guests.marked(source)
+        for name, (ran, debug) in variants.items():
+            right = sum(is_right(source.name, *it) for it in traps_of(ran, debug, wanted))
+            print(f"lines: {language}, {name}: {right} of {len(wanted)} traps")
+            if right != len(wanted):
+                bad(f"lines of {language}, {name}")
+
+
+def traps_of(ran, debug, wanted):
+    """For each trap its sentence, with lines, and the line where it was planted."""
+    source, host, found = lines.Lines(ran, debug), wasmloop.Module(ran), []
+    for op, line in wanted.items():
+        with host.job(op, bytes(range(1, 9)) * 2) as job:
+            outcome = job.run().reply().outcome
+            found.append((op, line, outcome, [int(it) for it in lines.PLACE.findall(job.stop_told(ran) or "")]))
+            first = runs.byte_of(source.module, job.stop()[0])
+            if first != found[-1][3][0]:
+                bad(f"trap {op}: byte {first} by its site, {found[-1][3][0]} by its words")
+    source.look_up([byte for *_, places in found for byte in places])
+    return [(op, line, outcome, source.look_up(places)) for op, line, outcome, places in found]
+
+
+def is_right(file, op, line, outcome, calls):
+    """Whether the innermost place in the file, of all calls inside out, is that line; those of a panic lie in other files, or are marked."""
+    found = next((at for frames in calls for _, name, at in frames if os.path.basename(name) == file and at not in guests.PANIC), None)
+    if found != line:
+        print(f"  trap {op} ({outcome}): line {found}, planted in {line}")
+    return found == line
+
+
+def hosts_part():
+    """Random hosts: the replay has what the host itself saw, and the script prints the same log."""
+    names = sorted(EXAMPLES.glob("*.wasm")) + [it for it in (guests.built(OUT, EXAMPLES, it) for it in ("racy", "waits")) if it]
+    loops = [it for it in names if wasmloop.Module(it.read_bytes()).shape().main]
+    with ThreadPoolExecutor(THREADS) as pool:
+        told = list(pool.map(lambda seed: one_host(seed, loops[seed % len(loops)]), range(HOSTS)))
+    for seed, why in enumerate(why for why, _, _ in told):
+        if why:
+            bad(f"host {seed}, {loops[seed % len(loops)].name}: {why}")
+    failed = sum(it[2] for it in told)
+    print(f"hosts: {sum(not it[0] for it in told)} of {HOSTS} replay to the same log, {sum(it[1] for it in told)} lines, {failed} failures")
+
+
+def one_host(seed, file):
+    """What is wrong, how many lines the log has, and whether the loop failed."""
+    rng, data, path = random.Random(seed), file.read_bytes(), OUT / f"host{seed}.record"
+    live = drive(rng, data, str(path), asks=seed % 3 == 0)
+    rows = replay.rows_of(str(path))
+    again, log, seen = replay.Replay(rows), [], []
+    try:
+        while again.next():
+            word = rows[again.at - 1][0]
+            if word in ("step", "turn"):
+                log += again.log
+                seen += again.log if word == "step" else again.log[-1:]
+        if seen != live:
+            return "the replay is another", len(log), again.failed
+        script = replay.script_of(rows)
+    except replay._tool.Failed as why:
+        return "" if seed % 3 == 0 and "request" in str(why) else str(why), len(log), again.failed
+    path.with_suffix(".json").write_text(script)
+    told = subprocess.run([PROGRAM, "script", path.with_suffix(".json")], capture_output=True, check=False).stdout.decode().split("\n")
+    told = [it for it in told if it.startswith("loop ")]
+    if ended(told) != ended(log):
+        return "the script is another", len(log), again.failed
+    return "", len(log), again.failed
+
+
+def ended(log):
+    """(a script says once of a loop that it has failed, in a line of its own)"""
+    return [it for it in log if it != "loop 0 failed"]
+
+
+def drive(rng, data, path, asks):
+    """A host that does what it likes, in any order: what each of its steps and turns told it last."""
+    module = wasmloop.Module(data)
+    words = {"fuel": rng.choice([300, 3000, 10**6]), "work_fuel": rng.choice([200, 5000, 10**6]), "depth": rng.choice([8, 64])}
+    live, jobs, now = [], [], 0
+    other = wasmloop.Loop(module, 1)
+    with record.Loop(module, data, path, **words) as loop:
+        def saw(did):
+            live.append(replay.line_of(did, loop.emits() if did.what == wasmloop.RAN and did.emits else []))
+
+        for _ in range(rng.randrange(20, 160)):
+            it = rng.random()
+            if it < 0.3:
+                saw(loop.step())
+            elif it < 0.45:
+                saw(loop.turn(rng.choice([1, 3, 2**32 - 1])).did)
+            elif it < 0.6 and len(jobs) < 12:
+                job = loop.next_job()
+                jobs += [[job, False]] if job else []
+            elif it < 0.75 and jobs:
+                job = rng.choice(jobs)
+                if not job[1]:
+                    job[1] = True
+                    loop.start(job[0])
+            elif it < 0.88 and jobs:
+                loop.accept(jobs.pop(rng.randrange(len(jobs)))[0].run())
+            elif it < 0.92:
+                now += rng.randrange(30)
+                loop.clock(now)
+            elif it < 0.96:
+                loop.cancel(rng.randrange(1, 8))
+            elif it < 0.98:
+                loop.send(rng.randrange(3))
+            elif asks:
+                loop.request(rng.randrange(4), rng.randbytes(rng.randrange(9)) if hasattr(rng, "randbytes") else b"abc")
+            else:
+                stranger(loop, other)
+    return live
+
+
+def stranger(loop, other):
+    """A job of another loop, which this one doesn't know."""
+    while other.step().what not in (wasmloop.OVER, wasmloop.FAILED, wasmloop.ENTERED):
+        pass
+    job = other.next_job()
+    if job:
+        loop.start(job)
+        loop.accept(job.run())
+
+
+def units_part():
+    """The units by counters are the host's, in the sum of paths, of functions and of lines, also of runs that stopped."""
+    tried = units = stopped = 0
+    names = sorted([*EXAMPLES.glob("*.wasm"), *EXAMPLES.glob("libraries/out/*/*.wasm"), *OUT.glob("*.wasm")])
+    for file in names:
+        data = file.read_bytes()
+        if wasmloop.explain(data) or not wasmloop.Module(data).shape().work:
+            continue
+        host = wasmloop.Module(data)
+        module = wasm.Module(data)
+        for op, given in ((0, b""), (0, b"abc"), (1, bytes(range(256))), (7, b'{"a":[1,2]}'), (3, b"print(1)" * 20)):
+            whole = host.work(op, given, fuel=10**6).used
+            for fuel, depth in ((10**6, 64), (whole // 2, 64), (whole * 2 // 3, 64), (10**6, 2)):
+                ran = host.work(op, given, fuel=fuel, depth=depth)
+                told = profile.Profile(module, runs.Request(data, host, op, given, depth, fuel), None, samples=0)
+                sums = ran.used, sum(told.functions.values()), sum(told.paths.values()), sum(it.units for it in told.nodes)
+                if told.why.startswith("the start function"):
+                    continue                            # (its memory is lost with the instance)
+                if told.why or len(set(sums)) != 1:
+                    bad(f"{file.name} {op}, {ran.outcome}: {sums} {told.why}")
+                tried, units, stopped = tried + 1, units + ran.used, stopped + (ran.outcome != "done")
+    print(f"units: {tried} runs, {stopped} of which stopped, {units:,} units, each sum as the host's")
+    each_unit()
+    by_line()
+
+
+def each_unit():
+    """A run that stops at each of its first units is exact; and a call on an instance leaves its start function out."""
+    data = (EXAMPLES / "crc32.wasm").read_bytes()
+    host, module = wasmloop.Module(data), wasm.Module(data)
+    for fuel in range(1, 130):
+        told = profile.Profile(module, runs.Request(data, host, 0, b"abc", fuel=fuel), samples=0)
+        same(f"the units of a run with {fuel}", (told.why, sum(told.functions.values())), ("", fuel))
+    data = guests.with_globals()
+    run = runs.Call(data, wasmloop.Module(data), "init", ())
+    told = profile.Profile(wasm.Module(data), run, samples=0)
+    same("the units of a call without those of the start function", (told.why, dict(told.functions)), ("", {1: run.run().used}))
+
+
+def by_line():
+    """The same with lines and inlined functions, and the same picture each time; calls in callgrind's form; and sampled call paths, in slices
+    and by runs with less fuel, which have the same sum."""
+    file = guests.built(OUT, EXAMPLES, "parse")
+    if not file:
+        return
+    data, given = file.read_bytes(), b"1+(2+3)/4+(((7+8)/3+100)/5+1000)"
+    host, module = wasmloop.Module(data), wasm.Module(data)
+    source = lines.wanted(data, None)
+    told = [profile.Profile(module, runs.Request(data, host, 0, given, 64), source, 50, THREADS) for _ in range(2)]
+    same("the paths of two profiles", told[0].paths, told[1].paths)
+    if source:
+        same("the sum of lines", sum(told[0].lines.values()), told[0].ran.used)
+        same("whether an inlined function is told", "atom" in told[0].by_name()[0], True)
+
+    check_callgrind(told[0])
+    slices(data, host, given)
+    most, tree.MOST_BYTES = tree.MOST_BYTES, len(tree.TreeWriter(module, 0, True).written())
+    light = profile.Profile(module, runs.Request(data, host, 0, given, 64), source, 0)
+    tree.MOST_BYTES = most
+    same("a profile whose counters of blocks do not fit beside the tree", (light.why, light.paths), ("", told[0].paths))
+    same("the places where expression calls itself, by atom, which is inlined twice", len({it.site for it in told[0].nodes[3:]}), 2)
+    measured, tree.measured = tree.measured, no_tree
+    for kind in (runs.Request, Sliced, NoSlices):
+        sampled = profile.Profile(module, kind(data, host, 0, given, 64), source, 50, THREADS)
+        same(f"the sum of a sampled profile, {kind.__name__}", sum(sampled.paths.values()), told[0].ran.used)
+        same("its functions", sampled.functions, told[0].functions)
+        much = {path for path, units in told[0].paths.items() if units > told[0].ran.used / 10}
+        same("the main paths of a sampled profile", much - set(sampled.paths), set())
+    tree.measured = measured
+    folded = counts.Counted(data)
+    answer, found = runs.Request(data, host, 0, given, 64).counted(folded)
+    per_function = {}
+    for function, _, count in counts.by_operation(module, folded.rows, found):
+        per_function[function] = per_function.get(function, 0) + count
+    same("units by operation", {it: n for it, n in per_function.items() if n}, {it: n for it, n in told[0].functions.items() if n})
+    same("the answer with counters", answer.answer, host.work(0, given).value)
+
+
+def callbacks_part():
+    """The units of callbacks of random hosts are the host's, in the sum of functions and of call paths; of those that stopped, too."""
+    rng, tried, units, stopped = random.Random(9), 0, 0, 0
+    for seed in range(CALLBACKS):
+        path = OUT / f"host{seed}.record"
+        if not path.is_file():
+            continue
+        rows = replay.rows_of(str(path))
+        for number in (None, rng.randrange(1, 9)):
+            try:
+                run = callbacks.Callback(rows, number)
+                told = profile.Profile(wasm.Module(run.data), run)
+            except _tool.Failed as why:
+                if "expected one of them" not in str(why):
+                    bad(f"{path.name}, callback {number}: {why}")
+                continue
+            sums = run.did.used, sum(told.functions.values()), sum(told.paths.values())
+            if len(set(sums)) != 1:
+                bad(f"{path.name}, {run}: {sums}")
+            tried, units, stopped = tried + 1, units + run.did.used, stopped + (run.did.ending != 0)
+    many_counters()
+    print(f"callbacks: {tried} callbacks, {stopped} of which stopped, {units:,} units, each sum as the host's")
+
+
+def many_counters():
+    """A callback with more counters than one replay emits, which calls another callback itself."""
+    file = guests.built(OUT, EXAMPLES, "busy")
+    if not file:
+        return
+    data, path = file.read_bytes(), str(OUT / "busy.record")
+    with record.Loop(wasmloop.Module(data), data, path) as loop:
+        same("how busy ended", record.serve(loop, record.Workers(1), 20)[0], "over")
+    rows, numbers = replay.rows_of(path), set()
+    for number in (1, 2, 3, 4, None):
+        run = callbacks.Callback(rows, number)
+        told = profile.Profile(wasm.Module(data), run)
+        sums = sum(told.functions.values()), sum(told.paths.values())
+        same(f"the units of {run}", sums, (run.did.used,) * 2)
+        numbers.add((run.did.kind, run.did.number))
+        if number is None:
+            same("how often branches_7 was called", sum(it.calls for it in told.nodes if told.named(it.function) == "branches_7"), 41)
+    same("whether callbacks of main and of both timers are among them", len(numbers) >= 3, True)
+
+
+def slices(data, host, given):
+    """Where the library has the backtrace of a paused call, it is that of a run with just so much fuel."""
+    run, each = runs.Request(data, host, 0, given, 64), 7
+    run.sampled(1, 1)
+    try:
+        found = run._paths(each)
+    except wasmloop.Error:
+        print("skipped: backtraces of paused calls: this library has none")
+        return
+    same("the backtraces of a paused call", found, [run._path_at(fuel)[0] for fuel in range(each // 2, each // 2 + each * len(found), each)])
+    print(f"units: {len(found)} backtraces of a paused call are those of runs with as much fuel")
+
+
+def no_tree(*_):
+    raise _tool.Failed("left out by the test")
+
+
+class Sliced(runs.Request):
+    """A library that has the backtrace of a paused call, played by runs with less fuel."""
+
+    def _paths(self, each):
+        whole = self._path_at(counts.ENOUGH)[1]
+        return [self._path_at(fuel)[0] for fuel in range(max(each // 2, 1), whole, each)]
+
+
+class NoSlices(runs.Request):
+    """A library that has none."""
+
+    def _paths(self, each):
+        raise wasmloop.Error(wasmloop.KIND)
+
+
+def check_callgrind(told):
+    """The units of all lines are the run's, and those of a function's calls and lines together are what its callers say."""
+    text = callgrind.written(told, "guest.wasm").split("\n")
+    alone, within, called, function = 0, collections.Counter(), collections.Counter(), ""
+    for before, line in zip([""] + text, text):
+        function = line[3:] if line.startswith("fn=") else function
+        if line[:1].isdigit():
+            units = int(line.split()[1])
+            within[function] += units
+            alone += 0 if before.startswith("calls=") else units
+            called[callee] += units if before.startswith("calls=") else 0
+        callee = line[4:] if line.startswith("cfn=") else callee if line.startswith("calls=") else ""
+    same("the units of callgrind's lines", alone, told.ran.used)
+    same("the units of calls", [it for it in called if it and called[it] > within[it]], [])
+    same("the calls' number", sum(int(it[6:].split()[0]) for it in text if it.startswith("calls=")), sum(it.calls for it in told.nodes if it.parent))
+
+
+def warm_part():
+    """Frozen guests answer as those that weren't."""
+    file = guests.built(OUT, EXAMPLES, "warm")
+    if file:
+        cold, rng = wasmloop.Module(file.read_bytes()), random.Random(5)
+        for given, op in ((None, 0), (b"a prelude of some bytes", 1)):
+            made, answer, used, _ = freeze.freeze(file.read_bytes(), "init" if given is None else "init_with", given)
+            host = wasmloop.Module(made)
+            saved = []
+            for _ in range(REQUESTS):
+                word = bytes(rng.randrange(256) for _ in range(rng.randrange(40)))
+                before, after = (it.work(op, word, fuel=10**8) for it in (cold, host))
+                same(f"the answer to {word!r}", after[:3], before[:3])
+                saved.append(after.used / before.used)
+            print(f"warm: {REQUESTS} requests answered alike after {used:,} units of {answer}; a request takes {sum(saved) / REQUESTS:.4f} of its units")
+        twice, _, _, _ = freeze.freeze(made)
+        same("a module that is frozen twice", twice, made)
+    data = guests.with_globals()
+    for init, wanted in ((None, 16), ("init", -25)):
+        made = wasmloop.Module(freeze.freeze(data, init)[0])
+        same(f"globals and memory after {init}", [made.work(op).value - op for op in range(3)], [wanted] * 3)
+    constructors()
+    tried = 0
+    for file in sorted(EXAMPLES.glob("*.wasm")):
+        data = file.read_bytes()
+        shape = wasmloop.Module(data).shape()
+        if shape.work:
+            made = wasmloop.Module(freeze.freeze(data)[0])
+            for op in range(4):
+                before, after = (it.work(op, b"abc") for it in (wasmloop.Module(data), made))
+                same(f"{file.name} {op}", after[:3], before[:3])
+                tried += 1
+    print(f"warm: {tried} requests to examples that were frozen as they are")
+
+
+def constructors():
+    """Static constructors of C++ run once as the start function of what `cc` builds, and not at all in what is frozen. A memory that no module
+    can hold is reported."""
+    if not guests.built(OUT, EXAMPLES, "warm"):
+        return
+    made = OUT / "statics.wasm"
+    subprocess.run([sys.executable, "-m", "wasmloop.cc", Path(__file__).with_name("desk") / "statics.cpp", "-o", made], check=True, capture_output=True)
+    cold, warm = wasmloop.Module(made.read_bytes()), wasmloop.Module(freeze.freeze(made.read_bytes())[0])
+    for op in range(64):
+        before, after = cold.work(op), warm.work(op)
+        same(f"square {op}", (before.value, after.value), (3 * op * op + 1,) * 2)
+        same("whether a frozen constructor runs", after.used < before.used / 10, True)
+    statics_in_rust()
+    full = guests.built(OUT, EXAMPLES, "full")
+    ran = subprocess.run([sys.executable, "-m", "wasmloop.freeze", full, "--call", "init", "-o", OUT / "f.wasm"], capture_output=True, check=False)
+    same("the status of a frozen module that is too large", (ran.returncode, b"1,048,576 is the limit" in ran.stderr), (3, True))
+
+
+def statics_in_rust():
+    """A static of Rust is frozen as `init` left it, and so is the log."""
+    for name in (EXAMPLES / "uv.rs", Path(__file__).with_name("desk") / "statics.rs"):
+        shutil.copy(name, OUT)
+    made = OUT / "statics_rust.wasm"
+    if not guests.rust(OUT / "statics.rs", made):
+        print("skipped: statics in Rust: rustc has no wasm32-unknown-unknown")
+        return
+    data = lower.lower(made.read_bytes())[0]
+    warm = freeze.freeze(data, "init")[0]
+    same("squares in Rust", [wasmloop.Module(warm).work(op).value for op in range(64)], [3 * op * op + 1 for op in range(64)])
+    same("squares without init", wasmloop.Module(data).work(5).value, 0)
+    same("the frozen log", log.of_request(runs.Request(warm, wasmloop.Module(warm), 4, b""))[0], ["filled", "work"])
+
+
+def log_part():
+    """The lines that a guest has logged: in a request, in an instance, and in a recorded loop that failed or not."""
+    file = guests.built(OUT, EXAMPLES, "logs")
+    if not file:
+        return
+    data = file.read_bytes()
+    host = wasmloop.Module(data)
+    same("the log of a request", log.of_request(runs.Request(data, host, 4, b""))[0], ["work", "op -4"])
+    found, told = log.of_request(runs.Request(data, host, 3, b""))
+    same("the log of a request that stopped", (found, "unreachable" in told), (["work", "op -3"], True))
+    with host.instance() as it:
+        same("an empty log", log.read(it), [])
+        same("a call", it.call("uv_work", 5), 5)
+        same("the log of an instance", log.read(it), ["work", "op -5"])
+    same("the log of a guest without one", log.read(wasmloop.Module((EXAMPLES / "crc32.wasm").read_bytes()).instance()), [])
+    path = str(OUT / "logs.record")
+    with record.Loop(host, data, path) as loop:
+        ending, emits, _ = record.serve(loop, record.Workers(1), 20)
+    same("how the loop ended", (ending, emits), ("failed", list(range(1, 13))))
+    rows = replay.rows_of(path)
+    lines_ = log.of_callback(callbacks.Callback(rows, callbacks.LAST))
+    same("the log of a loop that failed", (lines_[-1], lines_[-2]), ("cannot go on", "tick 12"))
+    same("the log of its first callback", log.of_callback(callbacks.Callback(rows, 1)), ["begin"])
+    print("log: requests, instances and recorded loops")
+
+
+def fuzz_part():
+    """The fuzzer finds the planted fault, and the input that it writes repeats it; and an input that costs too much per byte."""
+    file = guests.built(OUT, EXAMPLES, "planted")
+    if not file or not guests.has_fuzzer():
+        print("skipped: fuzz: clang or its libFuzzer is missing")
+        return
+    found = Path(f"{file}.found")
+    for words, told in (([], "trapped: division by zero"), (["--per-byte", "2"], "units, more than 2 per byte")):
+        ran = subprocess.run([sys.executable, "-m", "wasmloop.fuzz", str(file), "0", "--most", "32", "--seconds", "60", "--seed", "3", *words],
+                             capture_output=True, check=False)
+        said = (ran.stdout + ran.stderr).decode()
+        if ran.returncode != 4 or told not in said:
+            bad(f"fuzz {words}: status {ran.returncode}: {said}")
+        elif not words:
+            same("the finding", wasmloop.Module(file.read_bytes()).work(0, found.read_bytes()).outcome, "trap")
+    print("fuzz: the planted fault, and units per byte")
+
+
+def words_part():
+    """What the tools print, and the status that they end with."""
+    crc, tick = EXAMPLES / "crc32.wasm", EXAMPLES / "ticker.wasm"
+    (OUT / "request").write_bytes(b"abc")
+    (OUT / "no.wasm").write_bytes(b"\0asm\2\0\0\0")
+    (OUT / "large").write_bytes(bytes(65537))
+    (OUT / "no.record").write_text("{}\n")
+    code = Path(tick).read_bytes()
+    plain = record.Loop(wasmloop.Module(code), code, str(OUT / "t.record"))
+    plain.clock(3)
+    plain.turn()
+    plain.close()
+    (OUT / "cut.record").write_text((OUT / "t.record").read_text()[:-3])
+    (OUT / "odd.record").write_text((OUT / "t.record").read_text() + '["start",9,0]\n')
+    (OUT / "lies.record").write_text((OUT / "t.record").read_text() + '["cancel",9,5]\n')
+    none = str(OUT / "none")
+    for words, status, told in (
+        *((f"{name} --help", 0, doc) for name, doc in (("cc", "Compiles and links"), ("lower", "Rewrites a module"), ("log", "Prints what a guest has logged"),
+                                                       ("fuzz", "Fuzzes the uv_work"))),
+        (f"log {crc} 0", 0, ""), (f"lower {crc} {OUT}/l.wasm", 0, "lowered: "), (f"lower {OUT}/no.wasm {OUT}/l.wasm", 3, "cannot be rewritten"),
+        ("cc lib.rs", 2, "cargo builds Rust"), (f"fuzz {tick}", 2, "exports no uv_work"), (f"profile {OUT}/t.record --callback 99", 2, "callbacks"),
+        ("profile --help", 0, "Shows where the fuel"), ("lines --help", 0, "at byte N"), ("cover --help", 0, "Counts how often"),
+        ("record --help", 0, "Records the calls"), ("replay --help", 0, "Runs a record again"), ("freeze --help", 0, "in the resulting state"),
+        (f"profile {crc} 0 --in {OUT}/request", 0, "uv_work(0) on 3 bytes: done, "), (f"profile {crc} 0 --budget 3", 1, "budget"),
+        (f"profile {crc} 0 --budget x", 2, "expected [FUNCTION=]UNITS"), (f"profile {crc} 0 --budget none=3", 2, "no function none"),
+        (f"profile {none}", 1, "No such file"), (f"profile {OUT}/no.wasm", 3, "byte 4"), (f"profile {crc} --call none", 2, "none"),
+        (f"profile {crc} --call uv_work", 2, "takes 1 arguments, got 0"), (f"profile {crc} --call uv_work,x", 2, "expected NAME,NUMBER.."),
+        (f"profile {tick}", 2, "exports no uv_work"), (f"profile {crc} 0 --depth 0", 2, "expected 1 to 128"),
+        (f"profile {crc} 0 --in {none}", 1, "No such file"), (f"profile {crc} 0 --svg {OUT}/none/x", 1, "No such file"),
+        (f"profile {crc} 0 --in {OUT}/request --fuel 50", 4, "ran out of fuel"),
+        (f"profile {EXAMPLES}/endless.wasm --call uv_main", 4, "exceeded the call-depth limit of 64"),
+        (f"profile {crc} 0 --threads 0", 2, "expected 1 or more, found 0"), (f"profile {crc} 0 --in {OUT}/large", 2, "expected 0 to 65536"),
+        (f"lines {OUT}/whole/traps.wasm -- {OUT}/none", 1, "No such file"),
+        (f"lines {crc}", 1, "has no DWARF"), ("lines", 2, "usage"), (f"cover {crc} 0 {OUT}/request", 0, "1 of 1 functions ran"),
+        (f"cover {crc} 0 {OUT}/request --lcov -", 1, "has no lines"), (f"replay {OUT}/no.record", 1, "is not a record"),
+        (f"replay {none}", 1, "No such file"),
+        (f"replay {OUT}/t.record", 0, "loop 0 run main 0 return used"), (f"replay {OUT}/cut.record", 0, "clock 0 3"),
+        (f"replay {crc}", 1, "not a line of a record"),
+        (f"replay {OUT}/odd.record", 1, "is not possible here"), (f"replay {OUT}/lies.record", 1, "was 5, and now is -22"),
+        (f"record {tick} -o {OUT}/u.record", 0, "loop 0 over emits"), (f"record {tick} -o {OUT}/v.record --fuel 1", 4, "ran out of fuel"),
+        (f"freeze {crc} -o {OUT}/f.wasm", 0, "units saved"), (f"freeze {crc} -o {OUT}/f.wasm --call none", 2, "no function none"),
+        (f"freeze {crc} -o {OUT}/f.wasm --call uv_work", 2, "uv_work takes 1 arguments, expected 0"),
+        (f"freeze {crc} -o {OUT}/f.wasm --in {none}", 2, "needs --call"),
+        (f"freeze {tick} -o {OUT}/f.wasm --call uv_main", 0, "it called uv.timer_"),
+    ):
+        ran = subprocess.run([sys.executable, "-m", *f"wasmloop.{words}".split()], stdin=subprocess.DEVNULL, capture_output=True, check=False)
+        said = (ran.stdout + ran.stderr).decode()
+        if ran.returncode != status or told not in said or "Traceback" in said:
+            bad(f"wasmloop.{words}: status {ran.returncode}: {said}")
+    same("the tools", "profile" in subprocess.run([sys.executable, "-m", "wasmloop"], capture_output=True, check=False).stdout.decode(), True)
+    said = []
+    stepper = replay.Stepper(replay.rows_of(str(OUT / "v.record")), said.append)
+    for letters in ("n", "n", "b", "c", "w", "g 2", "b", "b", "?"):
+        stepper.obey(letters.split())
+    same("the steps", [it.split(":")[0] for it in said if " of " in it[:12]], ["2 of 3", "3 of 3", "2 of 3", "3 of 3", "2 of 3", "1 of 3", "1 of 3"])
+    short = record.Loop(wasmloop.Module(code), code, str(OUT / "short.record"), most=3 * len(code))
+    for ms in range(99):
+        short.clock(ms)
+    short.close()
+    again = replay.Replay(replay.rows_of(str(OUT / "short.record")))
+    while again.next():
+        pass
+    same("a record that is full", (again.full, again.at < 99), (True, True))
+    same("where it failed", sum("ran out of fuel" in it for it in said), 3)
+    same("the script", json.loads(replay.script_of(replay.rows_of(str(OUT / "u.record"))))["workers"], 16)
+    print("words: statuses, messages and steps")
+
+
+def main():
+    OUT.mkdir(parents=True, exist_ok=True)
+    for part in sys.argv[3:] or ("lines", "hosts", "units", "callbacks", "warm", "log", "fuzz", "words"):
+        globals()[f"{part}_part"]()
+    print("desk: " + ("no failures" if not wrong else f"{wrong} failures"))
+    return 1 if wrong else 0
+
+
+if __name__ == "__main__":
+    sys.exit(main())

@@ -1,0 +1,138 @@
+// Turns: a loop's steps up to where its owner has something to do.
+
+ghost use Rattle.std.specs.Prelude.{◌≡◌, ◌≤◌, ◌<◌};
+ghost use Rattle.wasmloop_c.specs.Calls.{OnLoop, OnHeldLoop, StepsNumbered};
+ghost use Rattle.wasmloop_c.specs.Numbers.{hint_number};
+ghost use Rattle.wasmloop_c.specs.Turning.{begun_callbacks, ends_turn, wait_after, TurnSteps, Turns};
+ghost use Rattle.phases.specs.PhaseList.{hint_of};
+
+use crate::did::{Did, ENTERED, RAN, RETURN, SKIPPED, TIMERS};
+use crate::handle::{Handle, on};
+use crate::loops::ms_of;
+use crate::status::{KIND, OK, RANGE};
+use crate::thing::Thing;
+use desk::Desk;
+use phases::LoopCore;
+use std::alloc::Global;
+
+/// How far an iteration of a loop is.
+#[repr(C)]
+#[derive(Clone, Copy)]
+pub struct Turned {
+    /// The last step.
+    pub did: Did,
+    /// For how many milliseconds the loop needs only replies and sends, or all ones.
+    pub wait: u64,
+    /// How many callbacks ran in this iteration so far.
+    pub callbacks: u32,
+    /// 0.
+    pub zero: u32,
+}
+
+/// How many callbacks ran in this iteration: none where the call before entered the timers phase.
+fn begun(turned: &Turned) -> u32
+    ensures { result ≡ begun_callbacks turned.now }
+{
+    if turned.did.what == ENTERED && turned.did.phase == TIMERS {
+        0
+    } else {
+        turned.callbacks
+    }
+}
+
+/// Whether a step ends a turn in which so many callbacks ran before it.
+fn ends(did: &Did, ran: u32, most: u32) -> bool
+    requires { ran < most }
+    ensures { result ≡ ends_turn most ran did.now }
+{
+    if did.what == RAN {
+        did.emits != 0 || did.ending != RETURN || ran + 1 >= most
+    } else if did.what == ENTERED {
+        did.phase == TIMERS
+    } else {
+        did.what != SKIPPED
+    }
+}
+
+/// One step, in numbers.
+pub fn numbered_step(core: &mut LoopCore<Desk>) -> Did
+    ensures step { StepsNumbered core.old core.new result }
+    ensures setting { core.new.setting ≡ core.old.setting }
+{
+    let told = core.step();
+    let emits = core.emits().len() as u32;
+    Did::of(&told, emits)
+}
+
+/// Takes steps up to one that ends the turn, and returns how many callbacks ran. (No turn has 2^64 - 1 steps.)
+fn take_steps(core: &mut LoopCore<Desk>, most: u32, did: &mut Did) -> u32
+    requires { 1 ≤ most }
+    ensures steps { TurnSteps core.old core.new most did.new result }
+    ensures setting { core.new.setting ≡ core.old.setting }
+{
+    let mut ran = 0u32;
+    for _ in 0..u64::MAX {
+        *did = numbered_step(core);
+        let is_over = ends(did, ran, most);
+        if did.what == RAN {
+            ran += 1;
+        }
+        if is_over {
+            return ran;
+        }
+    }
+    ran
+}
+
+/// How long the loop needs only replies and sends, after a step.
+fn wait_of(core: &LoopCore<Desk>, did: &Did, callbacks: u32) -> u64
+    ensures { result ≡ wait_after core.now did.now callbacks }
+{
+    if core.failed() {
+        return u64::MAX;
+    }
+    if did.what != ENTERED || callbacks != 0 {
+        return 0;
+    }
+    ms_of(core.hint())
+}
+
+fn turn_core(core: &mut LoopCore<Desk>, most: u32, told: &mut Turned)
+    requires { 1 ≤ most }
+    ensures turns { Turns core.old core.new most told.old told.new }
+    ensures setting { core.new.setting ≡ core.old.setting }
+{
+    let begun = begun(told);
+    let ran = take_steps(core, most, &mut told.did);
+    told.callbacks = begun.saturating_add(ran);
+    told.wait = wait_of(core, &told.did, told.callbacks);
+}
+
+fn turn(thing: &mut Thing, most: u32, told: &mut Turned) -> u32
+    requires { 1 ≤ most }
+    ensures { OnLoop thing.old thing.new result (told.new ≡ told.old) (λ c d. (result ≡ OK) × Turns c d most told.old told.new) }
+{
+    let Thing::Loop(held) = thing else {
+        return KIND;
+    };
+    turn_core(&mut held.core, most, told);
+    OK
+}
+
+/// Takes steps of a loop until it enters its timers phase, a callback emits values or does not return, or so many callbacks have run, or it is
+/// over or has failed.
+#[unsafe(no_mangle)]
+pub extern "C" fn wasmloop_rt_turn(
+    alloc: Global,
+    handle: &mut Handle,
+    most: u32,
+    told: &mut Turned,
+) -> u32
+    ensures turns { 1 ≤ most → OnHeldLoop handle.old.raw.value handle.new.raw.value result (told.new ≡ told.old) (λ c d. (result ≡ OK) × Turns c d most told.old told.new) }
+    ensures range { most < 1 → (result ≡ RANGE) × (handle.new ≡ handle.old) × (told.new ≡ told.old) }
+{
+    if most < 1 {
+        return RANGE;
+    }
+    on!(handle, alloc, held => turn(&mut held, most, told))
+}

@@ -10,7 +10,7 @@ use std::alloc::Global;
 use syntax::types::{ValType, Value};
 use words::{decimal, small_decimal};
 
-/// The value of a type that a word spells, where there is one.
+/// The value of this type that a word spells, if it spells one.
 fn value_of(value_type: ValType, word: &str) -> Option<Value>
     ensures typed { IfSome result (λ value. type_of value ≡ value_type) }
     ensures spelled { IfSome result (SpellsValue word.now) }

@@ -15,24 +15,24 @@ use std::alloc::Global;
 use std::sync::Arc;
 use syntax::types::Value;
 
-/// What came of a call.
+/// The outcome of a call.
 #[derive(Debug, Drop)]
 pub enum Called {
-    /// The start function ended so, and not by return: the function is not called.
+    /// The start function did not return, but ended so; the function is not called.
     Start(Ended),
     /// The function ended so.
     Function(Ended),
 }
 
-/// Whether a call ended by return.
+/// Whether a call returned.
 pub fn has_returned(ending: &Ending) -> bool
     ensures { IsTrue result ↔ HasReturned ending.now }
 {
     matches!(ending, Ending::Return(_))
 }
 
-/// Calls a function on a new instance of its module: first the start function, and where that returns the function,
-/// with the fuel that is left. Every import answers -1. The instance comes back as the call left it.
+/// Calls a function on a new instance of its module. The start function runs first; if it returns, the function gets the fuel that is
+/// left. Every import returns -1. The instance is returned as the call left it.
 pub fn call(
     alloc: Global,
     linked: Arc<Linked>,

@@ -19,29 +19,29 @@ use syntax::contents::{Contents, ExternKind};
 /// Why a command has no result.
 #[derive(Drop)]
 pub enum Failure<'a> {
-    /// A file, the memory or the output stands in the way.
+    /// A file, memory or the output failed.
     Io(IoFault<'a>),
-    /// The bytes of the file, or of a module of the script, are no guest. Of more bytes than a module may have nothing more is said.
+    /// The file, or a module of the script, is rejected. `account` is None if it is longer than a module may be.
     Refused {
         module: Option<usize>,
         refusal: Refusal,
         account: Option<RefusalAccount>,
     },
-    /// The file is no script. Where and why is said if that is known, and if there is memory for it.
+    /// The file is not a script. `told` says where and why, if that is known and memory suffices.
     Script {
         fault: ScriptFault,
         told: Option<String>,
     },
-    /// The module exports no function of this name. Those that it exports are named if there is memory for them.
+    /// The module exports no function of this name. `there` lists those that it exports, if memory suffices.
     NoFunction {
         name: &'a str,
         there: Option<String>,
     },
-    /// The words are not the arguments that the function takes.
+    /// The words do not match the function's parameters.
     Arguments(Mismatch<'a>),
 }
 
-/// The names under which the module exports functions.
+/// The names of the exported functions.
 fn exported_functions(alloc: Global, contents: &Contents) -> Result<String, AllocError> {
     let mut listing = Listing::new(alloc);
     for export in contents.exports.as_slice() {
@@ -63,7 +63,7 @@ impl<'a> Failure<'a> {
         }
     }
 
-    /// What the program ends with.
+    /// The exit status.
     pub fn status(&self) -> ExitStatus
         ensures { result ≡ status_of_failure self.now }
     {
@@ -75,7 +75,7 @@ impl<'a> Failure<'a> {
         }
     }
 
-    /// Says in a sentence what is wrong, and where.
+    /// Writes a sentence that says what is wrong, and where.
     pub fn explain<E: Write>(&self, err: &mut E) -> io::Result<()> {
         match self {
             Failure::Io(fault) => tell_fault(fault, err),
@@ -98,7 +98,7 @@ impl<'a> Failure<'a> {
     }
 }
 
-/// What the program ends with where this stands in the way.
+/// The exit status of this fault.
 fn status_of_fault(fault: &IoFault<'_>) -> ExitStatus
     ensures { result ≡ status_of_io fault.now }
 {
@@ -115,11 +115,11 @@ fn tell_fault<E: Write>(fault: &IoFault<'_>, err: &mut E) -> io::Result<()> {
         IoFault::Unwritten { name, reason } => writeln!(err, "{}: {reason}", Shown(*name)),
         IoFault::TooLong { name, most } => writeln!(
             err,
-            "{}: more than {most} bytes; at most so many can be given",
+            "{}: longer than the limit of {most} bytes",
             Shown(*name)
         ),
         IoFault::Unread { name, .. } if *name == "-" => {
-            writeln!(err, "standard input is /dev/stdin")
+            writeln!(err, "for standard input use /dev/stdin")
         }
         IoFault::Unread { .. } | IoFault::Memory => Ok(()),
     }
@@ -142,7 +142,7 @@ fn tell_refusal<E: Write>(
         Some(account) => writeln!(err, "{account}"),
         None => writeln!(
             err,
-            "the {what} has more than {} bytes (strip its debug names)",
+            "the {what} has more than {} bytes (strip it with wasm-ld --strip-all)",
             Grouped(MAX_MODULE_BYTES as u64)
         ),
     }
@@ -177,7 +177,7 @@ impl fmt::Display for Failure<'_> {
     }
 }
 
-/// What stands in the way refuses no module.
+/// A failure of a file, memory or the output rejects no module.
 impl<'a> From<IoFault<'a>> for Failure<'a> {
     ghost use Rattle.std.specs.Prelude.{◌≢◌};
     ghost use Rattle.commands.specs.Inner.Statuses.{status_of_failure};

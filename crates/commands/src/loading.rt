@@ -14,7 +14,7 @@ use loader::Refusal;
 use sentences::account_of;
 use std::alloc::Global;
 
-/// One byte more than a module may have: whatever comes after it changes no answer.
+/// One byte more than a module may have: what comes after it changes no result.
 const ENOUGH: usize = MAX_MODULE_BYTES + 1;
 
 fn refused(alloc: Global, bytes: &[u8], refusal: Refusal) -> Failure<'static>

@@ -33,7 +33,7 @@ use std::thread::Threads;
 use words::{Command, Invocation, WorkOutput, WorkRequest};
 use working::tell_used;
 
-/// Tells whether the module of the file is accepted.
+/// Reports whether the module of the file is accepted.
 fn check<'a, R: Reader, O: Write, E: Write>(
     alloc: Global,
     file: &'a str,
@@ -80,7 +80,7 @@ fn call_named<'a>(
     )
 }
 
-/// Tells how a call ended. Done, where the function was called and returned.
+/// Reports how a call ended. `Done` if the function was called and returned.
 fn tell_called<O: Write>(called: &Called, out: &mut O) -> io::Result<ExitStatus>
     ensures { IfOk result (λ status. status ≡ ExitStatus.Done → HasFunctionReturned called.now) }
 {
@@ -115,7 +115,7 @@ fn ended_call<'c>(name: &'c str, called: &'c Called) -> (&'c str, &'c Ended) {
     }
 }
 
-/// Says in a sentence where a call stopped.
+/// Writes a sentence that says where a call stopped.
 fn explain<E: Write>(
     invocation: &Invocation,
     called: &Called,
@@ -133,7 +133,7 @@ fn explain<E: Write>(
     }
 }
 
-/// Tells what a call used of the fuel that it was given, if that is asked for.
+/// Reports the fuel that a call used, on request.
 fn trace<E: Write>(invocation: &Invocation, called: &Called, err: &mut E) -> io::Result<()> {
     if !invocation.is_traced {
         return Ok(());
@@ -162,14 +162,14 @@ fn invoke<'a, R: Reader, O: Write, E: Write>(
     Ok(status)
 }
 
-/// Tells to `err` that what should be printed can't be.
+/// Reports to `err` that the output failed.
 fn tell_unprinted<E: Write>(reason: io::Error, err: &mut E) -> io::Result<()> {
     let failure = Failure::Io(IoFault::Output(reason));
     writeln!(err, "{failure}")?;
     failure.explain(err)
 }
 
-/// Tells that a module is refused. Where that can't be written, the output is what failed.
+/// Reports that a module is rejected. If that cannot be written, the output failed.
 fn tell_refused<O: Write, E: Write>(failure: &Failure<'_>, out: &mut O, err: &mut E) -> ExitStatus
     ensures { (result ≡ ExitStatus.Refused) ⊎ (result ≡ ExitStatus.Failed) }
 {
@@ -183,7 +183,7 @@ fn tell_refused<O: Write, E: Write>(failure: &Failure<'_>, out: &mut O, err: &mu
     }
 }
 
-/// Tells why there is no result: everything to `err`, but where results go to `out` a refused module.
+/// Reports why there is no result: to `err`, except that a rejected module goes to `out` if results go there.
 fn tell<O: Write, E: Write>(
     failure: &Failure<'_>,
     is_raw: bool,
@@ -206,7 +206,7 @@ fn tell<O: Write, E: Write>(
     status
 }
 
-/// What the program ends with. Why there is no result is reported.
+/// The exit status. If there is no result, the reason is reported.
 fn status_from<O: Write, E: Write>(
     ended: Result<ExitStatus, Failure<'_>>,
     is_raw: bool,
@@ -236,7 +236,7 @@ fn is_raw(command: &Command) -> bool {
     )
 }
 
-/// Does what the command asks for.
+/// Runs the command.
 fn run<
     'a,
     H: Threads + Wait + Sync,
@@ -268,10 +268,10 @@ fn run<
     }
 }
 
-/// Performs the command. Results are written to `out`, and messages to `err`. `make` makes the job of an order.
+/// Runs the command. Results are written to `out`, and messages to `err`. `make` makes the job of an order.
 ///
-/// The answer is what the program ends with: 0 done; 1 the file, the memory or the output stood in the way; 2 the
-/// words ask for what isn't there; 3 the module is refused; 4 the call did not return, or a loop failed.
+/// Returns the exit status: 0 done; 1 a file, memory or the output failed; 2 usage error; 3 the module is rejected; 4 the call did
+/// not return, or a loop failed.
 pub fn perform<
     H: Threads + Wait + Sync,
     M: Fn(Task) -> Result<J, AllocError> + Sync,

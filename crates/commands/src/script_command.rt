@@ -21,7 +21,7 @@ fn status_of(end: ScriptEnd) -> ExitStatus
     }
 }
 
-/// Performs the script of the file. Done, where all steps were taken and every callback returned.
+/// Runs the script of the file. `Done` if all steps were taken and every callback returned.
 pub fn script<'a, R: Reader, O: Write, E: Write>(
     alloc: Global,
     file: &'a str,

@@ -13,7 +13,7 @@ use crate::telling::Teller;
 use crate::tracing::Trace;
 use files::Reader;
 use imports::Linked;
-use sentences::warn;
+use sentences::warn_loop;
 use serve::{Job, LoopEnding, Served, Serving, Task, serve, serve_watched};
 use std::alloc::{AllocError, Global};
 use std::io::{self, BufWriter, Write};
@@ -21,7 +21,7 @@ use std::sync::{Arc, Wait};
 use std::thread::Threads;
 use words::ServeCommand;
 
-/// How many threads there are, and what each loop may spend.
+/// The number of threads, and the limits of each loop.
 fn serving_of(service: &ServeCommand) -> Serving
     ensures loops { result.loops ≡ service.now.loops }
     ensures settings { result.settings ≡ service.now.settings }
@@ -33,7 +33,7 @@ fn serving_of(service: &ServeCommand) -> Serving
     }
 }
 
-/// Writes the lines of the loops, in the order of their numbers. It takes no memory.
+/// Writes the lines of the loops, in the order of their numbers. It allocates nothing.
 fn tell_served<O: Write>(served: &[Served], out: &mut O) -> io::Result<()> {
     for one in served {
         writeln!(out, "{one}")?;
@@ -47,7 +47,7 @@ fn has_not_failed(served: &Served) -> bool
     served.ending != LoopEnding::Failed
 }
 
-/// Done, where no loop failed.
+/// `Done` if no loop failed.
 fn status_of(served: &[Served]) -> ExitStatus
     ensures { (result ≡ ExitStatus.Done) ↔ All HasNotFailed served.now }
 {
@@ -57,7 +57,7 @@ fn status_of(served: &[Served]) -> ExitStatus
     ExitStatus::Ended
 }
 
-/// The module of the file, to be shared. What it lacks is reported.
+/// The module of the file, to be shared. Reports what it lacks.
 fn shared<'a, R: Reader, E: Write>(
     alloc: Global,
     reader: &R,
@@ -67,11 +67,11 @@ fn shared<'a, R: Reader, E: Write>(
     ensures { IfOk result (λ linked. IsLoaded (R.gives reader.now) file.now (arc_value linked)) }
 {
     let linked = load(alloc, reader, file)?;
-    warn(&linked, err);
+    warn_loop(&linked, err);
     Ok(Arc::new(alloc, linked)?)
 }
 
-/// Runs loops of the module and workers. What the loops do is reported to `err`, if that is asked for.
+/// Runs loops of the module and workers. On request it logs to `err` what the loops do.
 fn run_loops<
     H: Threads + Wait + Sync,
     M: Fn(Task) -> Result<J, AllocError> + Sync,
@@ -131,8 +131,8 @@ fn serve_module<
     Ok(status)
 }
 
-/// Runs loops of the file's module and workers in threads, and reports what each loop did once all have ended. Whatever the
-/// lines need of memory is there before the first loop begins.
+/// Runs loops of the file's module and workers in threads, and reports what each loop did when all have ended. All memory for the
+/// lines is allocated before the first loop begins.
 pub fn serve_file<
     'a,
     H: Threads + Wait + Sync,

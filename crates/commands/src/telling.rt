@@ -10,7 +10,7 @@ use std::alloc::Global;
 use std::io::{self, Write};
 use words::ServeCommand;
 
-/// Tells why loops of a module of these bytes, which were served so, ended as they did.
+/// Reports why loops of a module of these bytes ended as they did.
 #[derive(Drop)]
 pub struct Teller<'a> {
     pub alloc: Global,
@@ -40,7 +40,7 @@ fn last_stopped(served: &Served, depth: u32) -> Option<(Ran, Unfinished<'_>)> {
     Some((Ran::callback(served.loop_no, kind, number), stopped))
 }
 
-/// Tells which callbacks were the last of a loop that ran as many as it may.
+/// Reports the last callbacks of a loop that reached its limit of callbacks.
 fn tell_limit<E: Write>(account: &Account, err: &mut E) -> io::Result<()> {
     let Some(Callback { kind, number }) = account.last() else {
         return Ok(());
@@ -48,23 +48,23 @@ fn tell_limit<E: Write>(account: &Account, err: &mut E) -> io::Result<()> {
     let last = What::Callback { kind, number };
     let (in_row, now) = (account.in_row(), account.now());
     match in_row {
-        1 => write!(err, "the last callback is of {last}, at moment {now}")?,
+        1 => write!(err, "the last callback was of {last}, at time {now}")?,
         _ => write!(
             err,
-            "the last {in_row} callbacks are of {last}, at moment {now}"
+            "the last {in_row} callbacks were of {last}, at time {now}"
         )?,
     }
     match kind {
         EntryKind::Idle | EntryKind::Check => {
-            err.write_all(b"; while an idle or a check is active, no time passes\n")
+            err.write_all(b"; time does not advance while an idle or a check is active\n")
         }
         _ => err.write_all(b"\n"),
     }
 }
 
-/// Tells for which asyncs a loop waits.
+/// Reports the asyncs that a loop waits for.
 fn tell_waiting<E: Write>(account: &Account, err: &mut E) -> io::Result<()> {
-    err.write_all(b"nobody sends to")?;
+    err.write_all(b"nothing sends to")?;
     let mut between = " async ";
     for handle in account.asyncs() {
         write!(err, "{between}{handle}")?;
@@ -82,13 +82,13 @@ fn write_most<E: Write>(
 ) -> io::Result<()> {
     writeln!(
         err,
-        "loop {loop_no}: {what} used {most} of {fuel} {} at most",
+        "loop {loop_no}: {what} used at most {most} of {fuel} {}",
         unit_of(fuel)
     )
 }
 
 impl Teller<'_> {
-    /// Tells it of all loops.
+    /// Reports it for all loops.
     pub fn tell_all<E: Write>(&self, served: Vec<Served>, err: &mut E) -> io::Result<()> {
         for one in served {
             self.tell_ending(&one, err)?;
@@ -122,7 +122,7 @@ impl Teller<'_> {
         }
     }
 
-    /// The greatest fuel that a callback used and that a work function did, if that is asked for.
+    /// Reports the most fuel that a callback and a work function used, on request.
     fn tell_most<E: Write>(&self, served: &Served, err: &mut E) -> io::Result<()> {
         if !self.service.is_traced {
             return Ok(());
@@ -136,7 +136,7 @@ impl Teller<'_> {
         }
     }
 
-    /// Where the work of requests stopped that did not return.
+    /// Reports where the work of requests stopped, if it did not return.
     fn tell_work<E: Write>(&self, served: Served, err: &mut E) -> io::Result<()> {
         let loop_no = served.loop_no;
         for order in served.into_undone() {

@@ -12,7 +12,7 @@ use syntax::items::Items;
 use world::told;
 use world_log::{CollectOutcome, FinishOutcome, JobId, LogEntry, PostOutcome, StartOutcome};
 
-/// Writes the lines of the log of what loops and workers do.
+/// Writes the log of what loops and workers do.
 #[derive(Drop)]
 pub struct Trace<'a, E> {
     alloc: Global,
@@ -28,7 +28,7 @@ impl<'a, E: Write> Trace<'a, E> {
         }
     }
 
-    /// A line that can't be written, or for which there is no memory, is left out.
+    /// A line that cannot be written, or for which memory runs out, is left out.
     fn write<R: Wait>(&self, rt: &R, entry: &LogEntry) {
         if let Ok(line) = print_entry(self.alloc, entry) {
             let _ = self.err.lock(rt).write_all(line.as_bytes());

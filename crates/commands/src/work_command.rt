@@ -24,8 +24,7 @@ fn status_of(report: WorkReport) -> ExitStatus
     }
 }
 
-/// Lets the module of the file compute the reply of a work order, and reports what came of it. Done, where that is a value
-/// and bytes. The input is read first.
+/// Runs `uv_work` of the module of the file, and reports the outcome. `Done` if that is a value and bytes. The input is read first.
 pub fn work<'a, F: Reader + FileWriter, O: Write, E: Write>(
     alloc: Global,
     work: &'a WorkRequest,

@@ -3,14 +3,14 @@
 use std::alloc::{AllocError, AllocFailed};
 use std::io::{self, ErrorKind};
 
-/// What stands in the way of reading and writing.
+/// Why reading or writing failed.
 #[derive(Clone, Copy, Debug)]
 pub enum IoFault<'a> {
-    /// There is not enough memory.
+    /// Out of memory.
     Memory,
     /// The file of this name can't be read, for this reason.
     Unread { name: &'a str, reason: io::Error },
-    /// The file of this name has more than so many bytes, which is as many as are taken.
+    /// The file of this name has more than `most` bytes, the limit.
     TooLong { name: &'a str, most: usize },
     /// The file of this name can't be written, for this reason.
     Unwritten { name: &'a str, reason: io::Error },
@@ -18,7 +18,7 @@ pub enum IoFault<'a> {
     Output(io::Error),
 }
 
-/// This fault, unless the reason is want of memory.
+/// This fault, unless the reason is that memory ran out.
 fn unless_memory(reason: io::Error, fault: IoFault<'_>) -> IoFault<'_> {
     match reason.kind() {
         ErrorKind::OutOfMemory => IoFault::Memory,

@@ -1,8 +1,7 @@
-//! Files by their names: what reads them (`Reader`), what writes them (`FileWriter`), those of the system, which do both, and what
-//! stands in the way (`IoFault`).
+//! Files by name: `Reader` reads them, `FileWriter` writes them, `SystemFiles` does both, and `IoFault` says what failed.
 //!
-//! What a file holds is its reader's to say, by the ghost member `gives`, and what has become of a written one by `takes`. Of the
-//! system's files they say nothing.
+//! A reader's ghost member `gives` says what a file holds, and a writer's `takes` what becomes of a written one. For the system's
+//! files they say nothing.
 #![tactic(auto)]
 
 mod fault;

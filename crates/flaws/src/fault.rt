@@ -1,4 +1,4 @@
-// Where a text is refused that should be a script, and for what.
+// Where and why a script is rejected.
 
 use crate::flaw::Flaw;
 use crate::nesting::deepest;
@@ -20,27 +20,25 @@ fn spot_of(text: &str, at: usize) -> (usize, usize) {
     spot
 }
 
-/// What else a text may be that is no JSON from its first letter on.
+/// What a text may be that is not JSON from its first letter.
 fn other_text(text: &str) -> &'static str {
     if text.starts_with("\0asm") {
-        return " (a module: 'wasmloop serve FILE --loops 1 --workers 1' runs it)";
+        return " (this is a module: run it with 'wasmloop serve FILE --loops 1 --workers 1')";
     }
     match text.trim_start().as_bytes().first() {
-        Some(b'#' | b'a'..=b'z') => " (a list of steps? examples/script.py makes JSON of it)",
+        Some(b'#' | b'a'..=b'z') => " (a list of steps? convert it with examples/script.py)",
         _ => "",
     }
 }
 
-/// Why a text is no JSON, if it doesn't nest too deep.
+/// Why a text is not JSON, if it is not nested too deeply.
 fn no_json_at(alloc: Global, error: &serde_json::Error, text: &str) -> Option<String> {
     let (line, column) = (error.line(), error.column());
     if error.is_eof() {
-        return format!(in alloc;
-            "line {line}, column {column}: the text ends before its JSON does"
-        ).ok();
+        return format!(in alloc; "line {line}, column {column}: unexpected end of JSON").ok();
     }
     let other = other_text(text);
-    format!(in alloc; "line {line}, column {column}: the text is no JSON{other}").ok()
+    format!(in alloc; "line {line}, column {column}: invalid JSON{other}").ok()
 }
 
 /// Where a text nests deeper than is read, if it is JSON up to there.
@@ -62,7 +60,7 @@ fn no_json(alloc: Global, text: &str) -> Option<String> {
     match too_deep(&error, text) {
         Some((line, column)) => {
             format!(in alloc;
-                "line {line}, column {column}: the text nests deeper than {MAX_DEPTH} levels"
+                "line {line}, column {column}: nested deeper than {MAX_DEPTH} levels"
             ).ok()
         }
         None => no_json_at(alloc, &error, text),
@@ -97,7 +95,7 @@ fn walked(alloc: Global, fault: ScriptFault, text: &str) -> Option<String> {
     None
 }
 
-/// Where the text has the fault and what is found there, in words, where there is memory for them. It reads the text anew.
+/// A sentence that says where the text has this fault and what is found there; None if memory runs out. It reads the text again.
 pub fn script_fault(alloc: Global, fault: ScriptFault, text: &str) -> Option<String> {
     match fault {
         ScriptFault::Json => no_json(alloc, text),

@@ -17,16 +17,16 @@ pub enum ScriptPart {
 /// What is wrong.
 #[derive(Clone, Copy)]
 pub enum Wrong<'a> {
-    /// This key is none of those that there are.
+    /// This key is unknown.
     Unknown {
         key: &'a str,
         keys: &'static str,
     },
-    /// This key stands there twice.
+    /// This key is a duplicate.
     Twice(&'static str),
     /// This key is missing.
     Lacks(&'static str),
-    /// Another value is wanted of what has this name.
+    /// The value of `name` is not of the expected kind.
     Wanted {
         name: Option<&'static str>,
         wanted: &'static str,
@@ -34,32 +34,32 @@ pub enum Wrong<'a> {
     },
     /// No step has this name.
     NoStep(&'a str),
-    /// A step of this name takes so many numbers.
+    /// A step of this name takes `taken` numbers.
     Count {
         name: &'a str,
         taken: usize,
         given: usize,
     },
-    /// A loop has a module of this number, of so many.
+    /// A loop names a module that does not exist.
     NoModule {
         found: &'a str,
         modules: u64,
     },
-    /// This number lies elsewhere.
+    /// This number is out of range.
     Outside {
         name: &'static str,
         found: &'a str,
         least: u64,
         most: u64,
     },
-    /// There are so many of these.
+    /// The number of these is out of range.
     Many {
         name: &'static str,
         found: u64,
         least: u64,
         most: u64,
     },
-    /// These are no bytes.
+    /// These are not bytes in hexadecimal.
     Digits(FromHexError),
 }
 
@@ -77,7 +77,7 @@ impl<'a> Flaw<'a> {
         Flaw { at, part, wrong }
     }
 
-    /// Another value is wanted of what has this name.
+    /// The value of `name` is not of the expected kind.
     pub fn wanted(
         at: usize,
         part: ScriptPart,
@@ -108,13 +108,13 @@ impl fmt::Display for ScriptPart {
 fn write_token<W: fmt::Write>(f: &mut fmt::Formatter<W>, token: Token<'_>) -> fmt::Result {
     match token {
         Token::BeginObject => f.write_str("an object"),
-        Token::BeginArray => f.write_str("a list"),
+        Token::BeginArray => f.write_str("an array"),
         Token::String(_) => f.write_str("a string"),
         Token::Number(text) => write!(f, "{}", Shown(text)),
         Token::Bool(true) => f.write_str("true"),
         Token::Bool(false) => f.write_str("false"),
         Token::Null => f.write_str("null"),
-        Token::EndObject | Token::EndArray | Token::Key(_) | Token::Bad => f.write_str("none"),
+        Token::EndObject | Token::EndArray | Token::Key(_) | Token::Bad => f.write_str("nothing"),
     }
 }
 
@@ -127,9 +127,8 @@ fn write_wanted<W: fmt::Write>(
     if let Some(name) = name {
         write!(f, "{name}: ")?;
     }
-    write!(f, "{wanted} is wanted, and ")?;
-    write_token(f, found)?;
-    f.write_str(" is there")
+    write!(f, "expected {wanted}, found ")?;
+    write_token(f, found)
 }
 
 fn write_count<W: fmt::Write>(
@@ -139,8 +138,8 @@ fn write_count<W: fmt::Write>(
     given: usize,
 ) -> fmt::Result {
     match taken {
-        1 => write!(f, "{name} takes 1 number; given: {given}"),
-        _ => write!(f, "{name} takes {taken} numbers; given: {given}"),
+        1 => write!(f, "{name} takes 1 number, found {given}"),
+        _ => write!(f, "{name} takes {taken} numbers, found {given}"),
     }
 }
 
@@ -152,17 +151,20 @@ fn write_range<W: fmt::Write, N: fmt::Display>(
     least: u64,
     most: u64,
 ) -> fmt::Result {
-    write!(f, "{name} {found}: {least} to {most}")
+    write!(
+        f,
+        "{name}: {found} is out of range, expected {least} to {most}"
+    )
 }
 
 impl fmt::Display for Wrong<'_> {
     fn fmt<W: fmt::Write>(&self, f: &mut fmt::Formatter<W>) -> fmt::Result {
         match *self {
             Wrong::Unknown { key, keys } => {
-                write!(f, "\"{}\" is no key; keys: {keys}", Shown(key))
+                write!(f, "unknown key \"{}\"; keys: {keys}", Shown(key))
             }
-            Wrong::Twice(key) => write!(f, "the key \"{key}\" stands there twice"),
-            Wrong::Lacks(key) => write!(f, "the key \"{key}\" is missing"),
+            Wrong::Twice(key) => write!(f, "duplicate key \"{key}\""),
+            Wrong::Lacks(key) => write!(f, "missing key \"{key}\""),
             Wrong::Wanted {
                 name,
                 wanted,
@@ -170,14 +172,14 @@ impl fmt::Display for Wrong<'_> {
             } => write_wanted(f, name, wanted, found),
             Wrong::NoStep(name) => write!(
                 f,
-                "\"{}\" is no step; steps: loop, post, take, start, finish, collect, send, cancel, clock",
+                "unknown step \"{}\"; steps: loop, post, take, start, finish, collect, send, cancel, clock",
                 Shown(name)
             ),
             Wrong::Count { name, taken, given } => write_count(f, name, taken, given),
             Wrong::NoModule { found, modules } => {
                 write!(
                     f,
-                    "there is no module {found}; modules of the script: {modules}"
+                    "there is no module {found}; modules in the script: {modules}"
                 )
             }
             Wrong::Outside {
@@ -195,7 +197,7 @@ impl fmt::Display for Wrong<'_> {
             Wrong::Digits(fault) => {
                 write!(
                     f,
-                    "{fault}; two digits for each byte, with no 0x and no blanks"
+                    "{fault}: expected two hexadecimal digits per byte, without 0x or spaces"
                 )
             }
         }

@@ -1,4 +1,4 @@
-//! Where and why a text is no script, in words: `script_fault`. No clause speaks of words; tests compare them.
+//! The sentence that says where and why a text is not a script: `script_fault`. No clause covers the wording; tests compare it.
 #![tactic(auto)]
 
 mod fault;

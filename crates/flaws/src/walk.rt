@@ -104,7 +104,7 @@ fn names_of(step: &str) -> Option<Names> {
         "take" | "start" | "finish" => ("worker", None),
         "send" => ("loop", Some("async")),
         "cancel" => ("loop", Some("request")),
-        "clock" => ("loop", Some("moment")),
+        "clock" => ("loop", Some("time")),
         _ => return None,
     };
     Some(Names { first, second })
@@ -113,7 +113,7 @@ fn names_of(step: &str) -> Option<Names> {
 /// Where a number of a step has to lie that is of this.
 fn bounds_of(name: &'static str) -> Bounds {
     match name {
-        "moment" => Bounds::to(name, u64::MAX),
+        "time" => Bounds::to(name, u64::MAX),
         _ => Bounds::to(name, WORD),
     }
 }
@@ -168,7 +168,7 @@ impl<'a> Walk<'a> {
             Token::BeginArray if is_list => Ok(()),
             Token::BeginObject if !is_list => Ok(()),
             _ => {
-                let wanted = if is_list { "a list" } else { "an object" };
+                let wanted = if is_list { "an array" } else { "an object" };
                 Err(Flaw::wanted(at, part, name, wanted, found))
             }
         }

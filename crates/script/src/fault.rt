@@ -1,27 +1,27 @@
-// Why a script is refused.
+// Why a script is rejected.
 
 ghost use Rattle.std.specs.Prelude.{◌≡◌};
 
 use std::alloc::AllocFailed;
 use thiserror::Error;
 
-/// Why a script is refused. It is shown as its name.
+/// Why a script is rejected. It prints as its name.
 #[derive(Clone, Copy, Debug, PartialEq, Eq, Error)]
 pub enum ScriptFault {
-    /// The text is no JSON, or nests deeper than 128 levels.
+    /// The text is not JSON, or is nested deeper than 128 levels.
     #[error("Json")]
     Json,
     /// A key is missing, twice there or one too many, a value has another type, a step is unknown, or a step has another
     /// count of numbers. A number that neither a u64 nor an i64 holds has another type.
     #[error("Shape")]
     Shape,
-    /// A module is not written in hexadecimal.
+    /// A module is not in hexadecimal.
     #[error("Hex")]
     Hex,
-    /// A number or a count is out of its range.
+    /// A number or a count is out of range.
     #[error("Range")]
     Range,
-    /// There was no memory to read the script.
+    /// Memory ran out while reading the script.
     #[error("Memory")]
     Memory,
 }
@@ -47,12 +47,11 @@ impl ScriptFault {
     /// What is wrong, in words.
     pub fn meaning(self) -> &'static str {
         match self {
-            ScriptFault::Json => "the text is no JSON",
-            ScriptFault::Shape =>
-                "a key, a value, a step or a count of numbers is not as it should be",
-            ScriptFault::Hex => "it is not written in hexadecimal",
-            ScriptFault::Range => "a number or a count is out of its range",
-            ScriptFault::Memory => "there is not enough memory",
+            ScriptFault::Json => "invalid JSON",
+            ScriptFault::Shape => "an unexpected key, value, step or number of numbers",
+            ScriptFault::Hex => "invalid hexadecimal",
+            ScriptFault::Range => "a number or a count is out of range",
+            ScriptFault::Memory => "out of memory",
         }
     }
 }

@@ -6,18 +6,18 @@ use script::ScriptFault;
 use sentences::{RefusalAccount, account_of};
 use std::alloc::Global;
 
-/// Why nothing comes of a script.
+/// Why a script has no result.
 #[derive(Drop)]
 pub enum ScriptFailure {
-    /// The memory or the output stands in the way.
+    /// Memory or the output failed.
     Io(IoFault<'static>),
-    /// The module of this number is no guest. Of more bytes than a module may have nothing more is said.
+    /// The module of this number is rejected. `account` is None if it is longer than a module may be.
     Refused {
         module: usize,
         refusal: Refusal,
         account: Option<RefusalAccount>,
     },
-    /// The text is no script. Where and why is said if that is known, and if there is memory for it.
+    /// The text is not a script. `told` says where and why, if that is known and memory suffices.
     NoScript {
         fault: ScriptFault,
         told: Option<String>,
@@ -25,7 +25,7 @@ pub enum ScriptFailure {
 }
 
 impl ScriptFailure {
-    /// The text is no script.
+    /// The text is not a script.
     pub(crate) fn no_script(fault: ScriptFault, told: Option<String>) -> ScriptFailure {
         match fault {
             ScriptFault::Memory => ScriptFailure::Io(IoFault::Memory),
@@ -33,7 +33,7 @@ impl ScriptFailure {
         }
     }
 
-    /// The module of this number, of these bytes, is refused.
+    /// The module of this number, of these bytes, is rejected.
     pub(crate) fn refused(
         alloc: Global,
         module: usize,

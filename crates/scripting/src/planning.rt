@@ -1,4 +1,4 @@
-// From a text to what it asks for.
+// From a text to its plan.
 
 ghost use Rattle.std.specs.Prelude.{◌≤◌, IfOk, OnOk, length};
 ghost use Rattle.limits.specs.declared.TheConstants.{MAX_SCRIPT_BYTES};
@@ -13,7 +13,7 @@ use sentences::Grouped;
 use std::alloc::Global;
 use std::str;
 
-/// What the bytes ask for.
+/// The plan of these bytes.
 fn plan_in(alloc: Global, bytes: &[u8]) -> Result<Plan, ScriptFailure>
     ensures limits { IfOk result IsWithinLimits }
     ensures few { OnOk result (length bytes.now ≤ MAX_SCRIPT_BYTES) }
@@ -27,7 +27,7 @@ fn plan_in(alloc: Global, bytes: &[u8]) -> Result<Plan, ScriptFailure>
     let text = match str::from_utf8(bytes) {
         Ok(text) => text,
         Err(error) => {
-            let told = format!(in alloc; "byte {}: the text is not UTF-8", error.valid_up_to());
+            let told = format!(in alloc; "byte {}: invalid UTF-8", error.valid_up_to());
             return Err(ScriptFailure::no_script(ScriptFault::Json, told.ok()));
         }
     };
@@ -37,7 +37,7 @@ fn plan_in(alloc: Global, bytes: &[u8]) -> Result<Plan, ScriptFailure>
     }
 }
 
-/// What the text asks for. The text is let go.
+/// The plan of the text. The text is dropped.
 pub fn plan_of(alloc: Global, text: Vec<u8>) -> Result<Plan, ScriptFailure>
     ensures limits { IfOk result IsWithinLimits }
     ensures few { OnOk result (length text.items ≤ MAX_SCRIPT_BYTES) }

@@ -27,7 +27,7 @@ fn tells_no_failure(entry: &LogEntry) -> bool
     }
 }
 
-/// How all steps ended of which this is the log.
+/// How the steps of this log ended.
 fn end_of(log: &Log) -> ScriptEnd
     ensures { (result ≡ ScriptEnd.Returned) ↔ All TellsNoFailure log.now.entries }
 {
@@ -51,8 +51,8 @@ fn tell_fault<O: Write>(fault: WorldFault, out: &mut O) -> io::Result<()> {
     writeln!(out, "fault {code}")
 }
 
-/// Takes the steps, and prints what each did. A step that isn't taken is reported to `err`, and where runs
-/// stopped that did not return.
+/// Takes the steps, and prints what each did. Reports to `err` a step that is not taken, and where runs stopped
+/// that did not return.
 fn take_steps<O: Write, E: Write>(
     alloc: Global,
     world: &mut World,
@@ -79,8 +79,8 @@ fn take_steps<O: Write, E: Write>(
     Ok(end)
 }
 
-/// Takes the steps of a script, and prints what each did. A step that names what is not there, or for which there is
-/// no memory, is reported after the steps before it. The text is let go before the first step.
+/// Takes the steps of a script, and prints what each did. A step that names something that does not exist, or that runs out of
+/// memory, is reported after the steps before it. The text is dropped before the first step.
 pub fn run_script<O: Write, E: Write>(
     alloc: Global,
     text: Vec<u8>,

@@ -16,7 +16,7 @@ fn counts_of(plan: &Plan) -> Counts {
     }
 }
 
-/// Says why this step, counted from 0, was not taken.
+/// Reports why this step, counted from 0, was not taken.
 fn explain_fault<E: Write>(
     fault: WorldFault,
     number: usize,
@@ -25,11 +25,11 @@ fn explain_fault<E: Write>(
 ) -> io::Result<()> {
     match fault {
         WorldFault::NoSuch => writeln!(err, "step {number}, {missing}"),
-        WorldFault::Memory => writeln!(err, "step {number}: there is not enough memory"),
+        WorldFault::Memory => writeln!(err, "step {number}: out of memory"),
     }
 }
 
-/// Says why the step after those of the log was not taken. A sentence that can't be written changes nothing.
+/// Reports why the step after those of the log was not taken. If the sentence cannot be written, nothing changes.
 pub fn explain_stop<E: Write>(fault: WorldFault, plan: &Plan, log: &Log, err: &mut E) {
     let number = log.entries().len();
     if let Some(step) = plan.steps.as_slice().get(number).copied() {
@@ -52,7 +52,7 @@ fn module_bytes(plan: &Plan, loop_no: u32) -> &[u8] {
     }
 }
 
-/// How many calls this loop may have open.
+/// The call-depth limit of this loop.
 fn depth_of(plan: &Plan, loop_no: u32) -> u32 {
     let planned = plan.loops.as_slice().get(loop_no as usize);
     planned.map_or(MAX_DEPTH, |planned| planned.settings.depth)
@@ -64,7 +64,7 @@ fn undone_in(world: &World, job: JobId) -> Option<&Undone> {
         && undone.job.request == job.request)
 }
 
-/// Tells where a callback of a loop stopped, if it did not return: the loop has failed, so that it was the last.
+/// Reports where a callback of a loop stopped, if it did not return: then the loop has failed, and it was the last.
 fn explain_callback<E: Write>(
     world: &World,
     plan: &Plan,
@@ -83,7 +83,7 @@ fn explain_callback<E: Write>(
     }
 }
 
-/// Tells where the work of a job stopped, if it did not return.
+/// Reports where the work of a job stopped, if it did not return.
 fn explain_work<E: Write>(world: &World, plan: &Plan, job: JobId, err: &mut E) -> io::Result<()> {
     let Some(undone) = undone_in(world, job) else {
         return Ok(());
@@ -101,7 +101,7 @@ fn explain_work<E: Write>(world: &World, plan: &Plan, job: JobId, err: &mut E) -
     tell_stopped(&ran, module_bytes(plan, job.loop_no), &stopped, err)
 }
 
-/// Tells where each run of the log stopped that did not return, in the order of the log.
+/// Reports where each run of the log stopped that did not return, in the order of the log.
 pub fn explain_log<E: Write>(world: &World, plan: &Plan, log: &Log, err: &mut E) -> io::Result<()> {
     for entry in log.entries() {
         match entry {

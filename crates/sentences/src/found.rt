@@ -1,4 +1,4 @@
-// What is found at a byte at which a module is refused by its form, and what helps.
+// What is found at the byte at which `decode` rejects a module, and what helps.
 
 use crate::extension::{self, Proposal};
 use crate::help::{LOWERED, NO_TABLES, OPTIMIZED, PLAIN, SOFT};
@@ -33,14 +33,14 @@ fn is_text(bytes: &[u8]) -> bool {
     matches!(first, Some(b'(' | b';'))
 }
 
-/// What bytes are that don't begin as a module does, where that is known.
+/// What bytes are that do not begin as a module does, if that is known.
 pub fn format(bytes: &[u8]) -> Option<Reason> {
     let (name, help) = match bytes {
-        _ if is_text(bytes) => ("text", "wat2wasm makes a module of it"),
-        [0x1f, 0x8b, ..] => ("gzip", "unpack it"),
+        _ if is_text(bytes) => ("a text file", "assemble it with wat2wasm"),
+        [0x1f, 0x8b, ..] => ("a gzip file", "decompress it"),
         [0x7f, b'E', b'L', b'F', ..] => ("an ELF file", "compile with --target=wasm32"),
         [b'!', b'<', b'a', b'r', b'c', b'h', b'>', ..] => ("an archive", "link it with wasm-ld"),
-        [b'B', b'C', 0xc0, 0xde, ..] => ("LLVM's bitcode", "compile without -flto"),
+        [b'B', b'C', 0xc0, 0xde, ..] => ("LLVM bitcode", "compile without -flto"),
         _ => return None,
     };
     Some(Reason::format(name).with(help))
@@ -51,8 +51,8 @@ pub fn version(bytes: &[u8]) -> Option<Reason> {
     if bytes.get(4..OPENING)? != COMPONENT {
         return None;
     }
-    let reason = Reason::words("the version is 0d 00 01 00, a component's");
-    Some(reason.with("the host takes core modules"))
+    let reason = Reason::words("the version is 0d 00 01 00: a component");
+    Some(reason.with("this host runs core modules only"))
 }
 
 /// Which section the bytes end in.
@@ -83,19 +83,28 @@ pub fn opcode(bytes: &[u8], at: usize) -> Option<Reason> {
     let opcode = *bytes.get(at)?;
     Some(match (extension::of_operation(bytes, at), opcode) {
         (Some(extension), _) => newer(opcode, extension),
-        (None, 0x05) => Reason::byte(opcode, "else outside the first branch of an if"),
-        (None, _) => Reason::byte(opcode, "no instruction"),
+        (None, 0x05) => Reason::byte(opcode, "else without an if"),
+        (None, _) => Reason::byte(opcode, "unknown opcode"),
     })
 }
 
 /// What is of another profile: a type, an import or an instruction.
 pub fn profile(byte: u8) -> Option<Reason> {
     let reason = match byte {
-        0x01 => Reason::byte(byte, "a table is imported, which no host gives"),
-        0x02 => Reason::byte(byte, "a memory is imported; a module has its own"),
-        0x03 => Reason::byte(byte, "a global is imported; only functions can be"),
-        0x7c => Reason::byte(byte, "the type f64").with(SOFT),
-        0x7d => Reason::byte(byte, "the type f32").with(SOFT),
+        0x01 => Reason::byte(
+            byte,
+            "imported tables are not supported; link without --import-table",
+        ),
+        0x02 => Reason::byte(
+            byte,
+            "imported memories are not supported; link without --import-memory",
+        ),
+        0x03 => Reason::byte(
+            byte,
+            "imported globals are not supported; only functions can be imported",
+        ),
+        0x7c => Reason::byte(byte, "the type f64 is not supported").with(SOFT),
+        0x7d => Reason::byte(byte, "the type f32 is not supported").with(SOFT),
         _ => Reason::operation(name_of(byte)?).with(SOFT),
     };
     Some(reason)
@@ -107,7 +116,7 @@ fn kind_in_function(byte: u8) -> Reason {
         Some(extension) => newer(byte, extension),
         None => Reason::byte(
             byte,
-            "no type of a local or a block, or no 0 where one must stand",
+            "invalid type of a local or a block, or a reserved byte that is not 0",
         )
         .with(LOWERED),
     }
@@ -117,8 +126,8 @@ fn kind_in_function(byte: u8) -> Reason {
 fn kind_in_section(section: u8, byte: u8) -> Reason {
     match (extension::in_section(section, byte), byte) {
         (Some(extension), _) => newer(byte, extension),
-        (None, 0x63..=0x7b) => Reason::byte(byte, "no type that is taken there").with(PLAIN),
-        (None, _) => Reason::byte(byte, "no kind of type, import, export or limits"),
+        (None, 0x63..=0x7b) => Reason::byte(byte, "unsupported type").with(PLAIN),
+        (None, _) => Reason::byte(byte, "invalid kind of type, import, export or limits"),
     }
 }
 
@@ -129,7 +138,7 @@ pub fn kind(byte: u8, part: Option<Part>) -> Reason {
         Some(Part::Section(section)) => kind_in_section(section, byte),
         None => match extension::of_section(byte) {
             Some(extension) => newer(byte, extension),
-            None => Reason::byte(byte, "no kind of section").with(PLAIN),
+            None => Reason::byte(byte, "unknown section").with(PLAIN),
         },
     }
 }
@@ -140,9 +149,9 @@ fn of_tables(sizes: Sizes) -> Reason {
         return Reason::words("more than one table");
     }
     if sizes.first > MAX_TABLE_ELEMENTS {
-        return more_than(MAX_TABLE_ELEMENTS, "elements of the table at first");
+        return more_than(MAX_TABLE_ELEMENTS, "initial table elements");
     }
-    Reason::words("the table has more elements at first than at most")
+    Reason::words("the initial size of the table exceeds its maximum")
 }
 
 /// Which limit a memory exceeds.
@@ -151,21 +160,21 @@ fn of_memories(sizes: Sizes) -> Reason {
         return Reason::words("more than one memory");
     }
     if sizes.first > MAX_PAGES {
-        return more_than(MAX_PAGES, "pages of the memory at first").with(
-            "less static data, or a smaller stack by -z stack-size=65536",
+        return more_than(MAX_PAGES, "initial memory pages").with(
+            "reduce static data, or the stack with -z stack-size=65536",
         );
     }
     if sizes.most.is_some_and(|most| most > MAX_DECLARED_PAGES) {
-        return more_than(MAX_DECLARED_PAGES, "pages of the memory at most");
+        return more_than(MAX_DECLARED_PAGES, "maximum memory pages");
     }
-    Reason::words("the memory has more pages at first than at most")
+    Reason::words("the initial size of the memory exceeds its maximum")
 }
 
 /// Which limit is meant in a section.
 fn of_section(bytes: &[u8], at: usize, section: u8) -> Option<Reason> {
     Some(match section {
         TYPES if is_in_count(bytes, TYPES, at)? => more_than(MAX_TYPES, "types"),
-        TYPES => more_than(MAX_PARAMS, "parameters of a type"),
+        TYPES => more_than(MAX_PARAMS, "parameters of a function type"),
         IMPORTS => more_than(MAX_IMPORTS, "imports"),
         FUNCTIONS | CODE => more_than(MAX_FUNCTIONS, "functions"),
         TABLES => of_tables(sizes_of(bytes, TABLES)?),
@@ -187,7 +196,9 @@ fn in_function(bytes: &[u8], at: usize) -> Option<Reason> {
 /// Which limit is meant at a byte of this part.
 pub fn limit(bytes: &[u8], at: usize, part: Option<Part>) -> Option<Reason> {
     match part {
-        None => Some(Reason::longer_than(MAX_MODULE_BYTES as u64).with("strip its debug names")),
+        None => Some(Reason::longer_than(MAX_MODULE_BYTES as u64).with(
+            "strip it with wasm-ld --strip-all",
+        )),
         Some(Part::Section(section)) => of_section(bytes, at, section),
         Some(Part::Function(_)) => in_function(bytes, at),
     }

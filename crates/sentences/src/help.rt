@@ -1,10 +1,11 @@
-// What helps against a refusal.
+// What helps against a rejection.
 
-/// Compilers leave out what is newer than WebAssembly 1.0.
+/// Compilers can leave out what is newer than WebAssembly 1.0.
 pub const PLAIN: &str = "compile with -mcpu=mvp";
 
-/// Compilers leave it out, and the guest kit's tool rewrites it.
-pub const LOWERED: &str = "compile with -mcpu=mvp, or rewrite it with examples/kit/lower.py";
+/// Compilers can leave it out, and a tool of the guest SDK rewrites it.
+pub const LOWERED: &str =
+    "compile with -mcpu=mvp, or rewrite it with `python3 -m wasmloop.lower IN OUT`";
 
 /// Exceptions need none of it.
 pub const NO_EXCEPTIONS: &str = "compile with -fno-exceptions, or panic=abort";
@@ -21,12 +22,12 @@ pub const NO_TABLES: &str = "compile with -fno-jump-tables";
 /// Compiled without optimization, each value has a local of its own.
 pub const OPTIMIZED: &str = "compile with -O1 or more";
 
-/// Floats can be computed by functions on integers.
-pub const SOFT: &str = "floating point is lowered by examples/kit/lower.py";
+/// Functions on integers can compute floats.
+pub const SOFT: &str = "`python3 -m wasmloop.lower IN OUT` rewrites floating point";
 
-/// What a compiler makes of one file is no module yet.
+/// The compiler's output for one file is not a module yet.
 pub const LINKED: &str = "link it with wasm-ld";
 
-/// What is imported, and no function of the host's, is missing in the module.
+/// An import that is not a function of the host is missing in the module.
 pub const DEFINED: &str =
-    "link what defines it, for WASI examples/kit/wasi.c, or declare it as examples/uv.h does";
+    "link a definition, for WASI examples/kit/wasi.c, or declare it as examples/uv.h does";

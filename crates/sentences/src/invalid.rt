@@ -1,17 +1,17 @@
 // In which section, function and operation a module is not valid, and for what.
 
-ghost use Rattle.std.specs.Prelude.{IfSome};
+ghost use Rattle.std.specs.Prelude.{IfOk, IfSome};
 ghost use Rattle.loader.specs.declared.refusal.Refusal.TheVariants.{Validate};
 ghost use Rattle.sentences.specs.RefusalPlaces.{IsPlaceOf, IsPlaceOfSite};
 
 use crate::found;
 use crate::help::{NO_TABLES, OPTIMIZED};
-use crate::reason::Reason;
+use crate::reason::{Finding, Reason};
 use crate::types::name_of_type;
 use limits::{MAX_HEIGHT, MAX_LOCALS, MAX_NESTING};
-use loader::decoded;
+use loader::{Refusal, decoded};
 use places::{Place, place_of_function, place_of_operation, place_of_section};
-use std::alloc::Global;
+use std::alloc::{AllocError, Global};
 use validate::{InvalidPart, Unfit, ValidFault, refused_at};
 
 fn place_of(bytes: &[u8], site: InvalidPart) -> Option<Place>
@@ -40,8 +40,8 @@ fn of_type(name: &str, unfit: Option<Unfit>) -> Option<Reason> {
         None => {}
     }
     let words = match name {
-        "br_table" => "the labels take operands of different types",
-        "drop" | "select" => "an operand is wanted, and none is there",
+        "br_table" => "the branch targets have different types",
+        "drop" | "select" => "expected an operand, found none",
         _ => return None,
     };
     Some(Reason::words(words))
@@ -64,24 +64,35 @@ fn reason_of(bytes: &[u8], fault: ValidFault, site: InvalidPart, place: &Place) 
             (MAX_LOCALS, "parameters and locals", OPTIMIZED)
         }
         (ValidFault::Height, InvalidPart::Operation { .. }, _) => {
-            (MAX_HEIGHT, "operands at a time", "split the expression")
+            (MAX_HEIGHT, "operands on the stack", "split the expression")
         }
-        (ValidFault::Nesting, _, _) => (MAX_NESTING, "blocks in one another", NO_TABLES),
+        (ValidFault::Nesting, _, _) => (MAX_NESTING, "nested blocks", NO_TABLES),
         _ => return None,
     };
     Some(Reason::more_than(most as u64, things).with(help))
 }
 
 /// The part of the module that is not valid for this fault, and what is found there.
-pub fn invalid(alloc: Global, bytes: &[u8], fault: ValidFault) -> Option<(Place, Option<Reason>)>
-    ensures { IfSome result (λ found. IsPlaceOf (Validate fault) bytes.now found.0) }
+pub fn invalid(alloc: Global, bytes: &[u8], fault: ValidFault) -> Result<Finding, AllocError>
+    ensures { IfOk result (λ found. IfSome found (λ it. IsPlaceOf (Validate fault) bytes.now it.0)) }
 {
-    let module = decoded(alloc, bytes).ok()?;
-    let refused = refused_at(alloc, &module)?;
-    if refused.fault != fault {
-        return None;
+    let module = match decoded(alloc, bytes) {
+        Ok(module) => module,
+        Err(Refusal::Memory) => return Err(AllocError),
+        Err(_) => return Ok(None),
+    };
+    let Some(refused) = refused_at(alloc, &module) else {
+        return Ok(None);
+    };
+    if refused.fault == ValidFault::Memory {
+        return Err(AllocError);
     }
-    let place = place_of(bytes, refused.site)?;
+    if refused.fault != fault {
+        return Ok(None);
+    }
+    let Some(place) = place_of(bytes, refused.site) else {
+        return Ok(None);
+    };
     let reason = reason_of(bytes, refused.fault, refused.site, &place);
-    Some((place, reason))
+    Ok(Some((place, reason)))
 }

@@ -1,8 +1,7 @@
-//! What standard error says, in words: where and why bytes are refused (`explain`), where a run stopped that did not return
-//! (`tell_stopped`), what a module lacks to run on a loop (`warn`), what arguments a function takes (`Mismatch`), what a step of
-//! a script names that isn't there (`Missing`); `flaws` says why a text is no script. Names that come from a module are printed as a line can
-//! hold them. Clauses say that the place of a refusal is that of what the refusing stage names; of words they say nothing,
-//! and tests compare them.
+//! The sentences on standard error: where and why bytes are rejected (`explain`), where a run stopped (`tell_stopped`), what a module lacks
+//! to run on a loop (`warn`), which arguments a function takes (`Mismatch`), what a step of a script names that does not exist (`Missing`).
+//! The crate `flaws` says why a text is not a script. Names from a module are escaped. Clauses say that the place of a rejection is the one
+//! that the rejecting stage names; no clause covers the wording, which tests compare.
 #![tactic(auto)]
 
 mod count;
@@ -31,6 +30,6 @@ pub use meanings::meaning;
 pub use mismatch::Mismatch;
 pub use missing::{Counts, Missing};
 pub use ran::{Ran, What};
-pub use refusal::{RefusalAccount, account_of, explain};
+pub use refusal::{RefusalAccount, account_of, explain, try_explain};
 pub use stopping::{Allowed, Reason, Unfinished, ending_of, tell_place, tell_stopped, unit_of};
-pub use warning::{Warning, warn, warn_refused, warnings};
+pub use warning::{Warning, warn, warn_loop, warn_refused, warnings};

@@ -1,4 +1,4 @@
-// Why words are not the arguments of a function.
+// Why arguments do not match a function.
 
 use crate::listing::Listing;
 use crate::types::name_of_type;
@@ -7,17 +7,16 @@ use std::alloc::{AllocError, Global};
 use std::fmt;
 use syntax::types::ValType;
 
-/// Why words are not the arguments of a function.
+/// Why arguments do not match a function.
 #[derive(Drop)]
 pub enum Mismatch<'a> {
-    /// The function takes so many arguments, but so many words are given. The types are named where there is memory for
-    /// them.
+    /// The function takes `taken` arguments, and `given` were given. `types` names their types, if memory suffices.
     Count {
         taken: usize,
         types: Option<String>,
         given: usize,
     },
-    /// This word, counted from 1, spells no value of its type.
+    /// This argument, counted from 1, is not a value of its type.
     Word {
         number: usize,
         value_type: ValType,
@@ -59,9 +58,9 @@ fn write_count<W: fmt::Write>(
 ) -> fmt::Result {
     match types {
         Some(types) if taken > 0 => {
-            write!(f, "arguments taken: {taken} ({types}); given: {given}")
+            write!(f, "expected arguments: {taken} ({types}), found: {given}")
         }
-        _ => write!(f, "arguments taken: {taken}; given: {given}"),
+        _ => write!(f, "expected arguments: {taken}, found: {given}"),
     }
 }
 
@@ -83,7 +82,7 @@ impl fmt::Display for Mismatch<'_> {
                 write!(f, "argument {number} ({name}), '{}': ", Shown(word))?;
                 write!(
                     f,
-                    "a whole number from 0 to {most}; -1 is written as {most}"
+                    "expected a whole number from 0 to {most}; write -1 as {most}"
                 )
             }
         }

@@ -1,4 +1,4 @@
-// What a step of a script names that is not there.
+// What a step of a script names that does not exist.
 
 use limits::MAX_ASYNCS;
 use std::fmt;
@@ -14,7 +14,7 @@ pub struct Counts {
     pub workers: u32,
 }
 
-/// A step that names what is not there, in a script with these counts.
+/// A step that names something that does not exist, in a script with these counts.
 #[derive(Clone, Copy, Debug)]
 pub struct Missing {
     pub step: Step,
@@ -44,7 +44,7 @@ fn write_step<W: fmt::Write>(f: &mut fmt::Formatter<W>, step: Step) -> fmt::Resu
     }
 }
 
-/// Writes that there is no loop or worker of this number, of so many.
+/// Writes that there is no loop or worker of this number, and how many there are.
 fn write_absent<W: fmt::Write>(
     f: &mut fmt::Formatter<W>,
     name: &str,
@@ -53,7 +53,7 @@ fn write_absent<W: fmt::Write>(
 ) -> fmt::Result {
     write!(
         f,
-        "there is no {name} {number}; {name}s of the script: {count}"
+        "there is no {name} {number}; {name}s in the script: {count}"
     )
 }
 
@@ -68,7 +68,7 @@ impl fmt::Display for Missing {
             Step::Send(loop_no, number) if (loop_no as usize) < self.counts.loops => {
                 write!(
                     f,
-                    "there is no async {number}; they are numbered from 0 to {LAST_ASYNC}"
+                    "there is no async {number}; asyncs are numbered 0 to {LAST_ASYNC}"
                 )
             }
             Step::Loop(number)

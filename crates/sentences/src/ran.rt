@@ -6,7 +6,7 @@ use std::fmt;
 /// A callback of a loop, or the work of one of its requests, as in `timer 1` and `request 3`.
 #[derive(Clone, Copy, Debug)]
 pub enum What {
-    /// A callback, with its handle, or its request where the kind is `After`. The start function and `uv_main` have none.
+    /// A callback, with the number of its handle, or of its request if the kind is `After`. The start function and `uv_main` have none.
     Callback { kind: EntryKind, number: u32 },
     /// The work of this request.
     Work { request: u32 },

@@ -1,7 +1,7 @@
-// Why bytes are refused, in words.
+// Why bytes are rejected, in words.
 
 use crate::count::Grouped;
-use places::CutShort;
+use places::{CutShort, Place};
 use std::fmt;
 
 /// What is found.
@@ -10,7 +10,7 @@ enum Found {
     Words(&'static str),
     /// A byte, and what it is or begins.
     Byte(u8, &'static str),
-    /// An operation that is not taken.
+    /// An instruction that is not supported.
     Operation(&'static str),
     /// There are more than so many of these, or one has more.
     MoreThan(u64, &'static str),
@@ -18,7 +18,7 @@ enum Found {
     LongerThan(u64),
     /// Bytes that begin otherwise than a module, and what they are.
     Format(&'static str),
-    /// A section that says it has so many bytes, of which so many are there.
+    /// A section that declares more bytes than are left.
     CutShort {
         section: u8,
         said: u32,
@@ -31,12 +31,12 @@ enum Found {
     },
     /// A segment of this number, and what it is.
     Segment(u32, &'static str),
-    /// An operand that is not there, by the name of its type, and by that of the one in its place.
+    /// The type of the expected operand, and of the one found in its place.
     Operand {
         wanted: &'static str,
         found: Option<&'static str>,
     },
-    /// So many operands that a block leaves over, by the name of the topmost one's type.
+    /// How many extra operands a block leaves, and the type of the topmost.
     Left {
         count: usize,
         last: Option<&'static str>,
@@ -51,7 +51,10 @@ enum Help {
     Told(String),
 }
 
-/// Why bytes are refused. It prints as words, with what helps after them in brackets.
+/// Where bytes are rejected and what is found there, as far as that is known.
+pub type Finding = Option<(Place, Option<Reason>)>;
+
+/// Why bytes are rejected. It prints as a sentence, followed by what helps in brackets.
 #[derive(Debug, Drop)]
 pub struct Reason {
     found: Found,
@@ -71,7 +74,7 @@ impl Reason {
         Reason::of(Found::Words(words))
     }
 
-    /// A byte is not taken, for what it is or begins.
+    /// A byte is not supported, because of what it is or begins.
     pub fn byte(byte: u8, what: &'static str) -> Reason {
         Reason::of(Found::Byte(byte, what))
     }
@@ -110,22 +113,22 @@ impl Reason {
         Reason::of(Found::Counts { functions, bodies })
     }
 
-    /// The segment of this number is not taken, for what it is.
+    /// The segment of this number is not supported, because of what it is.
     pub fn segment(number: u32, what: &'static str) -> Reason {
         Reason::of(Found::Segment(number, what))
     }
 
-    /// The operation of this name is not taken.
+    /// The instruction of this name is not supported.
     pub fn operation(name: &'static str) -> Reason {
         Reason::of(Found::Operation(name))
     }
 
-    /// No operand of the type of this name is there, but one of another type or none.
+    /// An operand of type `wanted` was expected, and one of type `found` or none was found.
     pub fn operand(wanted: &'static str, found: Option<&'static str>) -> Reason {
         Reason::of(Found::Operand { wanted, found })
     }
 
-    /// A block leaves so many operands over, the topmost of the type of this name.
+    /// A block leaves `count` extra operands, the topmost of type `last`.
     pub fn left_over(count: usize, last: Option<&'static str>) -> Reason {
         Reason::of(Found::Left { count, last })
     }
@@ -153,10 +156,7 @@ fn write_left<W: fmt::Write>(
     count: usize,
     last: Option<&'static str>,
 ) -> fmt::Result {
-    write!(
-        f,
-        "the block leaves more operands than its type has results; too many: {count}"
-    )?;
+    write!(f, "extra operands at the end of the block: {count}")?;
     match last {
         Some(last) => write!(f, ", the topmost of type {last}"),
         None => Ok(()),
@@ -168,7 +168,7 @@ impl fmt::Display for Found {
         match *self {
             Found::Words(words) => f.write_str(words),
             Found::Byte(byte, what) => write!(f, "0x{byte:02x}: {what}"),
-            Found::Operation(name) => write!(f, "{name} is not taken"),
+            Found::Operation(name) => write!(f, "{name} is not supported"),
             Found::MoreThan(most, things) => write!(f, "more than {} {things}", Grouped(most)),
             Found::LongerThan(most) => {
                 write!(f, "the module has more than {} bytes", Grouped(most))
@@ -180,19 +180,16 @@ impl fmt::Display for Found {
                 left,
             } => write!(
                 f,
-                "section {section} says that it has {said} bytes; left: {left}"
+                "section {section} declares {said} bytes; bytes left: {left}"
             ),
             Found::Counts { functions, bodies } => write!(
                 f,
-                "there are more or fewer functions than bodies; functions: {functions}, bodies: {bodies}"
+                "the numbers of functions and bodies differ; functions: {functions}, bodies: {bodies}"
             ),
             Found::Segment(number, what) => write!(f, "segment {number} is {what}"),
             Found::Operand { wanted, found } => {
-                write!(f, "an operand of type {wanted} is wanted, and ")?;
-                match found {
-                    Some(found) => write!(f, "one of type {found} is there"),
-                    None => f.write_str("none is there"),
-                }
+                write!(f, "expected an operand of type {wanted}, found ")?;
+                f.write_str(found.unwrap_or("none"))
             }
             Found::Left { count, last } => write_left(f, count, last),
         }

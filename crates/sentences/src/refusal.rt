@@ -1,21 +1,21 @@
-// What is said of a refusal.
+// What is reported of a rejection.
 
-ghost use Rattle.std.specs.Prelude.{IfSome};
+ghost use Rattle.std.specs.Prelude.{◌≡◌, IfOk, IfSome, option_map};
 ghost use Rattle.sentences.specs.RefusalPlaces.{IsPlaceOf};
 
 use crate::help::LINKED;
 use crate::invalid::invalid;
 use crate::meanings::meaning;
-use crate::reason::Reason;
+use crate::reason::{Finding, Reason};
 use crate::undecoded::undecoded;
 use crate::unlinked::unlinked;
 use limits::MAX_MODULE_BYTES;
 use loader::Refusal;
 use places::{Place, is_object};
-use std::alloc::Global;
+use std::alloc::{AllocError, Global};
 use std::fmt;
 
-/// What is said of a refusal: where it is, as far as that is known, and why. It prints as a sentence.
+/// Where bytes are rejected, if that is known, and why. It prints as a sentence.
 #[derive(Debug, Drop)]
 pub struct RefusalAccount {
     pub place: Option<Place>,
@@ -31,35 +31,57 @@ impl fmt::Display for RefusalAccount {
     }
 }
 
-/// What is found at the place at which these bytes are refused so. They are read anew; without memory for that nothing is known.
-fn found_at(refusal: Refusal, alloc: Global, bytes: &[u8]) -> Option<(Place, Option<Reason>)>
-    ensures { IfSome result (λ found. IsPlaceOf refusal bytes.now found.0) }
+/// What is found at the place of the rejection. The bytes are read again.
+fn found_at(refusal: Refusal, alloc: Global, bytes: &[u8]) -> Result<Finding, AllocError>
+    ensures { IfOk result (λ found. IfSome found (λ it. IsPlaceOf refusal bytes.now it.0)) }
 {
     match refusal {
-        Refusal::Memory => None,
+        Refusal::Memory => Err(AllocError),
         Refusal::Decode(fault) => undecoded(alloc, bytes, fault),
         Refusal::Validate(fault) => invalid(alloc, bytes, fault),
         Refusal::Link(fault) => unlinked(alloc, bytes, fault),
     }
 }
 
-/// Where these bytes are refused so, and why. It reads them anew; without memory for that the place is left out.
-pub fn explain(refusal: Refusal, alloc: Global, bytes: &[u8]) -> RefusalAccount
-    ensures { IfSome result.place (IsPlaceOf refusal bytes.now) }
+/// The account of a rejection, by what is found at its place.
+fn account(refusal: Refusal, bytes: &[u8], finding: Finding) -> RefusalAccount
+    ensures { result.place ≡ option_map (λ it. it.0) finding }
 {
-    let (place, found) = match found_at(refusal, alloc, bytes) {
+    let (place, found) = match finding {
         Some((place, found)) => (Some(place), found),
         None => (None, None),
     };
     let reason = if is_object(bytes) {
-        Reason::words("an object file, by its section \"linking\"").with(LINKED)
+        Reason::words("an object file: it has a \"linking\" section").with(LINKED)
     } else {
         found.unwrap_or(Reason::words(meaning(refusal)))
     };
     RefusalAccount { place, reason }
 }
 
-/// Where these bytes are refused so, and why; of more bytes than a module may have nothing is said.
+/// Where and why these bytes are rejected. It reads them again. An error means that an allocation failed.
+pub fn try_explain(
+    refusal: Refusal,
+    alloc: Global,
+    bytes: &[u8],
+) -> Result<RefusalAccount, AllocError>
+    ensures { IfOk result (λ told. IfSome told.place (IsPlaceOf refusal bytes.now)) }
+{
+    let finding = found_at(refusal, alloc, bytes)?;
+    Ok(account(refusal, bytes, finding))
+}
+
+/// Where and why these bytes are rejected. It reads them again; if an allocation fails, the place is left out.
+pub fn explain(refusal: Refusal, alloc: Global, bytes: &[u8]) -> RefusalAccount
+    ensures { IfSome result.place (IsPlaceOf refusal bytes.now) }
+{
+    match try_explain(refusal, alloc, bytes) {
+        Ok(told) => told,
+        Err(AllocError) => account(refusal, bytes, None),
+    }
+}
+
+/// Where and why these bytes are rejected; None if they are longer than a module may be.
 pub fn account_of(refusal: Refusal, alloc: Global, bytes: &[u8]) -> Option<RefusalAccount>
     ensures { IfSome result (λ account. IfSome account.place (IsPlaceOf refusal bytes.now)) }
 {

@@ -1,4 +1,4 @@
-// Where a run stopped that did not return, in a sentence.
+// The sentence that says where a run stopped.
 
 use events::ended::{Ended, Ending};
 use events::trap::TrapCode;
@@ -15,13 +15,13 @@ use world_log::JobEnd;
 pub enum Reason {
     /// It trapped.
     Trap(TrapCode),
-    /// The limit of calls was met.
+    /// It exceeded the call-depth limit.
     Depth,
-    /// The fuel was spent.
+    /// It ran out of fuel.
     Spent,
 }
 
-/// How many calls its user lets a run have open, and by which words he gives it more of them and of fuel.
+/// The call-depth limit of a run, and the options or keys that raise its limits.
 #[derive(Clone, Copy, Debug)]
 pub struct Allowed {
     pub depth: u32,
@@ -30,7 +30,7 @@ pub struct Allowed {
 }
 
 impl Allowed {
-    /// By the options of the command line.
+    /// Raised by options of the command line.
     pub fn by_options(depth: u32) -> Allowed {
         Allowed {
             depth,
@@ -39,7 +39,7 @@ impl Allowed {
         }
     }
 
-    /// By the options of the command line, of a work function beside loops.
+    /// Raised by options of the command line, for a work function beside loops.
     pub fn of_work_by_options(depth: u32) -> Allowed {
         Allowed {
             fuel_by: "--work-fuel",
@@ -47,25 +47,25 @@ impl Allowed {
         }
     }
 
-    /// By the keys of a loop in a script.
+    /// Raised by keys of a loop in a script.
     pub fn by_keys(depth: u32) -> Allowed {
         Allowed {
             depth,
-            depth_by: "its loop's \"depth\"",
-            fuel_by: "its loop's \"fuel\"",
+            depth_by: "the loop's \"depth\"",
+            fuel_by: "the loop's \"fuel\"",
         }
     }
 
-    /// By the keys of a loop in a script, of a work function.
+    /// Raised by keys of a loop in a script, for a work function.
     pub fn of_work_by_keys(depth: u32) -> Allowed {
         Allowed {
-            fuel_by: "its loop's \"work_fuel\"",
+            fuel_by: "the loop's \"work_fuel\"",
             ..Allowed::by_keys(depth)
         }
     }
 }
 
-/// How a run ended that did not return.
+/// How a run ended, if it did not return.
 #[derive(Clone, Copy, Debug)]
 pub struct Unfinished<'a> {
     pub reason: Reason,
@@ -75,14 +75,14 @@ pub struct Unfinished<'a> {
     pub allowed: Allowed,
 }
 
-/// How a work function ended, as a log has it.
+/// How a work function ended, as in a log.
 pub fn ending_of(outcome: &Outcome) -> JobEnd {
     match outcome {
         Outcome::Done(value, _) => JobEnd::Done(*value),
         Outcome::Trap(trap) => JobEnd::Trap(*trap),
         Outcome::Depth => JobEnd::Depth,
         Outcome::Spent => JobEnd::Spent,
-        Outcome::NoMemory => JobEnd::NoMemory,
+        Outcome::NoMemory(_) => JobEnd::NoMemory,
     }
 }
 
@@ -119,7 +119,7 @@ impl<'a> Unfinished<'a> {
         })
     }
 
-    /// How the run of an order ended, if it did not return.
+    /// How the run of a job ended, if it did not return.
     pub fn of_told(told: &'a Told, allowed: Allowed) -> Option<Unfinished<'a>> {
         Some(Unfinished {
             reason: Reason::of_work(ending_of(&told.reply.outcome))?,
@@ -148,7 +148,7 @@ fn meaning(trap: TrapCode) -> &'static str {
     }
 }
 
-/// Writes that a run made more calls than may be open, and what lets it make more.
+/// Writes that a run exceeded the call-depth limit, and what raises it.
 fn write_depth<E: Write>(allowed: Allowed, err: &mut E) -> io::Result<()> {
     let Allowed {
         depth,
@@ -158,13 +158,12 @@ fn write_depth<E: Write>(allowed: Allowed, err: &mut E) -> io::Result<()> {
     if depth >= MAX_DEPTH {
         return write!(
             err,
-            "made more than {depth} nested calls (no run may make more)"
+            "exceeded the call-depth limit of {depth} (the maximum)"
         );
     }
-    let calls = if depth == 1 { "call" } else { "calls" };
     write!(
         err,
-        "made more than {depth} nested {calls} ({depth_by} lets it make up to {MAX_DEPTH})"
+        "exceeded the call-depth limit of {depth} ({depth_by} raises it, up to {MAX_DEPTH})"
     )
 }
 
@@ -187,7 +186,7 @@ fn write_reason<E: Write>(stopped: &Unfinished<'_>, err: &mut E) -> io::Result<(
         Reason::Depth => write_depth(stopped.allowed, err),
         Reason::Spent => write!(
             err,
-            "spent its fuel ({} gives more)",
+            "ran out of fuel ({} gives more)",
             stopped.allowed.fuel_by
         ),
     }
@@ -207,7 +206,7 @@ fn write_function<E: Write>(bytes: &[u8], function: u64, err: &mut E) -> io::Res
     }
 }
 
-/// Writes the operation at which a run stopped, after these words.
+/// Writes the instruction at which a run stopped, after `before`.
 fn write_innermost<E: Write>(
     bytes: &[u8],
     site: Site,
@@ -227,7 +226,7 @@ fn write_innermost<E: Write>(
     };
     err.write_all(before.as_bytes())?;
     write_function(bytes, function, err)?;
-    write!(err, ", operation {number} ({name}) at byte {at}")
+    write!(err, ", instruction {number} ({name}) at byte {at}")
 }
 
 /// Writes one of the calls around it.
@@ -279,19 +278,25 @@ fn write_callers<E: Write>(bytes: &[u8], trail: &Trail, err: &mut E) -> io::Resu
     }
 }
 
-/// Writes what mostly leads to an access outside the memory.
-fn write_cause<E: Write>(reason: Reason, err: &mut E) -> io::Result<()> {
-    match reason {
-        Reason::Trap(TrapCode::Memory) => {
-            err.write_all(
-                b"; a wild pointer, or a stack that is too small (link with a greater -z stack-size)",
-            )
-        }
+/// The usual cause of an access outside the memory at this address. A stack that overflows wraps at the start of the memory: its
+/// addresses are just below 2^32.
+fn cause_of(address: Option<u64>) -> &'static str {
+    match address {
+        Some(0xfff0_0000..=0xffff_ffff) =>
+            "an overflowing stack has such an address (link with a larger -z stack-size)",
+        _ => "often a wild pointer or a stack overflow (link with a larger -z stack-size)",
+    }
+}
+
+/// Writes the usual cause of a run's end, if it has one.
+fn write_cause<E: Write>(stopped: &Unfinished<'_>, err: &mut E) -> io::Result<()> {
+    match stopped.reason {
+        Reason::Trap(TrapCode::Memory) => write!(err, "; {}", cause_of(stopped.trail.address())),
         _ => Ok(()),
     }
 }
 
-/// Says where a run of a module of these bytes stopped, after these words: the operation, and the calls around it.
+/// Writes the backtrace of a run of a module of these bytes, after `before`.
 pub fn tell_place<E: Write>(
     bytes: &[u8],
     trail: &Trail,
@@ -304,7 +309,7 @@ pub fn tell_place<E: Write>(
     write_callers(bytes, trail, err)
 }
 
-/// Tells in a line how a run of a module of these bytes ended that did not return, and where.
+/// Writes a line that says how and where a run of a module of these bytes stopped.
 pub fn tell_stopped<W: fmt::Display, E: Write>(
     what: &W,
     bytes: &[u8],
@@ -316,6 +321,6 @@ pub fn tell_stopped<W: fmt::Display, E: Write>(
     write_reason(stopped, err)?;
     write!(err, ", after {used} {}", unit_of(used))?;
     tell_place(bytes, stopped.trail, ", in ", err)?;
-    write_cause(stopped.reason, err)?;
+    write_cause(stopped, err)?;
     err.write_all(b"\n")
 }

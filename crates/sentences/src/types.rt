@@ -11,7 +11,7 @@ pub fn name_of_type(value_type: ValType) -> &'static str {
     }
 }
 
-/// The type of a function. It prints as `[i32 i64] to [i32]`.
+/// The type of a function, printed as `[i32 i64] -> [i32]`.
 #[derive(Clone, Copy)]
 pub struct SpelledType<'a> {
     params: &'a [ValType],
@@ -38,7 +38,7 @@ impl fmt::Display for SpelledType<'_> {
     fn fmt<W: fmt::Write>(&self, f: &mut fmt::Formatter<W>) -> fmt::Result {
         f.write_str("[")?;
         write_types(f, self.params)?;
-        f.write_str("] to [")?;
+        f.write_str("] -> [")?;
         write_types(f, self.results)?;
         f.write_str("]")
     }

@@ -1,14 +1,14 @@
 // At which byte a module is refused by its form, and for what.
 
-ghost use Rattle.std.specs.Prelude.{IfSome};
+ghost use Rattle.std.specs.Prelude.{IfOk, IfSome};
 ghost use Rattle.loader.specs.declared.refusal.Refusal.TheVariants.{Decode};
 ghost use Rattle.sentences.specs.RefusalPlaces.{IsPlaceOf};
 
 use crate::found;
-use crate::reason::Reason;
+use crate::reason::{Finding, Reason};
 use decode::{DecodeFault, MalformedAt, refused_at};
 use places::{Part, Place, part_with};
-use std::alloc::Global;
+use std::alloc::{AllocError, Global};
 
 /// Which segment is to blame, where the fault is in one.
 fn of_segment(bytes: &[u8], part: Option<Part>) -> Option<Reason> {
@@ -38,12 +38,17 @@ fn reason_of(bytes: &[u8], refused: MalformedAt, part: Option<Part>) -> Option<R
 }
 
 /// The byte at which the bytes are refused for this fault, the part in which it or what is missing there lies, and what is found.
-pub fn undecoded(alloc: Global, bytes: &[u8], fault: DecodeFault) -> Option<(Place, Option<Reason>)>
-    ensures { IfSome result (λ found. IsPlaceOf (Decode fault) bytes.now found.0) }
+pub fn undecoded(alloc: Global, bytes: &[u8], fault: DecodeFault) -> Result<Finding, AllocError>
+    ensures { IfOk result (λ found. IfSome found (λ it. IsPlaceOf (Decode fault) bytes.now it.0)) }
 {
-    let refused = refused_at(alloc, bytes)?;
+    let Some(refused) = refused_at(alloc, bytes) else {
+        return Ok(None);
+    };
+    if refused.fault == DecodeFault::Memory {
+        return Err(AllocError);
+    }
     if refused.fault != fault {
-        return None;
+        return Ok(None);
     }
     let at = refused.at;
     let last = match refused.fault {
@@ -51,5 +56,5 @@ pub fn undecoded(alloc: Global, bytes: &[u8], fault: DecodeFault) -> Option<(Pla
         _ => at,
     };
     let part = part_with(bytes, last);
-    Some((Place::Byte { at, part }, reason_of(bytes, refused, part)))
+    Ok(Some((Place::Byte { at, part }, reason_of(bytes, refused, part))))
 }

@@ -1,16 +1,16 @@
-// Which import, export or segment doesn't fit the host, and what would.
+// Which import, export or segment does not fit the host, and what would.
 
-ghost use Rattle.std.specs.Prelude.{IfSome};
+ghost use Rattle.std.specs.Prelude.{IfOk, IfSome};
 ghost use Rattle.loader.specs.declared.refusal.Refusal.TheVariants.{Link};
 ghost use Rattle.sentences.specs.RefusalPlaces.{IsPlaceOf, IsPlaceOfMisfit};
 
 use crate::help::DEFINED;
 use crate::meanings::of_link;
-use crate::reason::Reason;
+use crate::reason::{Finding, Reason};
 use crate::types::SpelledType;
 use imports::{Call, CallType, EntryPoint, LinkFault, UnlinkedPart, refused_at};
 use limits::PAGE_SIZE;
-use loader::validated;
+use loader::{Refusal, validated};
 use places::{DATA, ELEMENTS, Place, place_of_section};
 use std::alloc::{AllocError, Global};
 use syntax::contents::{Contents, ExternKind, FuncType, Import, ModuleExport};
@@ -20,7 +20,7 @@ use validate::{type_at, type_of_function};
 
 /// The functions that can be imported.
 fn offered(alloc: Global) -> Result<String, AllocError> {
-    let mut text = String::from_str(alloc, "there are")?;
+    let mut text = String::from_str(alloc, "it has")?;
     let mut between = " ";
     for call in Call::ALL {
         write!(text, "{between}{}", call.name())?;
@@ -29,38 +29,56 @@ fn offered(alloc: Global) -> Result<String, AllocError> {
     Ok(text)
 }
 
-/// Which type is wanted, and which is there.
-fn compared(alloc: Global, wanted: CallType, found: &FuncType) -> Option<String> {
+/// The expected type, and the one found.
+fn compared(
+    alloc: Global,
+    wanted: CallType,
+    found: Option<&FuncType>,
+) -> Result<Option<String>, AllocError> {
+    let Some(found) = found else {
+        return Ok(None);
+    };
     let wanted = SpelledType::new(wanted.params, wanted.results);
     let found = SpelledType::new(found.params.as_slice(), found.results.as_slice());
-    format!(in alloc; "{wanted} is wanted, and {found} is there").ok()
+    Ok(Some(format!(in alloc; "expected {wanted}, found {found}")?))
 }
 
-/// What is known of an import that is refused so.
+/// What is known of a rejected import.
 fn of_import(
     alloc: Global,
     contents: &Contents,
     import: &Import,
     fault: LinkFault,
-) -> Option<String> {
+) -> Result<Option<String>, AllocError> {
     match fault {
-        LinkFault::Name => offered(alloc).ok(),
-        LinkFault::BadType => {
-            let wanted = Call::from_name(import.name.as_slice())?.signature();
-            compared(alloc, wanted, type_at(contents, import.type_index)?)
-        }
-        _ => String::from_str(alloc, DEFINED).ok(),
+        LinkFault::Name => Ok(Some(offered(alloc)?)),
+        LinkFault::BadType => match Call::from_name(import.name.as_slice()) {
+            Some(call) => compared(
+                alloc,
+                call.signature(),
+                type_at(contents, import.type_index),
+            ),
+            None => Ok(None),
+        },
+        _ => Ok(Some(String::from_str(alloc, DEFINED)?)),
     }
 }
 
-/// What is known of an export that the host can't call.
-fn of_export(alloc: Global, contents: &Contents, export: &ModuleExport) -> Option<String> {
-    let wanted = EntryPoint::from_name(export.name.as_slice())?.signature();
+/// What is known of an export that the host cannot call.
+fn of_export(
+    alloc: Global,
+    contents: &Contents,
+    export: &ModuleExport,
+) -> Result<Option<String>, AllocError> {
+    let Some(entry) = EntryPoint::from_name(export.name.as_slice()) else {
+        return Ok(None);
+    };
+    let wanted = entry.signature();
     if export.kind == ExternKind::Func {
-        return compared(alloc, wanted, type_of_function(contents, export.index)?);
+        return compared(alloc, wanted, type_of_function(contents, export.index));
     }
     let wanted = SpelledType::new(wanted.params, wanted.results);
-    format!(in alloc; "a function of type {wanted} is wanted").ok()
+    Ok(Some(format!(in alloc; "expected a function of type {wanted}")?))
 }
 
 /// Whether so many elements or bytes from this offset on end beyond the room, and where.
@@ -73,74 +91,84 @@ fn end_behind(room: u64, offset: &Initializer, count: usize) -> Option<u64> {
 }
 
 /// The first element segment that ends beyond the table.
-fn of_elements(alloc: Global, contents: &Contents) -> Option<String> {
+fn of_elements(alloc: Global, contents: &Contents) -> Result<Option<String>, AllocError> {
     let room = contents.table.map_or(0, |limits| u64::from(limits.min));
     for (number, element) in contents.elements.as_slice().iter().enumerate() {
         if let Some(end) = end_behind(room, &element.offset, element.functions.len()) {
-            return format!(in alloc;
-                "segment {number} ends at {end}; elements of the table at first: {room}"
-            ).ok();
+            return Ok(Some(format!(in alloc;
+                "segment {number} ends at {end}; initial table elements: {room}"
+            )?));
         }
     }
-    None
+    Ok(None)
 }
 
 /// The first data segment that ends beyond the memory.
-fn of_data(alloc: Global, contents: &Contents) -> Option<String> {
+fn of_data(alloc: Global, contents: &Contents) -> Result<Option<String>, AllocError> {
     let pages = contents.memory.map_or(0, |limits| u64::from(limits.min));
     let room = pages.saturating_mul(PAGE_SIZE as u64);
     for (number, segment) in contents.data.as_slice().iter().enumerate() {
         if let Some(end) = end_behind(room, &segment.offset, segment.bytes.len()) {
-            return format!(in alloc;
-                "segment {number} ends at {end}; bytes of the memory at first: {room}"
-            ).ok();
+            return Ok(Some(format!(in alloc;
+                "segment {number} ends at {end}; initial memory bytes: {room}"
+            )?));
         }
     }
-    None
+    Ok(None)
 }
 
-/// The part of the module that is refused so, and what is known of it.
+/// The rejected part of the module, and what is known of it. (The names of a decoded module are UTF-8, so that only an allocation can fail.)
 fn part_of(
     alloc: Global,
     bytes: &[u8],
     contents: &Contents,
     site: UnlinkedPart,
     fault: LinkFault,
-) -> Option<(Place, Option<String>)>
-    ensures { IfSome result (λ found. IsPlaceOfMisfit bytes.now contents.now site found.0) }
+) -> Result<(Option<Place>, Option<String>), AllocError>
+    ensures { IfOk result (λ found. IfSome found.0 (IsPlaceOfMisfit bytes.now contents.now site)) }
 {
-    Some(match site {
+    match site {
         UnlinkedPart::Import(number) => {
-            let import = contents.imports.get(number)?;
+            let Some(import) = contents.imports.get(number) else {
+                return Ok((None, None));
+            };
             let (module, name) = (import.module.as_slice(), import.name.as_slice());
-            (
-                Place::import(alloc, number, module, name)?,
-                of_import(alloc, contents, import, fault),
-            )
+            let place = Place::import(alloc, number, module, name).ok_or(AllocError)?;
+            Ok((Some(place), of_import(alloc, contents, import, fault)?))
         }
         UnlinkedPart::Export(number) => {
-            let export = contents.exports.get(number)?;
-            (
-                Place::export(alloc, export.name.as_slice())?,
-                of_export(alloc, contents, export),
-            )
+            let Some(export) = contents.exports.get(number) else {
+                return Ok((None, None));
+            };
+            let place = Place::export(alloc, export.name.as_slice()).ok_or(AllocError)?;
+            Ok((Some(place), of_export(alloc, contents, export)?))
         }
-        UnlinkedPart::Elements => (
-            place_of_section(bytes, ELEMENTS)?,
-            of_elements(alloc, contents),
-        ),
-        UnlinkedPart::Data => (place_of_section(bytes, DATA)?, of_data(alloc, contents)),
-    })
+        UnlinkedPart::Elements => {
+            Ok((
+                place_of_section(bytes, ELEMENTS),
+                of_elements(alloc, contents)?,
+            ))
+        }
+        UnlinkedPart::Data => Ok((place_of_section(bytes, DATA), of_data(alloc, contents)?)),
+    }
 }
 
-/// What of the module doesn't fit the host, and what else is known.
-pub fn unlinked(alloc: Global, bytes: &[u8], fault: LinkFault) -> Option<(Place, Option<Reason>)>
-    ensures { IfSome result (λ found. IsPlaceOf (Link fault) bytes.now found.0) }
+/// What part of the module does not fit the host, and what else is known.
+pub fn unlinked(alloc: Global, bytes: &[u8], fault: LinkFault) -> Result<Finding, AllocError>
+    ensures { IfOk result (λ found. IfSome found (λ it. IsPlaceOf (Link fault) bytes.now it.0)) }
 {
-    let valid = validated(alloc, bytes).ok()?;
-    let (place, told) = part_of(alloc, bytes, valid.contents(), refused_at(&valid)?, fault)?;
-    Some((
-        place,
-        told.map(|told| Reason::words(of_link(fault)).with_told(told)),
-    ))
+    let valid = match validated(alloc, bytes) {
+        Ok(valid) => valid,
+        Err(Refusal::Memory) => return Err(AllocError),
+        Err(_) => return Ok(None),
+    };
+    let Some(site) = refused_at(&valid) else {
+        return Ok(None);
+    };
+    let (place, told) = part_of(alloc, bytes, valid.contents(), site, fault)?;
+    let Some(place) = place else {
+        return Ok(None);
+    };
+    let reason = told.map(|told| Reason::words(of_link(fault)).with_told(told));
+    Ok(Some((place, reason)))
 }

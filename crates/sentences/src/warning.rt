@@ -4,19 +4,20 @@ use imports::{Call, EntryPoint, Linked};
 use limits::MAX_EMITS;
 use std::fmt;
 use std::io::{self, Write};
+use syntax::contents::ExternKind;
 
 /// What an accepted module lacks to run on a loop. It prints as a sentence.
 #[derive(Clone, Copy, Debug)]
 pub enum Warning {
     /// It imports this call, which takes a callback, and has no table.
     Table(Call),
-    /// A loop calls nothing of it.
+    /// It exports none of the functions that a loop or a job calls.
     Exports,
-    /// It asks for work, and lacks these exports.
+    /// It queues work, and lacks these exports.
     Work(&'static str),
 }
 
-/// How many warnings there may be of a module.
+/// The greatest number of warnings of a module.
 const KINDS: usize = 3;
 
 /// Whether the guest gives a callback with this call, as an index of its table.
@@ -44,6 +45,18 @@ fn is_idle(linked: &Linked) -> bool {
         && linked.entry(EntryPoint::Main).is_none()
         && linked.entry(EntryPoint::Work).is_none()
         && linked.entry(EntryPoint::AfterWork).is_none()
+}
+
+/// Whether the host of a plug-in calls a function by this name: the toolchain's names begin with `_`, a loop's with `uv_`.
+fn is_plugin_name(name: &[u8]) -> bool {
+    !name.starts_with(b"_") && !name.starts_with(b"uv_") && name != b"main".as_slice()
+}
+
+/// Whether the module is a plug-in: it exports a function that an instance can call.
+fn is_plugin(linked: &Linked) -> bool {
+    let exports = linked.valid().contents().exports.as_slice();
+    exports.iter().any(|export| export.kind == ExternKind::Func
+        && is_plugin_name(export.name.as_slice()))
 }
 
 fn of_table(linked: &Linked) -> Option<Warning> {
@@ -84,9 +97,19 @@ fn of_work(linked: &Linked) -> Option<Warning> {
     }
 }
 
-/// What an accepted module lacks to run on a loop.
-pub fn warnings(linked: &Linked) -> [Option<Warning>; KINDS] {
+/// What a module lacks that is to run on a loop.
+fn loop_warnings(linked: &Linked) -> [Option<Warning>; KINDS] {
     [of_table(linked), of_exports(linked), of_work(linked)]
+}
+
+/// What an accepted module lacks to run on a loop. A plug-in need not run on one.
+pub fn warnings(linked: &Linked) -> [Option<Warning>; KINDS] {
+    let exports = if is_plugin(linked) {
+        None
+    } else {
+        of_exports(linked)
+    };
+    [of_table(linked), exports, of_work(linked)]
 }
 
 impl fmt::Display for Warning {
@@ -96,36 +119,46 @@ impl fmt::Display for Warning {
                 let name = call.name();
                 write!(
                     f,
-                    "the module imports {name} but has no table, so that no callback can be called; link it with --export-table"
+                    "the module imports {name} but has no table, so no callback can be called; link with --export-table"
                 )
             }
             Warning::Exports => f.write_str(
-                "the module exports none of uv_main, uv_work and uv_after_work, so that a loop of it does nothing",
+                "the module exports none of uv_main, uv_work and uv_after_work, so loops and jobs have nothing to run; export one as examples/uv.h does, or call other exports with `wasmloop invoke`",
             ),
             Warning::Work(lacks) => write!(
                 f,
-                "the module imports queue_work and exports {lacks}, so that each request is answered -38"
+                "the module imports queue_work but exports {lacks}, so every request fails with -38"
             ),
         }
     }
 }
 
-/// Says what an accepted module lacks to run on a loop. A sentence that can't be written changes nothing.
-pub fn warn<E: Write>(linked: &Linked, err: &mut E) {
-    for warning in warnings(linked).iter().flatten() {
+/// Writes each warning in a line. If a sentence cannot be written, nothing changes.
+fn write_all<E: Write>(found: &[Option<Warning>], err: &mut E) {
+    for warning in found.iter().flatten() {
         let _ = writeln!(err, "warning: {warning}");
     }
 }
 
-/// Says how many numbers of a loop's callbacks were refused, if some were.
+/// Warns of what an accepted module lacks to run on a loop. A plug-in need not run on one.
+pub fn warn<E: Write>(linked: &Linked, err: &mut E) {
+    write_all(&warnings(linked), err)
+}
+
+/// Warns of what a module lacks that is to run on a loop.
+pub fn warn_loop<E: Write>(linked: &Linked, err: &mut E) {
+    write_all(&loop_warnings(linked), err)
+}
+
+/// Warns of emitted values that were dropped, if there are any.
 pub fn warn_refused<E: Write>(loop_no: u32, refused: u64, err: &mut E) -> io::Result<()> {
-    let numbers = match refused {
+    let values = match refused {
         0 => return Ok(()),
-        1 => "number was",
-        _ => "numbers were",
+        1 => "value was",
+        _ => "values were",
     };
     writeln!(
         err,
-        "warning: loop {loop_no}: {refused} {numbers} refused: a callback may emit {MAX_EMITS}, and each further one is answered -28"
+        "warning: loop {loop_no}: {refused} {values} dropped: a callback may emit {MAX_EMITS}, and emit returns -28 for each further one"
     )
 }

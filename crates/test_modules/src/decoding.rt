@@ -110,7 +110,11 @@ const SECTIONS: &str = "
     080100 = accepted
     08020000 = Size
     0907010041000b0104 = accepted
-    0b07010041000b01ff = accepted";
+    0b07010041000b01ff = accepted
+    # of two faults that of the section in front
+    040401710001 0503010041 = Kind
+    07050101660400 08020000 = Kind
+    0906010041000b01 0a05010300ff0b = End";
 
 /// Code sections after the rest of a module.
 const CODE: &str = "

@@ -77,7 +77,7 @@ fn tell_outcome(text: &mut String, outcome: &Outcome) -> Result<(), AllocError> 
         Outcome::Trap(trap) => write!(text, "trap {}", trap.code()),
         Outcome::Depth => text.push_str("depth"),
         Outcome::Spent => text.push_str("spent"),
-        Outcome::NoMemory => text.push_str("no memory"),
+        Outcome::NoMemory(_) => text.push_str("no memory"),
     }
 }
 

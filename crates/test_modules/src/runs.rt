@@ -15,7 +15,7 @@ use std::alloc::{AllocError, Global};
 use std::process::Abort;
 use std::test::Fail;
 use syntax::types::Value;
-use test_fixtures::{module_of, valid_of};
+use test_fixtures::{bytes_of, module_of, valid_of};
 use validate::Valid;
 
 /// One function, from nothing to an i32.
@@ -44,6 +44,22 @@ const BODIES: &str = "
     # traps
     00 0b = trap 1 used 1
     4101 4100 6d 0b = trap 2 used 3
+    # 256 operands, and 256 blocks in one another
+    4107 255*4100 255*1a 0b = return 7 used 511
+    256*0240 256*0b 4107 0b = return 7 used 257
+";
+
+/// Bodies with more branches than 16 bits number, with branches among more operations than that, with more numbers of 64 bits
+/// than 4,096, with as many labels as a br_table may have, and with more of two.
+const BODIES_PAST_16_BITS: &str = "
+    0240 65535*41000d00 0b 4107 0b = return 7 used 131072
+    0240 65536*41000d00 0b 4107 0b = return 7 used 131074
+    0240 70000*01 41010d00 0b 4107 0b = return 7 used 70004
+    0240 70000*01 41000e010000 0b 4107 0b = return 7 used 70004
+    5000*428080808080011a 4107 0b = return 7 used 10001
+    0240 0240 41ff1f0e8020 4095*01 00 01 0b 41070f 0b 4108 0b = return 7 used 6
+    0240 0240 4180200e8020 4096*01 00 0b 41070f 0b 4108 0b = return 7 used 6
+    0240 41000e8020 4097*00 0b 0240 41000e010000 0b 4107 0b = return 7 used 7
 ";
 
 /// One function, from nothing to two i32.
@@ -140,7 +156,7 @@ fn check_bodies(rt: &impl Abort, alloc: Global, sections: &str, rows: &str) -> R
     check_rows(
         rt,
         rows,
-        |body| end_of(alloc, with_body(alloc, sections, body)?, 1000, 8),
+        |body| end_of(alloc, with_body(alloc, sections, body)?, 1_000_000, 8),
     )
 }
 
@@ -150,6 +166,75 @@ fn bodies_end_as_they_must(rt: HostRuntime) -> Result<(), Fail> {
     check_bodies(&rt, alloc, TO_I32, BODIES)?;
     check_bodies(&rt, alloc, TO_TWO, "4107 4108 0b = return 7 8 used 2")?;
     check_bodies(&rt, alloc, THREE, BLOCKS)
+}
+
+#[test]
+fn bodies_past_16_bits_run(rt: HostRuntime) -> Result<(), Fail> {
+    check_bodies(&rt, rt.alloc(), TO_I32, BODIES_PAST_16_BITS)
+}
+
+/// Modules at a limit, each a function 0 from nothing, and how a call of it ends.
+const AT_LIMITS: &str = "
+    # 1,048,576 bytes
+    0105016000017f 03020100 00e1ff3f 1048545*00 0a0601040041070b = return 7 used 1
+    # 1,024 types, of which a function and a block have the last
+    018220 8008 1024*6000017f 030301ff07 0a0a010800 02ff0741070b 0b = return 7 used 2
+    # 4,096 functions, of which the first calls the last
+    0105016000017f 038220 8020 4096*00 0a83a001 8020 050010ff1f0b 4095*040041070b = return 7 used 2
+    # 256 globals
+    0105016000017f 03020100 06820a 8002 255*7f0041000b 7f0041070b 0a0701050023ff010b = return 7 used 1
+    # 256 parameters
+    018a02 02 6000017f 608002 256*7f 017f 0303020001 0a8d04 02 840400 255*4100 41071001 0b 050020ff010b = return 7 used 258
+    # 16 results
+    01140160 0010 16*7f 03020100 0a24012200 16*4107 0b = return 7 7 7 7 7 7 7 7 7 7 7 7 7 7 7 7 used 16
+    # 256 locals, and 255 beside a parameter
+    0105016000017f 03020100 0a0f010d0180027f 410721ff0120ff01 0b = return 7 used 3
+    010a02 6000017f 60017f017f 0303020001 0a16020600 41071001 0b 0d01ff017f 200021ff0120ff01 0b = return 7 used 5
+    # 4,096 elements, of which the last is called, and one more isn't there
+    0105016000017f 0303020000 04050170008020 0908010041ff1f0b0101 0a0f020800 41ff1f110000 0b 040041070b = return 7 used 3
+    0105016000017f 0303020000 04050170008020 0908010041ff1f0b0101 0a0f020800 418020110000 0b 040041070b = trap 5 used 2
+    # 64 pages, whose last byte is written and read; they can't grow
+    0105016000017f 03020100 0503010040 0a1601140041ffffff0141073a000041ffffff012d00000b = return 7 used 5
+    0105016000017f 03020100 0503010040 0a0801060041014000 0b = return -1 used 2
+    # a declared maximum of 65,536 pages, of which 64 can be had
+    0105016000017f 03020100 0506010100808004 0a0901070041c00040000b = return 0 used 2
+    0105016000017f 03020100 0506010100808004 0a0901070041c10040000b = return -1 used 2
+";
+
+#[test]
+fn modules_at_the_limits_run(rt: HostRuntime) -> Result<(), Fail> {
+    let alloc = rt.alloc();
+    check_rows(
+        &rt,
+        AT_LIMITS,
+        |sections| end_of(alloc, module_of(alloc, sections)?, 1_000_000, 8),
+    )
+}
+
+/// Appends 1,024 exports of function 0, each under a name of two bytes.
+fn push_exports(bytes: &mut Vec<u8>) -> Result<(), AllocError> {
+    for number in 0..1024_usize {
+        let first = (number / 32 % 32 + 64) as u8;
+        let second = (number % 32 + 64) as u8;
+        bytes.extend_from_slice(&[2, first, second, 0, 0])?;
+    }
+    Ok(())
+}
+
+/// A module of 1,024 exports.
+fn exporting_most(alloc: Global) -> Result<Vec<u8>, Fail> {
+    let mut bytes = module_of(alloc, "0105016000017f 03020100 078228 8008")?;
+    push_exports(&mut bytes)?;
+    let code = bytes_of(alloc, "0a0601040041070b")?;
+    bytes.extend_from_slice(code.as_slice())?;
+    Ok(bytes)
+}
+
+#[test]
+fn a_module_of_1024_exports_runs(rt: HostRuntime) -> Result<(), Fail> {
+    let end = end_of(rt.alloc(), exporting_most(rt.alloc())?, 1, 8)?;
+    check_told_of(&rt, end.as_str(), "return 7 used 1", "1,024 exports");
+    Ok(())
 }
 
 /// A module whose function calls itself.
@@ -184,6 +269,16 @@ fn calls_itself_up_to_the_limit(rt: HostRuntime) -> Result<(), Fail> {
     check_end(&rt, alloc, CALLS_ITSELF, 128, 128, "depth used 128")?;
     check_end(&rt, alloc, CALLS_ITSELF, 1000, 1, "depth used 1")?;
     check_end(&rt, alloc, CALLS_ITSELF, 0, 128, "spent used 0")
+}
+
+/// A module whose function has 256 locals, and calls itself over 256 operands.
+const FILLS_THE_STACK: &str =
+    "010401600000 03020100 0a8a06 01 87060180027f 256*4100 1000 256*1a 0b";
+
+#[test]
+fn all_slots_of_the_deepest_call_are_there(rt: HostRuntime) -> Result<(), Fail> {
+    let wanted = "depth used 32896";
+    check_end(&rt, rt.alloc(), FILLS_THE_STACK, 1_000_000, 128, wanted)
 }
 
 /// A module whose function counts 5 down to 0 in the parameter of a loop.

@@ -84,6 +84,10 @@ const PARTS: &str = "
     0105016000017f 03020100 080100 0a0601040041070b = validate 8 Start
     010401600000 03020100 080100 0a040102000b = accepted
     080100 = validate 2 Index
+    # a name of 300 bytes
+    0105016000017f 03020100 07b10201ac02 300*67 0000 0a0601040041070b = accepted
+    # two exports of one name before the start function, which has a result
+    0105016000017f 03020100 0709020166000001660000 080100 0a0601040041070b = validate 7 Export
     # two exports of one name, also where the second names nothing
     0105016000017f 03020100 0709020166000001660000 0a0601040041070b = validate 7 Export
     0105016000017f 03020100 0709020166000001660005 0a0601040041070b = validate 7 Export

@@ -15,7 +15,6 @@ struct Kept {
 /// is the written one that is read, and of these the last.
 #[derive(Drop)]
 pub struct Shelf {
-    alloc: Global,
     files: Vec<Kept>,
     written: RefCell<Vec<Kept>>,
 }
@@ -33,7 +32,6 @@ impl Shelf {
     /// No file.
     pub fn new(alloc: Global) -> Shelf {
         Shelf {
-            alloc,
             files: Vec::new(alloc),
             written: RefCell::new(Vec::new(alloc)),
         }
@@ -130,13 +128,13 @@ fn unwritten(name: &str, kind: ErrorKind) -> IoFault<'_> {
 impl FileWriter for Shelf {
     ghost takes = { λ _ _ _. Unit {0} };
 
-    fn write<'a>(&self, name: &'a str, bytes: &[u8]) -> Result<(), IoFault<'a>> {
+    fn write<'a>(&self, alloc: Global, name: &'a str, bytes: &[u8]) -> Result<(), IoFault<'a>> {
         if name.starts_with("/nowhere/") {
             return Err(unwritten(name, ErrorKind::NotFound));
         }
         let kept = Kept {
-            name: String::from_str(self.alloc, name)?,
-            bytes: Vec::from_slice(self.alloc, bytes)?,
+            name: String::from_str(alloc, name)?,
+            bytes: Vec::from_slice(alloc, bytes)?,
         };
         match self.written.try_borrow_mut() {
             Ok(mut written) => Ok(written.push(kept)?),

@@ -6,6 +6,8 @@ mod apart;
 #[cfg(test)]
 mod meeting;
 #[cfg(test)]
+mod resting;
+#[cfg(test)]
 mod sending;
 #[cfg(test)]
 mod serving;

@@ -1,4 +1,4 @@
-// What the program is asked to do.
+// The commands of the program.
 
 ghost use Rattle.std.specs.Prelude.{◌≤◌};
 ghost use Rattle.limits.specs.declared.TheConstants.{MAX_BYTES, MAX_DEPTH, MAX_LOOPS, MAX_WORKERS};
@@ -6,25 +6,25 @@ ghost use Rattle.words.specs.Inputs.{spelled_count};
 
 use events::settings::LoopSettings;
 
-/// A function of a module and the words that spell its arguments.
+/// A call of an exported function, with its arguments as words.
 #[derive(Drop)]
 pub struct Invocation {
     /// The file of the module.
     pub file: String,
-    /// The name that the function is exported under.
+    /// The name of the exported function.
     pub name: String,
     /// The arguments, as unsigned decimal numbers.
     pub arguments: Vec<String>,
     /// The units of fuel that the start function and the function may use together.
     pub fuel: u64,
-    /// How many calls may stand open, 1 to `MAX_DEPTH`.
+    /// The call-depth limit, 1 to `MAX_DEPTH`.
     pub depth: u32,
-    /// Whether what was used is reported.
+    /// Whether the fuel used is reported.
     pub is_traced: bool,
     pub ghost depth_in_range: { (1 ≤ depth) × (depth ≤ MAX_DEPTH) },
 }
 
-/// Where the bytes of a work order come from.
+/// Where the input of a job comes from.
 #[derive(Drop)]
 pub enum WorkInput {
     /// These, at most `MAX_BYTES` of them.
@@ -33,66 +33,66 @@ pub enum WorkInput {
     File(String),
 }
 
-/// Where the reply of a work order goes.
+/// Where the reply of a job goes.
 #[derive(Drop)]
 pub enum WorkOutput {
     /// Into the printed line, in hexadecimal.
     Line,
-    /// Into the file of this name, which is made or replaced.
+    /// Into the file of this name, which is created or replaced.
     File(String),
     /// To standard output, and the printed line to standard error.
     Standard,
 }
 
-/// A work order for a module.
+/// A job for a module.
 #[derive(Drop)]
 pub struct WorkRequest {
     /// The file of the module.
     pub file: String,
-    /// What `uv_work` is given.
+    /// The argument of `uv_work`.
     pub operation: u32,
-    /// What it may read.
+    /// Its input.
     pub input: WorkInput,
     /// Where its reply goes.
     pub output: WorkOutput,
     /// The units of fuel that the start function and `uv_work` may use together.
     pub fuel: u64,
-    /// How many calls may stand open, 1 to `MAX_DEPTH`.
+    /// The call-depth limit, 1 to `MAX_DEPTH`.
     pub depth: u32,
-    /// Whether what was used is reported.
+    /// Whether the fuel used is reported.
     pub is_traced: bool,
     pub ghost depth_in_range: { (1 ≤ depth) × (depth ≤ MAX_DEPTH) },
     pub ghost short: { spelled_count input ≤ MAX_BYTES },
 }
 
-/// Loops of a module and workers beside them.
+/// Loops of a module, and workers.
 #[derive(Drop)]
 pub struct ServeCommand {
     /// The file of the module.
     pub file: String,
-    /// How many loops there are, 1 to `MAX_LOOPS`.
+    /// The number of loops, 1 to `MAX_LOOPS`.
     pub loops: u32,
-    /// How many workers there are, 1 to `MAX_WORKERS`.
+    /// The number of workers, 1 to `MAX_WORKERS`.
     pub workers: u32,
-    /// What each loop may spend.
+    /// The limits of each loop.
     pub settings: LoopSettings,
-    /// Whether what loops and workers do is reported, as they do it.
+    /// Whether loops and workers log what they do, as they do it.
     pub is_traced: bool,
     pub ghost few_loops: { (1 ≤ loops) × (loops ≤ MAX_LOOPS) },
     pub ghost few_workers: { (1 ≤ workers) × (workers ≤ MAX_WORKERS) },
     pub ghost depth_in_range: { (1 ≤ settings.depth) × (settings.depth ≤ MAX_DEPTH) },
 }
 
-/// A command with its words.
+/// A command with its arguments.
 #[derive(Drop)]
 pub enum Command {
-    /// Tells whether the module in the file is accepted.
+    /// Checks whether the module in the file is accepted.
     Check { file: String },
     /// Calls an exported function of a module.
     Invoke(Invocation),
-    /// Lets a module compute a reply.
+    /// Runs a module's `uv_work` once.
     Work(WorkRequest),
-    /// Takes the steps of a script.
+    /// Replays a script.
     Script { file: String },
     /// Runs loops of a module and workers in threads.
     Serve(ServeCommand),

@@ -1,95 +1,96 @@
-// Which words there are, and what the help says of them.
+// The grammar of the command line, and its help.
 
 use clap::{Arg, ArgAction, Command};
 use std::alloc::{AllocError, Global};
 
-const FUEL_HELP: &str = "How many instructions may run, 0 to 2^64 - 1";
+const FUEL_HELP: &str = "The fuel limit in instructions, 0 to 2^64 - 1";
 
-const USED_HELP: &str = "Tells on standard error what was used";
+const USED_HELP: &str = "Print the fuel used to standard error";
 
-/// The option that asks for a report of what happens.
+/// The option that asks for a trace.
 pub(crate) const TRACE: &str = "trace";
 
-/// The option that names a file to read the bytes of a work order from.
+/// The option that names a file with the input of a job.
 pub(crate) const INPUT: &str = "in";
 
 /// The option that names a file to write the reply to.
 pub(crate) const OUTPUT: &str = "out";
 
-/// The option that asks for the reply alone.
+/// The option that asks for only the reply.
 pub(crate) const RAW: &str = "raw";
 
 const PROGRAM_TEXT: &str = "\
-Status: 0 done, also where `serve` prints `limit` or `waiting`; 1 a file, a script, the memory or the output failed;
-2 wrong words; 3 a module is refused; 4 a call ended otherwise than by return, or a loop failed.
-What is said of 1 and 2 goes to standard error, and so do the sentences that explain a result.
+Status: 0 success, also if `serve` prints `limit` or `waiting`; 1 a file, a script, memory or the output failed;
+2 usage error; 3 a module is rejected; 4 a call did not return, or a loop failed.
+Messages for 1 and 2, and explanations of results, go to standard error.
 
 Example:
   wasmloop work examples/adds_one.wasm 41 00ff";
 
 const CHECK_TEXT: &str = "\
-Prints `accepted`, or what refuses the module, with its number and word, as `decode 10 Counts`,
-`validate 1 Type` or `link 2 Name`. Standard error says where and why, and warns of what an accepted
-module lacks to run on a loop: a table, exports.
+Prints `accepted`, or the step that rejects the module, with the fault's number and name: `decode 10 Counts`,
+`validate 1 Type` or `link 2 Name`. Standard error says where and why, and warns if an accepted module
+lacks a table or exports that a loop needs.
 
-Status: 0 accepted; 1 the file, the memory or the output failed; 2 wrong words; 3 refused.
+Status: 0 accepted; 1 the file, memory or the output failed; 2 usage error; 3 rejected.
 
 Example:
   wasmloop check examples/seven.wasm";
 
 const INVOKE_TEXT: &str = "\
-An argument is a whole number without a sign: for an i32 from 0 to 4294967295, which stands for -1, and for an i64
-from 0 to 18446744073709551615, which stands for -1.
+An argument is a whole number without a sign: an i32 from 0 to 4294967295, which is -1, and an i64 from 0
+to 18446744073709551615, which is -1.
 
-Prints how the call ended and the fuel that it used: `return 7 used 1` with the results as signed numbers,
-`trap 4 used 2`, `depth used 64` or `spent used 1000000`; where the start function ended so, `start trap 4 used 2`.
-Standard error says where it did not return, and why.
+Prints how the call ended and the fuel used: `return 7 used 1` with the results as signed numbers, `trap 4 used 2`,
+`depth used 64` (call-depth limit exceeded) or `spent used 1000000` (out of fuel); if the start function ended so,
+`start trap 4 used 2`. If the call did not return, standard error says where and why.
 Traps: 1 unreachable, 2 division by zero, 3 a quotient out of range, 4 an access outside the memory,
 5 an index past the table, 6 an empty element, 7 a function of another type.
 
-Status: 0 returned; 1 the file, the memory or the output failed; 2 wrong words, or no such function;
-3 the module is refused; 4 it ended otherwise than by return.
+Status: 0 returned; 1 the file, memory or the output failed; 2 usage error, or no such function;
+3 the module is rejected; 4 the call did not return.
 
 Example:
   wasmloop invoke examples/table.wasm f 0";
 
 const WORK_TEXT: &str = "\
-The operation -1 is written as 4294967295.
+Write -1 as 4294967295.
 
-Prints `done 42 bytes 0`: the result as a signed number, how many bytes the reply has, and where there are
-any, these in hexadecimal; or `trap 4`, `depth`, `spent` or `nomemory`. The numbers of traps: see `invoke --help`.
-With --out the bytes go to a file and aren't printed. With --raw or --out - standard output has them alone,
-and the line goes to standard error, which says too where the work did not return, and why.
+Prints `done 42 bytes 0`: the result as a signed number, the length of the reply, and its bytes, if any, in
+hexadecimal; or `trap 4`, `depth`, `spent` or `nomemory`. See `invoke --help` for the numbers of traps.
+With --out the bytes go to a file and are not printed. With --raw or --out - standard output has only the bytes,
+and the line goes to standard error. If the work did not return, standard error says where and why.
 
-Status: 0 done; 1 the file, the memory or the output failed; 2 wrong words, or no function uv_work;
-3 the module is refused; 4 it ended otherwise than by return.
+Status: 0 done; 1 the file, memory or the output failed; 2 usage error, or no function uv_work;
+3 the module is rejected; 4 the work did not return.
 
 Example:
   wasmloop work examples/adds_one.wasm 41 00ff";
 
 const SCRIPT_TEXT: &str = "\
-Prints the log, a line for each step; behind it `fault 1` where a step names what isn't there, and `fault 2`
-where it finds no memory. A refused module is told as `module 0 decode 10 Counts`, and a file that is no script
-as `script 2 Shape` on standard error. At most 64 MiB are read.
+Prints the log, a line for each step, followed by `fault 1` if a step names something that does not exist, or
+`fault 2` if it runs out of memory. For a rejected module it prints `module 0 decode 10 Counts`, and for an invalid
+script `script 2 Shape` to standard error. The limit is 64 MiB.
 
-Status: 0 done; 1 the file, the script, a step, the memory or the output failed; 2 wrong words;
-3 a module is refused; 4 a loop failed.
+Status: 0 done; 1 the file, the script, a step, memory or the output failed; 2 usage error;
+3 a module is rejected; 4 a loop failed.
 
 Example:
   wasmloop script examples/timer.json";
 
 const SERVE_TEXT: &str = "\
-Prints a line for each loop once all have ended, as `loop 0 over emits 6`: whether nothing was left to do (`over`),
-a callback did not return (`failed`), what is left waits for ever (`waiting`) or 100000 callbacks have run
-(`limit`), and the values that its callbacks emitted, as signed numbers. Standard error says why a loop is not `over`.
+Prints a line for each loop when all have ended, such as `loop 0 over emits 6`: whether nothing was left to do
+(`over`), a callback did not return (`failed`), only asyncs are left, to which nothing sends (`waiting`), or 100000
+callbacks have run (`limit`); then the values that its callbacks emitted, as signed numbers. Standard error says why
+a loop is not `over`.
 
-Status: 0 all ended, also as `limit` or `waiting`; 1 the file, the memory or the output failed; 2 wrong words;
-3 the module is refused; 4 a loop failed.
+Status: 0 all ended, also as `limit` or `waiting`; 1 the file, memory or the output failed; 2 usage error;
+3 the module is rejected; 4 a loop failed.
 
 Example:
   wasmloop serve examples/asks.wasm --loops 2 --workers 3";
 
-/// A word that has to stand there.
+/// A required argument.
 fn wanted<'a>(alloc: Global, id: &'a str, name: &'a str, help: &'a str) -> Arg<'a> {
     Arg::new(alloc, id)
         .required(true)
@@ -122,7 +123,7 @@ fn depth_option<'a>(alloc: Global) -> Arg<'a> {
         .value_name("N")
         .default_value("64")
         .allow_negative_numbers(true)
-        .help("How many calls may be open, 1 to 128")
+        .help("The call-depth limit, 1 to 128")
 }
 
 fn trace_option<'a>(alloc: Global, help: &'a str) -> Arg<'a> {
@@ -139,7 +140,7 @@ fn count_option<'a>(alloc: Global, name: &'a str, help: &'a str) -> Arg<'a> {
         .allow_negative_numbers(true)
 }
 
-/// A command with its help and its words.
+/// A command with its help and its arguments.
 fn command<'a>(
     alloc: Global,
     name: &'a str,
@@ -157,7 +158,7 @@ fn check_words<'a>(alloc: Global) -> Result<Command<'a>, AllocError> {
     command(
         alloc,
         "check",
-        "Tells whether a module is accepted",
+        "Check whether a module is accepted",
         CHECK_TEXT,
         vec![in alloc; file_word(alloc)]?,
     )
@@ -176,16 +177,11 @@ fn invoke_words<'a>(alloc: Global) -> Result<Command<'a>, AllocError> {
     command(
         alloc,
         "invoke",
-        "Calls an exported function; every import answers -1",
+        "Call an exported function; every import returns -1",
         INVOKE_TEXT,
         vec![in alloc;
             file_word(alloc),
-            wanted(
-                alloc,
-                "name",
-                "NAME",
-                "The function's name among the exports"
-            ),
+            wanted(alloc, "name", "NAME", "The name of the exported function"),
             arguments_word(alloc),
             fuel_option(alloc, "fuel", FUEL_HELP),
             depth_option(alloc),
@@ -199,7 +195,7 @@ fn operation_word<'a>(alloc: Global) -> Arg<'a> {
         alloc,
         "operation",
         "OP",
-        "The operation, a whole number from 0 to 4294967295",
+        "The argument of uv_work, a whole number from 0 to 4294967295",
     )
     .allow_negative_numbers(true)
 }
@@ -208,20 +204,20 @@ fn bytes_word<'a>(alloc: Global) -> Arg<'a> {
     Arg::new(alloc, "bytes")
         .value_name("HEX")
         .allow_negative_numbers(true)
-        .help("The bytes to read, in hexadecimal, at most 65,536 of them")
+        .help("The input bytes in hexadecimal, at most 65,536 of them")
 }
 
 fn input_option<'a>(alloc: Global) -> Result<Arg<'a>, AllocError> {
     Arg::new(alloc, INPUT)
         .long(INPUT)
         .value_name("FILE")
-        .help("A file of the bytes to read, in place of HEX; - is standard input")
+        .help("Read the input bytes from this file instead of HEX; - is standard input")
         .conflicts_with("bytes")
 }
 
 fn output_option<'a>(alloc: Global) -> Arg<'a> {
     Arg::new(alloc, OUTPUT).long(OUTPUT).value_name("FILE").help(
-        "A file to write the reply's bytes to; - is standard output",
+        "Write the reply's bytes to this file; - is standard output",
     )
 }
 
@@ -229,7 +225,7 @@ fn raw_option<'a>(alloc: Global) -> Result<Arg<'a>, AllocError> {
     Arg::new(alloc, RAW)
         .long(RAW)
         .action(ArgAction::SetTrue)
-        .help("Writes the reply's bytes to standard output, as --out - does")
+        .help("Write the reply's bytes to standard output, as --out - does")
         .conflicts_with(OUTPUT)
 }
 
@@ -237,7 +233,7 @@ fn work_words<'a>(alloc: Global) -> Result<Command<'a>, AllocError> {
     command(
         alloc,
         "work",
-        "Lets a module's uv_work compute a reply",
+        "Run a module's uv_work once and print its reply",
         WORK_TEXT,
         vec![in alloc;
             file_word(alloc),
@@ -266,7 +262,7 @@ fn script_words<'a>(alloc: Global) -> Result<Command<'a>, AllocError> {
     command(
         alloc,
         "script",
-        "Takes the steps of a script one by one, and prints the log",
+        "Replay a script step by step and print the log",
         SCRIPT_TEXT,
         vec![in alloc; script_word(alloc)]?,
     )
@@ -276,32 +272,32 @@ fn serve_words<'a>(alloc: Global) -> Result<Command<'a>, AllocError> {
     command(
         alloc,
         "serve",
-        "Runs loops of a module, each in a thread, and workers beside them",
+        "Run loops of a module and workers, each in its own thread",
         SERVE_TEXT,
         vec![in alloc;
             file_word(alloc),
-            count_option(alloc, "loops", "How many loops, 1 to 8"),
-            count_option(alloc, "workers", "How many workers, 1 to 16"),
+            count_option(alloc, "loops", "The number of loops, 1 to 8"),
+            count_option(alloc, "workers", "The number of workers, 1 to 16"),
             fuel_option(
                 alloc,
                 "fuel",
-                "How many instructions a callback may run, 0 to 2^64 - 1"
+                "The fuel limit of a callback in instructions, 0 to 2^64 - 1"
             ),
             fuel_option(
                 alloc,
                 "work-fuel",
-                "How many instructions a work function may run, 0 to 2^64 - 1"
+                "The fuel limit of a work function in instructions, 0 to 2^64 - 1"
             ),
             depth_option(alloc),
             trace_option(
                 alloc,
-                "Tells on standard error what loops and workers do, as they do it"
+                "Log what loops and workers do to standard error, as they do it"
             ),
         ]?,
     )
 }
 
-/// The commands by their names.
+/// The commands, by name.
 #[derive(Clone, Copy)]
 enum Verb {
     Check,
@@ -335,7 +331,7 @@ pub(crate) fn program<'a>(alloc: Global) -> Result<Command<'a>, AllocError> {
         .version("0.2.0")
         .bin_name("wasmloop")?
         .override_usage("wasmloop <COMMAND>")
-        .about("Runs untrusted WebAssembly modules on event loops")
+        .about("Run untrusted WebAssembly modules on event loops")
         .after_help(PROGRAM_TEXT);
     for verb in VERBS {
         program = program.subcommand(verb_words(alloc, verb)?)?;

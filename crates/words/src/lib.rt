@@ -1,8 +1,7 @@
-//! The words of the command line: `parse` reads them as a `Command`, or says why they are none.
+//! The command line: `parse` reads its words as a `Command`, or reports a usage error.
 //!
-//! Nothing here runs anything. A number is decimal digits alone, so no sign and no blank, and `decimal` is exact. What a
-//! command may ask for (its depth, its loops and workers, the length of its bytes) is within its bounds by type. Begin with
-//! `command`.
+//! Nothing here runs anything. A number is decimal digits only, without sign or space, and `decimal` is exact. By their types, the
+//! depth, the numbers of loops and workers, and the length of the input of a command are within their bounds. Begin with `command`.
 #![tactic(auto)]
 
 mod command;

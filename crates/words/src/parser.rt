@@ -1,4 +1,4 @@
-// From the words of the command line to a command.
+// From the command line to a command.
 
 ghost use Rattle.std.specs.Prelude.{◌≤◌, IfOk, vec_len};
 ghost use Rattle.words.specs.Inputs.{spelled_count};
@@ -28,7 +28,7 @@ fn refused(alloc: Global, error: clap::Error) -> Refused {
     }
 }
 
-/// A word that the grammar asks for, so that it is there.
+/// An argument that the grammar requires.
 fn word<'a>(matches: &ArgMatches<'a>, id: &str) -> Result<&'a str, Refused> {
     matches.get_str(id).ok_or(Refused::Arguments)
 }
@@ -37,7 +37,7 @@ fn text(alloc: Global, matches: &ArgMatches<'_>, id: &str) -> Result<String, Ref
     Ok(String::from_str(alloc, word(matches, id)?)?)
 }
 
-/// The number of an option, which lies between two bounds.
+/// The number of an option, within two bounds.
 fn option(
     alloc: Global,
     matches: &ArgMatches<'_>,
@@ -51,7 +51,7 @@ fn option(
     match decimal(value) {
         Some(number) if least <= number && number <= most => Ok(number),
         _ => Err(Refused::Usage(format!(in alloc;
-            "error: invalid value '{value}' for '--{name} <N>': it must be a whole number from {least} to {most}\n\nFor more information, try '--help'."
+            "error: invalid value '{value}' for '--{name} <N>': expected a whole number from {least} to {most}\n\nFor more information, try '--help'."
         )?)),
     }
 }
@@ -107,7 +107,7 @@ fn bytes(alloc: Global, word: &str) -> Result<Vec<u8>, Refused>
     }
 }
 
-/// Where the bytes of a work order come from: of HEX and `--in` one at most is given, and with neither there are none.
+/// Where the input of a job comes from: HEX or `--in`, at most one; empty without them.
 fn input(alloc: Global, matches: &ArgMatches<'_>) -> Result<WorkInput, Refused>
     ensures { IfOk result (λ input. spelled_count input ≤ MAX_BYTES) }
 {
@@ -122,7 +122,7 @@ fn input(alloc: Global, matches: &ArgMatches<'_>) -> Result<WorkInput, Refused>
     Ok(WorkInput::File(String::from_str(alloc, name)?))
 }
 
-/// Where the reply of a work order goes: of `--out` and `--raw` one at most is given.
+/// Where the reply of a job goes: `--out` or `--raw`, at most one.
 fn output(alloc: Global, matches: &ArgMatches<'_>) -> Result<WorkOutput, Refused> {
     if matches.get_flag(RAW) {
         return Ok(WorkOutput::Standard);
@@ -134,7 +134,7 @@ fn output(alloc: Global, matches: &ArgMatches<'_>) -> Result<WorkOutput, Refused
     }
 }
 
-/// The number of an operation.
+/// The argument of `uv_work`.
 fn operation(alloc: Global, matches: &ArgMatches<'_>) -> Result<u32, Refused> {
     let word = word(matches, "operation")?;
     match small_decimal(word) {
@@ -181,7 +181,7 @@ fn serve(alloc: Global, matches: &ArgMatches<'_>) -> Result<Command, Refused> {
     }))
 }
 
-/// The command that was found among the words, where there is one.
+/// The command among the words, if there is one.
 fn command_found(
     alloc: Global,
     found: Option<(&str, &ArgMatches<'_>)>,
@@ -198,17 +198,16 @@ fn command_found(
 }
 
 fn missing(alloc: Global, program: &mut clap::Command<'_>) -> Refused {
-    match program.error(ErrorKind::MissingSubcommand, "a command is missing") {
+    match program.error(ErrorKind::MissingSubcommand, "no command was given") {
         Ok(error) => refused(alloc, error),
         Err(_) => Refused::Memory,
     }
 }
 
-/// The command that the words ask for. The first of them is the program's name.
+/// The command of these words, the first of which is the program's name.
 ///
-/// They are refused by `Help` where they ask for help or for the version, by `Operation`, `Digits` or `TooManyBytes` where
-/// the number or the bytes of a work order are not written as they should be, by `Memory` where memory was refused, by
-/// `NoCommand` where the first of them is no command or missing, and else by `Usage`.
+/// Returns `Help` if they ask for help or for the version; `Operation`, `Digits` or `TooManyBytes` if the argument or the input of `work`
+/// is malformed; `Memory` if an allocation failed; `NoCommand` if the command is unknown or missing; otherwise `Usage`.
 pub fn parse(alloc: Global, words: &[String]) -> Result<Command, Refused> {
     let mut program = grammar::program(alloc)?;
     let matches = match program.try_get_matches_from_mut(words) {

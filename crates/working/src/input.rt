@@ -11,7 +11,7 @@ use std::alloc::Global;
 use std::sync::Arc;
 use words::{WorkInput, WorkRequest};
 
-/// The bytes of the file of this name, if there are no more than a work order may have.
+/// The bytes of the file of this name, if a job may have so many.
 fn bytes_of<'a, R: Reader>(alloc: Global, reader: &R, name: &'a str) -> Result<Vec<u8>, IoFault<'a>>
     ensures read { IfOk result (λ bytes. R.gives reader.now name.now enough_of_input bytes.items) }
     ensures short { IfOk result (λ bytes. length bytes.items ≤ MAX_BYTES) }
@@ -26,7 +26,7 @@ fn bytes_of<'a, R: Reader>(alloc: Global, reader: &R, name: &'a str) -> Result<V
     Ok(bytes)
 }
 
-/// The bytes that the words spell, or those of the file that they name.
+/// The input bytes of the command line, or of the file that it names.
 pub fn input_of<'a, R: Reader>(
     alloc: Global,
     reader: &R,

@@ -1,8 +1,7 @@
-//! Performs a work order that words ask for: `input_of` gives the bytes that it may read, `work` lets a module compute the reply,
-//! and writes it where the words say.
+//! Runs the job of a `work` command: `input_of` returns its input bytes, `work` computes the reply and writes it where the command says.
 //!
-//! Its contract says what `WorkReport::Result` and `WorkReport::Stopped` come from: the value and the bytes, or the other end, are
-//! the one end of the order, and the line of it was written. Begin with `specs/Working.antt`; the lines are `specs/Lines.antt`.
+//! Its contract says what `WorkReport::Result` and `WorkReport::Stopped` mean: the value and the bytes, or the other outcome, are the only
+//! outcome of the job, and its line was written. Begin with `specs/Working.antt`; `specs/Lines.antt` defines the lines.
 #![tactic(auto)]
 
 mod input;

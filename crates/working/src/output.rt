@@ -15,7 +15,7 @@ use std::alloc::Global;
 use std::io::{self, Write};
 use words::WorkOutput;
 
-/// Writes a result, as a signed number, and how many bytes there are.
+/// Writes a result as a signed number, and the length of the reply.
 fn write_value<O: Write>(value: u32, count: usize, out: &mut O) -> io::Result<()>
     ensures { OnOk result (Appends (O.contents out.old) (O.contents out.new) (line (done_words value count []))) }
 {
@@ -23,7 +23,7 @@ fn write_value<O: Write>(value: u32, count: usize, out: &mut O) -> io::Result<()
     writeln!(out, "done {value} bytes {count}")
 }
 
-/// Writes a result, how many bytes there are, and these by their digits.
+/// Writes a result, the length of the reply, and its bytes in hexadecimal.
 fn write_bytes<O: Write>(value: u32, count: usize, digits: &str, out: &mut O) -> io::Result<()>
     ensures { OnOk result (Appends (O.contents out.old) (O.contents out.new) (line (done_words value count (digits.now ∷ [])))) }
 {
@@ -31,7 +31,7 @@ fn write_bytes<O: Write>(value: u32, count: usize, digits: &str, out: &mut O) ->
     writeln!(out, "done {value} bytes {count} {digits}")
 }
 
-/// Writes a result, with the digits of its bytes where there are any.
+/// Writes a result, with the bytes of the reply if there are any.
 fn write_done<O: Write>(
     alloc: Global,
     value: u32,
@@ -54,7 +54,7 @@ fn write_trap<O: Write>(trap: TrapCode, out: &mut O) -> io::Result<()>
     writeln!(out, "trap {code}")
 }
 
-/// Writes the line of an end, of a result how many bytes it has and not which.
+/// Writes the line of an outcome; for a result only the length of the reply.
 fn write_short<O: Write>(outcome: &Outcome, out: &mut O) -> io::Result<()>
     ensures { OnOk result (Appends (O.contents out.old) (O.contents out.new) (short_line (end_of outcome.now))) }
 {
@@ -63,11 +63,11 @@ fn write_short<O: Write>(outcome: &Outcome, out: &mut O) -> io::Result<()>
         Outcome::Trap(trap) => write_trap(*trap, out),
         Outcome::Depth => out.write_all(b"depth\n"),
         Outcome::Spent => out.write_all(b"spent\n"),
-        Outcome::NoMemory => out.write_all(b"nomemory\n"),
+        Outcome::NoMemory(_) => out.write_all(b"nomemory\n"),
     }
 }
 
-/// Writes the line of an end, of a result with its bytes.
+/// Writes the line of an outcome, with the bytes of a reply.
 fn write_whole<O: Write>(
     alloc: Global,
     outcome: &Outcome,
@@ -77,14 +77,15 @@ fn write_whole<O: Write>(
 {
     match outcome {
         Outcome::Done(value, bytes) => write_done(alloc, *value, bytes.as_slice(), out),
-        Outcome::Trap(_) | Outcome::Depth | Outcome::Spent | Outcome::NoMemory => Ok(write_short(
+        Outcome::Trap(_) | Outcome::Depth | Outcome::Spent | Outcome::NoMemory(_) => Ok(write_short(
             outcome, out,
         )?),
     }
 }
 
-/// Makes a file of a result's bytes, and of another end none.
+/// Writes a reply's bytes to a file; for another outcome it creates none.
 fn keep_reply<'a, W: FileWriter>(
+    alloc: Global,
     outcome: &Outcome,
     name: &'a str,
     writer: &W,
@@ -92,22 +93,22 @@ fn keep_reply<'a, W: FileWriter>(
     ensures { OnOk result (TakesReply (W.takes writer.now) name.now (end_of outcome.now)) }
 {
     match outcome {
-        Outcome::Done(_, bytes) => writer.write(name, bytes.as_slice()),
-        Outcome::Trap(_) | Outcome::Depth | Outcome::Spent | Outcome::NoMemory => Ok(()),
+        Outcome::Done(_, bytes) => writer.write(alloc, name, bytes.as_slice()),
+        Outcome::Trap(_) | Outcome::Depth | Outcome::Spent | Outcome::NoMemory(_) => Ok(()),
     }
 }
 
-/// Writes a result's bytes, and of another end nothing.
+/// Writes a reply's bytes; for another outcome nothing.
 fn write_raw<O: Write>(outcome: &Outcome, out: &mut O) -> io::Result<()>
     ensures { OnOk result (IsRaw (O.contents out.old) (O.contents out.new) (end_of outcome.now)) }
 {
     match outcome {
         Outcome::Done(_, bytes) => out.write_all(bytes.as_slice()),
-        Outcome::Trap(_) | Outcome::Depth | Outcome::Spent | Outcome::NoMemory => Ok(()),
+        Outcome::Trap(_) | Outcome::Depth | Outcome::Spent | Outcome::NoMemory(_) => Ok(()),
     }
 }
 
-/// Writes an end where the words say.
+/// Writes an outcome where the command says.
 pub fn tell_outcome<'a, W: FileWriter, O: Write, E: Write>(
     alloc: Global,
     outcome: &Outcome,
@@ -122,7 +123,7 @@ pub fn tell_outcome<'a, W: FileWriter, O: Write, E: Write>(
     match output {
         WorkOutput::Line => write_whole(alloc, outcome, out),
         WorkOutput::File(name) => {
-            keep_reply(outcome, name.as_str(), writer)?;
+            keep_reply(alloc, outcome, name.as_str(), writer)?;
             Ok(write_short(outcome, out)?)
         }
         WorkOutput::Standard => {

@@ -1,10 +1,10 @@
 // How a work order ends.
 
-/// How a work order ended whose end was written.
+/// How a job ended, if its outcome was written.
 #[derive(Clone, Copy, Debug, PartialEq, Eq)]
 pub enum WorkReport {
-    /// With a value and bytes.
+    /// It returned a value and bytes.
     Result,
-    /// Otherwise: the work function did not return, or there was no memory.
+    /// The work function did not return, or an allocation failed.
     Stopped,
 }

@@ -48,7 +48,7 @@ fn report_of(outcome: &Outcome) -> WorkReport
 {
     match outcome {
         Outcome::Done(_, _) => WorkReport::Result,
-        Outcome::Trap(_) | Outcome::Depth | Outcome::Spent | Outcome::NoMemory =>
+        Outcome::Trap(_) | Outcome::Depth | Outcome::Spent | Outcome::NoMemory(_) =>
             WorkReport::Stopped,
     }
 }
@@ -90,7 +90,7 @@ fn name_of_run(contents: &Contents, trail: &Trail) -> &'static str {
     }
 }
 
-/// Says in a sentence where the work stopped.
+/// Writes a sentence that says where the work stopped.
 fn explain<E: Write>(told: &Told, err: &mut E) -> io::Result<()> {
     let module = told.reply.order.module.valid().module();
     let allowed = Allowed::by_options(told.reply.order.depth);
@@ -103,25 +103,25 @@ fn explain<E: Write>(told: &Told, err: &mut E) -> io::Result<()> {
     }
 }
 
-/// Says in a sentence where the work stopped, if it did not return.
+/// The same, if it did not return.
 fn explain_end<E: Write>(told: &Told, err: &mut E)
     ensures quiet { IsResult (end_of told.now.reply.outcome) → err.new ≡ err.old }
 {
     match &told.reply.outcome {
         Outcome::Done(_, _) => {}
-        Outcome::Trap(_) | Outcome::Depth | Outcome::Spent | Outcome::NoMemory => {
+        Outcome::Trap(_) | Outcome::Depth | Outcome::Spent | Outcome::NoMemory(_) => {
             // a sentence that can't be written changes nothing
             let _ = explain(told, err);
         }
     }
 }
 
-/// Tells how many units of fuel were used, of how many.
+/// Reports the fuel used, and the limit.
 pub fn tell_used<E: Write>(used: u64, fuel: u64, err: &mut E) -> io::Result<()> {
     writeln!(err, "used {used} of {fuel} {}", unit_of(fuel))
 }
 
-/// Says what the work used, if that is asked for.
+/// Reports the fuel that the work used, on request.
 fn trace<E: Write>(told: &Told, work: &WorkRequest, err: &mut E)
     ensures quiet { work.now.is_traced ≡ false → err.new ≡ err.old }
 {
@@ -131,7 +131,7 @@ fn trace<E: Write>(told: &Told, work: &WorkRequest, err: &mut E)
     }
 }
 
-/// Says where the work stopped, if it did not return, and what it used, if that is asked for.
+/// Reports where the work stopped, if it did not return, and on request the fuel used.
 fn say_more<E: Write>(told: &Told, work: &WorkRequest, err: &mut E)
     ensures quiet { IsResult (end_of told.now.reply.outcome) → work.now.is_traced ≡ false → err.new ≡ err.old }
 {
@@ -139,8 +139,7 @@ fn say_more<E: Write>(told: &Told, work: &WorkRequest, err: &mut E)
     trace(told, work, err);
 }
 
-/// Lets the module compute the reply of the work order that the words ask for, with these bytes to read, and writes what came of
-/// it where the words say.
+/// Runs the module's `uv_work` as the command asks, with these input bytes, and writes the outcome where the command says.
 pub fn work<'a, F: FileWriter, O: Write, E: Write>(
     alloc: Global,
     linked: Linked,

@@ -7,8 +7,9 @@ use Rattle.sentences.proofs.invalid.invalid.Goals as goal
 
 pub returns : goal.returns
 returns c =
-    let same : c.in_ok-refused.refused.fault ≡ c.args.fault = differs_false the_type (search rules) _ _ (sym c.if-ne.ensures) in
-    let spelled : Spells c.args.bytes.now c.in_ok-module.module.contents = search rules in
-    let broken : BreaksAt c.in_ok-module.module.contents c.args.fault c.in_ok-refused.refused.site =
-    subst (λ fault. BreaksAt c.in_ok-module.module.contents fault c.in_ok-refused.refused.site) same c.in_ok-refused.ensures.placed in
-    (c.in_ok-module.module.contents, spelled, c.in_ok-refused.refused.site, broken, c.in_ok-place.ensures)
+    let same : c.in-Some.refused.fault ≡ c.args.fault = differs_false the_type (search rules) _ _ (sym c.if-ne.ensures) in
+    let spelled : Spells c.args.bytes.now c.in-Ok.module.contents = rw c.in-Ok.is at c.decoded.ensures.spelled in
+    let placed : BreaksAt c.in-Ok.module.contents c.in-Some.refused.fault c.in-Some.refused.site = rw c.in-Some.is at c.refused_at.ensures.placed in
+    let broken : BreaksAt c.in-Ok.module.contents c.args.fault c.in-Some.refused.site =
+    subst (λ fault. BreaksAt c.in-Ok.module.contents fault c.in-Some.refused.site) same placed in
+    (c.in-Ok.module.contents, spelled, c.in-Some.refused.site, broken, rw c.in-Some-place_of.is at c.place_of.ensures)

@@ -8,5 +8,6 @@ use Rattle.sentences.proofs.undecoded.undecoded.Goals as goal
 
 pub returns : goal.returns
 returns c =
-    let same : c.in_ok-refused.refused.fault ≡ c.args.fault = differs_false the_type (search rules) _ _ (sym c.if-ne.ensures) in
-    (subst (λ fault. fault ≢ Memory → SpellsNothing c.args.bytes.now) same c.in_ok-refused.ensures.refused, c.in_ok-refused.ensures.within)
+    let same : c.in-Some.refused.fault ≡ c.args.fault = differs_false the_type (search rules) _ _ (sym c.if-ne.ensures) in
+    let nothing : c.in-Some.refused.fault ≢ Memory → SpellsNothing c.args.bytes.now = rw c.in-Some.is at c.refused_at.ensures.refused in
+    (subst (λ fault. fault ≢ Memory → SpellsNothing c.args.bytes.now) same nothing, rw c.in-Some.is at c.refused_at.ensures.within)

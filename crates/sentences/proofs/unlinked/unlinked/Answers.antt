@@ -1,4 +1,4 @@
-use Rattle.std.proofs.Common.{rules, subst}
+use Rattle.std.proofs.Common.{subst}
 use Rattle.syntax.specs.Binary.{Spells}
 use Rattle.validate.specs.Valid.{ValidModule}
 use Rattle.imports.specs.Sites.{IsMisfit}
@@ -7,10 +7,11 @@ use Rattle.sentences.proofs.unlinked.unlinked.Goals as goal
 
 pub returns : goal.returns
 returns c =
-    let contents = c.in_ok-valid.valid.contents in
-    let spelled : Spells c.args.bytes.now contents = search rules in
-    let valid : ValidModule contents = search rules in
-    let misfit : IsMisfit contents c.in_ok-refused_at.field-0 = c.in_ok-refused_at.ensures in
-    let placed : IsPlaceOfMisfit c.args.bytes.now contents c.in_ok-refused_at.field-0 c.in_ok-place.place =
-    subst (λ m. IsPlaceOfMisfit c.args.bytes.now m c.in_ok-refused_at.field-0 c.in_ok-place.place) c.contents.ensures.same c.in_ok-place.ensures in
-    (contents, spelled, valid, c.in_ok-refused_at.field-0, misfit, placed)
+    let contents = c.in-Ok.valid.contents in
+    let spelled : Spells c.args.bytes.now contents = rw c.in-Ok.is at c.validated.ensures.spelled in
+    let valid : ValidModule contents = rw c.in-Ok.is at c.validated.ensures.valid in
+    let misfit : IsMisfit contents c.in-Some.site = rw c.in-Some.is at c.refused_at.ensures in
+    let found : IsPlaceOfMisfit c.args.bytes.now c.contents.result.now c.in-Some.site c.in-Some-place.place = rw c.in-Some-place.is at c.in_ok-place.ensures in
+    let placed : IsPlaceOfMisfit c.args.bytes.now contents c.in-Some.site c.in-Some-place.place =
+    subst (λ m. IsPlaceOfMisfit c.args.bytes.now m c.in-Some.site c.in-Some-place.place) c.contents.ensures.same found in
+    (contents, spelled, valid, c.in-Some.site, misfit, placed)

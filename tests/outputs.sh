@@ -1,6 +1,6 @@
 #!/usr/bin/env bash
 # What the program ends with and says where standard input, output or error is closed or full, over all mixtures of these; and bytes that go
-# into `work` and out of it by files and pipes, as many as a request may have and one more.
+# into `work` and out of it by files and pipes, as many as a request may have and one more; a script of as many bytes as it may have.
 #
 # usage: tests/outputs.sh PROGRAM       some five seconds; ends with 1 if a status or a message is not as docs/COMMANDS.md says
 set -u
@@ -79,11 +79,11 @@ mixtures 2 message invoke examples/seven.wasm nofunction
 mixtures 2 message invoke examples/seven.wasm f 1
 mixtures 2 message work examples/copies.wasm 5 6
 
-# a command is missing: what is said of it, and how a guest is run
+# no command was given: what is said of it, and how a guest is run
 "$program" > "$room/out" 2> "$room/err"
 is "what no command prints" "" "$(cat "$room/out")"
-is "what is said of no command" "error: a command is missing" "$(head -n 1 "$room/err")"
-is "how a guest is run" "A guest runs by 'wasmloop serve FILE --loops 1 --workers 1'." "$(grep -o 'A guest runs by .*' "$room/err")"
+is "what is said of no command" "error: no command was given" "$(head -n 1 "$room/err")"
+is "how a guest is run" "To run a guest: 'wasmloop serve FILE --loops 1 --workers 1'." "$(grep -o 'To run a guest: .*' "$room/err")"
 
 # whatever is closed, the file has the reply alone
 for in in open closed; do for out in open closed; do for err in open closed; do
@@ -102,12 +102,44 @@ is "a pipe to a pipe" "$(sha256sum < "$room/most")" "$(work --in - --raw < "$roo
 is "what is said of it" 'done 65541 bytes 65536' "$(cat "$room/err")"
 is "--out -" "$(sha256sum < "$room/most")" "$(work --in "$room/most" --out - 2> "$room/err" | sha256sum)"
 is "an empty pipe" 'done 5 bytes 0' "$(work --in - < /dev/null)"
+
+# a file that can't be written whole is left as it was, beside which nothing stays; what isn't an ordinary file stays what it is
+printf old > "$room/kept"
+chmod 640 "$room/kept"
+(trap '' XFSZ; ulimit -f 16; work --in "$room/most" --out "$room/kept" > "$room/out" 2> "$room/err")
+is "a reply for which there is no room" 1 $?
+is "what is said of it" output "$(head -n 1 "$room/err")"
+is "the file that was there" "3 old" "$(stat -c %s "$room/kept") $(head -c 3 "$room/kept")"
+is "files beside it" "" "$(find "$room" -name '*.part')"
+is "a reply in its place" 'done 65541 bytes 65536' "$(work --in "$room/most" --out "$room/kept")"
+is "the permissions of the file" 640 "$(stat -c %a "$room/kept")"
+ln -s kept "$room/link"
+is "a reply by a link" 'done 5 bytes 0' "$(work --out "$room/link" < /dev/null)"
+is "the link, and what it leads to" "kept 0" "$(readlink "$room/link") $(stat -c %s "$room/kept")"
+mkfifo "$room/pipe"
+(cat "$room/pipe" > "$room/came" &)
+is "a reply to a pipe" 'done 8 bytes 3' "$(work 616263 --out "$room/pipe")"
+is "the pipe" p "$(stat -c %A "$room/pipe" | head -c 1)"
+printf x > "$room/taken.part"
+is "a reply where the new file's name is taken" 'done 8 bytes 3' "$(work 616263 --out "$room/taken")"
+is "its file, and the other" "abc x" "$(cat "$room/taken") $(cat "$room/taken.part")"
+rm "$room/taken.part"
+
 work --in "$room/more" --out "$room/untouched" > "$room/out" 2> "$room/err"
 is "a byte more" 2 $?
 is "what is said of a byte more" arguments "$(head -n 1 "$room/err")"
 is "a byte more makes no file" 1 "$([ -e "$room/untouched" ]; echo $?)"
 work "$(head -c 3000 "$room/more" | od -An -v -tx1 | tr -d ' \n')" > "$room/out" 2> "$room/err"
 is "HEX" 0 $?
+
+# a script of as many bytes as it may have, which are mostly spaces, and of one more
+cp examples/timer.json "$room/script"
+head -c $((67108864 - $(wc -c < "$room/script"))) /dev/zero | tr '\0' ' ' >> "$room/script"
+is "a script of 67,108,864 bytes" "$("$program" script examples/timer.json)" "$("$program" script "$room/script")"
+printf ' ' >> "$room/script"
+"$program" script "$room/script" > "$room/out" 2> "$room/err"
+is "a script of a byte more" 1 $?
+is "what is said of it" "script 4 Range" "$(head -n 1 "$room/err")"
 
 echo "$runs looked at, $wrong wrong"
 [ $wrong = 0 ]

@@ -71,10 +71,15 @@ lacks() {
     *apt-get* | rustup*) echo "it needs a network" ;;
     *' FILE'* | *PROGRAM* | *OUT* | *' NAME'* | *' OP'* | *myhost*) echo "it names the reader's own" ;;
     *LOOP/*) echo "a step of GUESTS or of its kit" ;;
+    *'-m wasmloop'*)
+        if [ ! -d python ]; then echo "the package is not installed: there is no pip"
+        elif [[ $1 == *wasmloop.ask* ]] && ! has wasm-opt; then echo "there is no wasm-opt"
+        elif [[ $1 == *--debug* ]] && ! has llvm-symbolizer; then echo "there is no llvm-symbolizer"; fi ;;
     pip\ * | *first.py*) has pip && [ -f dist/libwasmloop.so.0 ] || echo "there is no pip, or no library in dist/" ;;
     *pkg-config*) has pkg-config || echo "there is no pkg-config" ;;
     PREFIX=* | *first* | *libwasmloop*) has cc && [ -f dist/libwasmloop.a ] || echo "there is no cc, or no library in dist/" ;;
     *cargo*) has cargo && [ -f dist/libwasmloop.a ] || echo "there is no cargo, or no library in dist/" ;;
+    python3\ -m\ venv*) python3 -c 'import ensurepip' 2> /dev/null || echo "there is no venv" ;;
     *clang* | *wasm-ld* | examples/build.sh*) { has clang && has wasm-ld; } || echo "there is no clang or no wasm-ld" ;;
     esac
 }
@@ -101,7 +106,7 @@ run() {
     *) fail "$page: $command"; cat problem; return ;;
     esac
     case $told in
-    done\ * | accepted | loop\ * | return\ * | [0-9]*) [[ $printed == "${told%..}"* || $told == "$printed"* ]] || fail "$page: $command: it prints $printed" ;;
+    done\ * | accepted | loop\ * | return\ * | [0-9]* | "{"*) [[ $printed == "${told%..}"* || $told == "$printed"* ]] || fail "$page: $command: it prints $printed" ;;
     esac
 }
 
@@ -109,15 +114,10 @@ run() {
 block() {
     awk -v fence="\`\`\`$2" -v number="${3:-1}" '$0 == fence { inside = ++count == number; next } /^```/ { if (inside) exit } inside' "$top/$1"
 }
-# the same of a paragraph of a text
-paragraph() { awk -v RS= -v number="$1" 'NR == number'; }
 
-block README.md c > tick.c
-if has clang && has wasm-ld; then
-    clang --target=wasm32 -mcpu=mvp -O2 -ffreestanding -Iexamples -c tick.c examples/mem.c || fail "README.md: tick.c"
-    wasm-ld --no-entry --export-table --stack-first -z stack-size=16384 -o tick.wasm tick.o mem.o || fail "README.md: tick.c"
-fi
-for page in README.md docs/COMMANDS.md docs/EMBEDDING.md docs/PLUGINS.md examples/README.md examples/libraries/README.md; do
+mkdir guest
+block README.md c > guest/tick.c
+for page in README.md docs/COMMANDS.md docs/EMBEDDING.md docs/DEBUGGING.md docs/PLUGINS.md examples/README.md examples/libraries/README.md examples/kit/ask/README.md; do
     [ -f "$top/$page" ] || continue
     files "$page"
     # (its files stand in a folder of their own)
@@ -141,9 +141,9 @@ says() {
 }
 says README.md './wasmloop work examples/sha256.wasm 0 616263' 'done 3 bytes 32 ba7816bf8f01cfea'
 says docs/COMMANDS.md './wasmloop check examples/seven.wasm' 'accepted'
-number=$(./wasmloop work examples/crc32.wasm 0 616263 | cut -d ' ' -f 2)
-[ ! -x first ] || [ "$(./first examples/crc32.wasm)" = "$number" ] || fail "docs/EMBEDDING.md: first.c"
-[ ! -d python ] || [ "$(python3 first.py)" = "$number" ] || fail "docs/EMBEDDING.md: first.py"
+crc=$(./wasmloop work examples/crc32.wasm 0 616263 | cut -d ' ' -f 2)
+[ ! -x first ] || [ "$(./first examples/crc32.wasm)" = "$crc" ] || fail "docs/EMBEDDING.md: first.c"
+[ ! -d python ] || [ "$(python3 first.py)" = "$crc" ] || fail "docs/EMBEDDING.md: first.py"
 
 # snippet NAME COMMAND: one of EMBEDDING's further blocks, which stands in a file of that name
 snippet() {
@@ -152,20 +152,32 @@ snippet() {
     $2 > said 2>&1 || { fail "docs/EMBEDDING.md: $1"; cat said; }
 }
 if has cc; then
-    for number in 2 3 4; do
+    hosts=0 number=2
+    while [ -n "$(block docs/EMBEDDING.md c $number)" ]; do
         { echo '#include "wasmloop.h"'; block docs/EMBEDDING.md c $number; } > "snippet$number.c"
-        grep -q wasmloop_handle "snippet$number.c" || fail "docs/EMBEDDING.md has no block $number in C"
-        snippet "block $number in C" "cc -std=c99 -Wall -Werror -Icapi/include -c snippet$number.c"
+        # (a block without a handle is a guest, which the page's commands compile)
+        if grep -q wasmloop_handle "snippet$number.c"; then
+            hosts=$((hosts + 1))
+            snippet "block $number in C" "cc -std=c99 -Wall -Werror -Icapi/include -c snippet$number.c"
+        fi
+        number=$((number + 1))
+    done
+    [ $hosts = 3 ] || fail "docs/EMBEDDING.md has $hosts blocks of a host in C behind the first, not 3"
+fi
+if [ -d python ] && [ -f counter.wasm ]; then
+    # (the third is a file of its own, which the page's commands run)
+    for number in 2 4; do
+        guest=$([ $number = 2 ] && echo counter.wasm || echo examples/crc32.wasm)
+        { printf 'from wasmloop import Module\nmodule = Module(open("%s", "rb").read())\n' "$guest"; block docs/EMBEDDING.md python $number; } > "snippet$number.py"
+        grep -q run_for "snippet$number.py" || fail "docs/EMBEDDING.md has no block $number in Python"
+        snippet "block $number in Python" "python3 snippet$number.py"
     done
 fi
-if [ -d python ] && [ -f tick.wasm ]; then
-    clang --target=wasm32 -mcpu=mvp -O1 -ffreestanding -fno-builtin -c -o kv.o capi/test/plugins/kv.c
-    wasm-ld --no-entry --stack-first -z stack-size=8192 -o kv.wasm kv.o
-    for number in 1 2; do
-        guest=$([ $number = 1 ] && echo kv.wasm || echo examples/crc32.wasm)
-        { printf 'from wasmloop import Module\nmodule = Module(open("%s", "rb").read())\n' "$guest"; block docs/EMBEDDING.md python 2 | paragraph $number; } > "snippet$number.py"
-        snippet "paragraph $number in Python" "python3 snippet$number.py"
-    done
+if [ -f main.rs ] && has cargo; then
+    mkdir -p rust_host/src && mv main.rs rust_host/src
+    printf '[package]\nname = "first"\nversion = "0.1.0"\nedition = "2021"\n[dependencies]\nwasmloop = { path = "%s" }\n' "$room/capi/rust" > rust_host/Cargo.toml
+    snippet "main.rs" "cargo run -q --offline --manifest-path rust_host/Cargo.toml"
+    [ "$(cat said)" = "$crc" ] || fail "docs/EMBEDDING.md: main.rs prints $(cat said)"
 fi
 "$top/examples/guests_test.sh" "$program" || wrong=$((wrong + 1))
 echo "pages: $count commands, $left left out, $wrong wrong"

@@ -23,7 +23,7 @@ called as a definition counts as that. So it may ask for some lines too many, an
 
 docs/AUDIT.sums has a sum (tools/sums.py) of each clause of a call that docs/AUDIT.md or docs/PROOFS.md names, or that is public in a
 public module, and of each definition that these reach: who changes a believed line has to renew it, and the difference shows
-which was changed.
+which was changed. It has one too of the model of each type that they reach, its invariant included, though these need not be read.
 
 It also compares what is reached with where it stands: what these calls reach of specs/Inner is what the page lists, and a file
 of specs/ outside Inner is reached by one of them. And each public call that no clause says what it promises is one that the page
@@ -44,6 +44,7 @@ PUBLIC = re.compile(r"^ *(?:abbrev|unfoldable) pub |^ *pub (?:record|data) |^pub
 ITEM = re.compile(rf"^(?:pub(?:\([a-z]+\))? )?(struct|enum|trait|type|const) ({WORD})")
 BLOCK = re.compile(rf"^(?:pub )?(impl|trait)(?:<.*?>(?= ))? (?:(\w+)(?:<.*>)? for )?({WORD})")
 DOC = r"\s*(///|#\[)"
+RULE = re.compile(r" *-- Core \d")  # it names a rule of the standard, and is no line to read (tools/rules.py)
 GHOST = re.compile(r"\s+ghost (\w+) = \{")
 STANDING = {'view', 'invariant', 'Value'}  # of an `impl Model`
 FN = re.compile(rf"^(\s*)(pub )?(?:const )?(?:extern .C. )?fn ({WORD})")
@@ -111,7 +112,7 @@ class Tree:
     """All definitions of the repository by file and name, and the public calls of each type."""
 
     def __init__(self):
-        self.nodes, self.calls, self.kit, self.impls, self.types, self.kept = {}, {}, set(), [], {}, {}
+        self.nodes, self.calls, self.kit, self.impls, self.types, self.kept, self.models = {}, {}, set(), [], {}, {}, {}
         for file in sorted(CRATES.glob('*/specs/**/*.antt')):
             self.read_specs(file)
         for file in sorted(CRATES.glob('*/src/**/*.rt')):
@@ -138,7 +139,7 @@ class Tree:
                 starts.append((above(lines, at, r" *--|infix"), name, around if found.group(1) else ''))
         for (begin, name, outer), (end, _, _) in zip(starts, starts[1:] + [(len(lines), None, '')]):
             if name:
-                kept = [at for at in range(begin, end) if lines[at].strip()]
+                kept = [at for at in range(begin, end) if lines[at].strip() and not RULE.match(lines[at])]
                 node = Node(file, name, kept, '\n'.join([outer] + [lines[at] for at in kept]), scope)
                 self.nodes[file, name] = node
                 if re.search(rf"\bdata {name}\b", node.text):  # a constructor's name leads to its type
@@ -157,6 +158,9 @@ class Tree:
             elif line == '}':
                 if header and kind not in ('impl', 'trait', 'Model', 'From'):
                     self.add_impl(file, lines, begin, at, kind, of, inside)
+                elif kind == 'Model':
+                    told = '\n'.join(lines[begin:at + 1])
+                    self.models[file, of + ' Value'] = Node(file, f"model {of}", range(begin, at + 1), told, inside)
                 inside, header, kind, of = scope, '', '', ''
             elif line.strip().startswith('ghost use '):
                 inside.specs(line)
@@ -277,6 +281,11 @@ class Tree:
             handed = ' '.join(re.findall(r"^pub use [^;]*", text, re.M))
             known = file == root or re.search(rf"^pub mod {file.stem};", text, re.M)
             yield from (node for node in nodes if known or 'extern' in node.text or re.search(rf"\b{of or node.name}\b", handed))
+
+    def models_of(self, nodes):
+        """What contracts see of the types among these, with their invariants."""
+        reached = {(node.file, node.name) for node in nodes}
+        return [node for key, node in self.models.items() if key in reached]
 
     def reach(self, calls):
         """The definitions that are reached from these calls."""
@@ -436,7 +445,8 @@ def main():
     if '--from' in options:
         return
     calls = calls_of(tree, headline)
-    told = sums.sums(tree.reach_from(calls))
+    believed = list(tree.reach_from(calls))
+    told = sums.sums(believed + tree.models_of(believed))
     if '--inner' in options:
         print('\n'.join(inner_lines(tree, calls)))
     if '--bare' in options:

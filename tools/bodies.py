@@ -15,13 +15,15 @@ tests/bodies/NAME.edit is one wrong body:
     met: CRATE TEST             the test that must fail, as `test_modules runs::bodies_end_as_they_must`; of test_program, how the
                                 command begins whose row must differ; `wasmloop run`, the program on its stored arguments
     alone                       (if it is so) it breaks too much to stand beside others
+    hangs                       (if it is so) the test doesn't fail, but reaches no end within its time limit
     file: CRATE/src/FILE.rt     then lines `old: TEXT` and `new: TEXT`, as in must-fail edits: each TEXT is one line, and `old` stands in
                                 the file once
 
 Runs cost more than tests, so bodies of one crate of tests share runs: of k runs each body stands in half, no two in the same ones.
 A test meets a body if it fails in each run with it, and in no other: a test that fails by another body alone fails in a run
 without this one too. Of a body that stands alone in a run, a test meets it that fails there and passes in another run, if need be
-one without any body. Bodies that name one test, or that edit one text, are not put together. What is undecided is run alone.
+one without any body. A test that reaches its time limit is told as such, and meets a body that hangs alone: on a busy machine any
+test may. Bodies that name one test, or that edit one text, are not put together. What is undecided is run alone.
 """
 import re
 import shutil
@@ -35,13 +37,14 @@ from pathlib import Path
 TOP = Path(__file__).resolve().parent.parent
 BODIES = TOP / 'tests' / 'bodies'
 LONGEST = 1500  # seconds of one run
+NO_END = ' (no end within its time limit)'
 
 
 class Body:
     """One wrong body: its changes, and the test that is to meet it."""
 
     def __init__(self, file):
-        self.name, self.says, self.alone, self.changes, at, old = file.stem, '', False, [], None, None
+        self.name, self.says, self.alone, self.hangs, self.changes, at, old = file.stem, '', False, False, [], None, None
         for line in filter(str.strip, file.read_text().split('\n')):
             word, _, rest = line.partition(': ')
             if word == 'says':
@@ -54,8 +57,8 @@ class Body:
                 old = rest
             elif word == 'new':
                 self.changes.append((at, old, rest))
-            elif line == 'alone':
-                self.alone = True
+            elif line in ('alone', 'hangs'):
+                setattr(self, line, True)
             else:
                 sys.exit(f"bodies: {file.name}: {line}")
 
@@ -129,9 +132,9 @@ class Room:
 
     def by_these(self, crate, failed):
         """Those of the tests that failed that pass in another run."""
-        if not self.passed.get(crate, set()).issuperset(failed):
+        if not self.passed.get(crate, set()).issuperset(test.removesuffix(NO_END) for test in failed):
             self.run(crate, [])
-        return [test for test in failed if test in self.passed[crate]]
+        return [test for test in failed if test.removesuffix(NO_END) in self.passed[crate]]
 
     def outcome(self, crate):
         folder = self.top / 'crates' / crate
@@ -140,7 +143,7 @@ class Room:
         if not crate.startswith('test_'):
             return program_that_differs(folder, self)
         told = self.told(folder, ['--test']).stdout
-        failed = re.findall(r"^test (\S+) \.\.\. FAILED(?!\n    checked: no-answer)", told, re.M)
+        failed = [name + (NO_END if end else '') for name, end in re.findall(r"^test (\S+) \.\.\. FAILED(\n    checked: no-answer)?", told, re.M)]
         passed = re.findall(r"^test (\S+) \.\.\. ok$", told, re.M)
         return (failed, passed) if re.search(r"^test result: ", told, re.M) else self.keep(told)
 
@@ -190,8 +193,9 @@ def program_that_differs(folder, room):
 
 
 def meets(body, failed):
-    """Those of the tests that failed that are the one which the body names."""
-    return [test for test in failed if (test.startswith(body.test) if body.crate == 'test_program' else test == body.test)]
+    """Those of the tests that failed that are the one which the body names, and fail as it says."""
+    wanted = body.test + (NO_END if body.hangs else '')
+    return [test for test in failed if (test.startswith(body.test) if body.crate == 'test_program' else test == wanted)]
 
 
 def is_there(body):
@@ -238,10 +242,10 @@ def told_of(body, failed):
     if not failed:
         print(f"{body.name}: NOT MET; {body.crate} {body.test} is to meet it", flush=True)
     elif not named:
-        print(f"{body.name}: met by {body.crate} {others[0]:.60}, NOT by {body.test}", flush=True)
+        print(f"{body.name}: met by {body.crate} {others[0]:.100}, NOT by {body.test}", flush=True)
     else:
         more = f", and {len(failed) - 1} more" if len(failed) > 1 else ''
-        print(f"{body.name}: met by {body.crate} {named[0]:.60}{more}", flush=True)
+        print(f"{body.name}: met by {body.crate} {named[0]:.100}{more}", flush=True)
     return bool(named)
 
 

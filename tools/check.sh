@@ -13,7 +13,7 @@ files() { git ls-files -- "$@"; }
 
 if has rattle; then files 'crates/*.rt' 'crates/*.antt' | xargs -n 200 rattle fmt --check || wrong=1; fi
 if has python3; then
-    for tool in audit citations picture header limits shape uv; do
+    for tool in audit citations picture header limits plain rules shape uv; do
         if [ -f "tools/$tool.py" ]; then try python3 "tools/$tool.py"; fi
     done
     try python3 tools/bodies.py --check
@@ -21,6 +21,6 @@ fi
 try git diff --check HEAD
 if has shellcheck; then files '*.sh' wasmloop .ci/run .ci/nightly | xargs shellcheck --severity=warning || wrong=1; fi
 if has flake8; then files '*.py' | xargs flake8 --max-line-length=160 || wrong=1; fi
-if has mypy; then try mypy --strict --no-error-summary --cache-dir=/dev/null capi/python/wasmloop.py; fi
+if has mypy; then try mypy --strict --no-error-summary --cache-dir=/dev/null capi/python/wasmloop/__init__.py; fi
 if has cc; then for file in capi/wasmloop.c capi/names.c; do try cc -std=c99 -Wall -Wextra -Werror -Icapi/include -fsyntax-only "$file"; done; fi
 exit $wrong

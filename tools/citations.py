@@ -10,7 +10,7 @@ of the name that the line gives, or else an invariant or a ghost field; or, by i
 crate alone is all that it exports to C.
 
 docs/AUDIT.sums has two sums of each fact: of the line, and of the clauses that it tells. Where one is another than it was, the two
-are to be read beside each other again, and the sums renewed.
+are to be read beside each other again, and the sums renewed. Of each section of the page it has a sum of what is no fact.
 """
 import re
 import sys
@@ -128,6 +128,13 @@ def changed(found):
     yield from (f"docs/AUDIT.sums: {key} is no fact of docs/PROOFS.md" for key in sorted(old.keys() - there))
 
 
+def prose():
+    """Of each section of the page the sum of its lines that are no facts."""
+    sections = re.split(r"^## ", read(PROOFS), flags=re.M)
+    lines = {text.split('\n')[0].strip('# '): [line for line in text.split('\n') if not FACT.match(line)] for text in sections}
+    return {f"prose {title.replace(' ', '-')}": sums.short(' '.join(kept).split()) for title, kept in lines.items()}
+
+
 def pages():
     """The pages of the repository; not those that builds leave in their folders."""
     found = [TOP / 'README.md', *(page for folder in ('docs', 'examples', 'bench') for page in sorted((TOP / folder).rglob('*.md')))]
@@ -154,9 +161,9 @@ def broken_links():
 def main():
     found = list(facts(Clauses(Tree())))
     if '--renew' in sys.argv:
-        sums.renew({fact.key: fact.sums for fact in found}, ['fact'])
+        sums.renew({fact.key: fact.sums for fact in found} | prose(), ['fact', 'prose'])
     faults = [f"docs/PROOFS.md:{fact.number}: {text}" for fact in found for text in fact.wrong]
-    faults += [*changed(found), *broken_links()]
+    faults += [*changed(found), *(f"docs/AUDIT.sums: {line}" for line in sums.differences(prose(), ['prose'])), *broken_links()]
     for text in faults:
         print(text, file=sys.stderr)
     print(f"{len(found)} facts, {len(faults)} faults")

@@ -5,7 +5,7 @@
     python3 tools/header.py --self-test      plants faults in copies of the texts; status 1 if one isn't found
     python3 tools/header.py --version X.Y.Z  writes that version in each place that has it
 
-What capi/include/wasmloop.h declares stands five times: there, in crates/wasmloop_c, in capi/wasmloop.c, in capi/python/wasmloop.py and in capi/rust.
+What capi/include/wasmloop.h declares stands five times: there, in crates/wasmloop_c, in capi/wasmloop.c, in capi/python/wasmloop/__init__.py and in capi/rust.
 A struct has fields of the same widths in the same order, with the same names but for RENAMED; a number has one value; a call takes the
 same words, and Python and Rust make each; a fault, a trap, a status has one name. The version is WASMLOOP_VERSION, and each copy of it is
 compared. No call, struct or number is named here but in INSTEAD: all are read out of the header.
@@ -19,13 +19,13 @@ from pathlib import Path
 from sources import Sources as Texts
 
 TOP = Path(__file__).resolve().parent.parent
-HEADER, CALLS, NAMES, PYTHON, RUST = "capi/include/wasmloop.h", "capi/wasmloop.c", "capi/names.c", "capi/python/wasmloop.py", "capi/rust/src/lib.rs"
+HEADER, CALLS, NAMES, PYTHON, RUST = "capi/include/wasmloop.h", "capi/wasmloop.c", "capi/names.c", "capi/python/wasmloop/__init__.py", "capi/rust/src/lib.rs"
 CRATE = "crates/wasmloop_c"
 # Fields and structs that a language calls otherwise, since the header's name is one of its words, or taken.
 RENAMED = {"moment": "now", "loop_no": "number loop", "at": "byte", "of_loop": "loop"}
-STRUCTS = {"call_ended": "ended", "signature": "type"}
+STRUCTS = {"call_ended": "ended", "signature": "type", "spelled_site": "place"}
 # Calls that a language makes by two others.
-INSTEAD = {("capi/python/wasmloop.py", "work"): "job_new and job_run"}
+INSTEAD = {("capi/python/wasmloop/__init__.py", "work"): "job_new and job_run"}
 # The prefix of the header's number for a variant of a type of the crate.
 VARIANTS = {"Phase": "", "EntryKind": "RUN_", "Ending": "", "Outcome": "WORK_"}
 WIDTHS = {"char": 1, "size_t": 8, "usize": 8, "int": 4, "f64": 8}

@@ -1,11 +1,14 @@
 #!/usr/bin/env python3
-"""Writes the manual pages and the completions, of what the program says by `help` and of the comments in capi/include/wasmloop.h, to dist/.
+"""Writes the manual pages and the completions to dist/, from what the program prints by `help`, from the comments in capi/include/wasmloop.h, and
+from the help of the tools in capi/python/wasmloop.
 
 usage: pages.py PROGRAM [--check]
 
 With --check nothing is written; a file that is not what these sources give is named, and the status is 1.
 """
 
+import argparse
+import importlib
 import os
 import re
 import subprocess
@@ -71,7 +74,7 @@ def program_page(version, whole, commands):
             page += [".PP", roff(part)]
         page += [".PP", "Example:", ".RS", *plain(it.example.strip()), ".RE"]
     page += [".SH OPTIONS", *table(whole.tables["Options"]), ".SH EXIT STATUS", roff(whole.prose[-1].removeprefix("Status: "))]
-    return page + [".SH SEE ALSO", "\\fBwasmloop.h\\fR(3)"]
+    return page + [".SH SEE ALSO", "\\fBwasmloop\\-tools\\fR(1), \\fBwasmloop.h\\fR(3)"]
 
 
 def header_page(version, text):
@@ -94,6 +97,49 @@ def header_page(version, text):
         else:
             page += [".PP", ".RS", *plain(part), ".RE"]
     return page + [".SH SEE ALSO", "\\fBwasmloop\\fR(1)"]
+
+
+def parser_of(tool):
+    """The parser of a tool's command line, which its main makes."""
+    class Found(Exception):
+        pass
+
+    def found(parser, *_):
+        raise Found(parser)
+
+    kept, argparse.ArgumentParser.parse_args = argparse.ArgumentParser.parse_args, found
+    try:
+        importlib.import_module(f"wasmloop.{tool}").main()
+    except Found as it:
+        return it.args[0]
+    finally:
+        argparse.ArgumentParser.parse_args = kept
+
+
+def word_of(action):
+    """An argument or an option, with its value, as a usage line has it."""
+    value = action.metavar or action.dest
+    if not action.option_strings:
+        return {"?": f"[{value}]", "*": f"[{value}]...", "+": f"{value}..."}.get(action.nargs, value)
+    return ", ".join(action.option_strings) + ("" if action.nargs == 0 else f" {value}")
+
+
+def tools_page(version):
+    """The tools of the package for Python."""
+    sys.path.insert(0, f"{TOP}/capi/python")
+    tools = importlib.import_module("wasmloop.__main__").TOOLS
+    page = [f'.TH WASMLOOP-TOOLS 1 "" "wasmloop {version}" "User Commands"', ".SH NAME",
+            "wasmloop\\-tools \\- debug, profile, fuzz, build and freeze guests of wasmloop", ".SH SYNOPSIS", ".nf"]
+    page += [f"\\fBpython3 \\-m wasmloop.{it}\\fR" for it in tools]
+    page += [".fi", ".SH TOOLS"]
+    for name in tools:
+        parser = parser_of(name)
+        page.append(f".SS {name}")
+        for part in parser.description.split("\n\n"):
+            page += plain(part) if part.startswith(" ") else [".PP", roff(part)]
+        page += table((word_of(it), it.help % {"default": it.default} if "%(" in it.help else it.help) for it in parser._actions if it.dest != "help")
+    statuses = importlib.import_module("wasmloop._tool").STATUSES
+    return page + [".SH EXIT STATUS", roff(statuses.partition(": ")[2]), ".SH SEE ALSO", "\\fBwasmloop\\fR(1), \\fBwasmloop.h\\fR(3)"]
 
 
 def bash(commands):
@@ -145,6 +191,7 @@ def main(program, check):
         header = file.read()
     made = {
         "wasmloop.1": program_page(version, whole, commands),
+        "wasmloop-tools.1": tools_page(version),
         "wasmloop.h.3": header_page(version, header),
         "wasmloop.bash": bash(commands),
         "_wasmloop": zsh(whole, commands),
@@ -156,7 +203,7 @@ def main(program, check):
             with open(path, "w") as file:
                 file.write(text)
         elif not os.path.isfile(path) or open(path).read() != text:
-            print(f"dist/{name} is not what program and header say: tools/pages.py writes it")
+            print(f"dist/{name} is not what its sources say: tools/pages.py writes it")
             wrong = 1
     return wrong
 

@@ -1,8 +1,10 @@
 """The sums of docs/AUDIT.sums: a short SHA-256 of each believed definition and clause, by which a change of it is noticed.
 
-    definition FILE NAME SUM            below crates/; of an `impl Trait for Type` its clauses and ghost items
+    definition FILE NAME SUM            below crates/; of an `impl Trait for Type` its clauses and ghost items; `model_Type`: what contracts see of
+                                        a type, and its invariant
     clause FILE CALL WHICH SUM          `requires` or `ensures` with its name, or `signature`, what is left without them
     fact CALLS CLAUSES SUM SUM          a line of docs/PROOFS.md, and the clauses that it tells (tools/citations.py)
+    prose SECTION SUM                   what stands there in a section beside the facts
 
 A sum is of the words, without comments and layout. A name that is imported stands with the path that it comes from, so that another
 import under the same name is another sum.
@@ -14,6 +16,7 @@ from pathlib import Path
 FILE = Path(__file__).resolve().parent.parent / 'docs' / 'AUDIT.sums'
 WORD = r"[^\W\d][\w'-]*(?:\.[^\W\d][\w'-]*)*|\d\w*|\S"
 STRING = r'"(?:[^"\\\n]|\\.)*"'
+PARTS = {'definition': 3, 'fact': 3, 'clause': 4, 'prose': 2}  # of a line, before its sums
 CLAUSE = re.compile(r"\b((?:requires|ensures)\*?)(?: (\w+))? \{")
 HEAD = """# The sums of what is believed, which tools/audit.py and tools/citations.py compare with the sources; tools/sums.py says of what.
 # After a change of a believed line, read it, then `python3 tools/audit.py --renew`, or `python3 tools/citations.py --renew` for facts.
@@ -87,7 +90,7 @@ def kept():
     for line in FILE.read_text().split('\n') if FILE.is_file() else []:
         if line and not line.startswith('#'):
             parts = line.split(' ')
-            length = 3 if parts[0] in ('definition', 'fact') else 4
+            length = PARTS[parts[0]]
             found[' '.join(parts[:length])] = ' '.join(parts[length:])
     return found
 

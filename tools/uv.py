@@ -16,11 +16,10 @@ HEADER, RUST, PAGE = "examples/uv.h", "examples/uv.rs", "docs/UV.md"
 CALLS, ENTRIES, ANSWERS = "crates/imports/src/call.rt", "crates/imports/src/entry_point.rt", "crates/order/src/uv/answers.rt"
 HEAD = """# The calls of module "uv"
 
-<!-- Made of examples/uv.h by `python3 tools/uv.py --write`: change it there. -->
+<!-- Generated from examples/uv.h by `python3 tools/uv.py --write`: edit the header. -->
 
-These are all the functions that a module may import; [examples/uv.h](../examples/uv.h) declares them for C,
-[examples/uv.rs](../examples/uv.rs) for Rust. This page is made of the header, whose words are those of C: in a module the names stand
-without `uv_`, and a callback is of type [i32] to [].
+A module may import these functions and no others. [examples/uv.h](../examples/uv.h) declares them for C,
+[examples/uv.rs](../examples/uv.rs) for Rust. This page uses the C names. In a module they lack `uv_`, and a callback has type [i32] to [].
 """
 
 
@@ -43,9 +42,9 @@ def listed(words):
 def widths(header):
     """The sentence about the types of the calls' words and answers."""
     wide = {word: None for _, words, _ in header.calls() for kind, word in words if wasm(kind) == ["i64"]}
-    wide |= {f"the answer of {name}": None for name, _, answer in header.calls() if wasm(answer) == ["i64"]}
+    wide |= {f"the result of {name}": None for name, _, answer in header.calls() if wasm(answer) == ["i64"]}
     marks = [f"`{it}`" if " " not in it else re.sub(r"(\w+)$", r"`\1`", it) for it in wide]
-    return f"Every word and every answer is an i32; but {listed(marks)} are i64."
+    return f"Every parameter and every result is an i32, but {listed(marks)} are i64."
 
 
 def one_line(comment):
@@ -96,11 +95,7 @@ def page_of(text):
     for paragraph in re.split(r"\n\n", first)[1:]:
         code = paragraph.startswith("       ")
         lines.append(re.sub(r"(?m)^       ", "    ", paragraph) + "\n\n" if code else wrapped(marked(one_line(paragraph))) + "\n\n")
-    lines.append("Their types: " + ", ".join(f"`{name}` {told}" for name, told in entries_of(text).items()) + ".\n\n")
-    for comment, rows in header.enums():
-        lines.append(wrapped(marked(comment)) + "\n\n")
-        lines += [f"- `UV_{name}` {value}: {marked(about)}\n" for name, value, about in rows]
-        lines.append("\n")
+    lines.append("The exports have these types: " + ", ".join(f"`{name}` {told}" for name, told in entries_of(text).items()) + ".\n\n")
     for title, about, calls in header.sections():
         heading, _, rest = title.partition(":")
         lines.append(f"## {heading.capitalize()}\n\n")
@@ -108,6 +103,11 @@ def page_of(text):
         for comment, names in calls:
             told = ", ".join(f"`{name}({words[name]})`" for name in names)
             lines.append(f"- {told}: {marked(comment)}\n")
+        lines.append("\n")
+    for comment, rows in header.enums():
+        heading, _, about = comment.partition(": ")
+        lines.append(f"## {heading.capitalize()}\n\n{wrapped(marked(about[:1].upper() + about[1:]))}\n\n")
+        lines += [f"- `UV_{name}` {value}: {marked(said)}\n" for name, value, said in rows]
         lines.append("\n")
     return "".join(lines).rstrip("\n") + "\n"
 
@@ -168,7 +168,7 @@ PLANTED = [
     ("the name of a call", HEADER, r"UV_IMPORT\(is_active\)", "UV_IMPORT(active)"),
     ("the width of a word", HEADER, r"uint64_t timeout", "uint32_t timeout"),
     ("a number", HEADER, r"UV_EBUSY = -16", "UV_EBUSY = -17"),
-    ("a comment", HEADER, r"Answers its handle, or UV_EAGAIN with 64 handles", "Answers its handle, or UV_EAGAIN with 65 handles"),
+    ("a comment", HEADER, r"Returns its handle, or UV_EAGAIN with 64 handles", "Returns its handle, or UV_EAGAIN with 65 handles"),
     ("a word in Rust", RUST, r"(pub fn emit\(value: )i64", r"\1i32"),
     ("a number in Rust", RUST, r"(ENOSPC: i32 = -)28", r"\g<1>29"),
     ("a type of the host", CALLS, r"(Call::Emit => CallType::new\(&\[)I64", r"\1I32"),

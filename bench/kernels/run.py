@@ -1,12 +1,13 @@
 #!/usr/bin/env python3
 """Runs the kernels by the program, by wabt's wasm-interp, by JavaScriptCore's interpreters, by V8 and natively, side by side.
 
-    bench/kernels/run.py PROGRAM [KERNEL..]
+    bench/kernels/run.py PROGRAM [--peers FOLDER] [KERNEL..]
 
 Each KERNEL.c of this folder is compiled by clang, to WebAssembly and natively. A line a kernel: the milliseconds of each. Then the table of
 docs/PERFORMANCE.md: how many times as long wasm-interp and JavaScriptCore's interpreters take as the program, and the program as V8 and as
 native code. JavaScriptCore (`jsc`, Debian's libjavascriptcoregtk-4.0-bin) has two: IPInt interprets a module's bytes in place, LLInt first
-translates them to its own register bytecode; its compilers are off, and where there is no `jsc` both are left out. Times of the program and
+translates them to its own register bytecode; its compilers are off, and where there is no `jsc` both are left out. FOLDER is what
+../peers/fetch.sh makes: with it, wasmi without and with fuel and WasmEdge's interpreter run too. Times of the program and
 of wasm-interp are user time of whole processes; the others call the kernel in a loop in one process, so that a compiler is warm, and the
 least call counts. All take turns on one processor under a real-time class, and the least of five turns counts; node runs beside, on all
 processors, for it compiles in threads of its own. What the program gives is compared with the others.
@@ -20,6 +21,9 @@ import subprocess
 import sys
 import tempfile
 
+sys.path.append(str(pathlib.Path(__file__).resolve().parent.parent / "peers"))
+import peers  # noqa: E402
+
 FOLDER = pathlib.Path(__file__).resolve().parent
 COMPILE = ["clang", "-std=gnu11", "-O2", "-fno-vectorize", "-fno-slp-vectorize"]
 WASM = ["--target=wasm32", "-mno-bulk-memory", "-ffreestanding", "-fno-builtin"]
@@ -32,18 +36,13 @@ HEADS = {
     "wabt": "times as fast as wasm-interp",
     "ipint": "times as fast as IPInt",
     "llint": "times as fast as LLInt",
+    "wasmi": "times as fast as wasmi",
+    "wasmi, fuel": "times as fast as wasmi with fuel",
+    "WasmEdge": "times as fast as WasmEdge",
     "v8": "V8, times as fast",
     "native": "native code, times as fast",
 }
 LABELS = {"fib": "fib (calls)", "queens": "queens (calls, loops)", "switch": "switch (`br_table`)"}
-
-
-def before_all_others():
-    """This process and what it starts run before all others."""
-    try:
-        os.sched_setscheduler(0, os.SCHED_FIFO, os.sched_param(80))
-    except OSError:
-        print("no real-time class: times include what else runs")
 
 
 def as_others():
@@ -90,13 +89,14 @@ def interpreters(module):
     }
 
 
-def measure(program, kernel, folder):
+def measure(program, kernel, folder, others):
     """The least milliseconds of each engine, and whether all gave one number."""
     module, native = compiled(kernel, folder)
     engines = {
         "ours": lambda: user_time([program, "invoke", module, "run", "--fuel", ALL_FUEL, "--depth", "128"], r"^return (-?\d+) "),
         "wabt": lambda: user_time(["wasm-interp", module, "--run-all-exports"], r"run\(\) => i32:(\d+)"),
         **interpreters(module),
+        **{name: lambda command=command: told([*command, "call", module, INTERPRETED_CALLS]) for name, command in others.items()},
         "v8": lambda: told(["node", FOLDER / "v8.mjs", module, CALLS], free=True),
         "native": lambda: told([native, CALLS]),
     }
@@ -112,7 +112,7 @@ def measure(program, kernel, folder):
 
 def ratios_of(ms):
     """How many times as fast the program is as the interpreters, and as the program V8 and native code are."""
-    slower = {"wabt", "ipint", "llint"} & ms.keys()
+    slower = ms.keys() - {"ours", "v8", "native"}
     return {engine: ms[engine] / ms["ours"] if engine in slower else ms["ours"] / ms[engine] for engine in ms if engine != "ours"}
 
 
@@ -123,20 +123,22 @@ def show(ratios):
     print("\n| kernel | " + " | ".join(HEADS[engine] for engine in engines) + " |")
     print("|---" * (len(engines) + 1) + "|")
     for kernel, row in {**ratios, "geometric mean": means}.items():
-        cells = (("%.2f" if engine in ("ipint", "llint") else "%.1f") % row[engine] for engine in engines)
+        cells = (("%.1f" if engine in ("wabt", "v8", "native") else "%.2f") % row[engine] for engine in engines)
         print(f"| {LABELS.get(kernel, kernel)} | " + " | ".join(cells) + " |")
 
 
 def main():
     if len(sys.argv) < 2:
         sys.exit(__doc__)
-    program = sys.argv[1]
-    kernels = sys.argv[2:] or sorted(path.stem for path in FOLDER.glob("*.c") if path.stem != "native")
-    before_all_others()
+    program, words, others = sys.argv[1], sys.argv[2:], {}
+    if words[:1] == ["--peers"]:
+        others, words = peers.others(pathlib.Path(words[1])), words[2:]
+    kernels = words or sorted(path.stem for path in FOLDER.glob("*.c") if path.stem != "native")
+    peers.before_all_others()
     ratios, is_right = {}, True
     with tempfile.TemporaryDirectory() as folder:
         for kernel in kernels:
-            ms, is_one = measure(program, kernel, pathlib.Path(folder))
+            ms, is_one = measure(program, kernel, pathlib.Path(folder), others)
             ratios[kernel] = ratios_of(ms)
             times = "  ".join(f"{engine} {took:.3f}" for engine, took in ms.items())
             print("%-8s ms: %s%s" % (kernel, times, "" if is_one else "  ANSWERS DIFFER"), flush=True)

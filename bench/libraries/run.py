@@ -1,0 +1,85 @@
+#!/usr/bin/env python3
+"""Runs requests of real libraries by this library and by other engines, side by side.
+
+    bench/libraries/run.py LIBRARY PEERS [NAME..]
+
+LIBRARY is libwasmloop.a or a folder with it. PEERS is the folder that ../peers/fetch.sh makes. The guests and the requests are those of
+examples/libraries, NAMEs of its ports or all. A line a request: the milliseconds of this library, and by how much each other engine is
+slower: below 1 it is faster. A request is a fresh instance, `uv_work`, and the instance dropped; the module is loaded (and by wasmi translated)
+before. The engines take turns on one processor under a real-time class, and the fastest of all calls counts. Results and replies are compared.
+"""
+import contextlib
+import math
+import os
+import pathlib
+import sys
+import tempfile
+
+HERE = pathlib.Path(__file__).resolve().parent
+TOP = HERE.parent.parent
+sys.path[:0] = [str(TOP / "examples" / "libraries"), str(HERE.parent / "peers")]
+import peers  # noqa: E402
+import ports  # noqa: E402
+import run as libraries  # noqa: E402
+
+TURNS, CALLS = 5, "3"
+# A shorter request measures the making of an instance, and is left out of the table.
+LEAST_MS = 0.2
+
+
+def requests(names):
+    """(label, module, operation, request) of each request to run. The texts of the requests are in the packages of several libraries."""
+    for package in sorted({port.package for port in ports.PORTS.values()}):
+        if not libraries.fetch(package):
+            sys.exit(f"the source of {package} can't be fetched")
+    of_name = {}
+    for name, operation, request, what in ports.rows(libraries.SOURCES):
+        of_name.setdefault(name, []).append((f"{name}: {what}", operation, request))
+    for name in names:
+        libraries.write_made(name, ports.PORTS[name])
+        with contextlib.redirect_stdout(sys.stderr):
+            module = libraries.module(name, ports.PORTS[name])
+        yield from ((label, module, operation, request) for label, operation, request in of_name[name])
+
+
+def measure(engines, module, operation, request):
+    """The fastest call of each engine in milliseconds, and whether all gave one answer."""
+    least, answers = dict.fromkeys(engines, math.inf), set()
+    for turn in range(TURNS):
+        os.sched_setaffinity(0, {turn % os.cpu_count()})
+        for name, engine in engines.items():
+            *answer, took = engine("work", module, str(operation), request, CALLS)
+            least[name] = min(least[name], int(took) / 1e6)
+            answers.add(tuple(answer))
+    return least, len(answers) == 1
+
+
+def mean(numbers):
+    return math.exp(sum(map(math.log, numbers)) / len(numbers))
+
+
+def main(library, folder, names):
+    peers.before_all_others()
+    engines = peers.engines(library, pathlib.Path(folder))
+    others = [name for name in engines if name != "ours"]
+    print("| request | ms | " + " | ".join(others) + " |")
+    print("|---" * (len(engines) + 1) + "|")
+    ratios, is_right = [], True
+    with tempfile.NamedTemporaryFile() as file:
+        for label, module, operation, request in requests(names or list(ports.PORTS)):
+            pathlib.Path(file.name).write_bytes(request)
+            ms, is_one = measure(engines, module, operation, file.name)
+            is_right &= is_one
+            if ms["ours"] < LEAST_MS and is_one:
+                continue
+            row = [ms[name] / ms["ours"] for name in others]
+            ratios.append(row)
+            print(f"| {label} | {ms['ours']:.2f} | " + " | ".join(f"{it:.2f}" for it in row) + " |" + ("" if is_one else " RESULTS DIFFER"), flush=True)
+    print("| geometric mean | | " + " | ".join(f"{mean(column):.2f}" for column in zip(*ratios)) + " |")
+    return 0 if is_right else 1
+
+
+if __name__ == "__main__":
+    if len(sys.argv) < 3:
+        sys.exit(__doc__)
+    sys.exit(main(sys.argv[1], sys.argv[2], sys.argv[3:]))

@@ -1,0 +1,146 @@
+/* This library, as run.py of ../libraries runs it.
+
+   usage: peer-ours call FILE CALLS            calls `run` CALLS times in one instance
+          peer-ours work FILE OP INPUT CALLS   calls `uv_work` CALLS times, each in a fresh instance
+          peer-ours load FILE CALLS            loads FILE CALLS times, and keeps each
+
+   It prints what it computed and the nanoseconds of the fastest call; `load` prints the resident bytes that a kept module takes. */
+#define _POSIX_C_SOURCE 200809L
+#include <inttypes.h>
+#include <stdio.h>
+#include <stdlib.h>
+#include <string.h>
+#include <time.h>
+#include <unistd.h>
+#include "wasmloop.h"
+
+#define AMPLE (UINT64_C(1) << 50)
+#define DEPTH 128
+#define MOST (1 << 20)
+
+static uint64_t now(void)
+{
+    struct timespec time;
+    clock_gettime(CLOCK_MONOTONIC, &time);
+    return (uint64_t)time.tv_sec * 1000000000 + (uint64_t)time.tv_nsec;
+}
+
+static void must(int status, const char *call)
+{
+    if (status != WASMLOOP_OK) {
+        fprintf(stderr, "%s: %s\n", call, wasmloop_status_name(status));
+        exit(1);
+    }
+}
+
+static size_t read_file(const char *name, uint8_t *bytes)
+{
+    FILE *file = fopen(name, "rb");
+    if (!file) {
+        perror(name);
+        exit(2);
+    }
+    size_t length = fread(bytes, 1, MOST, file);
+    fclose(file);
+    return length;
+}
+
+static void least(uint64_t *fastest, uint64_t began)
+{
+    uint64_t took = now() - began;
+    if (took < *fastest)
+        *fastest = took;
+}
+
+static void call(wasmloop_handle *module, int calls)
+{
+    wasmloop_call_limits limits = { .fuel = AMPLE, .depth = DEPTH };
+    wasmloop_handle instance = WASMLOOP_HANDLE_INIT;
+    wasmloop_ended ended;
+    uint64_t fastest = UINT64_MAX;
+    must(wasmloop_instance(module, &limits, &instance, &ended), "wasmloop_instance");
+    for (int k = 0; k < calls; k++) {
+        uint64_t began = now();
+        must(wasmloop_call(&instance, "run", NULL, 0, &limits, &ended), "wasmloop_call");
+        least(&fastest, began);
+    }
+    printf("%" PRIu32 " %" PRIu64 "\n", (uint32_t)ended.result[0], fastest);
+    wasmloop_drop(&instance);
+}
+
+static uint64_t sum(const uint8_t *bytes, uint64_t length)
+{
+    uint64_t sum = UINT64_C(0xcbf29ce484222325);
+    for (uint64_t k = 0; k < length; k++)
+        sum = (sum ^ bytes[k]) * UINT64_C(0x100000001b3);
+    return sum;
+}
+
+static void work(wasmloop_handle *module, uint32_t op, const char *name, int calls)
+{
+    static uint8_t input[MOST], reply[65536];
+    size_t length = read_file(name, input);
+    wasmloop_task task = { .fuel = AMPLE, .op = op, .depth = DEPTH };
+    wasmloop_about about;
+    uint64_t fastest = UINT64_MAX, count = 0;
+    for (int k = 0; k < calls; k++) {
+        wasmloop_handle job = WASMLOOP_HANDLE_INIT;
+        uint64_t began = now();
+        must(wasmloop_work(module, &task, input, length, &job), "wasmloop_work");
+        must(wasmloop_job_about(&job, &about), "wasmloop_job_about");
+        must(wasmloop_job_reply(&job, reply, sizeof reply, &count), "wasmloop_job_reply");
+        wasmloop_drop(&job);
+        least(&fastest, began);
+    }
+    if (about.outcome != WASMLOOP_WORK_DONE)
+        exit(4);
+    printf("%" PRId32 " %" PRIu64 ":%016" PRIx64 " %" PRIu64 "\n", (int32_t)about.value, count, sum(reply, count), fastest);
+}
+
+static long resident(void)
+{
+    long all, pages = 0;
+    FILE *file = fopen("/proc/self/statm", "r");
+    if (!file || fscanf(file, "%ld %ld", &all, &pages) != 2)
+        exit(2);
+    fclose(file);
+    return pages * 4096;
+}
+
+static void load(const uint8_t *bytes, size_t length, int calls)
+{
+    wasmloop_handle *kept = calloc((size_t)calls, sizeof *kept);
+    wasmloop_fault fault;
+    uint64_t fastest = UINT64_MAX;
+    long before = resident();
+    for (int k = 0; k < calls; k++) {
+        uint64_t began = now();
+        must(wasmloop_load(bytes, length, &kept[k], &fault), "wasmloop_load");
+        least(&fastest, began);
+    }
+    printf("%ld %" PRIu64 "\n", (resident() - before) / calls, fastest);
+    for (int k = 0; k < calls; k++)
+        wasmloop_drop(&kept[k]);
+    free(kept);
+}
+
+int main(int argc, char **argv)
+{
+    static uint8_t bytes[MOST];
+    if (argc < 4)
+        return 2;
+    size_t length = read_file(argv[2], bytes);
+    wasmloop_handle module = WASMLOOP_HANDLE_INIT;
+    wasmloop_fault fault;
+    must(wasmloop_load(bytes, length, &module, &fault), "wasmloop_load");
+    if (!strcmp(argv[1], "call"))
+        call(&module, atoi(argv[3]));
+    else if (!strcmp(argv[1], "work") && argc == 6)
+        work(&module, (uint32_t)strtoul(argv[3], NULL, 10), argv[4], atoi(argv[5]));
+    else if (!strcmp(argv[1], "load"))
+        load(bytes, length, atoi(argv[3]));
+    else
+        return 2;
+    wasmloop_drop(&module);
+    return 0;
+}

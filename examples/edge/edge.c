@@ -1,5 +1,6 @@
-/* An HTTP server that runs a module for each tenant, within bounds, on libuv and an HTTP parser. README.md has what is asked and answered;
- * edge.h says how to read it. This part starts and ends it, and finds out what a request asks. */
+/* An HTTP server that runs a module for each tenant, within limits, on libuv and an HTTP parser. README.md is its manual; edge.h says where to
+ * start reading. This part starts it, shuts it down, and finds out what a request is for. */
+#include <arpa/inet.h>
 #include <ctype.h>
 #include <malloc.h>
 #include <signal.h>
@@ -19,47 +20,69 @@ bool ending;
 static const char *address = "127.0.0.1";
 static uv_timer_t sweeper;
 
-/* A number up to `most` that is all of a text, or UINT64_MAX. */
+/* The number up to `most` that a text spells, or UINT64_MAX. */
 uint64_t number_of(const char *text, uint64_t most) {
     char *end;
     uint64_t n = strtoull(text, &end, 10);
     return isdigit((unsigned char)*text) && !*end && n <= most ? n : UINT64_MAX;
 }
 
-/* A request is whole: finds out whom it is for and what it asks. */
-void request(client *c) {
+/* The headers of a request are complete: finds out its tenant and what it is for. Returns whether its body is needed: if not, it is answered. */
+bool wants_all(client *c) {
     char path[sizeof c->path];
     strcpy(path, c->path);
     path[strcspn(path, "?")] = 0;
-    char *name = path + (*path == '/'), *rest = name + strcspn(name, "/");
+    char *from = path + (strncasecmp(path, "http://", 7) == 0 ? 7 + strcspn(path + 7, "/") : 0); /* it may be an absolute URL */
+    char *name = from + (*from == '/'), *rest = name + strcspn(name, "/");
     if (*rest) *rest++ = 0;
-    if (strcmp(name, "-") == 0) {
+    bool looks = strcmp(name, "-") == 0, gets = c->parser.method == HTTP_GET || c->parser.method == HTTP_HEAD;
+    if (looks ? !gets : c->parser.method != HTTP_POST) {
+        c->allow = looks ? "Allow: GET, HEAD\r\n" : "Allow: POST\r\n";
+        say(c, 405, "method not allowed\n");
+        return false;
+    }
+    if (looks) {
         page(c, rest);
-        return;
+        return false;
     }
     bool sends = strncmp(rest, "send/", 5) == 0, asks = strcmp(rest, "ask") == 0 || strncmp(rest, "ask/", 4) == 0;
     if (sends || asks) rest += asks && !rest[3] ? 3 : 4 + sends;
     uint64_t number = *rest ? number_of(rest, sends ? ASYNCS - 1 : UINT32_MAX) : 0;
-    tenant *t = c->task.of = tenant_of(name, true);
+    tenant *t = tenant_of(name, true);
     if (ending) {
-        say(c, 503, "the server ends\n");
+        say(c, 503, "the server is shutting down\n");
     } else if (!t) {
         say(c, 404, "no such tenant\n");
     } else if (number == UINT64_MAX) {
         say(c, 400, sends ? "an async is a number from 0 to 15\n" : "an operation is a number below 2^32\n");
     } else {
-        t->counted.in += c->body.length;
-        c->task.until = c->came + t->limits[DEADLINE] * MS;
-        (sends ? send_to : asks ? ask : work)(c, t, (uint32_t)number);
+        t->clients++;
+        c->task.of = t;
+        c->task.about.op = (uint32_t)number;
+        c->does = sends ? send_to : asks ? ask : work;
+        return true;
     }
+    return false;
 }
 
-/* Where the server ends, what runs is finished, what waits is answered 503, and the loop ends when nothing is left. */
+/* A request is complete. */
+void request(client *c) {
+    tenant *t = c->task.of;
+    if (ending) {
+        say(c, 503, "the server is shutting down\n");
+        return;
+    }
+    t->counted.in += c->body.length;
+    c->task.until = c->came + t->limits[DEADLINE] * MS;
+    c->does(c, t, c->task.about.op);
+}
+
+/* During shutdown, running requests are finished, waiting ones are answered with 503, and the loop ends when nothing is left. */
 static void on_sweep(uv_timer_t *timer) {
     clients_sweep();
     schedule();
     tenants_sweep(ending && clients == 0);
-    fflush(stdout);
+    log_flush();
     if (ending && clients == 0 && LIST_EMPTY(&tenants)) uv_timer_stop(timer);
 }
 
@@ -75,23 +98,24 @@ static void on_change(uv_fs_event_t *event, const char *file, int events, int st
     if (status == 0 && file) tenant_changed(file);
 }
 
-/* The port, or 0. */
+/* Parses the options. Returns the port, or 0. */
 static int options(int argc, char **argv) {
     int port = 8080;
-    for (int o; (o = getopt(argc, argv, "a:p:w:t:c:")) != -1;) {
-        uint64_t n = o == 'a' ? 1 : optarg ? number_of(optarg, 1000000) : 0;
+    for (int o; (o = getopt(argc, argv, "a:p:w:t:c:x:r:")) != -1;) {
+        uint64_t n = o == 'a' || o == 'r' ? 1 : o == 'x' ? (uint64_t)inet_aton(optarg, &proxy) : optarg ? number_of(optarg, 1000000) : 0;
         if (o == '?' || n == UINT64_MAX || n == 0) return 0;
         if (o == 'a') address = optarg;
         if (o == 'p') port = (int)n;
         if (o == 'w') workers = n < 128 ? (uint32_t)n : 128;
         if (o == 't') patience = n * 1000;
         if (o == 'c') most_clients = (uint32_t)n;
+        if (o == 'r') setenv("WASMLOOP_RECORD", optarg, 1), setenv("WASMLOOP_RECORD_KEEP", "failed", 0);
     }
     folder = argv[optind];
     return optind == argc - 1 && port < 65536 ? port : 0;
 }
 
-/* Threads for the pool, connections as many as may be, and memory of instances that stays: the next one has no page faults. */
+/* Sets the number of pool threads, allows as many connections as the system does, and keeps freed memory: the next instance has no page faults. */
 static void provide(void) {
     char size[16];
     struct rlimit files;
@@ -101,7 +125,7 @@ static void provide(void) {
     mallopt(M_MMAP_THRESHOLD, 32 << 20);
     mallopt(M_TRIM_THRESHOLD, 256 << 20);
     signal(SIGPIPE, SIG_IGN);
-    setvbuf(stdout, NULL, _IOFBF, 1 << 16);
+    log_begin();
 }
 
 int main(int argc, char **argv) {
@@ -109,7 +133,7 @@ int main(int argc, char **argv) {
     static uv_fs_event_t changes;
     int port = options(argc, argv), told;
     if (port == 0) {
-        fprintf(stderr, "usage: edge [-a ADDRESS] [-p PORT] [-w WORKERS] [-t SECONDS] [-c CLIENTS] FOLDER\n");
+        fprintf(stderr, "usage: edge [-a ADDRESS] [-p PORT] [-w WORKERS] [-t SECONDS] [-c CLIENTS] [-x PROXY] [-r RECORDS] FOLDER\n");
         return 2;
     }
     provide();
@@ -127,6 +151,6 @@ int main(int argc, char **argv) {
     uv_timer_start(&sweeper, on_sweep, SWEEP_MS, SWEEP_MS);
     uv_fs_event_init(uv, &changes);
     uv_unref((uv_handle_t *)&changes);
-    if (uv_fs_event_start(&changes, on_change, folder, 0) != 0) fprintf(stderr, "edge: changes in %s are not seen\n", folder);
+    if (uv_fs_event_start(&changes, on_change, folder, 0) != 0) fprintf(stderr, "edge: changes in %s will not be seen\n", folder);
     return uv_run(uv, UV_RUN_DEFAULT);
 }

@@ -1,9 +1,9 @@
-/* What the parts of the server share. Who reads it begins here, and goes on with edge.c (the start, the end, and what a path asks), work.c
- * (work, and whose turn it is) and tenants.c (tenants, and their files). The rest is apart, each behind a few calls: http.c has
- * connections, loops.c loops that live, people.c numbers, the access log and pages.
+/* What the parts of the server share. Read this first, then edge.c (start, shutdown, and what a path requests), work.c (work, and whose turn
+ * it is) and tenants.c (tenants, and their files). The rest is apart, each behind a few calls: http.c has connections, loops.c long-lived
+ * loops, people.c metrics, the access log and pages, lines.c source lines.
  *
- * The main thread alone parses, decides and answers. A thread of libuv's pool has one task at a time, and touches that task, the name of
- * its tenant, and, where the task is a turn, its loop. */
+ * Only the main thread parses, decides and answers. A thread of libuv's pool has one task at a time, and touches that task, the name of its
+ * tenant, and, if the task is a loop's turn, the loop. */
 #ifndef EDGE_H
 #define EDGE_H
 
@@ -13,6 +13,7 @@
 #include <sys/queue.h>
 #include <uv.h>
 #include "wasmloop.h"
+#include "../../capi/record_name.h"
 
 #define U(x) ((unsigned long long)(x))
 
@@ -24,51 +25,53 @@ typedef struct client client;
 typedef struct task task;
 typedef TAILQ_HEAD(tasks, task) tasks;
 
-/* What a task is: `ready`, in the main thread, makes what it needs, or ends it unrun; `run` is in a thread of the pool; `after`, in the
- * main thread, takes what came of it. */
+/* What a task is: `ready`, in the main thread, creates what it needs, or ends it before it has run; `run` is called in a pool thread;
+ * `after`, in the main thread, takes the result. */
 typedef struct kind {
     bool (*ready)(task *);
     void (*run)(task *), (*after)(task *);
 } kind;
 
-/* What a tenant has to do: a request, the load of its module, a turn of its loop, or a job that its loop asks for. */
+/* What a tenant has to do: a request, the load of its module, a turn of its loop, or a job that its loop requests. */
 struct task {
     uv_work_t work;
     const kind *kind;
     tenant *of;
-    enum { IDLE, WAITS, RUNS, ASKS } state; /* ASKS: a request that the tenant's loop is to answer */
-    TAILQ_ENTRY(task) next;                 /* of those who wait, or ask */
-    atomic_bool gone;                       /* nobody wants it any more: a slice is its last */
+    enum { IDLE, WAITS, RUNS, ASKS } state; /* ASKS: a request for the tenant's loop */
+    TAILQ_ENTRY(task) next;                 /* in the list of those that wait, or ask */
+    atomic_bool gone;                       /* its client has disconnected: its current slice is the last */
     bool goes_on;
-    int status;                 /* of a load: the library's, or ABSENT; of a turn: what its last step did */
+    int status;                 /* of a load: the library's status, or ABSENT; of a turn: what its last step did */
     wasmloop_handle handle;     /* its job, or the module */
-    wasmloop_about about;       /* its outcome may be LATE */
-    uint64_t units, cpu, until; /* units: of its next slice; until: its deadline, or when patience with a client ends */
-    char said[SAID];            /* why it failed */
+    wasmloop_about about;       /* the outcome may be LATE */
+    uint64_t units, cpu, until; /* units: of its next slice; until: its deadline, or when a client times out */
+    char said[SAID];            /* why it failed, and where */
 };
 
-/* What is counted for people. */
+/* What the metrics report. */
 typedef struct counted {
     uint64_t loads, restarts, turns, cpu, used, in, out, lived, worst, of[OUTCOMES];
-    uint32_t times[TIMES]; /* of requests, by the upper power of two of microseconds */
+    uint32_t times[TIMES]; /* requests by duration: the upper power of two of microseconds */
 } counted;
 
 struct tenant {
     LIST_ENTRY(tenant) next, active;
     uint64_t limits[LIMITS];
-    char *type; /* of replies; NULL: bytes */
+    char *type; /* the Content-Type of replies, or NULL */
     wasmloop_handle module;
     task *load;
     int status;           /* of its last load */
-    bool changed, lives;  /* its file is newer than the load; its module has a loop */
-    char *said, *failure; /* why its file was refused, and how its guest failed last */
+    bool changed, lives;  /* its file is newer than the last load; its module has a loop */
+    char *said, *failure; /* why its file was rejected, and its guest's last failure */
     tasks waits, asks;
-    uint32_t waiting, running, asking, fails; /* fails: how many of its requests failed since one was done */
-    uint32_t sends;                           /* a bit for each async of its loop that was sent to */
-    uint64_t rests, sent;                     /* the moments until which it rests, and until which its replies may be sent at its rate */
-    uint64_t share;                           /* the processor time that it has used beside the others', in nanoseconds */
+    uint32_t waiting, running, asking, fails; /* fails: how many of its requests have failed since one succeeded */
+    uint32_t clients;                         /* whose requests for it arrive or are answered, */
+    size_t held;                              /* and the bytes of their bodies */
+    uint32_t sends;                           /* a bit for each async of its loop with a pending send */
+    uint64_t rests, sent;                     /* the times until which it is paused, and until which its replies take its bandwidth */
+    uint64_t share;                           /* the processor time that it has used, for fairness, in nanoseconds */
     struct loop *loop;
-    struct steps *steps; /* its loop's last ones: people.c */
+    struct steps *steps; /* its loop's last steps: people.c */
     counted counted;
     char name[];
 };
@@ -78,7 +81,7 @@ extern const char *folder;
 extern uint32_t workers, running, waiting;
 extern bool ending;
 extern LIST_HEAD(tenants, tenant) tenants;
-extern atomic_bool hurry; /* a tenant waits that could run, and all threads are taken */
+extern atomic_bool hurry; /* a tenant that could run waits, and all threads are busy */
 
 /* edge.c */
 uint64_t number_of(const char *text, uint64_t most);
@@ -94,14 +97,20 @@ void explain(task *k, wasmloop_handle *of, const char *how, uint32_t trap, uint6
 /* tenants.c */
 tenant *tenant_of(const char *name, bool make);
 void tenant_changed(const char *file), refuse(client *c), tenants_sweep(bool all);
+size_t read_module(const tenant *t, const uint8_t **bytes);
+FILE *open_file(const tenant *t, const char *kind);
+
+/* lines.c */
+void add_line(const tenant *t, const uint8_t *bytes, size_t length, char said[SAID]);
 
 /* loops.c */
 void ask(client *c, tenant *t, uint32_t op), send_to(client *c, tenant *t, uint32_t async);
 void make_loop(tenant *t), free_loop(tenant *t);
-uint32_t loop_did(const tenant *t); /* what its loop did last; 0 where there is none */
+uint32_t loop_did(const tenant *t); /* what its loop did last; 0 without a loop */
 
 /* people.c */
 void count(tenant *t, outcome what, uint64_t came), log_answer(client *c, int status, size_t length), page(client *c, const char *path);
+void log_begin(void), log_flush(void);
 void log_step(tenant *t, const wasmloop_did *did, const int64_t *emits, uint32_t n), make_steps(tenant *t), free_steps(tenant *t);
 
 #endif

@@ -1,16 +1,20 @@
-"""An HTTP server that runs a module for each tenant, on asyncio and aiohttp (Debian: python3-aiohttp), as edge.c does, but for loops.
+"""An HTTP server that runs a module for each tenant, on asyncio and aiohttp (Debian: python3-aiohttp), as edge.c does, but without loops.
 
 usage: WASMLOOP_LIBRARY=libwasmloop.so PYTHONPATH=capi/python python3 edge.py FOLDER [PORT [WORKERS]]
 
-POST /NAME[/OP] hands the body to uv_work(OP) of FOLDER/NAME.wasm; FOLDER/NAME.conf may have lines as "fuel 2000000". A file that has
-changed is read anew by the request that sees it; where a module is refused, the old one stays. README.md has the statuses. A deadline is
-looked at between slices of SLICE units; a job doesn't make room for another's turn."""
+POST /NAME[/OP] runs uv_work(OP) of FOLDER/NAME.wasm on the body; FOLDER/NAME.conf may have lines such as "fuel 2000000". The request that finds
+a file changed reads it again; if a module is rejected, the old one stays. README.md has the statuses. A job runs in slices of some SLICE
+seconds: the time that one took sets the units of the next, and deadlines are checked between them. A running job does not yield to others."""
 import asyncio
+import bisect
 import collections
+import contextlib
 import pathlib
+import re
 import signal
 import sys
 import time
+import zlib
 from concurrent import futures
 
 import wasmloop
@@ -18,55 +22,79 @@ from aiohttp import web
 
 STATUS = {"done": 200, "nowork": 404, "trap": 500, "depth": 500, "nomemory": 503, "ends": 503, "spent": 504, "late": 504}
 LIMITS = {"fuel": 10_000_000, "depth": 64, "queue": 64, "deadline": 1000, "type": "application/octet-stream"}
-MOST_WAITING, SLICE = 4096, 100_000
+TRAPS = ("", "unreachable", "division by zero", "a quotient out of range", "an access outside the memory", "an index past the table", "an empty element",
+         "a function of another type")
+MOST_WAITING, SLICE, FIRST, MOST = 4096, 0.001, 1000, 20_000  # FIRST, MOST: units
 tenants, active, pace = {}, set(), 0.0
 
 
 class Tenant:
     def __init__(self, name):
-        self.name, self.module, self.said, self.stamps, self.loading = name, None, "", {}, asyncio.Lock()
+        self.name, self.module, self.bytes, self.said, self.stamps, self.loading = name, None, b"", "", {}, asyncio.Lock()
         self.waiting, self.running, self.share, self.mean = collections.deque(), 0, 0.0, 0.0
         self.counted, self.used, self.cpu = collections.Counter(), 0, 0.0
 
     def changed(self, suffix):
-        """The path of its file with this suffix, where it is not as it was seen last."""
+        """The path of its file with this suffix, if it has changed since it was last seen."""
         path = FOLDER / (self.name + suffix)
         stat = path.stat() if path.exists() else None
         before, self.stamps[suffix] = self.stamps.get(suffix, 0), stat and (stat.st_mtime_ns, stat.st_size, stat.st_ino)
         return path if self.stamps[suffix] != before else None
 
     async def fresh(self):
-        """Reads its files anew where they have changed, the module in a thread."""
+        """Reads its files if they have changed, the module in a thread."""
         async with self.loading:
             if path := self.changed(".conf"):
                 words = path.read_text().split() if path.exists() else []
                 self.limits = LIMITS | {"run": max(1, WORKERS - 1)} | {k: v if k == "type" else int(v) for k, v in zip(words[::2], words[1::2])}
             if path := self.changed(".wasm"):
                 try:
-                    self.module, self.said = await LOOP.run_in_executor(POOL, lambda: wasmloop.Module(path.read_bytes())), ""
+                    data = path.read_bytes()
+                    self.module, self.bytes, self.said = await LOOP.run_in_executor(POOL, wasmloop.Module, data), data, ""
                 except (OSError, wasmloop.Error) as error:
                     self.said = str(error)
         return self.module
 
 
-def run(module, op, data, limits, until):
-    """In a thread: the reply, what is said of a failure, and the processor time."""
-    began, over = time.thread_time(), False
+def with_line(name, code, where):
+    """A backtrace with " [FILE:LINE]" after its first byte, if FOLDER/NAME.lines describes this module: lines.c has its format."""
+    with contextlib.suppress(OSError, ValueError):
+        head, *rows = (FOLDER / f"{name}.lines").read_text().splitlines()
+        starts, places = zip(*((int(byte), place) for byte, place in (row.split(" ", 1) for row in rows)))
+        at = re.search(r"at byte (\d+)", where)
+        row = bisect.bisect_right(starts, int(at[1])) if at and head == f"module {len(code)} {zlib.adler32(code)}" else 0
+        if row and places[row - 1] != "-" and places[row - 1].isprintable():
+            return f"{where[:at.end()]} [{places[row - 1]}]{where[at.end():]}"
+    return where
+
+
+def explain(name, code, reply, job):
+    """How a job failed, and where if the library knows, as edge.c writes it."""
+    where = None
+    with contextlib.suppress(wasmloop.Error):
+        where = job.stop_told(code)
+    how = f"trap, {TRAPS[reply.number]}" if reply.outcome == "trap" else {"late": "not done by its deadline"}.get(reply.outcome, reply.outcome)
+    return f"{how}, after {reply.used} units" + (f", {with_line(name, code, where)}" if where else "")
+
+
+def run(name, module, code, op, data, limits, until):
+    """In a thread: the reply, the text of a failure, and the processor time."""
+    began, over, used, units, now, said = time.thread_time(), False, 0, FIRST, time.monotonic(), ""
     try:
         with module.job(op, data, limits["fuel"], limits["depth"]) as job:
-            while not over and time.monotonic() < until:
-                over = job.run_for(SLICE)
-            if not over:
-                return wasmloop.Reply("late", 0, b"", 0), "not done by its deadline", time.thread_time() - began
-            reply, where = job.reply(), job.stop()
+            while not over and now < until:
+                over, used, before, now = job.run_for(units), used + units, now, time.monotonic()
+                units = int(min(MOST, 1 + units * SLICE / (now - before + 1e-6)))
+            reply = job.reply() if over else wasmloop.Reply("late", 0, b"", used)
+            if reply.outcome != "done":
+                said = explain(name, code, reply, job)
     except wasmloop.Error as error:
         return wasmloop.Reply("nomemory" if error.status == wasmloop.MEMORY else "nowork", 0, b"", 0), str(error), 0
-    said = f"{reply.outcome}, after {reply.used} units" + (", in function %d at operation %d" % where[0] if where else "")
     return reply, said, time.thread_time() - began
 
 
 async def worker():
-    """Keeps a thread busy: the tenant goes first that has used the least time."""
+    """Keeps a thread busy: the tenant that has used the least time goes first."""
     global pace
     while True:
         while not (ready := [t for t in active if t.waiting and t.running < t.limits["run"]]):
@@ -97,18 +125,18 @@ async def work(request):
     tenant = tenants.get(name) or tenants.setdefault(name, Tenant(name))
     data, until = await request.read(), time.monotonic()
     module, waits = await tenant.fresh(), sum(len(t.waiting) for t in active)
-    for holds, status, text in ((not module, 500, tenant.said), (op >= 2**32, 400, "an operation is a number below 2^32"), (OVER.is_set(), 503, "the server ends"),
-                                (waits >= MOST_WAITING, 503, "too many wait"), (len(tenant.waiting) >= tenant.limits["queue"], 429, "too many wait")):
+    for holds, status, text in ((not module, 500, tenant.said), (op >= 2**32, 400, "an operation is a number below 2^32"), (OVER.is_set(), 503, "the server is shutting down"),
+                                (waits >= MOST_WAITING, 503, "the server's queue is full"), (len(tenant.waiting) >= tenant.limits["queue"], 429, "its queue is full")):
         if holds:
             return told(tenant, status, text)
     if tenant not in active:
         tenant.share = max(tenant.share, pace)
         active.add(tenant)
     answer = LOOP.create_future()
-    tenant.waiting.append((answer, (module, op, data, tenant.limits, until + tenant.limits["deadline"] / 1000)))
+    tenant.waiting.append((answer, (name, module, tenant.bytes, op, data, tenant.limits, until + tenant.limits["deadline"] / 1000)))
     WAKE.set()
     reply, said = await answer
-    heads = {"Wasmloop-Outcome": reply.outcome, "Wasmloop-Value": str(reply.value), "Wasmloop-Fuel": str(reply.used)}
+    heads = {"Wasmloop-Outcome": reply.outcome, "Wasmloop-Value": str(reply.number), "Wasmloop-Fuel": str(reply.used)}
     if reply.outcome != "done":
         return told(tenant, STATUS[reply.outcome], said, reply.outcome, heads)
     tenant.counted["done"] += 1
@@ -123,17 +151,17 @@ async def metrics(_):
 
 
 def stop():
-    """What runs is finished, what waits is answered 503."""
+    """Running requests are finished, waiting ones are answered with 503."""
     OVER.set()
     for answer in [tenant.waiting.popleft()[0] for tenant in active for _ in list(tenant.waiting)]:
-        answer.cancelled() or answer.set_result((wasmloop.Reply("ends", 0, b"", 0), "the server ends"))
+        answer.cancelled() or answer.set_result((wasmloop.Reply("ends", 0, b"", 0), "the server is shutting down"))
 
 
 async def serve():
     global LOOP, POOL, OVER, WAKE
     LOOP, POOL, OVER, WAKE = asyncio.get_running_loop(), futures.ThreadPoolExecutor(WORKERS), asyncio.Event(), asyncio.Event()
     app = web.Application(client_max_size=65537)
-    app.add_routes([web.get("/-/metrics", metrics), *(web.route("*", path, work) for path in ("/{name:[a-z0-9_-]+}", r"/{name:[a-z0-9_-]+}/{op:\d+}"))])
+    app.add_routes([web.get("/-/metrics", metrics), *(web.post(path, work) for path in ("/{name:[a-z0-9_-]+}", r"/{name:[a-z0-9_-]+}/{op:\d+}"))])
     await (runner := web.AppRunner(app)).setup()
     await web.TCPSite(runner, "127.0.0.1", PORT).start()
     for number in (signal.SIGINT, signal.SIGTERM):

@@ -1,20 +1,25 @@
-/* Connections: what comes is parsed, a request of a client at a time, and answered; what a client may hold is bounded, and how long it may
- * take. */
+/* Connections: parses and answers one request of a client at a time, and limits what a client may hold and how long it may take. */
+#include <ctype.h>
 #include <stdarg.h>
 #include <stdlib.h>
 #include <string.h>
 #include <sys/socket.h>
 #include "http.h"
 
-enum { IDLE_MS = 60000, LINGER_MS = 2000 };
+enum { IDLE_MS = 60000, LINGER_MS = 2000, NO_CODING = -1, CHUNKED = 7, OTHER_CODING };
 
 uint32_t clients, most_clients = 16384;
 uint64_t patience = 10000;
 size_t held;
+struct in_addr proxy = { INADDR_NONE };
 
+static holder holders[4096], of_proxy; /* by a hash of the address: two may share one */
 static uint64_t requests;
 static bool starved; /* a connection waits for memory */
 static uv_tcp_t server;
+
+static const char TOO_LONG[] = "the body is too long: 65536 bytes at most";
+static const uv_buf_t go_ahead = { .base = "HTTP/1.1 100 Continue\r\n\r\n", .len = 25 };
 
 static void go_on(client *c);
 
@@ -24,29 +29,69 @@ static bool closes(client *c) { return uv_is_closing((uv_handle_t *)&c->tcp); }
 
 /* ---- bytes ---- */
 
-/* Makes room for bytes, as far as there may be. */
-static bool hold(bytes *b, size_t room) {
-    *b = (bytes){ .at = held + room <= MOST_HELD ? malloc(room) : NULL };
-    if (!b->at) return false;
+/* Whether an address may have `its` of `most`, of which all together have `all`: an eighth of those that the others leave. */
+static bool may_have(const holder *from, uint32_t its, uint32_t all, uint32_t most) {
+    uint32_t others = all > its ? all - its : 0;
+    return all <= most && (from == &of_proxy || its <= (most - others + SHARES - 1) / SHARES);
+}
+
+/* Whether a client may have a request that waits or runs, which is counted then. */
+bool may_queue(client *c) {
+    c->queued = may_have(c->from, c->from->requests + 1, waiting + 1, MOST_WAITING);
+    c->from->requests += c->queued;
+    return c->queued;
+}
+
+/* Whether a client may hold `more` bytes more. Free is what is left of all bytes or of its tenant's eighth, whichever is less; an address may
+ * have a quarter of it, so that each address leaves something for the next. */
+static bool may_hold(const client *c, const bytes *b, size_t more) {
+    size_t of_all = MOST_HELD - held, of_tenant = MOST_HELD / SHARES - (b == &c->body ? c->task.of->held : 0);
+    size_t free = of_all < of_tenant ? of_all : of_tenant;
+    return more <= free && (c->from == &of_proxy || c->from->held + more <= (free - more) / QUARTER);
+}
+
+/* Counts a client's bytes, for all, for its address, and for its request's tenant. */
+static void set_room(client *c, bytes *b, size_t room) {
+    held += room - b->room;
+    c->from->held += room - b->room;
+    if (b == &c->body && c->task.of) c->task.of->held += room - b->room;
     b->room = room;
-    held += room;
+}
+
+/* Adds bytes, if the limits allow it. Memory is allocated as they arrive, not for what a header promises. */
+static bool hold(client *c, bytes *b, const char *at, size_t n) {
+    size_t length = b->length + n, twice = 2 * b->room < MOST_BYTES ? 2 * b->room : MOST_BYTES;
+    if (length > b->room) {
+        size_t room = length > twice ? length : twice;
+        char *to = may_hold(c, b, room - b->room) ? realloc(b->at, room) : NULL;
+        if (!to) return false;
+        b->at = to;
+        set_room(c, b, room);
+    }
+    memcpy(b->at + b->length, at, n);
+    b->length = length;
     return true;
 }
 
-/* Their length stays, for the log. */
-void drop_bytes(bytes *b) {
-    held -= b->room;
-    b->room = 0;
+/* Frees the bytes. Their length stays, for the log. */
+static void drop_bytes(client *c, bytes *b) {
+    set_room(c, b, 0);
     free(b->at);
     b->at = NULL;
 }
 
+void drop_body(client *c) { drop_bytes(c, &c->body); }
+
 /* ---- answers ---- */
 
-/* Lets go of what a request and its answer were made of. */
+/* Frees what a request and its answer have. */
 static void clear(client *c) {
     wasmloop_drop(&c->task.handle);
-    drop_bytes(&c->body);
+    drop_body(c);
+    c->from->requests -= c->queued;
+    c->queued = false;
+    if (c->task.of) c->task.of->clients--;
+    c->task.of = NULL;
     free(c->text);
     c->text = NULL;
 }
@@ -54,17 +99,18 @@ static void clear(client *c) {
 static void on_closed(uv_handle_t *handle) {
     client *c = handle->data;
     clear(c);
-    drop_bytes(&c->rest);
+    drop_bytes(c, &c->rest);
+    c->from->clients--;
     free(c);
     clients--;
 }
 
-/* Ends a connection: where its work runs, once the slice is over. */
+/* Closes a connection: if its work runs, once the slice is over. */
 void leave(client *c) {
     if (give_up(c) && !closes(c)) uv_close((uv_handle_t *)&c->tcp, on_closed);
 }
 
-/* The answer is written. A connection that is to end lingers, so that bytes on their way don't tear the answer down. */
+/* The answer is written. A connection that is to be closed lingers, so that bytes still arriving don't reset it before the answer is read. */
 static void on_written(uv_write_t *write, int status) {
     client *c = write->handle->data;
     uv_os_fd_t fd;
@@ -83,7 +129,7 @@ static void on_written(uv_write_t *write, int status) {
     if (status != 0 || uv_fileno((uv_handle_t *)&c->tcp, &fd) != 0 || shutdown(fd, SHUT_WR) != 0) leave(c);
 }
 
-/* Answers by `length` bytes, which stay until they are written. */
+/* Answers with `length` bytes, which must stay until they are written. HEAD gets only the headers: a body would be taken for the next answer. */
 void answer(client *c, int status, const char *type, const void *body, size_t length) {
     const wasmloop_about *a = &c->task.about;
     char more[128] = "";
@@ -91,18 +137,19 @@ void answer(client *c, int status, const char *type, const void *body, size_t le
         snprintf(more, sizeof more, "Wasmloop-Outcome: %s\r\nWasmloop-Value: %d\r\nWasmloop-Fuel: %llu\r\n",
             a->outcome == LATE ? "late" : wasmloop_outcome_name(a->outcome), (int32_t)a->value, U(a->used));
     int n = snprintf(c->head, sizeof c->head,
-        "HTTP/1.1 %d %s\r\nContent-Length: %zu\r\nContent-Type: %s\r\nWasmloop-Request: %llu\r\n%s%s%s\r\n", status,
-        http_status_str(status), length, type, U(c->number), status == 429 || status == 503 ? "Retry-After: 1\r\n" : "", more,
-        c->keep && !ending ? "" : "Connection: close\r\n");
+        "HTTP/1.1 %d %s\r\nContent-Length: %zu\r\nContent-Type: %s\r\nWasmloop-Request: %llu\r\n%s%s%s%s\r\n", status,
+        http_status_str(status), length, type, U(c->number), status == 429 || status == 503 ? "Retry-After: 1\r\n" : "",
+        status == 405 ? c->allow : "", more, c->keep && !ending ? "" : "Connection: close\r\n");
     uv_buf_t parts[2] = { uv_buf_init(c->head, (unsigned)n), uv_buf_init((char *)body, (unsigned)length) };
     log_answer(c, status, length);
     unwait(&c->task);
     c->busy = true;
     c->task.until = in_ms(patience);
-    if (uv_write(&c->write, (uv_stream_t *)&c->tcp, parts, length ? 2 : 1, on_written) != 0) leave(c);
+    bool bare = length == 0 || c->parser.method == HTTP_HEAD;
+    if (uv_write(&c->write, (uv_stream_t *)&c->tcp, parts, bare ? 1 : 2, on_written) != 0) leave(c);
 }
 
-/* Answers by a text. */
+/* Answers with a text. */
 void say(client *c, int status, const char *format, ...) {
     va_list words;
     va_start(words, format);
@@ -116,19 +163,20 @@ void say(client *c, int status, const char *format, ...) {
 static int on_begin(http_parser *p) {
     client *c = p->data;
     c->task = (task){ 0 };
-    c->head_length = c->body.length = 0;
-    c->keep = false;
-    *c->path = 0;
+    c->head_length = c->body.length = c->hosts = 0;
+    c->keep = c->expects = c->valued = false;
+    c->coding = NO_CODING;
+    *c->path = *c->field = 0;
     c->number = ++requests;
     c->came = uv_hrtime();
     c->task.until = in_ms(patience);
     return 0;
 }
 
-/* Answers what is no request, after which its connection ends. */
+/* Rejects a request, and closes its connection. */
 static int refused(client *c, int status, const char *why) {
-    if (!c->came) on_begin(&c->parser); /* its first byte is no method's */
-    say(c, status, "no request: %s\n", why);
+    if (!c->came) on_begin(&c->parser); /* its first byte is invalid */
+    say(c, status, "request rejected: %s\n", why);
     return -1;
 }
 
@@ -141,47 +189,85 @@ static int on_url(http_parser *p, const char *at, size_t n) {
     return 0;
 }
 
-static int on_header(http_parser *p, const char *at, size_t n) {
-    client *c = p->data;
-    (void)at;
-    return (c->head_length += n) > MOST_HEAD ? refused(c, 431, "the head is too long") : 0;
+static int on_header(client *c, size_t n) {
+    return (c->head_length += n) > MOST_HEAD ? refused(c, 431, "the headers are too long") : 0;
 }
 
-/* A body has all its room from the first, so that what is promised to clients is never more than there may be. */
+/* A header's name, or a part of one; its value, even if empty, comes next. */
+static int on_field(http_parser *p, const char *at, size_t n) {
+    client *c = p->data;
+    if (c->valued) *c->field = 0;
+    c->valued = false;
+    size_t room = sizeof c->field - 1 - strlen(c->field);
+    if (memchr(at, ' ', n)) return refused(c, 400, "a space in a header's name");
+    strncat(c->field, at, n < room ? n : room);
+    return on_header(c, n);
+}
+
+/* Compares a Transfer-Encoding, or a part of one, with "chunked", which blanks may surround. */
+static void on_coding(client *c, const char *at, size_t n) {
+    if (c->coding == NO_CODING) c->coding = 0;
+    for (size_t i = 0; i < n; i++) {
+        bool blank = at[i] == ' ' || at[i] == '\t', ends = c->coding == 0 || c->coding == CHUNKED;
+        if (c->coding < CHUNKED && tolower((unsigned char)at[i]) == "chunked"[c->coding])
+            c->coding++;
+        else if (!blank || !ends)
+            c->coding = OTHER_CODING;
+    }
+}
+
+/* A header's value, or a part of one. */
+static int on_value(http_parser *p, const char *at, size_t n) {
+    client *c = p->data;
+    if (strcasecmp(c->field, "Host") == 0 && !c->valued && c->hosts < 2) c->hosts++;
+    if (strcasecmp(c->field, "Expect") == 0) c->expects = true;
+    if (strcasecmp(c->field, "Transfer-Encoding") == 0) on_coding(c, at, n);
+    c->valued = true;
+    return on_header(c, n);
+}
+
+/* The headers are complete. Checks what RFC 9112 requires and the parser does not check, and does not read a body that isn't needed. */
 static int on_head(http_parser *p) {
     client *c = p->data;
-    uint64_t room = p->flags & F_CHUNKED ? MOST_BYTES : p->content_length == UINT64_MAX ? 0 : p->content_length;
-    if (room > MOST_BYTES) return refused(c, 413, "the body is too long: 65536 bytes at most");
-    return room && !hold(&c->body, room) ? refused(c, 503, "no memory for the body") : 0;
+    bool chunked = p->flags & F_CHUNKED;
+    uint64_t length = chunked ? MOST_BYTES : p->content_length == UINT64_MAX ? 0 : p->content_length;
+    if (p->http_major != 1) return refused(c, 400, "the version is not HTTP/1.1 or HTTP/1.0");
+    if (c->coding != NO_CODING && !chunked) return refused(c, 400, "the last Transfer-Encoding is not chunked");
+    if (c->coding != NO_CODING && c->coding != CHUNKED) return refused(c, 501, "a Transfer-Encoding other than chunked");
+    if (p->http_minor == 0 && chunked) return refused(c, 400, "chunked in HTTP/1.0");
+    if (c->hosts != 1 && (p->http_minor > 0 || c->hosts)) return refused(c, 400, "expected one Host header");
+    if (length > MOST_BYTES) return refused(c, 413, TOO_LONG);
+    if (length == 0) return 0;
+    if (!wants_all(c)) return -1;
+    if (c->expects && p->http_minor > 0) uv_write(&c->go_ahead, (uv_stream_t *)&c->tcp, &go_ahead, 1, NULL);
+    return 0;
 }
 
 static int on_body(http_parser *p, const char *at, size_t n) {
     client *c = p->data;
-    if (n > c->body.room - c->body.length) return refused(c, 413, "the body is too long: 65536 bytes at most");
-    memcpy(c->body.at + c->body.length, at, n);
-    c->body.length += n;
-    return 0;
+    if (n > MOST_BYTES - c->body.length) return refused(c, 413, TOO_LONG);
+    return hold(c, &c->body, at, n) ? 0 : refused(c, 503, "no room for the body");
 }
 
 static int on_end(http_parser *p) {
     client *c = p->data;
     c->busy = true;
     c->keep = http_should_keep_alive(p) && !p->upgrade;
-    request(c);
+    if (c->task.of || wants_all(c)) request(c);
     return HTTP_STOP(p);
 }
 
 static const http_parser_settings settings = { .on_message_begin = on_begin,
     .on_url = on_url,
-    .on_header_field = on_header,
-    .on_header_value = on_header,
+    .on_header_field = on_field,
+    .on_header_value = on_value,
     .on_headers_complete = on_head,
     .on_body = on_body,
     .on_message_complete = on_end };
 
 /* ---- connections ---- */
 
-/* Parses up to the end of a request, which is done then. How many bytes it took. */
+/* Parses up to the end of a request, and handles it. Returns how many bytes it took. */
 static size_t feed(client *c, const char *at, size_t n) {
     size_t took = http_parser_execute(&c->parser, &settings, at, n);
     int stands = HTTP_PARSER_ERRNO(&c->parser);
@@ -189,16 +275,13 @@ static size_t feed(client *c, const char *at, size_t n) {
     return took;
 }
 
-/* Keeps what was sent ahead, and reads no more until it is parsed. */
+/* Keeps what was sent ahead, and stops reading until it is parsed. */
 static void keep_rest(client *c, const char *at, size_t n) {
     if (closes(c) || !c->keep) return;
-    if (!hold(&c->rest, n)) {
+    if (hold(c, &c->rest, at, n))
+        uv_read_stop((uv_stream_t *)&c->tcp);
+    else
         leave(c);
-        return;
-    }
-    memcpy(c->rest.at, at, n);
-    c->rest.length = n;
-    uv_read_stop((uv_stream_t *)&c->tcp);
 }
 
 static void on_room(uv_handle_t *handle, size_t want, uv_buf_t *buf) {
@@ -221,9 +304,17 @@ static void go_on(client *c) {
     if (!c->rest.at) return;
     c->parsed += feed(c, c->rest.at + c->parsed, c->rest.length - c->parsed);
     if (closes(c) || c->parsed < c->rest.length) return;
-    drop_bytes(&c->rest);
-    c->parsed = 0;
+    drop_bytes(c, &c->rest);
+    c->rest.length = c->parsed = 0;
     uv_read_start((uv_stream_t *)&c->tcp, on_room, on_read);
+}
+
+/* The counters of a client's address. */
+static holder *holder_of(const client *c) {
+    struct sockaddr_in at = { 0 };
+    int length = sizeof at;
+    uv_tcp_getpeername(&c->tcp, (struct sockaddr *)&at, &length);
+    return at.sin_addr.s_addr == proxy.s_addr ? &of_proxy : &holders[at.sin_addr.s_addr * 2654435761u >> 20];
 }
 
 static void on_connection(uv_stream_t *stream, int status) {
@@ -235,19 +326,22 @@ static void on_connection(uv_stream_t *stream, int status) {
     http_parser_init(&c->parser, HTTP_REQUEST);
     c->tcp.data = c->parser.data = c;
     c->task.until = in_ms(patience);
-    if (uv_accept(stream, (uv_stream_t *)&c->tcp) != 0) {
+    bool accepted = uv_accept(stream, (uv_stream_t *)&c->tcp) == 0;
+    c->from = accepted ? holder_of(c) : &of_proxy;
+    c->from->clients++;
+    if (!accepted) {
         leave(c);
         return;
     }
     uv_tcp_nodelay(&c->tcp, 1);
     uv_read_start((uv_stream_t *)&c->tcp, on_room, on_read);
-    if (clients <= most_clients) return;
+    if (may_have(c->from, c->from->clients, clients, most_clients)) return;
     on_begin(&c->parser);
     say(c, 503, "too many clients\n");
 }
 
-/* Looks whether a client must go, since its time is over or the server ends. Patience counts until the sweep before this one, since when
- * all that was sent was read. */
+/* Closes or answers a client that has timed out, or if the server shuts down. A client's time-out counts up to the previous sweep: all that it had
+ * sent by then has been read. */
 static void on_each(uv_handle_t *handle, void *swept) {
     client *c = handle->data;
     if (handle->type != UV_TCP || handle == (uv_handle_t *)&server || uv_is_closing(handle)) return;
@@ -258,7 +352,7 @@ static void on_each(uv_handle_t *handle, void *swept) {
     else if (c->busy || !c->came)
         leave(c);
     else
-        say(c, ending ? 503 : 408, ending ? "the server ends\n" : "the request took too long to come\n");
+        say(c, ending ? 503 : 408, ending ? "the server is shutting down\n" : "the request did not arrive in time\n");
 }
 
 void clients_sweep(void) {

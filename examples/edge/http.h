@@ -1,5 +1,6 @@
-/* Connections: an HTTP server with one request of a client at a time, over the parser of libhttp-parser, or, with EDGE_LLHTTP, of libllhttp
- * under the other's names. A request that is whole goes to request(), and answer() or say() answers it, at once or later. */
+/* Connections: an HTTP server with one request of a client at a time, on the parser of libhttp-parser, or, with EDGE_LLHTTP, of libllhttp
+ * under the other's names. It calls wants_all() before a request's body arrives and request() when it is complete; answer() or say() answers
+ * it, at once or later. */
 #ifndef HTTP_H
 #define HTTP_H
 
@@ -15,44 +16,60 @@
 #define http_method_str(method) llhttp_method_name((llhttp_method_t)(method))
 #define http_status_str(status) llhttp_status_name((llhttp_status_t)(status))
 #define HTTP_PARSER_ERRNO llhttp_get_errno
-#define HTTP_STOP(p) HPE_PAUSED /* what a callback returns where the parser is to stand until http_parser_pause(p, 0) */
+#define HTTP_STOP(p) HPE_PAUSED /* a callback returns it to pause the parser until http_parser_pause(p, 0) */
 #define http_parser_execute(p, settings, at, n) (llhttp_execute(p, at, n) == HPE_OK ? n : (size_t)(llhttp_get_error_pos(p) - (at)))
 #else
 #include <http_parser.h>
 #define HTTP_STOP(p) (http_parser_pause(p, 1), 0)
 #endif
 
-enum { MOST_BYTES = 65536, MOST_HEAD = 16384, MOST_HELD = 64 << 20 };
+enum { MOST_BYTES = 65536, MOST_HEAD = 16384, MOST_HELD = 64 << 20, SHARES = 8, QUARTER = 4 };
 
-/* Bytes of a client, of which all together hold MOST_HELD at most. */
+/* A client's bytes. All together hold at most MOST_HELD, those of a tenant an eighth of that (SHARES), and those of an address a quarter of
+ * what is still free of the eighth: a few addresses can't take all that a tenant may have. */
 typedef struct bytes {
     char *at;
     size_t length, room;
 } bytes;
 
-/* A connection, and its request, which comes (is not `busy`), waits or runs as a task, and is answered. */
+/* What the clients of an address hold. */
+typedef struct holder {
+    size_t held;
+    uint32_t clients, requests; /* requests: those that wait or run */
+} holder;
+
+/* A connection, and its request, which arrives (not `busy`), waits or runs as a task, and is answered. */
 struct client {
     task task; /* the first, so that a request's task is its client */
     uv_tcp_t tcp;
-    uv_write_t write;
+    uv_write_t write, go_ahead;
     http_parser parser;
-    bool busy, keep;
-    char path[256], head[400], *text; /* head and text: of its answer, where that is no reply */
-    bytes body, rest;                 /* rest: what came behind the request that is being answered, */
+    holder *from;
+    bool busy, keep, expects, valued, queued; /* valued: the parser was last in a header's value; queued: counted in from->requests */
+    uint8_t hosts;                    /* how many Host headers it has, counted up to two */
+    int8_t coding;                    /* how much of "chunked" its Transfer-Encoding is, or NO_CODING, or OTHER_CODING */
+    char field[20];                   /* the current header's name, as far as it fits */
+    char path[256], head[400], *text; /* head, text: the answer's headers, and its body if that is no reply */
+    const char *allow;                /* the Allow header, if its method is not allowed */
+    void (*does)(client *, tenant *, uint32_t);
+    bytes body, rest;                 /* rest: what arrived after the request that is being answered, */
     size_t parsed, head_length;       /* and how much of that is parsed */
-    uint64_t number, came;            /* came: 0 before a request's first byte */
-    int32_t request;                  /* the loop's number of what it asks; 0: it isn't made */
+    uint64_t number, came;            /* came: when its first byte arrived, or 0 */
+    int32_t request;                  /* its number in the tenant's loop, or 0 */
 };
 
 extern uint32_t clients, most_clients;
-extern uint64_t patience; /* the milliseconds that a request has to come, and its answer to be taken */
+extern uint64_t patience; /* how many milliseconds a request may take to arrive, and its answer to be received */
 extern size_t held;
+extern struct in_addr proxy; /* an address without a share of its own: its clients are many */
 
-int serve(const char *address, int port); /* 0, or libuv's error */
+int serve(const char *address, int port); /* returns 0, or libuv's error */
 void serve_no_more(void), clients_sweep(void);
-void request(client *c); /* edge.c */
+bool wants_all(client *c); /* edge.c */
+void request(client *c);
 void answer(client *c, int status, const char *type, const void *body, size_t length);
 void say(client *c, int status, const char *format, ...) __attribute__((format(printf, 3, 4)));
-void leave(client *c), drop_bytes(bytes *b);
+void leave(client *c), drop_body(client *c);
+bool may_queue(client *c);
 
 #endif

@@ -1,18 +1,18 @@
-/* Loops that live: a module with uv_main has one, whose turns are tasks like others. An ask is a request of the loop: uv_work computes it,
- * and uv_after_work is given its number; the first number that the loop emits with that one in its upper half answers it. Where the module
- * changes, its new loop is asked what wasn't answered. A loop that failed is made anew a second later. */
+/* Long-lived loops: a module with uv_main has one, whose turns are tasks like others. An ask is a request of the loop: uv_work computes it,
+ * and uv_after_work receives its number; the first number emitted whose upper half is that one answers it. If the module changes, its new loop
+ * gets the asks that have no answer yet. A loop that failed is created again a second later. */
 #include <errno.h>
 #include <stdlib.h>
 #include "http.h"
 
 enum { RESTART_MS = 1000, MOST_RUNS = 32, MOST_EMITS = MOST_RUNS * 64 };
 
-/* While its turn runs, that alone touches the handle, the hint and the emits. */
+/* While its turn runs, only that touches the handle, the hint and the emits. */
 typedef struct loop {
     task turn;
     tasks done; /* jobs, for the next turn */
     uv_timer_t timer;
-    uint64_t began, hint; /* began: the moment at which its clock is 0, in milliseconds */
+    uint64_t began, hint; /* began: when its clock was 0, in milliseconds */
     uint32_t number, last, emit_count;
     bool renew;
     wasmloop_handle handle;
@@ -23,7 +23,7 @@ static const kind turns, jobs;
 
 uint32_t loop_did(const tenant *t) { return t->loop ? t->loop->last : 0; }
 
-/* Lets a loop have a turn, unless it has one, or has failed. */
+/* Queues a turn of a loop, unless it has one, or has ended. */
 static void turn_soon(tenant *t) {
     loop *l = t->loop;
     if (!l || l->turn.state != IDLE || l->last >= WASMLOOP_OVER || ending) return;
@@ -44,13 +44,13 @@ static void restart_later(loop *l) {
     uv_timer_start(&l->timer, on_due, RESTART_MS, 0);
 }
 
-/* ---- those who ask ---- */
+/* ---- asks ---- */
 
-/* Answers one who asks a loop that there isn't. Whether there is none. */
+/* Answers an ask of a loop that doesn't exist. Returns whether it did. */
 static bool answer_without(client *c) {
     const tenant *t = c->task.of;
     const loop *l = t->loop;
-    if (!t->module.mark && t->load) return false; /* it comes */
+    if (!t->module.mark && t->load) return false; /* it is being loaded */
     if (!t->module.mark)
         refuse(c);
     else if (!t->lives)
@@ -78,7 +78,7 @@ void ask(client *c, tenant *t, uint32_t op) {
     turn_soon(t);
 }
 
-/* Sends to an async of a loop, which may be still to come. */
+/* Sends to an async of a loop, which may not exist yet. */
 void send_to(client *c, tenant *t, uint32_t async) {
     if (answer_without(c)) return;
     count(t, DONE, c->came);
@@ -87,7 +87,7 @@ void send_to(client *c, tenant *t, uint32_t async) {
     say(c, 202, "sent\n");
 }
 
-/* Makes the requests that weren't made, as far as more may be outstanding. Whether it has made one. */
+/* Submits the asks that weren't submitted, as far as more requests may be outstanding. Returns whether it submitted one. */
 static bool make_requests(tenant *t) {
     bool made = false;
     int32_t told = 0;
@@ -103,7 +103,7 @@ static bool make_requests(tenant *t) {
     return made;
 }
 
-/* A number that the loop has emitted answers who asked by the request in its upper half. */
+/* A number that the loop has emitted answers the ask whose request is in its upper half. */
 static void answer_ask(tenant *t, int64_t emitted) {
     for (task *k = TAILQ_FIRST(&t->asks); k; k = TAILQ_NEXT(k, next)) {
         client *c = (client *)k;
@@ -116,7 +116,7 @@ static void answer_ask(tenant *t, int64_t emitted) {
 
 /* ---- a turn ---- */
 
-/* A job that is done goes to its loop; a stranger's is dropped, as are all where the loop is. */
+/* Gives finished jobs to their loop; those of another loop, or without a loop, are dropped. */
 static void accept_jobs(loop *l) {
     for (task *k; (k = TAILQ_FIRST(&l->done));) {
         TAILQ_REMOVE(&l->done, k, next);
@@ -125,7 +125,7 @@ static void accept_jobs(loop *l) {
     }
 }
 
-/* Gives the loop what came for it. */
+/* Gives the loop what has arrived for it. */
 static bool ready_turn(task *k) {
     tenant *t = k->of;
     loop *l = t->loop;
@@ -139,7 +139,7 @@ static bool ready_turn(task *k) {
     return true;
 }
 
-/* A step, which is logged. */
+/* Makes a step, and logs it. */
 static void step(task *k, wasmloop_did *did) {
     loop *l = k->of->loop;
     int64_t *emits = l->emits + l->emit_count;
@@ -154,8 +154,8 @@ static void step(task *k, wasmloop_did *did) {
     log_step(k->of, did, emits, n);
 }
 
-/* Steps until a whole turn of the loop ran no callback and it has nothing to do at this moment (a hint alone doesn't know of sends, a
- * guest's own among them); at most MOST_RUNS callbacks, and none after half a millisecond where another tenant waits. */
+/* Steps until a whole iteration of the loop has run no callback and nothing is due (the hint doesn't cover sends, among them the guest's own); at
+ * most MOST_RUNS callbacks, and none after half a millisecond if another tenant waits. */
 static void run_turn(task *k) {
     loop *l = k->of->loop;
     wasmloop_did did = { 0 };
@@ -173,7 +173,7 @@ static void run_turn(task *k) {
     k->status = (int)did.what;
 }
 
-/* Lets the jobs that a loop asks for wait for their turns. */
+/* Queues the jobs that a loop requests. */
 static void take_jobs(tenant *t) {
     for (task *k; (k = task_of(t, &jobs)); wait_for(k, false)) {
         if (wasmloop_next_job(&t->loop->handle, &k->handle) != WASMLOOP_OK) {
@@ -208,9 +208,9 @@ static void turned(task *k) {
 
 static const kind turns = { ready_turn, run_turn, turned };
 
-/* ---- jobs that a loop asks for ---- */
+/* ---- jobs of a loop ---- */
 
-/* One of a loop that isn't there any more need not be run. */
+/* Drops a job whose loop has ended. */
 static bool ready_job(task *k) {
     const loop *l = k->of->loop;
     bool wanted = l && k->about.loop == l->number && l->last < WASMLOOP_OVER && !ending;
@@ -235,7 +235,7 @@ static const kind jobs = { ready_job, run_job, job_done };
 
 static void on_closed(uv_handle_t *timer) { free(timer->data); }
 
-/* Ends a loop that has no turn now. */
+/* Frees a loop that has no turn now. */
 void free_loop(tenant *t) {
     loop *l = t->loop;
     if (!l) return;
@@ -246,7 +246,7 @@ void free_loop(tenant *t) {
     uv_close((uv_handle_t *)&l->timer, on_closed);
 }
 
-/* Makes the loop of a tenant's module anew, where that has one, which is to be asked what isn't answered. */
+/* Creates the loop of a tenant's module again, if it has one, and moves the unanswered asks to it. */
 void make_loop(tenant *t) {
     static uint32_t loops;
     loop *l = t->loop;
@@ -266,6 +266,7 @@ void make_loop(tenant *t) {
         uv_timer_init(uv, &l->timer);
         TAILQ_INIT(&l->done);
         if (!t->steps) make_steps(t);
+        wasmloop_record_name = t->name;
         if (wasmloop_loop(&t->module, &limits, &l->handle) != WASMLOOP_OK) restart_later(l);
         for (task *k = TAILQ_FIRST(&t->asks); k; k = TAILQ_NEXT(k, next)) ((client *)k)->request = 0;
         turn_soon(t);

@@ -1,12 +1,14 @@
-/* Numbers for a collector, the access log on standard output, and pages for people:
+/* Metrics, the access log on standard output, and pages:
  *
- *     GET /-/metrics       Prometheus' text form
- *     GET /-/tenants       by tabs: name, state, 1 where it has a loop, why its file was refused, how it failed last
+ *     GET /-/metrics       Prometheus' text format
+ *     GET /-/tenants       by tabs: name, state, 1 if it has a loop, why its file was rejected, its last failure
  *     GET /-/log/NAME      a loop's last steps
  *     GET /-/              FOLDER/dashboard.html */
+#include <fcntl.h>
 #include <stdlib.h>
 #include <string.h>
 #include <time.h>
+#include <unistd.h>
 #include "http.h"
 
 enum { LOG = 512, KEPT = 1024 };
@@ -17,7 +19,7 @@ typedef struct logged {
     uint32_t count;
 } logged;
 
-/* The last steps of a loop, which a thread of the pool writes and the main one reads. */
+/* The last steps of a loop, which a pool thread writes and the main thread reads. */
 typedef struct steps {
     uv_mutex_t mutex;
     uint64_t logged, emitted;
@@ -25,9 +27,12 @@ typedef struct steps {
     int64_t kept[KEPT];
 } steps;
 
-/* ---- what is noted ---- */
+static char lines[1 << 16]; /* of the access log, not yet written */
+static size_t lines_length, lines_lost;
 
-/* Counts a request that is answered, or whose client has gone. */
+/* ---- the access log and counters ---- */
+
+/* Counts a request that is answered, or whose client has disconnected. */
 void count(tenant *t, outcome what, uint64_t came) {
     counted *n = &t->counted;
     uint64_t us = (uv_hrtime() - came) / 1000;
@@ -39,18 +44,43 @@ void count(tenant *t, outcome what, uint64_t came) {
     if (us > n->worst) n->worst = us;
 }
 
+/* Makes standard output non-blocking: reopened, so that other processes that have it see no change; if that fails, as it is. */
+void log_begin(void) {
+    int own = open("/proc/self/fd/1", O_WRONLY | O_APPEND | O_NONBLOCK | O_CLOEXEC);
+    if (own >= 0)
+        dup2(own, STDOUT_FILENO), close(own);
+    else
+        fcntl(STDOUT_FILENO, F_SETFL, fcntl(STDOUT_FILENO, F_GETFL) | O_NONBLOCK);
+}
+
+/* Writes the lines that standard output accepts now; the rest stays. */
+void log_flush(void) {
+    ssize_t n = write(STDOUT_FILENO, lines, lines_length);
+    if (n <= 0) return;
+    lines_length -= (size_t)n;
+    memmove(lines, lines + n, lines_length);
+}
+
 void log_answer(client *c, int status, size_t length) {
     static time_t at;
     static char moment[32];
-    char path[sizeof c->path];
+    char path[sizeof c->path], line[sizeof path + 256];
     time_t now = time(NULL);
     struct tm parts;
     if (now != at) strftime(moment, sizeof moment, "%Y-%m-%dT%H:%M:%SZ", gmtime_r(&now, &parts)), at = now;
     size_t n = strlen(strcpy(path, c->path));
     for (size_t i = 0; i < n; i++)
         if (path[i] <= ' ' || path[i] > '~' || path[i] == '"') path[i] = '?';
-    printf("at=%s request=%llu method=%s path=\"%s\" status=%d in=%zu out=%zu us=%llu fuel=%llu\n", moment, U(c->number),
-        http_method_str(c->parser.method), path, status, c->body.length, length, U((uv_hrtime() - c->came) / 1000), U(c->task.about.used));
+    size_t m = (size_t)snprintf(line, sizeof line, "at=%s request=%llu method=%s path=\"%s\" status=%d in=%zu out=%zu us=%llu fuel=%llu\n",
+        moment, U(c->number), http_method_str(c->parser.method), path, status, c->body.length, length, U((uv_hrtime() - c->came) / 1000),
+        U(c->task.about.used));
+    if (m > sizeof lines - lines_length) log_flush();
+    if (m > sizeof lines - lines_length) {
+        lines_lost++;
+        return;
+    }
+    memcpy(lines + lines_length, line, m);
+    lines_length += m;
 }
 
 void make_steps(tenant *t) {
@@ -58,7 +88,7 @@ void make_steps(tenant *t) {
     if (t->steps) uv_mutex_init(&t->steps->mutex);
 }
 
-/* In a thread of the pool. */
+/* In a pool thread. */
 void log_step(tenant *t, const wasmloop_did *did, const int64_t *emits, uint32_t n) {
     steps *s = t->steps;
     if (!s) return;
@@ -73,7 +103,7 @@ void free_steps(tenant *t) {
     free(t->steps);
 }
 
-/* ---- numbers ---- */
+/* ---- metrics ---- */
 
 static const char *state_of(const tenant *t) {
     if (t->status == ABSENT) return "absent";
@@ -82,7 +112,7 @@ static const char *state_of(const tenant *t) {
     return t->said ? "old" : "ready";
 }
 
-/* Within a bucket as if its times were spread evenly, and never above the longest. */
+/* A quantile of the durations: within a bucket they count as spread evenly, and none exceeds the longest. */
 static double quantile(const counted *t, double part) {
     double all = 0, seen = 0;
     for (int i = 0; i < TIMES; i++) all += (double)t->times[i];
@@ -103,14 +133,15 @@ static void write_server(FILE *to) {
     size_t loaded = 0;
     for (tenant *t = LIST_FIRST(&tenants); t; t = LIST_NEXT(t, next)) loaded++;
     const struct {
-        const char *name, *help;
+        const char *name, *type, *help;
         size_t value;
-    } gauges[] = { { "tenants", "Tenants that are loaded.", loaded }, { "clients", "Connections that are open.", clients },
-        { "threads_busy", "Threads of the pool that have a task.", running }, { "tasks_waiting", "Tasks that wait for a thread.", waiting },
-        { "held_bytes", "Bytes of bodies that are read.", held } };
-    for (size_t k = 0; k < sizeof gauges / sizeof *gauges; k++) {
-        write_type(to, gauges[k].name, "gauge", gauges[k].help);
-        fprintf(to, "edge_%s %zu\n", gauges[k].name, gauges[k].value);
+    } numbers[] = { { "tenants", "gauge", "Tenants that are loaded.", loaded }, { "clients", "gauge", "Connections that are open.", clients },
+        { "threads_busy", "gauge", "Threads of the pool that have a task.", running },
+        { "tasks_waiting", "gauge", "Tasks that wait for a thread.", waiting }, { "held_bytes", "gauge", "Bytes of bodies that are read.", held },
+        { "log_lines_lost_total", "counter", "Lines of the access log that standard output didn't take.", lines_lost } };
+    for (size_t k = 0; k < sizeof numbers / sizeof *numbers; k++) {
+        write_type(to, numbers[k].name, numbers[k].type, numbers[k].help);
+        fprintf(to, "edge_%s %zu\n", numbers[k].name, numbers[k].value);
     }
 }
 
@@ -193,7 +224,7 @@ static void write_step(FILE *to, const steps *s, const logged *l) {
     fputc('\n', to);
 }
 
-/* The last steps of a loop in the lines of `wasmloop script`, which examples/picture.py draws. */
+/* The last steps of a loop, as `wasmloop script` prints them, for examples/picture.py. */
 static void write_log_of(FILE *to, const tenant *t) {
     steps *s = t->steps;
     if (!s) return;

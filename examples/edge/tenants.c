@@ -1,5 +1,5 @@
-/* Tenants and their files. A module that changes on disk is loaded beside the old one, which serves until then, and after where the new one
- * is refused; a tenant whose file is gone goes too. */
+/* Tenants and their files. A module that changes on disk is loaded beside the old one, which serves until then, and keeps serving if the new one
+ * is rejected; a tenant whose file is removed is removed too. */
 #include <errno.h>
 #include <search.h>
 #include <stdlib.h>
@@ -12,7 +12,8 @@
 struct tenants tenants;
 static void *names; /* the tree of their names */
 
-static FILE *open_file(const tenant *t, const char *kind) {
+/* Opens NAME.KIND of the folder; NULL, with errno, if it can't be read. */
+FILE *open_file(const tenant *t, const char *kind) {
     char path[512];
     snprintf(path, sizeof path, "%s/%s.%s", folder, t->name, kind);
     return fopen(path, "rb");
@@ -20,19 +21,28 @@ static FILE *open_file(const tenant *t, const char *kind) {
 
 /* ---- a module ---- */
 
-/* In a thread of the pool. */
+/* In a pool thread: the bytes of its file, which stay until the thread reads another; NULL, with errno, if it can't be read. */
+size_t read_module(const tenant *t, const uint8_t **bytes) {
+    static _Thread_local uint8_t room[MOST_MODULE + 1];
+    FILE *file = open_file(t, "wasm");
+    *bytes = file ? room : NULL;
+    if (!file) return 0;
+    size_t length = fread(room, 1, sizeof room, file);
+    fclose(file);
+    return length;
+}
+
+/* In a pool thread. */
 static void do_load(task *k) {
-    static _Thread_local uint8_t bytes[MOST_MODULE + 1];
     wasmloop_fault fault;
     uint64_t n;
-    FILE *file = open_file(k->of, "wasm");
-    if (!file) {
+    const uint8_t *bytes;
+    size_t length = read_module(k->of, &bytes);
+    if (!bytes) {
         k->status = errno == ENOENT ? ABSENT : WASMLOOP_MEMORY;
         strcpy(k->said, errno == ENOENT ? "no such tenant" : "the file can't be read");
         return;
     }
-    size_t length = fread(bytes, 1, sizeof bytes, file);
-    fclose(file);
     k->status = wasmloop_load(bytes, length, &k->handle, &fault);
     if (k->status == WASMLOOP_OK) return;
     if (k->status != WASMLOOP_REFUSED || wasmloop_explain(bytes, length, k->said, SAID - 1, &n) != WASMLOOP_OK)
@@ -59,7 +69,7 @@ static void loaded(task *k) {
     if (anew || !t->module.mark) make_loop(t);
 }
 
-/* Loads its module; once more, at the next sweep, where it changes meanwhile. */
+/* Loads its module, and again at the next sweep if the file changes meanwhile. */
 static void load(tenant *t) {
     static const kind loads = { NULL, do_load, loaded };
     t->changed = true;
@@ -68,7 +78,7 @@ static void load(tenant *t) {
     wait_for(t->load, true);
 }
 
-/* Answers where there is no module. */
+/* Answers a request for a tenant without a module. */
 void refuse(client *c) {
     const tenant *t = c->task.of;
     fail(c, REFUSED, t->status == ABSENT ? 404 : t->status == WASMLOOP_MEMORY ? 503 : 500, t->said ? t->said : "no memory");
@@ -103,7 +113,7 @@ static void read_limits(tenant *t) {
         else if (n != UINT64_MAX && n >= known[i].least)
             t->limits[i] = n;
         else
-            fprintf(stderr, "edge: %s.conf: %s %s is no limit\n", t->name, key, value);
+            fprintf(stderr, "edge: %s.conf: %s %s is not a limit\n", t->name, key, value);
     }
     if (file) fclose(file);
 }
@@ -112,7 +122,7 @@ static void read_limits(tenant *t) {
 
 static int by_name(const void *a, const void *b) { return strcmp(a, b); }
 
-/* The tenant of a name; where `make` says so it is made, if its file is there. */
+/* The tenant of a name, or NULL. With `make` it is created if its file exists. */
 tenant *tenant_of(const char *name, bool make) {
     char **found = tfind(name, &names, by_name), path[512];
     if (found) return (tenant *)(*found - offsetof(tenant, name));
@@ -132,7 +142,7 @@ tenant *tenant_of(const char *name, bool make) {
     return t;
 }
 
-/* A file of the folder was written, or is gone. */
+/* A file of the folder was written or removed. */
 void tenant_changed(const char *file) {
     char name[64], kind[8];
     tenant *t = sscanf(file, "%63[^.].%7s", name, kind) == 2 ? tenant_of(name, false) : NULL;
@@ -140,12 +150,12 @@ void tenant_changed(const char *file) {
     if (t && strcmp(kind, "conf") == 0) read_limits(t);
 }
 
-/* Those go whose file is gone, or all, once nobody wants anything of them. */
+/* Removes tenants without a file, or all, once no request needs them. */
 void tenants_sweep(bool all) {
     for (tenant *t = LIST_FIRST(&tenants), *next; t; t = next) {
         next = LIST_NEXT(t, next);
         if (t->changed) load(t);
-        if ((t->status != ABSENT && !all) || t->waiting || t->running || t->asking || t->load) continue;
+        if ((t->status != ABSENT && !all) || t->waiting || t->running || t->clients || t->load) continue;
         LIST_REMOVE(t, next);
         tdelete(t->name, &names, by_name);
         free_loop(t);

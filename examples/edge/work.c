@@ -1,5 +1,5 @@
-/* Work in the threads of libuv's pool, and whose turn it is: among tenants that wait the one goes first that has used the least processor
- * time. A job runs in slices, so that it makes room for others, and ends when it must. */
+/* Work in the threads of libuv's pool, and whose turn it is: of the waiting tenants, the one that has used the least processor time goes first.
+ * A job runs in slices, so that it can yield to others, and end when it must. */
 #include <stdlib.h>
 #include <string.h>
 #include <sys/syscall.h>
@@ -11,9 +11,9 @@ enum { SLICE_NS = 25000, FIRST = 5000, FEWEST = 50, MOST = 50000, MOST_RESTS = 3
 
 uint32_t running, waiting;
 atomic_bool hurry;
-static LIST_HEAD(, tenant) active;     /* those that have a task that waits */
+static LIST_HEAD(, tenant) active;     /* tenants with a waiting task */
 static uint64_t pace;                  /* the share of the tenant that was served last */
-static uint64_t alarm_at = UINT64_MAX; /* the moment at which the next of those that rest is looked for */
+static uint64_t alarm_at = UINT64_MAX; /* when the next paused tenant may go on */
 
 /* ---- in a thread of the pool ---- */
 
@@ -23,24 +23,31 @@ static uint64_t cpu_now(void) {
     return (uint64_t)at.tv_sec * 1000000000u + (uint64_t)at.tv_nsec;
 }
 
-/* Says how a job or a callback failed, and where. */
+/* Writes how a job or a callback failed, and where: as `wasmloop` does, with the source line if it is known; or, if the module's file has been
+ * replaced, by the index among the module's own functions. */
 void explain(task *k, wasmloop_handle *of, const char *how, uint32_t trap, uint64_t used) {
     wasmloop_site site;
     uint64_t n = 0;
-    char where[80] = "";
-    if (wasmloop_stop(of, &site, 1, &n) == WASMLOOP_OK && n > 0)
-        snprintf(where, sizeof where, ", in function %llu at operation %llu", U(site.function), U(site.operation));
-    snprintf(k->said, SAID, "%s%s%s, after %llu units%s", how, trap ? ", " : "", trap ? wasmloop_trap_name(trap) : "", U(used), where);
+    const uint8_t *bytes;
+    int said = snprintf(k->said, SAID, "%s%s%s, after %llu units", how, trap ? ", " : "", trap ? wasmloop_trap_name(trap) : "", U(used));
+    if (wasmloop_stop(of, &site, 1, &n) != WASMLOOP_OK || n == 0) return;
+    char *where = k->said + said + snprintf(k->said + said, SAID - said, ", ");
+    size_t room = (size_t)(k->said + SAID - 1 - where), length = read_module(k->of, &bytes);
+    if (bytes && wasmloop_stop_told(bytes, length, of, where, room, &n) == WASMLOOP_OK) {
+        where[n < room ? n : room] = 0;
+        add_line(k->of, bytes, length, k->said);
+    } else {
+        snprintf(where, room + 1, "in its own function %llu, instruction %llu", U(site.function), U(site.operation));
+    }
 }
 
-/* How many units the next slice has, by what the last took: some 25 us, and none goes much past the deadline. */
+/* How many units the next slice has, by the time that the last one took: some 25 us, and none ends long after the deadline. */
 static uint64_t units_of(const task *k, uint64_t took, uint64_t now) {
     uint64_t wish = k->until - now < SLICE_NS ? k->until - now : SLICE_NS, units = k->units * wish / (took + SLICE_NS / 8);
     return units < FEWEST ? FEWEST : units > MOST ? MOST : units;
 }
 
-/* Runs a job in slices, as long as its turn lasts: to its end, to its deadline, until its client has gone, or, after half a millisecond,
- * until another tenant's turn has come. */
+/* Runs a job in slices until it ends, its deadline passes, its client disconnects, or, after half a millisecond, another tenant waits. */
 void run_job(task *k) {
     uint32_t over = 0;
     wasmloop_about *a = &k->about;
@@ -60,8 +67,8 @@ void run_job(task *k) {
     if (a->outcome > WASMLOOP_WORK_DONE) explain(k, &k->handle, how, a->outcome == WASMLOOP_WORK_TRAP ? a->value : 0, a->used);
 }
 
-/* The pool's threads have a lower priority than the main one, in whatever class of the scheduler that is, and short slices of a processor,
- * where the kernel knows such: a guest that runs long doesn't keep waiting who wakes beside it. On Linux each thread has its own. */
+/* Pool threads have a lower priority than the main thread, in any class of the scheduler, and short time slices, if the kernel has them: who
+ * wakes up beside a long-running guest waits less. On Linux these are set for each thread. */
 static void lower_priority(void) {
     struct {
         uint32_t size, policy;
@@ -101,10 +108,10 @@ static void look_again(uint64_t at, uint64_t now) {
     alarm_at = at;
     if (!rests.loop) uv_timer_init(uv, &rests);
     uv_timer_start(&rests, on_rested, (at - now) / MS + 1, 0);
-    uv_unref((uv_handle_t *)&rests); /* the end doesn't wait for it */
+    uv_unref((uv_handle_t *)&rests); /* shutdown doesn't wait for it */
 }
 
-/* One whose request failed has one thread, and so has one whose first module comes. */
+/* The tenant that goes next, if any. One whose request failed gets one thread, and so does one whose first module is being loaded. */
 static tenant *next_in_turn(void) {
     tenant *best = NULL;
     uint64_t now = uv_hrtime(), soonest = UINT64_MAX;
@@ -133,7 +140,7 @@ static void on_done(uv_work_t *work, int cancelled) {
     schedule();
 }
 
-/* Starts what may be started. */
+/* Starts the tasks that may start. */
 void schedule(void) {
     tenant *t;
     while ((t = next_in_turn()) && running < workers) {
@@ -148,12 +155,12 @@ void schedule(void) {
     hurry = t != NULL;
 }
 
-/* Lets a task wait for its tenant's turn, as the last, or as the first. */
+/* Queues a task for its tenant's turn, as the last, or as the first. */
 void wait_for(task *k, bool front) {
     tenant *t = k->of;
     if (TAILQ_EMPTY(&t->waits)) {
         LIST_INSERT_HEAD(&active, t, active);
-        if (t->share < pace) t->share = pace; /* what it left unused is not saved up */
+        if (t->share < pace) t->share = pace; /* unused time is not saved up */
     }
     if (front)
         TAILQ_INSERT_HEAD(&t->waits, k, next);
@@ -164,7 +171,7 @@ void wait_for(task *k, bool front) {
     schedule();
 }
 
-/* Takes a task out of where it waits. */
+/* Removes a task from where it waits. */
 void unwait(task *k) {
     tenant *t = k->of;
     if (k->state == ASKS) {
@@ -189,7 +196,7 @@ void end_task(task *k) {
     free(k);
 }
 
-/* Keeps why a task failed as its tenant's last failure. */
+/* Keeps a task's failure as its tenant's last one. */
 void keep_failure(task *k) {
     if (!*k->said) return;
     free(k->of->failure);
@@ -198,23 +205,23 @@ void keep_failure(task *k) {
 
 /* ---- requests ---- */
 
-/* Says why a request of a tenant has no reply, and counts it. */
+/* Answers a request that has no reply with the reason, and counts it. */
 void fail(client *c, outcome what, int status, const char *why) {
     count(c->task.of, what, c->came);
     say(c, status, "%s: %s\n", c->task.of->name, why);
 }
 
-/* Its deadline is past, or the server ends. What is begun goes on, and a thread sees to its deadline. */
+/* Its deadline has passed, or the server shuts down. A job that has begun goes on: its thread watches the deadline. */
 void too_late(client *c) {
     const task *k = &c->task;
     if (k->state == RUNS || (k->state == WAITS && k->handle.mark)) return;
     if (ending)
-        fail(c, REFUSED, 503, "the server ends");
+        fail(c, REFUSED, 503, "the server is shutting down");
     else
         fail(c, LATE, 504, k->state == ASKS ? "the loop did not answer before its deadline" : "not begun by its deadline");
 }
 
-/* Its client goes. Whether that may be now: what runs ends with its slice, and the client goes then. */
+/* Its client is to be closed. Returns whether that may be now: a running job ends with its slice, and closes it then. */
 bool give_up(client *c) {
     task *k = &c->task;
     k->gone = true;
@@ -224,21 +231,21 @@ bool give_up(client *c) {
     return true;
 }
 
-/* Whether one more request may wait beside those before, within the bounds; else it is answered. */
+/* Whether one more request may wait after `before` others, within the limits; if not, it is answered. */
 bool may_wait(client *c, uint32_t before) {
-    bool room = waiting < MOST_WAITING, may = room && before < c->task.of->limits[QUEUE];
-    if (!may) fail(c, REFUSED, room ? 429 : 503, room ? "too many wait" : "the server: too many wait");
+    bool room = may_queue(c), may = room && before < c->task.of->limits[QUEUE];
+    if (!may) fail(c, REFUSED, room ? 429 : 503, room ? "its queue is full" : "the server's queue is full");
     return may;
 }
 
-/* Makes the job. */
+/* Creates the job. */
 static bool ready_work(task *k) {
     tenant *t = k->of;
     client *c = (client *)k;
     wasmloop_task what = { t->limits[FUEL], k->about.op, (uint32_t)t->limits[DEPTH] };
     if (k->handle.mark) return true;
     switch (wasmloop_job_new(&t->module, &what, (uint8_t *)c->body.at, c->body.length, &k->handle)) {
-    case WASMLOOP_OK: drop_bytes(&c->body); return true;
+    case WASMLOOP_OK: drop_body(c); return true;
     case WASMLOOP_EMPTY: refuse(c); break;
     case WASMLOOP_MEMORY: fail(c, NO_MEMORY, 503, "no memory"); break;
     default: fail(c, REFUSED, 404, "it exports no uv_work");
@@ -246,15 +253,15 @@ static bool ready_work(task *k) {
     return false;
 }
 
-/* A tenant whose request failed rests, the longer the more in a row, and has one thread until one is done: its failures must not be its
- * neighbours' loss. One whose replies have more than `out` bytes a millisecond rests until they had not: the main thread writes them. */
+/* A tenant whose request failed is paused, longer after each failure in a row, and has one thread until a request succeeds: its failures must not
+ * cost its neighbours. One whose replies exceed `out` bytes per millisecond is paused until they don't: the main thread writes them. */
 static void note_end(tenant *t, outcome what, uint64_t bytes) {
     const uint64_t now = uv_hrtime();
     t->sent = (t->sent > now ? t->sent : now) + bytes * MS / t->limits[OUT];
     if (t->sent > now + MS) t->rests = t->sent - MS;
     if (what == DONE) t->fails = 0;
     if (what == DONE || what == GONE || what == NO_MEMORY) return;
-    if (t->fails == 0 || (what != LATE && t->fails < MOST_RESTS)) t->fails++; /* late it may be by others */
+    if (t->fails == 0 || (what != LATE && t->fails < MOST_RESTS)) t->fails++; /* others may have made it late */
     t->rests = now + t->limits[REST] * MS * t->fails;
 }
 
@@ -281,7 +288,7 @@ static void worked(task *k) {
     keep_failure(k);
 }
 
-/* Lets a request wait for its tenant's turn. */
+/* Queues a request for its tenant's turn. */
 void work(client *c, tenant *t, uint32_t op) {
     static const kind works = { ready_work, run_job, worked };
     if (!may_wait(c, t->waiting)) return;

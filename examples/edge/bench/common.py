@@ -52,11 +52,11 @@ def listening(server, port):
     raise SystemExit(f"{server.args[0]} does not listen")
 
 
-def ask(port, path, body=b"x"):
+def ask(port, path, body=b"x", method="POST"):
     """Status, bytes and heads of an answer, and how many microseconds it took."""
     link, began = http.client.HTTPConnection("127.0.0.1", port, timeout=120), time.perf_counter()
     with contextlib.closing(link):
-        link.request("POST", path, body)
+        link.request(method, path, body)
         answer = link.getresponse()
         return answer.status, answer.read(), answer.headers, (time.perf_counter() - began) * 1e6
 

@@ -1,4 +1,4 @@
-"""All tables of README.md in one run: this server beside what else one would take, on the same guests.
+"""The tables of MEASURED.md in one run: this server beside alternatives, on the same guests.
 
 usage: run.py [--seconds S] [--rounds R] [--parts flat,rate,..] [--only edge,node,..] [--rates 100,1000] [--class "chrt -r 20"] EDGE LOAD GUESTS
 
@@ -41,6 +41,7 @@ ROOM = common.room()
 PREFIX = vars(told)["class"].split()
 GUESTS = {"hello": 16, "crc32": 1024}
 FOLDERS = {name: ROOM / ("lua" if name == "lua" else "py" if name == "fork" else "wasm") for name in told.only.split(",")}
+NGINX_BYTES = 1 << 30  # of address space: its hook counts instructions, and each of bomb's makes a mebibyte, until the machine has none
 SUFFIX = {"lua": ".lua", "py": ".py", "wasm": ".wasm"}
 
 
@@ -52,7 +53,7 @@ def nginx(port):
     for name, value in {"DIR": ROOM, "PORT": port, "LUA": ROOM / "lua", "HOOK": "true"}.items():
         text = text.replace(f"@{name}@", str(value))
     (ROOM / "nginx.conf").write_text(text)
-    return ["nginx", "-p", ROOM, "-c", ROOM / "nginx.conf"]
+    return ["prlimit", f"--as={NGINX_BYTES}", "nginx", "-p", ROOM, "-c", ROOM / "nginx.conf"]
 
 
 def missing(name):

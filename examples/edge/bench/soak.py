@@ -3,8 +3,9 @@
 usage: soak.py [--seconds S] [--rate R] [--tenants N] [--threads N] EDGE LOAD GUESTS     (600 s, 1,000 a second, 100 tenants that stay, 3 threads)
 
 EDGE and LOAD are the programs of edge.c and bench/load.c, GUESTS a folder of modules. Each request of LOAD carries its number, which the guest greets; the
-server's access log must have each of its own numbers once. Ends with 1 where one is lost, strays, fails, or stands twice, and, from 100 s on, where the
-last quarter of the time took more than a tenth more memory than the second.
+server's access log must have each of its own numbers once, but for the lines that the server counts as lost because this program read too slowly. Ends
+with 1 if a request is lost, strays or fails, if a line is missing or duplicated, and, from 100 s on, if the last quarter of the time took more than a
+tenth more memory than the second.
 """
 import collections
 import pathlib
@@ -95,14 +96,15 @@ def main():
     over.set()
     for it in threads[1:]:
         it.join()
+    lost = int(re.search(rb"(?m)^edge_log_lines_lost_total (\d+)", ask(port, "/-/metrics", None, "GET")[1])[1])
     server.terminate()
     threads[0].join()
     code, said = server.wait(), load.stdout.read().strip()
     quarter = max(1, len(memory) // 4)
-    early, late, missing = max(memory[quarter:2 * quarter]), max(memory[-quarter:]), len(numbers) - 1 - sum(numbers)
+    early, late, missing = max(memory[quarter:2 * quarter]), max(memory[-quarter:]), len(numbers) - 1 - sum(numbers) - lost
     print(said)
     print("; ".join(f"{k} {v}" for k, v in sorted(seen.items())))
-    print(f"{sum(statuses.values())} lines of the access log, {missing} missing, {len(twice)} twice; statuses {dict(sorted(statuses.items()))}")
+    print(f"{sum(statuses.values())} lines of the access log, {lost} lost as counted, {missing} missing, {len(twice)} twice; statuses {dict(sorted(statuses.items()))}")
     print(f"resident {memory[0]} KiB at first, at most {early} in the second quarter, {late} in the last; the server ended with {code}")
     shutil.rmtree(FOLDER)
     clean = re.search(r"lost 0 strays 0 .* status 200 \d+$", said) and not twice and not missing and code == 0

@@ -1,7 +1,7 @@
-"""Tries the server: its answers and limits, hostile tenants, a loop, modules that change, its end, and clients of the worst sort.
+"""Tests the server: responses and limits, hostile tenants, a loop, modules that change, shutdown, and hostile clients.
 
-usage: test.py EDGE GUESTS PART..     EDGE: the program; GUESTS: a folder of modules; PART: functions, bounds, end, page (by chromium), python, clients, or a
-number, which is the same with that many connections that only stand (else 1,000)
+usage: test.py EDGE GUESTS PART..     EDGE: the program; GUESTS: a folder of modules; PART: functions, bounds, end, page (by chromium), python, strict (by h11),
+clients, hostile (LOAD names the program of bench/load.c), or a number, which is the same as clients with that many connections that only stand (else 1,000)
 """
 import collections
 import concurrent.futures
@@ -24,7 +24,10 @@ import zlib
 
 HERE = pathlib.Path(__file__).resolve().parent
 EDGE, GUESTS = sys.argv[1], pathlib.Path(sys.argv[2])
+MIB = 1 << 20
 PATIENT, ENDLESS = "deadline 60000\n", "fuel 1000000000000000\n"
+HOG = ENDLESS + "deadline 200\n"
+DIVISION = r"trap, division by zero, after \d+ units, in function 0 \(uv_work\), (operation|instruction) \d+ \(i32.div_s\) at byte"
 bad = []
 
 
@@ -35,7 +38,7 @@ def check(good, what, *got):
 
 
 def until(what, done, seconds=60):
-    """Waits for what must come, however busy the machine is."""
+    """Waits for an expected event, however busy the machine is."""
     end = time.monotonic() + seconds
     while not done():
         if time.monotonic() > end:
@@ -45,21 +48,21 @@ def until(what, done, seconds=60):
 
 
 class Server:
-    """The program over a folder of its own, on a port that is free. A deadline that isn't named is a long one: a busy machine is no failure."""
+    """The program on a folder of its own and a free port. Deadlines are long by default: a busy machine is no failure."""
 
-    def __init__(self, *options, python=False, **confs):
+    def __init__(self, *options, python=False, log=None, **confs):
         self.folder = pathlib.Path(tempfile.mkdtemp())
         for it in GUESTS.glob("*.wasm"):
             shutil.copy(it, self.folder)
         for name in {it.stem for it in self.folder.glob("*.wasm")} | confs.keys():
             (self.folder / f"{name}.conf").write_text(PATIENT + confs.get(name, ""))
         shutil.copy(HERE.parent / "dashboard.html", self.folder)
-        self.log = open(self.folder / "access", "w+")
+        self.log = log or open(self.folder / "access", "w+")
         self.python, self.options, self.process = python, options, None
         until("the server listens", self.listens, 120)
 
     def listens(self):
-        """Starts it, anew where somebody else has taken its port."""
+        """Starts it, again if another process has taken its port."""
         if not self.process or self.process.poll() is not None:
             with socket.socket() as s:
                 s.bind(("127.0.0.1", 0))
@@ -73,8 +76,8 @@ class Server:
             return self.process.poll() is None
         return False
 
-    def connect(self):
-        return socket.create_connection(("127.0.0.1", self.port), timeout=60)
+    def connect(self, by="127.0.0.1"):
+        return socket.create_connection(("127.0.0.1", self.port), 60, (by, 0))
 
     def ask(self, path, body=b"x", method="POST", **headers):
         link = http.client.HTTPConnection("127.0.0.1", self.port, timeout=120)
@@ -88,13 +91,13 @@ class Server:
         check(got[0] == status and re.search(text.encode() if isinstance(text, str) else text, got[1], re.S), what, got[0], got[1])
         return got
 
-    def raw(self, data):
-        """All that comes back, until the server ends the connection or is silent; it is read while data is sent."""
+    def raw(self, data, by="127.0.0.1"):
+        """All that is received until the server closes the connection or is silent; reads while data is sent."""
         def send():
             with contextlib.suppress(OSError):
                 s.sendall(data)
 
-        with self.connect() as s:
+        with self.connect(by) as s:
             sender = threading.Thread(target=send)
             sender.start()
             got = read_all(s)
@@ -102,36 +105,38 @@ class Server:
         return got
 
     def size(self, name):
-        """In KiB: VmRSS is resident, VmSize all address space."""
+        """In KiB: VmRSS is resident memory, VmSize address space."""
         return int(re.search(name + r":\s+(\d+)", pathlib.Path(f"/proc/{self.process.pid}/status").read_text())[1])
 
     def shadowed(self):
-        """A sanitizer has memory of its own beside the program's."""
+        """Whether a sanitizer has reserved address space."""
         return self.size("VmSize") > 1 << 30
 
     def metrics(self):
         return parse_metrics(self.ask("/-/metrics", None, "GET")[1].decode())
 
     def number(self, name, tenant=None, **labels):
-        """One of the metrics: of the server, or of a tenant; None where it isn't there."""
+        """A metric of the server or of a tenant, or None."""
         labels = {"tenant": tenant, **labels} if tenant else labels
         return self.metrics().get((f"edge_{name}", ",".join(f'{k}="{v}"' for k, v in labels.items()) or None))
 
     def end(self):
-        """By SIGTERM: it must leave with 0, and a sanitizer must have said nothing."""
+        """Sends SIGTERM: it must exit with 0, and a sanitizer must have reported nothing."""
         self.process.send_signal(signal.SIGTERM)
         said = self.process.communicate(timeout=120)[1]
         check(self.process.returncode == 0, "its end", self.process.returncode, said[-2000:])
         check("anitizer" not in said and "runtime error" not in said, "a sanitizer", said[:3000])
-        if self.python:
-            shutil.rmtree(self.folder)
-            return
-        self.log.seek(0)
-        lines = self.log.read().splitlines()
-        form = r'at=\d{4}-\d\d-\d\dT\d\d:\d\d:\d\dZ request=\d+ method=[A-Z-]+ path="[!#-~]*" status=\d{3} in=\d+ out=\d+ us=\d+ fuel=\d+'
-        odd = [it for it in lines if not re.fullmatch(form, it)]
-        check(lines and not odd, "the access log", odd[:1])
+        if not self.python and not isinstance(self.log, int):
+            self.log.seek(0)
+            check_log(self.log.read())
         shutil.rmtree(self.folder)
+
+
+def check_log(text):
+    form = r'at=\d{4}-\d\d-\d\dT\d\d:\d\d:\d\dZ request=\d+ method=[A-Z-]+ path="[!#-~]*" status=\d{3} in=\d+ out=\d+ us=\d+ fuel=\d+'
+    lines = text.splitlines()
+    odd = [it for it in lines if not re.fullmatch(form, it)]
+    check(lines and not odd, "the access log", odd[:1])
 
 
 def read_all(s, wait=60):
@@ -144,13 +149,13 @@ def read_all(s, wait=60):
 
 
 def read_head(s, wait=60):
-    """The status of the next answer."""
+    """The status of the next response."""
     s.settimeout(wait)
     return int(s.recv(4096)[9:12])
 
 
 def parse_metrics(text):
-    """The values by name and labels; each family must be declared once, and stand together."""
+    """The values by name and labels; each family must be declared once, and be contiguous."""
     values, kind, name, closed = {}, None, None, set()
     for line in text.splitlines():
         if line.startswith("# HELP "):
@@ -183,7 +188,7 @@ def statuses(s):
     s.wants("no name", 404, "no such tenant", "/")
     s.wants("an operation that is none", 400, "an operation", "/hello/x")
     s.wants("an operation too great", 400, "an operation", "/hello/4294967296")
-    s.wants("division", 500, "trap, division by zero.* in function 0|division by zero", "/trap/0")
+    s.wants("division", 500, DIVISION, "/trap/0")
     s.wants("memory", 500, "an access outside the memory", "/trap/1")
     s.wants("unreachable", 500, "unreachable", "/trap/2")
     s.wants("depth", 500, "deep", "/deep")
@@ -205,8 +210,41 @@ def statuses(s):
     check(s.ask("/sha256", b"abc")[1].hex() == "ba7816bf8f01cfea414140de5dae2223b00361a396177a9cb410ff61f20015ad", "sha256")
 
 
+def methods(s):
+    """HEAD has no body, so no tenant's bytes are taken for the next response; a method that a path does not have is rejected."""
+    link = http.client.HTTPConnection("127.0.0.1", s.port, timeout=60)
+    for method, path, status, allow in (("HEAD", "/-/metrics", 200, None), ("HEAD", "/hello", 405, "POST"), ("GET", "/hello", 405, "POST"),
+                                        ("PUT", "/hello", 405, "POST"), ("POST", "/-/metrics", 405, "GET"), ("TRACE", "/-/metrics", 405, "GET")):
+        link.request(method, path)
+        got = link.getresponse()
+        text = got.read()
+        check(got.status == status and (allow is None or allow in got.headers["Allow"]), "a method", method, path, got.status, got.headers)
+        check(method != "HEAD" or text == b"", "a HEAD with a body", text)
+        link.request("POST", "/hello", b"you")
+        got = link.getresponse()
+        check(got.read() == b"hello, you", "behind it", method, path, got.status)
+    link.close()
+
+
+def lines(s):
+    """A failure names FILE:LINE if NAME.lines beside NAME.wasm describes this module and is well formed."""
+    module = (s.folder / "trap.wasm").read_bytes()
+    its = f"module {len(module)} {zlib.adler32(module)}\n"
+    byte = int(re.search(rb"at byte (\d+)", s.ask("/trap/0")[1])[1])
+    rows = f"{byte - 9} a.c:1\n{byte} b/c.c:23\n{byte + 1} d.c:4\n"
+    for text, place in ((its + rows, b"b/c.c:23"), (f"{its}{byte - 9} a.c:1\n", b"a.c:1"), (f"{its}{byte} -\n", None), (f"{its}{byte + 1} d.c:4\n", None),
+                        (f"module {len(module)} 1\n{rows}", None), (its + "no row\n" + rows, None), (f"{its}{byte} a\x01b:1\n", None), (rows, None), ("", None)):
+        (s.folder / "trap.lines").write_text(text)
+        got = s.ask("/trap/0")[1]
+        check(re.search(rb" at byte \d+( \[(.*?)\])?\n$", got)[2] == place, "a line", text, place, got)
+    if (GUESTS / "trap.lines").exists():
+        shutil.copy(GUESTS / "trap.lines", s.folder)
+        s.wants("the line that lines.py has found", 500, r" at byte \d+ \[\S*trap\.c:8\]\n$", "/trap/0")
+    (s.folder / "trap.lines").unlink()
+
+
 def queues(s):
-    """Past a tenant's queue: 429, and none of its neighbours is refused."""
+    """Beyond a tenant's queue: 429, and no other tenant is rejected."""
     with concurrent.futures.ThreadPoolExecutor(12) as pool:
         spins = [pool.submit(s.ask, "/slow") for _ in range(10)]
         until("one that is refused", lambda: s.number("requests_total", "slow", outcome="refused"))
@@ -216,7 +254,7 @@ def queues(s):
 
 
 def deadlines(s):
-    """A request that waits too long is answered 504, and so is an ask that the loop doesn't answer."""
+    """A request that waits too long is answered with 504, and so is an ask that the loop doesn't answer."""
     with concurrent.futures.ThreadPoolExecutor(4) as pool:
         late = [pool.submit(s.ask, "/late") for _ in range(3)]
         texts = [it.result() for it in late]
@@ -224,10 +262,20 @@ def deadlines(s):
     s.wants("an ask that nobody answers", 504, "deadline", "/mute/ask/1")
 
 
+def hogs(s):
+    """A guest whose units take long is ended within 1.5 times its deadline."""
+    def took():
+        began = time.monotonic()
+        s.wants("a hog", 504, "not done by its deadline", "/hog", bytes(65536))
+        return time.monotonic() - began
+
+    until("a hog within 1.5 times its deadline", lambda: took() < 0.3)
+
+
 def slices(s):
-    """Guests that never end by themselves have all threads: a neighbour is served between two of their slices. Once their clients have gone the threads are free."""
+    """Endless guests have all threads: another tenant is served between two of their slices. Once their clients have disconnected, the threads are free."""
     def neighbour():
-        """How long an answer takes, as the median of 40."""
+        """The median duration of 40 requests."""
         times = []
         for _ in range(40):
             began = time.perf_counter()
@@ -238,7 +286,7 @@ def slices(s):
     alone = neighbour()
     links = [s.connect() for _ in range(6)]
     for n, it in enumerate(links):
-        it.sendall(b"POST /long%d HTTP/1.1\r\nContent-Length: 0\r\n\r\n" % (n % 3))
+        it.sendall(b"POST /long%d HTTP/1.1\r\nHost: x\r\nContent-Length: 0\r\n\r\n" % (n % 3))
     until("all threads are taken", lambda: s.number("threads_busy") == 3)
 
     def dead():
@@ -261,7 +309,7 @@ def slices(s):
 
 
 def rests(s):
-    """A tenant that fails rests for a millisecond each time, and so does one for each 65,536 bytes that it replies."""
+    """A tenant is paused for a millisecond after each failure, and for each 65,536 bytes of replies."""
     for path, status in ("/trap/2", 500), ("/huge", 200):
         began = time.perf_counter()
         with concurrent.futures.ThreadPoolExecutor(4) as pool:
@@ -301,7 +349,7 @@ def put(s, name, data):
 
 
 def changes(s):
-    """A module that changes under load: nothing is lost, the new one comes, and the old one goes on where the new is refused."""
+    """A module that changes under load: no request is lost, the new one serves, and the old one goes on if the new one is rejected."""
     hello, crc = (GUESTS / "hello.wasm").read_bytes(), (GUESTS / "crc32.wasm").read_bytes()
     put(s, "mine.wasm", hello)
     stop, got = threading.Event(), []
@@ -336,12 +384,12 @@ def changes(s):
 
 
 def loops_change(s):
-    """Who waits for an answer of a loop whose module changes asks the new one; where its file goes they are told so; who goes is forgotten."""
+    """Asks of a loop whose module changes go to the new one; if its file is removed, they are answered; those of disconnected clients are dropped."""
     for name, text in ("moves", b"it takes no requests"), ("leaves", b"no such tenant"), ("stays", None):
         put(s, f"{name}.wasm", (GUESTS / "limiter.wasm").read_bytes())
         links = [s.connect() for _ in range(8)]
         for it in links:
-            it.sendall(b"POST /%s/ask/1 HTTP/1.1\r\nContent-Length: 1\r\n\r\nx" % name.encode())
+            it.sendall(b"POST /%s/ask/1 HTTP/1.1\r\nHost: x\r\nContent-Length: 1\r\n\r\nx" % name.encode())
         until("those who ask", lambda n=name: s.number("received_bytes_total", n) == 8 and s.number("loop_turns_total", n) > 0)
         if name == "moves":
             put(s, f"{name}.wasm", (GUESTS / "ticker.wasm").read_bytes())
@@ -389,11 +437,11 @@ def broken_too():
 
 def functions():
     broken_too()
-    s = Server("-t", "30", spin="fuel 1000000\n", slow=f"{ENDLESS}queue 2\nrun 1\ndeadline 2000\n", flood="fuel 1000000\ncallback 200000\n",
+    s = Server("-t", "30", hog=HOG, spin="fuel 1000000\n", slow=f"{ENDLESS}queue 2\nrun 1\ndeadline 2000\n", flood="fuel 1000000\ncallback 200000\n",
                late=f"{ENDLESS}run 1\ndeadline 50\n", hello="type text/plain\n", mute="deadline 300\n", limiter="queue 4\n", crowd="queue 200\n",
                deep="depth 32\n", dead=f"{ENDLESS}deadline 200\n", **{f"long{n}": f"{ENDLESS}deadline 3600000\n" for n in range(3)},
                **{name: "" for name in ("mine", "moves", "leaves", "stays")})
-    for part in statuses, queues, deadlines, slices, rests, loops, changes, loops_change, many, numbers:
+    for part in statuses, methods, lines, queues, deadlines, hogs, slices, rests, loops, changes, loops_change, many, numbers:
         began = time.time()
         part(s)
         if time.time() - began > 10:
@@ -411,35 +459,96 @@ def may_open(count, what):
 
 
 def crowds(s):
-    """More that wait than there may be, and more bodies: 503, and none is lost."""
+    """More waiting requests than the limit: 503, and none is lost."""
     if not may_open(4200, "crowds"):
         return
-    post = b"POST /%s HTTP/1.1\r\nContent-Length: %d\r\n\r\n"
+    post = b"POST /%s HTTP/1.1\r\nHost: x\r\nContent-Length: 0\r\n\r\n"
     links = [s.connect() for _ in range(4200)]
     for n, it in enumerate(links):
-        it.sendall(post % (b"slow", 0))
+        it.sendall(post % b"slow")
         if n == 0:
             until("its module", lambda: s.number("loads_total", "slow") == 1)
             until("one that runs", lambda: s.number("tenant_tasks", "slow", are="running") == 1)
     until("4,096 that wait", lambda: s.number("tasks_waiting") >= 4096)
-    s.wants("one more", 503, "the server: too many wait", "/hello")
+    s.wants("one more", 503, "the server.s queue is full", "/hello")
     heads = [read_head(it) for it in links[4150:]]
     check(set(heads) == {503}, "those who came after", heads)
     for it in links:
         it.close()
     until("nobody waits", lambda: s.number("tasks_waiting") == 0)
-    links = [s.connect() for _ in range(1024)]
+    links = [s.connect("127.0.0.2") for _ in range(530)]
+    for it in links[:512]:
+        it.sendall(post % b"slow")
+    until("an eighth of them, of which one runs", lambda: s.number("tasks_waiting") == 511)
+    for it in links[512:]:
+        it.sendall(post % b"slow")
+    got = {read_head(it) for it in links[512:]}
+    check(got == {503}, "more requests of an address than an eighth", got)
+    s.wants("beside an address whose requests wait", 200, "hello, ", "/hello")
     for it in links:
-        it.sendall(post % (b"hello", 65536))
-    until("64 MiB that are held", lambda: s.number("held_bytes") == 64 << 20)
-    s.wants("one body more", 503, "no memory for the body", "/hello", bytes(65536))
-    for it in links:
+        it.close()
+    until("nobody waits again", lambda: s.number("tasks_waiting") == 0)
+
+
+def shares(s):
+    """A promised body takes no memory; a tenant may hold an eighth of all bodies, an address a quarter of what is free of that, so that others still can;
+    all together hold no more than the limit."""
+    post = b"POST /%s HTTP/1.1\r\nHost: x\r\nContent-Length: 65536\r\n\r\n"
+
+    def some(count, name, by="127.0.0.1", sent=65535):
+        links = [s.connect(by) for _ in range(count)]
+        for it in links:
+            it.sendall(post % name + bytes(sent))
+        return links
+
+    def has(count):
+        """Whether so many bytes are held: a body that comes in pieces may have room for its last byte or not."""
+        return count - 2048 < s.number("held_bytes") <= count
+
+    def body(name, by="127.0.0.1"):
+        return head(s.raw(b"POST /%s HTTP/1.0\r\nContent-Length: 65536\r\n\r\n" % name + bytes(65536), by))
+
+    promises = some(1030, b"nobody", sent=0) + some(200, b"hello", sent=0)
+    got = collections.Counter(s.ask("/hello")[0] for _ in range(600))
+    check(got == {200: 600} and body(b"hello") == 200 and s.number("held_bytes") == 0, "beside promises", got)
+    links, free, n = some(128, b"crc32"), 128, 1
+    until("a tenant's eighth", lambda: has(8 * MIB))
+    check((body(b"crc32"), body(b"hello")) == (503, 200), "beside a tenant that has its eighth")
+    while free >= 10:
+        n, share, free = n + 1, free // 5, free - free // 5
+        links += some(share, b"hello", f"127.0.0.{n}")
+        until(f"the share of address {n}", lambda rest=free: has(16 * MIB - rest * 65536))
+        check(body(b"hello", f"127.0.0.{n}") == 503, f"more of address {n} than it may have")
+    check(n > 12 and body(b"hello", "127.0.0.99") == 200, "beside addresses that all have their share", n)
+    links += some(free, b"hello")
+    for name in b"spin", b"trap", b"deep", b"huge", b"bomb", b"bombs":
+        links += some(128, name)
+    until("all of it", lambda: has(64 * MIB))
+    check(body(b"sha256") == 503, "beside all that may be held")
+    s.wants("one without a body", 200, "hello, ", "/hello", b"")
+    for it in promises + links:
         it.close()
     until("nothing is held", lambda: s.number("held_bytes") == 0)
 
 
+def unread():
+    """A log that nobody reads stops nothing: lost lines are counted, and the others are whole."""
+    reads, writes = os.pipe()
+    s = Server(log=writes)
+    os.close(writes)
+    get = b"GET /-/nothing HTTP/1.1\r\nHost: x\r\n\r\n"
+    got = s.raw(get * 10000 + b"no request\r\n\r\n")
+    check(got.count(b"HTTP/1.1 404") == 10000, "answers beside a log that nobody reads", got.count(b"HTTP/1.1 404"))
+    check(s.number("log_lines_lost_total") > 1000, "lines that are lost", s.number("log_lines_lost_total"))
+    with open(reads) as log, concurrent.futures.ThreadPoolExecutor(1) as pool:
+        text = pool.submit(log.read)
+        until("lines that are lost no more", lambda: s.number("log_lines_lost_total") == s.number("log_lines_lost_total"))
+        s.end()
+        check_log(text.result())
+
+
 def short(s):
-    """Where the system refuses memory some requests are answered 503, none is lost, and the server goes on."""
+    """If allocations fail, some requests are answered with 503, none is lost, and the server goes on."""
     s.wants("its threads are there", 200, "hello, you", "/hello", b"you")
     if s.shadowed():
         return
@@ -454,15 +563,16 @@ def short(s):
 
 def bounds():
     broken_too()
-    s = Server("-t", "300", slow=f"{ENDLESS}queue 4096\nrun 1\ndeadline 3600000\n", hello="type text/plain\n")
-    for part in short, crowds:
+    s = Server("-t", "300", "-x", "127.0.0.1", slow=f"{ENDLESS}queue 4096\nrun 1\ndeadline 3600000\n", hello="type text/plain\n")
+    for part in short, crowds, shares:
         part(s)
     s.wants("after crowds", 200, "hello, you", "/hello", b"you")
     s.end()
+    unread()
 
 
 def end():
-    """A signal ends it in order: what runs goes on to its end (here its deadline), what waits is answered 503, and a connection that only stands is closed."""
+    """Orderly shutdown by a signal: running requests go on to their end (here the deadline), waiting ones are answered with 503, idle connections are closed."""
     s = Server("-t", "60", spin=f"{ENDLESS}run 1\ndeadline 4000\n")
     with concurrent.futures.ThreadPoolExecutor(8) as pool:
         stands = s.connect()
@@ -509,16 +619,30 @@ def page():
     s.end()
 
 
+def alike(s):
+    """edge.py reports a failure as the server in C does."""
+    other = Server(spin="fuel 1000000\n")
+    for path in "/trap/0", "/trap/1", "/trap/2", "/deep", "/spin":
+        got = [(status, text, [heads[f"Wasmloop-{it}"] for it in ("Outcome", "Value", "Fuel")]) for status, text, heads in (it.ask(path) for it in (s, other))]
+        check(got[0] == got[1], "two servers alike", path, *got)
+    other.end()
+
+
 def python():
-    """What edge.py does, which WASMLOOP_LIBRARY and PYTHONPATH must lead to the library."""
+    """edge.py, for which WASMLOOP_LIBRARY and PYTHONPATH must name the library."""
     broken_too()
-    s = Server(python=True, spin="fuel 1000000\n", slow=f"{ENDLESS}queue 2\nrun 1\ndeadline 2000\n", late=f"{ENDLESS}run 1\ndeadline 2000\n",
+    s = Server(python=True, hog=HOG, spin="fuel 1000000\n", slow=f"{ENDLESS}queue 2\nrun 1\ndeadline 2000\n", late=f"{ENDLESS}run 1\ndeadline 2000\n",
                hello="type text/plain\n")
     s.wants("greeting", 200, "^hello, you$", "/hello", b"you")
     s.wants("no tenant", 404, "no such tenant", "/nobody")
-    s.wants("division", 500, "trap, after .* in function 0", "/trap/0")
+    s.wants("division", 500, DIVISION, "/trap/0")
+    s.wants("memory", 500, "an access outside the memory", "/trap/1")
     s.wants("depth", 500, "depth", "/deep")
     s.wants("fuel", 504, "spent, after 1000000 units", "/spin")
+    methods(s)
+    lines(s)
+    alike(s)
+    hogs(s)
     s.wants("no module", 500, "broken: ", "/broken")
     s.wants("no work", 404, "exports no uv_work", "/ticker")
     s.wants("an operation too great", 400, "an operation", "/hello/4294967296")
@@ -529,7 +653,7 @@ def python():
     until("a new module", lambda: s.ask("/hello", b"abc")[1] == b"\x35\x24\x41\xc2")
     put(s, "hello.wasm", b"no module")
     s.wants("a bad module", 200, re.escape(b"\x35\x24\x41\xc2"), "/hello", b"abc")
-    check(s.number("requests_total", "spin", outcome="spent") == 1, "numbers")
+    check(s.number("requests_total", "spin", outcome="spent") == 2, "numbers")
     links = [s.connect() for _ in range(2)]
     for it in links:
         it.sendall(b"POST /late HTTP/1.1\r\nHost: x\r\nContent-Length: 1\r\n\r\nx")
@@ -541,7 +665,16 @@ def python():
     check(set(got) <= {504, 503}, "the end", got)
 
 
-# ---- clients of the worst sort ----
+def strict():
+    """A strict client on h11, a parser that others wrote."""
+    s = Server("-t", "60", hello="type text/plain\n")
+    done = subprocess.run(["/usr/bin/python3", HERE / "strict.py", str(s.port)], capture_output=True, text=True, check=False)
+    print(done.stdout.strip())
+    check(done.returncode == 0, "a strict client", done.stderr)
+    s.end()
+
+
+# ---- hostile clients ----
 
 
 def head(answer):
@@ -549,7 +682,7 @@ def head(answer):
 
 
 def slow(s):
-    """A request must come whole within two seconds; what comes of it is answered, and the connection ends."""
+    """A request must arrive within two seconds; a partial one is answered, and the connection is closed."""
     def drip(data, every):
         with s.connect() as c:
             with contextlib.suppress(OSError):
@@ -560,15 +693,15 @@ def slow(s):
 
     with concurrent.futures.ThreadPoolExecutor(8) as pool:
         tried = {"slow heads": pool.submit(drip, b"POST /hello HTTP/1.1\r\nHost: x\r\n" + b"x: y\r\n" * 4, 0.1),
-                 "half a body": pool.submit(s.raw, b"POST /hello HTTP/1.1\r\nContent-Length: 100\r\n\r\nhalf"),
-                 "half a chunk": pool.submit(s.raw, b"POST /hello HTTP/1.1\r\nTransfer-Encoding: chunked\r\n\r\n10\r\nhalf")}
+                 "half a body": pool.submit(s.raw, b"POST /hello HTTP/1.1\r\nHost: x\r\nContent-Length: 100\r\n\r\nhalf"),
+                 "half a chunk": pool.submit(s.raw, b"POST /hello HTTP/1.1\r\nHost: x\r\nTransfer-Encoding: chunked\r\n\r\n10\r\nhalf")}
         for what, it in tried.items():
             check(head(it.result()) == 408, what, it.result())
         check(pool.submit(s.raw, b"").result() == b"", "a client that says nothing")
 
 
 def broken(s):
-    post = b"POST /hello HTTP/1.1\r\n"
+    post = b"POST /hello HTTP/1.1\r\nHost: x\r\n"
     many_heads = b"".join(b"h%d: %s\r\n" % (n, b"v" * 20) for n in range(1000))
     tried = [("no method", b"\x16\x03\x01\x02\x00\x01\x00", 400), ("no protocol", b"POST /hello FTP/1.1\r\n\r\n", 400),
              ("a chunk that is none", post + b"Transfer-Encoding: chunked\r\n\r\nzz\r\n", 400),
@@ -576,30 +709,51 @@ def broken(s):
              ("chunks too long", post + b"Transfer-Encoding: chunked\r\n\r\n11000\r\n" + bytes(0x11000), 413),
              ("two lengths", post + b"Content-Length: 1\r\nContent-Length: 2\r\n\r\nx", 400),
              ("length and chunks", post + b"Content-Length: 4\r\nTransfer-Encoding: chunked\r\n\r\n0\r\n\r\n", 400),
+             ("chunks that aren't the last coding", post + b"Transfer-Encoding: chunked, identity\r\n\r\n0\r\n\r\n", 400),
+             ("a page with such", b"GET /-/metrics HTTP/1.1\r\nHost: x\r\nTransfer-Encoding: xchunked\r\n\r\n", 400),
+             ("no coding", post + b"Transfer-Encoding:\r\n\r\n", 400), ("another coding", post + b"Transfer-Encoding: gzip\r\n\r\n", 400),
+             *((f"chunks of another coding: {it}", post + b"Transfer-Encoding: %s\r\n\r\n0\r\n\r\n" % it.encode(), 501)
+               for it in ("identity, chunked", "gzip, chunked", "chunked\r\nTransfer-Encoding: chunked")),
+             ("chunks in 1.0", b"POST /hello HTTP/1.0\r\nTransfer-Encoding: chunked\r\n\r\n0\r\n\r\n", 400),
+             ("a space before a colon", post + b"Content-Length : 1\r\n\r\nx", 400),
+             ("no Host", b"POST /hello HTTP/1.1\r\nHosts: x\r\n\r\n", 400), ("two Hosts", post + b"hOST:\r\n\r\n", 400),
+             ("version 0.9", b"POST /hello\r\n\r\n", 400), ("version 2.0", b"POST /hello HTTP/2.0\r\nHost: x\r\n\r\n", 400),
+             ("no tenant, no body yet", b"POST /nobody HTTP/1.1\r\nHost: x\r\nContent-Length: 9\r\n\r\n", 404),
              ("a length below 0", post + b"Content-Length: -1\r\n\r\n", 400),
              ("a length beyond all", post + b"Content-Length: " + b"9" * 30 + b"\r\n\r\n", 400),
              ("a length too long, no body yet", post + b"Content-Length: 65537\r\n\r\n", 413),
              ("a head too long", post + b"x: " + b"y" * 20000 + b"\r\n\r\n", 431), ("too many heads", post + many_heads + b"\r\n", 431),
              ("trailers too long", post + b"Transfer-Encoding: chunked\r\n\r\n0\r\n" + many_heads + b"\r\n", 431),
-             ("a path too long", b"POST /" + b"a" * 70000 + b" HTTP/1.1\r\n\r\n", 414)]
+             ("a path too long", b"POST /" + b"a" * 70000 + b" HTTP/1.1\r\nHost: x\r\n\r\n", 414)]
     for what, data, status in tried:
         got = s.raw(data)
         check(head(got) == status and b"Connection: close" in got, what, got)
     got = s.raw(b"POST /hello HTTP/1.0\r\nContent-Length: 2\r\n\r\nme")
     check(got.endswith(b"hello, me") and b"Connection: close" in got, "HTTP/1.0", got)
+    with s.connect() as c:
+        for it in post + b"tRANSFER-encoding: \t Chunked \r\nConnection: close\r\n\r\n2\r\nme\r\n0\r\n\r\n":
+            c.sendall(bytes([it]))
+        check(read_all(c).endswith(b"hello, me"), "chunks, byte by byte")
+    s.wants("a whole URL", 200, "hello, you", f"http://127.0.0.1:{s.port}/hello", b"you")
+    with s.connect() as c:
+        for it in b"POST /hello HTTP/1.1\r\nhost:\r\neXPECT: 100-continue\r\nContent-Length: 2\r\n\r\n":
+            c.sendall(bytes([it]))
+        check(c.recv(4096) == b"HTTP/1.1 100 Continue\r\n\r\n", "one that is to go on")
+        c.sendall(b"me")
+        check(c.recv(4096).endswith(b"hello, me"), "one that went on")
 
 
 def pipelines(s):
-    """Requests that are sent ahead are answered in their order, however many."""
-    data = b"".join(b"POST /hello HTTP/1.1\r\nContent-Length: %d\r\n\r\n%d" % (len(str(n)), n) for n in range(300))
+    """Pipelined requests are answered in order, however many."""
+    data = b"".join(b"POST /hello HTTP/1.1\r\nHost: x\r\nContent-Length: %d\r\n\r\n%d" % (len(str(n)), n) for n in range(300))
     got = s.raw(data + b"no request\r\n\r\n")
     check([int(it) for it in re.findall(rb"hello, (\d+)", got)] == list(range(300)) and got.count(b"HTTP/1.1 400") == 1, "sent ahead", got[-300:])
-    got = s.raw(b"GET / HTTP/1.1\r\n\r\n" * 20000 + b"GET / HTTP/1.0\r\n\r\n")
+    got = s.raw(b"GET /-/nothing HTTP/1.1\r\nHost: x\r\n\r\n" * 20000 + b"GET /-/nothing HTTP/1.0\r\n\r\n")
     check(got.count(b"HTTP/1.1 404") == 20001, "20,001 sent ahead", got.count(b"HTTP/1.1 404"))
 
 
 def idle(s, count):
-    """Connections that only stand, beside which another is served; they are ended, and their memory comes back."""
+    """Beside idle connections another is served; they are closed, and their memory is freed."""
     before, links = s.size("VmRSS"), []
     for _ in range(count):
         links.append(s.connect())
@@ -613,13 +767,13 @@ def idle(s, count):
 
 
 def takers(s):
-    """Clients that don't take their answers, or go before."""
+    """Clients that don't receive their responses, or disconnect before."""
     before = s.size("VmRSS")
     links = [s.connect() for _ in range(20)]
     for it in links:
         it.setblocking(False)
         with contextlib.suppress(OSError):
-            it.send(b"GET /-/ HTTP/1.1\r\n\r\n" * 3000)
+            it.send(b"GET /-/ HTTP/1.1\r\nHost: x\r\n\r\n" * 3000)
     sizes = []
     until("they are ended", lambda: sizes.append(s.size("VmRSS") - before) or s.number("clients") < 10)
     check(max(sizes) < 65536, f"20 that don't take their answers take {max(sizes)} KiB more")
@@ -627,32 +781,46 @@ def takers(s):
         it.close()
     for _ in range(50):
         with s.connect() as it:
-            it.sendall(b"POST /spin HTTP/1.1\r\nContent-Length: 0\r\n\r\n")
+            it.sendall(b"POST /spin HTTP/1.1\r\nHost: x\r\nContent-Length: 0\r\n\r\n")
     until("those that went are forgotten", lambda: s.number("tasks_waiting") == 0)
     until("bytes are held that nobody waits for", lambda: s.number("held_bytes") == 0)
 
 
-def noise(s):
-    """Requests with bytes that are changed, cut and doubled."""
-    chance = random.Random(43)
-    seeds = [b"POST /hello/1 HTTP/1.1\r\nHost: a\r\nContent-Length: 5\r\n\r\nworld", b"GET /-/metrics HTTP/1.1\r\nConnection: keep-alive\r\n\r\n",
-             b"POST /crc32 HTTP/1.1\r\nTransfer-Encoding: chunked\r\n\r\n5\r\nhello\r\n3;x=y\r\nabc\r\n0\r\nT: x\r\n\r\n", b"POST /limiter/ask HTTP/1.1\r\n\r\n"]
-    for _ in range(400):
+def noise(s, count=400, seed=43):
+    """Requests with bytes changed, cut and doubled."""
+    chance = random.Random(seed)
+    seeds = [b"POST /hello/1 HTTP/1.1\r\nHost: a\r\nContent-Length: 5\r\n\r\nworld", b"GET /-/metrics HTTP/1.1\r\nHost: x\r\nConnection: keep-alive\r\n\r\n",
+             b"POST /crc32 HTTP/1.1\r\nHost: x\r\nTransfer-Encoding: chunked\r\n\r\n5\r\nhello\r\n3;x=y\r\nabc\r\n0\r\nT: x\r\n\r\n",
+             b"POST /limiter/ask HTTP/1.1\r\nHost: x\r\n\r\n"]
+    for _ in range(count):
         data = bytearray(chance.choice(seeds) + chance.choice(seeds))
         for _ in range(chance.randrange(6)):
             at = chance.randrange(len(data))
             data[at:at + chance.randrange(3)] = bytes(chance.choice(b"\r\n:0 9aZ\x00\xff") for _ in range(chance.randrange(4)))
         with s.connect() as c, contextlib.suppress(OSError):
             c.sendall(data[:chance.randrange(len(data)) + 1])
+            if chance.random() < 0.5:
+                c.shutdown(socket.SHUT_WR)
+                read_all(c)
     s.wants("after noise", 200, "hello, you", "/hello", b"you")
 
 
 def most(count):
-    s = Server("-c", str(count), "-t", "300")
-    get = b"GET / HTTP/1.0\r\n\r\n"
+    s = Server("-c", str(count), "-t", "300", "-x", "127.0.0.1")
+    get = b"GET /-/nothing HTTP/1.0\r\n\r\n"
 
     def has(clients):
         return b"edge_clients %d\n" % clients in s.ask("/-/metrics", None, "GET")[1]
+
+    def fill(by):
+        """As many connections as an address may have, each idle after a response."""
+        its = []
+        while True:
+            its.append(s.connect(by))
+            its[-1].sendall(get.replace(b"1.0", b"1.1\r\nHost: x"))
+            if read_head(its[-1]) == 503:
+                its.pop().close()
+                return its
 
     until("nobody else", lambda: has(1))
     links = [s.connect() for _ in range(count - 1)]
@@ -661,13 +829,118 @@ def most(count):
     for it in links:
         it.close()
     until("room again", lambda: head(s.raw(get)) == 404)
+    links, n = [], 1
+    while len(links) < count - 4:  # each has an eighth, rounded up, of what the others leave
+        n += 1
+        its = fill(f"127.0.0.{n}")
+        check(1 <= len(its) <= 3, f"connections of address {n}", len(its))
+        links += its
+    check(n > 7 and head(s.raw(get, "127.0.0.99")) == 404, "beside addresses that all have their share", n)
+    for it in links:
+        it.close()
     s.end()
+
+
+# ---- hostile tenants and clients, for longer ----
+
+
+def secrets(s, count=100):
+    """A tenant does not find what another had in memory and replies."""
+    with concurrent.futures.ThreadPoolExecutor(4) as pool:
+        fills = [pool.submit(s.ask, "/snoop/0", b"SECRET!!") for _ in range(count)]
+        looks = [pool.submit(s.ask, "/looks/1", b"") for _ in range(count)]
+        got = collections.Counter((it.result()[0], it.result()[2]["Wasmloop-Value"]) for it in looks)
+        check(set(got) == {(200, "0")}, "another's bytes", got)
+        check({it.result()[:2] for it in fills} == {(200, b"SECRET!!" * 8192)}, "its own bytes")
+
+
+def churn(s, seconds=10):
+    """Under load a module is rewritten in place, replaced, made invalid and removed; so are its limits."""
+    one, two = ((GUESTS / f"{name}.wasm").read_bytes() for name in ("hello", "crc32"))
+    good, chance, end, got = {(200, b"hello, abc"), (200, b"\x35\x24\x41\xc2")}, random.Random(44), time.monotonic() + seconds, set()
+
+    def load():
+        while time.monotonic() < end:
+            got.add(s.ask("/mine", b"abc")[:2])
+
+    threads = [threading.Thread(target=load) for _ in range(4)]
+    for it in threads:
+        it.start()
+    while time.monotonic() < end:
+        new = chance.choice((one, two, b"no module", one[:200], b""))
+        if new == b"":
+            (s.folder / "mine.wasm").unlink(missing_ok=True)
+        elif chance.random() < 0.5:
+            put(s, "mine.wasm", new)
+        else:
+            (s.folder / "mine.wasm").write_bytes(new)
+        put(s, "mine.conf", chance.choice((b"type text/html\n", b"queue 1\n", b"no limits")))
+        time.sleep(0.03)
+    for it in threads:
+        it.join()
+    check(good <= got and {it[0] for it in got - good} <= {404, 429, 500}, "answers of a module that comes and goes", got - good)
+    put(s, "mine.wasm", one)
+    until("it is back", lambda: s.ask("/mine", b"abc")[:2] == (200, b"hello, abc"))
+
+
+def killed(s):
+    """Killed while requests run, it starts again on the same folder."""
+    links = [s.connect() for _ in range(50)]
+    for it in links:
+        it.sendall(b"POST /slow HTTP/1.1\r\nHost: x\r\nContent-Length: 0\r\n\r\n")
+    until("work that is under way", lambda: s.number("threads_busy") > 0)
+    s.process.kill()
+    s.process.communicate()
+    until("it starts again", s.listens)
+    s.wants("after its end", 200, "hello, you", "/hello", b"you")
+    for it in links:
+        it.close()
+
+
+def crowd_of_the_worst(s):
+    """Beside 42 hostile clients a good tenant's p99 is at most twice that alone, in at least one try: the machine may be busy."""
+    paths = "spin deep huge flood/ask bomb bombs hog trap/0 trap/1 trap/2 snoop/0 crowd/ask crowd/send/0 nobody".split()
+
+    def load(*words):
+        return subprocess.Popen([os.environ["LOAD"], *words], stdout=subprocess.PIPE, stderr=subprocess.DEVNULL, text=True)
+
+    def p99():
+        said = load("-r", "100", "-d", "4", str(s.port), "/hello").communicate()[0]
+        check(" strays 0 " in said and re.search(" status 200 400$", said.strip()), "a good tenant's answers", said)
+        return int(re.search(r" p99 (\d+)", said)[1])
+
+    def pair():
+        alone, worst = p99(), [load("-c", "3", "-r", "0", "-d", "6", str(s.port), f"/{it}") for it in paths]
+        time.sleep(1)
+        beside = p99()
+        for it in worst:
+            it.communicate()
+        print(f"test: a good tenant's p99: {alone} us alone, {beside} beside 42 hostile clients")
+        return beside <= 2 * alone
+
+    until("a good tenant beside the worst", pair, 300)
+
+
+def hostile():
+    broken_too()
+    s = Server("-t", "10", "-x", "127.0.0.1", hello="type text/plain\n", slow=ENDLESS, hog=HOG, crowd="queue 200\n", mine="")
+    put(s, "looks.wasm", (GUESTS / "snoop.wasm").read_bytes())
+    noise(s, 3000, time.time())
+    secrets(s)
+    churn(s)
+    killed(s)
+    if not s.shadowed() and os.environ.get("LOAD"):
+        crowd_of_the_worst(s)
+    s.end()
+
+
+# ---- a lot of clients ----
 
 
 def clients(count=1000):
     if not may_open(count, f"{count} connections"):
         return
-    s = Server("-t", "2", spin="fuel 3000000\nrun 1\n")
+    s = Server("-t", "2", "-x", "127.0.0.1", spin="fuel 3000000\nrun 1\n")
     s.wants("greeting", 200, "hello, you", "/hello", b"you")
     for part in broken, pipelines, slow, takers, noise:
         part(s)

@@ -13,7 +13,8 @@ usage: fill.py GUEST.wasm NAME OUT.wasm < BYTES
 import pathlib
 import sys
 
-from lowering.binary import END, I32, I32_CONST, Reader, Refused, constant, sized, u
+sys.path.insert(0, str(pathlib.Path(__file__).resolve().parents[2] / "capi/python"))
+from wasmloop.lowering.binary import END, I32, I32_CONST, Reader, Refused, constant, sized, u  # noqa: E402
 
 GLOBALS, EXPORTS, CODE, DATA = 6, 7, 10, 11
 HEADER, A_GLOBAL = 8, 3

@@ -36,6 +36,14 @@ SODIUM_VERSION = {"@VERSION@": "1.0.18", "@SODIUM_LIBRARY_VERSION_MAJOR@": "10",
 SPEEX = {"@INCLUDE_STDINT@": "#include <stdint.h>", "@SIZE16@": "int16_t", "@USIZE16@": "uint16_t", "@SIZE32@": "int32_t", "@USIZE32@": "uint32_t"}
 SNAPPY = {"${HAVE_SYS_UIO_H_01}": "1", "${PROJECT_VERSION_MAJOR}": "1", "${PROJECT_VERSION_MINOR}": "1", "${PROJECT_VERSION_PATCH}": "9"}
 GIF = "dgif_lib egif_lib gifalloc gif_hash gif_err openbsd-reallocarray".split()
+TRE = {"#undef HAVE_SYS_TYPES_H": "#define HAVE_SYS_TYPES_H 1", "#undef TRE_APPROX": "#define TRE_APPROX 1",
+       "#undef TRE_VERSION\n": "#define TRE_VERSION \"0.8.0\"\n"}
+JIM_MADE = ("jimtcl/jim-config.h.in", {"@DEFINE_HAVE_LONG_LONG@": "#define HAVE_LONG_LONG 1"})
+JIM = "-DJIM_VERSION=81 -DJIM_TCL_COMPAT -DJIM_ANSIC -DJIM_REGEXP -DTCL_LIBRARY=\".\""
+TOMCRYPT = """ciphers/aes/aes encauth/gcm/* encauth/chachapoly/* stream/chacha/* mac/poly1305/* mac/hmac/* hashes/sha3 hashes/sha3_test hashes/sha2/sha256
+    hashes/helper/* misc/zeromem misc/mem_neq misc/burn_stack misc/error_to_string misc/compare_testvector misc/crypt/crypt_register_cipher
+    misc/crypt/crypt_register_hash misc/crypt/crypt_*_descriptor misc/crypt/crypt_*_is_valid misc/crypt/crypt_find_hash
+    misc/crypt/crypt_find_cipher""".split()
 LUA_LEFT_OUT = ("lua.c", "luac.c", "linit.c", "loslib.c", "liolib.c", "loadlib.c", "ldblib.c")
 
 
@@ -112,6 +120,12 @@ PORTS = {
                   made={"speex/speex_config_types.h": ("speex/include/speex/speex_config_types.h.in", SPEEX)}),
     "tinyxml2": Port("tinyxml2", ["tinyxml2/tinyxml2.cpp"], "-I@/tinyxml2", lower=True, no_files=True, cpp=True),
     "tommath": Port("libtommath", ["libtommath/bn_*.c"], "-I@/libtommath -DMP_NO_FILE -DMP_NO_DEV_URANDOM", no_files=True),
+    "jim": Port("jimtcl", [f"jimtcl/{n}.c" for n in "jim jim-subcmd jim-format jim-regexp jimregexp utf8".split()], f"-I@/jimtcl -I% {JIM}",
+                lower=True, jumps=True, no_files=True, made={"jimautoconf.h": JIM_MADE, "jim-config.h": JIM_MADE}),
+    "tomcrypt": Port("libtomcrypt", [f"libtomcrypt/src/{n}.c" for n in TOMCRYPT], "-I@/libtomcrypt/src/headers -DLTC_SOURCE -DLTC_NO_FILE "
+                     "-DLTC_NO_TEST -DARGTYPE=4", without=("sha256_x86.c", "crypt_ltc_mp_descriptor.c", "crypt_prng_rng_descriptor.c"), no_files=True),
+    "tre": Port("tre", ["tre/lib/reg*.c", "tre/lib/tre-*.c"], "-I@/tre/lib -I% -DTRE_REGEX_T_FIELD=value", lower=True, no_files=True,
+                made={"tre-config.h": ("tre/lib/tre-config.h.in", TRE)}),
     "xxhash": Port("xxhash", ["xxhash/xxhash.c"], "-I@/xxhash"),
 }
 
@@ -138,6 +152,25 @@ print(JSON.stringify({a: [1, 2.5, "x", null, true], b: {c: 1e21, d: 0.1 + 0.2}})
 print("the quick brown fox".split(" ").map(function (w) { return w.toUpperCase(); }).sort().join(","));
 for (i = 0; i < 100; i++) try { throw new Error("e" + i); } catch (e) { if (e.message !== "e" + i) print("wrong"); }
 print(/(\\d+)-(\\w+)/.exec("a 12-bc"), Math.sin(1), Math.sqrt(2), (1234.5678).toFixed(2));
+"""
+TCL = rb"""
+proc sieve {n} {
+    set found {}
+    for {set i 2} {$i <= $n} {incr i} { set there($i) 1 }
+    for {set i 2} {$i <= $n} {incr i} {
+        if {$there($i)} {
+            lappend found $i
+            for {set j [expr {$i * $i}]} {$j <= $n} {incr j $i} { set there($j) 0 }
+        }
+    }
+    return [llength $found]
+}
+set sum 0.0
+for {set i 1} {$i <= 500} {incr i} { set sum [expr {$sum + 1.0 / $i}] }
+set words [lsort [split "the quick brown fox" " "]]
+regexp {(\d+)-(\w+)} "a 12-bc" all number word
+set caught [catch {error "no such thing"} why]
+list [sieve 300] $sum $words $number $word $caught $why [format "%08.3f %x" 3.14159 255] [dict get {a 1 b 2} b] [lmap x {1 2 3} { expr {$x ** 2} }]
 """
 NUMBERS = b'{"a":[1,2.5,-1e300,0.1,1e-7,123456789012],"c":"d\\u00e9"}'
 
@@ -180,7 +213,7 @@ def rows(sources):
         ("zlib", 9, log, "deflate -9 a change log"),
         ("zlib", 100, zlib.compress(gpl, 9), "inflate GPL-3"),
         ("zlib", 100, gzip.compress(log, 9, mtime=0), "gunzip a change log"),
-        ("zlib", 100, b"\x78\x9c" + bytes(range(200)), "inflate what is no deflate"),
+        ("zlib", 100, b"\x78\x9c" + bytes(range(200)), "inflate invalid data"),
         ("lz4", 0, gpl, "compress GPL-3"),
         ("bzip2", 1, gpl, "compress -1 GPL-3"),
         ("bzip2", 100, bz2.compress(gpl, 1), "decompress -1 GPL-3"),
@@ -204,21 +237,21 @@ def rows(sources):
         ("lua", 0, LUA_PROGRAM, "sieve, sums, sort, pcall"),
         ("mujs", 0, JAVASCRIPT, "sieve, sums, JSON, throw"),
         ("duktape", 0, JAVASCRIPT, "sieve, sums, JSON, throw"),
-        ("b64", 0, gpl[:20000], "base 64, there and back"),
+        ("b64", 0, gpl[:20000], "base64, both ways"),
         ("brotli", 5, gpl, "compress at quality 5 GPL-3"),
         ("brotli", 9, gpl[:20000], "compress at quality 9"),
         ("csv", 0, CSV, "rows of CSV"),
         ("gif", 1, gpl[:30000], "a GIF of 200 times 150"),
         ("http", 0, HTTP, "40 requests of HTTP"),
-        ("http", 0, b"GET / HTTP/9.x\r\n", "what is no HTTP"),
+        ("http", 0, b"GET / HTTP/9.x\r\n", "invalid HTTP"),
         ("jansson", 1, OBJECT, "a JSON text"),
-        ("jansson", 0, b'{"a":', "what is no JSON"),
+        ("jansson", 0, b'{"a":', "invalid JSON"),
         ("msgpack", 0, PACKED * 50, "350 objects"),
         ("png", 0, png(), "a PNG of 100 times 60"),
-        ("png", 0, b"\x89PNG\r\n\x1a\nxx", "what is no PNG"),
+        ("png", 0, b"\x89PNG\r\n\x1a\nxx", "invalid PNG"),
         ("qrencode", 3, gpl[:800], "a QR code of 800 bytes"),
         ("snappy", 0, gpl, "compress GPL-3"),
-        ("snappy", 1, b"junk", "what is not compressed"),
+        ("snappy", 1, b"junk", "uncompressed data"),
         ("sodium", 0, gpl, "BLAKE2b GPL-3"),
         ("sodium", 1, NOISE[:1000], "Ed25519 sign and verify"),
         ("sodium", 2, NOISE, "XChaCha20-Poly1305"),
@@ -226,8 +259,14 @@ def rows(sources):
         ("sodium", 4, NOISE[:20], "Argon2id, 64 KiB"),
         ("speex", 5, SPEECH, "5 frames of speech"),
         ("tinyxml2", 0, XML, "a text in XML"),
-        ("tinyxml2", 1, b"<a><b></a>", "what is no XML"),
+        ("tinyxml2", 1, b"<a><b></a>", "invalid XML"),
         ("tommath", 0, b"", "the factorial of 500"),
         ("tommath", 1, NOISE[:65], "x^65537 mod 2^521 - 1"),
         ("xxhash", 1, gpl, "XXH3, XXH64, XXH32 GPL-3"),
+        ("jim", 0, TCL, "sieve, sums, regexp, catch"),
+        ("tomcrypt", 0, gpl, "AES-128-GCM GPL-3"),
+        ("tomcrypt", 1, gpl, "ChaCha20-Poly1305 GPL-3"),
+        ("tomcrypt", 2, gpl, "SHA3-256 GPL-3"),
+        ("tomcrypt", 3, gpl, "HMAC-SHA-256 GPL-3"),
+        ("tre", 1, b"lic(en[cs]e)s?|(copy)right\n" + gpl[:8000], "8,000 bytes, with an error"),
     ]

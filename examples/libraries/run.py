@@ -224,7 +224,7 @@ def row(name, wasm, native, operation, request, what):
     return "| " + " | ".join(cells) + " |", same
 
 
-HEAD = """| Library | Module | What | As native | Fuel | Units a byte in | Depth | ms | Over native | Over V8 |
+HEAD = """| Library | Module | What | As native | Fuel | Units per input byte | Depth | ms | Over native | Over V8 |
 |---|---|---|---|---|---|---|---|---|---|"""
 
 

@@ -1,6 +1,6 @@
 #!/bin/sh
 # Follows docs/PLUGINS.md: builds the three plug-ins and the host, and compares what the host prints with plugins.log.
-# It wants clang and wasm-ld, and the library for C as its argument.
+# It needs clang and wasm-ld. LIBRARY is libwasmloop.a, or the folder that has it.
 #
 # usage: examples/plugins/run.sh LIBRARY [FOLDER]
 set -eu
@@ -9,6 +9,7 @@ for tool in clang wasm-ld "${HOSTCC:-cc}"; do
     command -v "$tool" >/dev/null || { echo "plugins: left out, there is no $tool" && exit; }
 done
 library=$(readlink -f "$1")
+[ ! -d "$library" ] || library=$library/libwasmloop.a
 work=${2:-$(mktemp -d)}
 [ $# -gt 1 ] || trap 'rm -r "$work"' EXIT
 mkdir -p "$work" && cd "$work"

@@ -19,7 +19,7 @@ import tempfile
 HERE = pathlib.Path(__file__).resolve().parent
 sys.path.insert(0, str(HERE.parent))
 import lower  # noqa: E402
-from lowering.binary import F32, F64, FUNCTIONS, I32, I64, Refused, constant, sized, u, vec  # noqa: E402
+from wasmloop.lowering.binary import F32, F64, FUNCTIONS, I32, I64, Refused, constant, sized, u, vec  # noqa: E402
 
 PAGE, CALLS, ROUND = 65536, 4, 250
 TRAPS = {"1": "unreachable", "4": "memory access out of bounds", "5": "table index is out of bounds",

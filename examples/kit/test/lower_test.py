@@ -8,10 +8,10 @@ import tempfile
 
 sys.path.insert(0, str(pathlib.Path(__file__).resolve().parent.parent))
 import lower  # noqa: E402
-from lowering.binary import Refused, operations  # noqa: E402
-from lowering.floats import SIGNS, SOFT  # noqa: E402
-from lowering.module import Module  # noqa: E402
-from lowering.rewriting import FLOATS  # noqa: E402
+from wasmloop.lowering.binary import Refused, operations  # noqa: E402
+from wasmloop.lowering.floats import SIGNS, SOFT  # noqa: E402
+from wasmloop.lowering.module import Module  # noqa: E402
+from wasmloop.lowering.rewriting import FLOATS  # noqa: E402
 
 REFUSED = [
     ("(func (drop (ref.null func)))", "references (compile with -mno-reference-types), in function 0"),
@@ -38,34 +38,34 @@ REFUSED = [
 ]
 # Bodies that mix up floats and integers, or are wrong in another way, in a module with the rest below; and what is said.
 MIXED = [
-    ("(drop (i32.add (i32.const 1) (f32.const 1)))", "i32 is wanted, and f32 is there"),
-    ("(drop (i64.add (i64.const 1) (f64.const 1)))", "i64 is wanted, and f64 is there"),
-    ("(drop (f64.add (f64.const 1) (f32.const 1)))", "f64 is wanted, and f32 is there"),
-    ("(drop (select (i32.const 1) (f32.const 1) (i32.const 0)))", "f32 is wanted, and i32 is there"),
-    ("(drop (select (result f32) (i32.const 1) (f32.const 1) (i32.const 0)))", "f32 is wanted, and i32 is there"),
-    ("(local.set 0 (f32.const 1))", "i32 is wanted, and f32 is there"),
-    ("(global.set 0 (i64.const 1))", "f64 is wanted, and i64 is there"),
-    ("(drop (block (result f32) (i32.const 1)))", "f32 is wanted, and i32 is there"),
-    ("(drop (block (result i32) (br 0 (f32.const 1))))", "i32 is wanted, and f32 is there"),
-    ("(drop (loop (result i64) (f64.const 1)))", "i64 is wanted, and f64 is there"),
-    ("(drop (if (result f32) (i32.const 1) (then (f32.const 1)) (else (i32.const 1))))", "f32 is wanted, and i32 is there"),
-    ("(drop (call 0 (f32.const 1)))", "i32 is wanted, and f32 is there"),
-    ("(drop (call_indirect (param f32) (result i32) (i32.const 1) (i32.const 0)))", "f32 is wanted, and i32 is there"),
-    ("(f32.store (i32.const 0) (i32.const 0))", "f32 is wanted, and i32 is there"),
-    ("(drop (i32.load (f32.const 0)))", "i32 is wanted, and f32 is there"),
-    ("(return (f32.const 1))", "i32 is wanted, and f32 is there"),
-    ("(drop (i32.reinterpret_f32 (i32.const 1)))", "f32 is wanted, and i32 is there"),
-    ("(drop (f32.neg (i32.const 1)))", "f32 is wanted, and i32 is there"),
-    ("(block (result f32) (i32.const 1) (br_table 0 0 (i32.const 0))) drop", "f32 is wanted, and i32 is there"),
-    ("(unreachable) (drop (i32.add (f32.const 1)))", "i32 is wanted, and f32 is there"),
-    ("(drop (f32.add (f32.const 1)))", "f32 is wanted, and there is no operand"),
+    ("(drop (i32.add (i32.const 1) (f32.const 1)))", "expected i32, found f32"),
+    ("(drop (i64.add (i64.const 1) (f64.const 1)))", "expected i64, found f64"),
+    ("(drop (f64.add (f64.const 1) (f32.const 1)))", "expected f64, found f32"),
+    ("(drop (select (i32.const 1) (f32.const 1) (i32.const 0)))", "expected f32, found i32"),
+    ("(drop (select (result f32) (i32.const 1) (f32.const 1) (i32.const 0)))", "expected f32, found i32"),
+    ("(local.set 0 (f32.const 1))", "expected i32, found f32"),
+    ("(global.set 0 (i64.const 1))", "expected f64, found i64"),
+    ("(drop (block (result f32) (i32.const 1)))", "expected f32, found i32"),
+    ("(drop (block (result i32) (br 0 (f32.const 1))))", "expected i32, found f32"),
+    ("(drop (loop (result i64) (f64.const 1)))", "expected i64, found f64"),
+    ("(drop (if (result f32) (i32.const 1) (then (f32.const 1)) (else (i32.const 1))))", "expected f32, found i32"),
+    ("(drop (call 0 (f32.const 1)))", "expected i32, found f32"),
+    ("(drop (call_indirect (param f32) (result i32) (i32.const 1) (i32.const 0)))", "expected f32, found i32"),
+    ("(f32.store (i32.const 0) (i32.const 0))", "expected f32, found i32"),
+    ("(drop (i32.load (f32.const 0)))", "expected i32, found f32"),
+    ("(return (f32.const 1))", "expected i32, found f32"),
+    ("(drop (i32.reinterpret_f32 (i32.const 1)))", "expected f32, found i32"),
+    ("(drop (f32.neg (i32.const 1)))", "expected f32, found i32"),
+    ("(block (result f32) (i32.const 1) (br_table 0 0 (i32.const 0))) drop", "expected f32, found i32"),
+    ("(unreachable) (drop (i32.add (f32.const 1)))", "expected i32, found f32"),
+    ("(drop (f32.add (f32.const 1)))", "expected f32, found no operand"),
     ("(f32.const 1)", "a block leaves more operands"),
     ("(drop (if (result f32) (i32.const 1) (then (f32.const 1))))", "an if without an else"),
     ("(unreachable) (f32.add) (drop) (br_table 0 0) (i64.add) (drop)", ""),
     ("(block (result f32) (unreachable) (select) (br_table 0 0)) drop", ""),
     ("(drop (block (result f64) (br_if 0 (f64.const 1) (i32.const 1)) (br 0) (drop)))", ""),
     ("(drop (f64.promote_f32 (f32.load (i32.const 0)))) (return (i32.const 0)) (f64.add) (drop)", ""),
-    ("(block (param f32) (result f64) (f64.promote_f32))", "f32 is wanted, and there is no operand"),
+    ("(block (param f32) (result f64) (f64.promote_f32))", "expected f32, found no operand"),
     ("(f32.const 1) (block (param f32) (result f64) (f64.promote_f32)) (drop)", ""),
 ]
 REST = '(memory 1) (table 1 funcref) (global (mut f64) (f64.const 0)) (func (param i32) (result i32) (local i64) %s (i32.const 0))'

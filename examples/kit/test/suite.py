@@ -19,9 +19,9 @@ import tempfile
 
 sys.path.insert(0, str(pathlib.Path(__file__).resolve().parent.parent))
 import lower  # noqa: E402
-from lowering.binary import COPY, DROP, FILL, GLOBAL_SET, I32, I64, INIT, PREFIX, Refused, constant, operations, u  # noqa: E402
-from lowering.module import Module  # noqa: E402
-from lowering.rewriting import Lowering  # noqa: E402
+from wasmloop.lowering.binary import COPY, DROP, FILL, GLOBAL_SET, I32, I64, INIT, PREFIX, Refused, constant, operations, u  # noqa: E402
+from wasmloop.lowering.module import Module  # noqa: E402
+from wasmloop.lowering.rewriting import Lowering  # noqa: E402
 
 BITS = {"i32": 32, "f32": 32, "i64": 64, "f64": 64}
 QUIET = {"f32": 0x7FC00000, "f64": 0x7FF8000000000000}

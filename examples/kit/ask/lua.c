@@ -1,0 +1,63 @@
+/* Lua as a plug-in: a program runs in an instance, and its function `ask` asks the host. The answer is a string, or nil. */
+#include "ask.h"
+#include <lauxlib.h>
+#include <lua.h>
+#include <lualib.h>
+#include <string.h>
+
+#define EXPORT(name) __attribute__((export_name(#name)))
+
+enum { PROGRAM = 65536, ANSWER = 65536 };
+
+static char program[PROGRAM], reply[ANSWER];
+static uint32_t reply_length;
+
+static int lua_ask(lua_State *L)
+{
+    static char answer[ANSWER];
+    size_t length;
+    const char *question = luaL_checklstring(L, 1, &length);
+    int32_t told = ask(question, (uint32_t)length, answer, sizeof answer);
+    if (told > (int32_t)sizeof answer)
+        return luaL_error(L, "an answer of %d bytes", told);
+    if (told < 0)
+        lua_pushnil(L);
+    else
+        lua_pushlstring(L, answer, (size_t)told);
+    return 1;
+}
+
+static lua_State *opened(void)
+{
+    static const luaL_Reg libraries[] = { { "_G", luaopen_base }, { "string", luaopen_string }, { "table", luaopen_table },
+        { "math", luaopen_math }, { "utf8", luaopen_utf8 }, { "coroutine", luaopen_coroutine } };
+    lua_State *L = luaL_newstate();
+    for (size_t i = 0; i < sizeof libraries / sizeof *libraries; i++)
+        luaL_requiref(L, libraries[i].name, libraries[i].func, 1);
+    lua_register(L, "ask", lua_ask);
+    lua_settop(L, 0);
+    return L;
+}
+
+/* Named here, it is no longer called before each export and its counterpart behind it, as wasm-ld arranges for a command. */
+extern void __wasm_call_ctors(void);
+
+EXPORT(_initialize) void _initialize(void) { __wasm_call_ctors(); }
+EXPORT(program_at) char *program_at(void) { return program; }
+EXPORT(reply_at) char *reply_at(void) { return reply; }
+EXPORT(reply_size) uint32_t reply_size(void) { return reply_length; }
+
+/* Runs the program; the reply is what it returns, or the message of its error. Returns Lua's status, 0 if there was no error. */
+EXPORT(run) int32_t run(uint32_t length)
+{
+    lua_State *L = opened();
+    int status = luaL_loadbuffer(L, program, length, "=program");
+    if (status == LUA_OK)
+        status = lua_pcall(L, 0, 1, 0);
+    size_t size;
+    const char *text = luaL_tolstring(L, -1, &size);
+    reply_length = (uint32_t)(size < sizeof reply ? size : sizeof reply);
+    memcpy(reply, text, reply_length);
+    lua_close(L);
+    return status;
+}

@@ -1,1 +1,0 @@
-"""How lower.py makes a module of today's compilers one that the host takes: see there."""

@@ -1,8 +1,8 @@
 #!/bin/sh
-# Installs the shipped program, the library for C with its header, what pkg-config and CMake read, the guests' headers, manual pages and
-# completions; or removes them. It needs no kit, no Python and no compiler.
+# Installs the shipped program, the library for C with its header, what pkg-config and CMake read, the guests' headers, the package for
+# Python, which PYTHONPATH may name, manual pages and completions; or removes them. It needs no kit, no Python and no compiler.
 #
-# usage: [PREFIX=/usr/local] [LIBDIR=PREFIX/lib] [DESTDIR=] ./install.sh [--uninstall]
+# usage: [PREFIX=/usr/local] [LIBDIR=PREFIX/lib] [PYTHONDIR=PREFIX/share/wasmloop/python] [DESTDIR=] ./install.sh [--uninstall]
 set -eu
 top=$(cd "$(dirname "$0")" && pwd)
 prefix=${PREFIX:-/usr/local}
@@ -10,6 +10,7 @@ case $prefix in /*) ;; *) prefix=$PWD/$prefix ;; esac
 libdir=${LIBDIR:-$prefix/lib}
 root=${DESTDIR:-}
 share=$prefix/share
+pythondir=${PYTHONDIR:-$share/wasmloop/python}
 version=$(sed -n 's/^#define WASMLOOP_VERSION "\(.*\)"$/\1/p' "$top/capi/include/wasmloop.h")
 room=$(mktemp -d)
 trap 'rm -rf "$room"' EXIT
@@ -27,17 +28,34 @@ files() {
 644 examples/uv.h $share/wasmloop/guest/uv.h
 644 examples/uv.rs $share/wasmloop/guest/uv.rs
 644 examples/mem.c $share/wasmloop/guest/mem.c
+644 examples/kit/ask/ask.h $share/wasmloop/guest/ask.h
+644 examples/kit/ask/ask.c $share/wasmloop/guest/ask.c
+644 examples/kit/ask/ask.rs $share/wasmloop/guest/ask.rs
+644 examples/kit/ask/ask_host.h $share/wasmloop/ask_host.h
+644 capi/record_wrap.c $share/wasmloop/record_wrap.c
+644 capi/record_file.h $share/wasmloop/record_file.h
+644 capi/record_name.h $share/wasmloop/record_name.h
 644 dist/PROOF.json $share/wasmloop/PROOF.json
 644 dist/wasmloop.1 $share/man/man1/wasmloop.1
+644 dist/wasmloop-tools.1 $share/man/man1/wasmloop-tools.1
 644 dist/wasmloop.h.3 $share/man/man3/wasmloop.h.3
 644 dist/wasmloop.bash $share/bash-completion/completions/wasmloop
 644 dist/_wasmloop $share/zsh/site-functions/_wasmloop
 LIST
+    for file in "$top"/capi/python/wasmloop/*.py "$top"/capi/python/wasmloop/soft.wasm "$top"/capi/python/wasmloop/lowering/*.py; do
+        echo "644 ${file#"$top"/} $pythondir/${file#"$top"/capi/python/}"
+    done
+    for file in examples/uv.h examples/uv.rs examples/mem.c examples/kit/guest.h examples/kit/guest.c examples/kit/wasi.c \
+        examples/kit/nofiles.c examples/kit/setjmp.h examples/kit/setjmp.c examples/kit/soft.c capi/fuzz_guest.c capi/include/wasmloop.h; do
+        echo "644 $file $pythondir/wasmloop/guest/${file##*/}"
+    done
 }
 
 if [ "${1:-}" = --uninstall ]; then
     { files | cut -d ' ' -f 3-; echo "$libdir/libwasmloop.so"; } | while read -r to; do rm -f "$root$to"; done
-    for folder in "$libdir/cmake/wasmloop" "$share/wasmloop/guest" "$share/wasmloop"; do
+    rm -rf "$root$pythondir/wasmloop/__pycache__" "$root$pythondir/wasmloop/lowering/__pycache__"
+    for folder in "$libdir/cmake/wasmloop" "$share/wasmloop/guest" "$pythondir/wasmloop/lowering" "$pythondir/wasmloop/guest" \
+        "$pythondir/wasmloop" "$pythondir" "$share/wasmloop"; do
         rmdir "$root$folder" 2>/dev/null || true
     done
     exit

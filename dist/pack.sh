@@ -1,5 +1,5 @@
 #!/bin/sh
-# Makes of what is shipped what others install: an archive of files for a prefix, three packages for Debian, a wheel for Python, a crate for
+# Makes of what is shipped what others install: an archive of files for a prefix, four packages for Debian, a wheel for Python, a crate for
 # Rust. Their bytes depend on the sources and the tools alone. What needs a program that isn't there is left out, and said.
 #
 # usage: dist/pack.sh OUT
@@ -50,9 +50,9 @@ Architecture: amd64
 Maintainer: wasmloop <wasmloop@localhost>
 Installed-Size: $(du -k --apparent-size -s "$package/usr" | cut -f 1)
 Depends: $depends
-Section: $([ "$package" = libwasmloop-dev ] && echo libdevel || { [ "$package" = wasmloop ] && echo interpreters || echo libs; })
+Section: $(case $package in *-dev) echo libdevel ;; wasmloop) echo interpreters ;; python3-*) echo python ;; *) echo libs ;; esac)
 Priority: optional
-Multi-Arch: $([ "$package" = wasmloop ] && echo foreign || echo same)
+Multi-Arch: $(case $package in lib*) echo same ;; *) echo foreign ;; esac)
 Description: host for WebAssembly modules on event loops, $about
  Untrusted modules run on libuv-style event loops, each run bounded in
  fuel, call depth and memory. The code is proved to keep its promises.
@@ -61,7 +61,7 @@ CONTROL
 }
 
 if command -v dpkg-deb > /dev/null; then
-    PREFIX=/usr LIBDIR="/$multiarch" DESTDIR="$room/deb" "$top/install.sh" > /dev/null
+    PREFIX=/usr LIBDIR="/$multiarch" PYTHONDIR=/usr/lib/python3/dist-packages DESTDIR="$room/deb" "$top/install.sh" > /dev/null
     mkdir -p deb/usr/share/zsh && mv deb/usr/share/zsh/site-functions deb/usr/share/zsh/vendor-completions
     gzip -9n deb/usr/share/man/man*/*
     part libwasmloop0 'libc6 (>= 2.14)' 'library' "$multiarch/libwasmloop.so.0"
@@ -69,6 +69,7 @@ if command -v dpkg-deb > /dev/null; then
     printf 'activate-noawait ldconfig\n' > libwasmloop0/DEBIAN/triggers
     dpkg-deb --root-owner-group -Zxz --build libwasmloop0 "$out/libwasmloop0_${version}_amd64.deb" > /dev/null
     part libwasmloop-dev "libwasmloop0 (= $version)" 'development files' usr/include "$multiarch" usr/share/man/man3
+    part python3-wasmloop "python3 (>= 3.8), libwasmloop0 (>= $version)" 'Python and tools' usr/lib/python3 usr/share/man/man1/wasmloop-tools.1.gz
     part wasmloop 'libc6 (>= 2.34)' 'program' usr/bin usr/share
 else echo "left out: the packages for Debian: there is no dpkg-deb"; fi
 

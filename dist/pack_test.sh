@@ -26,10 +26,23 @@ is() {
 }
 builds() { tried=$((tried + 1)) && "$@" > problem 2>&1 || { echo "FAILED: $*" && cat problem && failed=1; }; }
 
+# tools WHERE FOLDER: the tools of the package for Python in that folder, with the library that it finds
+tools() {
+    printf abc > request
+    is "the profile of $1" 'crc32.wasm: uv_work(0) on 3 bytes: done, 321 units' env -u WASMLOOP_LIBRARY PYTHONDONTWRITEBYTECODE=1 PYTHONPATH="$2" sh -c \
+        "python3 -m wasmloop.profile '$guest' 0 --in request | head -n 1"
+    if has clang "a guest by $1" && has wasm-ld "a guest by $1"; then
+        printf '#include "uv.h"\nUV_WORK(op) { return (int32_t)(op * 0.5); }\n' > half.c
+        is "a guest by $1" 3 env -u WASMLOOP_LIBRARY PYTHONDONTWRITEBYTECODE=1 PYTHONPATH="$2" sh -c \
+            'python3 -m wasmloop.cc half.c > problem && python3 -c "import wasmloop; print(wasmloop.work(open(\"half.wasm\", \"rb\").read(), 7).value)"'
+    fi
+}
+
 archive() {
     tar xf "$packs/wasmloop-$version-x86_64-linux.tar.gz"
     mv "wasmloop-$version-x86_64-linux" moved
     is 'the archive' "wasmloop $version" moved/bin/wasmloop --version
+    if has python3 'Python by the archive'; then tools 'the archive' "$room/moved/share/wasmloop/python"; fi
     has cc 'a host by the archive' || return
     # (the .pc file tells where it lies itself)
     flags=$(PKG_CONFIG_PATH=moved/lib/pkgconfig pkg-config --cflags --libs wasmloop) || flags='-Imoved/include -Lmoved/lib -lwasmloop'
@@ -44,7 +57,7 @@ debian() {
     # (in an empty root, which has no libc6)
     builds dpkg --root="$room/root" --force-depends --force-not-root --log=/dev/null -i "$packs"/*.deb
     is 'the program of the package' "wasmloop $version" root/usr/bin/wasmloop --version
-    is 'what is installed' 'libwasmloop-dev libwasmloop0 wasmloop ' sh -c "dpkg-query --admindir=root/var/lib/dpkg -W -f '\${Package} '"
+    is 'what is installed' 'libwasmloop-dev libwasmloop0 python3-wasmloop wasmloop ' sh -c "dpkg-query --admindir=root/var/lib/dpkg -W -f '\${Package} '"
     if has cc 'a host by the packages'; then
         lib=root/usr/lib/x86_64-linux-gnu
         builds cc -o by_debian first.c -Iroot/usr/include -L$lib -lwasmloop "-Wl,-rpath,$room/$lib"
@@ -52,7 +65,10 @@ debian() {
         is 'a host by the packages' $wanted ./by_debian "$guest"
         is 'a host by the static library of the packages' $wanted ./by_debian_static "$guest"
     fi
-    builds dpkg --root="$room/root" --force-depends --force-not-root --log=/dev/null --purge wasmloop libwasmloop-dev libwasmloop0
+    if has python3 'Python by the packages'; then
+        LD_LIBRARY_PATH=$room/root/usr/lib/x86_64-linux-gnu tools 'the packages' "$room/root/usr/lib/python3/dist-packages"
+    fi
+    builds dpkg --root="$room/root" --force-depends --force-not-root --log=/dev/null --purge wasmloop python3-wasmloop libwasmloop-dev libwasmloop0
     is 'what is left of the packages' '' find root/usr -type f
 }
 
@@ -60,6 +76,7 @@ wheel() {
     builds python3 -m pip install --quiet --no-index --no-cache-dir --root-user-action=ignore --target site "$packs"/*.whl
     is 'the wheel' $wanted env -u WASMLOOP_LIBRARY PYTHONPATH=site python3 -c \
         'import sys, wasmloop; print(wasmloop.Module(open(sys.argv[1], "rb").read()).work(0, b"abc").value)' "$guest"
+    tools 'the wheel' "$room/site"
 }
 
 crate() {

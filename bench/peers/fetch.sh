@@ -8,7 +8,7 @@ here=$(cd "$(dirname "$0")" && pwd)
 root=$1
 [ -d "$root/usr" ] || debootstrap --variant=minbase sid "$root" http://deb.debian.org/debian
 mkdir -p "$root/peers/src"
-cp "$here/wasmi.rs" "$here/Cargo.toml" "$here/wasmedge.c" "$root/peers/src"
+cp "$here/wasmi.rs" "$here/Cargo.toml" "$here/wasmedge.c" "$here/peer.h" "$root/peers/src"
 chroot "$root" sh -eu -c '
     export DEBIAN_FRONTEND=noninteractive
     apt-get -q update

@@ -6,24 +6,11 @@
 
    It prints what it computed and the nanoseconds of the fastest call; `load` prints the resident bytes that a kept module takes. */
 #define _POSIX_C_SOURCE 200809L
-#include <inttypes.h>
-#include <stdio.h>
-#include <stdlib.h>
-#include <string.h>
-#include <time.h>
-#include <unistd.h>
+#include "peer.h"
 #include "wasmloop.h"
 
 #define AMPLE (UINT64_C(1) << 50)
 #define DEPTH 128
-#define MOST (1 << 20)
-
-static uint64_t now(void)
-{
-    struct timespec time;
-    clock_gettime(CLOCK_MONOTONIC, &time);
-    return (uint64_t)time.tv_sec * 1000000000 + (uint64_t)time.tv_nsec;
-}
 
 static void must(int status, const char *call)
 {
@@ -31,25 +18,6 @@ static void must(int status, const char *call)
         fprintf(stderr, "%s: %s\n", call, wasmloop_status_name(status));
         exit(1);
     }
-}
-
-static size_t read_file(const char *name, uint8_t *bytes)
-{
-    FILE *file = fopen(name, "rb");
-    if (!file) {
-        perror(name);
-        exit(2);
-    }
-    size_t length = fread(bytes, 1, MOST, file);
-    fclose(file);
-    return length;
-}
-
-static void least(uint64_t *fastest, uint64_t began)
-{
-    uint64_t took = now() - began;
-    if (took < *fastest)
-        *fastest = took;
 }
 
 static void call(wasmloop_handle *module, int calls)
@@ -66,14 +34,6 @@ static void call(wasmloop_handle *module, int calls)
     }
     printf("%" PRIu32 " %" PRIu64 "\n", (uint32_t)ended.result[0], fastest);
     wasmloop_drop(&instance);
-}
-
-static uint64_t sum(const uint8_t *bytes, uint64_t length)
-{
-    uint64_t sum = UINT64_C(0xcbf29ce484222325);
-    for (uint64_t k = 0; k < length; k++)
-        sum = (sum ^ bytes[k]) * UINT64_C(0x100000001b3);
-    return sum;
 }
 
 static void work(wasmloop_handle *module, uint32_t op, const char *name, int calls)
@@ -95,16 +55,6 @@ static void work(wasmloop_handle *module, uint32_t op, const char *name, int cal
     if (about.outcome != WASMLOOP_WORK_DONE)
         exit(4);
     printf("%" PRId32 " %" PRIu64 ":%016" PRIx64 " %" PRIu64 "\n", (int32_t)about.value, count, sum(reply, count), fastest);
-}
-
-static long resident(void)
-{
-    long all, pages = 0;
-    FILE *file = fopen("/proc/self/statm", "r");
-    if (!file || fscanf(file, "%ld %ld", &all, &pages) != 2)
-        exit(2);
-    fclose(file);
-    return pages * 4096;
 }
 
 static void load(const uint8_t *bytes, size_t length, int calls)

@@ -1,14 +1,8 @@
 /* WasmEdge's interpreter, as run.py of ../libraries runs it; the usage is that of ours.c. */
 #define _POSIX_C_SOURCE 200809L
-#include <inttypes.h>
-#include <stdbool.h>
-#include <stdio.h>
-#include <stdlib.h>
-#include <string.h>
-#include <time.h>
 #include <wasmedge/wasmedge.h>
+#include "peer.h"
 
-#define MOST (1 << 20)
 #define IMPORTS 64
 
 typedef const WasmEdge_CallingFrameContext frame;
@@ -20,31 +14,12 @@ static WasmEdge_StoreContext *store;
 static uint8_t input[MOST], reply[65536];
 static size_t input_length, reply_length;
 
-static uint64_t now(void)
-{
-    struct timespec time;
-    clock_gettime(CLOCK_MONOTONIC, &time);
-    return (uint64_t)time.tv_sec * 1000000000 + (uint64_t)time.tv_nsec;
-}
-
 static void must(WasmEdge_Result result, const char *call)
 {
     if (!WasmEdge_ResultOK(result)) {
         fprintf(stderr, "%s: %s\n", call, WasmEdge_ResultGetMessage(result));
         exit(1);
     }
-}
-
-static size_t read_file(const char *name, uint8_t *bytes)
-{
-    FILE *file = fopen(name, "rb");
-    if (!file) {
-        perror(name);
-        exit(2);
-    }
-    size_t length = fread(bytes, 1, MOST, file);
-    fclose(file);
-    return length;
 }
 
 static WasmEdge_Result answer(WasmEdge_Value *results, int32_t number)
@@ -142,13 +117,6 @@ static int32_t invoke(const WasmEdge_ModuleInstanceContext *instance, const char
     return WasmEdge_ValueGetI32(result);
 }
 
-static void least(uint64_t *fastest, uint64_t began)
-{
-    uint64_t took = now() - began;
-    if (took < *fastest)
-        *fastest = took;
-}
-
 static void call(const WasmEdge_ASTModuleContext *module, int calls)
 {
     WasmEdge_ModuleInstanceContext *instance = instance_of(module);
@@ -166,7 +134,7 @@ static void call(const WasmEdge_ASTModuleContext *module, int calls)
 static void work(const WasmEdge_ASTModuleContext *module, uint32_t op, const char *name, int calls)
 {
     input_length = read_file(name, input);
-    uint64_t fastest = UINT64_MAX, sum = UINT64_C(0xcbf29ce484222325);
+    uint64_t fastest = UINT64_MAX;
     int32_t result = 0;
     for (int k = 0; k < calls; k++) {
         uint64_t began = now();
@@ -177,19 +145,7 @@ static void work(const WasmEdge_ASTModuleContext *module, uint32_t op, const cha
         WasmEdge_ModuleInstanceDelete(instance);
         least(&fastest, began);
     }
-    for (size_t k = 0; k < reply_length; k++)
-        sum = (sum ^ reply[k]) * UINT64_C(0x100000001b3);
-    printf("%" PRId32 " %zu:%016" PRIx64 " %" PRIu64 "\n", result, reply_length, sum, fastest);
-}
-
-static long resident(void)
-{
-    long all, pages = 0;
-    FILE *file = fopen("/proc/self/statm", "r");
-    if (!file || fscanf(file, "%ld %ld", &all, &pages) != 2)
-        exit(2);
-    fclose(file);
-    return pages * 4096;
+    printf("%" PRId32 " %zu:%016" PRIx64 " %" PRIu64 "\n", result, reply_length, sum(reply, reply_length), fastest);
 }
 
 static void load(const uint8_t *bytes, size_t length, int calls)

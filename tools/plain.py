@@ -102,10 +102,10 @@ def main():
     found = list(faults(listed, texts()))
     for name, number, words, instead in found:
         print(f"{name}:{number}: '{words}': {instead}")
-    for pattern in gone(listed):
+    lost = gone(listed)
+    for pattern in lost:
         print(f"{LIST}: {pattern} was in the list, which may only grow")
-    lost = len(gone(listed))
-    print(f"{len(listed)} phrases, {len(found) + lost} faults")
+    print(f"{len(listed)} phrases, {len(found) + len(lost)} faults")
     return 1 if found or lost else 0
 
 

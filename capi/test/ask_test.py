@@ -14,6 +14,8 @@ import subprocess
 import sys
 from pathlib import Path
 
+import expecting
+from expecting import run, same
 from wasmloop import Error, Module, Stopped, _header, ask, bind, explain, freeze, wasm
 
 OUT, SEED = Path(sys.argv[1]), int(sys.argv[2]) if sys.argv[2:] else 1
@@ -24,22 +26,6 @@ PROGRAMS, WAITING = 1500, 40
 AMPLE = 1 << 40
 RUST = ["--edition", "2021", "--target", "wasm32-unknown-unknown", "--crate-type", "cdylib", "-O", "-C", "target-cpu=mvp", "-C", "linker=wasm-ld",
         "-C", "panic=abort", "-C", "strip=debuginfo", "-C", "link-args=--demangle --stack-first -zstack-size=16384"]
-wrong = 0
-
-
-def same(what, got, expected):
-    global wrong
-    if got != expected:
-        wrong += 1
-        if wrong < 10:
-            print(f"WRONG: {what}: expected {expected!r}, found {got!r}")
-
-
-def run(*words):
-    done = subprocess.run([str(it) for it in words], capture_output=True, check=False)
-    if done.returncode:
-        sys.exit(f"{' '.join(map(str, words))}\n{done.stderr.decode()}")
-    return done.stdout.decode()
 
 
 def linked(*sources):
@@ -296,7 +282,7 @@ def main():
             return 0
     for part in (fuzz, examples, never, typed, faults):
         part()
-    return wrong != 0
+    return expecting.wrong != 0
 
 
 if __name__ == "__main__":

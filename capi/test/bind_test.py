@@ -9,33 +9,18 @@ import importlib.util
 import json
 import random
 import shutil
-import subprocess
 import sys
 import zlib
 from pathlib import Path
 
+import expecting
+from expecting import run, same
 from wasmloop import Error, Module, OutOfRange, _bind_c, _bind_rust, _header, _tool, bind
 
 OUT, SEED = Path(sys.argv[1]), int(sys.argv[2]) if sys.argv[2:] else 1
 HERE = Path(__file__).resolve().parent
 TOP = HERE.parent.parent
 ROUNDS, ORDERS = 300, 500
-wrong = 0
-
-
-def same(what, got, expected):
-    global wrong
-    if got != expected:
-        wrong += 1
-        if wrong < 10:
-            print(f"WRONG: {what}: expected {expected!r}, found {got!r}")
-
-
-def run(*words):
-    done = subprocess.run([str(it) for it in words], capture_output=True, check=False)
-    if done.returncode:
-        sys.exit(f"{' '.join(map(str, words))}\n{done.stderr.decode()}")
-    return done.stdout.decode()
 
 
 def built(name, source, *flags):
@@ -272,7 +257,7 @@ def main():
             return 0
     for part in (kinds, headers, hosts, orders):
         part()
-    return wrong != 0
+    return expecting.wrong != 0
 
 
 if __name__ == "__main__":

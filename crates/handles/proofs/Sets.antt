@@ -1,5 +1,5 @@
 -- The lists of all kinds, and the parts of a room that they are made of.
-use Rattle.std.proofs.Common.{◌≡◌, ◌≢◌, ℕ, ◌+◌, ◌≤◌, List, Option, Some, None, refl, sym, cond, true, false, subst, arith}
+use Rattle.std.proofs.Common.{◌≡◌, ◌≢◌, ℕ, ◌+◌, ◌≤◌, List, Option, Some, None, refl, cond, true, false, arith}
 use Rattle.std.specs.FinMap as set
 use Rattle.std.specs.FinMap.{len}
 use Rattle.handles.specs.declared.handle.Kind.{Kind}
@@ -13,10 +13,8 @@ use Rattle.handles.proofs.RisingLists.{HasGap, len_of, len_with_new}
 
 -- the list of a kind is that of its part
 pub list_of_part : (kind : Kind) (p : Parts) → kind ≢ Async → list kind (lists_of p) ≡ set_of_sorted (part kind p)
-list_of_part Timer p listed = refl
-list_of_part Idle p listed = refl
-list_of_part Check p listed = refl
 list_of_part Async p listed = absurd (listed refl)
+list_of_part _ p listed = refl
 
 pub part_rises : (kind : Kind) (p : Parts) → PartsRise p → PlacesRise (part kind p)
 part_rises Timer p rise = rise.0
@@ -32,15 +30,11 @@ parts_rise Async p places rise new = rise
 
 pub lists_of-with_part : (kind : Kind) (p : Parts) (places : List ListPlace) → lists_of (with_part kind places p) ≡ with_list kind (set_of_sorted places) (lists_of p)
 lists_of-with_part Timer p places = refl
-lists_of-with_part Idle p places = refl
-lists_of-with_part Check p places = refl
-lists_of-with_part Async p places = refl
+lists_of-with_part _ p places = refl
 
 pub with_own_list : (kind : Kind) (l : ActiveLists) → with_list kind (list kind l) l ≡ l
 with_own_list Timer l = refl
-with_own_list Idle l = refl
-with_own_list Check l = refl
-with_own_list Async l = refl
+with_own_list _ l = refl
 
 -- a place that comes in is one more
 pub one_more : (kind : Kind) (p : Parts) (place : ListPlace) (at : ℕ) → kind ≢ Async → PartsRise p → HasGap place_cmp (part kind p) place at
@@ -57,4 +51,4 @@ not_fewer false n = omega arith
 -- a list with one place more is no shorter
 pub no_shorter : (o : Option ListPlace) (places : PlaceSet) → len places ≤ len (with o places)
 no_shorter None places = omega arith
-no_shorter (Some place) places = subst (λ (n : ℕ). len places ≤ n) (sym (set.len-insert places_total places place tt)) (not_fewer (set.contains_key places place) (len places))
+no_shorter (Some place) places = rw (set.len-insert places_total places place tt) (not_fewer (set.contains_key places place) (len places))

@@ -158,8 +158,7 @@ module _ (m : Contents) where
     jumped : {i : Instr} {values left : List Value} {label count : ℕ} {next : Code} {under : List Context} → Jumps i values label left
         → Reaches label contexts count next under → (l : Lies (operations f.body) from own_code) → Stands m f function (continuing (take count left) next under) (behind_instruction i values from all)
     jumped {left} {count} rule.br to' l = reached (take count left) to' (inside l n k)
-    jumped {left} {count} rule.br_if to' l = reached (take count left) to' (inside l n k)
-    jumped {left} {count} rule.br_table to' l = reached (take count left) to' (inside l n k)
+    jumped {left} {count} _ to' l = reached (take count left) to' (inside l n k)
 
     -- a block stands open
     opened : (s : Store) {code next inner rest : Code} {values left : List Value} {type : FuncType} {count : ℕ} → Opening m code values type count next inner rest left
@@ -221,7 +220,7 @@ module _ (m : Contents) where
   enters : (function : ℕ) (type : FuncType) (f : Func) (args : List Value) (below : List Context) (marks : List Mark) (defined : IsDefined m function type f)
       → Awaits m function below marks → AreStanding m (entered type f args below) (marks_entered f defined.0 marks)
   enters function type f args below marks (index, same, is, known) (awaits h caller known_so o there spelled k) =
-      begins type f args index below marks is (λ locals arity. called refl h caller known_so o there (subst (λ (n : ℕ). CallsFunction m n o) same spelled) k)
+      begins type f args index below marks is (λ locals arity. called refl h caller known_so o there (rw same at spelled) k)
 
   -- the host's answer comes
   answered : (callee : ℕ) (below : List Context) (marks : List Mark) (values : List Value) → Awaits m callee below marks → AreStanding m (receiving values below) marks

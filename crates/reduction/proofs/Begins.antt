@@ -1,5 +1,5 @@
 -- What an operation at a place tells of the contexts that stand there.
-use Rattle.reduction.proofs.Words.{◌≡◌, ℕ, List, ◌∷◌, Option, Some, None, [], subst, arith, slice_get, slice_get_past, Value, Instr, Contents, Code, Done, Plain}
+use Rattle.reduction.proofs.Words.{◌≡◌, ℕ, List, ◌∷◌, Option, Some, None, [], arith, slice_get, slice_get_past, Value, Instr, Contents, Code, Done, Plain}
 use Rattle.reduction.proofs.Words.{Block, Loop, If, Context, Label, Frame, Body, Place, IsPlaced, Token}
 use Rattle.syntax.specs.declared.instruction.Token.TheVariants as op
 use Rattle.syntax.specs.declared.types.BlockType.{BlockType}
@@ -36,7 +36,7 @@ module _ (m : Contents) (body : ℕ → Body) (place : Place) (callers : List Pl
 
   pub begins_with : {contexts : List Context} {more : ℕ} (o : Option Token) → IsPlaced m body place callers contexts more
       → slice_get (body place.function).operations place.pc ≡ o → Begins o contexts
-  begins_with {contexts} {more} o w e = subst (λ (x : Option Token). Begins x contexts) e (begins more contexts w)
+  begins_with {contexts} {more} o w e = rw e at (begins more contexts w)
 
 -- behind its last operation a call stands in its frame
 abbrev pub IsFrame : List Context → Type 0

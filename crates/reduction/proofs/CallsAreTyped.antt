@@ -1,5 +1,5 @@
 -- A call of a function of a valid module is typed.
-use Rattle.reduction.proofs.Words.{◌≡◌, ℕ, suc, ◌+◌, List, [], ◌∷◌, ◌++◌, length, length-map, map, Some, refl, sym, ap, ◌∙◌, subst, arith, slice_get}
+use Rattle.reduction.proofs.Words.{◌≡◌, ℕ, suc, ◌+◌, List, [], ◌∷◌, ◌++◌, length, length-map, map, Some, refl, sym, ap, ◌∙◌, arith, slice_get}
 use Rattle.reduction.proofs.Words.{slice_get_within, ValType, Value, Contents, FuncType, Func, Done, pushed, HasFunctionType, ValidModule, value_of}
 use Rattle.reduction.proofs.Words.{Context, entered, receiving, types_of, IsDefined, code_left, operands_of}
 use Rattle.std.proofs.lemmas.Option.{get_or_from_slice_get, slice_get-map}
@@ -28,13 +28,13 @@ module _ (m : Contents) where
       let back = map (λ (g : Func). g.type_index) m.functions in
       let n : length front ≡ length m.imports = length-map m.imports (λ (i : Import). i.type_index) in
       let here : slice_get (function_types m) function ≡ slice_get back index =
-      subst (λ (k : ℕ). slice_get (front ++ back) k ≡ slice_get back index) (ap (λ (k : ℕ). k + index) n ∙ sym e) (behind front back index) in
+      rw (ap (λ (k : ℕ). k + index) n ∙ sym e) at (behind front back index) in
       let found : slice_get back index ≡ Some f.type_index = slice_get-map (λ (g : Func). g.type_index) m.functions index ∙ ap (option_map (λ (g : Func). g.type_index)) at in
       let same : f.type_index ≡ t = let q = sym found ∙ sym here ∙ a in cc in
       let last : Some type ≡ Some other = sym known ∙ ap (λ (k : ℕ). slice_get m.types k) same ∙ b in cc
 
   pub valid_function : ValidModule m → (index : ℕ) (f : Func) → slice_get m.functions index ≡ Some f → ValidFunc m f
-  valid_function v index f at = subst (λ (g : Func). ValidFunc m g) (get_or_from_slice_get m.functions index f f at) (v.functions index f (slice_get_within m.functions index f at))
+  valid_function v index f at = rw (get_or_from_slice_get m.functions index f f at) at (v.functions index f (slice_get_within m.functions index f at))
 
   locals_of_call : (type : FuncType) (f : Func) (args : List Value) → types_of args ≡ type.params
       → types_of (args ++ map (λ t. value_of t 0) f.locals) ≡ type.params ++ f.locals
@@ -44,7 +44,7 @@ module _ (m : Contents) where
 
   pub body_typed : (type : FuncType) (f : Func) → ValidFunc m f → slice_get m.types f.type_index ≡ Some type → Typed (body_context m type f) f.body [] (pushed type.results [])
   body_typed type f v e = let h : Some v.type ≡ Some type = sym v.known ∙ e in let k : v.type ≡ type = cc in
-      subst (λ (t : FuncType). Typed (body_context m t f) f.body [] (pushed t.results [])) k v.body
+      rw k at v.body
 
   -- a call over contexts that await its results
   pub enters_call : (answers : List ValType) (function : ℕ) (type : FuncType) (f : Func) (args : List Value) (below : List Context) → ValidModule m → IsDefined m function type f
@@ -59,8 +59,7 @@ module _ (m : Contents) where
         under = in_label type.results (pushed type.results []) (length type.results) Done [] f.body refl
             (in_call type.results locals (length type.results) [] Done refl w.under t) (rw (← pushed-split type.results []) refl) refl;
         code =
-            subst (λ (ls : List ValType). Typed (inside type.results (call_typing m ls type.results)) f.body [] (pushed type.results [])) (sym el)
-            (body_typed type f (valid_function v index f at) known);
+            rw el (body_typed type f (valid_function v index f at) known);
       }
 
   -- the outermost call
@@ -75,8 +74,7 @@ module _ (m : Contents) where
         under = in_label type.results (pushed type.results []) (length type.results) Done [] f.body refl
             (outermost locals (length type.results) [] Done refl) (rw (← pushed-split type.results []) refl) refl;
         code =
-            subst (λ (ls : List ValType). Typed (inside type.results (call_typing m ls type.results)) f.body [] (pushed type.results [])) (sym el)
-            (body_typed type f (valid_function v index f at) known);
+            rw el (body_typed type f (valid_function v index f at) known);
       }
 
   -- the answer of the host

@@ -1,5 +1,5 @@
 -- A step of an instruction has a charge.
-use Rattle.reduction.proofs.Words.{zero, suc, List, ValType, Value, Contents, Code, Done, Store, Context, Move, Goes, Traps, Calls, Stuck, next}
+use Rattle.reduction.proofs.Words.{zero, suc, List, ValType, Value, Contents, Code, Done, Store, Context, Move, Goes, Stuck, next}
 use Rattle.reduction.proofs.Words.{code_left}
 use Rattle.reduction.specs.Step.{Ends}
 use Rattle.reduction.proofs.Rules.{StepRule, next_rule}
@@ -10,10 +10,8 @@ use Rattle.reduction.specs.HeightsTyped.{SoundWithin}
 abbrev pub OrStuck : Move → Type 0
 OrStuck (Goes zero s contexts) = ⊥
 OrStuck (Goes (suc n) s contexts) = Unit {0}
-OrStuck (Traps n) = Unit {0}
-OrStuck (Calls f args below) = Unit {0}
 OrStuck (Ends results) = ⊥
-OrStuck Stuck = Unit {0}
+OrStuck _ = Unit {0}
 
 -- something begins, and no sequence ends
 abbrev pub Begins : Code → Type 0
@@ -22,18 +20,10 @@ Begins _ = Unit {0}
 
 costs_by : {m : Contents} {s : Store} {contexts : List Context} {values : List Value} {code : Code} {move : Move}
     → StepRule m s contexts values code move → Begins code → OrStuck move
-costs_by (rule.leaves still h) begins = tt
-costs_by rule.passes begins = tt
-costs_by (rule.branches j at few) begins = tt
-costs_by (rule.returns at few) begins = tt
-costs_by (rule.calls c typed) begins = tt
-costs_by (rule.enters o few) begins = tt
 costs_by rule.closes begins = absurd begins
 costs_by rule.answers begins = absurd begins
 costs_by rule.ends begins = absurd begins
-costs_by (rule.fails still t) begins = tt
-costs_by (rule.no_callee trap) begins = tt
-costs_by rule.stuck begins = tt
+costs_by _ begins = tt
 
 pub costs_to_begin : (m : Contents) (s : Store) (contexts : List Context) → Begins (code_left contexts) → OrStuck (next m s contexts)
 costs_to_begin m s contexts begins = costs_by (next_rule m s contexts) begins
@@ -41,7 +31,6 @@ costs_to_begin m s contexts begins = costs_by (next_rule m s contexts) begins
 pub charged : (m : Contents) (answers : List ValType) (move : Move) → OrStuck move → SoundWithin m 128 answers move → IsCharged move
 charged m answers (Goes zero s contexts) k ok = k
 charged m answers (Goes (suc n) s contexts) k ok = tt
-charged m answers (Traps n) k ok = tt
-charged m answers (Calls f args below) k ok = tt
 charged m answers (Ends results) k ok = k
 charged m answers Stuck k ok = ok
+charged m answers _ k ok = tt

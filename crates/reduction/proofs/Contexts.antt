@@ -25,14 +25,12 @@ with_locals-base locals (Label arity next values code ∷ below) = with_locals-h
 with_locals-base locals (Frame own arity values code ∷ below) = refl
 
 pub with_locals-operands : (locals : List Value) (contexts : List Context) → operands_of (with_locals locals contexts) ≡ operands_of contexts
-with_locals-operands locals [] = refl
 with_locals-operands locals (Label arity next values code ∷ below) = refl
-with_locals-operands locals (Frame own arity values code ∷ below) = refl
+with_locals-operands locals _ = refl
 
 pub with_locals-code : (locals : List Value) (contexts : List Context) → code_left (with_locals locals contexts) ≡ code_left contexts
-with_locals-code locals [] = refl
 with_locals-code locals (Label arity next values code ∷ below) = refl
-with_locals-code locals (Frame own arity values code ∷ below) = refl
+with_locals-code locals _ = refl
 
 pub frames-locals : (locals : List Value) (contexts : List Context) → frames (with_locals locals contexts) ≡ frames contexts
 frames-locals locals [] = refl
@@ -47,26 +45,22 @@ call-locals locals (Frame own arity values rest ∷ below) = refl
 -- ---- other operands and another sequence
 
 pub frames-going : (values : List Value) (code : Code) (contexts : List Context) → frames (going_on values code contexts) ≡ frames contexts
-frames-going values code [] = refl
 frames-going values code (Label arity next own rest ∷ below) = refl
-frames-going values code (Frame locals arity own rest ∷ below) = refl
+frames-going values code _ = refl
 
 pub call-going : (values : List Value) (code : Code) (contexts : List Context) → call_of (going_on values code contexts) ≡ call_of contexts
-call-going values code [] = refl
 call-going values code (Label arity next own rest ∷ below) = refl
-call-going values code (Frame locals arity own rest ∷ below) = refl
+call-going values code _ = refl
 
 -- ---- more operands
 
 pub receiving-is : (more : List Value) (contexts : List Context) → receiving more contexts ≡ going_on (more ++ operands_of contexts) (code_left contexts) contexts
-receiving-is more [] = refl
 receiving-is more (Label arity next values code ∷ below) = refl
-receiving-is more (Frame locals arity values code ∷ below) = refl
+receiving-is more _ = refl
 
 pub continuing-is : (more : List Value) (next : Code) (contexts : List Context) → continuing more next contexts ≡ going_on (more ++ operands_of contexts) next contexts
-continuing-is more next [] = refl
 continuing-is more next (Label arity back values code ∷ below) = refl
-continuing-is more next (Frame locals arity values code ∷ below) = refl
+continuing-is more next _ = refl
 
 -- the innermost call's operands are those of its innermost context and those beneath
 pub height-parts : (contexts : List Context) → height_of contexts ≡ length (operands_of contexts) + beneath_call contexts
@@ -75,34 +69,28 @@ height-parts (Label arity next values code ∷ below) = refl
 height-parts (Frame locals arity values code ∷ below) = omega arith
 
 pub frames-receiving : (values : List Value) (contexts : List Context) → frames (receiving values contexts) ≡ frames contexts
-frames-receiving values [] = refl
 frames-receiving values (Label arity next own rest ∷ below) = refl
-frames-receiving values (Frame locals arity own rest ∷ below) = refl
+frames-receiving values _ = refl
 
 pub frames-continuing : (values : List Value) (code : Code) (contexts : List Context) → frames (continuing values code contexts) ≡ frames contexts
-frames-continuing values code [] = refl
 frames-continuing values code (Label arity next own rest ∷ below) = refl
-frames-continuing values code (Frame locals arity own rest ∷ below) = refl
+frames-continuing values code _ = refl
 
 pub call-receiving : (values : List Value) (contexts : List Context) → call_of (receiving values contexts) ≡ call_of contexts
-call-receiving values [] = refl
 call-receiving values (Label arity next own rest ∷ below) = refl
-call-receiving values (Frame locals arity own rest ∷ below) = refl
+call-receiving values _ = refl
 
 pub call-continuing : (values : List Value) (code : Code) (contexts : List Context) → call_of (continuing values code contexts) ≡ call_of contexts
-call-continuing values code [] = refl
 call-continuing values code (Label arity next own rest ∷ below) = refl
-call-continuing values code (Frame locals arity own rest ∷ below) = refl
+call-continuing values code _ = refl
 
 pub locals-receiving : (values : List Value) (contexts : List Context) → locals_of (receiving values contexts) ≡ locals_of contexts
-locals-receiving values [] = refl
 locals-receiving values (Label arity next own rest ∷ below) = refl
-locals-receiving values (Frame locals arity own rest ∷ below) = refl
+locals-receiving values _ = refl
 
 pub locals-continuing : (values : List Value) (code : Code) (contexts : List Context) → locals_of (continuing values code contexts) ≡ locals_of contexts
-locals-continuing values code [] = refl
 locals-continuing values code (Label arity next own rest ∷ below) = refl
-locals-continuing values code (Frame locals arity own rest ∷ below) = refl
+locals-continuing values code _ = refl
 
 -- ---- where branches and returns lead
 

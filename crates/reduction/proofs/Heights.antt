@@ -1,11 +1,12 @@
 -- A typed sequence within the limits of height and nesting takes so many operands to so many.
-use Rattle.reduction.proofs.Words.{◌≡◌, ℕ, ◌+◌, ◌-◌, ◌≤◌, List, [], ◌∷◌, ◌++◌, length, map, Some, refl, ap, ◌∙◌, subst, arith, length-append, slice_get}
+use Rattle.reduction.proofs.Words.{◌≡◌, ℕ, ◌+◌, ◌-◌, ◌≤◌, List, [], ◌∷◌, ◌++◌, length, map, Some, refl, ap, ◌∙◌, arith, length-append, slice_get}
 use Rattle.reduction.proofs.Words.{length-map, ValType, Instr, Br, BrIf, BrTable, Contents, FuncType, Code, Done, Plain, Block, Loop, If, pushed}
 use Rattle.reduction.proofs.Words.{type_of, HasFunctionType, type_of_function}
 use Rattle.std.proofs.Common.{max}
 use Rattle.std.specs.Option.{option_map}
 use Rattle.std.proofs.lemmas.Option.{slice_get-map}
 use Rattle.std.proofs.Math.Nat.{le-max_left, le-max_right}
+use Rattle.limits.specs.declared.TheConstants.{MAX_HEIGHT, MAX_NESTING, MAX_PARAMS}
 use Rattle.syntax.specs.declared.types.ValType.TheVariants as type
 use Rattle.syntax.specs.declared.operator.Conversion.{Conversion}
 use Rattle.syntax.specs.declared.operator.Conversion.TheVariants.{I32WrapI64, I64ExtendI32S, I64ExtendI32U}
@@ -102,20 +103,20 @@ right_within a b k h = omega (arith, le-max_right a b)
 
 follows : (c : Context) (base : ℕ) (i : Instr) (before mid : List ValType) (rest : Code) (after : ℕ) (e : Effect)
     → Agrees e (counts c.module_contents (arities c) i) before mid
-    → greatest_height c base (after_effect base (base + length before) e) rest ≤ 256
-    → (greatest_height c base (base + length mid) rest ≤ 256 → Counted c.module_contents (arities c) base (length mid) after rest)
+    → greatest_height c base (after_effect base (base + length before) e) rest ≤ MAX_HEIGHT
+    → (greatest_height c base (base + length mid) rest ≤ MAX_HEIGHT → Counted c.module_contents (arities c) base (length mid) after rest)
     → Follows (counts c.module_contents (arities c) i) (length before) (λ k. Counted c.module_contents (arities c) base k after rest)
 follows c base i before mid rest after Ends e h go = rw e tt
 follows c base i before mid rest after (Changes pops pushes) (e, (left, eb, em)) h go =
     let same : max base (base + length before - pops) + pushes ≡ base + length mid = omega (arith, eb, em) in
-    let low : greatest_height c base (base + length mid) rest ≤ 256 = subst (λ (n : ℕ). greatest_height c base n rest ≤ 256) same h in
-    rw e (left, eb, subst (λ (n : ℕ). Counted c.module_contents (arities c) base n after rest) em (go low))
+    let low : greatest_height c base (base + length mid) rest ≤ MAX_HEIGHT = rw same at h in
+    rw e (left, eb, rw em at (go low))
 
 -- what follows a block, over what it leaves
 behind : (c : Context) (base : ℕ) (rest : Code) (left : List ValType) (results : List ValType) (after : ℕ)
     → Counted c.module_contents (arities c) base (length (pushed results left)) after rest
     → Counted c.module_contents (arities c) base (length results + length left) after rest
-behind c base rest left results after k = subst (λ (n : ℕ). Counted c.module_contents (arities c) base n after rest) (length-pushed results left) k
+behind c base rest left results after k = rw (length-pushed results left) at k
 
 -- a body that begins with its parameters alone, and leaves its results alone
 alone : (c : Context) (base : ℕ) (body : Code) (params results : List ValType)
@@ -124,16 +125,16 @@ alone : (c : Context) (base : ℕ) (body : Code) (params results : List ValType)
 alone c base body params results k =
     let p : length (pushed params []) ≡ length params = omega (arith, length-pushed params []) in
     let r : length (pushed results []) ≡ length results = omega (arith, length-pushed results []) in
-    subst (λ (n : ℕ). Counted c.module_contents (arities c) base n (length results) body) p
-    (subst (λ (n : ℕ). Counted c.module_contents (arities c) base (length (pushed params [])) n body) r k)
+    rw (r, p) at k
 
 -- a sequence at the same height, over the same base
-at_height : (c : Context) (base base' height height' : ℕ) (code : Code) → greatest_height c base height code ≤ 256 → base ≡ base' → height ≡ height'
-    → greatest_height c base' height' code ≤ 256
+at_height : (c : Context) (base base' height height' : ℕ) (code : Code) → greatest_height c base height code ≤ MAX_HEIGHT → base ≡ base' → height ≡ height'
+    → greatest_height c base' height' code ≤ MAX_HEIGHT
 at_height c base base' height height' code h eb eh =
-    subst (λ (n : ℕ). greatest_height c base' n code ≤ 256) eh (subst (λ (n : ℕ). greatest_height c n height code ≤ 256) eb h)
+    rw (eb, eh) at h
 
-fits : (c : Context) (base : ℕ) (before : List ValType) (code : Code) → base + length before ≤ 256 → nesting code + length c.labels ≤ 257 → FitsHeights (arities c) base (length before)
+fits : (c : Context) (base : ℕ) (before : List ValType) (code : Code) → base + length before ≤ MAX_HEIGHT
+    → nesting code + length c.labels ≤ MAX_NESTING + 1 → FitsHeights (arities c) base (length before)
 fits c base before code h n = record { height = h; nesting = omega (arith, length-map c.labels (λ (types : List ValType). length types)) }
 
 -- a block that takes so many operands, over others
@@ -146,46 +147,46 @@ module _ (base taken : ℕ) (before below : List ValType) (e : length before ≡
   is_inner = omega (arith, e)
 
   body_counted : (c : Context) (params results : List ValType) (body : Code)
-      → (greatest_height c (base + length below) (base + length below + length (pushed params [])) body ≤ 256
+      → (greatest_height c (base + length below) (base + length below + length (pushed params [])) body ≤ MAX_HEIGHT
       → Counted c.module_contents (arities c) (base + length below) (length (pushed params [])) (length (pushed results [])) body)
-      → greatest_height c inner (inner + length params) body ≤ 256
+      → greatest_height c inner (inner + length params) body ≤ MAX_HEIGHT
       → Counted c.module_contents (arities c) (base + length below) (length params) (length results) body
   body_counted c params results body go h =
       alone c (base + length below) body params results
       (go (at_height c inner (base + length below) _ _ body h is_inner (omega (arith, is_inner, length-pushed params []))))
 
   rest_counted : (c : Context) (results : List ValType) (rest : Code) (after : ℕ)
-      → (greatest_height c base (base + length (pushed results below)) rest ≤ 256 → Counted c.module_contents (arities c) base (length (pushed results below)) after rest)
-      → greatest_height c base (inner + length results) rest ≤ 256
+      → (greatest_height c base (base + length (pushed results below)) rest ≤ MAX_HEIGHT → Counted c.module_contents (arities c) base (length (pushed results below)) after rest)
+      → greatest_height c base (inner + length results) rest ≤ MAX_HEIGHT
       → Counted c.module_contents (arities c) base (length results + length below) after rest
   rest_counted c results rest after go h =
       behind c base rest below results after (go (at_height c base base _ _ rest h refl (omega (arith, is_inner, length-pushed results below))))
 
   -- a body and what follows it, within the limits
   both_counted : (c d : Context) (params results : List ValType) (body rest : Code) (after : ℕ)
-      → (greatest_height d (base + length below) (base + length below + length (pushed params [])) body ≤ 256
+      → (greatest_height d (base + length below) (base + length below + length (pushed params [])) body ≤ MAX_HEIGHT
       → Counted d.module_contents (arities d) (base + length below) (length (pushed params [])) (length (pushed results [])) body)
-      → (greatest_height c base (base + length (pushed results below)) rest ≤ 256 → Counted c.module_contents (arities c) base (length (pushed results below)) after rest)
-      → max (greatest_height d inner (inner + length params) body) (greatest_height c base (inner + length results) rest) ≤ 256
+      → (greatest_height c base (base + length (pushed results below)) rest ≤ MAX_HEIGHT → Counted c.module_contents (arities c) base (length (pushed results below)) after rest)
+      → max (greatest_height d inner (inner + length params) body) (greatest_height c base (inner + length results) rest) ≤ MAX_HEIGHT
       → Counted d.module_contents (arities d) (base + length below) (length params) (length results) body
       × Counted c.module_contents (arities c) base (length results + length below) after rest
   both_counted c d params results body rest after go_in go_on h =
       let first = greatest_height d inner (inner + length params) body in
       let last = greatest_height c base (inner + length results) rest in (
-        body_counted d params results body go_in (left_within first last 256 h),
-        rest_counted c results rest after go_on (right_within first last 256 h),
+        body_counted d params results body go_in (left_within first last MAX_PARAMS h),
+        rest_counted c results rest after go_on (right_within first last MAX_HEIGHT h),
       )
 
 pub counted : (c : Context) (base : ℕ) (code : Code) (before after : List ValType) → Typed c code before after
-    → greatest_height c base (base + length before) code ≤ 256 → nesting code + length c.labels ≤ 257
+    → greatest_height c base (base + length before) code ≤ MAX_HEIGHT → nesting code + length c.labels ≤ MAX_NESTING + 1
     → Counted c.module_contents (arities c) base (length before) (length after) code
 counted c base Done before after t h n = (fits c base before Done h n, ap (λ (ts : List ValType). length ts) t)
 counted c base (Plain i rest) before after (mid, ti, tr) h n =
     let height = base + length before in
     let next = greatest_height c base (after_effect base height (effect_of c i)) rest in (
-      fits c base before rest (left_within height next 256 h) n,
-      follows c base i before mid rest (length after) (effect_of c i) (agrees c i before mid ti) (right_within height next 256 h)
-          (λ (k : greatest_height c base (base + length mid) rest ≤ 256). counted c base rest mid after tr k n),
+      fits c base before rest (left_within height next MAX_HEIGHT h) n,
+      follows c base i before mid rest (length after) (effect_of c i) (agrees c i before mid ti) (right_within height next MAX_HEIGHT h)
+          (λ (k : greatest_height c base (base + length mid) rest ≤ MAX_HEIGHT). counted c base rest mid after tr k n),
     )
 counted c base (Block type body rest) before after (t, at, below, e, tb, tr) h n =
     let size : length before ≡ length t.params + length below = ap (λ (ts : List ValType). length ts) e ∙ length-pushed t.params below in
@@ -193,14 +194,14 @@ counted c base (Block type body rest) before after (t, at, below, e, tb, tr) h n
     let k = rw at at h in
     let start = inner base (length t.params) before below size in
     let parts = max (greatest_height d start (start + length t.params) body) (greatest_height c base (start + length t.results) rest) in
-    let low : base + length before ≤ 256 = left_within (base + length before) parts 256 k in
-    let nb : nesting body + length d.labels ≤ 257 = omega (arith, n) in
-    let nr : nesting rest + length c.labels ≤ 257 = omega (arith, n) in
+    let low : base + length before ≤ MAX_HEIGHT = left_within (base + length before) parts MAX_HEIGHT k in
+    let nb : nesting body + length d.labels ≤ MAX_NESTING + 1 = omega (arith, n) in
+    let nr : nesting rest + length c.labels ≤ MAX_NESTING + 1 = omega (arith, n) in
     let both = both_counted base (length t.params) before below size c d t.params t.results body rest (length after)
-    (λ (q : greatest_height d (base + length below) (base + length below + length (pushed t.params [])) body ≤ 256). counted d (base + length below) body
+    (λ (q : greatest_height d (base + length below) (base + length below + length (pushed t.params [])) body ≤ MAX_HEIGHT). counted d (base + length below) body
     (pushed t.params []) (pushed t.results []) tb q nb)
-    (λ (q : greatest_height c base (base + length (pushed t.results below)) rest ≤ 256). counted c base rest (pushed t.results below) after tr q nr)
-    (right_within (base + length before) parts 256 k) in
+    (λ (q : greatest_height c base (base + length (pushed t.results below)) rest ≤ MAX_HEIGHT). counted c base rest (pushed t.results below) after tr q nr)
+    (right_within (base + length before) parts MAX_HEIGHT k) in
     (fits c base before rest low nr, t, at, length below, size, both.0, both.1)
 counted c base (Loop type body rest) before after (t, at, below, e, tb, tr) h n =
     let size : length before ≡ length t.params + length below = ap (λ (ts : List ValType). length ts) e ∙ length-pushed t.params below in
@@ -208,35 +209,35 @@ counted c base (Loop type body rest) before after (t, at, below, e, tb, tr) h n 
     let k = rw at at h in
     let start = inner base (length t.params) before below size in
     let parts = max (greatest_height d start (start + length t.params) body) (greatest_height c base (start + length t.results) rest) in
-    let low : base + length before ≤ 256 = left_within (base + length before) parts 256 k in
-    let nb : nesting body + length d.labels ≤ 257 = omega (arith, n) in
-    let nr : nesting rest + length c.labels ≤ 257 = omega (arith, n) in
+    let low : base + length before ≤ MAX_HEIGHT = left_within (base + length before) parts MAX_HEIGHT k in
+    let nb : nesting body + length d.labels ≤ MAX_NESTING + 1 = omega (arith, n) in
+    let nr : nesting rest + length c.labels ≤ MAX_NESTING + 1 = omega (arith, n) in
     let both = both_counted base (length t.params) before below size c d t.params t.results body rest (length after)
-    (λ (q : greatest_height d (base + length below) (base + length below + length (pushed t.params [])) body ≤ 256). counted d (base + length below) body
+    (λ (q : greatest_height d (base + length below) (base + length below + length (pushed t.params [])) body ≤ MAX_HEIGHT). counted d (base + length below) body
     (pushed t.params []) (pushed t.results []) tb q nb)
-    (λ (q : greatest_height c base (base + length (pushed t.results below)) rest ≤ 256). counted c base rest (pushed t.results below) after tr q nr)
-    (right_within (base + length before) parts 256 k) in
+    (λ (q : greatest_height c base (base + length (pushed t.results below)) rest ≤ MAX_HEIGHT). counted c base rest (pushed t.results below) after tr q nr)
+    (right_within (base + length before) parts MAX_HEIGHT k) in
     (fits c base before rest low nr, t, at, length below, size, both.0, both.1)
 counted c base (If type first second rest) before after (t, at, below, e, tf, ts, tr) h n =
     let taken = length t.params + 1 in
     let size : length before ≡ taken + length below = omega (arith, ap (λ (ts : List ValType). length ts) e, length-pushed t.params below) in
     let d = inside t.results c in
     let k = rw at at h in
-    let na : nesting first + length d.labels ≤ 257 = omega (arith, n) in
-    let nb : nesting second + length d.labels ≤ 257 = omega (arith, n) in
-    let nr : nesting rest + length c.labels ≤ 257 = omega (arith, n) in
+    let na : nesting first + length d.labels ≤ MAX_NESTING + 1 = omega (arith, n) in
+    let nb : nesting second + length d.labels ≤ MAX_NESTING + 1 = omega (arith, n) in
+    let nr : nesting rest + length c.labels ≤ MAX_NESTING + 1 = omega (arith, n) in
     let start = inner base taken before below size in
     let one = greatest_height d start (start + length t.params) first in
     let others = max (greatest_height d start (start + length t.params) second) (greatest_height c base (start + length t.results) rest) in
-    let low : base + length before ≤ 256 = left_within (base + length before) (max one others) 256 k in
-    let high : max one others ≤ 256 = right_within (base + length before) (max one others) 256 k in
+    let low : base + length before ≤ MAX_HEIGHT = left_within (base + length before) (max one others) MAX_HEIGHT k in
+    let high : max one others ≤ MAX_HEIGHT = right_within (base + length before) (max one others) MAX_HEIGHT k in
     let branch = body_counted base taken before below size d t.params t.results first
-    (λ (q : greatest_height d (base + length below) (base + length below + length (pushed t.params [])) first ≤ 256). counted d (base + length below) first
+    (λ (q : greatest_height d (base + length below) (base + length below + length (pushed t.params [])) first ≤ MAX_HEIGHT). counted d (base + length below) first
     (pushed t.params []) (pushed t.results []) tf q na)
-    (left_within one others 256 high) in
+    (left_within one others MAX_HEIGHT high) in
     let both = both_counted base taken before below size c d t.params t.results second rest (length after)
-    (λ (q : greatest_height d (base + length below) (base + length below + length (pushed t.params [])) second ≤ 256). counted d (base + length below)
+    (λ (q : greatest_height d (base + length below) (base + length below + length (pushed t.params [])) second ≤ MAX_HEIGHT). counted d (base + length below)
     second (pushed t.params []) (pushed t.results []) ts q nb)
-    (λ (q : greatest_height c base (base + length (pushed t.results below)) rest ≤ 256). counted c base rest (pushed t.results below) after tr q nr)
-    (right_within one others 256 high) in
+    (λ (q : greatest_height c base (base + length (pushed t.results below)) rest ≤ MAX_HEIGHT). counted c base rest (pushed t.results below) after tr q nr)
+    (right_within one others MAX_HEIGHT high) in
     (fits c base before rest low nr, t, at, length below, size, branch, both.0, both.1)

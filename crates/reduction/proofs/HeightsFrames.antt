@@ -1,6 +1,6 @@
 -- No step opens a call by itself.
 use Rattle.reduction.proofs.Contexts.{frames-going, frames-locals, frames-receiving, frames-continuing, frames-reached, frames-in_call}
-use Rattle.reduction.proofs.Words.{ℕ, ◌<◌, ◌≤◌, List, ◌∷◌, length, take, drop, subst, arith, Value, Contents, Code, Context}
+use Rattle.reduction.proofs.Words.{ℕ, ◌<◌, ◌≤◌, List, ◌∷◌, length, take, drop, arith, Value, Contents, Code, Context}
 use Rattle.reduction.proofs.Words.{with_locals, Move, Goes, Calls, next, as_operands}
 use Rattle.instance.specs.Store.{Store as Memory_and_globals}
 use Rattle.reduction.specs.Configuration.{frames}
@@ -24,10 +24,7 @@ module _ (m : Contents) (s : Memory_and_globals) where
   opens_by (rule.enters {rest} {left} {type} {contexts} o few) = omega (arith, frames-going (drop (length type.params) left) rest contexts)
   opens_by (rule.closes {values} {below}) = omega (arith, frames-receiving values below)
   opens_by (rule.answers {values} {top} {below}) = omega (arith, frames-receiving values (top ∷ below))
-  opens_by rule.ends = tt
-  opens_by (rule.fails still t) = tt
-  opens_by (rule.no_callee trap) = tt
-  opens_by rule.stuck = tt
+  opens_by _ = tt
 
   pub opens : (contexts : List Context) → Opens (frames contexts) (next m s contexts)
   opens contexts = opens_by (next_rule m s contexts)
@@ -36,10 +33,10 @@ module _ (m : Contents) where
   arrives_open : {depth : ℕ} {s t : Memory_and_globals} {contexts there : List Context} → Arrives m depth s contexts t there → frames contexts ≤ depth → frames there ≤ depth
   arrives_open here h = h
   arrives_open {depth} {s} {t} {contexts} (goes charge e rest) h =
-      let k = subst (λ (o : Move). Opens (frames contexts) o) e (opens m s contexts) in arrives_open rest (omega (arith, k, h))
+      let k = rw e at (opens m s contexts) in arrives_open rest (omega (arith, k, h))
   arrives_open (calls function args below type f e d few rest) h = arrives_open rest (omega (arith, few))
   arrives_open {depth} {s} {t} {contexts} (asks call below e imported memory answer rest) h =
-      let k = subst (λ (o : Move). Opens (frames contexts) o) e (opens m s contexts) in
+      let k = rw e at (opens m s contexts) in
       arrives_open rest (omega (arith, k, h, frames-receiving (as_operands call.answer) below))
 
   pub reached_open : (depth : ℕ) (contexts : List Context) → 0 < depth → IsReached m depth contexts → frames contexts ≤ depth

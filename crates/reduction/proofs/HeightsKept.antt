@@ -6,9 +6,9 @@ use Rattle.reduction.proofs.Words.{Contents, FuncType, Code, Done, Loop, Context
 use Rattle.reduction.proofs.Words.{Move, Goes, Calls, next, code_left, operands_of}
 use Rattle.std.proofs.Common.{length-drop}
 use Rattle.std.proofs.lemmas.List.{length-take-le}
-use Rattle.validate.specs.Height.{Effect, named, calls}
+use Rattle.limits.specs.declared.TheConstants.{MAX_HEIGHT}
 use Rattle.instance.specs.Store.{Store as Memory_and_globals}
-use Rattle.reduction.specs.Heights.{GoesOn, FitsHeights, tests, counts, Follows, Counted, labels_of, beneath_call, Beneath, IsWithin}
+use Rattle.reduction.specs.Heights.{GoesOn, tests, counts, Follows, Counted, labels_of, beneath_call, Beneath, IsWithin}
 use Rattle.reduction.proofs.PlainStepHeights.{as_many}
 use Rattle.reduction.proofs.Rules.{Reaches, InCall, Calling, Opening, StepRule, next_rule}
 use Rattle.reduction.proofs.Rules as rule
@@ -30,14 +30,13 @@ module _ (m : Contents) where
   recounted : (labels : List ℕ) (base base' before before' after : ℕ) (code : Code) → Counted m labels base before after code → base ≡ base' → before ≡ before'
       → Counted m labels base' before' after code
   recounted labels base base' before before' after code k eb en =
-      subst (λ (n : ℕ). Counted m labels base' n after code) en (subst (λ (n : ℕ). Counted m labels n before after code) eb k)
+      rw (eb, en) at k
 
   -- the innermost context may have other operands and other code
   beneath_going : (after : ℕ) (contexts : List Context) (values : List Value) (code : Code) → Beneath m after contexts → Beneath m after (going_on values code contexts)
   beneath_going after [] values code h = absurd h
   beneath_going after (Label arity next own rest ∷ below) values code h = h
-  beneath_going after (Frame locals arity own rest ∷ []) values code h = h
-  beneath_going after (Frame locals arity own rest ∷ top ∷ below) values code h = h
+  beneath_going after _ values code h = h
 
   -- the contexts go on with these operands and this sequence, once they get so many more
   placed : (after more before : ℕ) (contexts : List Context) (values : List Value) (code : Code) → Beneath m after contexts
@@ -64,8 +63,7 @@ module _ (m : Contents) where
   -- the awaited operands come
   pub received : (more : ℕ) (contexts : List Context) (values : List Value) → IsWithin m contexts more → length values ≡ more → IsWithin m (receiving values contexts) 0
   received more contexts values w e =
-      subst (λ (c : List Context). IsWithin m c 0) (sym (receiving-is values contexts))
-      (placed w.after 0 (more + length (operands_of contexts)) contexts (values ++ operands_of contexts) (code_left contexts) w.beneath w.code
+      rw (receiving-is values contexts) (placed w.after 0 (more + length (operands_of contexts)) contexts (values ++ operands_of contexts) (code_left contexts) w.beneath w.code
       (omega (arith, e, length-append values (operands_of contexts))))
 
   -- a block stands open, to whose label a branch takes so many operands along
@@ -108,20 +106,20 @@ module _ (m : Contents) where
   reached (rule.further at) after (later, h, k, n) = reached at later h
 
   framed : {locals : List Value} {arity : ℕ} {contexts below : List Context} → InCall contexts locals arity below → (after : ℕ) → Beneath m after contexts
-      → (arity ≤ 256) × ((values : List Value) → Beneath m arity (Frame locals arity values Done ∷ below))
+      → (arity ≤ MAX_HEIGHT) × ((values : List Value) → Beneath m arity (Frame locals arity values Done ∷ below))
   framed (rule.further at) after (later, h, k, n) = framed at later h
   framed (rule.here {below = []}) after (few, small, same) = (small, λ values. (few, small, refl))
   framed (rule.here {below = top ∷ below}) after (few, small, same, later, h, k) =
-      (small, λ values. (few, small, refl, later, h, subst (λ (n : ℕ). GoesOn m (top ∷ below) n later (code_left (top ∷ below))) same k))
+      (small, λ values. (few, small, refl, later, h, rw same at k))
 
   -- what a call finds beneath its arguments
   pub called : {i : Instr} {values left : List Value} {f : ℕ} {type : FuncType} → Calling m i values f type left → (labels : List ℕ) (P : ℕ → Type 0)
       → Follows (counts m labels i) (length values) P → (lower : ℕ) × (length left ≡ length type.params + lower) × P (length type.results + lower)
   called {type} (rule.direct {values} found) labels P k =
-      let f = subst (λ (o : Option FuncType). Follows (named o (calls 0)) (length values) P) found k in (f.0, omega (arith, f.1), f.2)
+      let f = rw found at k in (f.0, omega (arith, f.1), f.2)
   called {type} (rule.through {wanted} {values} found named_so params results) labels P k =
-      let f = subst (λ (o : Option FuncType). Follows (named o (calls 1)) (suc (length values)) P) named_so k in
-      (f.0, omega (arith, f.1, ap (λ (ts : List ValType). length ts) params), subst (λ (ts : List ValType). P (length ts + f.0)) (sym results) f.2)
+      let f = rw named_so at k in
+      (f.0, omega (arith, f.1, ap (λ (ts : List ValType). length ts) params), rw results f.2)
 
   -- what stands in a block, and what its label and its end lead to
   opened : {code next inside rest : Code} {values left : List Value} {t : FuncType} {arity : ℕ} → Opening m code values t arity next inside rest left
@@ -131,7 +129,7 @@ module _ (m : Contents) where
   opened {t} (rule.a_block at) labels base after (fits, u, named_so, lower, e, kb, kr) = let same : t ≡ u = cc in rw same (lower, e, kb, kr, kr)
   opened {t} (rule.a_loop {type} {body} {rest} at) labels base after (fits, u, named_so, lower, e, kb, kr) =
       let same : t ≡ u = cc in
-      let again : Counted m labels base (length u.params + lower) after (Loop type body rest) = (subst (λ (n : ℕ). FitsHeights labels base n) e fits, u, named_so, lower, refl, kb, kr) in
+      let again : Counted m labels base (length u.params + lower) after (Loop type body rest) = (rw e at fits, u, named_so, lower, refl, kb, kr) in
       rw same (lower, e, kb, again, kr)
   opened {t} (rule.an_if {n = zero} at) labels base after (fits, u, named_so, lower, e, kf, ks, kr) = let same : t ≡ u = cc in rw same (lower, omega (arith, e), ks, kr, kr)
   opened {t} (rule.an_if {n = suc n} at) labels base after (fits, u, named_so, lower, e, kf, ks, kr) = let same : t ≡ u = cc in rw same (lower, omega (arith, e), kf, kr, kr)
@@ -145,7 +143,7 @@ module _ (m : Contents) where
   kept_by : {s : Memory_and_globals} {contexts : List Context} {values : List Value} {code : Code} {move : Move} → StepRule m s contexts values code move
       → (after : ℕ) → Beneath m after contexts → Counted m (labels_of contexts) (beneath_call contexts) (length values) after code → Kept m move
   kept_by (rule.leaves {values} {ls} {vs} {rest} {contexts} still t) after h (fits, k) =
-      let f = subst (λ (e : Effect). Follows e (length values) (λ mid. Counted m (labels_of contexts) (beneath_call contexts) mid after rest)) (t.counted (labels_of contexts)) k in
+      let f = rw (t.counted (labels_of contexts)) at k in
       let before = ap (λ (xs : List Value). length xs) t.before ∙ length-append t.popped t.rest in
       let behind = ap (λ (xs : List Value). length xs) t.after ∙ length-append t.pushed t.rest in
       let there = with_locals ls contexts in
@@ -178,10 +176,7 @@ module _ (m : Contents) where
   kept_by (rule.closes {values} {below}) after (later, h, k, n) (fits, e) = received after below values (record { after = later; beneath = h; code = k }) e
   kept_by (rule.answers {values} {top} {below}) after (few, small, same, later, h, k) (fits, e) =
       received after (top ∷ below) values (record { after = later; beneath = h; code = k }) e
-  kept_by rule.ends after h k = tt
-  kept_by (rule.fails still t) after h k = tt
-  kept_by (rule.no_callee trap) after h k = tt
-  kept_by rule.stuck after h k = tt
+  kept_by _ after h k = tt
 
   -- whatever step comes next, what it leads to is within the limits
   pub kept : (s : Memory_and_globals) (contexts : List Context) → IsWithin m contexts 0 → Kept m (next m s contexts)

@@ -5,6 +5,7 @@ use Rattle.reduction.proofs.Words.{type_of, HasFunctionType, type_of_function, V
 use Rattle.reduction.proofs.Words.{types_of, Move, Calls, next, as_operands, IsDefined}
 use Rattle.std.proofs.Common.{option_and_then}
 use Rattle.std.proofs.lemmas.Option.{get_or_from_slice_get}
+use Rattle.limits.specs.declared.TheConstants.{MAX_LOCALS}
 use Rattle.validate.specs.Typing.{function_types}
 use Rattle.validate.specs.Valid.{ValidFunc, body_context}
 use Rattle.reduction.specs.Hosting.{Answers}
@@ -29,13 +30,13 @@ module _ (m : Contents) where
 
   -- the body of a call takes no operand to its results, and its locals are few
   abbrev Runs : Func → FuncType → Type 0
-  Runs f type = (length type.params + length f.locals ≤ 256) × Counted m (length type.results ∷ []) 0 0 (length type.results) f.body
+  Runs f type = (length type.params + length f.locals ≤ MAX_LOCALS) × Counted m (length type.results ∷ []) 0 0 (length type.results) f.body
 
   valid_runs : (f : Func) (w : ValidFunc m f) → Runs f w.type
   valid_runs f w =
       let k = counted (body_context m w.type f) 0 f.body [] (pushed w.type.results []) w.body w.height (omega (arith, w.nested)) in
       let e : length (pushed w.type.results []) ≡ length w.type.results = omega (arith, length-pushed w.type.results []) in
-      (w.few_locals, subst (λ (n : ℕ). Counted m (length w.type.results ∷ []) 0 0 n f.body) e k)
+      (w.few_locals, rw e at k)
 
   -- the contexts of a call within the limits, over some or over none
   abbrev pub Awaited : List Context → (more : ℕ) → Type 0
@@ -49,7 +50,7 @@ module _ (m : Contents) where
         locals : List Value
         locals = args ++ map (λ t. value_of t 0) f.locals
 
-        few_locals : length locals ≤ 256
+        few_locals : length locals ≤ MAX_LOCALS
         few_locals = omega (arith, few, e, length-append args (map (λ t. value_of t 0) f.locals), length-map f.locals (λ t. value_of t 0))
 
         done : Counted m [] 0 (length type.results + 0) (length type.results) Done
@@ -62,21 +63,20 @@ module _ (m : Contents) where
   module _ (valid : ValidModule m) where
     few_results : (type : FuncType) (index : ℕ) → slice_get m.types index ≡ Some type → length type.results ≤ 16
     few_results type index known =
-        subst (λ (t : FuncType). length t.results ≤ 16) (get_or_from_slice_get m.types index type type known)
-        (valid.types index type (slice_get_within m.types index type known))
+        rw (get_or_from_slice_get m.types index type type known) at (valid.types index type (slice_get_within m.types index type known))
 
     pub few_locals_of : (type : FuncType) (f : Func) (index : ℕ) → slice_get m.functions index ≡ Some f → slice_get m.types f.type_index ≡ Some type
-        → length type.params + length f.locals ≤ 256
+        → length type.params + length f.locals ≤ MAX_LOCALS
     few_locals_of type f index at known =
         let w = valid_function m valid index f at in
-        subst (λ (t : FuncType). length t.params + length f.locals ≤ 256) (its_type f w type known) w.few_locals
+        rw (its_type f w type known) at w.few_locals
 
     -- a call of a defined function
     pub entered_within : (function : ℕ) (type : FuncType) (f : Func) (args : List Value) (below : List Context) → IsDefined m function type f
         → length args ≡ length type.params → Awaited below (length type.results) → IsWithin m (entered type f args below) 0
     entered_within function type f args below (index, e, at, known) size w =
         let v = valid_function m valid index f at in
-        enters type f args below (subst (λ (t : FuncType). Runs f t) (its_type f v type known) (valid_runs f v)) (few_results type f.type_index known) size w
+        enters type f args below (rw (its_type f v type known) at (valid_runs f v)) (few_results type f.type_index known) size w
 
     -- the answer of the host
     pub answered_within : (function : ℕ) (below : List Context) (answer : Option Value) (type : FuncType) → type_of_function m function ≡ Some type
@@ -90,12 +90,12 @@ module _ (m : Contents) where
     called_within : (s : Store) (contexts : List Context) (function : ℕ) (args : List Value) (below : List Context) (type : FuncType) (f : Func)
         → next m s contexts ≡ Calls function args below → IsDefined m function type f → IsWithin m contexts 0 → IsWithin m (entered type f args below) 0
     called_within s contexts function args below type f e d w =
-        let k : Kept m (Calls function args below) = subst (λ (o : Move). Kept m o) e (kept m s contexts w) in
+        let k : Kept m (Calls function args below) = rw e at (kept m s contexts w) in
         let same : type ≡ k.0 = same_type function type k.0 f d k.1 in
         entered_within function type f args below d (omega (arith, k.2, ap (λ (t : FuncType). length t.params) same)) (awaited below k.3 same) where
           awaited : {found : FuncType} (below : List Context) → IsWithin m below (length found.results) → type ≡ found → Awaited below (length type.results)
           awaited [] w same = tt
-          awaited {found} (top ∷ below) w same = subst (λ (t : FuncType). IsWithin m (top ∷ below) (length t.results)) (sym same) w
+          awaited {found} (top ∷ below) w same = rw same w
 
     pub arrives_within : {depth : ℕ} {s t : Store} {contexts there : List Context} → Arrives m depth s contexts t there → IsWithin m contexts 0 → IsWithin m there 0
     arrives_within here w = w

@@ -71,8 +71,8 @@ topmost_types types rest values e =
     let r = split_types (pushed types []) rest values (e ∙ pushed-split types rest) in
     let n : length (pushed types []) ≡ length types = omega (arith, length-pushed types []) in
     let a : length types ≤ length values = omega (arith, r.2) in (
-      subst (λ (k : ℕ). types_of (take k values) ≡ pushed types []) n r.0,
-      subst (λ (k : ℕ). types_of (drop k values) ≡ rest) n r.1,
+      rw n at r.0,
+      rw n at r.1,
       at_most_test (length types) (length values) a,
     )
 

@@ -1,10 +1,10 @@
 -- Two calls of a function from outside, from one start.
-use Rattle.reduction.proofs.Words.{◌≡◌, ℕ, List, [], ◌∷◌, reverse, refl, sym, ap, ◌∙◌, subst, Value, Contents, Store, Context, entered, as_operands}
+use Rattle.reduction.proofs.Words.{◌≡◌, ℕ, List, [], ◌∷◌, reverse, refl, sym, ap, ◌∙◌, Value, Contents, Store, entered, as_operands}
 use Rattle.std.proofs.Common.{Option, get_or}
 use Rattle.instance.specs.Stops.{Halt}
 use Rattle.std.proofs.lemmas.List.{reverse-reverse}
 use Rattle.instance.specs.Store.{with_memory}
-use Rattle.reduction.specs.Run.{HostCall, RunEnd, Returned, Trapped, TooDeep, OutOfFuel, RunsWithin}
+use Rattle.reduction.specs.Run.{HostCall, RunEnd, Returned, Trapped, TooDeep, OutOfFuel}
 use Rattle.reduction.specs.Hosting.{Lawful, IsDetermined}
 use Rattle.reduction.specs.Invoking.{Invokes, defined, imported}
 use Rattle.reduction.specs.Leading.{Call, Leads, scene}
@@ -34,7 +34,7 @@ module _ (m : Contents) (depth : ℕ) {H V : Type 0} (see : H → V) (moves : H 
       let one = one_function m function type' type f' f is' is in
       let there : entered type' f' args [] ≡ entered type f args [] = λ i. entered (one.0 i) (one.1 i) args [] in
       one_run m depth see moves determined fuel s (entered type f args []) trace trace' o o' u u' t t' old old' new new' seen r led
-      (subst (λ (x : List Context). RunsWithin m depth fuel s x trace' o' u' t') there r') led'
+      (rw there at r') led'
   one_call fuel s function args _ trace' _ o' _ u' _ t' old old' new new' seen (defined type f is r) led (imported call k e a b) led' = absurd (not_both m function type f is k)
   one_call fuel s function args trace _ o _ u _ t _ old old' new new' seen (imported call k e a b) led (defined type f is r) led' = absurd (not_both m function type f is k)
   one_call fuel s function args _ _ _ _ _ _ _ _ old old' new new' seen (imported call k e a b) led (imported call' k' e' a' b') led' =
@@ -59,12 +59,7 @@ traps_by_number = trap.Unreachable ∷ trap.Unreachable ∷ trap.DivideByZero �
 trap_back : (t : TrapCode) → get_or traps_by_number (trap_number t) trap.Unreachable ≡ t
 unfolding traps_by_number
 trap_back trap.Unreachable = refl
-trap_back trap.DivideByZero = refl
-trap_back trap.Overflow = refl
-trap_back trap.Memory = refl
-trap_back trap.Table = refl
-trap_back trap.EmptyElement = refl
-trap_back trap.OtherType = refl
+trap_back _ = refl
 
 abbrev ending_back : RunEnd → Ending
 ending_back (Returned results) = Return (reverse results)

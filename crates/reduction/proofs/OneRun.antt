@@ -1,5 +1,5 @@
 -- Two runs from one start.
-use Rattle.reduction.proofs.Words.{◌≡◌, ℕ, zero, suc, ◌+◌, ◌<◌, ◌≤◌, List, [], ◌∷◌, Some, refl, sym, ap, ◌∙◌, subst, arith, slice_get, Value, Contents}
+use Rattle.reduction.proofs.Words.{◌≡◌, ℕ, zero, suc, ◌+◌, ◌<◌, ◌≤◌, List, [], ◌∷◌, Some, refl, sym, ap, ◌∙◌, arith, slice_get, Value, Contents}
 use Rattle.reduction.proofs.Words.{FuncType, Func, Store, Context, entered, receiving, Move, Goes, Traps, Calls, next, IsDefined, as_operands}
 use Rattle.instance.specs.Store.{with_memory}
 use Rattle.reduction.specs.Configuration.{frames}
@@ -103,13 +103,10 @@ module _ (m : Contents) (depth : ℕ) where
       by_start : {move : Move} {trace' : List HostCall} {o' : RunEnd} {u' : ℕ} {t' : Store} → Begins s move trace' o' u' t' → IsCharged move → Lawful moves trace' old' new'
           → Compared [] trace' OutOfFuel o' 0 u' s t' new new'
       by_start (ending _) costs there = absurd costs
-      by_start (trapping _) costs there = first refl (omega arith)
       by_start (stopping _ _) costs there = same refl refl refl refl (unmoved old old' new new' seen here there)
-      by_start (refusing _ _ _ _ _ _ _) costs there = first refl (omega arith)
       by_start (going zero _) costs there = absurd costs
       by_start (going (suc n) _) costs there = first refl (omega arith)
-      by_start (calling _ _ _ _ _ _ _ _) costs there = first refl (omega arith)
-      by_start (asking _ _ _ _ _ _ _ _ _) costs there = first refl (omega arith)
+      by_start _ costs there = first refl (omega arith)
 
     refuse_alike : (s : Store) (contexts : List Context) (function : ℕ) (args : List Value) (below : List Context) (type : FuncType) (f : Func) (old new : H)
         → next m s contexts ≡ Calls function args below → IsDefined m function type f → depth ≤ frames below → new ≡ old
@@ -142,7 +139,7 @@ module _ (m : Contents) (depth : ℕ) where
       by_start {trace'} {o'} {t' = t'} (calling {used} _ _ _ type' f' defined' _ run') led =
           let one = one_function m function type' type f' f defined' defined in
           let there : entered type' f' args below ≡ entered type f args below = λ i. entered (one.0 i) (one.1 i) args below in
-          later 1 (rest trace' o' used t' old' new' seen (subst (λ (x : List Context). Run m depth s x trace' o' used t') there run') led)
+          later 1 (rest trace' o' used t' old' new' seen (rw there at run') led)
       by_start (asking _ _ _ _ _ _ imported _ _) led = absurd (not_both m function type f defined imported)
 
     ask_alike : (s t : Store) (contexts : List Context) (call : HostCall) (below : List Context) (trace : List HostCall) (o : RunEnd) (u : ℕ) (old mid new : H)
@@ -157,7 +154,7 @@ module _ (m : Contents) (depth : ℕ) where
       by_start (calling _ _ _ type f defined _ _) led = absurd (not_both m call.function type f defined imported)
       by_start {o'} {t' = t'} (asking {trace = trace'} {used} _ _ _ call' en ea _ before' run') (mid', moved', led) =
           let one = determined old' old mid' mid call' call (sym seen) (record { function = en; args = ea; before = before' ∙ sym before }) moved' moved in
-          let run'' = subst (λ (c : HostCall). Run m depth (with_memory c.after s) (receiving (as_operands c.answer) below) trace' o' used t') one.0 run' in
+          let run'' = rw one.0 at run' in
           asked_too call call' (sym one.0) (rest trace' o' used t' mid' new' (sym one.1) run'' led)
 
     alike : {s : Store} {contexts : List Context} {trace : List HostCall} {o : RunEnd} {u : ℕ} {t : Store} → Run m depth s contexts trace o u t

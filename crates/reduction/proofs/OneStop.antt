@@ -1,5 +1,5 @@
 -- From one start a run with the same calls of the host, the same ending and the same use stops at one place.
-use Rattle.std.proofs.Common.{◌≡◌, ℕ, ◌+◌, ◌<◌, ◌≤◌, List, [], ◌∷◌, Option, Some, refl, sym, ap, ◌∙◌, subst, arith}
+use Rattle.std.proofs.Common.{◌≡◌, ℕ, ◌+◌, ◌<◌, ◌≤◌, List, [], ◌∷◌, Option, Some, refl, sym, ap, ◌∙◌, arith}
 use Rattle.syntax.specs.declared.types.Value.{Value}
 use Rattle.syntax.specs.declared.contents.Contents.{Contents}
 use Rattle.syntax.specs.declared.contents.FuncType.{FuncType}
@@ -94,9 +94,7 @@ module _ (m : Contents) (depth : ℕ) where
       let one = one_function m function type' type f' f defined' defined in
       let same : defined'.0 ≡ defined.0 = omega (arith, defined'.1, defined.1) in
       so _ _ _ _ _
-      (subst (λ (k : ℕ). RunsTo m depth last' s (entered type f args below) (marks_entered f k after) trace' o' u' t') same
-      (subst (λ (g : Func). RunsTo m depth last' s (entered type g args below) (marks_entered g defined'.0 after) trace' o' u' t') one.1
-      (subst (λ (ty : FuncType). RunsTo m depth last' s (entered ty f' args below) (marks_entered f' defined'.0 after) trace' o' u' t') one.0 run))) p q (omega (arith, w))
+      (rw (one.0, one.1, same) at run) p q (omega (arith, w))
 
   by_asks : {last last' here : Moment} {after : List Mark} {s : Store} {function : ℕ} {args : List Value} {below : List Context} {trace trace' : List HostCall} {o o' : RunEnd} {u u' : ℕ} {t' : Store}
       (call : HostCall) → IsImported m function → Alike last (with_memory call.after s) (receiving (as_operands call.answer) below) after trace o u
@@ -107,7 +105,7 @@ module _ (m : Contents) (depth : ℕ) where
   by_asks {last' = last'} {after = after} {s = s} {trace = trace} call imported so (asking {t = t'} {trace = trace'} {outcome = o'} {used = u'} function args below call' k i run) p q w =
       let same : call' ≡ call = cc in
       let rest : trace' ≡ trace = cc in
-      so _ _ _ _ _ (subst (λ (c : HostCall). RunsTo m depth last' (with_memory c.after s) (receiving (as_operands c.answer) below) after trace' o' u' t') same run) rest q (omega (arith, w))
+      so _ _ _ _ _ (rw same at run) rest q (omega (arith, w))
 
   alike : {last : Moment} {s : Store} {contexts : List Context} {marks : List Mark} {trace : List HostCall} {o : RunEnd} {u : ℕ} {t : Store}
       → RunsTo m depth last s contexts marks trace o u t → Alike last s contexts marks trace o u
@@ -131,21 +129,17 @@ module _ (m : Contents) (depth : ℕ) where
       let one = one_function m function b.type a.type b.f a.f b.defined a.defined in
       let same : b.defined.0 ≡ a.defined.0 = omega (arith, b.defined.1, a.defined.1) in
       let run : RunsTo m depth b.last s (entered a.type a.f args []) (marks_entered a.f a.defined.0 []) trace' o' u' t' =
-      subst (λ (k : ℕ). RunsTo m depth b.last s (entered a.type a.f args []) (marks_entered a.f k []) trace' o' u' t') same
-      (subst (λ (g : Func). RunsTo m depth b.last s (entered a.type g args []) (marks_entered g b.defined.0 []) trace' o' u' t') one.1
-      (subst (λ (ty : FuncType). RunsTo m depth b.last s (entered ty b.f args []) (marks_entered b.f b.defined.0 []) trace' o' u' t') one.0 b.runs)) in
+      rw (one.0, one.1, same) at b.runs in
       let last = alike a.runs b.last trace' o' u' t' run p q w in
       a.told ∙ ap (λ (x : Moment). Some (halt_at o x)) last ∙ ap (λ (x : RunEnd). Some (halt_at x b.last)) (sym q) ∙ sym b.told
 
   pub stops_one : (s : Store) (function : ℕ) (args : List Value) (trace trace' : List HostCall) (e e' : Ending) (u u' : ℕ) (t t' : Store) (stop stop' : Option Halt)
       → trace' ≡ trace → e' ≡ e → u' ≡ u → StopsAt m depth s function args trace e u t stop → StopsAt m depth s function args trace' e' u' t' stop' → stop ≡ stop'
   stops_one s function args trace trace' e e' u u' t t' stop stop' p q w a b =
-      by_ending e a (subst (λ (x : Ending). StopsAt m depth s function args trace' x u' t' stop') q b) where
+      by_ending e a (rw q at b) where
         by_ending : (e : Ending) → StopsAt m depth s function args trace e u t stop → StopsAt m depth s function args trace' e u' t' stop' → stop ≡ stop'
         by_ending (how.Return values) a b = a ∙ sym b
-        by_ending (how.Trap trap) a b = stopped_one s function args trace trace' _ _ u u' t t' stop stop' p refl w a b
-        by_ending how.Depth a b = stopped_one s function args trace trace' _ _ u u' t t' stop stop' p refl w a b
-        by_ending how.Spent a b = stopped_one s function args trace trace' _ _ u u' t t' stop stop' p refl w a b
+        by_ending _ a b = stopped_one s function args trace trace' _ _ u u' t t' stop stop' p refl w a b
 
 -- a run that has marks is a run
 pub is_run : (m : Contents) (depth : ℕ) (s : Store) (contexts : List Context) (marks : List Mark) (trace : List HostCall) (outcome : RunEnd) (used : ℕ) (t : Store) (last : Moment)

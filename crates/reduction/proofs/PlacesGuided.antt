@@ -62,9 +62,7 @@ module _ (b : Body) where
   alone d labels base at end body params results a go =
       let p : length (pushed params []) ≡ length params = omega (arith, length-pushed params []) in
       let r : length (pushed results []) ≡ length results = omega (arith, length-pushed results []) in
-      subst (λ (n : ℕ). Guided d.module_contents b labels base n (length results) at end body) p
-      (subst (λ (n : ℕ). Guided d.module_contents b labels base (length (pushed params [])) n at end body) r
-      (go (subst (λ (n : ℕ). Agrees d b.table labels at base (base + n) body) (sym p) a)))
+      rw (r, p) at (go (rw p a))
 
   -- what follows a block, over what it leaves
   rest_guided : (c : Context) (labels : List Target) (base after at behind : ℕ) (rest : Code) (results below : List ValType)

@@ -8,11 +8,9 @@ use Rattle.std.proofs.Common.{min, length-drop}
 use Rattle.std.proofs.lemmas.List.{length-take-le}
 use Rattle.syntax.specs.declared.instruction.Instr.TheVariants.{Return}
 use Rattle.syntax.specs.declared.instruction.Token.TheVariants as op
-use Rattle.validate.specs.Height.{Effect}
 use Rattle.validate.specs.Targets.{pc_of, size, Lists, Tells}
 use Rattle.instance.specs.Store.{Store as Memory_and_globals}
 use Rattle.reduction.specs.Step.{at_code, label_for, left_with, chosen}
-use Rattle.reduction.specs.Heights.{Follows}
 use Rattle.reduction.specs.Places.{keeps, ClosesTo, Guided, GoesOn, jumped, stepped, LeadsOn}
 use Rattle.reduction.proofs.HeightsKept.{tested, called, found}
 use Rattle.reduction.proofs.Rules.{Reaches, InCall, Jumps, Calling, Opening, StepRule, next_rule}
@@ -39,17 +37,15 @@ module _ (m : Contents) where
   reguided : (b : Body) (labels : List Target) (base base' before before' after at behind : ℕ) (code : Code) → Guided m b labels base before after at behind code
       → base ≡ base' → before ≡ before' → Guided m b labels base' before' after at behind code
   reguided b labels base base' before before' after at behind code k eb en =
-      subst (λ (n : ℕ). Guided m b labels base' n after at behind code) en (subst (λ (n : ℕ). Guided m b labels n before after at behind code) eb k)
+      rw (eb, en) at k
 
 module _ (m : Contents) (body : ℕ → Body) where
   over_going : (function : ℕ) (callers : List Place) (labels : List Target) (after behind : ℕ) (contexts : List Context) (values : List Value) (code : Code)
       → Over m body function callers labels after behind contexts → Over m body function callers labels after behind (going_on values code contexts)
-  over_going function callers labels after behind [] values code h = absurd h
-  over_going function callers [] after behind (Label arity next own rest ∷ below) values code h = absurd h
   over_going function callers (t ∷ labels) after behind (Label arity next own rest ∷ below) values code h = h
-  over_going function callers (t ∷ labels) after behind (Frame locals arity own rest ∷ below) values code h = absurd h
   over_going function callers [] after behind (Frame locals arity own rest ∷ []) values code h = h
   over_going function callers [] after behind (Frame locals arity own rest ∷ top ∷ below) values code h = h
+  over_going function callers _ after behind _ values code h = absurd h
 
   -- other locals
   goes_on_locals : (b : Body) (labels : List Target) (contexts : List Context) (locals : List Value) (more after at behind : ℕ) (code : Code)
@@ -212,7 +208,7 @@ module _ (m : Contents) (body : ℕ → Body) (function : ℕ) (callers : List P
 
       by : (o : Option Token) → ClosesTo (body function) (height_of below) after at behind o → LeadsOn m body (stepped (body function) (here at) values callers o) (Goes 0 s (receiving values below))
       by None c = absurd c
-      by (Some op.End) c = subst (λ (to : ℕ). IsPlaced m body (here to) callers (receiving values below) 0) c (beneath labels h)
+      by (Some op.End) c = rw c at (beneath labels h)
       by (Some op.Else) c = rw c.1 (beneath labels h)
       by (Some o) c = absurd c
 
@@ -221,7 +217,7 @@ module _ (m : Contents) (body : ℕ → Body) (function : ℕ) (callers : List P
         → (at : ℕ) → Guided m (body function) labels (height_of below) (length values) after at behind inside
         → LeadsOn m body (stepped (body function) (here at) values callers (slice_get (body function).operations at)) move
     lead_by (rule.leaves {i} {values} {ls} {vs} {rest} still t) at (o, tells, k) =
-        let f = subst (λ (e : Effect). Follows e (length values) (λ mid. Guided m (body function) labels (height_of below) mid after (at + 1) behind rest)) (t.counted (keeps labels)) k in
+        let f = rw (t.counted (keeps labels)) at k in
         let before = ap (λ (xs : List Value). length xs) t.before ∙ length-append t.popped t.rest in
         let leaves = ap (λ (xs : List Value). length xs) t.after ∙ length-append t.pushed t.rest in
         rw (o, jumped-plain (body function) at i values still) (record {
@@ -297,6 +293,4 @@ module _ (m : Contents) (body : ℕ → Body) where
       lead_by m body place.function callers w.labels w.after w.behind arity back values code below w.over (next_rule m s (Label arity back values code ∷ below)) place.pc
       (reguided m (body place.function) w.labels (height_of below) _ (0 + length values) _ w.after place.pc w.behind code w.code refl (omega arith))
   leads s place callers (Frame locals arity values code ∷ below) w =
-      subst (λ (c : Code). LeadsOn m body (stepped (body place.function) place values callers (slice_get (body place.function).operations place.pc))
-      (at_code m s values c (Frame locals arity values code ∷ below))) (sym w.code.0)
-      (leaves s place callers w.labels locals arity values code below w.after w.behind w.over w.code.1 (omega (arith, w.code.2)))
+      rw w.code.0 (leaves s place callers w.labels locals arity values code below w.after w.behind w.over w.code.1 (omega (arith, w.code.2)))

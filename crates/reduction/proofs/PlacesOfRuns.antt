@@ -1,5 +1,5 @@
 -- The calls of a run stand at places that the side tables tell.
-use Rattle.reduction.proofs.Words.{◌≡◌, ℕ, ◌+◌, List, [], ◌∷◌, ◌++◌, length, map, Some, refl, sym, ap, subst, arith, slice_get, length-map, Value}
+use Rattle.reduction.proofs.Words.{◌≡◌, ℕ, ◌+◌, List, [], ◌∷◌, ◌++◌, length, map, Some, refl, ap, subst, arith, slice_get, length-map, Value}
 use Rattle.reduction.proofs.Words.{Token, Contents, FuncType, Func, Code, Done, Plain, Block, Loop, If, pushed, type_of, ValidModule, Target, Store}
 use Rattle.reduction.proofs.Words.{value_of, Context, Frame, entered, receiving, types_of, Move, Calls, next, as_operands, IsDefined, operands_of, Body}
 use Rattle.reduction.proofs.Words.{Place, Over, IsPlaced, AreBodies}
@@ -71,13 +71,13 @@ module _ (m : Contents) (body : ℕ → Body) (valid : ValidModule m) (bodies : 
   led s contexts move e ([], w) = absurd w
   led s contexts move e (place ∷ callers, w) =
       let places = stepped (body place.function) place (operands_of contexts) callers (slice_get (body place.function).operations place.pc) in
-      (places, subst (λ (o : Move). LeadsOn m body places o) e (leads m body s place callers contexts w))
+      (places, rw e at (leads m body s place callers contexts w))
 
   awaiting : (type found : FuncType) (places : List Place) (below : List Context) → type ≡ found → ArePlaced m body places below (length found.results)
       → Awaiting places below (length type.results)
   awaiting type found [] [] same w = absurd w
   awaiting type found (place ∷ callers) [] same w = absurd w.over
-  awaiting type found places (top ∷ below) same w = subst (λ (t : FuncType). ArePlaced m body places (top ∷ below) (length t.results)) (sym same) w
+  awaiting type found places (top ∷ below) same w = rw same w
 
   answers : (places : List Place) (below : List Context) (more : ℕ) (values : List Value) → ArePlaced m body places below more → length values ≡ more → Somewhere (receiving values below)
   answers [] below more values w e = absurd w

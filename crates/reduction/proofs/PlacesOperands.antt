@@ -33,10 +33,7 @@ stays_by (rule.calls {left} {type} {rest} {contexts} c typed) k = call-going (dr
 stays_by (rule.enters {rest} {left} {type} {contexts} o few) k = call-going (drop (length type.params) left) rest contexts
 stays_by (rule.closes {values} {below}) k = call-receiving values below
 stays_by rule.answers k = absurd k
-stays_by rule.ends k = tt
-stays_by (rule.fails still t) k = tt
-stays_by (rule.no_callee trap) k = tt
-stays_by rule.stuck k = tt
+stays_by _ k = tt
 
 -- a step within a block stays in its call
 pub stays : (m : Contents) (s : Memory_and_globals) (arity : ℕ) (back : Code) (values : List Value) (code : Code) (below : List Context)
@@ -50,9 +47,8 @@ lower (Label arity next values code ∷ below) = all_operands below
 lower (Frame locals arity values code ∷ below) = all_operands below
 
 pub operands-over : (contexts : List Context) → all_operands contexts ≡ operands_of contexts ++ lower contexts
-operands-over [] = refl
 operands-over (Label arity next values code ∷ below) = refl
-operands-over (Frame locals arity values code ∷ below) = refl
+operands-over _ = refl
 
 -- the lowest of some operands, from a height within those beneath
 lowest : (upper under : List Value) (n : ℕ) → n ≤ length under → drop (length (upper ++ under) - n) (upper ++ under) ≡ drop (length under - n) under

@@ -42,7 +42,7 @@ there o p e h = subst IsSome e h
 module _ (m : Contents) (s : Memory_and_globals) (fit : HaveGlobalTypes m s.globals) (locals : List Value) (ls : List ValType) (ok : types_of locals ≡ ls) where
   some_typed : (o : Option Value) (v : Value) (t : ValType) (values : List Value) (rest : List ValType) → o ≡ Some v → type_of v ≡ t → types_of values ≡ rest
       → PlainStepTyped m ls (t ∷ rest) (giving s locals o values)
-  some_typed o v t values rest e ev es = subst (λ (p : Option Value). PlainStepTyped m ls (t ∷ rest) (giving s locals p values)) (sym e) (fit, ok, cc)
+  some_typed o v t values rest e ev es = rw e (fit, ok, cc)
 
   loaded_typed : (t : ValType) (bytes : ℕ) (x : Extension) (o : Option (List ℕ)) (values : List Value) (rest : List ValType) → types_of values ≡ rest
       → PlainStepTyped m ls (t ∷ rest) (loaded s locals t bytes x o values)
@@ -88,7 +88,7 @@ module _ (m : Contents) (s : Memory_and_globals) (fit : HaveGlobalTypes m s.glob
   replaced : (v : Value) (x : ℕ) (t : ValType) (values : List Value) → slice_get (types_of values) x ≡ Some t → type_of v ≡ t → replaces v (slice_get values x) ≡ true
   replaced v x t values at ev =
       let f = typed_at values x t at in
-      subst (λ (o : Option Value). replaces v o ≡ true) (sym f.1) (is_of-typed (type_of f.0) v (ev ∙ sym f.2))
+      rw f.1 (is_of-typed (type_of f.0) v (ev ∙ sym f.2))
 
   local_set : (x : ℕ) (t : ValType) (v : Value) → slice_get ls x ≡ Some t → type_of v ≡ t → (replaces v (slice_get locals x) ≡ true) × (types_of (slice_set locals x v) ≡ ls)
   local_set x t v e ev =

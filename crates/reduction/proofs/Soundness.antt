@@ -30,14 +30,12 @@ module _ (m : Contents) (answers : List ValType) where
 
   going-code : {c : Typing} {ends : List ValType} {contexts : List Context} (values : List Value) (code : Code) → Under m answers c ends contexts → code_left (going_on values code contexts) ≡ code
   going-code values code (in_label types ends arity next v0 c0 e u t1 t2) = refl
-  going-code values code (in_call results locals arity v0 c0 e u t) = refl
-  going-code values code (outermost locals arity v0 c0 e) = refl
+  going-code values code _ = refl
 
   going-operands : {c : Typing} {ends : List ValType} {contexts : List Context} (values : List Value) (code : Code) → Under m answers c ends contexts
       → operands_of (going_on values code contexts) ≡ values
   going-operands values code (in_label types ends arity next v0 c0 e u t1 t2) = refl
-  going-operands values code (in_call results locals arity v0 c0 e u t) = refl
-  going-operands values code (outermost locals arity v0 c0 e) = refl
+  going-operands values code _ = refl
 
   -- the innermost context gets typed operands
   pub receives : {c : Typing} {ends : List ValType} {contexts : List Context} (values : List Value) (more : List ValType) → types_of values ≡ more
@@ -89,7 +87,7 @@ module _ (m : Contents) (answers : List ValType) where
       let same : ts ≡ types = cc in
       let r = topmost_types types rest values ev in
       let n : length types ≡ arity = ap length (sym same) ∙ sym e in
-      let t : nat_le arity (length values) ≡ true = subst (λ (k : ℕ). nat_le k (length values) ≡ true) n r.2 in
+      let t : nat_le arity (length values) ≡ true = rw n at r.2 in
       let kept : types_of (take arity values) ≡ pushed ts [] = subst (λ (k : ℕ). types_of (take k values) ≡ pushed types []) n r.0 ∙ ap (λ (x : List ValType). pushed x []) (sym same) in
       (continuing (take arity values) next below, rw t refl, continues (take arity values) ts next kept u t2)
   branches (suc label) values types rest (in_label ts es arity next own code e u t1 t2) at ev = branches label values types rest u at ev
@@ -207,7 +205,7 @@ module _ (m : Contents) (answers : List ValType) where
             let p = same_valtypes-is other.params type.params q.0 in
             let r = same_valtypes-is other.results type.results q.1 in
             rw eo (call_sound c ends contexts s f other values rest below u (function_type_found f other (slice_get (function_types m) f) refl eo)
-            (e ∙ ap (λ (ts : List ValType). pushed ts below) (sym p)) (subst (λ (ts : List ValType). Typed c rest (pushed ts below) ends) (sym r) k))
+            (e ∙ ap (λ (ts : List ValType). pushed ts below) (sym p)) (rw r k))
 
         by_type : (o : Option FuncType) → type_of_function m f ≡ o → Sound m answers (if same_type o (Some type) then call_typed f (type_of_function m f) values rest contexts else Traps 7)
         by_type None eo = tt
@@ -238,9 +236,9 @@ module _ (m : Contents) (answers : List ValType) where
       (label_holds (λ (l : ℕ). slice_get c.labels l ≡ Some types) labels n default each at (slice_get labels n) refl) h)
   plain_sound c ends contexts s Return values rest mid fit u (below, e) k = jump_sound s _ fit (returns values below u e)
   plain_sound c ends contexts s (Call f) values rest mid fit u (ft, h, (below, e, a)) k =
-      let h' : HasFunctionType m f ft = subst (λ (n : Contents). HasFunctionType n f ft) (module_of u) h in
+      let h' : HasFunctionType m f ft = rw (module_of u) at h in
       let q = type_of_function-is f ft h' in
-      rw q (call_sound c ends contexts s f ft values rest below u h' e (subst (λ (ts : List ValType). Typed c rest ts ends) a k))
+      rw q (call_sound c ends contexts s f ft values rest below u h' e (rw a at k))
   plain_sound c ends contexts s (CallIndirect t) [] rest mid fit u (table, ft, at, (below, e, a)) k = absurd (let f = e ∙ pushed-last ft.params type.I32 below in cc)
   plain_sound c ends contexts s (CallIndirect t) (I64 n ∷ values) rest mid fit u (table, ft, at, (below, e, a)) k = absurd (let f = e ∙ pushed-last ft.params type.I32 below in cc)
   plain_sound c ends contexts s (CallIndirect t) (I32 n ∷ values) rest mid fit u (table, ft, at, (below, e, a)) k =
@@ -248,7 +246,7 @@ module _ (m : Contents) (answers : List ValType) where
       let h : types_of values ≡ pushed ft.params below = cc in
       let at' = ap (λ (n : Contents). slice_get n.types t) (sym (module_of u)) ∙ at in
       rw (there c.module_contents.table m.table (ap (λ (k : Contents). k.table) (module_of u)) table)
-      (element_sound c ends contexts s t ft values rest below (slice_get s.table n) u at' h (subst (λ (ts : List ValType). Typed c rest ts ends) a k))
+      (element_sound c ends contexts s t ft values rest below (slice_get s.table n) u at' h (rw a at k))
   plain_sound c ends contexts s i values rest mid fit u t k =
       turned_sound c ends contexts s (plain_step m s (locals_of contexts) i values) rest mid u
       (plain_step_typed m s fit (locals_of contexts) c.locals (locals_typed u) c i (types_of values) mid values (module_of u) refl tt t refl) k
@@ -287,7 +285,7 @@ module _ (m : Contents) (answers : List ValType) where
       → HaveGlobalTypes m s.globals → Under m answers c ends contexts → types_of values ≡ types → Typed c code types ends → Sound m answers (at_code m s values code contexts)
   code_sound c ends contexts s Done values types fit u e t = ends_sound s values fit u (e ∙ t)
   code_sound c ends contexts s (Plain i rest) values types fit u e (mid, t, k) =
-      plain_sound c ends contexts s i values rest mid fit u (subst (λ (ts : List ValType). InstrTyped c i ts mid) (sym e) t) k
+      plain_sound c ends contexts s i values rest mid fit u (rw e t) k
   code_sound c ends contexts s (Block type body rest) values types fit u e (t, at, below, a, tb, tr) =
       let at' : type_of_block m type ≡ Some t = ap (λ (n : Contents). type_of_block n type) (sym (module_of u)) ∙ at in
       rw at' (enters c ends contexts s t.params t.results t.results rest body values rest below fit u (e ∙ a) tb tr tr)

@@ -1,10 +1,10 @@
 -- No instruction writes the table.
-use Rattle.reduction.proofs.Words.{◌≡◌, ℕ, List, refl, subst, ◌∙◌, Value, Contents, Context, Move, Goes, next}
+use Rattle.reduction.proofs.Words.{◌≡◌, ℕ, List, refl, ◌∙◌, Value, Contents, Context, Goes, next}
 use Rattle.instance.specs.Store.{Store as Memory_and_globals}
 use Rattle.reduction.specs.Invoking.{Invokes, defined, imported}
 use Rattle.reduction.specs.Run.{HostCall, RunEnd, Run, RunsWithin, ends, traps, spent, too_deep, goes, calls, asks}
 use Rattle.reduction.proofs.PlainStepView.{StoreLeft, same_store, global_set, written, enlarged}
-use Rattle.reduction.proofs.Rules.{LeavesStore, store_after}
+use Rattle.reduction.proofs.Rules.{store_after}
 
 -- an instruction leaves the table
 table_left : {s t : Memory_and_globals} → StoreLeft s t → t.table ≡ s.table
@@ -14,7 +14,7 @@ table_left (written address bytes memory e) = refl
 table_left (enlarged delta) = refl
 
 step_keeps : (m : Contents) (s : Memory_and_globals) (contexts there : List Context) (charge : ℕ) (s' : Memory_and_globals) → next m s contexts ≡ Goes charge s' there → s'.table ≡ s.table
-step_keeps m s contexts there charge s' e = table_left (subst (λ (move : Move). LeavesStore s move) e (store_after m s contexts))
+step_keeps m s contexts there charge s' e = table_left (rw e at (store_after m s contexts))
 
 module _ (m : Contents) (depth : ℕ) where
   run_keeps : {s : Memory_and_globals} {contexts : List Context} {trace : List HostCall} {o : RunEnd} {u : ℕ} {t : Memory_and_globals} → Run m depth s contexts trace o u t → t.table ≡ s.table

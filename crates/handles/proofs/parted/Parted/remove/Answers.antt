@@ -1,8 +1,7 @@
-use Rattle.std.proofs.Common.{◌<◌, ◌-◌, List, length, ap, sym, ◌∙◌, subst}
+use Rattle.std.proofs.Common.{◌-◌, List, ap, sym, ◌∙◌}
 use Rattle.std.specs.List.{remove}
-use Rattle.handles.specs.declared.handle.Kind.{Kind}
 use Rattle.handles.specs.declared.sorted.ListPlace.{ListPlace}
-use Rattle.handles.specs.Inner.Parts.{Parts, parts_of, part, with_part}
+use Rattle.handles.specs.Inner.Parts.{parts_of, part, with_part}
 use Rattle.handles.proofs.Parts.{out_of_idle, out_of_check, out_of_timers}
 use Rattle.handles.proofs.parted.Parted.remove.Goals as goal
 
@@ -10,8 +9,8 @@ pub returns-in-Idle : goal.returns-in-Idle
 returns-in-Idle c =
     let s = c.self.inside in
     let kind = c.in-Idle.is in
-    let there = subst (λ (p : Parts). c.args.at < length (part c.args.kind p)) (sym c.self.view_is) c.requires.in_bounds in
-    let few = subst (λ (k : Kind). c.args.at < length (part k (parts_of s.places s.checks s.timers))) kind there in
+    let there = rw (← c.self.view_is) at c.requires.in_bounds in
+    let few = rw kind at there in
     ap (λ (xs : List ListPlace). parts_of xs (s.checks - 1) (s.timers - 1)) c.remove_at.ensures
     ∙ out_of_idle s.places s.checks s.timers c.self.invariant.0 c.self.invariant.1 c.args.at few
     ∙ (λ t. with_part (sym kind t) (remove (part (sym kind t) (c.self.view_is t)) c.args.at) (c.self.view_is t))
@@ -20,8 +19,8 @@ pub returns-in-Check : goal.returns-in-Check
 returns-in-Check c =
     let s = c.self.inside in
     let kind = c.in-Check.is in
-    let there = subst (λ (p : Parts). c.args.at < length (part c.args.kind p)) (sym c.self.view_is) c.requires.in_bounds in
-    let few = subst (λ (k : Kind). c.args.at < length (part k (parts_of s.places s.checks s.timers))) kind there in
+    let there = rw (← c.self.view_is) at c.requires.in_bounds in
+    let few = rw kind at there in
     ap (λ (xs : List ListPlace). parts_of xs s.checks (s.timers - 1)) c.remove_at-in-Check.ensures
     ∙ out_of_check s.places s.checks s.timers c.self.invariant.0 c.self.invariant.1 c.args.at few
     ∙ (λ t. with_part (sym kind t) (remove (part (sym kind t) (c.self.view_is t)) c.args.at) (c.self.view_is t))

@@ -13,7 +13,7 @@ put_in-requires-clause-room c =
     let l = c.args.self.now in
     let idle = no_shorter (place_of Idle c.args.handle c.args.new.now) l.idle in
     let check = no_shorter (place_of Check c.args.handle c.args.new.now) l.check in
-    subst (λ (o : Option ListPlace). how_many_listed (with_list Timer (with o l.timers) l) ≤ MAX_HANDLES) (sym c.place.ensures) (omega (arith, c.requires, idle, check))
+    rw c.place.ensures (omega (arith, c.requires, idle, check))
 
 pub put_in-requires-2-clause-room : goal.put_in-requires-2-clause-room
 put_in-requires-2-clause-room c =

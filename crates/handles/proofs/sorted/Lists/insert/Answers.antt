@@ -45,5 +45,4 @@ returns-in-Ok c =
     let at = found places_total same_place _ _ _ _ c.part.ensures.value c.in-Ok.ensures.bound c.in-Ok.ensures.ok in
     let same = list_of_part kind p c.requires.listed in
     let kept : set_of_sorted (part kind p) ≡ set.insert (set_of_sorted (part kind p)) c.args.place tt = set-insert_present places_total same_place _ _ _ rises at.0 at.1 in
-    subst (λ (l : ActiveLists). l ≡ with_list kind (set.insert (list kind l) c.args.place tt) l) c.self.view_is
-    (sym (with_own_list kind (lists_of p)) ∙ ap (λ (s : PlaceSet). with_list kind s (lists_of p)) (same ∙ kept ∙ ap (λ (s : PlaceSet). set.insert s c.args.place tt) (sym same)))
+    rw c.self.view_is at (sym (with_own_list kind (lists_of p)) ∙ ap (λ (s : PlaceSet). with_list kind s (lists_of p)) (same ∙ kept ∙ ap (λ (s : PlaceSet). set.insert s c.args.place tt) (sym same)))

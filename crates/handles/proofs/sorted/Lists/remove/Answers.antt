@@ -35,5 +35,4 @@ returns-in-Err c =
     let gap = gap_found places_total _ _ _ _ c.part.ensures.value rises c.in-Err.ensures.bound c.in-Err.ensures.position in
     let same = list_of_part kind p c.requires in
     let kept : set_of_sorted (part kind p) ≡ set.remove (set_of_sorted (part kind p)) c.args.place = set-remove_absent places_total same_place _ _ _ rises gap in
-    subst (λ (l : ActiveLists). l ≡ with_list kind (set.remove (list kind l) c.args.place) l) c.self.view_is
-    (sym (with_own_list kind (lists_of p)) ∙ ap (λ (s : PlaceSet). with_list kind s (lists_of p)) (same ∙ kept ∙ ap (λ (s : PlaceSet). set.remove s c.args.place) (sym same)))
+    rw c.self.view_is at (sym (with_own_list kind (lists_of p)) ∙ ap (λ (s : PlaceSet). with_list kind s (lists_of p)) (same ∙ kept ∙ ap (λ (s : PlaceSet). set.remove s c.args.place) (sym same)))

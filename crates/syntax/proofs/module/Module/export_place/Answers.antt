@@ -1,8 +1,8 @@
-use Rattle.std.proofs.Common.{◌≡◌, Option, Some, IfSome, subst}
+use Rattle.std.proofs.Common.{◌≡◌, Option, Some, IfSome}
 use Rattle.syntax.proofs.module.Module.export_place.Goals as goal
 
 known_of_some : {X : Type 0} (P : X → Type 0) (o : Option X) (x : X) → o ≡ Some x → IfSome o P → P x
-known_of_some {X} P o x e h = subst (λ (m : Option X). IfSome m P) e h
+known_of_some {X} P o x e h = rw e at h
 
 pub returns-in-Some : goal.returns-in-Some
 returns-in-Some c =

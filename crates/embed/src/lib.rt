@@ -2,7 +2,8 @@
 //!
 //! Bytes become a guest by `load`, which answers a `Linked`, or a `Refusal` that prints the stage, number and word of what
 //! refused them. A guest lives on a `LoopCore`: over a `Desk` where the embedder drives it in one thread, `step` by `step`, runs
-//! its orders and brings back the replies; `serve` runs loops and workers in threads of their own. A `World` takes the steps of
+//! its orders and brings back the replies; `serve` runs loops and workers in threads of their own, and `serve_joint` also gives back
+//! the workers' seats, of which its contract says what all threads did together. A `World` takes the steps of
 //! several loops and workers one by one, for tests. Where a callback stopped that did not return, `LoopCore::last_stop` answers.
 //! A `Resident` is an instance that is kept, whose functions are called by name, with no loop.
 //!
@@ -31,7 +32,8 @@ pub use places::{Part, Place, function_name, place_of_operation};
 pub use resident::{Calling, Going, Resident};
 pub use sentences::{explain, meaning};
 pub use serve::{
-    Account, Callback, Job, LoopEnding, Served, Serving, Task, Watch, serve, serve_watched,
+    Account, Callback, Job, JointlyServed, LoopEnding, Served, Serving, Task, Watch, serve,
+    serve_joint, serve_watched,
 };
 pub use syntax::types::Value;
 pub use validate::ValidFault;

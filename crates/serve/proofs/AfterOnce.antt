@@ -12,7 +12,7 @@ use Rattle.serve.specs.Answers.{IsServed}
 use Rattle.serve.specs.Histories.{HasEnded, ThreadHistory, thread_calls}
 
 module _ (g : Setting) where
-  history_of : (events : List Event) (old now : Loop Seats) → ThreadHistory thread_calls g old events now → History thread_calls g old events now
+  pub history_of : (events : List Event) (old now : Loop Seats) → ThreadHistory thread_calls g old events now → History thread_calls g old events now
   history_of [] old now h = h
   history_of (e ∷ events) old now h = (h.0, h.1, history_of events h.0 now h.3)
 
@@ -23,14 +23,14 @@ module _ (g : Setting) where
     pub led : ThreadHistory thread_calls g start before old
     pub step : EventStep thread_calls g e old new
 
-  led_to : (before behind : List Event) (e : Event) (start now : Loop Seats) → ThreadHistory thread_calls g start (before ++ e ∷ behind) now → IsLed start before e
+  pub led_to : (before behind : List Event) (e : Event) (start now : Loop Seats) → ThreadHistory thread_calls g start (before ++ e ∷ behind) now → IsLed start before e
   led_to [] behind e start now h = record { old = start; new = h.0; led = refl; step = h.1 }
   led_to (x ∷ before) behind e start now h =
       let rest = led_to before behind e h.0 now h.3 in
       record { old = rest.old; new = rest.new; led = (h.0, h.1, h.2, rest.led); step = rest.step }
 
 module _ (once : IsAfterOnce thread_calls) (own : IsAfterOwn thread_calls) (last : IsAfterLast thread_calls) where
-  ends_once : (g : Setting) (how : LoopEnding) (emits : List ℕ) → HasEnded thread_calls g how emits → EndsAfterOnce g how emits
+  unfoldable pub ends_once : (g : Setting) (how : LoopEnding) (emits : List ℕ) → HasEnded thread_calls g how emits → EndsAfterOnce g how emits
   ends_once g how emits h =
       let done = h.done in
       record {

@@ -1,11 +1,13 @@
 pub mod AfterOnce
 pub mod AtDesk
+pub mod ByWorkers
 pub mod Ended
 pub mod Gathered
 pub mod Gathering
 pub mod JointCounts
 pub mod Lookups
 pub mod NumberedLists
+pub mod Offered
 pub mod OneEventMore
 pub mod Placing
 pub mod Promised

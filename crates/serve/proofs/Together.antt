@@ -24,7 +24,7 @@ use Rattle.serve.specs.declared.serving.Serving.{Serving}
 use Rattle.serve.specs.Histories.{HasEnded, thread_calls, setting_at}
 use Rattle.serve.specs.Inner.Ends.{offer_of, offered_in, IsTied, DidTurns, DidEvents, WorkerEnds, LoopEnds}
 use Rattle.serve.specs.Inner.Places.{EachPair}
-use Rattle.serve.specs.Joint.{JointRun, asks, takes, puts, is_offered, ticket_for, times_in}
+use Rattle.serve.specs.Joint.{IsPut, JointRun, asks, takes, puts, is_offered, ticket_for, times_in}
 use Rattle.serve.proofs.JointCounts.{Pairs, count_map, PostsWithin, TakesThese, PutsNone, PutsThese, taken_within, offered_within}
 use Rattle.serve.proofs.Lookups.{not_there, is_within, is_there, front_at, split_at, by_index, to_index, map_at, map_back}
 
@@ -223,9 +223,7 @@ module _ {J : Type 0} (ticket : J → Ticket) (loaded : Loaded) (serving : Servi
     -- the put that a collected reply is of
     same : (k i : ℕ) (events : List Event) (o : WorkOrder) (end : WorkEnd) (is_taken : Bool) → slice_get loops k ≡ Some events
         → slice_get events i ≡ Some (EndOffered o end is_taken)
-        → (o.loop_no ≡ k)
-        × ((w j : ℕ) × (turns : List Turn) × (reply : Reply) × (slice_get workers w ≡ Some turns) × (slice_get turns j ≡ Some (Put reply))
-        × (order_of reply.order ≡ o) × (end_of reply.outcome ≡ end))
+        → (o.loop_no ≡ k) × IsPut workers o end
     same k i events o end is_taken e at =
         let l = loop_at k events e in
         let whole = replies k l.below in
@@ -240,7 +238,7 @@ module _ {J : Type 0} (ticket : J → Ticket) (loaded : Loaded) (serving : Servi
       where
         from_pass : (at : ℕ) (p : PassView J) (giver : HandView Reply) (n : ℕ) (reply : Reply) → slice_get p.replies k ≡ Some giver → slice_get giver.given n ≡ Some reply
             → order_of reply.order ≡ o → end_of reply.outcome ≡ end → ((slice_get lp at ≡ Some p) ⊎ ((w : ℕ) × (at ≡ length lp + w) × (slice_get wp w ≡ Some p)))
-            → (w j : ℕ) × (turns : List Turn) × (reply : Reply) × (slice_get workers w ≡ Some turns) × (slice_get turns j ≡ Some (Put reply)) × (order_of reply.order ≡ o) × (end_of reply.outcome ≡ end)
+            → IsPut workers o end
         from_pass place p giver n reply own gave of_order of_end (inl at) =
             let loop = pair_at PutsNone lp loops none_put place p at in
             not_there reply (subst (λ xs. slice_get xs n ≡ Some reply) (loop.2 k giver own) gave)

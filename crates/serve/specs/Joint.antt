@@ -38,6 +38,12 @@ puts t _ = false
 abbrev pub times_in : {A : Type 0} → (A → Bool) → List (List A) → ℕ
 times_in p lists = sum_by (λ xs. count_by p xs) lists
 
+-- one of these workers put a reply to this order, with this end
+abbrev pub IsPut : (workers : List (List Turn)) → WorkOrder → WorkEnd → Type 0
+IsPut workers o end =
+    (w j : ℕ) × (turns : List Turn) × (reply : Reply) × (slice_get workers w ≡ Some turns) × (slice_get turns j ≡ Some (Put reply))
+    × (order_of reply.order ≡ o) × (end_of reply.outcome ≡ end)
+
 -- There are a history of each loop, which its answer reports, and the turns of each worker, in order, which started just what the
 -- crew's seats have started, worker by worker: each ticket once. Of every ticket workers took, all together, at most as many jobs as
 -- its order was handed out. Of every ticket a loop was offered at most as many replies as workers
@@ -55,6 +61,4 @@ pub record JointRun (loaded : Loaded) (serving : Serving) (served : List Served)
   pub offered : (k : ℕ) (events : List Event) → slice_get loops k ≡ Some events → (t : Ticket) → count_by (is_offered t) events ≤ times_in (puts t) workers
   pub same : (k i : ℕ) (events : List Event) (o : WorkOrder) (end : WorkEnd) (is_taken : Bool) → slice_get loops k ≡ Some events
       → slice_get events i ≡ Some (EndOffered o end is_taken)
-      → (o.loop_no ≡ k)
-      × ((w j : ℕ) × (turns : List Turn) × (reply : Reply) × (slice_get workers w ≡ Some turns) × (slice_get turns j ≡ Some (Put reply))
-      × (order_of reply.order ≡ o) × (end_of reply.outcome ≡ end))
+      → (o.loop_no ≡ k) × IsPut workers o end

@@ -36,7 +36,7 @@ pub struct LoopThread<'a, J> {
 }
 
 impl<'a, J: Job> LoopThread<'a, J> {
-    ghost use Rattle.std.specs.Prelude.{◌≡◌, ◌<◌, [], Some, None, length, option_to_list, IfOk, IfSome};
+    ghost use Rattle.std.specs.Prelude.{◌≡◌, ◌<◌, Some, None, length, option_to_list, IfOk, IfSome};
     ghost use Rattle.std.specs.Arc.{arc_value};
     ghost use Rattle.board.specs.Boards.{IsEventOf};
     ghost use Rattle.marks.specs.Counts.{new_taker};

@@ -1,6 +1,6 @@
 // What a loop and a worker step with: their seats and their passes.
 
-ghost use Rattle.std.specs.Prelude.{◌≡◌, ◌<◌, ◌≤◌, ◌+◌, ◌∷◌, ◌++◌, [], length, IfOk};
+ghost use Rattle.std.specs.Prelude.{◌≡◌, ◌<◌, ◌+◌, ◌∷◌, ◌++◌, [], length, IfOk};
 ghost use Rattle.board.specs.Boards.{IsPassOf, HasNumber, IsNewPass};
 ghost use Rattle.claims.specs.Views.{new_loop_view, new_worker_view};
 ghost use Rattle.serve.specs.Inner.Ends.{WorkerEnds};

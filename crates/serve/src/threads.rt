@@ -6,7 +6,7 @@ ghost use Rattle.std.specs.Thread.{IsSync};
 ghost use Rattle.serve.specs.Histories.{setting_at};
 ghost use Rattle.serve.specs.Inner.Ends.{LoopEnds, EachLoopEnds, WorkerEnds};
 ghost use Rattle.serve.specs.Inner.Places.{EachFrom, EachDown, EachPair};
-ghost use Rattle.serve.specs.Inner.Promises.{IsThreadOf, IsWorkerThreadOf};
+ghost use Rattle.serve.specs.Inner.Promises.{IsThreadOf};
 
 use crate::crew::{join_workers, start_workers};
 use crate::job::Job;

@@ -38,6 +38,8 @@ uint32_t wasmloop_rt_job_reply(wasmloop_handle *, uint8_t *, size_t, uint64_t *)
 uint32_t wasmloop_rt_function(wasmloop_handle *, const uint8_t *, size_t, wasmloop_type *);
 uint32_t wasmloop_rt_instance(wasmloop_handle *, const wasmloop_call_limits *, wasmloop_handle *, wasmloop_ended *);
 uint32_t wasmloop_rt_call(wasmloop_handle *, const uint8_t *, size_t, const uint64_t *, size_t, const wasmloop_call_limits *, wasmloop_ended *);
+uint32_t wasmloop_rt_export_number(wasmloop_handle *, const uint8_t *, size_t, uint64_t *);
+uint32_t wasmloop_rt_call_at(wasmloop_handle *, uint64_t, const uint64_t *, size_t, const wasmloop_call_limits *, wasmloop_ended *);
 uint32_t wasmloop_rt_call_begin(wasmloop_handle *, const uint8_t *, size_t, const uint64_t *, size_t, const wasmloop_call_limits *);
 uint32_t wasmloop_rt_call_run_for(wasmloop_handle *, uint64_t, uint32_t *, wasmloop_ended *);
 uint32_t wasmloop_rt_read(wasmloop_handle *, uint32_t, uint8_t *, size_t);
@@ -219,6 +221,12 @@ int wasmloop_function(const wasmloop_handle *module, const char *name, wasmloop_
     return (int)wasmloop_rt_function(&shared, (const uint8_t *)name, length_of(name), type);
 }
 
+int wasmloop_export_number(const wasmloop_handle *module, const char *name, uint64_t *number) {
+    if (!module || !name || !number) return WASMLOOP_NULL;
+    wasmloop_handle shared = *module;
+    return (int)wasmloop_rt_export_number(&shared, (const uint8_t *)name, length_of(name), number);
+}
+
 int wasmloop_instance(const wasmloop_handle *module, const wasmloop_call_limits *limits, wasmloop_handle *instance, wasmloop_ended *ended) {
     if (!module || !limits || !instance || !ended) return WASMLOOP_NULL;
     if (module == instance) return WASMLOOP_KIND;
@@ -231,6 +239,13 @@ int wasmloop_call(wasmloop_handle *instance, const char *name, const uint64_t *a
     if (!instance || !name || !limits || !ended || (!arguments && count)) return WASMLOOP_NULL;
     if (count > PTRDIFF_MAX / sizeof *arguments) return WASMLOOP_RANGE;
     return (int)wasmloop_rt_call(instance, (const uint8_t *)name, length_of(name), count ? arguments : &nothing, count, limits, ended);
+}
+
+int wasmloop_call_at(wasmloop_handle *instance, uint64_t number, const uint64_t *arguments, size_t count, const wasmloop_call_limits *limits,
+    wasmloop_ended *ended) {
+    if (!instance || !limits || !ended || (!arguments && count)) return WASMLOOP_NULL;
+    if (count > PTRDIFF_MAX / sizeof *arguments) return WASMLOOP_RANGE;
+    return (int)wasmloop_rt_call_at(instance, number, count ? arguments : &nothing, count, limits, ended);
 }
 
 int wasmloop_call_begin(wasmloop_handle *instance, const char *name, const uint64_t *arguments, size_t count, const wasmloop_call_limits *limits) {

@@ -44,6 +44,9 @@
  *     KIND     a handle holds another kind of object, or is in the wrong state
  *     others   as documented for each call. MEMORY may come before each of them
  *
+ * Which KIND it is: of a job, wasmloop_job_about says whether it has run, or is paused; an instance returns KIND while a call is in progress;
+ * a handle to be filled is empty if it was initialised, or dropped since.
+ *
  * A call that does not return WASMLOOP_OK has no effect and writes no output, except as documented for wasmloop_load and wasmloop_instance.
  */
 #ifndef WASMLOOP_H
@@ -98,18 +101,18 @@ typedef struct wasmloop_shape {
     uint32_t table;      /* it has a table: without one no callback can be called (link with --export-table) */
     uint32_t pages;      /* the initial size of its memory in pages of 65,536 bytes, at most 64; 0 without a memory */
     uint32_t most_pages; /* the maximum size: the declared one, and at most 64 */
-    uint64_t imports;    /* the number of imported functions */
+    uint64_t imports;    /* the number of imported functions, which do nothing and return -1 in an instance */
 } wasmloop_shape;
 
 int wasmloop_shape_of(const wasmloop_handle *module, wasmloop_shape *shape);
 
 /* Writes a warning about what a module lacks to run on a loop, in the words of `wasmloop check`, to `into`: at most `room` bytes, without a
- * NUL. *count is the length of the whole sentence. Number 0 is the first warning. NONE: there are no more. The module loads and runs all the
- * same. RANGE: `room` is above PTRDIFF_MAX. There is a warning if the module
+ * NUL. *count is the length of the whole sentence. Number 0 is the first warning. NONE: there are no more. A warning changes nothing. RANGE:
+ * `room` is above PTRDIFF_MAX. There is a warning if the module
  *     imports a call that takes a callback, and has no table     no callback can be called
  *     exports no uv_main, uv_work or uv_after_work, and no       a loop of it does nothing, and it is no plug-in; names that begin with
  *     function of a plug-in's                                    _ or uv_, and main, are not a plug-in's
- *     imports queue_work, and lacks one of the last two          each request is refused with -38 */
+ *     imports queue_work, and lacks uv_work or uv_after_work     each request fails with -38 */
 int wasmloop_warning(const wasmloop_handle *module, uint32_t number, char *into, size_t room, uint64_t *count);
 
 /* Releases the object of a handle of any kind. EMPTY: there was none. Afterwards you may free or reuse the struct. */
@@ -135,9 +138,10 @@ int wasmloop_job_new(const wasmloop_handle *module, const wasmloop_task *task, c
 int wasmloop_job_run(wasmloop_handle *job);
 
 /* Runs a slice of a job, in any thread: at most `units` units of fuel, at least 1. Sets *over to 1 if the job is over: its outcome, reply
- * and fuel are those of wasmloop_job_run. Sets *over to 0 if it has used all the units and has fuel left: it may continue, in this thread or
- * another. A paused job may be dropped, and wasmloop_stop, wasmloop_stop_places and wasmloop_stop_told report where it stands; every other call
- * on it returns KIND.
+ * and fuel are those of wasmloop_job_run. Sets *over to 0 if the job is paused: it has fuel left, and may continue, in this thread or another.
+ * A slice that pauses uses all its units, or fewer, at least one, once in_copy and out_set have copied more than 64 bytes per unit in it.
+ * A paused job may be dropped; wasmloop_job_about reports the fuel that it has used; wasmloop_stop, wasmloop_stop_places and
+ * wasmloop_stop_told report where it stands; every other call on it returns KIND.
  * Only the first slice allocates; if that fails, the job is over with the outcome WASMLOOP_WORK_MEMORY. RANGE: `units` is 0. KIND: the job is over. */
 int wasmloop_job_run_for(wasmloop_handle *job, uint64_t units, uint32_t *over);
 
@@ -150,14 +154,14 @@ typedef struct wasmloop_about {
     uint32_t request; /* from 1; 0 for a job without a loop */
     uint32_t slot;    /* below 32 */
     uint32_t op;      /* the argument of uv_work */
-    uint32_t outcome; /* DONE: uv_work returned; DEPTH: it exceeded the call depth; SPENT: it ran out of fuel; MEMORY: an allocation failed */
+    uint32_t outcome; /* NOT_RUN: it is not over. DONE: uv_work returned; DEPTH: it exceeded the call depth; SPENT: it ran out of fuel; MEMORY: an allocation failed */
     uint32_t value;   /* DONE: the result. TRAP: the trap's number */
     uint64_t bytes;   /* the length of its input, at most 65,536 */
     uint64_t reply;   /* DONE: the length of its reply, at most 65,536 */
-    uint64_t used;    /* if it has run: the fuel that the start function and uv_work used together, at most the job's; else 0 */
+    uint64_t used;    /* the fuel that the start function and uv_work have used so far, together, at most the job's; 0 before it runs */
 } wasmloop_about;
 
-/* Describes a job, before or after it runs. */
+/* Describes a job, before, between or after its slices. A paused job is one that is not over and has used fuel. */
 int wasmloop_job_about(wasmloop_handle *job, wasmloop_about *about);
 
 /* Copy a job's input, or its reply, to `into`: at most `room` bytes. *count is the whole length. wasmloop_job_reply returns NONE unless the
@@ -182,6 +186,10 @@ typedef struct wasmloop_type {
 /* Writes the type of the function exported as `name` to *type. NONE: no function has that name. */
 int wasmloop_function(const wasmloop_handle *module, const char *name, wasmloop_type *type);
 
+/* Writes the number of the function exported as `name` to *number, for wasmloop_call_at: exports are counted from 0, in the module's order.
+ * NONE: no function has that name. */
+int wasmloop_export_number(const wasmloop_handle *module, const char *name, uint64_t *number);
+
 /* The limits of a call. */
 typedef struct wasmloop_call_limits {
     uint64_t fuel;  /* in units */
@@ -204,18 +212,23 @@ typedef struct wasmloop_ended {
 } wasmloop_ended;
 
 /* Creates an instance of a module and runs its start function, if any. Its memory, globals and table persist from call to call until you
- * drop it; the module may be dropped first. "uv" imports return -1, as in `wasmloop invoke`. OK: *ended describes the start function.
+ * drop it; the module may be dropped first. "uv" imports do nothing and return -1, as in `wasmloop invoke`: a module that has any
+ * (wasmloop_shape's imports) may need a loop or a job instead. OK: *ended describes the start function.
  * NOT_STARTED: the start function did not return; *ended says how it ended, and no instance is created. RANGE: the depth is not 1 to 128.
  * In no other case is *ended written. */
 int wasmloop_instance(const wasmloop_handle *module, const wasmloop_call_limits *limits, wasmloop_handle *instance, wasmloop_ended *ended);
 
-/* Calls the function exported as `name` with `count` arguments, an i32 as a number below 2^32; `args` may be NULL if `count` is 0. OK: it
- * was called, and *ended says how it ended. A trap, the depth limit or running out of fuel does not roll anything back, and you may call
- * the instance again. NONE: no function has that name. ARGUMENTS: it takes another number of arguments, or one is out of its type's range.
- * RANGE: the depth is not 1 to 128. Otherwise nothing changes, and *ended is not written. */
+/* Calls the function exported as `name` with `count` arguments, an i32 as a number below 2^32 (pass -1 as (uint32_t)-1); `args` may be NULL
+ * if `count` is 0. OK: it was called, and *ended says how it ended. A trap, the depth limit or running out of fuel does not roll anything
+ * back, and you may call the instance again. NONE: no function has that name. ARGUMENTS: it takes another number of arguments, or one is out
+ * of its type's range. RANGE: the depth is not 1 to 128. Otherwise nothing changes, and *ended is not written. */
 int wasmloop_call(wasmloop_handle *instance, const char *name, const uint64_t *args, size_t count, const wasmloop_call_limits *limits, wasmloop_ended *ended);
 
-/* Begins such a call, to be run in slices. It runs nothing yet, and does all the allocation. NONE, ARGUMENTS, RANGE: as for wasmloop_call.
+/* Calls the function that is export `number` of the module, as wasmloop_call does; no name is looked up. NONE: it is no function, or there is
+ * no such export. */
+int wasmloop_call_at(wasmloop_handle *instance, uint64_t number, const uint64_t *args, size_t count, const wasmloop_call_limits *limits, wasmloop_ended *ended);
+
+/* Begins a call by name, to be run in slices. It runs nothing yet, and does all the allocation. NONE, ARGUMENTS, RANGE: as for wasmloop_call.
  * Until the call is over you may drop the instance and inspect it: wasmloop_size, wasmloop_read, wasmloop_global, and wasmloop_stop,
  * wasmloop_stop_places and wasmloop_stop_told, which report where it stands. Every other call on it but wasmloop_call_run_for returns KIND. */
 int wasmloop_call_begin(wasmloop_handle *instance, const char *name, const uint64_t *args, size_t count, const wasmloop_call_limits *limits);

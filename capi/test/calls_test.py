@@ -167,7 +167,7 @@ def wrong_words():
         (lambda: spent.reply_into(bytearray(1)), "Error: the job has no reply: it ran out of fuel"),
         (spent.run, "Error: the job has already run"),
         (lambda: loop.accept(job), "Error: the job has not run yet"),
-        (paused.about, "Error: the job is paused: continue it with run_for"),
+        (paused.reply, "Error: the job is paused: continue it with run_for"),
         (lambda: busy.call("uv_work", 0), "Error: a call is in progress"),
         (lambda: busy.memory.__setitem__(slice(0, 1), b"x"), "Error: a call is in progress"),
         (lambda: loop.memory.__setitem__(slice(0, 1), b"x"), "Error: the memory of a loop can only be read"),
@@ -180,6 +180,7 @@ def wrong_words():
         (lambda: plugin.call("uv_work", 2**32), f"OutOfRange: argument 1 (i32) {2**32} is out of range: expected -2147483648 to 4294967295"),
         (lambda: plugin.memory[-1:3], "OutOfRange: start -1 is out of range: expected 0 to 131072"),
         (lambda: plugin.memory[3], "TypeError: read and write memory by slices, as memory[at:at + n]"),
+        (lambda: pickle.dumps(module), "TypeError: cannot pickle this module: pickle the bytes of the module, and load them at the other end"),
     ]
     for call, words in wanted:
         same(said(call), words)

@@ -167,7 +167,11 @@ static void shape(slot *it) {
 static void function(slot *it) {
     wasmloop_type type;
     memset(&type, GUARD, sizeof type);
-    int status = CALL(wasmloop_function(&it->handle, names[below(NAMES)], &type));
+    const char *name = names[below(NAMES)];
+    int status = CALL(wasmloop_function(&it->handle, name, &type));
+    uint64_t number = GUARD;
+    is("a function's number", CALL(wasmloop_export_number(&it->handle, name, &number)), status);
+    is("a number", status == WASMLOOP_OK ? number < 1024 : number == GUARD, 1);
     if (it->kind == MODULE) told_one("function", status, WASMLOOP_OK, WASMLOOP_NONE);
     else told("function", status, of_kind(it, MODULE));
     if (status != WASMLOOP_OK) { untouched("type", &type, sizeof type); return; }
@@ -401,7 +405,7 @@ static void ran(slot *it, int was_refused) {
     stop(it, about.outcome >= WASMLOOP_WORK_TRAP && about.outcome <= WASMLOOP_WORK_SPENT);
 }
 
-/* A slice, or some: one that leaves a job paused has used its units, and the last one no more. */
+/* A slice, or some: one that leaves a job paused has used some of its units, and the last one no more. */
 static void run_for(slot *it) {
     for (uint32_t more = below(6); more < 6; more++) {
         uint64_t units = below(16) ? below(4000) : UINT64_MAX;
@@ -412,12 +416,12 @@ static void run_for(slot *it) {
         if (!told("job_run_for", status, units ? wanted : WASMLOOP_RANGE)) { is("over", over, GUARD); return; }
         is("over", over <= 1, 1);
         it->kind = over ? JOB : PAUSED;
-        if (!over) { pauses++, it->used += units; continue; }
-        ran(it, was_refused);
         wasmloop_about about;
         is("about", wasmloop_job_about(&it->handle, &about), WASMLOOP_OK);
-        is("the units of its slices", about.used >= it->used && about.used - it->used <= units, 1);
-        return;
+        is("the units of a slice", about.used >= it->used && about.used - it->used <= units, 1);
+        if (over) { ran(it, was_refused); return; }
+        is("a paused job", about.outcome == WASMLOOP_NOT_RUN && about.used > it->used, 1);
+        pauses++, it->used = about.used;
     }
 }
 
@@ -432,7 +436,9 @@ static void reads(slot *it) {
     wasmloop_about about;
     memset(&about, GUARD, sizeof about);
     int wanted = of_kind(it, JOB), is_job = wanted == WASMLOOP_OK;
-    if (!told("job_about", CALL(wasmloop_job_about(&it->handle, &about)), wanted)) untouched("about", &about, sizeof about);
+    int described = it->kind == PAUSED ? WASMLOOP_OK : wanted;
+    if (!told("job_about", CALL(wasmloop_job_about(&it->handle, &about)), described)) untouched("about", &about, sizeof about);
+    if (it->kind == PAUSED) is("a paused job's fuel", about.outcome == WASMLOOP_NOT_RUN && about.used == it->used, 1);
     if (is_job) is("has run", about.outcome != WASMLOOP_NOT_RUN, it->has_run);
     int replied = is_job && about.outcome != WASMLOOP_WORK_DONE ? WASMLOOP_NONE : wanted;
     size_t room = below(8) ? below(400) : 66000;
@@ -476,7 +482,8 @@ static void call(slot *it) {
     memset(&told_of, GUARD, sizeof told_of);
     uint64_t args[4] = { draw(), draw(), draw(), (uint64_t)draw() << 20 };
     int wanted = is_depth(limits.depth) ? of_kind(it, INSTANCE) : WASMLOOP_RANGE;
-    int status = CALL(wasmloop_call(&it->handle, names[below(NAMES)], args, below(5), &limits, &told_of));
+    int status = below(2) ? CALL(wasmloop_call(&it->handle, names[below(NAMES)], args, below(5), &limits, &told_of))
+                          : CALL(wasmloop_call_at(&it->handle, below(8), args, below(5), &limits, &told_of));
     if (wanted == WASMLOOP_OK && (status == WASMLOOP_NONE || status == WASMLOOP_ARGUMENTS)) wanted = status;
     if (!told("call", status, wanted)) { untouched("ended", &told_of, sizeof told_of); return; }
     ended_right(&told_of, limits.fuel);

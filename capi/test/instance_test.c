@@ -247,6 +247,15 @@ static void starts(void) {
     IS(ended.result[2], 0);
     IS(call(&it, "pair", 2, UINT64_C(1) << 40, 3), WASMLOOP_ARGUMENTS);
     IS(is_blank(), 1);
+    uint64_t many[9] = { 0, 1, 2, 3, 4, 5, 6, UINT64_C(1) << 41, UINT64_C(1) << 42 };
+    IS(wasmloop_call(&it, "eighth", many, 8, &limits, &ended), WASMLOOP_OK);
+    IS(ended.result[0], UINT64_C(1) << 41);
+    blank();
+    IS(wasmloop_call(&it, "ninth", many, 9, &limits, &ended), WASMLOOP_ARGUMENTS);
+    IS(is_blank(), 1);
+    many[7] = 7;
+    IS(wasmloop_call(&it, "ninth", many, 9, &limits, &ended), WASMLOOP_OK);
+    IS(ended.result[0], UINT64_C(1) << 42);
     IS(wasmloop_drop(&it), WASMLOOP_OK);
     /* a start function that spends its fuel */
     wasmloop_call_limits little = { start - 1, 64, 0 };
@@ -320,6 +329,65 @@ static void in_slices(void) {
     IS(wasmloop_drop(&it), WASMLOOP_OK);
 }
 
+/* calls by number: each ends as one by name, over what those before have left */
+static void by_number(void) {
+    static const struct { const char *name; size_t count; uint64_t args[2], fuel; int wanted; } all[] = {
+        { "add", 1, { 5 }, 1000000, 0 }, { "divide", 2, { 7, 2 }, 1000000, 0 }, { "divide", 2, { 1, 0 }, 1000000, 0 },
+        { "deep", 1, { 200 }, 1000000, 0 }, { "spin", 0, { 0 }, 777, 0 }, { "nothing", 0, { 0 }, 1000, 0 }, { "add", 1, { 8 }, 1000, 0 },
+        { "add", 2, { 0 }, 1000, WASMLOOP_ARGUMENTS }, { "deep", 1, { UINT64_C(1) << 32 }, 1000, WASMLOOP_ARGUMENTS },
+    };
+    wasmloop_handle module = module_of("kv.wasm"), it = WASMLOOP_HANDLE_INIT, other = WASMLOOP_HANDLE_INIT;
+    uint64_t number = 77, args[300] = { 0 };
+    IS(wasmloop_instance(&module, &limits, &it, &ended), WASMLOOP_OK);
+    IS(wasmloop_instance(&module, &limits, &other, &ended), WASMLOOP_OK);
+    for (size_t i = 0; i < sizeof all / sizeof *all; i++) {
+        wasmloop_call_limits few = { all[i].fuel, 64, 0 };
+        wasmloop_ended wanted;
+        memset(&wanted, 0xab, sizeof wanted);
+        blank();
+        IS(wasmloop_export_number(&module, all[i].name, &number), WASMLOOP_OK);
+        IS(wasmloop_call(&other, all[i].name, all[i].args, all[i].count, &few, &wanted), all[i].wanted);
+        IS(wasmloop_call_at(&it, number, all[i].args, all[i].count, &few, &ended), all[i].wanted);
+        IS(memcmp(&wanted, &ended, sizeof ended), 0);
+    }
+    /* what has no number, and numbers of no function */
+    number = 77;
+    IS(wasmloop_export_number(&module, "nobody", &number), WASMLOOP_NONE);
+    IS(wasmloop_export_number(&module, "memory", &number), WASMLOOP_NONE);
+    IS(wasmloop_export_number(&it, "add", &number), WASMLOOP_KIND);
+    IS(wasmloop_export_number(NULL, "add", &number), WASMLOOP_NULL);
+    IS(wasmloop_export_number(&module, NULL, &number), WASMLOOP_NULL);
+    IS(wasmloop_export_number(&module, "add", NULL), WASMLOOP_NULL);
+    IS(number, 77);
+    blank();
+    size_t functions = 0, others = 0;
+    for (uint64_t k = 0; k < 1024; k++) {
+        int told = wasmloop_call_at(&it, k, args, 300, &limits, &ended);
+        functions += told == WASMLOOP_ARGUMENTS;
+        others += told == WASMLOOP_NONE;
+    }
+    IS(functions > 8 && functions + others == 1024, 1);
+    IS(wasmloop_call_at(&it, UINT64_MAX, NULL, 0, &limits, &ended), WASMLOOP_NONE);
+    IS(wasmloop_export_number(&module, "add", &number), WASMLOOP_OK);
+    wasmloop_call_limits flat = { 1000, 0, 0 }, high = { 1000, 129, 0 };
+    wasmloop_handle nothing = WASMLOOP_HANDLE_INIT;
+    IS(wasmloop_call_at(&it, number, args, SIZE_MAX, &limits, &ended), WASMLOOP_RANGE);
+    IS(wasmloop_call_at(&it, number, args, 1, &flat, &ended), WASMLOOP_RANGE);
+    IS(wasmloop_call_at(&it, number, args, 1, &high, &ended), WASMLOOP_RANGE);
+    IS(wasmloop_call_at(&nothing, number, args, 1, &limits, &ended), WASMLOOP_EMPTY);
+    IS(wasmloop_call_at(&module, number, args, 1, &limits, &ended), WASMLOOP_KIND);
+    IS(wasmloop_call_at(NULL, number, args, 1, &limits, &ended), WASMLOOP_NULL);
+    IS(wasmloop_call_at(&it, number, NULL, 1, &limits, &ended), WASMLOOP_NULL);
+    IS(wasmloop_call_at(&it, number, args, 1, NULL, &ended), WASMLOOP_NULL);
+    IS(wasmloop_call_at(&it, number, args, 1, &limits, NULL), WASMLOOP_NULL);
+    IS(wasmloop_call_begin(&it, "add", args, 1, &limits), WASMLOOP_OK);
+    IS(wasmloop_call_at(&it, number, args, 1, &limits, &ended), WASMLOOP_KIND);
+    IS(is_blank(), 1);
+    IS(wasmloop_drop(&module), WASMLOOP_OK);
+    IS(wasmloop_drop(&it), WASMLOOP_OK);
+    IS(wasmloop_drop(&other), WASMLOOP_OK);
+}
+
 static void reads_global(wasmloop_handle *it, const char *name, uint32_t type, uint64_t wanted) {
     wasmloop_number value;
     memset(&value, 0xab, sizeof value);
@@ -361,6 +429,7 @@ int main(int argc, char **argv) {
     starts();
     globals();
     in_slices();
+    by_number();
     IS(strcmp(wasmloop_status_name(WASMLOOP_NOT_STARTED), "NOT_STARTED"), 0);
     IS(strcmp(wasmloop_status_name(WASMLOOP_ARGUMENTS), "ARGUMENTS"), 0);
     IS(wasmloop_status_name(13) == NULL, 1);

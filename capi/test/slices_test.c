@@ -137,7 +137,8 @@ static void paused(void) {
     IS(wasmloop_job_start(&loop, &job), WASMLOOP_OK);
     IS(wasmloop_job_run_for(&job, 10, &over), WASMLOOP_OK);
     IS(over, 0);
-    IS(wasmloop_job_about(&job, &about), WASMLOOP_KIND);
+    IS(wasmloop_job_about(&job, &about), WASMLOOP_OK);
+    IS(about.outcome == WASMLOOP_NOT_RUN && about.used == 10 && about.request == 1, 1);
     IS(wasmloop_job_input(&job, &byte, 1, &count), WASMLOOP_KIND);
     IS(wasmloop_job_reply(&job, &byte, 1, &count), WASMLOOP_KIND);
     IS(byte == 7 && count == 7, 1);
@@ -340,6 +341,42 @@ static void call_stands(const char *name, uint64_t units, unsigned slices) {
     IS(wasmloop_drop(&it), WASMLOOP_OK);
 }
 
+/* a module whose uv_work copies 65,536 bytes in, as often as its operation says, and returns 7 */
+static const uint8_t copier[] = {
+    0x00, 0x61, 0x73, 0x6d, 0x01, 0x00, 0x00, 0x00, 0x01, 0x0d, 0x02, 0x60, 0x03, 0x7f, 0x7f, 0x7f, 0x01, 0x7f, 0x60, 0x01, 0x7f, 0x01, 0x7f, /* types */
+    0x02, 0x0e, 0x01, 0x02, 0x75, 0x76, 0x07, 0x69, 0x6e, 0x5f, 0x63, 0x6f, 0x70, 0x79, 0x00, 0x00, /* imports uv.in_copy */
+    0x03, 0x02, 0x01, 0x01, 0x05, 0x03, 0x01, 0x00, 0x01, /* a function, and a memory of a page */
+    0x07, 0x0b, 0x01, 0x07, 0x75, 0x76, 0x5f, 0x77, 0x6f, 0x72, 0x6b, 0x00, 0x01, /* exports uv_work */
+    0x0a, 0x1d, 0x01, 0x1b, 0x00, 0x03, 0x40, 0x41, 0x00, 0x41, 0x00, 0x41, 0x80, 0x80, 0x04, 0x10, 0x00, 0x1a, /* loop: drop in_copy(0, 0, 65536) */
+    0x20, 0x00, 0x41, 0x01, 0x6b, 0x22, 0x00, 0x0d, 0x00, 0x0b, 0x41, 0x07, 0x0b, /* br_if, where local 0 less 1 is not 0; then 7 */
+};
+
+/* A slice also ends once the calls in it have copied more than 64 bytes for each of its units: 98 times 65,536 bytes in one of 100,000 units,
+ * and once in one of 12. The job's reply and fuel are those of one run. */
+static void copies_end_slices(void) {
+    static const uint8_t input[65536];
+    static const struct { uint64_t units; unsigned copies; } cuts[] = { { 100000, 98 }, { 10000, 10 }, { 1024, 2 }, { 1023, 1 }, { 12, 1 } };
+    wasmloop_handle module = WASMLOOP_HANDLE_INIT, job = WASMLOOP_HANDLE_INIT;
+    wasmloop_task task = { .fuel = 1000000, .op = 1000, .depth = 1 };
+    wasmloop_fault fault;
+    IS(wasmloop_load(copier, sizeof copier, &module, &fault), WASMLOOP_OK);
+    IS(wasmloop_work(&module, &task, input, sizeof input, &job), WASMLOOP_OK);
+    struct told once = told_of(&job);
+    IS(once.about.outcome, WASMLOOP_WORK_DONE);
+    IS(wasmloop_drop(&job), WASMLOOP_OK);
+    for (size_t k = 0; k < sizeof cuts / sizeof *cuts; k++) {
+        uint32_t over = 0;
+        unsigned slices = 0;
+        IS(wasmloop_job_new(&module, &task, input, sizeof input, &job), WASMLOOP_OK);
+        while (IS(wasmloop_job_run_for(&job, cuts[k].units, &over), WASMLOOP_OK), over == 0) slices++;
+        struct told sliced = told_of(&job);
+        IS(memcmp(&once, &sliced, sizeof once), 0);
+        IS(slices, 1000 / cuts[k].copies);
+        IS(wasmloop_drop(&job), WASMLOOP_OK);
+    }
+    IS(wasmloop_drop(&module), WASMLOOP_OK);
+}
+
 int main(int argc, char **argv) {
     if (argc != 2) return 2;
     folder = argv[1];
@@ -360,6 +397,7 @@ int main(int argc, char **argv) {
     calls_agree("countdown.wasm", "uv_main", 0, 20000, 64);
     paused();
     dropped();
+    copies_end_slices();
     paused_call();
     return all_hold();
 }

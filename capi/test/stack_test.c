@@ -73,9 +73,11 @@ static void makes_instance(void) {
 static void calls(void) {
     wasmloop_call_limits limits = { 100000, 128, 0 };
     wasmloop_ended ended;
-    uint64_t args[1] = { 0 };
+    uint64_t args[1] = { 0 }, number = 0;
     wasmloop_call(&instance, "uv_work", args, 1, &limits, &ended);
     wasmloop_call(&instance, "uv_main", NULL, 0, &limits, &ended);
+    wasmloop_export_number(&module, "uv_work", &number);
+    wasmloop_call_at(&instance, number, args, 1, &limits, &ended);
 }
 static void begins(void) {
     wasmloop_call_limits limits = { 100000, 128, 0 };

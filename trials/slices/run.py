@@ -5,7 +5,7 @@
 
 Random modules (trials/fuzz/work.mjs) and the examples that have a work function, each with random operations, bytes, fuel and depth: a
 job is run at once, and the same job again in slices of random lengths. Outcome, value, bytes, fuel and the place where it stopped are
-the same, a slice that leaves the job paused uses exactly its units, and the last one no more. Then a job of 10^9 units, at once
+the same, a slice uses some of its units and no more, and a job that copies no bytes uses them all. Then a job of 10^9 units, at once
 and in 10,000 slices, with the time of both. The status is 1 where anything differs.
 """
 import argparse
@@ -45,9 +45,9 @@ def in_slices(make, next_units, fuel):
             units = next_units()
             if job.run_for(units):
                 return told(job), used, units, pauses
-            used, pauses = used + units, pauses + 1
-            if used >= fuel:
-                sys.exit(f"a job of {fuel} units is paused after {used}")
+            before, used, pauses = used, job.about().used, pauses + 1
+            if not before < used <= before + units or used >= fuel:
+                sys.exit(f"a job of {fuel} units is paused after {used}, by a slice of {units} after {before}")
 
 
 def lengths(chance, used):

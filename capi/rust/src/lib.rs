@@ -242,6 +242,13 @@ impl Signature {
     }
 }
 
+/// A function that a module exports, looked up once for `Instance::call_at`.
+#[derive(Clone, Debug)]
+pub struct Export {
+    name: String,
+    number: u64,
+}
+
 /// A number with its type, 1 for i32 or 2 for i64. An i32 is in the low half.
 #[repr(C)]
 #[derive(Clone, Copy, Debug, Default)]
@@ -270,6 +277,15 @@ extern "C" {
     fn wasmloop_call(
         instance: *mut Handle,
         name: *const c_char,
+        args: *const u64,
+        count: usize,
+        limits: *const CallLimits,
+        ended: *mut Ended,
+    ) -> i32;
+    fn wasmloop_export_number(module: *const Handle, name: *const c_char, number: *mut u64) -> i32;
+    fn wasmloop_call_at(
+        instance: *mut Handle,
+        number: u64,
         args: *const u64,
         count: usize,
         limits: *const CallLimits,
@@ -352,6 +368,8 @@ pub enum Error {
     Range { what: &'static str, value: u64, least: u64, most: u64 },
     /// No function is exported under this name.
     NoFunction(String),
+    /// The function takes another number of arguments, or one is out of its type's range.
+    Arguments { why: String },
     /// A work function, a call of an instance, or its start function did not return.
     Stopped { ending: u32, trap: u32, used: u64 },
     /// The job or the instance is in the wrong state for this call. `status` is `KIND`, or `NONE` for a reply that does not exist.
@@ -363,7 +381,7 @@ pub enum Error {
 impl fmt::Display for Error {
     fn fmt(&self, to: &mut fmt::Formatter) -> fmt::Result {
         match self {
-            Error::Refused { why, .. } => to.write_str(why),
+            Error::Refused { why, .. } | Error::Arguments { why } => to.write_str(why),
             Error::Range { what, value, least, most } => write!(to, "{what} {value} is out of range: expected {least} to {most}"),
             Error::NoFunction(name) => write!(to, "no function is exported as {name:?}"),
             Error::Stopped { ending, trap, used } => {
@@ -404,9 +422,9 @@ fn done(status: i32) -> Result<(), Error> {
 /// Why a call on a job failed, by the job's state.
 fn job_error(job: &mut Handle, status: i32) -> Error {
     let mut about = About::default();
-    let is_paused = unsafe { wasmloop_job_about(job, &mut about) } != OK;
+    unsafe { wasmloop_job_about(job, &mut about) };
     let why = match (status, about.outcome) {
-        (KIND, _) if is_paused => "the job is paused: continue it with run_for",
+        (KIND, NOT_RUN) if about.used > 0 => "the job is paused: continue it with run_for",
         (KIND, NOT_RUN) => "the job has not run yet",
         (KIND, _) => "the job has already run",
         (NONE, WORK_TRAP) => "the job has no reply: it trapped",
@@ -458,9 +476,22 @@ fn exported(status: i32, name: &str) -> Result<(), Error> {
     if status == NONE { Err(Error::NoFunction(name.into())) } else { done(status) }
 }
 
-/// As `exported`, of a call on an instance.
-fn called(instance: &mut Handle, status: i32, name: &str) -> Result<(), Error> {
-    if status == KIND { Err(instance_error(instance, status)) } else { exported(status, name) }
+/// Which argument of a call the function does not take.
+fn arguments_error(module: &Module, name: &str, args: &[u64]) -> Error {
+    let signature = match module.function(name) {
+        Ok(signature) => signature,
+        Err(why) => return why,
+    };
+    let (kinds, most) = (signature.params(), u64::from(u32::MAX));
+    let wide = args.iter().zip(kinds).position(|(&arg, &kind)| kind == 1 && arg > most);
+    let why = match wide {
+        _ if kinds.len() != args.len() => {
+            format!("{name} takes {} argument{}, got {}", kinds.len(), if kinds.len() == 1 { "" } else { "s" }, args.len())
+        }
+        Some(at) => format!("argument {} (i32) {} is out of range: expected 0 to {most}; pass -1 as {most}", at + 1, args[at]),
+        None => return Error::Status(ARGUMENTS),
+    };
+    Error::Arguments { why }
 }
 
 /// The text that a call writes; `None` if it returns `NONE`.
@@ -549,7 +580,7 @@ unsafe impl Sync for Module {}
 pub struct Loop(Handle, Turned);
 
 /// An instance. It keeps its memory from call to call; calls to "uv" imports return -1.
-pub struct Instance(Handle);
+pub struct Instance(Handle, Module);
 
 /// One run of a module's `uv_work`. Any thread may run it.
 pub struct Job(Handle);
@@ -585,11 +616,28 @@ impl Module {
         (0..).map_while(|number| text(|into, room, count| unsafe { wasmloop_warning(&self.0, number, into, room, count) }).transpose()).collect()
     }
 
+    /// Why an `Instance` of the module may not do what it is written for: the functions of "uv" that it imports return -1 there. `None` if it
+    /// imports none.
+    pub fn instance_warning(&self) -> Result<Option<String>, Error> {
+        let imports = self.shape()?.imports;
+        let functions = if imports == 1 { "function" } else { "functions" };
+        let advice = "use a Loop for timers and queued work, a Job for uv_work";
+        let why = || format!("the module imports {imports} {functions} of \"uv\", which return -1 in an instance: {advice}");
+        Ok((imports > 0).then(why))
+    }
+
     /// The type of the function exported under a name.
     pub fn function(&self, name: &str) -> Result<Signature, Error> {
         let (told, mut signature) = (export(name)?, Signature { params: 0, results: 0, param: [0; 256], result: [0; 16] });
         exported(unsafe { wasmloop_function(&self.0, told.as_ptr(), &mut signature) }, name)?;
         Ok(signature)
+    }
+
+    /// The function exported under a name, for `Instance::call_at`.
+    pub fn export(&self, name: &str) -> Result<Export, Error> {
+        let (told, mut number) = (export(name)?, 0);
+        exported(unsafe { wasmloop_export_number(&self.0, told.as_ptr(), &mut number) }, name)?;
+        Ok(Export { name: name.into(), number })
     }
 
     fn make(&self, call: MakesJob, task: Task, bytes: &[u8]) -> Result<Job, Error> {
@@ -612,12 +660,22 @@ impl Module {
 }
 
 impl Instance {
-    /// Creates an instance and runs its start function, if any. `Error::Stopped` if that does not return.
+    /// Creates an instance and runs its start function, if any. `Error::Stopped` if that does not return. Functions of "uv" return -1 in it, as
+    /// `Module::instance_warning` says.
     pub fn new(module: &Module, fuel: u64, depth: u32) -> Result<Instance, Error> {
         let (mut made, mut ended, limits) = (NOTHING, Ended::default(), call_limits(fuel, depth)?);
         match unsafe { wasmloop_instance(&module.0, &limits, &mut made, &mut ended) } {
             NOT_STARTED => Err(ended.stopped()),
-            status => done(status).map(|()| Instance(made)),
+            status => done(status).and_then(|()| Ok(Instance(made, module.share()?))),
+        }
+    }
+
+    /// What the status of a call of the function under a name says.
+    fn called(&mut self, status: i32, name: &str, args: &[u64]) -> Result<(), Error> {
+        match status {
+            KIND => Err(instance_error(&mut self.0, status)),
+            ARGUMENTS => Err(arguments_error(&self.1, name, args)),
+            _ => exported(status, name),
         }
     }
 
@@ -625,7 +683,15 @@ impl Instance {
     pub fn call(&mut self, name: &str, args: &[u64], fuel: u64, depth: u32) -> Result<Ended, Error> {
         let (told, limits, mut ended) = (export(name)?, call_limits(fuel, depth)?, Ended::default());
         let status = unsafe { wasmloop_call(&mut self.0, told.as_ptr(), args.as_ptr(), args.len(), &limits, &mut ended) };
-        called(&mut self.0, status, name)?;
+        self.called(status, name, args)?;
+        ended.returned()
+    }
+
+    /// `call` of a function that `Module::export` of this instance's module returned: no name is looked up.
+    pub fn call_at(&mut self, export: &Export, args: &[u64], fuel: u64, depth: u32) -> Result<Ended, Error> {
+        let (limits, mut ended) = (call_limits(fuel, depth)?, Ended::default());
+        let status = unsafe { wasmloop_call_at(&mut self.0, export.number, args.as_ptr(), args.len(), &limits, &mut ended) };
+        self.called(status, &export.name, args)?;
         ended.returned()
     }
 
@@ -633,7 +699,7 @@ impl Instance {
     pub fn begin(&mut self, name: &str, args: &[u64], fuel: u64, depth: u32) -> Result<(), Error> {
         let (told, limits) = (export(name)?, call_limits(fuel, depth)?);
         let status = unsafe { wasmloop_call_begin(&mut self.0, told.as_ptr(), args.as_ptr(), args.len(), &limits) };
-        called(&mut self.0, status, name)
+        self.called(status, name, args)
     }
 
     /// Runs a slice of that call: at most `units` units of fuel. `None` if the call is not over; else the result of `call`.
@@ -695,7 +761,8 @@ impl Job {
         job_done(&mut self.0, status)
     }
 
-    /// Runs a slice: at most `units` units of fuel. True if the job is over, with the result that `run` gives.
+    /// Runs a slice: at most `units` units of fuel, or fewer once it has copied more than 64 bytes for each. True if the job is over, with
+    /// the result that `run` gives.
     pub fn run_for(&mut self, units: u64) -> Result<bool, Error> {
         let mut over = 0;
         within("units", units, 1, u64::MAX)?;
@@ -704,7 +771,7 @@ impl Job {
         Ok(over == 1)
     }
 
-    /// The job's request, and its outcome.
+    /// The job's request, its outcome, and the fuel that it has used so far.
     pub fn about(&mut self) -> Result<About, Error> {
         let mut about = About::default();
         let status = unsafe { wasmloop_job_about(&mut self.0, &mut about) };

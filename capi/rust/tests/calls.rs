@@ -47,7 +47,11 @@ fn a_module_is_shared_by_threads() {
     let shape = other.shape().unwrap();
     assert!(shape.work == 1 && shape.pages >= 1 && shape.most_pages >= shape.pages);
     assert!(other.warnings().unwrap().is_empty());
-    assert!(Module::new(b"\0asm\x01\0\0\0").unwrap().warnings().unwrap()[0].starts_with("the module exports none of uv_main"));
+    let warning = format!("the module imports {} functions of \"uv\", which return -1 in an instance: ", shape.imports);
+    assert!(other.instance_warning().unwrap().unwrap().starts_with(&warning));
+    let empty = Module::new(b"\0asm\x01\0\0\0").unwrap();
+    assert!(empty.warnings().unwrap()[0].starts_with("the module exports none of uv_main"));
+    assert!(empty.instance_warning().unwrap().is_none());
 }
 
 #[test]
@@ -71,7 +75,8 @@ fn it_is_told_where_work_stopped() {
     let mut job = module("crc32").job(task(3), b"abc").unwrap();
     assert_eq!(said(job.reply()), "the job has no reply: it has not run yet");
     assert!(!job.run_for(1).unwrap());
-    assert_eq!(said(job.about()), "the job is paused: continue it with run_for");
+    assert_eq!(job.about().unwrap().used, 1);
+    assert_eq!(said(job.run()), "the job is paused: continue it with run_for");
     assert!(job.run_for(9).unwrap());
     assert!(matches!(job.reply(), Err(Error::State { status: wasmloop::NONE, .. })));
     assert_eq!(said(job.reply()), "the job has no reply: it ran out of fuel");
@@ -142,6 +147,10 @@ fn an_instance_keeps_its_memory() {
     let mut it = Instance::new(&plugin, 1_000_000, 64).unwrap();
     let mut add = |by: u64| it.call("add", &[by], 1_000_000, 64).unwrap().results()[0];
     assert_eq!((add(5), add(7)), (5, 12));
+    let adds = plugin.export("add").unwrap();
+    assert_eq!(it.call_at(&adds, &[0], 1_000_000, 64).unwrap().results(), [12]);
+    assert_eq!(said(plugin.export("memory")), "no function is exported as \"memory\"");
+    assert_eq!(said(it.call_at(&adds, &[], 1, 64)), "add takes 1 argument, got 0");
     let at = it.call("buffer", &[], 1_000_000, 64).unwrap().results()[0] as u32;
     it.write(at, b"apple").unwrap();
     let mut bytes = [0; 5];
@@ -153,7 +162,8 @@ fn an_instance_keeps_its_memory() {
     assert!(said(it.call("divide", &[1, 0], 1_000_000, 64)).starts_with("the call trapped: division by zero, after "));
     assert!(!it.stop().unwrap().is_empty());
     assert_eq!(said(it.call("absent", &[], 1, 64)), "no function is exported as \"absent\"");
-    assert!(matches!(it.call("add", &[], 1, 64), Err(Error::Status(wasmloop::ARGUMENTS))));
+    assert_eq!(said(it.call("add", &[], 1, 64)), "add takes 1 argument, got 0");
+    assert_eq!(said(it.begin("divide", &[1, 1 << 32], 1, 64)), "argument 2 (i32) 4294967296 is out of range: expected 0 to 4294967295; pass -1 as 4294967295");
     it.begin("add", &[10], 1_000_000, 64).unwrap();
     assert!(it.run_for(1).unwrap().is_none());
     assert_eq!(said(it.call("count", &[], 1, 64)), "a call is in progress");

@@ -11,4 +11,6 @@
   (func (export "asks") (result i32) (call $emit (i64.const 7)))
   (func (export "pair") (param i32 i64) (result i64 i32) (local.get 1) (local.get 0))
   (export "imported" (func $emit))
+  (func (export "eighth") (param i32 i32 i32 i32 i32 i32 i32 i64) (result i64) (local.get 7))
+  (func (export "ninth") (param i32 i32 i32 i32 i32 i32 i32 i32 i64) (result i64) (local.get 8))
 )

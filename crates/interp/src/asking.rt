@@ -59,6 +59,7 @@ fn ask_host<H: Host>(
     requires names { Names contents.now (H.types host.old) }
     requires steps { at.old.pc + 1 < 2 ^ 64 }
     ensures asked { AsksImport contents.now H.moves import height at.old slots.old state.old host.old at.new slots.new state.new host.new }
+    ensures copies { H.copied host.old ≤ H.copied host.new }
     ensures types { H.types host.new ≡ H.types host.old }
 {
     let params = type_of_import(contents, import).params.as_slice();
@@ -86,6 +87,7 @@ fn ask_above<H: Host>(
     requires names { Names contents.now (H.types host.old) }
     requires steps { at.old.pc + 1 < 2 ^ 64 }
     ensures asked { AsksImport contents.now H.moves import height at.old (drop 1 slots.old) state.old host.old at.new (drop 1 slots.new) state.new host.new }
+    ensures copies { H.copied host.old ≤ H.copied host.new }
     ensures types { H.types host.new ≡ H.types host.old }
 {
     ask_host(contents, state, host, &mut slots[1..], at, import, height);
@@ -106,6 +108,7 @@ pub fn ask_on<H: Host>(
     requires names { Names contents.now (H.types host.old) }
     requires steps { at.old.pc + 1 < 2 ^ 64 }
     ensures asked { AsksImport contents.now H.moves import height at.old slots.old state.old host.old at.new slots.new state.new host.new }
+    ensures copies { H.copied host.old ≤ H.copied host.new }
     ensures types { H.types host.new ≡ H.types host.old }
 {
     ask_above(

@@ -89,6 +89,7 @@ fn invoke_defined<H: Host>(
         program: Program::new(code.contents, code.tables),
         types: func_type.results.as_slice(),
         depth: call.depth,
+        bytes: u64::MAX,
     };
     let mut place = Stopped {
         flow: Flow::Spent,

@@ -7,6 +7,9 @@ ghost use Rattle.instance.specs.Stops.{stop_of};
 use engine::At;
 use instance::stack::{Caller, Last, Stop};
 
+/// How many bytes that a host copies count as one unit of a slice.
+pub const UNIT_BYTES: u64 = 64;
+
 /// A call of a defined function between two slices: of which, and with how many calls open at most, where it goes on, how much fuel it has
 /// used, and how much is left; and where it stands, once something of it has run. What it works on stays in the slots, the callers and the
 /// state of its instance.

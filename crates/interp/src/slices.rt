@@ -4,20 +4,20 @@ ghost use Rattle.std.specs.Prelude.{◌≡◌, ℕ, List, ◌+◌, ◌<◌, ◌�
 ghost use Rattle.syntax.specs.declared.types.Value.{Value as Argument};
 ghost use Rattle.validate.specs.Valid.{ValidModule};
 ghost use Rattle.validate.specs.Targets.{AreTables};
-ghost use Rattle.events.specs.declared.ended.Ending.TheVariants as ended;
+ghost use Rattle.events.specs.declared.ended.Ending.TheVariants as ending;
 ghost use Rattle.instance.specs.Store.{Store};
 ghost use Rattle.instance.specs.Storing.{IsStoreOf};
 ghost use Rattle.instance.specs.Stops.{stop_of};
 ghost use Rattle.reduction.specs.Hosting.{Names};
 ghost use Rattle.reduction.specs.Invoking.{TakesArguments, ReturnsTyped};
-ghost use Rattle.interp.specs.Slices.{RunIsPaused, IsSomePaused, RunIsOver, UsesAll, UsesSome};
+ghost use Rattle.interp.specs.Slices.{RunIsPaused, IsSomePaused, RunIsOver, IsMost, UsesAll, UsesSome};
 
 use crate::call::FunctionCall;
 use crate::host::Host;
 use crate::invoke::unwritten;
 use crate::opening::open;
 use crate::over_host::{Outermost, run_within};
-pub use crate::paused::Paused;
+pub use crate::paused::{Paused, UNIT_BYTES};
 use engine::{Flow, Program, Stopped};
 use events::ended::{Ended, Ending};
 use instance::stack::{Caller, Last, Slots};
@@ -75,15 +75,22 @@ pub fn begin<H: Host>(
 }
 
 /// Whether a run that ended so is paused: it spent what it was granted, and more is left.
-fn is_paused(ending: &Ending, granted: u64, left: u64) -> bool
-    ensures { IsTrue result ↔ ((ending.now ≡ ended.Spent) × (granted < left)) }
+fn is_paused(ended: &Ended, left: u64) -> bool
+    ensures { IsTrue result ↔ ((ended.now.ending ≡ ending.Spent) × (ended.now.used < left)) }
 {
-    granted < left && matches!(ending, Ending::Spent)
+    ended.used < left && matches!(ended.ending, Ending::Spent)
 }
 
-/// Goes on with a call for at most the units of the slice. If it is over then, its ending is returned, with all fuel that it has used
-/// since it began; else it has used exactly so many units more, some are left, and it stands where a run with just so much fuel as it has
-/// used is over as spent.
+/// How many bytes a host may have copied until a slice of so many units ends, which had copied so many before it.
+fn most_bytes(copied: u64, units: u64) -> u64
+    ensures { IsMost copied units result }
+{
+    copied.saturating_add(units.saturating_mul(UNIT_BYTES))
+}
+
+/// Goes on with a call for at most the units of the slice, where each `UNIT_BYTES` that the host copies count as one. If it is over then, its
+/// ending is returned, with all fuel that it has used since it began; else some fuel is left, and it stands where a run with just so much fuel
+/// as it has used is over as spent.
 pub fn go_on<H: Host>(
     contents: &Contents,
     tables: &[SideTable],
@@ -106,11 +113,12 @@ pub fn go_on<H: Host>(
         → RunIsPaused contents.now tables.now H.moves s before args fuel slice.new.paused slots.new frames.new state.new host.new }
     ensures stands { result ≡ None → IsSome slice.new.paused.last }
     ensures call { (slice.new.paused.function ≡ slice.old.paused.function) × (slice.new.paused.depth ≡ slice.old.paused.depth) }
-    ensures slice { result ≡ None → UsesAll slice.old.paused slice.old.units slice.new.paused }
+    ensures slice { result ≡ None → UsesAll slice.old.paused slice.old.units (H.copied host.old) (H.copied host.new) slice.new.paused }
     ensures last { IfSome result (λ o. UsesSome slice.old.paused slice.old.units o.ended.used) }
     ensures results { IfSome result (λ o. ReturnsTyped contents.now slice.old.paused.function o.ended.ending) }
     ensures callers { IfSome result (λ o. IfSome o.last (λ l. l.depth ≤ MAX_DEPTH)) }
     ensures kept { IsStoreOf contents.now state.new }
+    ensures copies { H.copied host.old ≤ H.copied host.new }
     ensures types { H.types host.new ≡ H.types host.old }
 {
     let Slice { paused, units } = *slice;
@@ -122,24 +130,24 @@ pub fn go_on<H: Host>(
         program: Program::new(contents, tables),
         types: func_type.results.as_slice(),
         depth: paused.depth,
+        bytes: most_bytes(host.copied(), units),
     };
-    let granted = units.min(paused.left);
     let mut place = Stopped {
         flow: Flow::Spent,
         at: paused.at,
-        fuel: granted,
+        fuel: units.min(paused.left),
     };
     let mut ended = unwritten();
     let last = run_within(
         &outermost, slots, frames, state, host, &mut place, &mut ended,
     );
-    if is_paused(&ended.ending, granted, paused.left) {
+    if is_paused(&ended, paused.left) {
         slice.paused = Paused {
             function: paused.function,
             depth: paused.depth,
             at: place.at,
-            used: paused.used + granted,
-            left: paused.left - granted,
+            used: paused.used + ended.used,
+            left: paused.left - ended.used,
             last,
         };
         return None;

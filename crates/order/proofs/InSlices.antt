@@ -28,6 +28,9 @@ use Rattle.imports.specs.declared.call.Call.TheVariants.{Now, TimerInit, IdleIni
 use Rattle.imports.specs.declared.call.Call.TheVariants.{TimerAgain, IdleStart, CheckStart, AsyncInit, AsyncSend, IsActive, Close}
 use Rattle.imports.specs.declared.call.Call.TheVariants.{QueueWork, Cancel, InLen, InCopy, OutSet, Emit}
 use Rattle.interp.specs.Slices.{RunIsOver}
+use Rattle.order.specs.Slices.{OrderGoesOn}
+use Rattle.order.specs.declared.running.OrderGoing.{OrderGoing}
+use Rattle.order.specs.declared.running.OrderGoing.TheVariants.{Over, Paused as PausedAgain}
 use Rattle.validate.specs.Valid.{ValidModule}
 use Rattle.validate.specs.Targets.{AreTables}
 use Rattle.validate.specs.declared.side_table.SideTable.{SideTable}
@@ -151,11 +154,16 @@ import_has_result m linked function within type has =
     let type_is : type ≡ type_of_call it.0 = cc in
     ap (λ (t : FuncType). length t.results) type_is ∙ one_result it.0
 
-pub start_is_defined : (m : Contents) → ValidModule m → IsLinked m → (function : ℕ) → m.start ≡ Some function → length m.imports ≤ function
-start_is_defined m valid linked function is = elim (cases_lt function (length m.imports)) [
-  | inl within ↦ absurd (let one = import_has_result m linked function within (record { params = []; results = [] }) (rw is at valid.start) in omega arith)
+-- nor is any without results
+pub bare_is_defined : (m : Contents) → IsLinked m → (function : ℕ) (type : FuncType) → HasFunctionType m function type → type.results ≡ [] → length m.imports ≤ function
+bare_is_defined m linked function type has none = elim (cases_lt function (length m.imports)) [
+  | inl within ↦ absurd (let one = import_has_result m linked function within type has in let zero = ap (λ (ts : List ValType). length ts) none in omega (arith, one, zero))
   | inr behind ↦ behind
 ]
+
+pub start_is_defined : (m : Contents) → ValidModule m → IsLinked m → (function : ℕ) → m.start ≡ Some function → length m.imports ≤ function
+start_is_defined m valid linked function is =
+    bare_is_defined m linked function (record { params = []; results = [] }) (rw is at valid.start) refl
 
 -- a function of that type takes the operation
 pub work_takes : (m : Contents) (function op : ℕ) → type_of_function m function ≡ Some (type_of_entry Work) → TakesArguments m function (I32 op ∷ [])
@@ -195,3 +203,39 @@ paused_in m m' tables tables' frames frames' em et ef s t old new args fuel paus
     subst (λ (x : Contents). RunIsPaused x tables' WorkAnswered s old args fuel paused slots frames' t new) em
     (subst (λ (x : List SideTable). RunIsPaused m x WorkAnswered s old args fuel paused slots frames' t new) et
     (subst (λ (x : List Caller). RunIsPaused m tables WorkAnswered s old args fuel paused slots x t new) ef k))
+
+-- an order that went on with what was left of a slice went on for the whole slice
+module _ (o : WorkOrder) (used now copied copied' units rest : ℕ) (later : used ≤ now) (within : now ≤ used + units) (is : rest ≡ units - (now - used))
+    (more : copied ≤ copied') where
+  pub goes_on_from : (going : OrderGoing) → OrderGoesOn (record { order = o; used = now; copied = copied' }) rest going
+      → OrderGoesOn (record { order = o; used = used; copied = copied }) units going
+  goes_on_from (Over told) h =
+      let since = h.since in
+      let slice = h.slice in
+      record {
+        order = h.order;
+        memory = h.memory;
+        uses = h.uses;
+        leaves = h.leaves;
+        since = omega (arith, later, since);
+        slice = omega (arith, slice, is, later, within);
+        within = h.within;
+      }
+  goes_on_from (PausedAgain after) h =
+      let some = h.some in
+      let most = h.most in
+      let all = h.all in
+      record {
+        order = h.order;
+        some = omega (arith, some, is, later, within);
+        most = omega (arith, most, is, later, within);
+        all = omega (arith, all, is, later, within, more);
+        left = h.left;
+      }
+
+-- so many units and bytes, however they are written
+pub goes_on_same : (o : WorkOrder) (used used' copied copied' units : ℕ) (going : OrderGoing) → used' ≡ used → copied' ≡ copied
+    → OrderGoesOn (record { order = o; used = used'; copied = copied' }) units going → OrderGoesOn (record { order = o; used = used; copied = copied }) units going
+goes_on_same o used used' copied copied' units going same also h =
+    subst (λ (n : ℕ). OrderGoesOn (record { order = o; used = n; copied = copied }) units going) same
+    (subst (λ (n : ℕ). OrderGoesOn (record { order = o; used = used'; copied = n }) units going) also h)

@@ -19,7 +19,9 @@ use Rattle.order.specs.declared.host.WorkHost.{WorkHost}
 use Rattle.order.specs.declared.machine.Machine.{Machine}
 use Rattle.order.specs.Inner.Serving.{Serves}
 use Rattle.order.specs.Inner.WorkHosting.{WorkAnswered}
-use Rattle.order.specs.Inner.Going.{IsStarting, IsWorking}
+use Rattle.order.specs.Inner.Going.{IsStarting, IsWorking, IsAtStage, used_in_stage}
+use Rattle.order.specs.declared.stage.RunStage.{RunStage}
+use Rattle.order.specs.declared.stage.RunStage.TheVariants.{Fresh, Starting, Working}
 use Rattle.order.specs.Slices.{with_fuel, OrderStandsAt}
 use Rattle.order.specs.Stopping.{WorkStop}
 use Rattle.order.specs.Stopping as stopping
@@ -61,7 +63,7 @@ module _ (o : WorkOrder) (m : Machine) (paused : Paused) where
   module _ (q : IsStarting o m paused) where
     starts_by : (last : Option Last)
         → RunStandsAt o.loaded.contents paused.depth WorkAnswered paused.function q.s q.old [] paused.used m.state m.host last m.frames.items
-        → OrderStandsAt (record { order = o; used = paused.used }) (stop_of last m.frames.items)
+        → OrderStandsAt (record { order = o; used = paused.used; copied = m.host.copied }) (stop_of last m.frames.items)
     starts_by None stands = stands
     starts_by (Some last) stands =
         let ran : WorkStop (with_fuel paused.used o) paused.used q.s [] paused.function [] (record { ending = ending.Spent; used = paused.used })
@@ -72,7 +74,7 @@ module _ (o : WorkOrder) (m : Machine) (paused : Paused) where
         stopping.stops q.s m.state (record { ending = ending.Spent; used = paused.used }) m.host.reply.items paused.function q.fresh q.is_start ran
         (not_returned ending.Spent (λ values e. absurd (cc))) refl refl
 
-    pub starting_stands : OrderStandsAt (record { order = o; used = paused.used }) (stop_of paused.last m.frames.items)
+    pub starting_stands : OrderStandsAt (record { order = o; used = paused.used; copied = m.host.copied }) (stop_of paused.last m.frames.items)
     starting_stands = starts_by paused.last q.calling.under_way.stands
 
     pub starting_within : MAX_DEPTH ≤ length m.frames.items → IfSome paused.last (λ l. l.depth ≤ length m.frames.items)
@@ -86,7 +88,7 @@ module _ (o : WorkOrder) (m : Machine) (paused : Paused) where
   module _ (first : ℕ) (q : IsWorking o m first paused) where
     works_by : (last : Option Last) → IsSome last
         → RunStandsAt o.loaded.contents paused.depth WorkAnswered paused.function q.t q.old (I32 o.op ∷ []) paused.used m.state m.host last m.frames.items
-        → OrderStandsAt (record { order = o; used = first + paused.used }) (stop_of last m.frames.items)
+        → OrderStandsAt (record { order = o; used = first + paused.used; copied = m.host.copied }) (stop_of last m.frames.items)
     works_by None some stands = absurd (cc)
     works_by (Some last) some stands =
         let n : ℕ = first + paused.used in
@@ -101,7 +103,7 @@ module _ (o : WorkOrder) (m : Machine) (paused : Paused) where
         paused.function q.started.fresh
         (started_with o n o.loaded.contents.start q.started.s q.t q.started.results first q.old.reply.items few q.started.run) q.exported ran refl refl
 
-    pub working_stands : IsSome paused.last → OrderStandsAt (record { order = o; used = first + paused.used }) (stop_of paused.last m.frames.items)
+    pub working_stands : IsSome paused.last → OrderStandsAt (record { order = o; used = first + paused.used; copied = m.host.copied }) (stop_of paused.last m.frames.items)
     working_stands some = works_by paused.last some q.calling.under_way.stands
 
     pub working_within : MAX_DEPTH ≤ length m.frames.items → IfSome paused.last (λ l. l.depth ≤ length m.frames.items)
@@ -111,3 +113,9 @@ module _ (o : WorkOrder) (m : Machine) (paused : Paused) where
           → IfSome last (λ l. l.depth ≤ length m.frames.items)
       by_last None stands = tt
       by_last (Some last) stands = omega (arith, stands.0, room)
+
+-- it has used no more than it has
+pub used_within : (o : WorkOrder) (m : Machine) (stage : RunStage) → IsAtStage o m stage → used_in_stage stage ≤ o.fuel
+used_within o m Fresh at = omega arith
+used_within o m (Starting paused) at = omega (arith, at.calling.under_way.paid)
+used_within o m (Working first paused) at = omega (arith, at.0.started.within, at.0.calling.under_way.paid)

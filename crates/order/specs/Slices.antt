@@ -1,6 +1,7 @@
 -- What a slice leaves of an order under way.
-use Rattle.std.specs.Prelude.{◌≡◌, ◌≢◌, ℕ, ◌+◌, ◌<◌, ◌≤◌, Option, Some, None}
+use Rattle.std.specs.Prelude.{◌≡◌, ◌≢◌, ℕ, ◌+◌, ◌*◌, ◌<◌, ◌≤◌, min, Option, Some, None}
 use Rattle.instance.specs.Stops.{Halt}
+use Rattle.interp.specs.declared.paused.TheConstants.{UNIT_BYTES}
 use Rattle.order.specs.declared.run.Told.{Told}
 use Rattle.order.specs.declared.running.OrderGoing.{OrderGoing}
 use Rattle.order.specs.declared.running.OrderGoing.TheVariants.{Over, Paused}
@@ -20,16 +21,19 @@ pub record OrderIsOver (o : WorkOrder) (before units : ℕ) (told : Told) : Type
   pub slice : told.used ≤ before + units
   pub within : told.used ≤ o.fuel
 
--- it is under way, has used exactly the slice's units more, and some are left
-pub record OrderIsPaused (o : WorkOrder) (before units : ℕ) (r : Underway) : Type 0 where
-  pub order : r.order ≡ o
-  pub used : r.used ≡ before + units
-  pub left : r.used < o.fuel
+-- It is under way, and some fuel is left. It has used some units more, where the slice had any, at most these, and all of these where each
+-- UNIT_BYTES that were copied in the slice count as one.
+pub record OrderIsPaused (before : Underway) (units : ℕ) (r : Underway) : Type 0 where
+  pub order : r.order ≡ before.order
+  pub some : before.used + min 1 units ≤ r.used
+  pub most : r.used ≤ before.used + units
+  pub all : UNIT_BYTES * (before.used + units) + before.copied ≤ UNIT_BYTES * r.used + r.copied
+  pub left : r.used < before.order.fuel
 
 -- an order that had used so much goes on for so many units
 abbrev pub OrderGoesOn : Underway → (units : ℕ) → OrderGoing → Type 0
 OrderGoesOn r units (Over told) = OrderIsOver r.order r.used units told
-OrderGoesOn r units (Paused after) = OrderIsPaused r.order r.used units after
+OrderGoesOn r units (Paused after) = OrderIsPaused r units after
 
 -- the same order, with so much fuel
 abbrev pub with_fuel : ℕ → WorkOrder → WorkOrder

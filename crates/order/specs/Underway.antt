@@ -2,7 +2,8 @@
 use Rattle.std.specs.Prelude.{ℕ}
 use Rattle.order.specs.Work.{WorkOrder}
 
--- the order, and the units of fuel that it has used so far
+-- the order, the units of fuel that it has used so far, and the bytes that calls of its host have copied
 pub record Underway : Type 0 where
   pub order : WorkOrder
   pub used : ℕ
+  pub copied : ℕ

@@ -6,7 +6,7 @@ ghost use Rattle.limits.specs.declared.TheConstants.{MAX_BYTES};
 ghost use Rattle.order.specs.Uv.Bytes.{set_out};
 
 use crate::uv::answers::{INVALID, NOT_HERE, OUTSIDE_MEMORY};
-use crate::uv::calls::{called, copy_in, three, two};
+use crate::uv::calls::{called, copy_in, counted, three, two};
 use imports::{Call, Linked};
 use instance::memory::Memory;
 use interp::host::{Args, Host};
@@ -15,12 +15,13 @@ use std::alloc::{AllocError, Global};
 use std::sync::Arc;
 use syntax::types::Value;
 
-/// The host of a work function: it has the module, the bytes that there are to read, and the bytes of the reply as
-/// they were set last.
+/// The host of a work function: it has the module, the bytes that there are to read, the bytes of the reply as
+/// they were set last, and how many bytes its calls have copied.
 pub struct WorkHost {
     pub linked: Arc<Linked, Global>,
     pub bytes: Arc<Vec<u8>, Global>,
     pub reply: Vec<u8>,
+    pub copied: u64,
     pub ghost few: { length (arc_value bytes).items ≤ MAX_BYTES },
     pub ghost room: { MAX_BYTES ≤ vec_capacity reply },
 }
@@ -31,6 +32,7 @@ impl Drop for WorkHost {
             linked: _,
             bytes: _,
             reply: _,
+            copied: _,
         } = self;
     }
 }
@@ -52,6 +54,7 @@ impl WorkHost {
             linked: Arc::try_clone(linked)?,
             bytes: Arc::try_clone(bytes)?,
             reply,
+            copied: 0,
         })
     }
 
@@ -64,6 +67,7 @@ impl WorkHost {
             linked: _,
             bytes: _,
             mut reply,
+            copied: _,
         } = self;
         reply.shrink_to_fit();
         reply
@@ -75,6 +79,7 @@ impl WorkHost {
         ensures linked { arc_value self.new.linked ≡ arc_value self.old.linked }
         ensures bytes { arc_value self.new.bytes ≡ arc_value self.old.bytes }
         ensures memory { memory.new ≡ memory.old }
+        ensures copied { self.new.copied ≡ self.old.copied }
     {
         if count as usize > MAX_BYTES {
             return INVALID;
@@ -97,6 +102,12 @@ impl Host for WorkHost {
 
     ghost moves = { WorkAnswered };
 
+    ghost copied = { λ h. h.copied };
+
+    fn copied(&self) -> u64 {
+        self.copied
+    }
+
     fn call(&mut self, import: u32, args: &Args, memory: &mut Memory) -> Option<Value> {
         let call = called(&self.linked, import, args);
         let answer = match call {
@@ -112,6 +123,7 @@ impl Host for WorkHost {
             }
             _ => Value::I32(NOT_HERE),
         };
+        self.copied = counted(self.copied, call, args, answer);
         Some(answer)
     }
 }

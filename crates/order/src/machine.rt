@@ -67,6 +67,7 @@ impl Machine {
         requires input { arc_value reserved.input ≡ arc_value order.now.bytes }
         ensures runs { RunsOrder (order_of order.now) result }
         ensures unbegun { IsUnbegun (order_of order.now) result }
+        ensures copied { result.host.copied ≡ 0 }
     {
         let ReservedParts {
             state,
@@ -86,6 +87,7 @@ impl Machine {
                 linked,
                 bytes: input,
                 reply,
+                copied: 0,
             },
             tables,
         }
@@ -108,6 +110,7 @@ impl Machine {
         ensures function { result.function ≡ function }
         ensures runs { RunsOrder (order_of order.now) self.new }
         ensures used { result.used ≡ 0 }
+        ensures copied { self.new.host.copied ≡ self.old.host.copied }
     {
         let Machine {
             state,
@@ -150,9 +153,10 @@ impl Machine {
             → IsCallingOn (order_of order.now) self.new s old slice.new.paused fuel args }
         ensures stands { result ≡ None → IsSome slice.new.paused.last }
         ensures function { slice.new.paused.function ≡ slice.old.paused.function }
-        ensures slice { result ≡ None → UsesAll slice.old.paused slice.old.units slice.new.paused }
+        ensures slice { result ≡ None → UsesAll slice.old.paused slice.old.units self.old.host.copied self.new.host.copied slice.new.paused }
         ensures last { IfSome result (λ e. UsesSome slice.old.paused slice.old.units e.used) }
         ensures results { IfSome result (λ e. ReturnsTyped (arc_value order.now.module).contents slice.old.paused.function e.ending) }
+        ensures copies { self.old.host.copied ≤ self.new.host.copied }
         ensures store { IsStoreOf (arc_value order.now.module).contents self.new.state }
         ensures runs { RunsOrder (order_of order.now) self.new }
     {

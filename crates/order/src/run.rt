@@ -170,6 +170,7 @@ impl Order {
             linked,
             bytes: input,
             reply,
+            copied: 0,
         };
         let ended = self.start_and_work(&mut state, &mut stack, &mut host);
         let trail = Trail::of_last(&stack);

@@ -20,7 +20,7 @@ ghost use Rattle.order.specs.Runnable.{CanRun};
 ghost use Rattle.order.specs.Slices.{OrderGoesOn, OrderStandsAt};
 ghost use Rattle.order.specs.Inner.Ready.{IsReadyToRun};
 ghost use Rattle.order.specs.Inner.Serving.{Serves};
-ghost use Rattle.order.specs.Inner.Going.{RunsOrder, IsUnbegun, IsStarting, StartIsOver, IsWorking};
+ghost use Rattle.order.specs.Inner.Going.{RunsOrder, IsUnbegun, IsStarting, StartIsOver, IsWorking, used_in_stage};
 
 use crate::host::WorkHost;
 use crate::machine::Machine;
@@ -39,8 +39,8 @@ use std::alloc::Global;
 use std::marker::Model;
 use syntax::types::Value;
 
-/// An order under way, between two slices. It may be kept, given to another thread, or dropped at any time. Contracts see the order, and
-/// how many units of fuel it has used so far.
+/// An order under way, between two slices. It may be kept, given to another thread, or dropped at any time. Contracts see the order, how
+/// many units of fuel it has used so far, and how many bytes `in_copy` and `out_set` have copied for it.
 pub struct Running {
     order: Order,
     machine: Machine,
@@ -68,7 +68,7 @@ impl Model for Running {
 
     ghost coded = { Prim.hlevel (codes, loaded_coded) };
 
-    ghost view = { λ r. record { order = order_of r.order; used = used_in_stage r.stage } };
+    ghost view = { λ r. record { order = order_of r.order; used = used_in_stage r.stage; copied = r.machine.host.copied } };
 
     ghost invariant = { λ r. IsGoing (order_of r.order) r.machine r.stage };
 }
@@ -89,7 +89,7 @@ impl Order {
         requires work { (f : ℕ) × ExportsFunction (arc_value self.module).contents (codes "uv_work") f }
         requires bytes { length (arc_value self.bytes).items ≤ MAX_BYTES }
         requires depth { (1 ≤ self.depth) × (self.depth ≤ MAX_DEPTH) }
-        ensures begun { IfOk result (λ r. (r.order ≡ order_of self) × (r.used ≡ 0)) }
+        ensures begun { IfOk result (λ r. r ≡ record { order = order_of self; used = 0; copied = 0 }) }
         ensures refused { IfErr result (λ reply. (reply.order ≡ self) × (end_of reply.outcome ≡ NoMemory)) }
     {
         let reserved = reserve_parts(alloc, &self.module, &self.bytes);
@@ -107,7 +107,7 @@ impl Order {
         requires callers { IfOk reserved (λ r. MAX_DEPTH ≤ length r.frames.items) }
         requires linked { IfOk reserved (λ r. arc_value r.linked ≡ arc_value self.module) }
         requires input { IfOk reserved (λ r. arc_value r.input ≡ arc_value self.bytes) }
-        ensures begun { IfOk result (λ r. (r.order ≡ order_of self) × (r.used ≡ 0)) }
+        ensures begun { IfOk result (λ r. r ≡ record { order = order_of self; used = 0; copied = 0 }) }
         ensures refused { IfErr result (λ reply. (reply.order ≡ self) × (end_of reply.outcome ≡ NoMemory)) }
     {
         match reserved {
@@ -129,7 +129,8 @@ impl Order {
 
 impl Running {
     /// Goes on for at most so many units of fuel, at least one. Where the order is over then, the reply is that of `Order::run`, beside
-    /// all fuel that it has used; else it has used exactly so many units more, and some are left. No memory is taken.
+    /// all fuel that it has used; else it has used so many units more, and some are left. Each `UNIT_BYTES` bytes that it copies may count
+    /// as a unit here: then it has used fewer, at least one. No memory is taken.
     pub fn go_on(self, units: u64) -> OrderGoing
         requires { 1 ≤ units }
         ensures { OrderGoesOn self units result }
@@ -158,11 +159,37 @@ impl Running {
         }
     }
 
+    /// The order.
+    pub fn order(&self) -> &Order
+        ensures { order_of result.now ≡ self.now.order }
+    {
+        &self.order
+    }
+
+    /// The units of fuel that it has used so far.
+    pub fn used(&self) -> u64
+        ensures { result ≡ self.now.used }
+    {
+        used_at(self.order.fuel, &self.stage)
+    }
+
     /// The bytes of its module.
     pub fn module_bytes(&self) -> &[u8]
         ensures { result.now ≡ self.now.order.loaded.bytes }
     {
         self.order.module.valid().module().bytes()
+    }
+}
+
+/// The units of fuel that an order with so much fuel has used at a stage.
+fn used_at(fuel: u64, stage: &RunStage) -> u64
+    requires { used_in_stage stage.now ≤ fuel }
+    ensures { result ≡ used_in_stage stage.now }
+{
+    match stage {
+        RunStage::Fresh => 0,
+        RunStage::Starting(paused) => paused.used(),
+        RunStage::Working(first, paused) => *first + paused.used(),
     }
 }
 
@@ -208,7 +235,7 @@ fn over(order: Order, machine: Machine, ending: Ending, used: u64) -> Told
 fn begin_start(order: Order, machine: Machine, units: u64) -> OrderGoing
     requires runs { RunsOrder (order_of order) machine }
     requires unbegun { IsUnbegun (order_of order) machine }
-    ensures { OrderGoesOn (record { order = order_of order; used = 0 }) units result }
+    ensures { OrderGoesOn (record { order = order_of order; used = 0; copied = machine.host.copied }) units result }
 {
     let Some(function) = order.module.valid().contents().start else {
         return begin_work(order, machine, 0, units);
@@ -222,7 +249,7 @@ fn begin_start(order: Order, machine: Machine, units: u64) -> OrderGoing
 fn start_on(order: Order, machine: Machine, paused: Paused, units: u64) -> OrderGoing
     requires runs { RunsOrder (order_of order) machine }
     requires starting { IsStarting (order_of order) machine paused }
-    ensures { OrderGoesOn (record { order = order_of order; used = paused.used }) units result }
+    ensures { OrderGoesOn (record { order = order_of order; used = paused.used; copied = machine.host.copied }) units result }
 {
     let mut machine = machine;
     let mut slice = Slice { paused, units };
@@ -246,7 +273,7 @@ fn begin_work(order: Order, machine: Machine, first: u64, units: u64) -> OrderGo
     requires store { IsStoreOf (arc_value order.module).contents machine.state }
     requires serves { Serves machine.host (order_of order) }
     requires started { StartIsOver (order_of order) first machine.state machine.host.reply.items }
-    ensures { OrderGoesOn (record { order = order_of order; used = first }) units result }
+    ensures { OrderGoesOn (record { order = order_of order; used = first; copied = machine.host.copied }) units result }
 {
     let Some(function) = order.module.entry(EntryPoint::Work) else {
         unreachable!();
@@ -264,7 +291,7 @@ fn begin_work(order: Order, machine: Machine, first: u64, units: u64) -> OrderGo
 fn work_on(order: Order, machine: Machine, first: u64, paused: Paused, units: u64) -> OrderGoing
     requires runs { RunsOrder (order_of order) machine }
     requires working { IsWorking (order_of order) machine first paused }
-    ensures { OrderGoesOn (record { order = order_of order; used = first + paused.used }) units result }
+    ensures { OrderGoesOn (record { order = order_of order; used = first + paused.used; copied = machine.host.copied }) units result }
 {
     let mut machine = machine;
     let mut slice = Slice { paused, units };

@@ -139,6 +139,7 @@ impl<B: Shared + Drop> LoopCore<B> {
             setting,
             state,
             shared,
+            copied: 0,
         };
         Ok(LoopCore {
             linked,

@@ -19,16 +19,18 @@ use imports::Call;
 use instance::memory::Memory;
 use interp::host::{Args, Host};
 use order::uv::answers::NOT_HERE;
-use order::uv::calls::{called, one, one_wide, three, two, two_and_two_wide};
+use order::uv::calls::{called, counted, one, one_wide, three, two, two_and_two_wide};
 use std::alloc::Global;
 use syntax::types::Value;
 
-/// The host of a loop's callbacks: what the loop is made of, its state, and what it shares with other threads.
+/// The host of a loop's callbacks: what the loop is made of, its state, what it shares with other threads, and how many bytes its calls
+/// have copied.
 pub struct LoopHost<B: Shared + Drop> {
     pub(crate) alloc: Global,
     pub(crate) setting: Setting,
     pub(crate) state: LoopState,
     pub(crate) shared: B,
+    pub(crate) copied: u64,
     pub ghost opened: { AreOpenedUpTo state.requests.last (B.calls.view shared) },
 }
 
@@ -42,6 +44,7 @@ impl<B: Shared + Drop> LoopHost<B> {
             setting: _,
             state: _,
             shared,
+            copied: _,
         } = self;
         shared
     }
@@ -54,6 +57,7 @@ impl<B: Shared + Drop> Drop for LoopHost<B> {
             setting: _,
             state: _,
             shared: _,
+            copied: _,
         } = self;
     }
 }
@@ -136,6 +140,12 @@ impl<B: Shared + Drop> Host for LoopHost<B> {
 
     ghost moves = { Answered B.calls (λ g. setting_of g.setting) (λ g. (g.state, g.shared)) };
 
+    ghost copied = { λ g. g.copied };
+
+    fn copied(&self) -> u64 {
+        self.copied
+    }
+
     #[inline(always)]
     fn call(&mut self, import: u32, args: &Args, memory: &mut Memory) -> Option<Value> {
         let call = called(&self.setting.linked, import, args);
@@ -148,6 +158,7 @@ impl<B: Shared + Drop> Host for LoopHost<B> {
             args,
             memory,
         );
+        self.copied = counted(self.copied, call, args, answer);
         Some(answer)
     }
 }

@@ -1,5 +1,6 @@
 mod AnyHost
 mod NoHostNames
+mod Numbered
 mod Refused
 mod SlicesAreOneCall
 mod Written

@@ -16,6 +16,6 @@ mod no_host;
 mod resident;
 
 pub use calling::{Calling, Going};
-pub use exported::{exported_function, exported_global};
+pub use exported::{export_number, exported_function, exported_global};
 pub use no_host::NoHost;
 pub use resident::Resident;

@@ -63,6 +63,12 @@ impl Host for NoHost<'_> {
 
     ghost moves = { λ old call new. AnswersMinusOne call × (new ≡ old) };
 
+    ghost copied = { λ _. 0 };
+
+    fn copied(&self) -> u64 {
+        0
+    }
+
     fn call(&mut self, import: u32, _args: &Args, _memory: &mut Memory) -> Option<Value> {
         answer(self.valid, import)
     }

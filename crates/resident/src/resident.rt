@@ -10,10 +10,11 @@ ghost use Rattle.instance.specs.Fresh.{IsFresh};
 ghost use Rattle.instance.specs.Storing.{IsStoreOf};
 ghost use Rattle.reduction.specs.Invoking.{TakesArguments};
 ghost use Rattle.resident.specs.Inner.Going.{MachineFits};
+ghost use Rattle.resident.specs.Numbered.{HasNoType, ExportsAt, ExportsNoFunctionAt};
 ghost use Rattle.resident.specs.Calls.{CallsInstance, IsNew, StartsInstance, ExportsFirst, ExportsNoFunction, ExportsGlobal, ExportsNoGlobal};
 
 use crate::calling::CallMachine;
-use crate::exported::{exported_function, exported_global};
+use crate::exported::{exported_function, exported_global, function_at, type_of};
 use crate::no_host::NoHost;
 use events::ended::{Ended, Ending};
 use events::values::Values;
@@ -95,6 +96,21 @@ impl Resident {
         ensures typed { IfSome result (λ found. HasFunctionType self.now.loaded.contents found.0 found.1.now) }
     {
         exported_function(self.linked.valid(), name)
+    }
+
+    /// The function that the export of this number is, with its type, where there is one.
+    pub fn function_at(&self, number: usize) -> Option<(u32, &FuncType)>
+        ensures numbered { MatchOption result (ExportsNoFunctionAt self.now.loaded.contents number) (λ found. ExportsAt self.now.loaded.contents number found.0) }
+        ensures typed { IfSome result (λ found. HasFunctionType self.now.loaded.contents found.0 found.1.now) }
+    {
+        function_at(self.linked.valid(), number)
+    }
+
+    /// The type of a function of its module, where there is one.
+    pub fn type_of(&self, function: u32) -> Option<&FuncType>
+        ensures { MatchOption result (HasNoType self.now.loaded.contents function) (λ found. HasFunctionType self.now.loaded.contents function found.now) }
+    {
+        type_of(self.linked.valid(), function)
     }
 
     /// Whether the module has this function, and it takes these arguments.

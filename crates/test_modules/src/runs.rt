@@ -85,6 +85,12 @@ impl Host for Idle {
 
     ghost moves = { λ old _ new. new ≡ old };
 
+    ghost copied = { λ _. 0 };
+
+    fn copied(&self) -> u64 {
+        0
+    }
+
     fn call(&mut self, _import: u32, _args: &Args, _memory: &mut Memory) -> Option<Value> {
         None
     }

@@ -1,6 +1,7 @@
 pub mod Words
 pub mod Front
 mod ValuesRead
+mod Meant
 mod Offers
 mod Sites
 mod Turning

@@ -1,7 +1,7 @@
 -- What a slice does to the call of the instance that its handle has.
 use Rattle.std.specs.Prelude.{◌≡◌, ◌⊎◌, ℕ, List, Option, Some, None, IsSomeAnd}
 use Rattle.syntax.specs.declared.types.Value.{Value}
-use Rattle.resident.specs.Calls.{KeptInstance}
+use Rattle.resident.specs.Calls.{KeptInstance, ExportsFirst, ExportsNoFunction}
 use Rattle.resident.specs.Underway.{CallUnderway, HasCome, used_by}
 use Rattle.resident.specs.Slices.{CallGoesOn}
 use Rattle.resident.specs.declared.calling.Going.{Going}
@@ -24,14 +24,14 @@ calling_in _ = None
 -- a call of the function of this name, which takes these numbers, has begun, and nothing of it has run
 abbrev pub BeginsNamed : KeptInstance → (name numbers : List ℕ) → CallLimits → CallUnderway → Type 0
 BeginsNamed a name numbers limits c =
-    (function : ℕ) × (args : List Value) × TakesNumbers a name numbers function args
+    (function : ℕ) × (args : List Value) × TakesNumbers a (ExportsFirst a.loaded.contents name) numbers function args
     × HasCome a limits.depth limits.fuel function args c × (used_by c ≡ 0)
 
 -- A call by name begins. Where it doesn't, nothing changes.
 abbrev pub BeginsStage : (old new : InstanceStage) → (name numbers : List ℕ) → CallLimits → (status : ℕ) → Type 0
 BeginsStage (stage.Resident a) new name numbers limits status =
     ((status ≡ OK) × IsSomeAnd (calling_in new) (BeginsNamed a name numbers limits))
-    ⊎ (IsNoCall a name numbers status × (new ≡ stage.Resident a))
+    ⊎ (IsNoCall a (ExportsNoFunction a.loaded.contents name) (ExportsFirst a.loaded.contents name) numbers status × (new ≡ stage.Resident a))
 BeginsStage other new name numbers limits status = (status ≡ KIND) × (new ≡ other)
 
 abbrev pub BeginsCall : (old new : Thing) → (name numbers : List ℕ) → CallLimits → (status : ℕ) → Type 0

@@ -29,7 +29,7 @@ use Rattle.events.specs.declared.did.StepDid.{StepDid}
 use Rattle.loader.specs.Loading.{IsAccepted, IsRefused}
 use Rattle.loader.specs.declared.refusal.Refusal.{Refusal}
 use Rattle.loader.specs.declared.refusal.Refusal.TheVariants.{Memory}
-use Rattle.wasmloop_c.specs.Numbers.{did_of, stage_number, code_number, about_order, about_told}
+use Rattle.wasmloop_c.specs.Numbers.{did_of, stage_number, code_number, about_order, about_paused, about_told}
 use Rattle.wasmloop_c.specs.declared.fault.Fault.{Fault}
 use Rattle.wasmloop_c.specs.declared.work.About.{About}
 use Rattle.wasmloop_c.specs.declared.did.Did.{Did}
@@ -195,6 +195,7 @@ ExplainsRefusal bytes old new count =
 -- what is reported of a job
 abbrev pub TellsStage : JobStage → (old new : About) → (status : ℕ) → Type 0
 TellsStage (stage.Asked order) old new status = (status ≡ OK) × (new ≡ about_order order)
+TellsStage (stage.Running running) old new status = (status ≡ OK) × (new ≡ about_paused running)
 TellsStage (stage.Answered told) old new status = (status ≡ OK) × (new ≡ about_told told)
 TellsStage other old new status = (status ≡ KIND) × (new ≡ old)
 

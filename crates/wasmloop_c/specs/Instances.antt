@@ -1,6 +1,7 @@
 -- What each call does to the instance that its handle has.
 use Rattle.std.specs.Prelude.{◌≡◌, ◌⊎◌, ℕ, Bool, List, Option, Some, None, MatchOption, IsSomeAnd, if◌then◌else◌}
 use Rattle.syntax.specs.Loaded.{Loaded}
+use Rattle.syntax.specs.declared.contents.Contents.{Contents}
 use Rattle.syntax.specs.declared.contents.FuncType.{FuncType}
 use Rattle.syntax.specs.declared.types.Value.{Value}
 use Rattle.validate.specs.Typing.{HasFunctionType}
@@ -8,7 +9,8 @@ use Rattle.instance.specs.Store.{memory_of, with_memory_instance}
 use Rattle.instance.specs.Reads.{WritesAt}
 use Rattle.events.specs.declared.ended.Ended.{Ended}
 use Rattle.resident.specs.Calls.{KeptInstance, CallsInstance, IsNew, StartsInstance, HasReturned, ExportsFirst, ExportsNoFunction}
-use Rattle.wasmloop_c.specs.Calls.{OnHandle}
+use Rattle.resident.specs.Numbered.{ExportsAt, ExportsNoFunctionAt, NumbersExport}
+use Rattle.wasmloop_c.specs.Calls.{OnHandle, module_of}
 use Rattle.wasmloop_c.specs.Values.{values_of, call_numbers}
 use Rattle.wasmloop_c.specs.declared.ended.CallEnded.{CallEnded}
 use Rattle.wasmloop_c.specs.declared.instances.CallLimits.{CallLimits}
@@ -65,38 +67,63 @@ OpensOver m limits told b = (ended : Ended) × OpensInstance m limits told ended
 abbrev pub OpensNone : Loaded → CallLimits → CallEnded → Type 0
 OpensNone m limits told = (ended : Ended) × (b : KeptInstance) × OpensInstance m limits told ended b × ¬ HasReturned ended.ending
 
--- the function of this name takes these numbers, as these arguments
-pub record TakesNumbers (a : KeptInstance) (name numbers : List ℕ) (function : ℕ) (args : List Value) : Type 0 where
+-- one of the functions that are meant takes these numbers, as these arguments
+pub record TakesNumbers (a : KeptInstance) (IsMeant : ℕ → Type 0) (numbers : List ℕ) (function : ℕ) (args : List Value) : Type 0 where
   pub type : FuncType
-  pub named : ExportsFirst a.loaded.contents name function
+  pub meant : IsMeant function
   pub typed : HasFunctionType a.loaded.contents function type
   pub given : values_of type.params numbers ≡ Some args
 
--- the function of this name, which takes these numbers, is called
-abbrev pub CallsNamed : KeptInstance → (name numbers : List ℕ) → CallLimits → Ended → KeptInstance → Type 0
-CallsNamed a name numbers limits ended b =
-    (function : ℕ) × (args : List Value) × TakesNumbers a name numbers function args × CallsInstance a limits.depth limits.fuel function args ended b
+-- one that is meant, which takes these numbers, is called
+abbrev pub CallsMeant : KeptInstance → (IsMeant : ℕ → Type 0) → (numbers : List ℕ) → CallLimits → Ended → KeptInstance → Type 0
+CallsMeant a IsMeant numbers limits ended b =
+    (function : ℕ) × (args : List Value) × TakesNumbers a IsMeant numbers function args × CallsInstance a limits.depth limits.fuel function args ended b
 
--- the function of this name takes other numbers
-pub record TakesOthers (a : KeptInstance) (name numbers : List ℕ) : Type 0 where
+-- one that is meant takes other numbers
+pub record TakesOthers (a : KeptInstance) (IsMeant : ℕ → Type 0) (numbers : List ℕ) : Type 0 where
   pub function : ℕ
   pub type : FuncType
-  pub named : ExportsFirst a.loaded.contents name function
+  pub meant : IsMeant function
   pub typed : HasFunctionType a.loaded.contents function type
   pub others : values_of type.params numbers ≡ None
 
--- why there is no such call: no function of this name, or one that takes other numbers, or no memory
-abbrev pub IsNoCall : KeptInstance → (name numbers : List ℕ) → (status : ℕ) → Type 0
-IsNoCall a name numbers status =
-    ((status ≡ NONE) × ExportsNoFunction a.loaded.contents name)
-    ⊎ ((status ≡ ARGUMENTS) × TakesOthers a name numbers)
+-- why there is no such call: no function is meant, or it takes other numbers, or no memory
+abbrev pub IsNoCall : KeptInstance → (IsNone : Type 0) → (IsMeant : ℕ → Type 0) → (numbers : List ℕ) → (status : ℕ) → Type 0
+IsNoCall a IsNone IsMeant numbers status =
+    ((status ≡ NONE) × IsNone)
+    ⊎ ((status ≡ ARGUMENTS) × TakesOthers a IsMeant numbers)
     ⊎ (status ≡ MEMORY)
 
--- A call by name. Where it is not made, nothing changes.
+-- A call of a function that is meant. Where it is not made, nothing changes.
+abbrev pub MakesCall : KeptInstance → (IsNone : Type 0) → (IsMeant : ℕ → Type 0) → (numbers : List ℕ) → CallLimits → (old told : CallEnded) → (status : ℕ) → KeptInstance → Type 0
+MakesCall a IsNone IsMeant numbers limits old told status b =
+    ((status ≡ OK) × ((ended : Ended) × CallsMeant a IsMeant numbers limits ended b × (told ≡ call_numbers ended)))
+    ⊎ (IsNoCall a IsNone IsMeant numbers status × (b ≡ a) × (told ≡ old))
+
+-- a call by name
 abbrev pub CallsBy : KeptInstance → (name numbers : List ℕ) → CallLimits → (old told : CallEnded) → (status : ℕ) → KeptInstance → Type 0
 CallsBy a name numbers limits old told status b =
-    ((status ≡ OK) × ((ended : Ended) × CallsNamed a name numbers limits ended b × (told ≡ call_numbers ended)))
-    ⊎ (IsNoCall a name numbers status × (b ≡ a) × (told ≡ old))
+    MakesCall a (ExportsNoFunction a.loaded.contents name) (ExportsFirst a.loaded.contents name) numbers limits old told status b
+
+-- a call by the number of an export
+abbrev pub CallsAt : KeptInstance → (number : ℕ) → (numbers : List ℕ) → CallLimits → (old told : CallEnded) → (status : ℕ) → KeptInstance → Type 0
+CallsAt a number numbers limits old told status b =
+    MakesCall a (ExportsNoFunctionAt a.loaded.contents number) (ExportsAt a.loaded.contents number) numbers limits old told status b
+
+-- such a call on the instance that a handle has
+abbrev pub CallsHeldAt : (old new : Option Thing) → (number : ℕ) → (numbers : List ℕ) → CallLimits → (before told : CallEnded) → (status : ℕ) → Type 0
+CallsHeldAt old new number numbers limits before told status =
+    OnHeldResident old new status (told ≡ before) (λ a b. CallsAt a number numbers limits before told status b)
+
+-- the number of the export that is the function of this name, or there is none
+abbrev pub TellsNumber : Contents → (name : List ℕ) → (old told status : ℕ) → Type 0
+TellsNumber m name old told status =
+    ((status ≡ OK) × NumbersExport m name told)
+    ⊎ ((status ≡ NONE) × ExportsNoFunction m name × (told ≡ old))
+
+abbrev pub TellsExport : Thing → (name : List ℕ) → (old told status : ℕ) → Type 0
+TellsExport thing name old told status =
+    MatchOption (module_of thing) ((status ≡ KIND) × (told ≡ old)) (λ m. TellsNumber m.contents name old told status)
 
 -- bytes that are written to its memory, where they all fit
 pub record WritesMemory (a : KeptInstance) (at : ℕ) (bytes : List ℕ) (status : ℕ) (b : KeptInstance) : Type 0 where

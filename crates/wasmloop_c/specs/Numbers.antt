@@ -10,6 +10,9 @@ use Rattle.order.specs.declared.order.Order.{Order}
 use Rattle.order.specs.declared.order.Outcome.{Outcome}
 use Rattle.order.specs.declared.order.Outcome.TheVariants as outcome
 use Rattle.order.specs.declared.run.Told.{Told}
+use Rattle.order.specs.Orders.{order_of}
+use Rattle.order.specs.Underway.{Underway}
+use Rattle.order.specs.Work.{WorkOrder}
 use Rattle.wasmloop_c.specs.declared.work.About.{About}
 use Rattle.events.specs.Traps.{trap_number}
 use Rattle.events.specs.declared.ended.Ending.{Ending}
@@ -86,9 +89,17 @@ code_number (refusal.Validate fault) = valid_number fault
 code_number (refusal.Link fault) = link_number fault
 code_number refusal.Memory = 0
 
--- what a job is about
+-- what a job is about that isn't over, and has used so much
+abbrev pub about_unfinished : WorkOrder → (used : ℕ) → About
+about_unfinished o used = record { loop_no = o.loop_no; request = o.request; slot = o.slot; op = o.op; bytes = length o.bytes; outcome = 0; value = 0; reply = 0; used = used }
+
+-- of one that has not run
 abbrev pub about_order : Order → About
-about_order o = record { loop_no = o.loop_no; request = o.request; slot = o.slot; op = o.op; bytes = length (arc_value o.bytes).items; outcome = 0; value = 0; reply = 0; used = 0 }
+about_order o = about_unfinished (order_of o) 0
+
+-- of one that is paused
+abbrev pub about_paused : Underway → About
+about_paused r = about_unfinished r.order r.used
 
 -- what became of it, its value, and how many bytes it has
 abbrev pub outcome_numbers : Outcome → ℕ × (ℕ × ℕ)

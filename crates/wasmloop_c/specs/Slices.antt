@@ -16,7 +16,7 @@ use Rattle.wasmloop_c.specs.declared.thing.JobStage.TheVariants as stage
 
 -- an order that nothing has run of
 abbrev pub unbegun : Order → Underway
-unbegun order = record { order = order_of order; used = 0 }
+unbegun order = record { order = order_of order; used = 0; copied = 0 }
 
 -- there was no memory to begin it
 pub record HadNoMemory (order : Order) (told : Told) : Type 0 where
@@ -27,15 +27,15 @@ pub record HadNoMemory (order : Order) (told : Told) : Type 0 where
 -- the first slice of a job
 abbrev pub BeginsJob : Order → (units : ℕ) → OrderGoing → Type 0
 BeginsJob order units (Over told) = OrderIsOver (order_of order) 0 units told ⊎ HadNoMemory order told
-BeginsJob order units (Paused after) = OrderIsPaused (order_of order) 0 units after
+BeginsJob order units (Paused after) = OrderIsPaused (unbegun order) units after
 
 -- what is left in a job's handle, and whether the job is over
 abbrev pub LeftBy : OrderGoing → JobStage → (over : ℕ) → Type 0
 LeftBy (Over told) left over = (left ≡ stage.Answered told) × (over ≡ 1)
 LeftBy (Paused after) left over = (left ≡ stage.Running after) × (over ≡ 0)
 
--- A job goes on for so many units: one that is over has its reply, as if it had run at once, and one that isn't has used them all, and
--- some of its fuel is left. What is no job, or one that was run, stays.
+-- A job goes on for so many units: one that is over has its reply, as if it had run at once, and one that isn't has used some, and all where
+-- the bytes that it copied count too, and some of its fuel is left. What is no job, or one that was run, stays.
 abbrev pub RunsStageFor : (old new : JobStage) → (units before over status : ℕ) → Type 0
 RunsStageFor (stage.Asked order) new units before over status = (status ≡ OK) × ((going : OrderGoing) × BeginsJob order units going × LeftBy going new over)
 RunsStageFor (stage.Running r) new units before over status = (status ≡ OK) × ((going : OrderGoing) × OrderGoesOn r units going × LeftBy going new over)

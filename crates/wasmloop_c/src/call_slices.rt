@@ -90,7 +90,7 @@ fn left_by(going: Going, over: &mut u32, told: &mut CallEnded) -> InstanceStage
     match going {
         Going::Over(resident, ended) => {
             *over = 1;
-            *told = CallEnded::of(&ended);
+            told.write(&ended);
             InstanceStage::Resident(resident)
         }
         Going::Paused(call) => {

@@ -1,6 +1,6 @@
 // How a call of an instance ended, and its arguments, in numbers.
 
-ghost use Rattle.std.specs.Prelude.{◌≡◌, map, slice_get, option_map, IfOk};
+ghost use Rattle.std.specs.Prelude.{◌≡◌, length, map, slice_get, true, false, Some, None, option_map, IfOk};
 ghost use Rattle.wasmloop_c.specs.Calls.{copied};
 ghost use Rattle.wasmloop_c.specs.Values.{typed, values_of, number_of_value, results_of, call_numbers};
 
@@ -40,6 +40,24 @@ fn typed(value_type: ValType, number: u64) -> Option<Value>
     }
 }
 
+/// Makes the numbers values of these types, in room for as many, where each is one of its type.
+pub fn lay(types: &[ValType], numbers: &[u64], room: &mut [Value]) -> bool
+    requires numbers { length numbers.now ≡ length types.now }
+    requires room { length room.old ≡ length types.now }
+    ensures laid { result ≡ true → values_of types.now numbers.now ≡ Some room.new }
+    ensures others { result ≡ false → values_of types.now numbers.now ≡ None }
+{
+    for index in 0..types.len() {
+        let value_type = types[index];
+        let number = numbers[index];
+        match typed(value_type, number) {
+            Some(value) => room[index] = value,
+            None => return false,
+        }
+    }
+    true
+}
+
 /// The values of these types that the numbers are, where each is one of its type.
 pub fn values(
     alloc: Global,
@@ -51,14 +69,10 @@ pub fn values(
     if types.len() != numbers.len() {
         return Ok(None);
     }
-    let mut values = Vec::with_capacity(alloc, types.len())?;
-    for index in 0..types.len() {
-        let value_type = types[index];
-        let number = numbers[index];
-        match typed(value_type, number) {
-            Some(value) => values.push(value)?,
-            None => return Ok(None),
-        }
+    let mut values = Vec::new(alloc);
+    values.resize(types.len(), Value::I32(0))?;
+    if !lay(types, numbers, values.as_mut_slice()) {
+        return Ok(None);
     }
     Ok(Some(values))
 }
@@ -99,20 +113,17 @@ fn results_of(ending: &Ending) -> &[Value]
 }
 
 impl CallEnded {
-    /// The ended call in numbers.
-    pub fn of(ended: &Ended) -> CallEnded
-        ensures { result ≡ call_numbers ended.now }
+    /// Writes the ended call in numbers.
+    pub fn write(&mut self, ended: &Ended)
+        ensures { self.new ≡ call_numbers ended.now }
     {
         let (ending, trap) = numbers_of_ending(&ended.ending);
         let values = results_of(&ended.ending);
-        let mut result = [0; MAX_RESULTS];
-        copy_numbers(values, &mut result);
-        CallEnded {
-            ending,
-            trap,
-            results: values.len() as u64,
-            used: ended.used,
-            result,
-        }
+        self.ending = ending;
+        self.trap = trap;
+        self.results = values.len() as u64;
+        self.used = ended.used;
+        self.result = [0; MAX_RESULTS];
+        copy_numbers(values, &mut self.result);
     }
 }

@@ -3,12 +3,16 @@
 ghost use Rattle.std.specs.Prelude.{◌≡◌, ◌≤◌, ◌<◌, ◌↔◌, ◌⊎◌, Some, None, IfOk, IfErr, IsSomeAnd};
 ghost use Rattle.std.specs.Arc.{arc_value};
 ghost use Rattle.limits.specs.declared.TheConstants.{MAX_DEPTH};
+ghost use Rattle.syntax.specs.declared.contents.FuncType.{FuncType};
+ghost use Rattle.validate.specs.Typing.{HasFunctionType};
+ghost use Rattle.events.specs.declared.ended.Ended.{Ended};
 ghost use Rattle.reduction.specs.Invoking.{TakesArguments};
-ghost use Rattle.resident.specs.Calls.{IsNew};
+ghost use Rattle.resident.specs.Calls.{CallsInstance, ExportsFirst, ExportsNoFunction, IsNew};
 ghost use Rattle.wasmloop_c.specs.Calls.{AnswersIn, IsDepth, module_of};
-ghost use Rattle.wasmloop_c.specs.Instances.{OnResident, OnStage, OnHeldResident, OpensOver, OpensNone, TakesNumbers, IsNoCall, CallsBy, WritesMemory, resident_of};
+ghost use Rattle.wasmloop_c.specs.Instances.{OnResident, OnStage, OnHeldResident, OpensOver, OpensNone, TakesNumbers, IsNoCall, MakesCall, CallsBy, WritesMemory, resident_of};
+ghost use Rattle.wasmloop_c.specs.Values.{call_numbers};
 
-use crate::ended::{CallEnded, values};
+use crate::ended::{CallEnded, lay, values};
 use crate::handle::{Handle, on};
 use crate::status::{ARGUMENTS, KIND, MEMORY, NONE, NOT_STARTED, OK, RANGE};
 use crate::thing::{InstanceStage, Room, Thing, instance_room};
@@ -19,6 +23,9 @@ use resident::Resident;
 use std::alloc::{AllocError, Global};
 use std::sync::Arc;
 use syntax::types::Value;
+
+/// How many arguments are few: those need no memory.
+const FEW: usize = 8;
 
 /// What a call may use.
 #[repr(C)]
@@ -67,7 +74,7 @@ fn open(
         return MEMORY;
     };
     let ended = resident.start(limits.fuel, limits.depth);
-    *told = CallEnded::of(&ended);
+    told.write(&ended);
     let Ending::Return(_) = ended.ending else {
         return NOT_STARTED;
     };
@@ -111,9 +118,9 @@ pub fn named(
     name: &[u8],
     numbers: &[u64],
 ) -> Result<(u32, Vec<Value>), u32>
-    ensures named { IfOk result (λ found. TakesNumbers resident.now name.now numbers.now found.0 found.1.items) }
+    ensures named { IfOk result (λ found. TakesNumbers resident.now (ExportsFirst resident.now.loaded.contents name.now) numbers.now found.0 found.1.items) }
     ensures typed { IfOk result (λ found. TakesArguments resident.now.loaded.contents found.0 found.1.items) }
-    ensures refused { IfErr result (IsNoCall resident.now name.now numbers.now) }
+    ensures refused { IfErr result (IsNoCall resident.now (ExportsNoFunction resident.now.loaded.contents name.now) (ExportsFirst resident.now.loaded.contents name.now) numbers.now) }
 {
     let Some((function, func_type)) = resident.function(name) else {
         return Err(NONE);
@@ -127,6 +134,60 @@ pub fn named(
     }
 }
 
+/// Calls a function of an instance with these arguments.
+fn call_with(
+    resident: &mut Resident,
+    function: u32,
+    args: &[Value],
+    limits: CallLimits,
+    told: &mut CallEnded,
+)
+    requires typed { TakesArguments resident.old.loaded.contents function args.now }
+    requires depth { (1 ≤ limits.depth) × (limits.depth ≤ MAX_DEPTH) }
+    ensures { (ended : Ended) × CallsInstance resident.old limits.depth limits.fuel function args.now ended resident.new × (told.new ≡ call_numbers ended) }
+{
+    let ended = resident.call(function, args, limits.fuel, limits.depth);
+    told.write(&ended);
+}
+
+/// Calls a function of an instance with these numbers.
+#[tactic(auto, using(crate::proofs::ValuesRead::takes))]
+pub fn call_function(
+    alloc: Global,
+    resident: &mut Resident,
+    function: u32,
+    numbers: &[u64],
+    limits: CallLimits,
+    told: &mut CallEnded,
+) -> u32
+    requires typed { (type : FuncType) × HasFunctionType resident.old.loaded.contents function type }
+    requires depth { (1 ≤ limits.depth) × (limits.depth ≤ MAX_DEPTH) }
+    ensures { MakesCall resident.old ⊥ (λ f. f ≡ function) numbers.now limits told.old told.new result resident.new }
+{
+    let Some(func_type) = resident.type_of(function) else {
+        unreachable!()
+    };
+    let types = func_type.params.as_slice();
+    if types.len() <= FEW && numbers.len() == types.len() {
+        let mut room = [Value::I32(0); FEW];
+        let args = &mut room[..types.len()];
+        if !lay(types, numbers, args) {
+            return ARGUMENTS;
+        }
+        call_with(resident, function, args, limits, told);
+        return OK;
+    }
+    let Ok(made) = values(alloc, types, numbers) else {
+        return MEMORY;
+    };
+    let Some(args) = made else {
+        return ARGUMENTS;
+    };
+    call_with(resident, function, args.as_slice(), limits, told);
+    OK
+}
+
+#[tactic(auto, using(crate::proofs::Meant::meant))]
 fn call_on(
     alloc: Global,
     resident: &mut Resident,
@@ -138,13 +199,10 @@ fn call_on(
     requires { (1 ≤ limits.depth) × (limits.depth ≤ MAX_DEPTH) }
     ensures { CallsBy resident.old name.now numbers.now limits told.old told.new result resident.new }
 {
-    let (function, args) = match named(alloc, resident, name, numbers) {
-        Ok(found) => found,
-        Err(status) => return status,
+    let Some((function, _)) = resident.function(name) else {
+        return NONE;
     };
-    let ended = resident.call(function, args.as_slice(), limits.fuel, limits.depth);
-    *told = CallEnded::of(&ended);
-    OK
+    call_function(alloc, resident, function, numbers, limits, told)
 }
 
 fn call_stage(

@@ -68,7 +68,7 @@ impl RunnableOrder {
 
     /// Begins the order, to be run in slices.
     pub fn begin(self, alloc: Global) -> Result<Running, Reply>
-        ensures begun { IfOk result (λ r. (r.order ≡ order_of self) × (r.used ≡ 0)) }
+        ensures begun { IfOk result (λ r. r ≡ record { order = order_of self; used = 0; copied = 0 }) }
         ensures refused { IfErr result (λ reply. (reply.order ≡ self) × (end_of reply.outcome ≡ NoMemory)) }
     {
         let RunnableOrder { order } = self;

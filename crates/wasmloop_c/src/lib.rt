@@ -22,6 +22,7 @@ mod job;
 mod lone;
 mod loops;
 mod modules;
+mod numbered;
 mod place;
 mod raw;
 mod sentence;

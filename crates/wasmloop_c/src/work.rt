@@ -2,14 +2,14 @@
 
 ghost use Rattle.std.specs.Prelude.{◌≡◌, ◌≢◌, ◌⊎◌, [], None, IsNone, IsSomeAnd, IfSome, IfOk, IfErr};
 ghost use Rattle.wasmloop_c.specs.Calls.{OnHandle, OnLoop, OnHeldLoop, ReadsHandle, HandsOut, RunsToEnd, RunsStageToEnd, StartsOfLoop, OffersReply, OffersStage, OffersHeld, TellsJob, TellsStage};
-ghost use Rattle.wasmloop_c.specs.Numbers.{about_order, about_told, outcome_numbers};
+ghost use Rattle.wasmloop_c.specs.Numbers.{about_order, about_paused, about_told, outcome_numbers};
 
 use crate::handle::{Handle, on};
 use crate::job::RunnableOrder;
 use crate::status::{EMPTY, KIND, MEMORY, NONE, OK, STRANGER};
 use crate::thing::{JobStage, Room, Thing, job_room};
 use desk::Desk;
-use order::{Order, Outcome, Told};
+use order::{Order, Outcome, Running, Told};
 use phases::{Accepted, LoopCore};
 use std::alloc::{AllocError, Global};
 use std::mem::replace;
@@ -26,7 +26,7 @@ pub struct About {
     pub slot: u32,
     /// The operation.
     pub op: u32,
-    /// What became of it: 0 not yet run, 1 done, 2 trap, 3 depth, 4 spent, 5 no memory.
+    /// What became of it: 0 not over, 1 done, 2 trap, 3 depth, 4 spent, 5 no memory.
     pub outcome: u32,
     /// The result of `uv_work`, or the trap's number, or 0.
     pub value: u32,
@@ -34,7 +34,7 @@ pub struct About {
     pub bytes: u64,
     /// How many bytes the reply has.
     pub reply: u64,
-    /// The units of fuel that its run used, or 0.
+    /// The units of fuel that its run has used so far.
     pub used: u64,
 }
 
@@ -51,6 +51,15 @@ fn of_order(order: &Order) -> About
         bytes: order.bytes.len() as u64,
         reply: 0,
         used: 0,
+    }
+}
+
+fn of_running(running: &Running) -> About
+    ensures { result ≡ about_paused running.now }
+{
+    About {
+        used: running.used(),
+        ..of_order(running.order())
     }
 }
 
@@ -165,6 +174,10 @@ fn tell_stage(stage: &JobStage, about: &mut About) -> u32
     match stage {
         JobStage::Asked(job) => {
             *about = of_order(job.order());
+            OK
+        }
+        JobStage::Running(running) => {
+            *about = of_running(running);
             OK
         }
         JobStage::Answered(told) => {

@@ -1,6 +1,10 @@
 -- The calls by which a guest reads its input and sets its reply.
-use Rattle.std.specs.Prelude.{ℕ, ◌+◌, nat_lt, List, length, take, drop, Option, Some, None, if◌then◌else◌}
+use Rattle.std.specs.Prelude.{ℕ, ◌+◌, nat_lt, List, [], ◌∷◌, length, take, drop, Option, Some, None, if◌then◌else◌}
 use Rattle.limits.specs.declared.TheConstants.{MAX_BYTES}
+use Rattle.syntax.specs.declared.types.Value.{Value}
+use Rattle.syntax.specs.declared.types.Value.TheVariants.{I32}
+use Rattle.imports.specs.declared.call.Call.{Call}
+use Rattle.imports.specs.declared.call.Call.TheVariants.{InCopy, OutSet, QueueWork}
 use Rattle.instance.specs.Fresh.{overwritten}
 use Rattle.order.specs.declared.uv.answers.TheConstants.{NOT_HERE, INVALID, OUTSIDE_MEMORY}
 
@@ -27,3 +31,10 @@ set_out place count memory reply =
     if nat_lt MAX_BYTES count then (INVALID, reply)
     else (if nat_lt (length memory) (place + count) then (OUTSIDE_MEMORY, reply)
     else (0, taken_out place count memory))
+
+-- how many bytes a call names that copies bytes
+abbrev pub bytes_named : Call → List Value → ℕ
+bytes_named InCopy (to ∷ from ∷ I32 count ∷ []) = count
+bytes_named OutSet (place ∷ I32 count ∷ []) = count
+bytes_named QueueWork (op ∷ place ∷ I32 count ∷ []) = count
+bytes_named _ args = 0

@@ -1,6 +1,6 @@
 // The calls of a guest's imports, and their arguments.
 
-ghost use Rattle.std.specs.Prelude.{◌≡◌, [], ◌∷◌, Some, map, slice_get, length};
+ghost use Rattle.std.specs.Prelude.{◌≡◌, ◌≤◌, ◌+◌, [], ◌∷◌, Some, map, slice_get, length};
 ghost use Rattle.syntax.specs.declared.types.ValType.TheVariants as valtype;
 ghost use Rattle.syntax.specs.declared.types.Value.TheVariants as value;
 ghost use Rattle.validate.specs.Typing.{type_of};
@@ -8,13 +8,14 @@ ghost use Rattle.reduction.specs.Hosting.{TakesParams};
 ghost use Rattle.imports.specs.Linking.{Imports};
 ghost use Rattle.imports.specs.Uv.{type_of_call};
 ghost use Rattle.instance.specs.Reads.{with_bytes};
-ghost use Rattle.order.specs.Uv.Bytes.{copied_in};
+ghost use Rattle.order.specs.Uv.Bytes.{bytes_named, copied_in};
 ghost use Rattle.order.specs.ImportTypes.{import_types};
 
 use crate::uv::answers::{INVALID, OUTSIDE_MEMORY};
 use imports::{Call, Linked};
 use instance::memory::Memory;
 use interp::host::Args;
+use syntax::types::Value;
 
 /// The function of "uv" that a linked module imports under this number, which is called with these arguments.
 #[inline(always)]
@@ -88,4 +89,22 @@ pub fn copy_in(input: &[u8], to: u32, from: u32, count: u32, memory: &mut Memory
     }
     memory.write(to as usize, &input[start..end]);
     0
+}
+
+/// How many bytes are copied after a call that answered so, where so many were before it. No call answers a negative number that copied any.
+#[inline(always)]
+pub fn counted(copied: u64, call: Call, args: &Args, answer: Value) -> u64
+    requires { map type_of args.now ≡ (type_of_call call).params }
+    ensures more { copied ≤ result }
+    ensures most { result ≤ copied + bytes_named call args.now }
+{
+    let count = match call {
+        Call::InCopy | Call::QueueWork => three(args).2,
+        Call::OutSet => two(args).1,
+        _ => return copied,
+    };
+    match answer {
+        Value::I32(number) if number.cast_signed() >= 0 => copied.saturating_add(u64::from(count)),
+        _ => copied,
+    }
 }

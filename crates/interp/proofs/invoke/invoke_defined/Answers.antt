@@ -1,5 +1,5 @@
 use Rattle.interp.proofs.Words.{◌≡◌, length, ap, ◌∙◌, arith, ℕ, List, ValType, FuncType, ◌-◌, Option, subst, sym}
-use Rattle.std.proofs.Common.{take}
+use Rattle.std.proofs.Common.{take, ◌<◌}
 use Rattle.interp.proofs.CallersRoom.{deep}
 use Rattle.interp.proofs.Slots.CallsBegin.{found_type, can_open, few_results, under_way, call_does}
 use Rattle.interp.proofs.invoke.invoke_defined.Goals as goal
@@ -8,7 +8,7 @@ use Rattle.instance.specs.declared.stack.Last.{Last}
 use Rattle.instance.specs.Stops.{Halt, stop_of}
 use Rattle.engine.specs.Stepping.{standing}
 use Rattle.interp.specs.Inner.Calling.{CallDoes}
-use Rattle.interp.specs.Slots.Hosted.{IsUnderWay, EndsSo, last_of}
+use Rattle.interp.specs.Slots.Hosted.{IsUnderWay, IsGranted, EndsAt, EndsSo, last_of}
 
 pub open-at-requires : goal.open-at-requires
 open-at-requires g c =
@@ -42,15 +42,24 @@ run_within-requires-clause-under_way g c =
     c.args.code.now.tables.now c.requires.agree c.new.result c.new.ensures c.open-at.result c.open-at.new.slots c.open-at.ensures.opened c.open-at.ensures.small
     callers c.args.state.now call.fuel can.store c.as_slice.result.now same)
 
+-- no host has copied more bytes than there are numbers for
+all_granted : (fuel copied granted : ℕ) → IsGranted fuel 18446744073709551615 copied granted → granted ≡ fuel
+all_granted fuel copied granted g = omega (arith, g.within, not) where
+  not : granted < fuel → ⊥
+  not less = let cut = g.cut less in absurd (omega (arith, cut.0, cut.1))
+
 pub returns-clause-does : goal.returns-clause-does
 returns-clause-does g c =
     let can = c.requires.can in
     let call = c.args.call.now in
     let m = c.args.code.now.contents.now in
     let n = c.run_within.new in
-    let ends = c.run_within.ensures.ends in
+    let cut = c.run_within.ensures.ends in
+    let whole : cut.granted ≡ call.fuel = all_granted _ _ _ cut.is_granted in
     let callers : List Caller = take (call.depth - 1) c.args.frames.now in
     let kept : List Caller = take (call.depth - 1) n.frames in
+    let ends = subst (λ (k : ℕ). EndsAt m c.new.result call.depth g.H.Host.moves c.as_slice.result.now (standing c.open-at.result c.open-at.new.slots callers c.args.state.now k)
+    c.args.host.now n.ended c.run_within.result kept n.state n.host) whole cut.ends in
     let d = deep call.depth c.requires.depth c.args.frames.now c.requires.room in
     let type = found_type m call.function call.args.now can.typed c.in-Some.func_type.now c.in-Some.ensures in
     let same : c.as_slice.result.now ≡ can.typed.type.results = c.as_slice.ensures ∙ ap (λ (t : FuncType). t.results) type in

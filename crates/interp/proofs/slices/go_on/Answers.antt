@@ -1,9 +1,12 @@
-use Rattle.std.proofs.Common.{◌≡◌, ℕ, ◌+◌, ◌-◌, ◌<◌, ◌≤◌, ◌↔◌, IsTrue, Bool, take, Option, true, false, sym, subst, arith}
+use Rattle.std.proofs.Common.{◌≡◌, ℕ, ◌+◌, ◌-◌, ◌*◌, ◌<◌, ◌≤◌, ◌↔◌, IsTrue, Bool, take, Option, true, false, refl, sym, subst, arith, min as nat_min, ⊎_elim}
+use Rattle.std.proofs.Math.Nat.{eq-or-lt_of_le}
 use Rattle.events.specs.declared.ended.Ending.TheVariants as ending
 use Rattle.interp.proofs.Slots.Slicing.{going, paused_again, is_over, stands_there, slice_returns_typed, slice_all, slice_kept, slice_within, slice_typed, slice_fit, slice_few_results}
 use Rattle.instance.specs.Stops.{Halt}
-use Rattle.interp.specs.Slices.{RunIsOver}
-use Rattle.interp.specs.Slots.Hosted.{IsUnderWay}
+use Rattle.interp.specs.Slices.{RunIsOver, IsMost}
+use Rattle.interp.specs.declared.paused.TheConstants.{UNIT_BYTES}
+use Rattle.interp.specs.Slots.Hosted.{IsUnderWay, IsGranted, EndsAt, ComesFromAny}
+use Rattle.engine.specs.Stepping.{MachineState}
 use Rattle.interp.proofs.slices.go_on.Given.{Over}
 use Rattle.interp.proofs.slices.go_on.Goals as goal
 use Rattle.interp.proofs.slices.go_on.Goals.{After-run_within-last}
@@ -26,7 +29,7 @@ run_within-last-requires-clause-under_way g c =
     going c.args.contents.now c.requires.valid c.args.tables.now c.requires.agree g.H.Host.moves c.args.slice.now.paused
     c.as_slice.result.now c.in-Some.func_type.now c.in-Some.ensures c.as_slice.ensures c.new.result c.new.ensures
     c.args.slots.now c.args.frames.now c.args.state.now c.args.host.now
-    q.0 q.1 q.2 q.3 q.4 c.min-granted.result
+    q.0 q.1 q.2 q.3 q.4 c.min.result
 
 -- all that is left was granted, where no more is left
 all_granted : (granted left : ℕ) → granted ≤ left → (granted < left → ⊥) → granted ≡ left
@@ -36,51 +39,114 @@ not_paused : (b : Bool) (A : Type 0) → IsTrue b ↔ A → b ≡ false → A �
 not_paused b A says is holds = let is_true : b ≡ true = says.1 holds in absurd (cc)
 
 module _ (g : Over) (c : After-run_within-last g) where
-  few : c.min-granted.result ≤ c.args.slice.now.paused.left
-  few = omega (arith, c.min-granted.ensures)
+  -- what the run was granted
+  abbrev granted : ℕ
+  granted = c.run_within-last.ensures.ends.granted
 
-  few_units : c.min-granted.result ≤ c.args.slice.now.units
-  few_units = omega (arith, c.min-granted.ensures)
+  granted_is : IsGranted c.min.result c.most_bytes.result (g.H.Host.copied c.run_within-last.new.host) granted
+  granted_is = c.run_within-last.ensures.ends.is_granted
+
+  few : granted ≤ c.args.slice.now.paused.left
+  few = let most = granted_is.within in omega (arith, c.min.ensures, most)
+
+  few_units : granted ≤ c.args.slice.now.units
+  few_units = let most = granted_is.within in omega (arith, c.min.ensures, most)
+
+  ends : EndsAt c.args.contents.now c.new.result c.args.slice.now.paused.depth g.H.Host.moves c.as_slice.result.now
+      (record { at = c.args.slice.now.paused.at; slots = c.args.slots.now; frames = take (c.args.slice.now.paused.depth - 1) c.args.frames.now; store = c.args.state.now; fuel = granted })
+      c.args.host.now c.run_within-last.new.ended c.run_within-last.result (take (c.args.slice.now.paused.depth - 1) c.run_within-last.new.frames) c.run_within-last.new.state c.run_within-last.new.host
+  ends = c.run_within-last.ensures.ends.ends
 
   began : IsUnderWay c.args.contents.now c.new.result c.args.slice.now.paused.depth c.as_slice.result.now
-      (record { at = c.args.slice.now.paused.at; slots = c.args.slots.now; frames = take (c.args.slice.now.paused.depth - 1) c.args.frames.now; store = c.args.state.now; fuel = c.min-granted.result })
+      (record { at = c.args.slice.now.paused.at; slots = c.args.slots.now; frames = take (c.args.slice.now.paused.depth - 1) c.args.frames.now; store = c.args.state.now; fuel = granted })
   began =
       let q = c.requires.paused in
       going c.args.contents.now c.requires.valid c.args.tables.now c.requires.agree g.H.Host.moves c.args.slice.now.paused
       c.as_slice.result.now c.in-Some.func_type.now c.in-Some.ensures c.as_slice.ensures c.new.result c.new.ensures
       c.args.slots.now c.args.frames.now c.args.state.now c.args.host.now
-      q.0 q.1 q.2 q.3 q.4 c.min-granted.result
+      q.0 q.1 q.2 q.3 q.4 granted
 
-  within : c.run_within-last.new.ended.used ≤ c.min-granted.result
-  within = slice_within _ _ _ _ _ _ c.args.host.now began _ _ _ _ _ c.run_within-last.ensures.ends
+  within : c.run_within-last.new.ended.used ≤ granted
+  within = slice_within _ _ _ _ _ _ c.args.host.now began _ _ _ _ _ ends
+
+  -- where it was spent, it used what it was granted
+  all : c.run_within-last.new.ended.ending ≡ ending.Spent → c.run_within-last.new.ended.used ≡ granted
+  all spent = slice_all _ _ _ _ _ _ c.args.host.now began _ _ _ _ _ ends spent
+
+-- what a slice that is paused has used
+slice_used : (old left units before since copied most min granted used : ℕ) → IsGranted min most since granted → min ≡ nat_min units left → copied ≡ before
+    → IsMost copied units most → before ≤ since → used ≡ granted → used < left
+    → (old + nat_min 1 units ≤ old + used) × (old + used ≤ old + units) × (UNIT_BYTES * (old + units) + before ≤ UNIT_BYTES * (old + used) + since) × (1 ≤ left - used)
+    × (old + used + (left - used) ≡ old + left)
+slice_used old left units before since copied most min granted used g is same bound more all less =
+    let within = g.within in (
+      some g.some,
+      omega (arith, all, within, is),
+      ⊎_elim whole cut (eq-or-lt_of_le g.within),
+      omega (arith, less),
+      omega (arith, less),
+    ) where
+      some : nat_min 1 min ≤ granted → old + nat_min 1 units ≤ old + used
+      some one = omega (arith, one, is, less, all)
+
+      whole : granted ≡ min → UNIT_BYTES * (old + units) + before ≤ UNIT_BYTES * (old + used) + since
+      whole e = omega (arith, e, is, all, less, more)
+
+      cut : granted < min → UNIT_BYTES * (old + units) + before ≤ UNIT_BYTES * (old + used) + since
+      cut shorter =
+          let done = g.cut shorter in
+          let reached = bound since done.0 done.1 in
+          let over = done.0 in
+          omega (arith, reached, over, same)
 
 pub returns-then-is_paused-clause-paused : goal.returns-then-is_paused-clause-paused
 returns-then-is_paused-clause-paused g c _ s before args fuel q =
     let a = (goal.at.returns-then-is_paused-clause-paused g c).After-run_within-last in
+    let m = c.args.contents.now in
     let paused = c.is_paused.ensures.0 c.if-is_paused.true in
-    let there = c.run_within-last.ensures.spent paused.0 in
+    let there = c.run_within-last.ensures.ends.spent paused.0 in
     let n = c.run_within-last.new in
-    let all = slice_all _ _ _ _ _ _ c.args.host.now (began g a) _ _ _ _ _ c.run_within-last.ensures.ends paused.0 in
+    let p = c.args.slice.now.paused in
+    let types = c.as_slice.result.now in
+    let depth = p.depth in
+    let used = sym (all g a paused.0) in
+    let first : ℕ → MachineState = λ k. record { at = p.at; slots = c.args.slots.now; frames = take (depth - 1) c.args.frames.now; store = c.args.state.now; fuel = k } in
+    let few : n.ended.used ≤ p.left = let less = paused.1 in omega (arith, less) in
+    let ended = subst (λ (k : ℕ). EndsAt m c.new.result depth g.H.Host.moves types (first k) c.args.host.now n.ended c.run_within-last.result
+    (take (depth - 1) n.frames) n.state n.host) used (ends g a) in
+    let come = subst (λ (k : ℕ). ComesFromAny m c.new.result depth g.H.Host.moves types (first k) c.args.host.now
+    (record { at = n.place.at; slots = n.slots; frames = take (depth - 1) n.frames; store = n.state; fuel = n.place.fuel }) n.host) used there.1 in
     let stands =
-    stands_there c.args.contents.now c.requires.valid c.args.tables.now c.requires.agree g.H.Host.moves c.args.slice.now.paused
-    c.as_slice.result.now c.in-Some.func_type.now c.in-Some.ensures c.as_slice.ensures c.new.result c.new.ensures
+    stands_there m c.requires.valid c.args.tables.now c.requires.agree g.H.Host.moves p
+    types c.in-Some.func_type.now c.in-Some.ensures c.as_slice.ensures c.new.result c.new.ensures
     c.args.slots.now c.args.frames.now c.args.state.now c.args.host.now
-    s before args fuel q c.min-granted.result (few g a) n.ended c.run_within-last.result _ n.frames n.state n.host paused.0 all c.run_within-last.ensures.ends
+    s before args fuel q n.ended.used few n.ended c.run_within-last.result _ n.frames n.state n.host paused.0 refl ended
     c.run_within-last.ensures.stop c.run_within-last.ensures.callers in
-    paused_again c.args.contents.now c.requires.valid c.args.tables.now c.requires.agree g.H.Host.moves c.args.slice.now.paused
-    c.as_slice.result.now c.in-Some.func_type.now c.in-Some.ensures c.as_slice.ensures c.new.result c.new.ensures
+    paused_again m c.requires.valid c.args.tables.now c.requires.agree g.H.Host.moves p
+    types c.in-Some.func_type.now c.in-Some.ensures c.as_slice.ensures c.new.result c.new.ensures
     c.args.slots.now c.args.frames.now c.args.state.now c.args.host.now
-    s before args fuel q c.min-granted.result (few g a) _ _ _ _ _ _ _ _ c.run_within-last.result stands there.0 there.1
+    s before args fuel q n.ended.used few _ _ _ _ _ _ _ _ c.run_within-last.result stands there.0 come
+
+pub returns-then-is_paused-clause-slice : goal.returns-then-is_paused-clause-slice
+returns-then-is_paused-clause-slice g c none =
+    let a = (goal.at.returns-then-is_paused-clause-slice g c).After-run_within-last in
+    let p = c.args.slice.now.paused in
+    let units = c.args.slice.now.units in
+    let paused = c.is_paused.ensures.0 c.if-is_paused.true in
+    let used = all g a paused.0 in
+    let told = slice_used p.used p.left units (g.H.Host.copied c.args.host.now) (g.H.Host.copied c.run_within-last.new.host) c.copied.result c.most_bytes.result c.min.result (granted g a)
+    c.run_within-last.new.ended.used (granted_is g a) c.min.ensures c.copied.ensures c.most_bytes.ensures c.run_within-last.ensures.copies used paused.1 in
+    record { some = told.0; most = told.1; all = told.2; left = told.3; sum = told.4 }
 
 pub returns-then-is_paused-clause-stands : goal.returns-then-is_paused-clause-stands
 returns-then-is_paused-clause-stands g c none =
     let a = (goal.at.returns-then-is_paused-clause-stands g c).After-run_within-last in
-    slice_kept _ _ _ _ _ _ c.args.host.now (began g a) _ _ _ _ _ c.run_within-last.ensures.ends (c.is_paused.ensures.0 c.if-is_paused.true).0
+    slice_kept _ _ _ _ _ _ c.args.host.now (began g a) _ _ _ _ _ (ends g a) (c.is_paused.ensures.0 c.if-is_paused.true).0
 
 pub returns-then-is_paused-clause-kept : goal.returns-then-is_paused-clause-kept
 returns-then-is_paused-clause-kept g c =
     let a = (goal.at.returns-then-is_paused-clause-kept g c).After-run_within-last in
-    slice_fit _ _ _ _ _ _ c.args.host.now (began g a) _ _ _ _ _ c.run_within-last.ensures.ends
+    slice_fit _ _ _ _ _ _ c.args.host.now (began g a) _ _ _ _ _ (ends g a)
 
 pub overflow_add-ended : goal.overflow_add-ended
 overflow_add-ended g c =
@@ -92,8 +158,9 @@ overflow_add-ended g c =
 pub returns-clause-over : goal.returns-clause-over
 returns-clause-over g c s before args fuel q =
     let a = (goal.at.returns-clause-over g c).After-run_within-last in
-    let spent : c.run_within-last.new.ended.ending ≡ ending.Spent → c.min-granted.result ≡ c.args.slice.now.paused.left =
-    λ is. all_granted c.min-granted.result c.args.slice.now.paused.left (few g a) (λ less. not_paused _ _ c.is_paused.ensures c.if-is_paused.false (is, less)) in
+    let spent : c.run_within-last.new.ended.ending ≡ ending.Spent → granted g a ≡ c.args.slice.now.paused.left =
+    λ is. all_granted (granted g a) c.args.slice.now.paused.left (few g a) (λ less. not_paused _ _ c.is_paused.ensures c.if-is_paused.false
+    (is, subst (λ (k : ℕ). k < c.args.slice.now.paused.left) (sym (all g a is)) less)) in
     let n = c.run_within-last.new in
     let p = c.args.slice.now.paused in
     subst (λ (stop : Option Halt). RunIsOver c.args.contents.now p.depth g.H.Host.moves p.function s before args fuel
@@ -101,7 +168,7 @@ returns-clause-over g c s before args fuel q =
     (is_over c.args.contents.now c.requires.valid c.args.tables.now c.requires.agree g.H.Host.moves c.args.slice.now.paused
     c.as_slice.result.now c.in-Some.func_type.now c.in-Some.ensures c.as_slice.ensures c.new.result c.new.ensures
     c.args.slots.now c.args.frames.now c.args.state.now c.args.host.now
-    s before args fuel q c.min-granted.result (few g a) _ _ _ _ _ spent c.run_within-last.ensures.ends)
+    s before args fuel q (granted g a) (few g a) _ _ _ _ _ spent (ends g a))
 
 pub returns-clause-last : goal.returns-clause-last
 returns-clause-last g c =
@@ -119,9 +186,9 @@ returns-clause-results g c =
     c.as_slice.result.now c.in-Some.func_type.now c.in-Some.ensures c.as_slice.ensures c.new.result c.new.ensures
     c.args.slots.now c.args.frames.now c.args.state.now c.args.host.now
     q.0 q.1 q.2 q.3 q.4 c.run_within-last.new.ended.ending
-    (slice_typed _ _ _ _ _ _ c.args.host.now (began g a) _ _ _ _ _ c.run_within-last.ensures.ends)
+    (slice_typed _ _ _ _ _ _ c.args.host.now (began g a) _ _ _ _ _ (ends g a))
 
 pub returns-clause-kept : goal.returns-clause-kept
 returns-clause-kept g c =
     let a = (goal.at.returns-clause-kept g c).After-run_within-last in
-    slice_fit _ _ _ _ _ _ c.args.host.now (began g a) _ _ _ _ _ c.run_within-last.ensures.ends
+    slice_fit _ _ _ _ _ _ c.args.host.now (began g a) _ _ _ _ _ (ends g a)

@@ -4,7 +4,7 @@ use Rattle.syntax.specs.Loaded.{Loaded}
 use Rattle.syntax.specs.declared.contents.Contents.{Contents}
 use Rattle.imports.specs.Linking.{IsLinked}
 use Rattle.order.specs.Orders.{order_of}
-use Rattle.order.proofs.InSlices.{no_start, start_takes, start_is_defined}
+use Rattle.order.proofs.InSlices.{no_start, start_takes, start_is_defined, goes_on_same}
 use Rattle.order.proofs.running.begin_start.Goals as goal
 
 pub begin_work-requires-clause-started : goal.begin_work-requires-clause-started
@@ -36,3 +36,8 @@ start_on-requires-clause-starting c =
       empty = fresh.empty;
       calling = c.begin-paused.ensures.calling;
     }
+
+pub returns : goal.returns
+returns c =
+    goes_on_same (order_of c.args.order) 0 c.begin-paused.result.used c.args.machine.host.copied c.begin-paused.new.self.host.copied
+    c.args.units c.start_on.result c.begin-paused.ensures.used c.begin-paused.ensures.copied c.start_on.ensures

@@ -1,4 +1,4 @@
-use Rattle.std.proofs.Common.{◌≡◌, ℕ, sym, subst, codes}
+use Rattle.std.proofs.Common.{◌≡◌, ℕ, ◌+◌, sym, subst, codes, arith}
 use Rattle.std.specs.Arc.{arc_value}
 use Rattle.syntax.specs.Loaded.{Loaded}
 use Rattle.imports.specs.Linking.{ExportsFunction}
@@ -6,7 +6,8 @@ use Rattle.std.proofs.Common.{Some}
 use Rattle.validate.specs.Typing.{type_of_function}
 use Rattle.imports.specs.declared.entry_point.EntryPoint.TheVariants.{Work}
 use Rattle.imports.specs.Uv.{type_of_entry}
-use Rattle.order.proofs.InSlices.{work_takes}
+use Rattle.order.specs.Orders.{order_of}
+use Rattle.order.proofs.InSlices.{work_takes, goes_on_same}
 use Rattle.order.proofs.running.begin_work.Goals as goal
 
 pub ask-requires-clause-exported : goal.ask-requires-clause-exported
@@ -30,3 +31,9 @@ work_on-requires-clause-working c =
       typed = subst (λ (f : ℕ). type_of_function (arc_value c.args.order.module).contents f ≡ Some (type_of_entry Work)) same typed;
       calling = c.begin-paused.ensures.calling;
     }
+
+pub returns : goal.returns
+returns c =
+    let none = c.begin-paused.ensures.used in
+    goes_on_same (order_of c.args.order) c.args.first (c.args.first + c.begin-paused.result.used) c.args.machine.host.copied c.begin-paused.new.self.host.copied
+    c.args.units c.work_on.result (omega (arith, none)) c.begin-paused.ensures.copied c.work_on.ensures

@@ -1,7 +1,7 @@
-use Rattle.std.proofs.Common.{ℕ, [], Some, sym, ap, ◌∙◌}
+use Rattle.std.proofs.Common.{ℕ, ◌-◌, [], Some, sym, ap, ◌∙◌, arith}
 use Rattle.instance.specs.Stops.{stop_of}
 use Rattle.order.specs.Orders.{order_of}
-use Rattle.order.proofs.InSlices.{start_computes, start_returns, no_results}
+use Rattle.order.proofs.InSlices.{start_computes, start_returns, no_results, goes_on_from}
 use Rattle.order.proofs.running.start_on.Goals as goal
 
 pub invariant_of-result : goal.invariant_of-result
@@ -43,3 +43,10 @@ begin_work-requires-clause-started c =
     let done = c.in-Some.ensures.over q.s q.old [] c.args.order.fuel q.calling in
     start_returns (order_of c.args.order) q.s n.self.state q.old.reply.items n.self.host.reply.items c.args.paused.function c.in-Some.ended
     (stop_of n.self.last n.self.frames.items) q.fresh q.is_start q.empty done.0 c.in-Return.field-0 c.in-Return.is done.2
+
+pub returns : goal.returns
+returns c =
+    let last = c.in-Some.ensures.last in
+    let sum = c.used.ensures in
+    goes_on_from (order_of c.args.order) c.args.paused.used c.in-Some.ended.used c.args.machine.host.copied c.go_on.new.self.host.copied c.args.units
+    (c.args.units - (c.in-Some.ended.used - c.used.result)) last.0 last.1 (omega (arith, sum)) c.go_on.ensures.copies c.begin_work.result c.begin_work.ensures

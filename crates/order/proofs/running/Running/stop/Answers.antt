@@ -32,11 +32,11 @@ returns-in-Starting c =
     let i = c.self.inside in
     let p = c.in-Starting.paused in
     let q : IsStarting (order_of i.order) i.machine p = subst (λ (s : RunStage). IsAtStage (order_of i.order) i.machine s) c.in-Starting.is c.self.invariant.at in
-    let at : Underway = record { order = order_of i.order; used = p.used } in
+    let at : Underway = record { order = order_of i.order; used = p.used; copied = i.machine.host.copied } in
     let stands : OrderStandsAt at (stop_of p.last i.machine.frames.items) = starting_stands (order_of i.order) i.machine p q in
     let told : c.stop.result ≡ stop_of p.last i.machine.frames.items =
     c.stop.ensures ∙ ap (λ (frames : List Caller). stop_of p.last frames) c.as_slice-callers.ensures.value in
-    let same : at ≡ c.args.self.now = ap {B = Underway} (λ (s : RunStage). record { order = order_of i.order; used = used_in_stage s }) (sym c.in-Starting.is) ∙ c.self.view_is in
+    let same : at ≡ c.args.self.now = ap {B = Underway} (λ (s : RunStage). record { order = order_of i.order; used = used_in_stage s; copied = i.machine.host.copied }) (sym c.in-Starting.is) ∙ c.self.view_is in
     subst (λ (r : Underway). OrderStandsAt r c.stop.result) same (subst (λ (stop : Option Halt). OrderStandsAt at stop) (sym told) stands)
 
 pub returns-in-Working : goal.returns-in-Working
@@ -45,9 +45,9 @@ returns-in-Working c =
     let p = c.in-Working.paused in
     let q : IsWorking (order_of i.order) i.machine c.in-Working.field-0 p × IsSome p.last =
     subst (λ (s : RunStage). IsAtStage (order_of i.order) i.machine s) c.in-Working.is c.self.invariant.at in
-    let at : Underway = record { order = order_of i.order; used = c.in-Working.field-0 + p.used } in
+    let at : Underway = record { order = order_of i.order; used = c.in-Working.field-0 + p.used; copied = i.machine.host.copied } in
     let stands : OrderStandsAt at (stop_of p.last i.machine.frames.items) = working_stands (order_of i.order) i.machine p c.in-Working.field-0 q.0 q.1 in
     let told : c.stop-in-Working.result ≡ stop_of p.last i.machine.frames.items =
     c.stop-in-Working.ensures ∙ ap (λ (frames : List Caller). stop_of p.last frames) c.as_slice-callers.ensures.value in
-    let same : at ≡ c.args.self.now = ap {B = Underway} (λ (s : RunStage). record { order = order_of i.order; used = used_in_stage s }) (sym c.in-Working.is) ∙ c.self.view_is in
+    let same : at ≡ c.args.self.now = ap {B = Underway} (λ (s : RunStage). record { order = order_of i.order; used = used_in_stage s; copied = i.machine.host.copied }) (sym c.in-Working.is) ∙ c.self.view_is in
     subst (λ (r : Underway). OrderStandsAt r c.stop-in-Working.result) same (subst (λ (stop : Option Halt). OrderStandsAt at stop) (sym told) stands)

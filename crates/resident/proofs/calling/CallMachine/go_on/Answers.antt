@@ -1,4 +1,4 @@
-use Rattle.std.proofs.Common.{List, ap, ◌∙◌}
+use Rattle.std.proofs.Common.{List, ap, ◌∙◌, arith}
 use Rattle.std.specs.Arc.{arc_value}
 use Rattle.instance.specs.Stops.{stop_of}
 use Rattle.instance.specs.declared.stack.Caller.{Caller}
@@ -34,11 +34,12 @@ returns-in_default-clause-paused c none =
     let n = c.go_on.new in
     let e = c.go_on.ensures in
     let is = c.in_default.is in
+    let slice = e.slice is in
     let seam = take_seam _ n.frames _ (c.go_on.auto.frames ∙ c.as_mut_slice-callers.ensures.len) in
     record {
       goes_on = goes_on c.args.valid.now (arc_value m.tables) m.slots m.frames.items c.args.state.now c.args.slice.now.paused
           c.contents-contents.result.now c.as_slice-tables.result.now c.as_mut_slice-callers.result.now c.contents-contents.ensures.same
           (c.as_slice-tables.ensures ∙ c.deref.ensures) c.as_mut_slice-callers.ensures.value c.new-host.result n.host
-          n.slice.paused n.slots n.frames _ seam n.state e.call (e.paused is) (e.slice is).1;
-      used = (e.slice is).0;
+          n.slice.paused n.slots n.frames _ seam n.state e.call (e.paused is) slice.left;
+      used = omega (arith, slice.most, slice.all);
     }

@@ -1,0 +1,8 @@
+use Rattle.std.proofs.Common.{rules}
+use Rattle.resident.specs.Calls.{ExportsNoFunction}
+use Rattle.wasmloop_c.proofs.numbered.tell.Goals as goal
+
+pub returns-in_default : goal.returns-in_default
+returns-in_default c =
+    let none : ExportsNoFunction c.args.linked.now.contents c.args.name.now = rw (← c.valid.ensures.same) c.in_default.ensures in
+    search rules

@@ -204,7 +204,12 @@ def never():
             it.call("estimate", 1000)
             units.append(it.used)
     same("the units of a function that never asks", units[1], units[0])
-    same("whether --never leaves a function as it is", len(ask.asyncified(with_it, "total")) < len(ask.asyncified(with_it)), True)
+    wrong = ask.asyncified(with_it, "total")
+    same("whether --never leaves a function as it is", len(wrong) < len(ask.asyncified(with_it)), True)
+    asked = raised(lambda: asyncio.run(ask.Plugin(Module(wrong), price).call("total", 3)))
+    same("a function of --never that asks", asked, "total trapped: unreachable, after ")
+    other = ask.Plugin(Module(ask.asyncified(with_it, "estimate")), price)
+    same("a function that asks beside one of --never", asyncio.run(other.call("total", 20)), total(20))
     print(f"questions: a function that never asks uses {units[0]} units with Asyncify and without")
 
 

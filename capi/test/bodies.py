@@ -47,8 +47,10 @@ BODIES = {
     "words_of_any_length": (f"if (length > PTRDIFF_MAX || room > PTRDIFF_MAX) {RANGE}stop_told(", f"if (room > PTRDIFF_MAX) {RANGE}stop_told("),
     "words_in_any_room": (f"if (length > PTRDIFF_MAX || room > PTRDIFF_MAX) {RANGE}stop_told(", f"if (length > PTRDIFF_MAX) {RANGE}stop_told("),
     "range_comes_before_null": (
-        "if (!handle || !count || (!bytes && length) || (!into && room)) return WASMLOOP_NULL;\n    if (length > PTRDIFF_MAX || room > PTRDIFF_MAX) return WASMLOOP_RANGE;",
-        "if (length > PTRDIFF_MAX || room > PTRDIFF_MAX) return WASMLOOP_RANGE;\n    if (!handle || !count || (!bytes && length) || (!into && room)) return WASMLOOP_NULL;"),
+        "if (!handle || !count || (!bytes && length) || (!into && room)) return WASMLOOP_NULL;\n"
+        "    if (length > PTRDIFF_MAX || room > PTRDIFF_MAX) return WASMLOOP_RANGE;",
+        "if (length > PTRDIFF_MAX || room > PTRDIFF_MAX) return WASMLOOP_RANGE;\n"
+        "    if (!handle || !count || (!bytes && length) || (!into && room)) return WASMLOOP_NULL;"),
     "a_long_request_is_null": (f"if (length > PTRDIFF_MAX) {RANGE}request(", f"if (length > PTRDIFF_MAX) {RANGE}request(".replace("RANGE", "NULL")),
     "arguments_at_null": ("if (!instance || !name || !limits || !ended || (!arguments && count))", "if (!instance || !name || !limits || !ended)"),
     "no_bytes_at_null_are_refused": ("if (!instance || (!from && length)) return WASMLOOP_NULL;", "if (!instance || !from) return WASMLOOP_NULL;"),

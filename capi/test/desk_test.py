@@ -8,7 +8,9 @@ The parts are lines, hosts, units, callbacks, warm, log, fuzz and words; default
 import collections
 import json
 import os
+import pickle
 import random
+import re
 import shutil
 import subprocess
 import sys
@@ -16,8 +18,9 @@ from concurrent.futures import ThreadPoolExecutor
 from pathlib import Path
 
 import desk_guests as guests
+import desk_pprof
 import wasmloop
-from wasmloop import _tool, callbacks, callgrind, counts, freeze, lines, log, lower, profile, record, replay, runs, tree, wasm
+from wasmloop import _tool, callbacks, callgrind, counts, freeze, lines, log, lower, pprof, profile, record, replay, runs, tree, wasm
 
 PROGRAM, OUT = os.path.abspath(sys.argv[1]), Path(sys.argv[2])
 EXAMPLES = Path(__file__).resolve().parent.parent.parent / "examples"
@@ -52,6 +55,60 @@ def lines_part():
             print(f"lines: {language}, {name}: {right} of {len(wanted)} traps")
             if right != len(wanted):
                 bad(f"lines of {language}, {name}")
+            if language == "C":
+                stopped(source.name, ran, debug, wanted)
+    beside()
+
+
+def stopped(file, ran, debug, wanted):
+    """What the package raises has the line where the module is given `debug`, and no line elsewhere."""
+    with wasmloop.Module(ran, debug) as told, wasmloop.Module(ran) as silent:
+        for op, line in list(wanted.items())[::10]:
+            given = bytes(range(1, 9)) * 2
+            plain, reply = silent.work(op, given), told.work(op, given)
+            same(f"the reply of trap {op} without its line", plain, reply._replace(line=""))
+            same(f"the line of trap {op}", re.search(f"{file}:([0-9]+)", reply.line + f"{file}:0")[1], str(line))
+            same(f"the words of trap {op}", [str(ended_by(it)).count(f"{file}:{line}") > 0 for it in (reply, plain)], [True, False])
+
+
+def ended_by(reply):
+    """What the value of a reply raises."""
+    try:
+        return reply.value
+    except wasmloop.Stopped as why:
+        return pickle.loads(pickle.dumps(why))
+
+
+def beside():
+    """A debug module beside the file is found, calls of an instance have lines, and what is no debug module is reported."""
+    data = guests.built(OUT, EXAMPLES, "parse").read_bytes()
+    alone = OUT / "beside"
+    alone.mkdir(exist_ok=True)
+    (alone / "it.debug.wasm").unlink(missing_ok=True)
+    (alone / "it.wasm").write_bytes(data)
+    same("a module without a debug module beside", wasmloop.Module.open(str(alone / "it.wasm")).work(0, b"1/0").line, "")
+    (alone / "it.debug.wasm").write_bytes(data)
+    line = wasmloop.Module.open(str(alone / "it.wasm")).share().work(0, b"1/0").line
+    same("the line by a debug module beside", ("parse.c:" in line, line), (True, lines.Lines(data, data).of(first_byte(data))))
+    with wasmloop.Module(data, data).instance() as it:
+        why = raised(lambda: it.call("uv_work", 0, fuel=3))
+        same("the line of a call", ("parse.c:" in str(why), why.line in it.stop_told(data)), (True, True))
+    plain = (EXAMPLES / "crc32.wasm").read_bytes()
+    for debug, told in ((b"xyz", "debug: not a WebAssembly module"), (plain, "debug: the module has no DWARF: compile with -g")):
+        same("what is said of a debug module", str(raised(lambda: wasmloop.Module(data, debug))), told)
+
+
+def first_byte(data):
+    """Where a division by zero stops."""
+    with wasmloop.Module(data).job(0, b"1/0") as job:
+        return int(lines.PLACE.search(job.run().stop_told(data))[1])
+
+
+def raised(call):
+    try:
+        return call()
+    except (wasmloop.Stopped, ValueError) as why:
+        return why
 
 
 def traps_of(ran, debug, wanted):
@@ -224,6 +281,7 @@ def by_line():
         same("whether an inlined function is told", "atom" in told[0].by_name()[0], True)
 
     check_callgrind(told[0])
+    check_pprof(told[0])
     slices(data, host, given)
     most, tree.MOST_BYTES = tree.MOST_BYTES, len(tree.TreeWriter(module, 0, True).written())
     light = profile.Profile(module, runs.Request(data, host, 0, given, 64), source, 0)
@@ -326,7 +384,7 @@ class NoSlices(runs.Request):
 def check_callgrind(told):
     """The units of all lines are the run's, and those of a function's calls and lines together are what its callers say."""
     text = callgrind.written(told, "guest.wasm").split("\n")
-    alone, within, called, function = 0, collections.Counter(), collections.Counter(), ""
+    alone, within, called, function, callee = 0, collections.Counter(), collections.Counter(), "", ""
     for before, line in zip([""] + text, text):
         function = line[3:] if line.startswith("fn=") else function
         if line[:1].isdigit():
@@ -338,6 +396,25 @@ def check_callgrind(told):
     same("the units of callgrind's lines", alone, told.ran.used)
     same("the units of calls", [it for it in called if it and called[it] > within[it]], [])
     same("the calls' number", sum(int(it[6:].split()[0]) for it in text if it.startswith("calls=")), sum(it.calls for it in told.nodes if it.parent))
+
+
+def check_pprof(told):
+    """Its samples are the units by call path, and by line; and pprof itself reads it."""
+    data = pprof.written(told, "guest.wasm")
+    read = desk_pprof.Profile(data)
+    by_line = collections.Counter()
+    for (_, file, line), units in told.lines.items():
+        by_line[file, line] += units
+    same("pprof's unit", read.unit, ["units"])
+    same("pprof's call paths", read.by(lambda frames: ";".join(name for name, _, _ in frames)), dict(told.paths))
+    same("pprof's lines", read.by(lambda frames: frames[-1][1:]), dict(by_line) if told.lines else {("", 0): told.ran.used})
+    same("pprof's files of a second profile", pprof.written(told, "guest.wasm"), data)
+    if not shutil.which("go"):
+        print("skipped: pprof itself: go is missing")
+        return
+    (OUT / "guest.pprof").write_bytes(data)
+    ran = subprocess.run(["go", "tool", "pprof", "-top", OUT / "guest.pprof"], capture_output=True, check=False)
+    same("what pprof prints", (ran.returncode, f"100% of {told.ran.used} total" in ran.stdout.decode()), (0, True))
 
 
 def warm_part():

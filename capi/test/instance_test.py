@@ -1,6 +1,7 @@
 """An instance from Python. usage: PYTHONPATH=capi/python WASMLOOP_LIBRARY=LIBRARY instance_test.py FOLDER"""
 
 import sys
+import warnings
 
 import wasmloop as w
 
@@ -58,6 +59,7 @@ print(fails(w.Error, lambda: it.memory[len(it.memory):len(it.memory) + 1], statu
 print(fails(ValueError, lambda: it.memory.__setitem__(slice(0, 4), b"abc")))
 print(fails(TypeError, lambda: it.memory[0]))
 
+
 def in_slices(units, name, *args, **limits):
     """How a call ends in slices of so many units, and how many pauses it makes."""
     call, pauses = two.begin(name, *args, **limits), 0
@@ -81,7 +83,14 @@ two.close()
 before = len(it.memory)
 assert it.call("grow", 1) == before // 65536 and len(it.memory) == before + 65536
 start = w.Module(open(f"{folder}/start.wasm", "rb").read())
-with start.instance() as its:
+with warnings.catch_warnings(record=True) as told:
+    warnings.simplefilter("always")
+    module.instance().close()
+    assert not told
+    its = start.instance()
+    assert [(it.category, it.filename) for it in told] == [(w.InertImports, __file__)] and start.shape().imports == 1, told
+    assert str(told[0].message).startswith('the module imports 1 function of "uv", which return -1 in an instance: '), told[0]
+with its:
     assert its.call("global") == 7 and its.call("bump", 100) is None and its.call("global") == 107 and its.call("asks") == -1
     assert its.value("count") == 107 and its.value("wide") == -2
     print(fails(w.Error, lambda: its.value("bump"), status=w.NONE))

@@ -3,9 +3,9 @@
        GUEST(operation)                      the head of the work function
        {
            size_t length;
-           uint8_t *bytes = guest_input(&length);      all bytes of the request, and a zero behind them
+           uint8_t *bytes = guest_input(&length);      all bytes of the request, zero-terminated
            guest_put(bytes, length);                   to the reply; so does all that is printed to stdout
-           return guest_end(0);                        hands the reply to the host; answers its argument, or a
+           return guest_end(0);                        hands the reply to the host; returns its argument, or a
        }                                               negative number of uv.h where the reply was too long */
 #ifndef GUEST_H
 #define GUEST_H

@@ -4,8 +4,14 @@
 #elif !defined(_SETJMP_H)
 #define _SETJMP_H
 typedef unsigned long jmp_buf[6];
+#ifdef __cplusplus
+extern "C" {
+#endif
 int setjmp(jmp_buf) __attribute__((returns_twice));
 _Noreturn void longjmp(jmp_buf, int);
+#ifdef __cplusplus
+}
+#endif
 #define setjmp(env) setjmp(env)
 #define _setjmp setjmp
 #define _longjmp longjmp

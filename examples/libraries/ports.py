@@ -127,7 +127,17 @@ PORTS = {
     "tre": Port("tre", ["tre/lib/reg*.c", "tre/lib/tre-*.c"], "-I@/tre/lib -I% -DTRE_REGEX_T_FIELD=value", lower=True, no_files=True,
                 made={"tre-config.h": ("tre/lib/tre-config.h.in", TRE)}),
     "xxhash": Port("xxhash", ["xxhash/xxhash.c"], "-I@/xxhash"),
+    "quickjs": Port("quickjs", [f"quickjs/{n}.c" for n in "quickjs libregexp libunicode cutils dtoa".split()],
+                    "-I@/quickjs -D_GNU_SOURCE -DCONFIG_VERSION=\"2025-04-26\"", wasm_flags="-Os -fno-jump-tables -DEMSCRIPTEN",
+                    lower=True, no_files=True),
+    "squirrel": Port("squirrel3", ["squirrel3/squirrel/*.cpp", *(f"squirrel3/sqstdlib/sqstd{n}.cpp" for n in "aux math string rex".split())],
+                     "-I@/squirrel3/include -I@/squirrel3/squirrel -I@/squirrel3/sqstdlib",
+                     wasm_flags="-include cmath -include new",     # (before its macro `type`)
+                     lower=True, jumps=True, no_files=True, cpp=True),
 }
+
+# The source packages that Debian 12 lacks, of sid.
+OF_SID = "quickjs", "squirrel3"
 
 # glue/zloop.c includes glue/zlib.c: a guest of a loop, whose workers deflate and inflate.
 LOOP = Port("zlib", ZLIB, "-I@/zlib", lower=True)
@@ -152,6 +162,33 @@ print(JSON.stringify({a: [1, 2.5, "x", null, true], b: {c: 1e21, d: 0.1 + 0.2}})
 print("the quick brown fox".split(" ").map(function (w) { return w.toUpperCase(); }).sort().join(","));
 for (i = 0; i < 100; i++) try { throw new Error("e" + i); } catch (e) { if (e.message !== "e" + i) print("wrong"); }
 print(/(\\d+)-(\\w+)/.exec("a 12-bc"), Math.sin(1), Math.sqrt(2), (1234.5678).toFixed(2));
+"""
+MODERN = b"""
+class Point { constructor(x, y) { Object.assign(this, { x, y }); } get size() { return Math.hypot(this.x, this.y); } }
+print(new Point(3, 4).size, [...new Set([3, 1, 3])].map(it => it ** 2), `${2n ** 100n}`);
+function* squares(n) { for (let i = 0; i < n; i++) yield i * i; }
+const { a = 1, ...rest } = { b: [...squares(5)], c: new Map([["k", 2]]) }; print(a, JSON.stringify(rest), rest.c.get("k"));
+print("caf\\u00e9 \\u{1F600}".normalize("NFD").length, "x1y22".replace(/(?<n>\\d+)/gu, "<$<n>>"));
+print([5, 2, 9].toSorted?.(), Object.entries({ p: null }).flat(), 0.1 + 0.2, 1e21, 123456789 * 987654321);
+"""
+SQUIRREL = b"""
+function sieve(n) {
+    local found = 0, there = array(n + 1, true);
+    for (local i = 2; i <= n; i++) if (there[i]) { found++; for (local j = i * i; j <= n; j += i) there[j] = false; }
+    return found;
+}
+print(sieve(5000) + "\\n");
+local sum = 0.0;
+for (local i = 1; i <= 20000; i++) sum += 1.0 / i;
+print(format("%.3f %d %s\\n", sum, 1234, "x"));
+class Point { x = 0; y = 0; constructor(a, b) { x = a; y = b; } function size() { return sqrt(x * x + y * y); } }
+print(Point(3.0, 4.0).size() + "\\n");
+local words = split("the quick brown fox", " ");
+words.sort(); foreach (i, w in words) print(i + "=" + w.toupper() + " ");
+local squares = (function (n) { for (local i = 0; i < n; i++) yield i * i; })(5), it;
+while ((it = resume squares) != null) print(it + " ");
+for (local i = 0; i < 100; i++) try { throw "e" + i; } catch (e) { if (e != "e" + i) print("wrong"); }
+print(regexp(@"(\\d+)-(\\w+)").capture("a 12-bc").len() + "\\n");
 """
 TCL = rb"""
 proc sieve {n} {
@@ -263,6 +300,8 @@ def rows(sources):
         ("tommath", 0, b"", "the factorial of 500"),
         ("tommath", 1, NOISE[:65], "x^65537 mod 2^521 - 1"),
         ("xxhash", 1, gpl, "XXH3, XXH64, XXH32 GPL-3"),
+        ("quickjs", 0, JAVASCRIPT + MODERN, "sieve, sums, classes, generators"),
+        ("squirrel", 0, SQUIRREL, "sieve, sums, classes, throw"),
         ("jim", 0, TCL, "sieve, sums, regexp, catch"),
         ("tomcrypt", 0, gpl, "AES-128-GCM GPL-3"),
         ("tomcrypt", 1, gpl, "ChaCha20-Poly1305 GPL-3"),

@@ -59,7 +59,8 @@ def fetch(package):
     if folder.exists():
         return True
     SOURCES.mkdir(parents=True, exist_ok=True)
-    env = os.environ | {"APT_CONFIG": call(APT_CONFIG, OUT / "apt").decode().strip()}
+    suite = ["sid"] if package in ports.OF_SID else []
+    env = os.environ | {"APT_CONFIG": call(APT_CONFIG, OUT / "-".join(["apt", *suite]), *suite).decode().strip()}
     told = call("apt-cache", "showsrc", package, env=env).decode()
     # (the newest first; a mirror may lack the sources of an update)
     for version in reversed([line.split()[1] for line in told.split("\n") if line.startswith("Version: ")]):

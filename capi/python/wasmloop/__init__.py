@@ -18,9 +18,12 @@ from __future__ import annotations
 
 import ctypes as c
 import functools
+import importlib
 import operator
 import os
-from typing import Any, List, NamedTuple, Optional, Tuple, TypeVar, Union
+import sys
+import warnings
+from typing import Any, Dict, List, NamedTuple, Optional, Tuple, TypeVar, Union
 
 OK, NONE, EMPTY, KIND, MEMORY, REFUSED, RANGE, STRANGER, USED_UP, NULL, NO_WORK, NOT_STARTED, ARGUMENTS = range(13)
 ENTERED, RAN, SKIPPED, OVER, FAILED = range(1, 6)
@@ -237,20 +240,25 @@ class Refused(Error):
         return type(self), (self.fault, str(self))
 
 
+class InertImports(UserWarning):
+    """An instance was created of a module that imports functions of "uv": in an instance they do nothing and return -1."""
+
+
 class Stopped(Error):
     """A call did not return: it trapped, exceeded the call-depth limit or ran out of fuel. `ending` is "trap", "depth" or "spent", `trap` the
-    trap's number or 0, and `used` the fuel used, in units."""
+    trap's number or 0, `used` the fuel used, in units, and `line` the source line, if the module was given `debug`."""
 
-    def __init__(self, what: str, ended: _Ended):
-        self._what, self._ended = what, ended
+    def __init__(self, what: str, ended: _Ended, line: str = ""):
+        self._what, self._ended, self.line = what, ended, line
         self.ending = _name_of(_lib.wasmloop_ending_name(c.c_uint32(ended.ending)))
         self.trap, self.used = ended.trap, ended.used
         name = _name_of(_lib.wasmloop_trap_name(c.c_uint32(ended.trap)))
         why = {"depth": "exceeded the call-depth limit", "spent": "ran out of fuel"}.get(str(self.ending), f"trapped: {name}")
-        super().__init__(OK, f"{what} {why}, after {self.used} unit{'' if self.used == 1 else 's'}")
+        place = f", at {line}" if line else ""
+        super().__init__(OK, f"{what} {why}, after {self.used} unit{'' if self.used == 1 else 's'}{place}")
 
     def __reduce__(self) -> Any:
-        return type(self), (self._what, self._ended)
+        return type(self), (self._what, self._ended, self.line)
 
 
 def _library() -> str:
@@ -271,10 +279,16 @@ def _name_of(text: Optional[bytes]) -> Optional[str]:
     return None if text is None else text.decode()
 
 
-def _outcome_of(job: _Handle) -> Optional[int]:
-    """The outcome of a job; None while it is paused, or in use."""
+def _about_of(job: _Handle) -> About:
+    """What the job is about, if it is not in use."""
     about = About()
-    return about.outcome if _lib.wasmloop_job_about(c.byref(job), c.byref(about)) == OK else None
+    _lib.wasmloop_job_about(c.byref(job), c.byref(about))
+    return about
+
+
+def _unfinished(about: About) -> str:
+    """Why a job that is not over has no result."""
+    return "the job is paused: continue it with run_for" if about.used else "the job has not run yet"
 
 
 _ENDED = {NOT_RUN: "it has not run yet", WORK_TRAP: "it trapped", WORK_DEPTH: "it exceeded the call-depth limit",
@@ -290,14 +304,14 @@ def _why(status: int, call: str, handles: List[_Handle]) -> Optional[str]:
             return it.gone
         return f"the {it.kind if it else 'object'} is in use by another thread"
     if status == KIND and job:
-        outcome = _outcome_of(job)
-        return "the job has not run yet" if outcome == NOT_RUN else "the job has already run" if outcome else "the job is paused: continue it with run_for"
+        about = _about_of(job)
+        return _unfinished(about) if about.outcome == NOT_RUN else "the job has already run"
     if status == KIND and handles[0].kind == "loop" and call == "write":
         return "the memory of a loop can only be read"
     if status == KIND and handles[0].kind == "instance":
         return "no call is in progress" if call == "call_run_for" else "a call is in progress"
     if status == NONE and job:
-        return f"the job has no reply: {_ENDED.get(_outcome_of(job) or NOT_RUN, 'it is in use')}"
+        return f"the job has no reply: {_ENDED[_about_of(job).outcome]}"
     return None
 
 
@@ -423,6 +437,9 @@ class _Held:
     def _about(self) -> str:
         return ""
 
+    def __reduce__(self) -> Any:
+        raise TypeError(f"cannot pickle this {self.handle.kind}: pickle the bytes of the module, and load them at the other end")
+
     def __repr__(self) -> str:
         try:
             told = self._about()
@@ -436,6 +453,12 @@ class _Runs(_Held):
     has used."""
 
     _most = 128
+    _source: Any = None                                 # the source lines of its module, if that was given `debug`
+
+    def _line(self) -> str:
+        """The source line where the last run stopped, as far as it is known."""
+        places = self.stop_places() if self._source else []
+        return str(self._source.of_place(places[0].byte)) if places else ""
 
     def _copied(self, call: str, status: int, room: Any, count: Any) -> List[Any]:
         if status not in (OK, NONE):
@@ -455,12 +478,13 @@ class _Runs(_Held):
         return self._copied("stop_places", status, room, count)
 
     def stop_told(self, data: Buffer) -> Optional[str]:
-        """The backtrace as text, given the bytes of the module; None if it returned."""
+        """The backtrace as text, given the bytes of the module; None if it returned. With source lines, if the module was given `debug`."""
         data = _data(data)
         try:
-            return _text("stop_told", data, c.c_size_t(len(data)), c.byref(self.handle))
+            told = _text("stop_told", data, c.c_size_t(len(data)), c.byref(self.handle))
         except Error as error:
             raise _failed(error.status, "stop_told", self.handle) from None
+        return str(self._source.told(told)) if self._source and told else told
 
 
 class _Inspected(_Runs):
@@ -483,12 +507,14 @@ class _Inspected(_Runs):
 
 class Reply(NamedTuple):
     """The result of a job. `outcome` is "done", "trap", "depth" (call-depth limit exceeded), "spent" (out of fuel) or "nomemory" (allocation
-    failed); `number` the signed result if it is "done", else the trap's number or 0; `data` the reply's bytes; `used` the fuel used, in units."""
+    failed); `number` the signed result if it is "done", else the trap's number or 0; `data` the reply's bytes; `used` the fuel used, in units;
+    `line` the source line where it stopped, if the module was given `debug`."""
 
     outcome: str
     number: int
     data: bytes
     used: int
+    line: str = ""
 
     @property
     def value(self) -> int:
@@ -498,7 +524,7 @@ class Reply(NamedTuple):
         if self.outcome == "nomemory":
             raise Error(MEMORY)
         endings = {"trap": TRAP, "depth": DEPTH, "spent": SPENT}
-        raise Stopped("uv_work", _Ended(ending=endings[self.outcome], trap=self.number, used=self.used))
+        raise Stopped("uv_work", _Ended(ending=endings[self.outcome], trap=self.number, used=self.used), self.line)
 
 
 class Job(_Runs):
@@ -508,10 +534,10 @@ class Job(_Runs):
 
     def _about(self) -> str:
         about = self.about()
-        return f"op {about.op}, {_outcome(about)}"
+        return f"op {about.op}, {_outcome(about) if about.outcome or not about.used else 'paused'}"
 
     def about(self) -> About:
-        """Its request, and its outcome, before or after it runs."""
+        """Its request, its outcome, and the fuel that it has used so far."""
         about = About()
         _call("job_about", self.handle, about)
         return about
@@ -534,7 +560,8 @@ class Job(_Runs):
         return self
 
     def run_for(self, units: int) -> bool:
-        """Runs a slice of at most `units` units of fuel. True if the job is over, with the result that run() gives."""
+        """Runs a slice of at most `units` units of fuel, or fewer once it has copied more than 64 bytes for each. True if the job is over,
+        with the result that run() gives."""
         over = c.c_uint32()
         _call("job_run_for", self.handle, c.c_uint64(_whole("units", units, 1, 2**64 - 1)), c.byref(over))
         return bool(over.value)
@@ -543,9 +570,10 @@ class Job(_Runs):
         """The result, once the job has run."""
         about = self.about()
         if about.outcome == NOT_RUN:
-            raise Error(KIND, "the job has not run yet")
+            raise Error(KIND, _unfinished(about))
         data = self._reply() if about.outcome == WORK_DONE else b""
-        return Reply(_outcome(about), c.c_int32(about.value).value, data, about.used)
+        line = self._line() if about.outcome in (WORK_TRAP, WORK_DEPTH, WORK_SPENT) else ""
+        return Reply(_outcome(about), c.c_int32(about.value).value, data, about.used, line)
 
     def reply_into(self, room: Union[bytearray, memoryview]) -> int:
         """Copies as much of the reply as fits into a writable buffer, and returns the length of the whole reply."""
@@ -564,12 +592,24 @@ def _outcome(about: About) -> str:
     return str(_name_of(_lib.wasmloop_outcome_name(c.c_uint32(about.outcome))))
 
 
+def _contents(file: str) -> bytes:
+    with open(file, "rb") as it:
+        return it.read()
+
+
+def _lines() -> Any:
+    """The tool for source lines: a host that wants none loads none."""
+    return importlib.import_module(".lines", __package__)
+
+
 class Module(_Held):
-    """A module, loaded from its bytes. Raises Refused if they are not a module that this host runs."""
+    """A module, loaded from its bytes. Raises Refused if they are not a module that this host runs. `debug` are the bytes of the module with
+    DWARF that it was made from: then what stops tells its source line, by llvm-symbolizer, as wasmloop.lines does."""
 
     _kind = "module"
+    _source: Any = None
 
-    def __init__(self, data: Buffer):
+    def __init__(self, data: Buffer, debug: Optional[Buffer] = None):
         super().__init__()
         fault, data = Fault(), _module_data(data)
         status = _lib.wasmloop_load(data, c.c_size_t(len(data)), c.byref(self.handle), c.byref(fault))
@@ -577,6 +617,15 @@ class Module(_Held):
             raise Refused(fault, explain(data))
         if status != OK:
             raise Error(status)
+        if debug is not None:
+            self._source = _lines().of_debug(data, _module_data(debug))
+
+    @classmethod
+    def open(cls, file: str) -> Module:
+        """The module in a file, NAME.wasm. If NAME.debug.wasm lies beside it, as wasmloop.cc writes it, and llvm-symbolizer is there, that is its
+        `debug`."""
+        beside = os.path.splitext(file)[0] + ".debug.wasm"
+        return cls(_contents(file), _contents(beside) if os.path.isfile(beside) and _lines().is_possible() else None)
 
     def _about(self) -> str:
         shape = self.shape()
@@ -588,6 +637,7 @@ class Module(_Held):
         other = Module.__new__(Module)
         _Held.__init__(other)
         _call("share", self.handle, other.handle)
+        other._source = self._source
         return other
 
     def shape(self) -> Shape:
@@ -624,6 +674,7 @@ class Module(_Held):
         _whole("length", len(data), 0, 65_536)
         task = _Task(_fuel("fuel", fuel), _whole("op", op, -(2**31), 2**32 - 1) % 2**32, _depth(depth))
         _call("job_new", self.handle, task, data, c.c_size_t(len(data)), job.handle)
+        job._source = self._source
         return job
 
     def work(self, op: int, data: Buffer = b"", fuel: int = 1_000_000, depth: int = 64) -> Reply:
@@ -672,21 +723,24 @@ class Memory:
 
 
 class Instance(_Inspected):
-    """An instance of a module. It keeps its memory and globals from call to call. Calls to "uv" imports return -1: an instance has no timers
-    and no work requests. One thread at a time."""
+    """An instance of a module. It keeps its memory and globals from call to call. Calls to "uv" imports return -1, and the warning InertImports
+    says so: an instance has no timers and no work requests. One thread at a time."""
 
     _kind = "instance"
 
     def __init__(self, module: Module, fuel: int = 1_000_000, depth: int = 64):
         super().__init__()
         of, limits, ended = _held(Module, module), _call_limits(fuel, depth), _Ended()
-        self.module, self.used, self._types = module, 0, {}  # type: ignore[var-annotated]
+        self.module, self.used, self._source = module, 0, module._source
+        self._types: Dict[str, Tuple[List[int], List[int]]] = {}
+        self._numbers: Dict[str, c.c_uint64] = {}
         status = _lib.wasmloop_instance(c.byref(of), c.byref(limits), c.byref(self.handle), c.byref(ended))
         if status == NOT_STARTED:
             raise Stopped("the start function", ended)
         if status != OK:
             raise _failed(status, "instance", of)
         self.used = ended.used
+        _warn_of_imports(module)
 
     def _about(self) -> str:
         return f"{len(self.memory)} bytes of memory"
@@ -695,7 +749,7 @@ class Instance(_Inspected):
         """Calls the function exported as `name`; arguments may be negative. Returns its signed results: None, one number, or a tuple. A call that
         does not return raises Stopped; it is not rolled back, and you may call the instance again."""
         numbers, limits, ended = self._words(name, args), _call_limits(fuel, depth), _Ended()
-        _call("call", self.handle, _export(name), numbers, c.c_size_t(len(args)), limits, ended)
+        _call("call_at", self.handle, self._numbers[name], numbers, c.c_size_t(len(args)), limits, ended)
         return self._results(name, ended)
 
     def begin(self, name: str, *args: int, fuel: int = 1_000_000, depth: int = 64) -> Call:
@@ -705,10 +759,13 @@ class Instance(_Inspected):
         return Call(self, name)
 
     def _kinds(self, name: str) -> Tuple[List[int], List[int]]:
+        """The types of an export, which is looked up once."""
         kinds = self._types.get(name)
         if kinds is None:
-            kinds = self._types[name] = self.module.function(name)
-        return kinds  # type: ignore[no-any-return]
+            kinds, number = self.module.function(name), c.c_uint64()
+            _call("export_number", self.module.handle, _export(name), c.byref(number))
+            self._types[name], self._numbers[name] = kinds, number
+        return kinds
 
     def _words(self, name: str, args: Tuple[int, ...]) -> Any:
         """The arguments of a call as a C array."""
@@ -720,7 +777,7 @@ class Instance(_Inspected):
     def _results(self, name: str, ended: _Ended) -> Union[None, int, Tuple[int, ...]]:
         self.used = ended.used
         if ended.ending:
-            raise Stopped(name, ended)
+            raise Stopped(name, ended, self._line())
         told = tuple(_signed(it, bits) for it, bits in zip(ended.result[: ended.results], self._kinds(name)[1]))
         return told[0] if len(told) == 1 else told or None
 
@@ -748,6 +805,22 @@ class Call:
         return self._instance._results(self._name, self._ended)
 
 
+def _level_outside() -> int:
+    """The stack level, for a warning, of the first caller outside this package."""
+    level = 1
+    while sys._getframe(level).f_back and sys._getframe(level).f_globals.get("__package__") == __package__:
+        level += 1
+    return level
+
+
+def _warn_of_imports(module: Module) -> None:
+    count = module.shape().imports
+    if count:
+        functions = "1 function" if count == 1 else f"{count} functions"
+        warnings.warn(f'the module imports {functions} of "uv", which return -1 in an instance: use a Loop for timers and queued work, a Job for uv_work',
+                      InertImports, _level_outside())
+
+
 def _signed(value: int, bits: int) -> int:
     return (value ^ 1 << bits - 1) - (1 << bits - 1)
 
@@ -770,7 +843,7 @@ class Loop(_Inspected):
         super().__init__()
         bounds = _fuel("fuel", fuel), _fuel("work_fuel", work_fuel), _whole("number", number, 0, 2**32 - 1), _depth(depth)
         _call("loop", _held(Module, module), _Limits(*bounds), self.handle)
-        self.turned = Turned()
+        self.turned, self._source = Turned(), module._source
 
     def _about(self) -> str:
         standing = self.standing()
@@ -839,6 +912,7 @@ class Loop(_Inspected):
             return None
         if status != OK:
             raise _failed(status, "next_job", self.handle)
+        job._source = self._source
         return job
 
     def _known(self, status: int, job: Job) -> bool:

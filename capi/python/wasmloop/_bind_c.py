@@ -166,15 +166,8 @@ def area(header: Header, arg: Arg) -> str:
 
 def words(it: Function) -> str:
     """The numbers that the function is called with."""
-    found: List[str] = []
-    areas = [arg for arg in it.args if arg.kind != "number"]
-    for arg in it.args:
-        if arg.kind == "number":
-            found.append(f"({'uint64_t' if NUMBERS[arg.type].width == 64 else 'uint32_t'}){arg.name}")
-        else:
-            found.append(f"areas[{areas.index(arg)}].at")
-            found += [f"{arg.name}_{'room' if arg.out else 'size'}"] * arg.sized
-    return ", ".join(found)
+    return it.words(lambda arg: f"({'uint64_t' if NUMBERS[arg.type].width == 64 else 'uint32_t'}){arg.name}",
+                    lambda arg, at: [f"areas[{at}].at", *[f"{arg.name}_{'room' if arg.out else 'size'}"] * arg.sized])
 
 
 def taken(header: Header, it: Function, number: int) -> List[str]:
@@ -196,7 +189,7 @@ def taken(header: Header, it: Function, number: int) -> List[str]:
 
 
 def function_of(header: Header, it: Function) -> str:
-    areas = [arg for arg in it.args if arg.kind != "number"]
+    areas = it.areas
     result = ["char *result", "uint32_t result_room"] if it.result == "text" else [] if it.result == "void" else [f"{it.result} *result"]
     lines = [f"/* {it.text} */", f"static inline int {header.name}_{it.name}({', '.join(['bind_plugin *plugin', *map(declared, it.args), *result])})", "{"]
     for arg in areas:

@@ -190,15 +190,11 @@ def area(header: Header, arg: Arg) -> Tuple[str, str]:
 
 def words(header: Header, it: Function) -> str:
     """The numbers that the function is called with."""
-    areas, found = [arg for arg in it.args if arg.kind != "number"], []
-    for arg in it.args:
-        if arg.kind == "number":
-            number = NUMBERS[arg.type]
-            found.append(f"{arg.name} as u64" if number.bits == 64 or not number.signed else f"{arg.name} as i32 as u32 as u64")
-        else:
-            found.append(f"places[{areas.index(arg)}].into()")
-            found += [area(header, arg)[1]] * arg.sized
-    return ", ".join(found)
+    def number(arg: Arg) -> str:
+        kind = NUMBERS[arg.type]
+        return f"{arg.name} as u64" if kind.bits == 64 or not kind.signed else f"{arg.name} as i32 as u32 as u64"
+
+    return it.words(number, lambda arg, at: [f"places[{at}].into()", *[area(header, arg)[1]] * arg.sized])
 
 
 def result_of(header: Header, it: Function, number: int) -> Tuple[str, str, str]:
@@ -220,7 +216,7 @@ def result_of(header: Header, it: Function, number: int) -> Tuple[str, str, str]
 
 
 def method(header: Header, it: Function) -> str:
-    areas = [arg for arg in it.args if arg.kind != "number"]
+    areas = it.areas
     kind, then, last = result_of(header, it, areas.index(it.out) if it.out else 0)
     args = ", ".join(["&mut self", *filter(None, map(declared, it.args))])
     call = f'self.bound.run("{it.name}", &[{words(header, it)}]){then}'

@@ -4,7 +4,7 @@ from __future__ import annotations
 
 import re
 import struct
-from typing import Dict, Iterable, Iterator, List, NamedTuple, Optional, Tuple
+from typing import Callable, Dict, Iterable, Iterator, List, NamedTuple, Optional, Tuple
 
 from . import _tool
 
@@ -82,6 +82,18 @@ class Function(NamedTuple):
     @property
     def out(self) -> Optional[Arg]:
         return next((it for it in self.args if it.out), None)
+
+    @property
+    def areas(self) -> List[Arg]:
+        """The arguments that are bytes in the plug-in's memory."""
+        return [it for it in self.args if it.kind != "number"]
+
+    def words(self, number: Callable[[Arg], str], area: Callable[[Arg, int], List[str]]) -> str:
+        """The numbers that it is called with, in the words of a language: of a number, and of an area with its index among the areas."""
+        areas, found = self.areas, []
+        for arg in self.args:
+            found += [number(arg)] if arg.kind == "number" else area(arg, areas.index(arg))
+        return ", ".join(found)
 
     @property
     def params(self) -> List[int]:
@@ -185,7 +197,7 @@ def read(name: str, text: str) -> Header:
         except ValueError as why:
             raise _tool.Failed(f"{name}.h:{line}: {why}: {told}") from None
     allocator = "room" if "room" in allocators else "malloc" if {"malloc", "free"} <= set(allocators) else ""
-    needs = next((it for it in functions if any(arg.kind != "number" for arg in it.args)), None)
+    needs = next((it for it in functions if it.areas), None)
     if needs and not allocator:
         raise _tool.Failed(f"{name}.h: {needs.name} takes or gives bytes, and neither room nor malloc and free are declared")
     kept = [ALLOCATORS[it] for it in ({"room": ["room"], "malloc": ["malloc", "free"]}.get(allocator, []))]

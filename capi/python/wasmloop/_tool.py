@@ -7,8 +7,9 @@ guest did not return.
 import argparse
 import os
 import sys
+import warnings
 
-from . import Error, Module, OutOfRange, Refused, _lib, _name_of, wasm
+from . import Error, InertImports, Module, OutOfRange, Refused, _lib, _name_of, wasm
 
 STATUSES = "Status: 0 success; 1 a file or a program is missing; 2 usage error; 3 the module is rejected; 4 the guest did not return"
 
@@ -78,6 +79,7 @@ def near(file):
 
 def run(tool, main):
     """Ends the process with the status that `main` returns, or with that of the exception it raises."""
+    warnings.simplefilter("ignore", InertImports)       # a tool itself reports what a guest calls
     try:
         status = main()
         sys.stdout.flush()

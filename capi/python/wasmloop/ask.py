@@ -2,8 +2,9 @@
 
     python3 -m wasmloop.ask cart.wasm cart.wasm
 
-It runs binaryen's `wasm-opt --asyncify`, which adds to each function that may ask the code to put its locals away and to go on with them. Run it
-before wasmloop.lower, if the module needs both. With --never, a function named in it is left as it is: it must never lead to a question.
+It runs binaryen's `wasm-opt --asyncify`, which adds code to each function that may ask: it saves its locals, and continues with them. Run it
+before wasmloop.lower, if the module needs both. A function that --never names, and those that ask by it alone, are left as they are: if it
+leads to a question, the call traps (unreachable).
 
 The host calls the plug-in by the class Plugin:
 
@@ -23,7 +24,7 @@ import sys
 import tempfile
 from typing import Any, Awaitable, Callable, Generator, Optional, Tuple, Union
 
-from . import KIND, RANGE, Error, Module, _tool, explain
+from . import KIND, RANGE, Error, Module, _tool, explain, wasm
 
 Results = Union[None, int, Tuple[int, ...]]
 Steps = Generator[bytes, Optional[bytes], Results]
@@ -122,6 +123,7 @@ def moved(steps: Steps, answer: Optional[bytes]) -> Tuple[bool, Any]:
         return False, over.value
 
 
+UNREACHABLE, NOP = 0, 1
 # What the host accepts; and what wasmloop.lower rewrites.
 PLAIN = ["--mvp-features", "--enable-sign-ext", "--enable-multivalue"]
 NEWER = [*PLAIN, "--enable-bulk-memory", "--enable-nontrapping-float-to-int", "--enable-mutable-globals", "--enable-reference-types"]
@@ -133,7 +135,9 @@ def asyncified(data: bytes, never: str = "", asks: bool = True) -> bytes:
     if not tool:
         raise _tool.Failed("there is no wasm-opt: install Debian's package binaryen")
     # (of imports, those of setjmp alone lead back into the module)
-    words = ["--asyncify", "--pass-arg=asyncify-imports@env.invoke_*", *([f"--pass-arg=asyncify-removelist@{never}"] if never else [])] if asks else []
+    words = ["--asyncify", "--pass-arg=asyncify-imports@env.invoke_*"] if asks else []
+    if never:
+        words += [f"--pass-arg=asyncify-removelist@{never}", "--pass-arg=asyncify-asserts"]
     with tempfile.TemporaryDirectory() as room:
         before, after = os.path.join(room, "before.wasm"), os.path.join(room, "after.wasm")
         _tool.write(before, data)
@@ -141,15 +145,32 @@ def asyncified(data: bytes, never: str = "", asks: bool = True) -> bytes:
             # (-O1 joins the many locals that Asyncify makes: a function may have 256)
             ran = subprocess.run([tool, *features, "-g", before, "-o", after, *words, "-O1"], stdout=subprocess.DEVNULL, stderr=subprocess.PIPE, check=False)
             if ran.returncode == 0:
-                return bytes(_tool.read(after))
+                made = bytes(_tool.read(after))
+                return may_ask(made) if never else made
     raise _tool.Failed(f"wasm-opt: {ran.stderr.decode(errors='replace').strip()[-1000:]}")
+
+
+# What Asyncify asserts behind a call in a function that is left as it is: global.get, local.get, i32.ne, if, unreachable, end.
+ASSERT = [wasm.CALL, 0x23, 0x20, 0x47, wasm.IF, UNREACHABLE, wasm.END]
+
+
+def may_ask(data: bytes) -> bytes:
+    """The module without the assertions in `ask` itself, where the calls of Asyncify are."""
+    module, made = wasm.Module(data), bytearray(data)
+    for body in module.bodies:
+        found = [op for _, op, _ in body.ops]
+        for at in (it for it, op in enumerate(found) if op == wasm.CALL and found[it:it + len(ASSERT)] == ASSERT):
+            callee = wasm.number(data, body.ops[at][0] + 1)[0]
+            if module.names.get(callee, "").startswith("asyncify_"):
+                made[body.ops[at + ASSERT.index(UNREACHABLE)][0]] = NOP
+    return bytes(made)
 
 
 def main() -> int:
     parser = _tool.words("ask", __doc__)
     parser.add_argument("before", metavar="IN", help="the linked module")
     parser.add_argument("after", metavar="OUT", help="the plug-in")
-    parser.add_argument("--never", metavar="NAMES", default="", help="functions that never lead to a question, with commas between them")
+    parser.add_argument("--never", metavar="NAMES", default="", help="functions that lead to no question, with commas between them")
     given = parser.parse_args()
     data = _tool.read(given.before)
     made = asyncified(data, given.never)

@@ -6,11 +6,11 @@ plug-in itself is compiled.
 The header declares functions, and structs of numbers:
 
     int64_t add(int32_t by);                                    numbers of 8 to 64 bits, bool, void
-    int32_t count(const char *word);                            text in, with a zero behind it
+    int32_t count(const char *word);                            text in, zero-terminated
     int32_t crc(const uint8_t *data, uint32_t data_size);       bytes in (as char: text): a pointer X, and X_size
     int32_t pack(.., uint8_t *into, uint32_t into_room);        bytes out (as char: text): a pointer X, and X_room. The result is
                                                                 the length of all, or an error below 0
-    const char *version(void);                                  text out, with a zero behind it
+    const char *version(void);                                  text out, zero-terminated
     int32_t middle(const point *a, point *result);              structs of numbers, in and out. The result is void, or an error below 0
 
 A plug-in that takes or gives bytes also declares where the host may put them, until the call has returned:
@@ -62,7 +62,7 @@ def given(data: bytes) -> Area:
 
 
 def text(value: str) -> Area:
-    """With a zero behind it, and none within."""
+    """Zero-terminated, with no zero within."""
     data = value.encode()
     if b"\0" in data:
         raise Error(ARGUMENTS, "a zero in a text")
@@ -160,7 +160,7 @@ class _Typed:
         while b"\0" not in found:
             step = min(64, len(memory) - at - len(found))
             if step <= 0:
-                raise Error(RANGE, "a text without a zero behind it")
+                raise Error(RANGE, "the text is not zero-terminated")
             found += memory[at + len(found):at + len(found) + step]
         return found.split(b"\0")[0].decode()
 

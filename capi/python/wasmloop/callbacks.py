@@ -189,6 +189,7 @@ class Callback:
     """A callback of a record: the given one, counted from 1, else the one that failed, else the one that used most."""
 
     can_be_sampled = False
+    most_nodes = tree.MOST_NODES,
 
     def __init__(self, rows, given=None):
         watched = Watched(rows)
@@ -237,7 +238,7 @@ class Callback:
             found += b"".join((it % 2**64).to_bytes(8, "little") for it in values)
         return found[:count]
 
-    def treed(self, most):
+    def treed(self, most, _most_nodes):
         """How the callback ended with counters, the counts of its blocks, and its nodes."""
         writer = LoopWriter(wasm.Module(self.data), most, self.rows[0][4], self.number, 0)
         counts, nodes, first, values = [0] * len(writer.rows), [], 0, [0] * MOST_EMITS

@@ -26,6 +26,10 @@ class Row(NamedTuple):
     end: int
     cost: int
 
+    def began(self, ops):
+        """The first of the instructions that it costs: the `loop` right before its own is one of them."""
+        return self.first - 1 if self.first and ops[self.first - 1][1] == LOOP else self.first
+
 
 def get(local):
     return b"\x20" + u(local)
@@ -235,7 +239,6 @@ def by_operation(module, rows, counts):
     """For each instruction that costs fuel its function, its byte and how often it ran."""
     for row, count in zip(rows, counts):
         ops = module.bodies[row.function].ops
-        first = row.first - 1 if row.first and ops[row.first - 1][1] == LOOP else row.first
-        for start, op, _ in ops[first:row.end]:
+        for start, op, _ in ops[row.began(ops):row.end]:
             if op not in FREE:
                 yield row.function, start, count

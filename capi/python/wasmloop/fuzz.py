@@ -1,11 +1,11 @@
-"""Fuzzes the uv_work of a guest by libFuzzer, of any module: it is not recompiled.
+"""Fuzzes the uv_work of any module with libFuzzer. The module is not recompiled.
 
     python3 -m wasmloop.fuzz guest.wasm 0 corpus --seconds 60
     python3 -m wasmloop.fuzz guest.wasm 0 --per-byte 500
 
 A finding is an input that makes it trap, exceed the call depth, run out of fuel or use more than N units per byte. The input is written to
 GUEST.found, and the tool prints the command that repeats it. Inputs that reach new blocks are added to the corpus, a folder. The tool needs
-clang with libFuzzer (Debian: clang).
+clang with libFuzzer (Debian: clang, with the libclang-rt-14-dev that it recommends).
 """
 
 import os
@@ -79,8 +79,11 @@ def built(folder, blocks):
     library, made = os.environ.get("WASMLOOP_LIBRARY") or _library(), os.path.join(folder, "fuzz")
     place = os.path.abspath(library)
     linked = [place, f"-Wl,-rpath,{os.path.dirname(place)}"] if os.path.isfile(place) else [f"-l:{library}"]
-    cc.run(os.environ.get("CC", "clang"), "-O2", "-fsanitize=fuzzer", f"-DBLOCKS={blocks}", "-I", os.path.dirname(beside("wasmloop.h", "include")), "-o", made,
-           beside("fuzz_guest.c", "."), *linked)
+    try:
+        cc.run(os.environ.get("CC", "clang"), "-O2", "-fsanitize=fuzzer", f"-DBLOCKS={blocks}", "-I", os.path.dirname(beside("wasmloop.h", "include")),
+               "-o", made, beside("fuzz_guest.c", "."), *linked)
+    except _tool.Failed as why:
+        raise _tool.Failed(f"{why} (it needs libFuzzer; Debian: apt install clang libclang-rt-14-dev)") from None
     return made
 
 

@@ -24,6 +24,11 @@ PLACE = re.compile(r"\bat byte (\d+)")
 KNOWN = ("llvm-symbolizer", "llvm-addr2line", *(f"llvm-symbolizer-{it}" for it in range(25, 10, -1)))
 
 
+def is_possible():
+    """Whether there is a symbolizer."""
+    return bool(os.environ.get("SYMBOLIZER") or any(map(shutil.which, KNOWN)))
+
+
 def symbolizer():
     found = os.environ.get("SYMBOLIZER") or next(filter(shutil.which, KNOWN), None)
     if not found:
@@ -114,6 +119,13 @@ class Lines:
             told += f" {name}" + "".join(f", inlined into {name} {_tool.near(file)}:{line}" for name, file, line in outer)
         return told
 
+    def of_place(self, byte):
+        """The same, and empty if the symbolizer fails: for one who has more to tell than the line."""
+        try:
+            return self.of(byte)
+        except (_tool.Failed, OSError):
+            return ""
+
     def told(self, text):
         """The text with a line added to each `at byte N`."""
         self.look_up([int(it) for it in PLACE.findall(text)])
@@ -129,9 +141,20 @@ def wanted(ran, debug):
     """The Lines of a module, or None without DWARF or a symbolizer, for tools that work without lines. `debug` is a file, or None."""
     if debug:
         return Lines(ran, _tool.read(debug), debug)
-    if not wasm.Module(ran).custom(".debug_line") or not (os.environ.get("SYMBOLIZER") or any(map(shutil.which, KNOWN))):
+    if not wasm.Module(ran).custom(".debug_line") or not is_possible():
         return None
     return Lines(ran, ran)
+
+
+def of_debug(ran, debug):
+    """The Lines of a module for a host that gives the debug module itself."""
+    try:
+        symbolizer()
+        if not wasm.Module(debug).custom(".debug_line"):
+            raise ValueError("debug: the module has no DWARF: compile with -g")
+        return Lines(ran, debug)
+    except (_tool.Failed, wasm.Malformed) as why:
+        raise ValueError(f"debug: {why}") from None
 
 
 def byte_of(module, site):

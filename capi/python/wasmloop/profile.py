@@ -13,16 +13,29 @@ import collections
 import os
 import sys
 
-from . import Error, _tool, callbacks, callgrind, counts, flame, lines, replay, runs, tree, wasm
+from typing import NamedTuple, Tuple
+
+from . import Error, _tool, callbacks, callgrind, counts, flame, lines, pprof, replay, runs, tree, wasm
+
+
+class Cell(NamedTuple):
+    """The units of a line at the end of a call path: the calls, as (function, byte) from the outside, the function, and the line's frames,
+    the innermost first."""
+
+    calls: Tuple[Tuple[int, int], ...]
+    function: int
+    frames: Tuple[Tuple[str, str, int], ...]
+    units: int
 
 
 class Profile:
     """The units of one run, by function, line and call path. They are exact, with the call tree in `nodes`; else `why` says why not, and call
-    paths are sampled."""
+    paths are sampled. Of a function on several call paths, each line's units are shared among them by weight."""
 
     def __init__(self, module, run, source=None, samples=200, threads=3):
         self.module, self.run, self.source, self.why, self.nodes = module, run, source, "", []
-        self.functions, self.lines, self.inlined = collections.Counter(), collections.Counter(), collections.defaultdict(collections.Counter)
+        self.functions, self.lines = collections.Counter(), collections.Counter()
+        self.leaves, self.starts = collections.defaultdict(collections.Counter), {}
         self.ran = run.run()
         try:
             operations, self.nodes = tree.measured(module, run, self.ran)
@@ -36,7 +49,8 @@ class Profile:
             self.functions[function] += units
         if source:
             self._count_lines(operations)
-        self.paths = self._paths(weights)
+        self.cells = list(self._cells(weights))
+        self.paths = self._paths()
 
     def _counted(self):
         """How often each instruction ran, by counters of blocks alone; empty if there is no exact count."""
@@ -53,18 +67,18 @@ class Profile:
         return operations if ended[:3] == self.ran[:3] and sum(operations.values()) == self.ran.used else {}
 
     def _count_lines(self, operations):
-        """Units by line, and of each function by what was inlined into it."""
-        for ((function, _), units), frames in zip(operations.items(), self.source.look_up([byte for _, byte in operations])):
+        """Units by line, and of each function by the frames of its lines, each with its first byte."""
+        for ((function, byte), units), frames in zip(operations.items(), self.source.look_up([byte for _, byte in operations])):
             self.lines[(function, *frames[0][1:]) if frames else (function, "", 0)] += units
-            self.inlined[function][tuple(clean(name) for name, _, _ in reversed(frames[:-1]))] += units
+            self.leaves[function][tuple(frames)] += units
+            self.starts.setdefault((function, tuple(frames)), byte)
 
     def byte_at(self, function, operation):
         return self.module.bodies[function].ops[operation][0]
 
     def lines_of(self, places):
         """For each (function, byte) its file and line."""
-        frames = dict(zip(places, self.source.look_up([byte for _, byte in places]))) if self.source else {}
-        return {it: frames[it][0][1:] if frames.get(it) else ("", 0) for it in places}
+        return {it: frames[0][1:] if frames else ("", 0) for it, frames in self.frames_of(places).items()}
 
     def _of_nodes(self):
         """The units of each call path: the calls, as (function, byte) from the outside, and the function."""
@@ -84,26 +98,36 @@ class Profile:
                 weights[tuple((site[0], runs.byte_of(self.module, site)) for site in reversed(sites[1:])), sites[0][0]] += 1
         return weights
 
-    def _paths(self, weights):
-        """Each call path with its units. The exact units of a function are shared among its paths by weight; a function on no path stands by
-        itself. What was inlined into it is on top. Without exact units, weights alone count."""
-        callers, met = self._callers({call for calls, _ in weights for call in calls}), collections.defaultdict(list)
+    def _cells(self, weights):
+        """The cells. The exact units of a function are shared among its paths by weight, and those of each line among its paths by what is
+        left, so that both sums are exact; a function on no path stands by itself. Without exact units, weights alone count."""
+        met, exact = collections.defaultdict(list), self.functions
         for (calls, function), weight in sorted(weights.items()):
-            met[function].append((tuple(name for call in calls for name in callers[call]), weight))
-        found, exact = collections.Counter(), self.functions
+            met[function].append((calls, weight))
         if not exact:
-            exact = collections.Counter()
-            share(exact, [(function, sum(weight for _, weight in paths)) for function, paths in sorted(met.items())], self.ran.used)
+            exact = shared([(function, sum(weight for _, weight in paths)) for function, paths in sorted(met.items())], self.ran.used)
         for function, units in exact.items():
-            inner = self.inlined.get(function) if exact is self.functions else None
-            for names, mine in sorted((inner or {(): units}).items()):
-                share(found, [(";".join([*path, self.named(function), *names]), weight) for path, weight in met.get(function, [((), 1)])], mine)
+            left = shared(met.get(function, [((), 1)]), units)
+            for frames, mine in sorted(self.leaves.get(function, {(): units}).items()):
+                given = shared(left.items(), mine)
+                left.subtract(given)
+                yield from (Cell(calls, function, frames, part) for calls, part in given.items() if part)
+
+    def _paths(self):
+        """The units of each call path, by names; what was inlined into a function is on top."""
+        callers, found = self.frames_of({call for cell in self.cells for call in cell.calls}), collections.Counter()
+        for calls, function, frames, units in self.cells:
+            names = [name for call in calls for name in self.names(call[0], callers[call])]
+            found[";".join([*names, *self.names(function, frames)])] += units
         return found
 
-    def _callers(self, calls):
-        """For each call the names of its frames, the outermost first: the function's own, and what was inlined there."""
-        frames = dict(zip(calls, self.source.look_up([byte for _, byte in calls]))) if self.source else {}
-        return {it: [self.named(it[0]), *(clean(name) for name, _, _ in reversed(frames.get(it, ())[:-1]))] for it in calls}
+    def frames_of(self, places):
+        """The frames of each (function, byte), the innermost first."""
+        return dict(zip(places, self.source.look_up([byte for _, byte in places]))) if self.source else dict.fromkeys(places, ())
+
+    def names(self, function, frames):
+        """The function's own name, and those of what was inlined there."""
+        return [self.named(function), *(clean(name) for name, _, _ in reversed(frames[:-1]))]
 
     def named(self, function):
         return clean(self.module.name(function))
@@ -123,13 +147,15 @@ def clean(name):
     return name.replace(";", ":").replace("\n", " ")
 
 
-def share(found, parts, units):
-    """Shares whole units among the parts by weight."""
+def shared(parts, units):
+    """Whole units, shared among the parts by weight. If these are at most the sum of the weights, no part gets more than its own."""
+    found, parts = collections.Counter(), list(parts)
     rest, weight = units, sum(it for _, it in parts)
     for name, mine in parts:
-        given = rest * mine // weight
+        given = rest * mine // weight if weight else 0
         found[name] += given
         rest, weight = rest - given, weight - mine
+    return found
 
 
 def tell(profile, guest, most):
@@ -180,6 +206,7 @@ def main():
     parser.add_argument("--svg", metavar="FILE", help="write a flame graph")
     parser.add_argument("--folded", metavar="FILE", help="write folded stacks: a call path and its units on each line")
     parser.add_argument("--callgrind", metavar="FILE", help="write units and calls by line, for kcachegrind")
+    parser.add_argument("--pprof", metavar="FILE", help="write call paths with lines for pprof")
     parser.add_argument("--budget", metavar="[FUNCTION=]UNITS", action="append", default=[], help="fail if it takes more; may be repeated")
     given = parser.parse_args()
     data = _tool.read(given.guest)
@@ -198,6 +225,8 @@ def main():
         _tool.write(given.svg, flame.picture(profile.paths, title, f"{profile.ran.used:,} units, {exact}; width is fuel, callers below"))
     if given.folded:
         _tool.write(given.folded, "".join(f"{path} {units}\n" for path, units in sorted(profile.paths.items()) if units))
+    if given.pprof:
+        _tool.write(given.pprof, pprof.written(profile, given.guest))
     if given.callgrind:
         _tool.write(given.callgrind, callgrind.written(profile, given.guest))
     passed = list(over_budget(profile, given.budget))

@@ -52,6 +52,7 @@ class Call:
 
     can_be_sampled = True
     with_start = False                                  # whether it includes the units of the start function
+    most_nodes = 32768, 8192, 1024                      # of a call tree: fewer, if the guest lacks the memory beside it
 
     def __init__(self, data, host, name, args, depth=64, fuel=ENOUGH):
         self.data, self.host, self.name, self.args, self.depth, self.fuel, self.given = data, host, name, args, depth, fuel, b""
@@ -82,10 +83,10 @@ class Call:
                 answer, ending = None, why.ending
             return Ran(ending, answer, counted.reply(it) if ending == "done" else b"", it.used, None), counted.read(it, before)
 
-    def treed(self, most):
-        """Runs the guest with a counted call tree, up to so many units: how it ended, the counts of its blocks, and its nodes."""
+    def treed(self, most, most_nodes):
+        """Runs the guest with a counted call tree of so many nodes, up to so many units: how it ended, the counts of its blocks, and its nodes."""
         from .tree import Tree                          # (which imports this module)
-        tree = Tree(self.data, most)
+        tree = Tree(self.data, most, most_nodes)
         ended, (counts, nodes) = self.counted(tree, ENOUGH)
         if tree.writer.light and not most:
             ended, counts = self.counted(Counted(self.data), ENOUGH)

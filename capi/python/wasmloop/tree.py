@@ -11,7 +11,7 @@ from typing import List, NamedTuple, Tuple
 from . import Module as Host, _tool, runs, wasm
 from .counts import ENOUGH, Counted, Writer, blocks, by_operation
 from .lowering.bulk import assembled
-from .wasm import FREE, I32, I64, LOOP, MOST_BYTES, MOST_PAGES, PAGE, constant, i32, text, u
+from .wasm import FREE, I32, I64, MOST_BYTES, MOST_PAGES, PAGE, constant, i32, text, u
 
 NODE, MOST_NODES = 32, 32768                            # the bytes of a node; how many there may be
 ROOT = 0                                                # the index of the root, which is no call
@@ -66,10 +66,10 @@ class TreeWriter(Writer):
     """Writes the guest with counters of blocks and of call paths; `light` ones are of call paths alone. `most` units end a run; 0: it is not
     limited."""
 
-    def __init__(self, module, most=0, light=False):
+    def __init__(self, module, most=0, light=False, most_nodes=MOST_NODES):
         least = (module.memory or (0, 0))[0]
         rows = 4 * sum(len(body.ops) for body in module.bodies) // PAGE + 4
-        self.nodes_room = NODE * min(MOST_NODES, max((MOST_PAGES - least - rows) * PAGE // NODE // 2, 64))
+        self.nodes_room = NODE * min(most_nodes, max((MOST_PAGES - least - rows) * PAGE // NODE // 2, 64))
         super().__init__(module, self.CALLS)
         self.nodes = (self.counters + 4 * len(self.rows) + 15) // 16 * 16
         self.most, self.first_global, self.light = most or ENOUGH, len(module.globals()) + 1, light
@@ -146,9 +146,9 @@ class TreeWriter(Writer):
 class Tree(Counted):
     """A guest with a counted call tree, loaded: a light one if the other does not fit."""
 
-    def __init__(self, data, most=0):
+    def __init__(self, data, most=0, most_nodes=MOST_NODES):
         for light in (False, True):
-            self.writer = TreeWriter(wasm.Module(data), most, light)
+            self.writer = TreeWriter(wasm.Module(data), most, light, most_nodes)
             code = self.writer.written()
             if len(code) <= MOST_BYTES:
                 break
@@ -201,23 +201,38 @@ class Measured(NamedTuple):
     nodes: List[Node]
 
 
+class Differs(_tool.Failed):
+    """With counters the run is another: the memory beside them does not suffice."""
+
+
 def measured(module, run, ran) -> Measured:
     """Runs it with a counted call tree. Raises Failed or Error if the tree does not fit, or the run ends differently with it."""
     sites, cut = stop_of(module, run, ran)
+    most = ran.used + sum(map(len, cut)) if sites else 0
+    for most_nodes in run.most_nodes:
+        try:
+            return checked(module, ran, run.treed(most, most_nodes), sites, cut)
+        except Differs as why:
+            last = why
+    raise last
+
+
+def checked(module, ran, counted, sites, cut):
+    """The cost of a run by what its counters say. Raises Differs if it is not that of the original."""
+    ended, counters, nodes = counted
     rows = [row for number, body in enumerate(module.bodies) for row in blocks(number, body)]
-    ended, counted, nodes = run.treed(ran.used + sum(map(len, cut)) if sites else 0)
-    if sites and not any(counted):
+    if (ended.ending == "done") != (ran.ending == "done") or not sites and ended[:3] != ran[:3]:
+        raise Differs(f"with counters it ends differently: {ended.ending}")
+    if sites and not any(counters):
         raise _tool.Failed("the counters of blocks do not fit beside the call tree, which a run that stopped needs")
-    if not sites and ended[:3] != ran[:3]:
-        raise _tool.Failed(f"with counters it ends differently: {ended.ending}")
     operations = collections.Counter()
-    for function, byte, count in by_operation(module, rows, counted):
+    for function, byte, count in by_operation(module, rows, counters):
         operations[function, byte] += count
     operations.subtract(it for part in cut for it in part)
     nodes = without(nodes, sites, [len(it) for it in cut])
     for found in (sum(it.units for it in nodes), sum(operations.values())):
         if found != ran.used:
-            raise _tool.Failed(f"with counters it uses {found:,} units, not {ran.used:,}")
+            raise Differs(f"with counters it uses {found:,} units, not {ran.used:,}")
     return Measured(+operations, nodes)
 
 
@@ -239,8 +254,7 @@ def rest_of(module, site, is_charged):
     function, operation = site
     ops = module.bodies[function].ops
     for row in blocks(function, module.bodies[function]):
-        first = row.first - 1 if row.first and ops[row.first - 1][1] == LOOP else row.first
-        if first <= operation < row.end:
+        if row.began(ops) <= operation < row.end:
             return [(function, start) for start, op, _ in ops[operation + is_charged:row.end] if op not in FREE]
     raise _tool.Failed(f"instruction {operation} of function {function} is in no block")
 
@@ -249,7 +263,9 @@ def without(nodes, sites, units):
     """The nodes without what the calls of a backtrace have not run."""
     nodes, at, site = list(nodes), ROOT, 0
     for (function, operation), rest in zip(reversed(sites), reversed(units)):
-        at = next(k for k, it in enumerate(nodes) if k and (it.parent, it.site, it.function) == (at, site, function))
+        at = next((k for k, it in enumerate(nodes) if k and (it.parent, it.site, it.function) == (at, site, function)), None)
+        if at is None:
+            raise Differs("with counters it stops elsewhere")
         nodes[at] = nodes[at]._replace(units=nodes[at].units - rest)
         site = operation
     return nodes

@@ -1,6 +1,7 @@
 /* Lua as a plug-in: a program runs in an instance, and its function `ask` asks the host. The answer is a string, or nil. */
 #include "ask.h"
 #include <lauxlib.h>
+#include <lgc.h>
 #include <lua.h>
 #include <lualib.h>
 #include <string.h>
@@ -16,6 +17,8 @@ static int lua_ask(lua_State *L)
 {
     static char answer[ANSWER];
     size_t length;
+    if (G(L)->gcstp & GCSTPGC) /* the collector is named as one that never asks */
+        return luaL_error(L, "a finalizer cannot ask");
     const char *question = luaL_checklstring(L, 1, &length);
     int32_t told = ask(question, (uint32_t)length, answer, sizeof answer);
     if (told > (int32_t)sizeof answer)

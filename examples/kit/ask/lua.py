@@ -37,6 +37,21 @@ PROGRAMS = {
     "no answer": 'return tostring(ask("none"))',
 }
 KNOWN = "local function ask(sku) if sku == 'none' then return nil end return tostring(math.tointeger(sku) * 7 % 1000) end "
+FINALIZER = '''
+    local told
+    setmetatable({}, { __gc = function() local ok, why = pcall(ask, "1"); told = tostring(ok) .. " " .. why end })
+    collectgarbage()
+    return told'''
+# Functions of Lua and libc that call through pointers, or format errors, and lead to no question: the allocator, hooks, warnings, dumps and
+# files. That a finalizer asks is refused by lua.c.
+NO_ASKERS = """luaM_free_ luaM_growaux_ luaM_malloc_ luaM_realloc_ luaM_saferealloc_ luaM_shrinkvector_ luaM_toobig luaE_warning luaE_warnerror
+    luaD_hook luaD_throw luaO_pushvfstring lua_newstate luaU_dump dumpFunction dumpString GCTM vfprintf fwrite fread fclose fflush __fwritex
+    __overflow __toread __uflow""".split()
+LOOPS = '''
+    local function fib(n) if n < 2 then return n end return fib(n - 1) + fib(n - 2) end
+    local t, s = {}, 0
+    for i = 1, 3000 do t[i] = i * i % 97; s = s + t[i] // 3; if i % 10 == 0 then t["k" .. i] = s end end
+    return fib(18) + s'''
 NEVER = 'local t = {} for i = 1, 2000 do t[i] = i * i % 97 end table.sort(t) return table.concat(t, ",")'
 
 
@@ -86,8 +101,12 @@ async def compare(module, without):
     crowd = await asyncio.gather(*(told(module, PROGRAMS["one question"]) for _ in range(CROWD)))
     wrong += len(set(crowd)) != 1
     print(f"{CROWD} programs waited in one thread")
-    units = [(await told(it, NEVER))[1] for it in (module, without)]
-    print(f"a program that never asks: {units[0]:,} units with Asyncify, {units[1]:,} without: {units[0] / units[1]:.3f}")
+    refused = (await told(module, FINALIZER))[0]
+    wrong += refused != "0 false a finalizer cannot ask"
+    print(f"a finalizer that asks: {refused}")
+    for name, program in (("which sorts", NEVER), ("of loops and calls", LOOPS)):
+        units = [(await told(it, program))[1] for it in (module, without)]
+        print(f"a program that never asks, {name}: {units[0]:,} units with Asyncify, {units[1]:,} without: {units[0] / units[1]:.3f}")
     return wrong
 
 
@@ -98,7 +117,7 @@ def main():
     OUT.mkdir(parents=True, exist_ok=True)
     (OUT / "none.c").write_text('#include "ask.h"\nint32_t ask(const void *question, uint32_t length, void *answer, uint32_t room)\n'
                                 "{\n    (void)question, (void)length, (void)answer, (void)room;\n    return ASK_NONE;\n}\n")
-    data = ask.asyncified(built(["-DASK_STACK=16384"], [HERE / "ask.c"]))
+    data = ask.asyncified(built(["-DASK_STACK=16384"], [HERE / "ask.c"]), ",".join(NO_ASKERS))
     module, size = lowered(data, "lua_ask")
     without, plain = lowered(ask.asyncified(built([], [OUT / "none.c"]), asks=False), "lua_plain")
     print(f"{size:,} bytes with Asyncify, {plain:,} without")

@@ -11,7 +11,7 @@ mkdir -p "$root/peers/src"
 cp "$here/wasmi.rs" "$here/Cargo.toml" "$here/wasmedge.c" "$here/peer.h" "$root/peers/src"
 chroot "$root" sh -eu -c '
     export DEBIAN_FRONTEND=noninteractive
-    apt-get -q update
+    apt-get -q -o Acquire::Check-Valid-Until=false update # (a mirror may lag; the signature is checked)
     apt-get -q install -y --no-install-recommends gcc libc6-dev cargo rustc librust-wasmi-dev libwasmedge-dev
     cd /peers/src
     mkdir -p .cargo

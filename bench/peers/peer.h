@@ -8,6 +8,12 @@
 #include <time.h>
 
 #define MOST (1 << 20)
+#define DEADLINE UINT64_C(5000000)
+
+/* By how many nanoseconds deadlines were missed. */
+typedef struct lateness {
+    uint64_t sum, worst;
+} lateness;
 
 static uint64_t now(void)
 {
@@ -33,6 +39,19 @@ static void least(uint64_t *fastest, uint64_t began)
     uint64_t took = now() - began;
     if (took < *fastest)
         *fastest = took;
+}
+
+static void stopped(lateness *all, uint64_t deadline)
+{
+    uint64_t late = now() - deadline;
+    all->sum += late;
+    if (late > all->worst)
+        all->worst = late;
+}
+
+static void show_lateness(const lateness *all, int calls)
+{
+    printf("%" PRIu64 " %" PRIu64 "\n", all->sum / (uint64_t)calls, all->worst);
 }
 
 static uint64_t sum(const uint8_t *bytes, uint64_t length)

@@ -41,7 +41,7 @@ def others(folder):
         found["wasmi"] = of_root(folder, "peer-wasmi", "plain")
         found["wasmi, fuel"] = of_root(folder, "peer-wasmi", "fuel")
     if (folder / "peers/peer-wasmedge").exists():
-        found["WasmEdge"] = of_root(folder, "peer-wasmedge")
+        found["WasmEdge"] = of_root(folder, "peer-wasmedge", "plain")
     return found
 
 

@@ -1,9 +1,11 @@
-/* WasmEdge's interpreter, as run.py of ../libraries runs it; the usage is that of ours.c. */
+/* WasmEdge's interpreter, as run.py of ../libraries runs it. The usage is that of ours.c behind `plain` or `fuel`, which limits the cost of
+   operations, 1 each; `late` cancels an asynchronous call. */
 #define _POSIX_C_SOURCE 200809L
 #include <wasmedge/wasmedge.h>
 #include "peer.h"
 
 #define IMPORTS 64
+#define AMPLE UINT64_MAX
 
 typedef const WasmEdge_CallingFrameContext frame;
 
@@ -11,6 +13,7 @@ static WasmEdge_LoaderContext *loader;
 static WasmEdge_ValidatorContext *validator;
 static WasmEdge_ExecutorContext *executor;
 static WasmEdge_StoreContext *store;
+static WasmEdge_StatisticsContext *statistics; /* NULL: no fuel */
 static uint8_t input[MOST], reply[65536];
 static size_t input_length, reply_length;
 
@@ -109,11 +112,15 @@ static WasmEdge_ModuleInstanceContext *instance_of(const WasmEdge_ASTModuleConte
     return instance;
 }
 
+static WasmEdge_FunctionInstanceContext *function_of(const WasmEdge_ModuleInstanceContext *instance, const char *name)
+{
+    return WasmEdge_ModuleInstanceFindFunction(instance, WasmEdge_StringWrap(name, (uint32_t)strlen(name)));
+}
+
 static int32_t invoke(const WasmEdge_ModuleInstanceContext *instance, const char *name, const WasmEdge_Value *params, uint32_t count)
 {
     WasmEdge_Value result;
-    WasmEdge_FunctionInstanceContext *function = WasmEdge_ModuleInstanceFindFunction(instance, WasmEdge_StringWrap(name, (uint32_t)strlen(name)));
-    must(WasmEdge_ExecutorInvoke(executor, function, params, count, &result, 1), name);
+    must(WasmEdge_ExecutorInvoke(executor, function_of(instance, name), params, count, &result, 1), name);
     return WasmEdge_ValueGetI32(result);
 }
 
@@ -160,26 +167,73 @@ static void load(const uint8_t *bytes, size_t length, int calls)
     printf("%ld %" PRIu64 "\n", (resident() - before) / calls, fastest);
 }
 
-int main(int argc, char **argv)
+static void fuel(const WasmEdge_ASTModuleContext *module, uint64_t units)
 {
-    static uint8_t bytes[MOST];
-    if (argc < 4)
-        return 2;
-    WasmEdge_LogSetErrorLevel();
-    size_t length = read_file(argv[2], bytes);
-    loader = WasmEdge_LoaderCreate(NULL);
-    validator = WasmEdge_ValidatorCreate(NULL);
-    executor = WasmEdge_ExecutorCreate(NULL, NULL);
+    WasmEdge_ModuleInstanceContext *instance = instance_of(module);
+    WasmEdge_Value result;
+    WasmEdge_StatisticsClear(statistics);
+    WasmEdge_StatisticsSetCostLimit(statistics, units);
+    WasmEdge_ExecutorInvoke(executor, function_of(instance, "line"), NULL, 0, &result, 1);
+    uint64_t used = WasmEdge_StatisticsGetTotalCost(statistics);
+    WasmEdge_StatisticsClear(statistics);
+    WasmEdge_StatisticsSetCostLimit(statistics, AMPLE);
+    printf("%" PRId32 " %" PRIu64 "\n", invoke(instance, "count", NULL, 0), used);
+}
+
+static void late(const WasmEdge_ASTModuleContext *module, int calls)
+{
+    const WasmEdge_FunctionInstanceContext *function = function_of(instance_of(module), "run");
+    lateness all = { 0 };
+    for (int k = 0; k < calls; k++) {
+        uint64_t deadline = now() + DEADLINE;
+        WasmEdge_Async *call = WasmEdge_ExecutorAsyncInvoke(executor, function, NULL, 0);
+        WasmEdge_AsyncWaitFor(call, DEADLINE / 1000000);
+        WasmEdge_AsyncCancel(call);
+        WasmEdge_AsyncWait(call);
+        stopped(&all, deadline);
+        WasmEdge_AsyncDelete(call);
+    }
+    show_lateness(&all, calls);
+}
+
+static void start(bool has_fuel)
+{
+    WasmEdge_ConfigureContext *configure = WasmEdge_ConfigureCreate();
+    WasmEdge_ConfigureStatisticsSetCostMeasuring(configure, has_fuel);
+    loader = WasmEdge_LoaderCreate(configure);
+    validator = WasmEdge_ValidatorCreate(configure);
+    statistics = has_fuel ? WasmEdge_StatisticsCreate() : NULL;
+    executor = WasmEdge_ExecutorCreate(configure, statistics);
     store = WasmEdge_StoreCreate();
+    if (has_fuel)
+        WasmEdge_StatisticsSetCostLimit(statistics, AMPLE);
+}
+
+static int command(const uint8_t *bytes, size_t length, int count, char **words)
+{
     WasmEdge_ASTModuleContext *module = parse(bytes, length);
     import_all(module);
-    if (!strcmp(argv[1], "call"))
-        call(module, atoi(argv[3]));
-    else if (!strcmp(argv[1], "work") && argc == 6)
-        work(module, (uint32_t)strtoul(argv[3], NULL, 10), argv[4], atoi(argv[5]));
-    else if (!strcmp(argv[1], "load"))
-        load(bytes, length, atoi(argv[3]));
+    if (!strcmp(words[0], "call"))
+        call(module, atoi(words[2]));
+    else if (!strcmp(words[0], "work") && count == 5)
+        work(module, (uint32_t)strtoul(words[2], NULL, 10), words[3], atoi(words[4]));
+    else if (!strcmp(words[0], "load"))
+        load(bytes, length, atoi(words[2]));
+    else if (!strcmp(words[0], "fuel") && statistics)
+        fuel(module, strtoull(words[2], NULL, 10));
+    else if (!strcmp(words[0], "late"))
+        late(module, atoi(words[2]));
     else
         return 2;
     return 0;
+}
+
+int main(int argc, char **argv)
+{
+    static uint8_t bytes[MOST];
+    if (argc < 5)
+        return 2;
+    WasmEdge_LogOff();
+    start(!strcmp(argv[1], "fuel"));
+    return command(bytes, read_file(argv[3], bytes), argc - 2, argv + 2);
 }

@@ -3,12 +3,16 @@
 //! usage: peer-wasmi plain|fuel call FILE CALLS            calls `run` CALLS times in one instance
 //!        peer-wasmi plain|fuel work FILE OP INPUT CALLS   calls `uv_work` CALLS times, each in a fresh instance
 //!        peer-wasmi plain|fuel load FILE CALLS            compiles FILE CALLS times, and keeps each
+//!        peer-wasmi fuel fuel FILE UNITS                  calls `line` with UNITS of fuel, then `count`
+//!        peer-wasmi fuel late FILE CALLS UNITS            calls `run`, which never ends, and stops it at a deadline, CALLS times, in slices of UNITS
 //!
-//! It prints what it computed and the nanoseconds of the fastest call; `load` prints the resident bytes that a kept module takes.
+//! It prints what it computed and the nanoseconds of the fastest call; `load` prints the resident bytes that a kept module takes, `fuel` the
+//! result of `count` and the fuel used, `late` by how many nanoseconds it stopped too late, in the mean and at worst.
 use std::time::{Duration, Instant};
-use wasmi::{AsContextMut, Caller, CompilationMode, Config, Engine, Extern, ExternType, Instance, Linker, Module, Store, Val, ValType};
+use wasmi::{AsContextMut, Caller, CompilationMode, Config, Engine, Extern, ExternType, Instance, Linker, Module, ResumableCall, Store, Val, ValType};
 
 const AMPLE: u64 = 1 << 50;
+const DEADLINE: Duration = Duration::from_millis(5);
 
 #[derive(Default)]
 struct Request {
@@ -91,6 +95,37 @@ impl Peer {
         });
         println!("{} {} {}", result, hex(&reply), least.as_nanos());
     }
+
+    fn fuel(&self, units: u64) {
+        let (mut store, instance) = self.instance(&[]);
+        let line = instance.get_typed_func::<(), i32>(&store, "line").expect("a function line");
+        let count = instance.get_typed_func::<(), i32>(&store, "count").expect("a function count");
+        store.set_fuel(units).unwrap();
+        let _ = line.call(&mut store, ());
+        let used = units - store.get_fuel().unwrap();
+        store.set_fuel(AMPLE).unwrap();
+        println!("{} {}", count.call(&mut store, ()).expect("a result"), used);
+    }
+
+    /// By how much a call of `run` that is stopped at its deadline is late.
+    fn late(&self, units: u64) -> Duration {
+        let (mut store, instance) = self.instance(&[]);
+        let run = instance.get_func(&store, "run").expect("a function run");
+        let (begin, mut result) = (Instant::now(), [Val::I32(0)]);
+        store.set_fuel(units).unwrap();
+        let mut call = run.call_resumable(&mut store, &[], &mut result).expect("a call");
+        while begin.elapsed() < DEADLINE {
+            let ResumableCall::OutOfFuel(paused) = call else { panic!("run ended") };
+            store.set_fuel(units).unwrap();
+            call = paused.resume(&mut store, &mut result).expect("a call");
+        }
+        begin.elapsed() - DEADLINE
+    }
+}
+
+fn show_lateness(all: &[Duration]) {
+    let mean = all.iter().sum::<Duration>() / all.len() as u32;
+    println!("{} {}", mean.as_nanos(), all.iter().max().expect("a call").as_nanos());
 }
 
 fn hex(bytes: &[u8]) -> String {
@@ -143,6 +178,11 @@ fn main() {
         "call" => Peer::new(&config, has_fuel, &bytes).call(number(4)),
         "work" => Peer::new(&config, has_fuel, &bytes).work(number(4), &std::fs::read(&words[5]).expect("a file"), number(6)),
         "load" => load(&config, &bytes, number(4)),
+        "fuel" => Peer::new(&config, has_fuel, &bytes).fuel(number(4).into()),
+        "late" => {
+            let peer = Peer::new(&config, has_fuel, &bytes);
+            show_lateness(&(0..number(4)).map(|_| peer.late(number(5).into())).collect::<Vec<_>>());
+        }
         other => panic!("no command {other}"),
     }
 }

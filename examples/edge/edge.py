@@ -79,13 +79,13 @@ def explain(name, code, reply, job):
 
 def run(name, module, code, op, data, limits, until):
     """In a thread: the reply, the text of a failure, and the processor time."""
-    began, over, used, units, now, said = time.thread_time(), False, 0, FIRST, time.monotonic(), ""
+    began, over, units, now, said = time.thread_time(), False, FIRST, time.monotonic(), ""
     try:
         with module.job(op, data, limits["fuel"], limits["depth"]) as job:
             while not over and now < until:
-                over, used, before, now = job.run_for(units), used + units, now, time.monotonic()
+                over, before, now = job.run_for(units), now, time.monotonic()
                 units = int(min(MOST, 1 + units * SLICE / (now - before + 1e-6)))
-            reply = job.reply() if over else wasmloop.Reply("late", 0, b"", used)
+            reply = job.reply() if over else wasmloop.Reply("late", 0, b"", job.about().used)
             if reply.outcome != "done":
                 said = explain(name, code, reply, job)
     except wasmloop.Error as error:
@@ -125,8 +125,10 @@ async def work(request):
     tenant = tenants.get(name) or tenants.setdefault(name, Tenant(name))
     data, until = await request.read(), time.monotonic()
     module, waits = await tenant.fresh(), sum(len(t.waiting) for t in active)
-    for holds, status, text in ((not module, 500, tenant.said), (op >= 2**32, 400, "an operation is a number below 2^32"), (OVER.is_set(), 503, "the server is shutting down"),
-                                (waits >= MOST_WAITING, 503, "the server's queue is full"), (len(tenant.waiting) >= tenant.limits["queue"], 429, "its queue is full")):
+    reasons = ((not module, 500, tenant.said), (op >= 2**32, 400, "an operation is a number below 2^32"),
+               (OVER.is_set(), 503, "the server is shutting down"), (waits >= MOST_WAITING, 503, "the server's queue is full"),
+               (len(tenant.waiting) >= tenant.limits["queue"], 429, "its queue is full"))
+    for holds, status, text in reasons:
         if holds:
             return told(tenant, status, text)
     if tenant not in active:
@@ -166,7 +168,7 @@ async def serve():
     await web.TCPSite(runner, "127.0.0.1", PORT).start()
     for number in (signal.SIGINT, signal.SIGTERM):
         LOOP.add_signal_handler(number, stop)
-    threads = [LOOP.create_task(worker()) for _ in range(WORKERS)] # a name keeps a task alive
+    threads = [LOOP.create_task(worker()) for _ in range(WORKERS)]  # a name keeps a task alive
     await OVER.wait()
     await runner.cleanup()
     [it.cancel() for it in threads]

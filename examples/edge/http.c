@@ -21,7 +21,7 @@ static uv_tcp_t server;
 static const char TOO_LONG[] = "the body is too long: 65536 bytes at most";
 static const uv_buf_t go_ahead = { .base = "HTTP/1.1 100 Continue\r\n\r\n", .len = 25 };
 
-static void go_on(client *c);
+static void go_on(client *c), read_on(client *c);
 
 static uint64_t in_ms(uint64_t ms) { return uv_hrtime() + ms * MS; }
 
@@ -126,6 +126,7 @@ static void on_written(uv_write_t *write, int status) {
     }
     c->keep = false;
     c->task.until = in_ms(LINGER_MS);
+    read_on(c);
     if (status != 0 || uv_fileno((uv_handle_t *)&c->tcp, &fd) != 0 || shutdown(fd, SHUT_WR) != 0) leave(c);
 }
 
@@ -300,13 +301,17 @@ static void on_read(uv_stream_t *stream, ssize_t n, const uv_buf_t *buf) {
     if (took < (size_t)n) keep_rest(c, buf->base + took, (size_t)n - took);
 }
 
-static void go_on(client *c) {
-    if (!c->rest.at) return;
-    c->parsed += feed(c, c->rest.at + c->parsed, c->rest.length - c->parsed);
-    if (closes(c) || c->parsed < c->rest.length) return;
+/* Drops what was sent ahead, and reads again. */
+static void read_on(client *c) {
     drop_bytes(c, &c->rest);
     c->rest.length = c->parsed = 0;
     uv_read_start((uv_stream_t *)&c->tcp, on_room, on_read);
+}
+
+static void go_on(client *c) {
+    if (!c->rest.at) return;
+    c->parsed += feed(c, c->rest.at + c->parsed, c->rest.length - c->parsed);
+    if (!closes(c) && c->parsed == c->rest.length) read_on(c);
 }
 
 /* The counters of a client's address. */

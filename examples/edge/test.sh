@@ -43,6 +43,10 @@ if ! has clang || ! has wasm-ld; then left_out "all: there is no clang with wasm
 export WASMLOOP_LIBRARY="$library/libwasmloop.so.0" PYTHONPATH="$top/capi/python"
 strict=strict
 /usr/bin/python3 -c 'import h11' 2> /dev/null || { strict=; left_out 'the strict client: there is no h11'; }
+chunks='from twisted.web.http import _ChunkedTransferDecoder, _MalformedChunkedDataError'
+if /usr/bin/python3 -c "import twisted.web.test.test_http; $chunks" 2> /dev/null; then strict="$strict vectors"
+else left_out "others' requests: there is no Twisted"
+fi
 mkdir "$out/guests"
 "$here/guests/build.sh" "$out/guests" && cp "$here/../crc32.wasm" "$here/../sha256.wasm" "$here/../ticker.wasm" "$out/guests" || exit 1
 if [ ! -f "$WASMLOOP_LIBRARY" ]; then left_out 'lines.py: there is no libwasmloop.so.0'
@@ -55,6 +59,7 @@ for how; do
     case $how in
     plain)
         CFLAGS=-Werror "$here/build.sh" "$out/plain" "$library" || exit 1
+        "$here/bench/plain.sh" "$out/over_c" || { say 'FAILED: bench/plain.sh'; failed=1; }
         part "$out/plain" "$out/guests" functions bounds end clients $strict
         if has chromium; then part "$out/plain" "$out/guests" page; else left_out 'the page: there is no chromium'; fi
         soak "$out/plain" 10
@@ -74,6 +79,7 @@ for how; do
         CC=clang CFLAGS='-g -O1 -fsanitize=address,undefined -fno-sanitize-recover=undefined' "$here/build.sh" "$out/addresses" "$library" || exit 1
         CC=clang CFLAGS='-g -O1 -fsanitize=thread' "$here/build.sh" "$out/threads" "$library" || exit 1
         LOAD=$out/load part "$out/plain" "$out/guests" 10000 hostile
+        if has slowhttptest; then part "$out/addresses" "$out/guests" attacks; else left_out 'attacks: there is no slowhttptest'; fi
         ASAN_OPTIONS=quarantine_size_mb=8 part "$out/addresses" "$out/guests" 10000 hostile
         part "$out/threads" "$out/guests" 10000 hostile
         soak "$out/plain" "${SOAK:-600}"

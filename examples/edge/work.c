@@ -50,19 +50,20 @@ static uint64_t units_of(const task *k, uint64_t took, uint64_t now) {
 /* Runs a job in slices until it ends, its deadline passes, its client disconnects, or, after half a millisecond, another tenant waits. */
 void run_job(task *k) {
     uint32_t over = 0;
+    int is_late = 0;
     wasmloop_about *a = &k->about;
     uint64_t began = uv_hrtime(), from = began, now;
     if (k->units == 0) k->units = FIRST;
-    while (!over && a->outcome != LATE && !k->gone && !(hurry && from - began >= TURN_NS)) {
+    while (!over && !is_late && !k->gone && !(hurry && from - began >= TURN_NS)) {
         if (wasmloop_job_run_for(&k->handle, k->units, &over) != WASMLOOP_OK) over = 1;
         now = uv_hrtime();
-        if (!over && now >= k->until) a->outcome = LATE;
-        a->used += k->units;
+        is_late = !over && now >= k->until;
         k->units = units_of(k, now - from, now);
         from = now;
     }
-    k->goes_on = !over && a->outcome != LATE;
-    if (over) wasmloop_job_about(&k->handle, a);
+    k->goes_on = !over && !is_late;
+    wasmloop_job_about(&k->handle, a);
+    if (is_late) a->outcome = LATE;
     const char *how = a->outcome == LATE ? "not done by its deadline" : wasmloop_outcome_name(a->outcome);
     if (a->outcome > WASMLOOP_WORK_DONE) explain(k, &k->handle, how, a->outcome == WASMLOOP_WORK_TRAP ? a->value : 0, a->used);
 }

@@ -2,9 +2,10 @@
 
 usage: proxies.py [--rate R] EDGE LOAD GUESTS      (as root: `ip netns`; 1,000 a second; 12 s for each line)
 
-All is bounded to namespaces that it makes and removes. After 3 s the second server is killed, after 6 s it is there again; after 8 s the third is ended by SIGTERM,
-after 9.5 s it is there again. A proxy that `retries` gives a request to another server where one ended without an answer, or answered 503: work functions
-keep nothing, so twice is as good as once. Prints a line for each proxy; ends with 1 where one that retries lost an answer, or gave another than 200.
+All is bounded to namespaces that it makes and removes. After 3 s the second server is killed, after 6 s it is there again; after 8 s the
+third is ended by SIGTERM, after 9.5 s it is there again. A proxy that `retries` gives a request to another server where one ended without
+an answer, or answered 503: work functions keep nothing, so twice is as good as once. Prints a line for each proxy; ends with 1 where one
+that retries lost an answer, or gave another than 200.
 """
 import os
 import re

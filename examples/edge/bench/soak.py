@@ -8,6 +8,7 @@ with 1 if a request is lost, strays or fails, if a line is missing or duplicated
 tenth more memory than the second.
 """
 import collections
+import concurrent.futures
 import pathlib
 import re
 import shutil
@@ -73,6 +74,12 @@ def hostile(port, path):
         seen[f"{path} {ask(port, path)[0]}"] += 1
 
 
+def warm(port):
+    """Each pool thread has once had as much memory as a hostile tenant takes: malloc keeps it for the thread, which is no growth."""
+    with concurrent.futures.ThreadPoolExecutor(told.threads) as pool:
+        list(pool.map(lambda n: [ask(port, f"/warm{n}") for _ in range(20)], range(told.threads)))
+
+
 def main():
     port = common.free_port()
     for n in range(told.tenants):
@@ -80,14 +87,19 @@ def main():
         put(f"t{n}", "hello")
     for name in "spin", "bomb", "flood", "limiter", "trap", "deep":
         put(name, name)
+    for n in range(told.threads):
+        put(f"warm{n}", "bomb")
+        (FOLDER / f"warm{n}.conf").write_text("fuel 3000000\nrest 0\n")
     (FOLDER / "bomb.conf").write_text("fuel 3000000\n")
     server = subprocess.Popen([told.edge, "-p", str(port), "-w", str(told.threads), FOLDER], stdout=subprocess.PIPE, text=True)
     common.listening(server, port)
     threads = [threading.Thread(target=read_log, args=(server,)), threading.Thread(target=come_and_go, args=(port,)),
                *(threading.Thread(target=hostile, args=(port, path)) for path in ("/spin", "/bomb", "/trap/0", "/deep", "/flood/ask", "/limiter/ask"))]
-    load = subprocess.Popen([told.load, "-c", "64", "-d", str(told.seconds), "-r", str(told.rate), "-m", f"{PATIENCE}000", str(port), *(f"/t{n}" for n in range(told.tenants))],
-                            stdout=subprocess.PIPE, text=True)
-    for it in threads:
+    threads[0].start()
+    warm(port)
+    limits = ["-c", "64", "-d", str(told.seconds), "-r", str(told.rate), "-m", f"{PATIENCE}000"]
+    load = subprocess.Popen([told.load, *limits, str(port), *(f"/t{n}" for n in range(told.tenants))], stdout=subprocess.PIPE, text=True)
+    for it in threads[1:]:
         it.start()
     memory = []
     while load.poll() is None:
@@ -104,7 +116,8 @@ def main():
     early, late, missing = max(memory[quarter:2 * quarter]), max(memory[-quarter:]), len(numbers) - 1 - sum(numbers) - lost
     print(said)
     print("; ".join(f"{k} {v}" for k, v in sorted(seen.items())))
-    print(f"{sum(statuses.values())} lines of the access log, {lost} lost as counted, {missing} missing, {len(twice)} twice; statuses {dict(sorted(statuses.items()))}")
+    print(f"{sum(statuses.values())} lines of the access log, {lost} lost as counted, {missing} missing, {len(twice)} twice;",
+          f"statuses {dict(sorted(statuses.items()))}")
     print(f"resident {memory[0]} KiB at first, at most {early} in the second quarter, {late} in the last; the server ended with {code}")
     shutil.rmtree(FOLDER)
     clean = re.search(r"lost 0 strays 0 .* status 200 \d+$", said) and not twice and not missing and code == 0

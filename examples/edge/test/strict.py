@@ -10,7 +10,8 @@ import h11
 
 PORT, COUNT = int(sys.argv[1]), int((*sys.argv[2:3], "300")[0])
 chance = random.Random(int((*sys.argv[3:4], "45")[0]))
-PAGES, TENANTS = ("/-/metrics", "/-/tenants", "/-/nothing", "/-/"), ("/hello", "/crc32", "/trap/0", "/spin", "/nobody", "/hello/x", "/limiter/ask", "/limiter/send/0")
+PAGES = "/-/metrics", "/-/tenants", "/-/nothing", "/-/"
+TENANTS = "/hello", "/crc32", "/trap/0", "/spin", "/nobody", "/hello/x", "/limiter/ask", "/limiter/send/0"
 
 
 def request():

@@ -1,7 +1,8 @@
 """Tests the server: responses and limits, hostile tenants, a loop, modules that change, shutdown, and hostile clients.
 
-usage: test.py EDGE GUESTS PART..     EDGE: the program; GUESTS: a folder of modules; PART: functions, bounds, end, page (by chromium), python, strict (by h11),
-clients, hostile (LOAD names the program of bench/load.c), or a number, which is the same as clients with that many connections that only stand (else 1,000)
+usage: test.py EDGE GUESTS PART..     EDGE: the program; GUESTS: a folder of modules; PART: functions, bounds, end, page (by chromium), python,
+strict (by h11), vectors (of Twisted), attacks (by slowhttptest), clients, hostile (LOAD names the program of bench/load.c), or a number,
+which is the same as clients with that many connections that only stand (else 1,000)
 """
 import collections
 import concurrent.futures
@@ -233,7 +234,8 @@ def lines(s):
     byte = int(re.search(rb"at byte (\d+)", s.ask("/trap/0")[1])[1])
     rows = f"{byte - 9} a.c:1\n{byte} b/c.c:23\n{byte + 1} d.c:4\n"
     for text, place in ((its + rows, b"b/c.c:23"), (f"{its}{byte - 9} a.c:1\n", b"a.c:1"), (f"{its}{byte} -\n", None), (f"{its}{byte + 1} d.c:4\n", None),
-                        (f"module {len(module)} 1\n{rows}", None), (its + "no row\n" + rows, None), (f"{its}{byte} a\x01b:1\n", None), (rows, None), ("", None)):
+                        (f"module {len(module)} 1\n{rows}", None), (its + "no row\n" + rows, None), (f"{its}{byte} a\x01b:1\n", None),
+                        (rows, None), ("", None)):
         (s.folder / "trap.lines").write_text(text)
         got = s.ask("/trap/0")[1]
         check(re.search(rb" at byte \d+( \[(.*?)\])?\n$", got)[2] == place, "a line", text, place, got)
@@ -409,7 +411,8 @@ def loops_change(s):
 def many(s, count=200):
     for n in range(count):
         (s.folder / f"t{n}.conf").write_text(PATIENT)
-        os.link(GUESTS / "crc32.wasm", s.folder / f"t{n}.wasm") if os.stat(GUESTS).st_dev == os.stat(s.folder).st_dev else shutil.copy(GUESTS / "crc32.wasm", s.folder / f"t{n}.wasm")
+        give = os.link if os.stat(GUESTS).st_dev == os.stat(s.folder).st_dev else shutil.copy
+        give(GUESTS / "crc32.wasm", s.folder / f"t{n}.wasm")
     got = {s.ask(f"/t{n}", b"abc")[:2] for n in range(count)}
     check(got == {(200, b"\x35\x24\x41\xc2")}, "many tenants", got)
 
@@ -572,7 +575,8 @@ def bounds():
 
 
 def end():
-    """Orderly shutdown by a signal: running requests go on to their end (here the deadline), waiting ones are answered with 503, idle connections are closed."""
+    """Orderly shutdown by a signal: running requests go on to their end (here the deadline), waiting ones are answered with 503, idle
+    connections are closed."""
     s = Server("-t", "60", spin=f"{ENDLESS}run 1\ndeadline 4000\n")
     with concurrent.futures.ThreadPoolExecutor(8) as pool:
         stands = s.connect()
@@ -600,7 +604,8 @@ def page():
         nonlocal got
         with tempfile.TemporaryDirectory(ignore_cleanup_errors=True) as home, contextlib.suppress(subprocess.TimeoutExpired):
             got = subprocess.run(["chromium", "--headless", "--no-sandbox", "--disable-gpu", "--disable-dev-shm-usage", f"--user-data-dir={home}",
-                                  "--virtual-time-budget=3000", "--dump-dom", f"http://127.0.0.1:{s.port}/-/"], capture_output=True, text=True, check=False, timeout=120).stdout
+                                  "--virtual-time-budget=3000", "--dump-dom", f"http://127.0.0.1:{s.port}/-/"],
+                                 capture_output=True, text=True, check=False, timeout=120).stdout
         return 'data-ready="3"' in got
 
     until("the page in a browser", look, 180)
@@ -671,6 +676,15 @@ def strict():
     done = subprocess.run(["/usr/bin/python3", HERE / "strict.py", str(s.port)], capture_output=True, text=True, check=False)
     print(done.stdout.strip())
     check(done.returncode == 0, "a strict client", done.stderr)
+    s.end()
+
+
+def vectors():
+    """The requests of Twisted's tests, with Twisted as the judge."""
+    s = Server()
+    done = subprocess.run(["/usr/bin/python3", HERE / "vectors.py", str(s.port)], capture_output=True, text=True, check=False)
+    print(done.stdout.strip())
+    check(done.returncode == 0, "requests of Twisted's tests", done.stderr)
     s.end()
 
 
@@ -750,6 +764,11 @@ def pipelines(s):
     check([int(it) for it in re.findall(rb"hello, (\d+)", got)] == list(range(300)) and got.count(b"HTTP/1.1 400") == 1, "sent ahead", got[-300:])
     got = s.raw(b"GET /-/nothing HTTP/1.1\r\nHost: x\r\n\r\n" * 20000 + b"GET /-/nothing HTTP/1.0\r\n\r\n")
     check(got.count(b"HTTP/1.1 404") == 20001, "20,001 sent ahead", got.count(b"HTTP/1.1 404"))
+    got = b""
+    with s.connect() as c, contextlib.suppress(OSError):  # reads only when all of 8 MiB is sent
+        c.sendall(b"POST /hello HTTP/1.1\r\nHost: x\r\nContent-Length: 2\r\n\r\nme" + b"no request\r\n\r\n" * 600000)
+        got = read_all(c)
+    check(re.findall(rb"HTTP/1.1 (\d+)", got) == [b"200", b"400"], "an error behind a request", got[:300], len(got))
 
 
 def idle(s, count):
@@ -935,6 +954,17 @@ def hostile():
 
 
 # ---- a lot of clients ----
+
+
+def attacks():
+    """Slow headers, slow bodies and slow readers, 1,000 at a time, by slowhttptest, which others wrote: its own request is answered."""
+    s = Server()
+    for mode in "-H -i 5", "-B -i 5 -s 8192", "-X -w 1 -y 2 -n 5 -z 1 -k 3":
+        words = ["slowhttptest", *mode.split(), "-c", "1000", "-r", "500", "-l", "20", "-p", "30", "-t", "POST", "-u", f"http://127.0.0.1:{s.port}/hello"]
+        said = subprocess.run(words, capture_output=True, text=True, check=False).stdout
+        available = re.findall(r"service available:\W*(\w+)", re.sub(r"\x1b\[[0-9;]*m", "", said))
+        check(available and set(available) == {"YES"}, "slowhttptest", mode, available)
+    s.end()
 
 
 def clients(count=1000):

@@ -84,10 +84,10 @@ def kit():
 
 
 class Plan:
-    """The libraries below the program and the program, what each is likely to take, and what has been done."""
+    """The libraries below the program and, unless these are all, the program, what each is likely to take, and what has been done."""
 
-    def __init__(self, program, at_once=1, jobs=1):
-        self.crates = [*program.below(), program]
+    def __init__(self, program, at_once=1, jobs=1, below_alone=False):
+        self.crates = program.below() if below_alone else [*program.below(), program]
         self.at_once, self.jobs = at_once, jobs
         self.work = {it: TAKES.get(it.name, GUESSED) for it in self.crates}
         # what the longest chain of crates from each one up to the program takes (each crate stands behind those that it uses)
@@ -101,7 +101,7 @@ class Plan:
     def alone(self, crate):
         """Returns what a crate takes that has the processors for itself. Of a program most is compiled by one."""
         work = self.work[crate]
-        if crate is self.crates[-1]:
+        if not crate.makes_rlib():
             return work
         at_one = min(work / 2, 10 + work / 20)
         return at_one + (work - at_one) * SHARED / self.jobs
@@ -109,13 +109,14 @@ class Plan:
     def begins(self, crate):
         self.running[crate] = time.monotonic()
 
-    def ended(self, crate, was_built):
-        before = self.unpaced()
+    def skips(self, crates):
+        """What is there already says nothing of the pace."""
+        self.done += crates
+        self.planned = self.unpaced()
+
+    def ended(self, crate):
         self.done.append(crate)
         del self.running[crate]
-        # (what was there already says nothing of the pace)
-        if not was_built:
-            self.planned -= before - self.unpaced()
 
     def elapsed(self):
         return time.monotonic() - self.began
@@ -162,16 +163,28 @@ def text_of(file):
         return it.read()
 
 
+def over_statements(crates):
+    """Has the crates' libraries be those that this program builds."""
+    for it in crates:
+        it.rlib = f"{it.folder}/out/statements/{it.name}.rlib"
+
+
+def sum_file(crate):
+    return f"{os.path.dirname(crate.rlib)}/sum"
+
+
+def is_built(rtlib, crate):
+    return crate.makes_rlib() and text_of(sum_file(crate)) == sum_of(rtlib, crate, {})
+
+
 def build(rtlib, crate, jobs, is_first):
-    """Builds a crate, where it isn't built, and returns the status of what did it and whether there was anything to do."""
+    """Builds a crate, and returns the status of what did it."""
     crate = copy.copy(crate)
     if not crate.makes_rlib():
         with open(log_of(crate), "w", encoding="utf-8") as crate.out:
-            return link(rtlib, crate, jobs), True
+            return link(rtlib, crate, jobs)
     folder = os.path.dirname(crate.rlib)
     found = sum_of(rtlib, crate, {})
-    if text_of(f"{folder}/sum") == found:
-        return 0, False
     shutil.rmtree(folder, ignore_errors=True)
     os.makedirs(folder)
     words = crate.words(["--jobs", str(jobs)], keeps=False)
@@ -179,9 +192,9 @@ def build(rtlib, crate, jobs, is_first):
         status = crate.call(*([] if is_first else BESIDE), rtlib.RATTLE, "build", *words, "--statements", "-o", crate.rlib)
     # (an edit while it was built leaves it to be built again)
     if status == 0 and sum_of(rtlib, crate, {}) == found:
-        with open(f"{folder}/sum", "w", encoding="utf-8") as it:
+        with open(sum_file(crate), "w", encoding="utf-8") as it:
             it.write(found)
-    return status, True
+    return status
 
 
 def made_of(program):
@@ -208,17 +221,16 @@ def fail(crate, status):
         said = it.read().splitlines()
     told = [it for it in said if re.search(r"\berror\b|not proved|no proof|could not tell|no verdict|^rt: ", it)] or said[-20:]
     print(*told[:40], sep="\n", file=sys.stderr)
-    say(f"{crate.name} is not proved, so the program is not built; all that was said is in {log_of(crate)}")
+    say(f"{crate.name} is not proved, so what stands on it is not built; all that was said is in {log_of(crate)}")
     sys.stderr.flush()
     os._exit(status if 0 < status < 126 else 1)
 
 
 def report(plan, crate):
     with open(log_of(crate), encoding="utf-8", errors="replace") as it:
-        found = re.findall(r"^logic=proved .*?functions=(\d+)", it.read(), re.M)
-    what = f"{found[-1]} functions proved" if found else "as it was"
+        (*_, found) = re.findall(r"^logic=proved .*?functions=(\d+)", it.read(), re.M)
     left = f", {minutes(plan.left())} left" if len(plan.done) < len(plan.crates) else ""
-    say(f"[{len(plan.done)} of {len(plan.crates)}] {crate.name}: {what}; {clock(plan.elapsed())} so far{left}")
+    say(f"[{len(plan.done)} of {len(plan.crates)}] {crate.name}: {found} functions proved; {clock(plan.elapsed())} so far{left}")
 
 
 def shares(rtlib):
@@ -234,9 +246,12 @@ def shares(rtlib):
 
 
 def build_all(rtlib, plan):
-    """Builds the crates, each once those below it are built, and those first that the longest chain stands on."""
+    """Builds the crates that aren't built, each once those below it are, and those first that the longest chain stands on."""
     at_once, jobs = shares(rtlib)
-    waiting = sorted(plan.crates, key=lambda it: -plan.behind[it])
+    plan.skips([it for it in plan.crates if is_built(rtlib, it)])
+    waiting = sorted((it for it in plan.crates if it not in plan.done), key=lambda it: -plan.behind[it])
+    if waiting:
+        say(f"proving and building {len(waiting)} crates: {minutes(plan.left())} on {len(os.sched_getaffinity(0))} processors")
     running = {}
     with ThreadPoolExecutor(at_once) as pool:
         while waiting or running:
@@ -253,35 +268,45 @@ def build_all(rtlib, plan):
             ended = wait(running, timeout=QUIET, return_when=FIRST_COMPLETED).done
             for it in ended:
                 crate = running.pop(it)
-                status, was_built = it.result()
+                status = it.result()
                 if status:
                     fail(crate, status)
-                plan.ended(crate, was_built)
+                plan.ended(crate)
                 report(plan, crate)
             if not ended:
                 say(f"at {', '.join(it.name for it in running.values())}; {clock(plan.elapsed())} so far")
 
 
-def main(name, over_gate=False):
-    global program_name
-    program_name = name
-    if not shutil.which("rt"):
+def has_rt():
+    found = bool(shutil.which("rt"))
+    if not found:
         say("`rt`, which proves and builds, is not in the path: unpack Rattle's kit and put its folder 'bin' into PATH")
-        return 1
-    rtlib = kit()
+    return found
+
+
+def crate_of(rtlib, name):
+    """Returns the crate of this name, and readies this process for rattle's runs."""
     os.chdir(TOP)
-    folder = f"{TOP}/crates/{name}"
-    program = rtlib.Crate(folder, TOP, {}) if rtlib else None
-    if program and name in FOR_C:
-        program.is_static = True
-    if not program:
-        say("proving and building the program, which the first time takes half an hour")
-        return subprocess.run(["rt", "run", "--", "--version"], cwd=folder, stdin=subprocess.DEVNULL, stdout=sys.stderr).returncode
     # (its first call sets a signal's handler, which only the main thread may)
     rtlib.guarded()
     # with its own handler, Python would wait at Ctrl-C for the libraries that are being built
     if signal.getsignal(signal.SIGINT) is signal.default_int_handler:
         signal.signal(signal.SIGINT, signal.SIG_DFL)
+    return rtlib.Crate(f"{TOP}/crates/{name}", TOP, {})
+
+
+def main(name, over_gate=False):
+    global program_name
+    program_name = name
+    if not has_rt():
+        return 1
+    rtlib = kit()
+    if not rtlib:
+        say("proving and building the program, which the first time takes half an hour")
+        words, folder = ["rt", "run", "--", "--version"], f"{TOP}/crates/{name}"
+        return subprocess.run(words, cwd=folder, stdin=subprocess.DEVNULL, stdout=sys.stderr).returncode
+    program = crate_of(rtlib, name)
+    program.is_static = program.is_static or name in FOR_C
     at_once, jobs = shares(rtlib)
     if over_gate:
         with open(log_of(program), "w", encoding="utf-8") as program.out:
@@ -289,15 +314,12 @@ def main(name, over_gate=False):
         say(text_of(log_of(program)))
         return status
     plan = Plan(program, at_once, jobs)
-    for it in plan.crates:
-        it.rlib = f"{it.folder}/out/statements/{it.name}.rlib"
     held = rtlib.lock(plan.crates)
-    processors = len(os.sched_getaffinity(0))
-    say(f"proving and building {len(plan.crates)} crates before the first run: {minutes(plan.left())} on {processors} processors")
+    over_statements(plan.crates)
     build_all(rtlib, plan)
     for it in held:
         os.close(it)
-    os.utime(f"{folder}/{made_of(program)}")
+    os.utime(f"{program.folder}/{made_of(program)}")
     say(f"{name} is proved and built; it took {clock(plan.elapsed())}, and later calls start at once")
     return 0
 

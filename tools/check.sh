@@ -12,12 +12,7 @@ try() { "$@" || { echo "FAILED: $*"; wrong=1; }; }
 files() { git ls-files -- "$@"; }
 
 if has rattle; then files 'crates/*.rt' 'crates/*.antt' | xargs -n 200 rattle fmt --check || wrong=1; fi
-if has python3; then
-    for tool in audit citations picture header limits plain rules shape uv; do
-        if [ -f "tools/$tool.py" ]; then try python3 "tools/$tool.py"; fi
-    done
-    try python3 tools/bodies.py --check
-fi
+if has python3; then try tools/compare.sh; fi
 try git diff --check HEAD
 if has shellcheck; then files '*.sh' wasmloop .ci/run .ci/nightly | xargs shellcheck --severity=warning || wrong=1; fi
 if has flake8; then files '*.py' | xargs flake8 --max-line-length=160 || wrong=1; fi

@@ -1,22 +1,26 @@
 #!/usr/bin/env python3
-"""Whether docs/LIMITS.md and the sentences of the program say the numbers that the code has.
+"""Whether docs/LIMITS.md and the sentences of the program say the numbers that the code has, and proofs name them.
 
     python3 tools/limits.py               status 1 if a row or a sentence has another number than its constant, or a constant has no row
     python3 tools/limits.py --self-test   plants faults in copies of the texts; status 1 if one isn't found
 
 A row of LIMITS.md names its constants in the column *Constant*, those of crates/limits/src/lib.rt by name alone, others as `crate::NAME`,
 and has the number of each in the column *Most*. Each constant of `limits` stands in a row. A string of the code that says `more than N
-THINGS` or `N THINGS at most` has the number of a limit: of one that is called after the things, where there is one.
+THINGS` or `N THINGS at most` has the number of a limit: of one that is called after the things, where there is one. In a proof a limit
+over FEW, and the number after it, stand by the limit's name. tools/limits.txt has the files that have them in digits, each with how many;
+a number there may only shrink.
 """
 import re
 import sys
 from pathlib import Path
 
-from sources import Sources as Texts
+from sources import Sources as Texts, plant
 
 TOP = Path(__file__).resolve().parent.parent
-PAGE, LIMITS, HELPS = "docs/LIMITS.md", "crates/limits/src/lib.rt", "crates/words/src/grammar.rt"
+PAGE, LIMITS, HELPS, LIST = "docs/LIMITS.md", "crates/limits/src/lib.rt", "crates/words/src/grammar.rt", "tools/limits.txt"
+FEW = 128
 CONSTANT = re.compile(r"\bconst ([A-Z][A-Z_0-9]*): \w+ = ([\d_]+);")
+DIGITS = re.compile(r"(?<![\w.'◌-])\d+(?![\w.'-])")
 SENTENCE = re.compile(r"(?:[Mm]ore than|at most|deeper than) (\d[\d,]*)(?: ([a-z]+))?")
 
 
@@ -25,6 +29,12 @@ class Sources(Texts):
 
     def crate(self, crate):
         return "\n".join(self.text(str(file.relative_to(TOP))) for file in sorted((TOP / "crates" / crate / "src").rglob("*.rt")))
+
+    def proofs(self):
+        """The terms of each file of proofs, without imports and comments."""
+        for file in sorted(TOP.glob("crates/*/proofs/**/*.antt")):
+            name = str(file.relative_to(TOP))
+            yield name, re.sub(r"(?m)^(?:use | *--)[^\n]*", "", self.text(name))
 
     def strings(self):
         """Each string of the program's sources, with its file."""
@@ -85,8 +95,26 @@ def wrong_sentences(sources):
                 yield f"{file}: \"{string[:60]}\": {value:,} is no limit{f': {named}' if named else ''}"
 
 
+def unnamed(sources):
+    """How many numbers of each file of proofs a limit has too."""
+    known = {value + more for value in constants(sources).values() if value > FEW for more in (0, 1)}
+    counts = {name: sum(int(number) in known for number in DIGITS.findall(text)) for name, text in sources.proofs()}
+    return {name: count for name, count in counts.items() if count}
+
+
+def wrong_proofs(sources):
+    now, listed = unnamed(sources), {}
+    for line in sources.text(LIST).splitlines():
+        if not line.startswith("#"):
+            count, name = line.split()
+            listed[name] = int(count)
+    for name in sorted(now.keys() | listed.keys()):
+        if now.get(name, 0) != listed.get(name, 0):
+            yield f"{name}: it has {now.get(name, 0)} limits in digits, and {listed.get(name, 0)} by {LIST}"
+
+
 def faults(sources):
-    return [*wrong_rows(sources), *wrong_sentences(sources)]
+    return [*wrong_rows(sources), *wrong_sentences(sources), *wrong_proofs(sources)]
 
 
 PLANTED = [
@@ -94,33 +122,22 @@ PLANTED = [
     ("a constant without a row", LIMITS, r"(?m)^(pub const MAX_EMITS)", r"pub const MAX_NEW: u32 = 7;\n\n\1"),
     ("a row's number", PAGE, r"\| 4,096 \|", "| 4,095 |"),
     ("a row's name", PAGE, r"`MAX_TYPES`", "`MAX_TYPE`"),
+    ("a limit in digits in a proof", "crates/reduction/proofs/Heights.antt", r"≤ MAX_HEIGHT", "≤ 256"),
+    ("a file that is no longer so", LIST, r"(?m)^2 (crates/leb/)", r"3 \1"),
     ("a sentence's number", HELPS, r"(at most )65,536( of them)", r"\g<1>65,535\2"),
 ]
 
 
-def self_test():
-    missed, whole = 0, Sources()
-    before = faults(whole)
-    for what, file, old, new in PLANTED:
-        file = file or next((name for name, string in whole.strings() if re.search(old, string)), None)
-        changed, count = re.subn(old, new, whole.text(file), count=1) if file else ("", 0)
-        found = [fault for fault in faults(Sources({file: changed})) if fault not in before] if count else []
-        printed = "there is no such text" if not count and what.startswith("a sentence") else None
-        missed += not found and not printed
-        print(f"{printed or ('found' if found else 'MISSED')}: {what}{': ' + found[0] if found else ''}")
-    print(f"{len(PLANTED)} faults planted, {missed} missed")
-    return missed
-
-
 def main():
     if "--self-test" in sys.argv[1:]:
-        sys.exit(1 if self_test() else 0)
+        sys.exit(1 if plant(PLANTED, Sources(), faults) else 0)
     sources = Sources()
     found = faults(sources)
     for fault in found:
         print(fault, file=sys.stderr)
     sentences = sum(len(SENTENCE.findall(string)) for _, string in sources.strings())
-    print(f"{len(constants(sources))} limits, {len(list(rows(sources)))} rows, {sentences} numbers in sentences, {len(found)} faults")
+    print(f"{len(constants(sources))} limits, {len(list(rows(sources)))} rows, {sentences} numbers in sentences, "
+          f"{sum(unnamed(sources).values())} in digits in proofs, {len(found)} faults")
     sys.exit(1 if found else 0)
 
 

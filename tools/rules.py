@@ -13,7 +13,7 @@ import re
 import sys
 from pathlib import Path
 
-from sources import Sources as Texts
+from sources import Sources as Texts, plant
 
 TOP = Path(__file__).resolve().parent.parent
 LIST = "tools/rules.txt"
@@ -110,20 +110,9 @@ PLANTED = [  # what is wrong, and where which text becomes which
 ]
 
 
-def self_test():
-    missed = 0
-    for what, file, old, new in PLANTED:
-        text = Sources().text(file)
-        found = faults(Sources({file: text.replace(old, new, 1)})) if old in text else []
-        missed += not found
-        print(f"{'found' if found else 'MISSED'}: {what}{': ' + found[0] if found else ''}")
-    print(f"{len(PLANTED)} faults planted, {missed} missed")
-    return missed
-
-
 def main():
     if "--self-test" in sys.argv[1:]:
-        sys.exit(1 if self_test() else 0)
+        sys.exit(1 if plant(PLANTED, Sources(), faults) else 0)
     sources = Sources()
     stated, where, found = list(sources.rules()), places(sources), faults(sources)
     if "--list" in sys.argv[1:]:

@@ -9,7 +9,8 @@ columns; and whether a name is one crate's: a definition of specs/, and a public
 
 Counted are the functions of crates/*/src. `self` is an argument; an allocator too. The body has the lines between its braces that are
 neither blank nor a comment nor ghost. A level of control is an `if`, `match`, `for`, `while`, `loop`, `let .. else` or closure with braces;
-an `else if` goes on where its `if` stands. A definition that another crate defines too has two crates, a type likewise. Each line of tools/shape.txt is one exception: how many, of what, where. The list may only shrink.
+an `else if` goes on where its `if` stands. A definition that another crate defines too has two crates, a type likewise. Each line of
+tools/shape.txt is one exception: how many, of what, where. The list may only shrink.
 """
 import re
 import sys

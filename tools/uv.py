@@ -9,7 +9,7 @@ import re
 import sys
 from pathlib import Path
 
-from sources import Sources
+from sources import Sources, plant
 
 TOP = Path(__file__).resolve().parent.parent
 HEADER, RUST, PAGE = "examples/uv.h", "examples/uv.rs", "docs/UV.md"
@@ -176,22 +176,10 @@ PLANTED = [
 ]
 
 
-def self_test():
-    missed, whole = 0, Sources()
-    before = list(faults(whole))
-    for what, file, old, new in PLANTED:
-        changed, count = re.subn(old, new, whole.text(file), count=1)
-        found = [fault for fault in faults(Sources({file: changed})) if fault not in before] if count else []
-        print(f"{'found' if found else 'MISSED' if count else 'NOT PLANTED'}: {what}{': ' + found[0] if found else ''}")
-        missed += not found
-    print(f"{len(PLANTED)} faults planted, {missed} missed")
-    return missed
-
-
 def main():
     sources = Sources()
     if "--self-test" in sys.argv[1:]:
-        sys.exit(1 if self_test() else 0)
+        sys.exit(1 if plant(PLANTED, Sources(), faults) else 0)
     if "--write" in sys.argv[1:]:
         (TOP / PAGE).write_text(page_of(sources.text(HEADER)))
     found = list(faults(sources))

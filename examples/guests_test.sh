@@ -55,14 +55,16 @@ script() {
     run "LOOP/wasmloop script square.json | sed 's/ used [0-9]*//'"
     cp told square.expected
     prints "$(block 'square.expected'); echo the log is as it was" "the log is as it was"
-    run "$(block 'served.steps')"
-    # (what `serve` itself prints stands first)
-    tail -n +2 told >played
+    run "$(block 'served.svg')"
+    # the served run, taken again by a script
+    run "(echo loops square.wasm; echo workers 1; sed -nE 's/^(clock .*)\$|^([a-z]+ [0-9]+) .*\$/\\1\\2/p' served.log) > served.steps
+python3 LOOP/examples/script.py served.steps > served.json
+LOOP/wasmloop script served.json"
+    cp told played
     prints "grep -v '^loop 0: ' served.log | cmp - played; echo the served run is taken again" "the served run is taken again"
 }
 rust() {
     run "$(block 'examples/uv.rs .')"
-    file tick.rs
     rm -f tick.wasm
     run "$(block "$1")"
     prints "LOOP/wasmloop serve tick.wasm --loops 1 --workers 1" "$(inline 'loop 0 over emits 10')"

@@ -1,6 +1,7 @@
 #!/bin/sh
 # What somebody meets who has no kit: clones the repository into an empty folder, hides `rt`, and goes each way in. Each way prints what it
-# took; one that fails, or takes more than SECONDS, is reported, and the status is 1. What lacks a program is left out, and said.
+# took; one that fails, or takes more than SECONDS, is reported, and the status is 1. What lacks a program is left out, and said. bare.sh does
+# so in a bare Debian.
 #
 # usage: tests/outsider.sh [SECONDS]       20 by default; what is shipped must be of the sources of HEAD
 set -u
@@ -44,8 +45,9 @@ way 'a host in C' 891568578 cc \
     'PREFIX=$PWD/prefix tree/install.sh > told &&
      awk "/^\`\`\`c\$/ { on = 1; next } /^\`\`\`\$/ { if (on) exit } on" tree/docs/EMBEDDING.md > first.c &&
      cc -o first first.c -Iprefix/include prefix/lib/libwasmloop.a && ./first tree/examples/crc32.wasm'
-way 'a host in Python' 891568578 pip \
-    'pip install -q --no-index --no-cache-dir --root-user-action=ignore --target site ./tree/capi &&
-     PYTHONPATH=site python3 -c "from wasmloop import Module; print(Module(open(\"tree/examples/crc32.wasm\", \"rb\").read()).work(0, b\"abc\").value)"'
+if python3 -c 'import ensurepip' 2> /dev/null; then venv=python3; else venv=python3-venv; fi
+way 'a host in Python' 891568578 $venv \
+    'python3 -m venv env && env/bin/pip install -q --no-index --no-cache-dir --disable-pip-version-check ./tree/capi &&
+     env/bin/python3 -c "from wasmloop import Module; print(Module(open(\"tree/examples/crc32.wasm\", \"rb\").read()).work(0, b\"abc\").value)"'
 way 'a host in Rust' 'loop 0 over emits 0 10 20 30 0 -22' cargo 'cd tree/capi/rust && cargo run -q --offline --bin host ../../examples/ticker.wasm'
 exit $wrong

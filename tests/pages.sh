@@ -53,12 +53,12 @@ files() {
         NF { name = "" }' "$top/$1"
 }
 
-# a file that a command reads and that isn't there
+# a file that a command reads and that isn't there; a module behind another one is what the command makes of it
 missing() {
     local word before=
     for word in $1; do
         case $word in
-        *.c | *.o | *.rs | *.py | *.steps | *.json | *.wasm) [ -e "$word" ] || [ "$before" = -o ] || [ "$before" = '>' ] || { echo "there is no $word"; return; } ;;
+        *.c | *.o | *.rs | *.py | *.steps | *.json | *.wasm) [ -e "$word" ] || [ "$before" = -o ] || [ "$before" = '>' ] || [[ $before == *.wasm ]] || { echo "there is no $word"; return; } ;;
         esac
         before=$word
     done
@@ -74,8 +74,9 @@ lacks() {
     *'-m wasmloop'*)
         if [ ! -d python ]; then echo "the package is not installed: there is no pip"
         elif [[ $1 == *wasmloop.ask* ]] && ! has wasm-opt; then echo "there is no wasm-opt"
+        elif [[ $1 == *wasmloop.fuzz* ]] && ! ls "$(clang -print-runtime-dir 2> /dev/null)"/libclang_rt.fuzzer* > /dev/null 2>&1; then echo "there is no libFuzzer"
         elif [[ $1 == *--debug* ]] && ! has llvm-symbolizer; then echo "there is no llvm-symbolizer"; fi ;;
-    pip\ * | *first.py*) has pip && [ -f dist/libwasmloop.so.0 ] || echo "there is no pip, or no library in dist/" ;;
+    pip\ * | python3\ first.py* | python3\ bill.py*) has pip && [ -f dist/libwasmloop.so.0 ] || echo "there is no pip, or no library in dist/" ;;
     *pkg-config*) has pkg-config || echo "there is no pkg-config" ;;
     PREFIX=* | *first* | *libwasmloop*) has cc && [ -f dist/libwasmloop.a ] || echo "there is no cc, or no library in dist/" ;;
     *cargo*) has cargo && [ -f dist/libwasmloop.a ] || echo "there is no cargo, or no library in dist/" ;;
@@ -105,6 +106,7 @@ run() {
     0 | 3 | 4) ;;
     *) fail "$page: $command"; cat problem; return ;;
     esac
+    if [[ $command == python3\ -m\ venv* ]]; then export PATH="$room/env/bin:$PATH"; fi
     case $told in
     done\ * | accepted | loop\ * | return\ * | [0-9]* | "{"*) [[ $printed == "${told%..}"* || $told == "$printed"* ]] || fail "$page: $command: it prints $printed" ;;
     esac
@@ -117,11 +119,9 @@ block() {
 
 mkdir guest
 block README.md c > guest/tick.c
-for page in README.md docs/COMMANDS.md docs/EMBEDDING.md docs/DEBUGGING.md docs/PLUGINS.md examples/README.md examples/libraries/README.md examples/kit/ask/README.md; do
+for page in README.md docs/COMMANDS.md docs/EMBEDDING.md docs/DEBUGGING.md examples/plugins/README.md examples/README.md examples/libraries/README.md examples/kit/ask/README.md; do
     [ -f "$top/$page" ] || continue
     files "$page"
-    # (its files stand in a folder of their own)
-    if [ "$page" = docs/PLUGINS.md ]; then cp examples/plugins/*.c . 2> /dev/null; fi
     while IFS=$'\t' read -r command told; do
         case $command in
         ./* | wasmloop\ * | cc\ * | PREFIX=* | export\ PKG_CONFIG_PATH=* | pip\ * | python3\ * | examples/* | cd\ * | dist/* | sh\ * | clang\ * | wasm-ld\ *) run "$page" "$command" "$told" ;;
@@ -165,13 +165,9 @@ if has cc; then
     [ $hosts = 3 ] || fail "docs/EMBEDDING.md has $hosts blocks of a host in C behind the first, not 3"
 fi
 if [ -d python ] && [ -f counter.wasm ]; then
-    # (the third is a file of its own, which the page's commands run)
-    for number in 2 4; do
-        guest=$([ $number = 2 ] && echo counter.wasm || echo examples/crc32.wasm)
-        { printf 'from wasmloop import Module\nmodule = Module(open("%s", "rb").read())\n' "$guest"; block docs/EMBEDDING.md python $number; } > "snippet$number.py"
-        grep -q run_for "snippet$number.py" || fail "docs/EMBEDDING.md has no block $number in Python"
-        snippet "block $number in Python" "python3 snippet$number.py"
-    done
+    { printf 'from wasmloop import Module\nmodule = Module(open("counter.wasm", "rb").read())\n'; block docs/EMBEDDING.md python 2; } > snippet.py
+    grep -q run_for snippet.py || fail "docs/EMBEDDING.md has no block 2 in Python"
+    snippet "block 2 in Python" "python3 snippet.py"
 fi
 if [ -f main.rs ] && has cargo; then
     mkdir -p rust_host/src && mv main.rs rust_host/src

@@ -1,5 +1,5 @@
-/* A plug-in host: each plug-in is a module, an operation and a file of input. A plug-in that fails is told with the place, and the next
- * one runs all the same.
+/* A plug-in host: each plug-in is a module, an operation and a file of input. A plug-in that fails is reported with its backtrace, and the
+ * next one runs unaffected.
  *
  * usage: plugins [FUEL] PLUGIN.wasm OPERATION INPUT  [PLUGIN.wasm OPERATION INPUT]..
  */
@@ -7,9 +7,6 @@
 #include <stdlib.h>
 #include <string.h>
 #include "wasmloop.h"
-
-/* how many open calls of a plug-in that failed are told */
-enum { MOST = 4 };
 
 typedef struct text {
     uint8_t *at;
@@ -33,67 +30,62 @@ static text read_file(const char *name, size_t most)
     return it;
 }
 
-static void tell_refusal(text bytes)
+static int shown(uint64_t count, size_t room)
+{
+    return (int)(count < room ? count : room);
+}
+
+static void print_rejection(text bytes)
 {
     char sentence[600];
     uint64_t count = 0;
     if (wasmloop_explain(bytes.at, bytes.length, sentence, sizeof sentence, &count) == WASMLOOP_OK)
-        printf("  refused: %.*s\n", (int)(count < sizeof sentence ? count : sizeof sentence), sentence);
+        printf("  rejected: %.*s\n", shown(count, sizeof sentence), sentence);
 }
 
-static void tell_place(wasmloop_handle *job, uint64_t imports)
+static void print_failure(text bytes, wasmloop_handle *job, const wasmloop_about *about)
 {
-    wasmloop_site sites[MOST];
-    uint64_t open = 0;
-    if (wasmloop_stop(job, sites, MOST, &open) != WASMLOOP_OK)
-        return;
-    for (uint64_t i = 0; i < open && i < MOST; i++)
-        printf("  %s function %llu, operation %llu\n", i ? "called by" : "at",
-               (unsigned long long)(sites[i].function + imports), (unsigned long long)sites[i].operation);
-    if (open > MOST)
-        printf("  and %llu more\n", (unsigned long long)(open - MOST));
+    char where[600];
+    uint64_t count = 0;
+    const char *trap = about->outcome == WASMLOOP_WORK_TRAP ? wasmloop_trap_name(about->value) : NULL;
+    printf("  failed: %s%s%s, after %llu units\n", wasmloop_outcome_name(about->outcome), trap ? ": " : "",
+           trap ? trap : "", (unsigned long long)about->used);
+    if (wasmloop_stop_told(bytes.at, bytes.length, job, where, sizeof where, &count) == WASMLOOP_OK)
+        printf("  %.*s\n", shown(count, sizeof where), where);
 }
 
-static void tell_result(wasmloop_handle *job, const wasmloop_about *about, uint64_t imports)
+static void print_reply(wasmloop_handle *job, const wasmloop_about *about)
 {
-    if (about->outcome != WASMLOOP_WORK_DONE) {
-        const char *trap = about->outcome == WASMLOOP_WORK_TRAP ? wasmloop_trap_name(about->value) : NULL;
-        printf("  failed: %s%s%s, after %llu units\n", wasmloop_outcome_name(about->outcome), trap ? ": " : "",
-               trap ? trap : "", (unsigned long long)about->used);
-        tell_place(job, imports);
-        return;
-    }
     uint8_t *reply = malloc(about->reply + 1);
     uint64_t count = 0;
     if (reply && wasmloop_job_reply(job, reply, about->reply, &count) == WASMLOOP_OK)
-        printf("  answers %d with %llu bytes, after %llu units: %.*s\n", (int32_t)about->value, (unsigned long long)count,
-               (unsigned long long)about->used, (int)(count < 60 ? count : 60), (char *)reply);
+        printf("  returned %d, after %llu units, with %llu bytes%s%.*s\n", (int32_t)about->value, (unsigned long long)about->used,
+               (unsigned long long)count, count ? ": " : "", shown(count, 60), (char *)reply);
     free(reply);
 }
 
-/* 0, or the status of the call that was not done */
+/* returns 0, or the status of the call that failed */
 static int run(const char *name, uint32_t op, const char *input, uint64_t fuel)
 {
     wasmloop_handle module = WASMLOOP_HANDLE_INIT, job = WASMLOOP_HANDLE_INIT;
     wasmloop_task task = { .fuel = fuel, .op = op, .depth = 64 };
     wasmloop_fault fault;
-    wasmloop_shape shape;
     wasmloop_about about;
     text bytes = read_file(name, 1 << 20), given = read_file(input, 1 << 20);
     printf("%s, operation %u, %zu bytes\n", name, op, given.length);
     int status = wasmloop_load(bytes.at, bytes.length, &module, &fault);
     if (status == WASMLOOP_REFUSED)
-        tell_refusal(bytes);
-    if (status == WASMLOOP_OK)
-        status = wasmloop_shape_of(&module, &shape);
+        print_rejection(bytes);
     if (status == WASMLOOP_OK)
         status = wasmloop_work(&module, &task, given.at, given.length, &job);
     if (status == WASMLOOP_OK)
         status = wasmloop_job_about(&job, &about);
-    if (status == WASMLOOP_OK)
-        tell_result(&job, &about, shape.imports);
-    else
+    if (status != WASMLOOP_OK)
         printf("  not run: %s\n", wasmloop_status_name(status));
+    else if (about.outcome == WASMLOOP_WORK_DONE)
+        print_reply(&job, &about);
+    else
+        print_failure(bytes, &job, &about);
     wasmloop_drop(&job);
     wasmloop_drop(&module);
     free(bytes.at);

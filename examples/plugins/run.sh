@@ -1,5 +1,5 @@
 #!/bin/sh
-# Follows docs/PLUGINS.md: builds the three plug-ins and the host, and compares what the host prints with plugins.log.
+# Builds the three plug-ins and the host, and compares what the host prints with plugins.log.
 # It needs clang and wasm-ld. LIBRARY is libwasmloop.a, or the folder that has it.
 #
 # usage: examples/plugins/run.sh LIBRARY [FOLDER]
@@ -20,7 +20,7 @@ printf 'name,count\npears,3\n"apples, red",-40\nplums,12\n' > fruit.csv
 printf '\0asm' > cut.wasm
 ./plugins count.wasm 97 word.txt csv_sum.wasm 1 fruit.csv hostile.wasm 0 word.txt hostile.wasm 1 word.txt hostile.wasm 2 word.txt \
     hostile.wasm 3 word.txt cut.wasm 0 word.txt count.wasm 98 word.txt > all || true
-# (units and operations are the compiler's)
-sed -E 's/after [0-9]+ units/after N units/; s/(function [0-9]+), operation [0-9]+/\1/' all > told
+# (units, instructions and bytes are the compiler's)
+sed -E 's/after [0-9]+ units/after N units/; s/instruction [0-9]+ \([^)]*\)/instruction N/g; s/at byte [0-9]+/at byte N/g' all > told
 diff "$here/plugins.log" told
 echo "plugins: $(grep -c '^[a-z]' told) runs, as in plugins.log"

@@ -1,21 +1,15 @@
 /* Lua as a plug-in: a program runs in an instance, and its function `ask` asks the host. The answer is a string, or nil. */
 #include "ask.h"
+#include "program.h"
 #include <lauxlib.h>
 #include <lgc.h>
 #include <lua.h>
 #include <lualib.h>
 #include <string.h>
 
-#define EXPORT(name) __attribute__((export_name(#name)))
-
-enum { PROGRAM = 65536, ANSWER = 65536 };
-
-static char program[PROGRAM], reply[ANSWER];
-static uint32_t reply_length;
-
 static int lua_ask(lua_State *L)
 {
-    static char answer[ANSWER];
+    static char answer[TEXT];
     size_t length;
     if (G(L)->gcstp & GCSTPGC) /* the collector is named as one that never asks */
         return luaL_error(L, "a finalizer cannot ask");
@@ -41,14 +35,6 @@ static lua_State *opened(void)
     lua_settop(L, 0);
     return L;
 }
-
-/* Named here, it is no longer called before each export and its counterpart behind it, as wasm-ld arranges for a command. */
-extern void __wasm_call_ctors(void);
-
-EXPORT(_initialize) void _initialize(void) { __wasm_call_ctors(); }
-EXPORT(program_at) char *program_at(void) { return program; }
-EXPORT(reply_at) char *reply_at(void) { return reply; }
-EXPORT(reply_size) uint32_t reply_size(void) { return reply_length; }
 
 /* Runs the program; the reply is what it returns, or the message of its error. Returns Lua's status, 0 if there was no error. */
 EXPORT(run) int32_t run(uint32_t length)

@@ -1,13 +1,12 @@
 /* SQLite as a plug-in whose database lies at its host: its file system asks for pages, as it needs them. A question is a `question`; its answer
  * is a page, or the size of the file. */
 #include "ask.h"
+#include "program.h"
 #include <sqlite3.h>
 #include <stdlib.h>
 #include <string.h>
 
-#define EXPORT(name) __attribute__((export_name(#name)))
-
-enum { MOST_PAGE = 4096, TEXT = 65536 };
+enum { MOST_PAGE = 4096 };
 
 typedef struct question {
     enum { READ, WRITE, SIZE, TRUNCATE } kind;
@@ -18,8 +17,6 @@ typedef struct question {
 
 enum { HEAD = 16 };
 
-static char program[TEXT], reply[TEXT];
-static uint32_t reply_length;
 static sqlite3 *database;
 
 static int read_page(sqlite3_file *file, void *into, int length, sqlite3_int64 at)
@@ -103,14 +100,6 @@ static int put_row(void *none, int count, char **values, char **names)
         put(values[k] ? values[k] : "NULL", k + 1 < count ? '|' : '\n');
     return reply_length >= sizeof reply - 1;
 }
-
-/* Named here, it is no longer called before each export and its counterpart behind it, as wasm-ld arranges for a command. */
-extern void __wasm_call_ctors(void);
-
-EXPORT(_initialize) void _initialize(void) { __wasm_call_ctors(); }
-EXPORT(program_at) char *program_at(void) { return program; }
-EXPORT(reply_at) char *reply_at(void) { return reply; }
-EXPORT(reply_size) uint32_t reply_size(void) { return reply_length; }
 
 /* Runs SQL on the host's database; the reply has its rows, and the message of an error. Returns SQLite's status. */
 EXPORT(run) int32_t run(uint32_t length)

@@ -722,6 +722,13 @@ class Memory:
             _call("write", self._instance.handle, c.c_uint32(at), data, c.c_size_t(count))
 
 
+class _Exported(NamedTuple):
+    """An exported function: its number among the exports, and the bits of its parameters and results."""
+    number: c.c_uint64
+    params: List[int]
+    results: List[int]
+
+
 class Instance(_Inspected):
     """An instance of a module. It keeps its memory and globals from call to call. Calls to "uv" imports return -1, and the warning InertImports
     says so: an instance has no timers and no work requests. One thread at a time."""
@@ -732,8 +739,7 @@ class Instance(_Inspected):
         super().__init__()
         of, limits, ended = _held(Module, module), _call_limits(fuel, depth), _Ended()
         self.module, self.used, self._source = module, 0, module._source
-        self._types: Dict[str, Tuple[List[int], List[int]]] = {}
-        self._numbers: Dict[str, c.c_uint64] = {}
+        self._exports: Dict[str, _Exported] = {}
         status = _lib.wasmloop_instance(c.byref(of), c.byref(limits), c.byref(self.handle), c.byref(ended))
         if status == NOT_STARTED:
             raise Stopped("the start function", ended)
@@ -749,7 +755,7 @@ class Instance(_Inspected):
         """Calls the function exported as `name`; arguments may be negative. Returns its signed results: None, one number, or a tuple. A call that
         does not return raises Stopped; it is not rolled back, and you may call the instance again."""
         numbers, limits, ended = self._words(name, args), _call_limits(fuel, depth), _Ended()
-        _call("call_at", self.handle, self._numbers[name], numbers, c.c_size_t(len(args)), limits, ended)
+        _call("call_at", self.handle, self._exported(name).number, numbers, c.c_size_t(len(args)), limits, ended)
         return self._results(name, ended)
 
     def begin(self, name: str, *args: int, fuel: int = 1_000_000, depth: int = 64) -> Call:
@@ -758,18 +764,18 @@ class Instance(_Inspected):
         _call("call_begin", self.handle, _export(name), numbers, c.c_size_t(len(args)), limits)
         return Call(self, name)
 
-    def _kinds(self, name: str) -> Tuple[List[int], List[int]]:
-        """The types of an export, which is looked up once."""
-        kinds = self._types.get(name)
-        if kinds is None:
-            kinds, number = self.module.function(name), c.c_uint64()
+    def _exported(self, name: str) -> _Exported:
+        """An export, which is looked up once."""
+        found = self._exports.get(name)
+        if found is None:
+            (params, results), number = self.module.function(name), c.c_uint64()
             _call("export_number", self.module.handle, _export(name), c.byref(number))
-            self._types[name], self._numbers[name] = kinds, number
-        return kinds
+            found = self._exports[name] = _Exported(number, params, results)
+        return found
 
     def _words(self, name: str, args: Tuple[int, ...]) -> Any:
         """The arguments of a call as a C array."""
-        kinds = self._kinds(name)[0]
+        kinds = self._exported(name).params
         if len(args) != len(kinds):
             raise TypeError(f"{name} takes {len(kinds)} argument{'' if len(kinds) == 1 else 's'}, got {len(args)}")
         return (c.c_uint64 * len(args))(*(_number(number + 1, it, bits) for number, (it, bits) in enumerate(zip(args, kinds))))
@@ -778,7 +784,7 @@ class Instance(_Inspected):
         self.used = ended.used
         if ended.ending:
             raise Stopped(name, ended, self._line())
-        told = tuple(_signed(it, bits) for it, bits in zip(ended.result[: ended.results], self._kinds(name)[1]))
+        told = tuple(_signed(it, bits) for it, bits in zip(ended.result[: ended.results], self._exported(name).results))
         return told[0] if len(told) == 1 else told or None
 
 

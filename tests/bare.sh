@@ -7,9 +7,10 @@ set -eu
 top=$(cd "$(dirname "$0")/.." && pwd)
 mkdir -p "$1"
 root=$(cd "$1" && pwd)
-[ -d "$root/usr" ] || debootstrap --variant=minbase bookworm "$root" http://deb.debian.org/debian
+mirror=$("$top/tools/debian_mirror.sh")
+[ -d "$root/usr" ] || debootstrap --variant=minbase bookworm "$root" "$mirror"
 cp /etc/resolv.conf "$root/etc"
-echo 'deb-src http://deb.debian.org/debian bookworm main' > "$root/etc/apt/sources.list.d/sources.list"
+echo "deb-src $mirror bookworm main" > "$root/etc/apt/sources.list.d/sources.list"
 rm -rf "$root/root/wasmloop"
 git clone -q "$top" "$root/root/wasmloop"
 mount -t proc proc "$root/proc"

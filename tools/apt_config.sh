@@ -14,7 +14,8 @@ folder=$(cd "$1" && pwd)
 if [ ! -f "$folder/apt.conf" ]; then
     mkdir -p "$folder/lists/partial" "$folder/parts"
     if [ -n "${2:-}" ]; then
-        printf 'Types: deb-src\nURIs: http://deb.debian.org/debian\nSuites: %s\nComponents: main\nSigned-By: %s\n' "$2" \
+        mirror=$("$(dirname "$0")/debian_mirror.sh")
+        printf 'Types: deb-src\nURIs: %s\nSuites: %s\nComponents: main\nSigned-By: %s\n' "$mirror" "$2" \
             /usr/share/keyrings/debian-archive-keyring.gpg > "$folder/parts/debian.sources"
     elif [ -f /etc/apt/sources.list.d/debian.sources ]; then
         sed 's/^Types:.*/Types: deb-src/' /etc/apt/sources.list.d/debian.sources > "$folder/parts/debian.sources"

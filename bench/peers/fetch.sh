@@ -6,7 +6,7 @@
 set -eu
 here=$(cd "$(dirname "$0")" && pwd)
 root=$1
-[ -d "$root/usr" ] || debootstrap --variant=minbase sid "$root" http://deb.debian.org/debian
+[ -d "$root/usr" ] || debootstrap --variant=minbase sid "$root" "$("$here/../../tools/debian_mirror.sh")"
 mkdir -p "$root/peers/src"
 cp "$here/wasmi.rs" "$here/Cargo.toml" "$here/wasmedge.c" "$here/peer.h" "$root/peers/src"
 chroot "$root" sh -eu -c '

@@ -1,8 +1,10 @@
 pub mod EachNumberOnce
 pub mod Asyncs
 pub mod RequestsRise
+pub mod CallbacksEnd
 pub mod CancelFates
 pub mod PhaseListsAreReady
+pub mod Prepared
 pub mod HostExports
 pub mod FoundCancels
 pub mod FrontSearches
@@ -10,6 +12,7 @@ pub mod GuestCallsKeepListed
 pub mod GuestCallsKeep
 pub mod OrdersHandedOnce
 pub mod StepFates
+pub mod EntriesPrepared
 pub mod EventsKeep
 pub mod Histories
 pub mod LoopsKeep
@@ -19,11 +22,13 @@ pub mod AliveMeans
 pub mod Lowest
 pub mod Mirroring
 pub mod StepsByCalls
+pub mod StepsInSlices
 pub mod StopsOfCallbacks
 pub mod RequestByNumber
 pub mod OwnerCallsKeepListed
 pub mod OwnersRequests
 pub mod ListedStaysReady
+pub mod Relocated
 pub mod RosterKeeps
 pub mod Runnable
 pub mod RewrittenLists

@@ -1,15 +1,14 @@
 -- A loop hands the order of each request out once, as its guest asked for it.
 use Rattle.std.proofs.Common.{◌≡◌, ◌≢◌, ℕ, ◌+◌, ◌<◌, ◌≤◌, Bool, true, false, cond, not, inl, inr, ◌⊎◌, List, [], ◌∷◌, ◌++◌, map, Option, Some, None, refl, sym}
-use Rattle.std.proofs.Common.{ap, subst, ◌∙◌, arith, append_assoc, append-nil}
+use Rattle.std.proofs.Common.{ap, subst, ◌∙◌, arith}
 use Rattle.std.specs.List.{count_by, filter, find}
 use Rattle.std.proofs.lemmas.Bool.{cases_lt, eqb-true, eq-eqb}
-use Rattle.std.proofs.lemmas.List.Sums.{sum_by_push}
 use Rattle.order.specs.Work.{WorkOrder}
 use Rattle.phases.specs.declared.entry.Status.{Status}
 use Rattle.phases.specs.declared.entry.Status.TheVariants.{Running, Over, Failed}
 use Rattle.phases.specs.Calls.{Calls}
 use Rattle.phases.specs.Guests.{GuestCall}
-use Rattle.phases.specs.History.{Event, Stepped, OrderAsked, EndOffered, CancelAnswered, RequestAnswered, ClockRaised, MovedBeside, EventStep, History, IsOpening, guest_calls}
+use Rattle.phases.specs.History.{Event, OrderAsked, EventStep, History, IsOpening, guest_calls}
 use Rattle.phases.specs.Laws.{hands_out, WasAsked}
 use Rattle.phases.specs.Outside.{next_order_of, next_in, handing}
 use Rattle.phases.specs.Requests.{Stage, HandedOut, Cancelled, Request, Requests, has_number, in_stage, with_stage, is_open_stage, lowest_open}

@@ -5,3 +5,6 @@ pub mod Ready
 pub mod Setting
 pub mod Stage
 pub mod Keeping
+pub mod Preparing
+pub mod Underway
+pub mod Ended

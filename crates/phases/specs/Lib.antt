@@ -12,7 +12,9 @@ pub mod PhaseList
 pub mod Requests
 pub mod Roster
 pub mod State
+pub mod Slices
 pub mod Step
 pub mod Stopping
+pub mod Underway
 pub mod View
 pub mod Kinds

@@ -177,3 +177,8 @@ module _ {S : Type 0} (calls : Calls S) (g : Setting) where
   -- one step, whatever the guest called
   abbrev pub LoopStep : Loop S → StepDid → Loop S → Type 0
   LoopStep old did new = (made : List GuestCall) × StepsWith old did made new
+
+-- no callback ran in the step
+abbrev pub RanNone : StepDid → Type 0
+RanNone (Ran kind number ended) = ⊥
+RanNone _ = Unit {0}

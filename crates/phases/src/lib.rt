@@ -12,6 +12,7 @@
 ghost use Rattle.phases.specs.Outside.{CancelIn, StartsBeside, SendsBeside};
 ghost use Rattle.phases.specs.Step.{LoopStep};
 
+mod callback;
 mod callbacks;
 mod completion_kind;
 mod did;
@@ -22,12 +23,15 @@ pub mod laws;
 mod loop_core;
 mod loop_host;
 mod loop_state;
+mod machine;
 mod opening;
+mod preparing;
 mod request;
 mod requests;
 mod roster;
 mod setting;
 mod shared;
+mod slices;
 mod stage;
 mod stepping;
 mod work;
@@ -38,3 +42,4 @@ pub use events::did::{Hint, StepDid};
 pub use events::phase::{EntryKind, Phase};
 pub use loop_core::{Accepted, LoopCore};
 pub use shared::{Beside, Shared};
+pub use slices::{StepSlice, Stepping};

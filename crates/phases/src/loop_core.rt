@@ -16,6 +16,7 @@ ghost use Rattle.phases.specs.Guests.{GuestCall};
 ghost use Rattle.order.specs.Runnable.{CanRun};
 ghost use Rattle.phases.specs.PhaseList.{begin_list, hint_of, is_alive, IsAlive, IsHint};
 ghost use Rattle.phases.specs.Bare.{whole_did};
+ghost use Rattle.phases.specs.Inner.Keeping.{KeepsLoop};
 ghost use Rattle.phases.specs.Inner.Ready.{IsReady, Spares};
 ghost use Rattle.phases.specs.Inner.Setting.{setting_of};
 ghost use Rattle.phases.specs.Requests.{IsLowestOpen};
@@ -61,12 +62,12 @@ pub enum Accepted {
 ///
 /// Contracts see what it is made of, and the loop as it stands.
 pub struct LoopCore<B: Shared + Drop> {
-    linked: Arc<Linked, Global>,
-    store: State,
-    stack: CallStack,
-    host: LoopHost<B>,
+    pub(crate) linked: Arc<Linked, Global>,
+    pub(crate) store: State,
+    pub(crate) stack: CallStack,
+    pub(crate) host: LoopHost<B>,
     // Where a callback's ending is written. What stands there is no part of the loop.
-    place: Ended,
+    pub(crate) place: Ended,
     ghost stopped: { IfSome stack (λ sites. ∥ LoopStopsAt B.calls (setting_of host.setting) store sites ∥₁) } by { Prim.hlevel props },
 }
 
@@ -452,6 +453,24 @@ impl<B: Shared + Drop> LoopCore<B> {
             place: _,
         } = self;
         host.into_shared()
+    }
+
+    /// Its module, its instance's state, and its host, with which its callbacks run.
+    pub(crate) fn into_parts(self) -> (Arc<Linked, Global>, State, LoopHost<B>)
+        ensures keeps { KeepsLoop (arc_value result.0) self.setting self.loop.state self.loop.store }
+        ensures store { result.1 ≡ self.loop.store }
+        ensures setting { setting_of result.2.setting ≡ self.setting }
+        ensures state { result.2.state ≡ self.loop.state }
+        ensures shared { result.2.shared ≡ self.loop.shared }
+    {
+        let LoopCore {
+            linked,
+            store,
+            stack: _,
+            host,
+            place: _,
+        } = self;
+        (linked, store, host)
     }
 
     /// The order of the lowest request that is open and not handed out, which is then handed out. A failed loop has

@@ -1,0 +1,56 @@
+-- A callback in slices is over.
+use Rattle.std.proofs.Common.{◌≡◌, ℕ, List, Option, IfSome, refl, sym, ap, subst}
+use Rattle.syntax.specs.Loaded.{Loaded}
+use Rattle.syntax.specs.declared.types.Value.{Value}
+use Rattle.instance.specs.Store.{Store}
+use Rattle.instance.specs.Stops.{Halt}
+use Rattle.instance.specs.Storing.{IsStoreOf}
+use Rattle.imports.specs.Linking.{IsLinked}
+use Rattle.events.specs.Bare.{whole, whole_ending}
+use Rattle.events.specs.declared.did.StepDid.TheVariants.{Ran}
+use Rattle.events.specs.declared.ended.BareEnding.{BareEnding}
+use Rattle.events.specs.declared.ended.Ended.{Ended}
+use Rattle.events.specs.declared.ended.Ending.{Ending}
+use Rattle.events.specs.declared.phase.EntryKind.{EntryKind}
+use Rattle.reduction.specs.Leading.{Leads, calling, scene}
+use Rattle.phases.specs.Calls.{Calls}
+use Rattle.phases.specs.Guests.{GuestCall}
+use Rattle.phases.specs.Inner.Keeping.{KeepsLoop}
+use Rattle.phases.specs.Inner.Setting.{setting_of}
+use Rattle.phases.specs.State.{Setting, State, Loop}
+use Rattle.phases.specs.Step.{RunsFrom, begun, finished}
+use Rattle.phases.specs.Stopping.{LoopStopsAt}
+use Rattle.phases.specs.Underway.{Host, moves}
+use Rattle.phases.proofs.LoopsKeep.{same_setting, runs_from, kept_after}
+use Rattle.phases.proofs.StopsOfCallbacks.{stops_at}
+
+-- an ending without results, with its fuel
+pub whole_is : (bare : BareEnding) (ended : Ended) → whole_ending bare ≡ ended.ending → whole (record { ending = bare; used = ended.used }) ≡ ended
+whole_is bare ended e = ap (λ (x : Ending). record { ending = x; used = ended.used }) e
+
+module _ {S : Type 0} (calls : Calls S) (loaded : Loaded) (g : Setting) (mid : Loop S) (function : ℕ) (args : List Value) (reply : Option (List ℕ))
+    (keeps : KeepsLoop loaded g mid.state mid.store) (before after : Host calls) (made : setting_of before.setting ≡ g)
+    (begins : ◌≡◌ {A = State × S} (before.state, before.shared) (begun mid.state reply, mid.shared)) (store : Store) (ended : Ended) (stop : Option Halt)
+    (leads : Leads (moves calls) (calling loaded.contents function args g.fuel g.depth) (scene mid.store before) ended stop (scene store after)) where
+  abbrev set : Host calls → Setting
+  set h = setting_of h.setting
+
+  abbrev stands : Host calls → State × S
+  stands h = (h.state, h.shared)
+
+  pub over_setting : setting_of after.setting ≡ g
+  over_setting = same_setting calls set stands loaded loaded refl g mid keeps before after made reply begins store function args ended stop leads
+
+  pub over_stops : IfSome stop (λ sites. ∥ LoopStopsAt calls (setting_of after.setting) store sites ∥₁)
+  over_stops = stops_at calls set stands loaded g keeps.same before after made mid.store store function args ended stop leads
+
+  module _ (last : State) (e : last ≡ finished after.state ended) where
+    pub over_keeps : IsLinked loaded.contents → IsStoreOf loaded.contents store → KeepsLoop loaded (setting_of after.setting) last store
+    over_keeps linked fits =
+        subst (λ (x : Setting). KeepsLoop loaded x last store) (sym over_setting)
+        (kept_after calls set stands loaded loaded refl g mid keeps before after made reply begins store function args ended stop leads linked fits last e)
+
+    pub over_runs : (kind : EntryKind) (number : ℕ)
+        → (calls_made : List GuestCall) × RunsFrom calls g mid kind number function args reply (Ran kind number ended) calls_made
+        (record { state = last; store = store; shared = after.shared })
+    over_runs kind number = runs_from calls set stands loaded loaded refl g mid keeps before after made reply begins store function args ended stop leads kind number last e

@@ -1,0 +1,162 @@
+-- What an entry of a list comes to before its callback runs.
+use Rattle.std.proofs.Common.{◌≡◌, ℕ, true, false, MatchBool, MatchOption, List, [], ◌∷◌, Option, Some, None, codes, refl, sym, subst}
+use Rattle.syntax.specs.declared.types.Value.TheVariants.{I32}
+use Rattle.handles.specs.declared.handle.Kind.{Kind}
+use Rattle.handles.specs.declared.handle.Kind.TheVariants as handle_kind
+use Rattle.handles.specs.Table.{after_again}
+use Rattle.imports.specs.Linking.{ExportsFunction}
+use Rattle.events.specs.declared.did.StepDid.{StepDid}
+use Rattle.events.specs.declared.did.StepDid.TheVariants as step
+use Rattle.events.specs.declared.phase.EntryKind.{EntryKind}
+use Rattle.events.specs.declared.phase.EntryKind.TheVariants as kind
+use Rattle.phases.specs.declared.callback.Prepared.{Prepared}
+use Rattle.phases.specs.declared.callback.Prepared.TheVariants.{Did}
+use Rattle.phases.specs.declared.did.BareDid.TheVariants.{Skipped}
+use Rattle.phases.specs.declared.entry.Entry.TheVariants as entry
+use Rattle.phases.specs.Calls.{Calls}
+use Rattle.phases.specs.Guests.{GuestCall}
+use Rattle.phases.specs.Host.{with_roster, with_requests}
+use Rattle.phases.specs.Inner.Preparing.{Prepares}
+use Rattle.phases.specs.PhaseList.{is_active_handle}
+use Rattle.phases.specs.Requests.{Completion, request_of, without_request, completion_of}
+use Rattle.phases.specs.Roster.{Roster, async_handle, with_handles, without_handle}
+use Rattle.phases.specs.State.{Setting, State, Loop}
+use Rattle.phases.specs.Step.{RunsFrom, CallsHandle, Skips, TakesFirst, AfterWork, EntryStep, handle_function, in_state, is_as_listed, sharing}
+use Rattle.phases.proofs.LoopsKeep.{called, told_of, active_step, none_taken, some_taken}
+use Rattle.phases.proofs.Prepared.{unread, prepares, prepares_did, when, unless}
+
+module _ {S : Type 0} (calls : Calls S) (g : Setting) (old : Loop S) where
+  abbrev Of : StepDid → List GuestCall → Loop S → Loop S → EntryKind → (number function : ℕ) → Type 0
+  Of did made new mid k number function = RunsFrom calls g mid k number function (I32 number ∷ []) None did made new
+
+  -- the callback of a handle, from a loop of which this is the state
+  handle_runs : (r : Roster) (k : EntryKind) (handle f : ℕ) (mid : Loop S) (u : State) → handle_function r handle ≡ Some f → u ≡ mid.state
+      → (did : StepDid) (made : List GuestCall) (new : Loop S) → Of did made new (in_state mid u) k handle f → CallsHandle calls g mid r k handle did made new
+  handle_runs r k handle f mid u is e did made new run =
+      called (handle_function r handle) f (λ n. Of did made new mid k handle n) is
+      (subst (λ (v : State). Of did made new (in_state mid v) k handle f) e run)
+
+  pub start_step : (f : ℕ) (p : Prepared) → g.loaded.contents.start ≡ Some f → p ≡ unread kind.Start 0 f [] → Prepares calls g (EntryStep calls g old entry.Start) p old
+  start_step f p is e =
+      prepares kind.Start 0 f [] p e calls g (EntryStep calls g old entry.Start) old
+      (λ did made new run. called g.loaded.contents.start f (λ n. RunsFrom calls g old kind.Start 0 n [] None did made new) is run)
+
+  pub main_step : (f : ℕ) (p : Prepared) → ExportsFunction g.loaded.contents (codes "uv_main") f → p ≡ unread kind.Main 0 f []
+      → Prepares calls g (EntryStep calls g old entry.Main) p old
+  main_step f p exported e = prepares kind.Main 0 f [] p e calls g (EntryStep calls g old entry.Main) old (λ did made new run. (f, exported, run))
+
+  module _ (handle start : ℕ) where
+    abbrev fired : State
+    fired = with_roster old.state (with_handles old.state.roster (after_again old.state.roster.handles handle old.state.now))
+
+    pub timer_step : (f : ℕ) (p : Prepared) (u : State) → is_as_listed handle_kind.Timer old.state.roster handle start ≡ true
+        → handle_function old.state.roster handle ≡ Some f → u ≡ fired → p ≡ unread kind.Timer handle f (I32 handle ∷ [])
+        → Prepares calls g (EntryStep calls g old (entry.Timer handle start)) p (in_state old u)
+    timer_step f p u listed is e ep =
+        prepares kind.Timer handle f (I32 handle ∷ []) p ep calls g (EntryStep calls g old (entry.Timer handle start)) (in_state old u)
+        (λ did made new run. when (is_as_listed handle_kind.Timer old.state.roster handle start)
+        (CallsHandle calls g (in_state old fired) old.state.roster kind.Timer handle did made new) (Skips calls g old kind.Timer handle did made new) listed
+        (handle_runs old.state.roster kind.Timer handle f (in_state old fired) u is e did made new run))
+
+    pub timer_skipped : (p : Prepared) (u : State) → is_as_listed handle_kind.Timer old.state.roster handle start ≡ false → u ≡ old.state
+        → p ≡ Did (Skipped kind.Timer handle) → Prepares calls g (EntryStep calls g old (entry.Timer handle start)) p (in_state old u)
+    timer_skipped p u listed e ep =
+        subst (λ (v : State). Prepares calls g (EntryStep calls g old (entry.Timer handle start)) p (in_state old v)) (sym e)
+        (prepares_did (Skipped kind.Timer handle) p ep calls g (EntryStep calls g old (entry.Timer handle start)) old
+        (unless (is_as_listed handle_kind.Timer old.state.roster handle start)
+        (CallsHandle calls g (in_state old fired) old.state.roster kind.Timer handle (step.Skipped kind.Timer handle) [] old)
+        (Skips calls g old kind.Timer handle (step.Skipped kind.Timer handle) [] old) listed (refl, refl, refl)))
+
+    module _ (listed : Kind) (k : EntryKind) where
+      abbrev pub listed_entry : StepDid → List GuestCall → Loop S → Type 0
+      listed_entry did made new =
+          MatchBool (is_as_listed listed old.state.roster handle start) (CallsHandle calls g old old.state.roster k handle did made new) (Skips calls g old k handle did made new)
+
+      pub listed_step : (f : ℕ) (p : Prepared) → is_as_listed listed old.state.roster handle start ≡ true → handle_function old.state.roster handle ≡ Some f
+          → p ≡ unread k handle f (I32 handle ∷ []) → Prepares calls g listed_entry p old
+      listed_step f p on is ep =
+          prepares k handle f (I32 handle ∷ []) p ep calls g listed_entry old
+          (λ did made new run. when (is_as_listed listed old.state.roster handle start) (CallsHandle calls g old old.state.roster k handle did made new)
+          (Skips calls g old k handle did made new) on (handle_runs old.state.roster k handle f old old.state is refl did made new run))
+
+      pub listed_skipped : (p : Prepared) → is_as_listed listed old.state.roster handle start ≡ false → p ≡ Did (Skipped k handle) → Prepares calls g listed_entry p old
+      listed_skipped p off ep =
+          prepares_did (Skipped k handle) p ep calls g listed_entry old
+          (unless (is_as_listed listed old.state.roster handle start) (CallsHandle calls g old old.state.roster k handle (step.Skipped k handle) [] old)
+          (Skips calls g old k handle (step.Skipped k handle) [] old) off (refl, refl, refl))
+
+  pub close_step : (handle f : ℕ) (p : Prepared) (u : State) → handle_function old.state.roster handle ≡ Some f
+      → u ≡ with_roster old.state (without_handle old.state.roster handle) → p ≡ unread kind.Close handle f (I32 handle ∷ [])
+      → Prepares calls g (EntryStep calls g old (entry.Close handle)) p (in_state old u)
+  close_step handle f p u is e ep =
+      prepares kind.Close handle f (I32 handle ∷ []) p ep calls g (EntryStep calls g old (entry.Close handle)) (in_state old u)
+      (λ did made new run. handle_runs old.state.roster kind.Close handle f
+      (in_state old (with_roster old.state (without_handle old.state.roster handle))) u is e did made new run)
+
+  module _ (number : ℕ) where
+    abbrev removed : State
+    removed = with_requests old.state (without_request old.state.requests number)
+
+    pub after_step : (f : ℕ) (t : Completion) (u : State) → ExportsFunction g.loaded.contents (codes "uv_after_work") f
+        → MatchOption (request_of old.state.requests number) ⊥ (λ r. completion_of r.stage ≡ Some t) → u ≡ removed
+        → (did : StepDid) (made : List GuestCall) (new : Loop S)
+        → RunsFrom calls g (in_state old u) kind.After number f (I32 number ∷ I32 t.kind ∷ I32 t.code ∷ []) (Some t.bytes) did made new
+        → EntryStep calls g old (entry.After number) did made new
+    after_step f t u exported told e did made new run =
+        told_of (request_of old.state.requests number) t (λ x. AfterWork calls g old number x did made new) told (
+          f,
+          exported,
+          subst (λ (v : State).
+              RunsFrom calls g (in_state old v) kind.After number f (I32 number ∷ I32 t.kind ∷ I32 t.code ∷ []) (Some t.bytes) did made new) e run,
+        )
+
+  module _ (async_no handle : ℕ) (is : async_handle old.state.roster async_no ≡ Some handle) where
+    abbrev whole : StepDid → List GuestCall → Loop S → Type 0
+    whole = EntryStep calls g old (entry.Async async_no)
+
+    active : is_active_handle old.state.roster.handles (Some handle) ≡ true → (did : StepDid) (made : List GuestCall) (new : Loop S)
+        → TakesFirst calls g old async_no handle did made new → whole did made new
+    active on did made new taken =
+        active_step (async_handle old.state.roster async_no) handle (λ h. is_active_handle old.state.roster.handles (Some h))
+        (λ h. TakesFirst calls g old async_no h did made new) (λ h. Skips calls g old kind.Async h did made new) is on taken
+
+    pub async_step : (f count : ℕ) (shared : S) (p : Prepared) → is_active_handle old.state.roster.handles (Some handle) ≡ true
+        → handle_function old.state.roster handle ≡ Some f → calls.takes old.shared async_no count shared → (count ≡ 0 → ⊥)
+        → p ≡ unread kind.Async handle f (I32 handle ∷ []) → Prepares calls g whole p (sharing old shared)
+    async_step f count shared p on known takes more ep =
+        prepares kind.Async handle f (I32 handle ∷ []) p ep calls g whole (sharing old shared)
+        (λ did made new run. active on did made new (
+          count,
+          shared,
+          takes,
+          some_taken count (Skips calls g (sharing old shared) kind.Async handle did made new)
+              (CallsHandle calls g (sharing old shared) old.state.roster kind.Async handle did made new) more
+              (handle_runs old.state.roster kind.Async handle f (sharing old shared) old.state known refl did made new run),
+        ))
+
+    pub async_none : (count : ℕ) (shared : S) (p : Prepared) → is_active_handle old.state.roster.handles (Some handle) ≡ true
+        → calls.takes old.shared async_no count shared → count ≡ 0 → p ≡ Did (Skipped kind.Async handle) → Prepares calls g whole p (sharing old shared)
+    async_none count shared p on takes none ep =
+        prepares_did (Skipped kind.Async handle) p ep calls g whole (sharing old shared)
+        (active on (step.Skipped kind.Async handle) [] (sharing old shared) (
+          count,
+          shared,
+          takes,
+          none_taken count (Skips calls g (sharing old shared) kind.Async handle (step.Skipped kind.Async handle) [] (sharing old shared))
+              (CallsHandle calls g (sharing old shared) old.state.roster kind.Async handle (step.Skipped kind.Async handle) [] (sharing old shared)) none (refl, refl, refl),
+        ))
+
+    pub async_skipped : (p : Prepared) → is_active_handle old.state.roster.handles (async_handle old.state.roster async_no) ≡ false
+        → p ≡ Did (Skipped kind.Async handle) → Prepares calls g whole p old
+    async_skipped p off ep =
+        prepares_did (Skipped kind.Async handle) p ep calls g whole old (inactive (async_handle old.state.roster async_no) is off) where
+          inactive : (o : Option ℕ) → o ≡ Some handle → is_active_handle old.state.roster.handles o ≡ false
+              → MatchOption o ⊥ (λ h. MatchBool (is_active_handle old.state.roster.handles (Some h))
+              (TakesFirst calls g old async_no h (step.Skipped kind.Async handle) [] old)
+              (Skips calls g old kind.Async h (step.Skipped kind.Async handle) [] old))
+          inactive None e h = absurd (cc)
+          inactive (Some n) e h =
+              let same : n ≡ handle = cc in
+              unless (is_active_handle old.state.roster.handles (Some n)) (TakesFirst calls g old async_no n (step.Skipped kind.Async handle) [] old)
+              (Skips calls g old kind.Async n (step.Skipped kind.Async handle) [] old) h
+              (subst (λ (k : ℕ). Skips calls g old kind.Async k (step.Skipped kind.Async handle) [] old) (sym same) (refl, refl, refl))

@@ -1,0 +1,126 @@
+use Rattle.std.proofs.Common.{◌≡◌, ◌≤◌, length, refl, sym, ap, ◌∙◌, subst}
+use Rattle.std.specs.Arc.{arc_value}
+use Rattle.limits.specs.declared.TheConstants.{MAX_DEPTH}
+use Rattle.std.specs.Option.{option_map}
+use Rattle.syntax.specs.Loaded.{Loaded}
+use Rattle.instance.specs.Store.{Store}
+use Rattle.instance.specs.Storing.{IsStoreOf}
+use Rattle.imports.specs.Linking.{IsLinked}
+use Rattle.reduction.specs.Hosting.{Names}
+use Rattle.reduction.specs.Invoking.{TakesArguments, HasNoResults}
+use Rattle.order.specs.ImportTypes.{import_types}
+use Rattle.phases.specs.Inner.Setting.{setting_of}
+use Rattle.phases.specs.Inner.Underway.{LoopMachineFits}
+use Rattle.phases.specs.declared.machine.LoopMachine.{LoopMachine}
+use Rattle.phases.specs.Step.{begun}
+use Rattle.phases.specs.State.{Setting, State}
+use Rattle.phases.specs.Underway.{Host}
+use Rattle.phases.proofs.LoopsKeep.{still_upto}
+use Rattle.phases.proofs.StepsInSlices.{begins_callback, is_defined}
+use Rattle.phases.proofs.loop_core.LoopCore.call_back.Goals as goal
+
+pub invariant_of-host : goal.invariant_of-host
+invariant_of-host g c = record {
+  opened = still_upto g.B.Shared.calls c.into_parts-linked.result.2.shared _ _ c.begin_callback.ensures c.into_parts-linked.result.2.opened;
+}
+
+pub begin-paused-requires-clause-fits : goal.begin-paused-requires-clause-fits
+begin-paused-requires-clause-fits g c =
+    let keeps = c.into_parts-linked.ensures.keeps in
+    let linked = arc_value c.into_parts-linked.result.0 in
+    let loaded : c.valid.result.now ≡ linked = c.valid.ensures.same ∙ c.deref-2.ensures in
+    let set : setting_of c.into_parts-linked.result.2.setting ≡ c.args.self.setting = c.into_parts-linked.ensures.setting in
+    let names : Names linked.contents (import_types (setting_of c.into_parts-linked.result.2.setting).loaded.contents) =
+    subst (λ (l : Loaded). Names linked.contents (import_types l.contents)) (keeps.same ∙ ap (λ (x : Setting). x.loaded) (sym set))
+    (subst (λ (l : Loaded). Names l.contents (import_types l.contents)) c.deref.ensures c.imports_are_named.ensures) in
+    subst (λ (l : Loaded). LoopMachineFits l c.of-machine.result) (sym loaded)
+    (subst (λ (m : LoopMachine _ _). LoopMachineFits linked m) (sym c.of-machine.ensures) (record {
+      agree = rw (← keeps.same) at c.requires.agree;
+      room = c.requires.room;
+      names = names;
+    }))
+
+pub begin-paused-requires-clause-store : goal.begin-paused-requires-clause-store
+begin-paused-requires-clause-store g c =
+    let keeps = c.into_parts-linked.ensures.keeps in
+    let linked = arc_value c.into_parts-linked.result.0 in
+    let loaded : c.valid.result.now ≡ linked = c.valid.ensures.same ∙ c.deref-2.ensures in
+    let stored = ap (λ (m : LoopMachine _ _). m.store) c.of-machine.ensures ∙ c.into_parts-linked.ensures.store in
+    subst (λ (l : Loaded). IsStoreOf l.contents c.of-machine.result.store) (sym (loaded ∙ keeps.same))
+    (subst (λ (s : Store). IsStoreOf c.args.self.setting.loaded.contents s) (sym stored) keeps.store)
+
+pub begin-paused-requires-clause-typed : goal.begin-paused-requires-clause-typed
+begin-paused-requires-clause-typed g c =
+    let keeps = c.into_parts-linked.ensures.keeps in
+    let loaded = c.valid.ensures.same ∙ c.deref-2.ensures ∙ keeps.same in
+    rw c.as_slice.ensures (subst (λ (l : Loaded). TakesArguments l.contents c.args.callback.function c.args.callback.args) (sym loaded) c.requires.fits.takes)
+
+pub begin-paused-requires-clause-defined : goal.begin-paused-requires-clause-defined
+begin-paused-requires-clause-defined g c =
+    let keeps = c.into_parts-linked.ensures.keeps in
+    let loaded = c.valid.ensures.same ∙ c.deref-2.ensures ∙ keeps.same in
+    let linked = subst (λ (l : Loaded). IsLinked l.contents) (c.deref-2.ensures ∙ keeps.same) c.valid.ensures.linked in
+    subst (λ (l : Loaded). length l.contents.imports ≤ c.args.callback.function) (sym loaded)
+    (is_defined c.args.self.setting.loaded linked c.args.callback.function c.args.callback.args c.requires.fits.takes c.requires.fits.bare)
+
+pub begin-paused-requires-clause-deep : goal.begin-paused-requires-clause-deep
+begin-paused-requires-clause-deep g c =
+    let keeps = c.into_parts-linked.ensures.keeps in
+    let set = ap (λ (m : LoopMachine _ _). setting_of m.host.setting) c.of-machine.ensures ∙ c.into_parts-linked.ensures.setting in
+    subst (λ (x : Setting). (1 ≤ x.depth) × (x.depth ≤ MAX_DEPTH)) (sym set) keeps.depth
+
+pub invariant_of-result : goal.invariant_of-result
+invariant_of-result g c =
+    let keeps = c.into_parts-linked.ensures.keeps in
+    let linked = arc_value c.into_parts-linked.result.0 in
+    let loaded : c.valid.result.now ≡ linked = c.valid.ensures.same ∙ c.deref-2.ensures in
+    let callback = c.args.callback in
+    let reply = option_map (λ v. v.items) callback.reply in
+    let mid = c.args.self.loop in
+    let m = c.begin-paused.new.self in
+    let set = ap (λ (h : Host g.B.Shared.calls). setting_of h.setting) c.begin-paused.ensures.host ∙ ap (λ (m : LoopMachine _ _). setting_of m.host.setting) c.of-machine.ensures ∙ c.into_parts-linked.ensures.setting in
+    let stored = c.begin-paused.ensures.store ∙ ap (λ (m : LoopMachine _ _). m.store) c.of-machine.ensures ∙ c.into_parts-linked.ensures.store in
+    let state : m.host.state ≡ begun mid.state reply =
+    ap (λ (h : Host g.B.Shared.calls). h.state) c.begin-paused.ensures.host ∙ ap (λ (m : LoopMachine _ _). m.host.state) c.of-machine.ensures ∙ c.begin_callback.ensures
+    ∙ ap (λ (s : State). begun s reply) c.into_parts-linked.ensures.state in
+    let shared : m.host.shared ≡ mid.shared =
+    ap (λ (h : Host g.B.Shared.calls). h.shared) c.begin-paused.ensures.host ∙ ap (λ (m : LoopMachine _ _). m.host.shared) c.of-machine.ensures ∙ c.into_parts-linked.ensures.shared in
+    record {
+      fits = subst (λ (l : Loaded). LoopMachineFits l m) loaded c.begin-paused.ensures.fits;
+      g = c.args.self.setting;
+      mid = mid;
+      args = callback.args;
+      reply = reply;
+      callback = begins_callback g.B.Shared.calls linked c.args.self.setting mid keeps m.host m.store set stored c.valid.result.now loaded callback.kind callback.number
+          (arc_value m.tables) callback.args reply c.begin-paused.result m.slots m.frames.items (λ i. (state i, shared i)) c.begin-paused.ensures.depth
+          (rw (← c.as_slice.ensures) c.begin-paused.ensures.paused);
+      bare = subst (λ (l : Loaded). HasNoResults l.contents c.begin-paused.result.function) (sym keeps.same) (rw c.begin-paused.ensures.function c.requires.fits.bare);
+    }
+
+pub returns-clause-come : goal.returns-clause-come
+returns-clause-come g c a same leads =
+    let keeps = c.into_parts-linked.ensures.keeps in
+    let linked = arc_value c.into_parts-linked.result.0 in
+    let loaded : c.valid.result.now ≡ linked = c.valid.ensures.same ∙ c.deref-2.ensures in
+    let callback = c.args.callback in
+    let reply = option_map (λ v. v.items) callback.reply in
+    let mid = c.args.self.loop in
+    let m = c.begin-paused.new.self in
+    let set = ap (λ (h : Host g.B.Shared.calls). setting_of h.setting) c.begin-paused.ensures.host ∙ ap (λ (m : LoopMachine _ _). setting_of m.host.setting) c.of-machine.ensures ∙ c.into_parts-linked.ensures.setting ∙ sym same in
+    let stored = c.begin-paused.ensures.store ∙ ap (λ (m : LoopMachine _ _). m.store) c.of-machine.ensures ∙ c.into_parts-linked.ensures.store in
+    let state : m.host.state ≡ begun mid.state reply =
+    ap (λ (h : Host g.B.Shared.calls). h.state) c.begin-paused.ensures.host ∙ ap (λ (m : LoopMachine _ _). m.host.state) c.of-machine.ensures ∙ c.begin_callback.ensures
+    ∙ ap (λ (s : State). begun s reply) c.into_parts-linked.ensures.state in
+    let shared : m.host.shared ≡ mid.shared =
+    ap (λ (h : Host g.B.Shared.calls). h.shared) c.begin-paused.ensures.host ∙ ap (λ (m : LoopMachine _ _). m.host.shared) c.of-machine.ensures ∙ c.into_parts-linked.ensures.shared in
+    record {
+      mid = mid;
+      args = callback.args;
+      reply = reply;
+      host = m.host;
+      stands = refl;
+      callback = begins_callback g.B.Shared.calls linked a.setting mid (rw same keeps) m.host m.store set stored c.valid.result.now loaded callback.kind callback.number
+          (arc_value m.tables) callback.args reply c.begin-paused.result m.slots m.frames.items (λ i. (state i, shared i)) c.begin-paused.ensures.depth
+          (rw (← c.as_slice.ensures) c.begin-paused.ensures.paused);
+      leads = rw c.begin-paused.ensures.function leads;
+    }

@@ -1,0 +1,44 @@
+use Rattle.std.proofs.Common.{refl, sym, subst, [], ◌∷◌}
+use Rattle.std.specs.Arc.{arc_value}
+use Rattle.syntax.specs.declared.types.Value.TheVariants.{I32}
+use Rattle.events.specs.declared.phase.EntryKind.TheVariants.{Close}
+use Rattle.phases.specs.Host.{with_roster}
+use Rattle.phases.specs.Inner.Keeping.{KeepsLoop}
+use Rattle.phases.specs.Inner.Setting.{setting_of}
+use Rattle.phases.specs.Roster.{without_handle}
+use Rattle.phases.specs.State.{State, Loop}
+use Rattle.phases.proofs.EntriesPrepared.{close_step}
+use Rattle.phases.proofs.LoopsKeep.{still_upto, handle_takes, handle_bare, kept_with}
+use Rattle.phases.proofs.ListedStaysReady.{ready_without_handle}
+use Rattle.phases.proofs.Prepared.{fits}
+use Rattle.phases.proofs.loop_core.LoopCore.prepare_close.Goals as goal
+
+pub invariant_of-self-inside : goal.invariant_of-self-inside
+invariant_of-self-inside g c =
+    let upto = still_upto g.B.Shared.calls c.self.inside.host.shared _ _ c.finish_closing-function.ensures.removed c.self.inside.host.opened in
+    ((upto, tt), (c.self.inside.stopped, tt))
+
+pub invariant_of-self : goal.invariant_of-self
+invariant_of-self g c =
+    let l = arc_value c.self.inside.linked in
+    let set = setting_of c.self.inside.host.setting in
+    let s = c.self.inside.host.state in
+    let closed : State = with_roster s (without_handle s.roster c.args.handle) in
+    let apart = rw (← c.self.view_is) at c.requires.apart in
+    subst (λ (u : State). KeepsLoop l set u c.self.inside.store) (sym c.finish_closing-function.ensures.removed)
+    (kept_with l set s closed c.self.inside.store c.self.invariant refl (ready_without_handle set.loaded.contents s c.args.handle c.self.invariant.ready apart) c.self.invariant.orders)
+
+pub returns-clause-step : goal.returns-clause-step
+returns-clause-step g c =
+    let set = setting_of c.self.inside.host.setting in
+    let old : Loop _ = record { state = c.self.inside.host.state; store = c.self.inside.store; shared = c.self.inside.host.shared } in
+    rw (← c.self.view_is) (close_step g.B.Shared.calls set old c.args.handle c.finish_closing-function.result c.of_handle.result c.finish_closing-function.new.self
+    c.finish_closing-function.ensures.function c.finish_closing-function.ensures.removed c.of_handle.ensures)
+
+pub returns-clause-fits : goal.returns-clause-fits
+returns-clause-fits g c =
+    let roster = c.self.inside.host.state.roster in
+    let f = c.finish_closing-function.result in
+    rw (← c.self.view_is) (fits Close c.args.handle f (I32 c.args.handle ∷ []) c.of_handle.result c.of_handle.ensures _
+    (handle_takes _ f c.args.handle roster c.args.handle c.self.invariant.callbacks c.finish_closing-function.ensures.function)
+    (handle_bare _ f c.args.handle roster c.args.handle c.self.invariant.callbacks c.finish_closing-function.ensures.function))

@@ -1,0 +1,47 @@
+use Rattle.std.proofs.Common.{sym, subst}
+use Rattle.std.specs.Arc.{arc_value}
+use Rattle.handles.specs.Table.{after_again}
+use Rattle.phases.specs.Host.{with_roster}
+use Rattle.phases.specs.Inner.Keeping.{KeepsLoop}
+use Rattle.phases.specs.Inner.Setting.{setting_of}
+use Rattle.phases.specs.Requests.{Requests}
+use Rattle.phases.specs.Roster.{with_handles}
+use Rattle.phases.specs.State.{State, Loop}
+use Rattle.phases.specs.View.{AreOpenedUpTo}
+use Rattle.events.specs.declared.phase.EntryKind.TheVariants.{Timer}
+use Rattle.std.proofs.Common.{[], ◌∷◌}
+use Rattle.syntax.specs.declared.types.Value.TheVariants.{I32}
+use Rattle.phases.proofs.EntriesPrepared.{timer_step}
+use Rattle.phases.proofs.ListedStaysReady.{grows_again}
+use Rattle.phases.proofs.LoopsKeep.{handle_takes, handle_bare, kept_on}
+use Rattle.phases.proofs.Prepared.{fits}
+use Rattle.phases.proofs.loop_core.LoopCore.prepare_timer.Goals as goal
+
+pub invariant_of-self-inside : goal.invariant_of-self-inside
+invariant_of-self-inside g c =
+    let calls = g.B.Shared.calls in
+    let upto = subst (λ (rs : Requests). AreOpenedUpTo rs.last (calls.view c.self.inside.host.shared)) (sym c.fire.ensures.requests) c.self.inside.host.opened in
+    ((upto, tt), (c.self.inside.stopped, tt))
+
+pub invariant_of-self : goal.invariant_of-self
+invariant_of-self g c =
+    let l = arc_value c.self.inside.linked in
+    let set = setting_of c.self.inside.host.setting in
+    let s = c.self.inside.host.state in
+    let fired : State = with_roster s (with_handles s.roster (after_again s.roster.handles c.args.handle s.now)) in
+    subst (λ (u : State). KeepsLoop l set u c.self.inside.store) (sym c.in-Some.ensures.fired)
+    (kept_on l set s fired c.self.inside.store c.self.invariant (grows_again s c.args.handle s.now) c.self.invariant.orders)
+
+pub returns-in-Some-clause-step : goal.returns-in-Some-clause-step
+returns-in-Some-clause-step g c =
+    let set = setting_of c.self.inside.host.setting in
+    let old : Loop _ = record { state = c.self.inside.host.state; store = c.self.inside.store; shared = c.self.inside.host.shared } in
+    rw (← c.self.view_is) (timer_step g.B.Shared.calls set old c.args.handle c.args.start c.in-Some.function c.of_handle.result c.fire.new.self
+    c.in-Some.ensures.some.0 c.in-Some.ensures.some.1 c.in-Some.ensures.fired c.of_handle.ensures)
+
+pub returns-in-Some-clause-fits : goal.returns-in-Some-clause-fits
+returns-in-Some-clause-fits g c =
+    let roster = c.self.inside.host.state.roster in
+    rw (← c.self.view_is) (fits Timer c.args.handle c.in-Some.function (I32 c.args.handle ∷ []) c.of_handle.result c.of_handle.ensures _
+    (handle_takes _ c.in-Some.function c.args.handle roster c.args.handle c.self.invariant.callbacks c.in-Some.ensures.some.1)
+    (handle_bare _ c.in-Some.function c.args.handle roster c.args.handle c.self.invariant.callbacks c.in-Some.ensures.some.1))

@@ -13,6 +13,8 @@ pub enum Warning {
     Table(Call),
     /// It exports none of the functions that a loop or a job calls.
     Exports,
+    /// It has no function that a loop begins with.
+    Main,
     /// It queues work, and lacks these exports.
     Work(&'static str),
 }
@@ -39,10 +41,14 @@ fn callback_import(linked: &Linked) -> Option<Call> {
     None
 }
 
-/// Whether a loop calls nothing of the module.
+/// Whether a loop has nothing to begin with.
+fn is_without_main(linked: &Linked) -> bool {
+    linked.valid().contents().start.is_none() && linked.entry(EntryPoint::Main).is_none()
+}
+
+/// Whether loops and jobs call nothing of the module.
 fn is_idle(linked: &Linked) -> bool {
-    linked.valid().contents().start.is_none()
-        && linked.entry(EntryPoint::Main).is_none()
+    is_without_main(linked)
         && linked.entry(EntryPoint::Work).is_none()
         && linked.entry(EntryPoint::AfterWork).is_none()
 }
@@ -97,9 +103,18 @@ fn of_work(linked: &Linked) -> Option<Warning> {
     }
 }
 
+fn of_main(linked: &Linked) -> Option<Warning> {
+    if is_without_main(linked) {
+        Some(Warning::Main)
+    } else {
+        None
+    }
+}
+
 /// What a module lacks that is to run on a loop.
 fn loop_warnings(linked: &Linked) -> [Option<Warning>; KINDS] {
-    [of_table(linked), of_exports(linked), of_work(linked)]
+    let begins = of_exports(linked).or(of_main(linked));
+    [of_table(linked), begins, of_work(linked)]
 }
 
 /// What an accepted module lacks to run on a loop. A plug-in need not run on one.
@@ -124,6 +139,9 @@ impl fmt::Display for Warning {
             }
             Warning::Exports => f.write_str(
                 "the module exports none of uv_main, uv_work and uv_after_work, so loops and jobs have nothing to run; export one as examples/uv.h does, or call other exports with `wasmloop invoke`",
+            ),
+            Warning::Main => f.write_str(
+                "the module has no start function and exports no uv_main, so its loops run nothing; export uv_main, or run its uv_work with `wasmloop work`",
             ),
             Warning::Work(lacks) => write!(
                 f,

@@ -19,8 +19,9 @@ enum { BUFFER = 8192, LINE = 128, PATH = 4096, MIB = 1 << 20 };
 typedef struct record {
     uint64_t left;          /* the bytes until its limit */
     size_t length;          /* of what is in the buffer */
+    uint64_t ran;           /* callbacks that ended in a turn that is to be written */
     uint32_t number, steps; /* of the loop, as the host numbers it; steps in a row that are to be written */
-    bool full, failed;
+    bool full, failed, paused; /* paused: a turn has begun the callback that is paused */
     char path[PATH], buffer[BUFFER];
 } record;
 

@@ -21,7 +21,9 @@ REAL(share, const handle *, handle *);
 REAL(loop, const handle *, const wasmloop_limits *, handle *);
 REAL(drop, handle *);
 REAL(step, handle *, wasmloop_did *);
+REAL(step_for, handle *, uint64_t, uint32_t *, wasmloop_did *);
 REAL(turn, handle *, uint32_t, wasmloop_turned *);
+REAL(turn_for, handle *, uint32_t, uint64_t, uint32_t *, wasmloop_turned *);
 REAL(clock, handle *, uint64_t, uint64_t *);
 REAL(async_send, handle *, uint32_t);
 REAL(cancel, handle *, uint32_t, int32_t *);
@@ -159,22 +161,77 @@ int __wrap_wasmloop_drop(handle *it)
     return __real_wasmloop_drop(it);
 }
 
+static void note_failure(record *r, const wasmloop_did *did)
+{
+    if (did->what == WASMLOOP_FAILED || (did->what == WASMLOOP_RAN && did->ending)) failed(r);
+}
+
 int __wrap_wasmloop_step(handle *loop, wasmloop_did *did)
 {
     int status = __real_wasmloop_step(loop, did);
     record *r = status == WASMLOOP_OK ? of(loop) : NULL;
     if (!r) return status;
     r->steps++;
-    if (did->what == WASMLOOP_FAILED || (did->what == WASMLOOP_RAN && did->ending)) failed(r);
+    note_failure(r, did);
     return status;
+}
+
+/* A line of a turn, which ends at the latest with this callback, counted from the first since the last line. */
+static void note_turn(record *r, uint64_t most, const wasmloop_did *did)
+{
+    note(r, "[\"turn\"", most);
+    r->paused = false;
+    r->ran = 0;
+    note_failure(r, did);
 }
 
 int __wrap_wasmloop_turn(handle *loop, uint32_t most, wasmloop_turned *told)
 {
     int status = __real_wasmloop_turn(loop, most, told);
     record *r = status == WASMLOOP_OK ? of(loop) : NULL;
-    note(r, "[\"turn\"", most);
-    if (r && (told->did.what == WASMLOOP_FAILED || (told->did.what == WASMLOOP_RAN && told->did.ending))) failed(r);
+    if (r) note_turn(r, most, &told->did);
+    return status;
+}
+
+/* A step that a turn has begun ends in a line of that turn. */
+int __wrap_wasmloop_step_for(handle *loop, uint64_t units, uint32_t *over, wasmloop_did *did)
+{
+    int status = __real_wasmloop_step_for(loop, units, over, did);
+    record *r = status == WASMLOOP_OK && *over ? of(loop) : NULL;
+    if (!r) return status;
+    if (r->paused) {
+        note_turn(r, r->ran + 1, did);
+        return status;
+    }
+    r->steps++;
+    note_failure(r, did);
+    return status;
+}
+
+/* A turn that is paused in a callback is written when it is over. One that is paused between two steps ends with a callback, or else because an
+   allocation failed, which no replay repeats. */
+static void note_pause(record *r, handle *loop, const wasmloop_did *did)
+{
+    wasmloop_standing standing;
+    r->paused = wasmloop_standing_of(loop, &standing) == WASMLOOP_KIND;
+    if (r->paused) return;
+    if (did->what == WASMLOOP_RAN) note_turn(r, r->ran, did);
+    else if (begin(r, "[\"memory\"]\n", 0)) r->ran = 0;
+}
+
+int __wrap_wasmloop_turn_for(handle *loop, uint32_t most, uint64_t units, uint32_t *over, wasmloop_turned *told)
+{
+    bool is_new = told && told->did.what == WASMLOOP_ENTERED && told->did.phase == WASMLOOP_TIMERS;
+    uint32_t before = told && !is_new ? told->callbacks : 0;
+    int status = __real_wasmloop_turn_for(loop, most, units, over, told);
+    record *r = status == WASMLOOP_OK ? of(loop) : NULL;
+    if (!r) return status;
+    if (*over) {
+        note_turn(r, r->ran + most, &told->did);
+        return status;
+    }
+    r->ran += told->callbacks - before;
+    note_pause(r, loop, &told->did);
     return status;
 }
 

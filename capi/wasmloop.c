@@ -10,7 +10,9 @@ uint32_t wasmloop_rt_load(const uint8_t *, size_t, wasmloop_handle *, wasmloop_f
 uint32_t wasmloop_rt_loop(wasmloop_handle *, const wasmloop_limits *, wasmloop_handle *);
 uint32_t wasmloop_rt_drop(wasmloop_handle *);
 uint32_t wasmloop_rt_step(wasmloop_handle *, wasmloop_did *);
+uint32_t wasmloop_rt_step_for(wasmloop_handle *, uint64_t, uint32_t *, wasmloop_did *);
 uint32_t wasmloop_rt_turn(wasmloop_handle *, uint32_t, wasmloop_turned *);
+uint32_t wasmloop_rt_turn_for(wasmloop_handle *, uint32_t, uint64_t, uint32_t *, wasmloop_turned *);
 uint32_t wasmloop_rt_emits(wasmloop_handle *, int64_t *, size_t, uint32_t *);
 uint32_t wasmloop_rt_clock(wasmloop_handle *, uint64_t, uint64_t *);
 uint32_t wasmloop_rt_hint(wasmloop_handle *, uint64_t *);
@@ -81,8 +83,16 @@ int wasmloop_step(wasmloop_handle *loop, wasmloop_did *did) {
     return loop && did ? (int)wasmloop_rt_step(loop, did) : WASMLOOP_NULL;
 }
 
+int wasmloop_step_for(wasmloop_handle *loop, uint64_t units, uint32_t *over, wasmloop_did *did) {
+    return loop && over && did ? (int)wasmloop_rt_step_for(loop, units, over, did) : WASMLOOP_NULL;
+}
+
 int wasmloop_turn(wasmloop_handle *loop, uint32_t most_callbacks, wasmloop_turned *told) {
     return loop && told ? (int)wasmloop_rt_turn(loop, most_callbacks, told) : WASMLOOP_NULL;
+}
+
+int wasmloop_turn_for(wasmloop_handle *loop, uint32_t most_callbacks, uint64_t units, uint32_t *over, wasmloop_turned *told) {
+    return loop && over && told ? (int)wasmloop_rt_turn_for(loop, most_callbacks, units, over, told) : WASMLOOP_NULL;
 }
 
 int wasmloop_emits(wasmloop_handle *loop, int64_t *into, size_t room, uint32_t *count) {

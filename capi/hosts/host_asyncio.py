@@ -9,23 +9,28 @@ import asyncio
 import sys
 import time
 
-from wasmloop import ENTERED, FAILED, FOREVER, OVER, RAN, TIMERS, Loop, Module
+from wasmloop import ENTERED, FOREVER, OVER, RAN, Loop, Module
 
 MOST = 100_000
+UNITS = 3_000                                           # of a slice: other tasks run between two of them
 
 
-def turn(loop, emits, most):
+async def turn(loop, emits, most):
     """Steps up to the next timers phase: how many callbacks ran, at most `most`, and how the loop ended, if it did."""
     ran = 0
     while ran < most:
-        did = loop.step()
+        turned = loop.turn_for(UNITS, most - ran)
+        ran = loop.turned.callbacks
+        await asyncio.sleep(0)
+        if not turned:
+            continue
+        did = turned.did
         if did.what == RAN:
-            ran += 1
             emits.extend(loop.emits())
-        if did.what in (OVER, FAILED) or did.ending:
-            return ran, "over" if did.what == OVER else "failed"
-        if did.what == ENTERED and did.phase == TIMERS:
+        if did.what == ENTERED:
             return ran, None
+        if did.what != RAN or did.ending:
+            return ran, "over" if did.what == OVER else "failed"
     return ran, "limit"
 
 
@@ -33,14 +38,14 @@ async def serve(loop, emits, jumps):
     began, jobs, seen = time.monotonic(), set(), 0
     while True:
         now = loop.clock(0 if jumps else int((time.monotonic() - began) * 1000))
-        ran, ending = turn(loop, emits, MOST - seen)
+        ran, ending = await turn(loop, emits, MOST - seen)
         seen += ran
         if ending:
             return ending
         while job := loop.next_job():
             if loop.start(job):
                 jobs.add(asyncio.create_task(asyncio.to_thread(job.run)))
-        wait = 0 if ran else loop.hint()
+        wait = loop.turned.wait
         if wait == FOREVER and not jobs:
             return "waiting"
         if jumps and not jobs:

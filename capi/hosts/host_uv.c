@@ -2,8 +2,10 @@
  *
  * usage: host_uv LOOPS [SENDS] < FILE
  *
- * hint goes to a uv_timer, jobs to uv_queue_work, and SENDS of another thread to each async 0, 10 ms apart, come by a uv_async. With
- * VIRTUAL in the environment the clock jumps to the next timer where nothing else is to come, as that of `serve` does. */
+ * The wait goes to a uv_timer, jobs to uv_queue_work, and SENDS of another thread to each async 0, 10 ms apart, come by a uv_async. A guest
+ * has SLICE units of fuel at a time, so that none of them holds the thread for long; what comes meanwhile waits until its iteration is over.
+ * With VIRTUAL in the environment the clock jumps to the next timer where nothing else is to come, as that of `serve` does; with TIMES, standard
+ * error says how long the longest slice took. */
 #include <stdatomic.h>
 #include <stdio.h>
 #include <stdlib.h>
@@ -11,15 +13,19 @@
 #include <uv.h>
 #include "wasmloop.h"
 
-enum { MAX_CALLBACKS = 100000, MAX_LOOPS = 8 };
+enum { MAX_CALLBACKS = 100000, MAX_LOOPS = 8, SLICE = 3000 };
 
 typedef struct guest {
     wasmloop_handle loop;
+    wasmloop_turned turned;
     uv_timer_t timer;
     uv_idle_t idle;
+    struct job *done; /* jobs that have run, the last one first */
     int64_t *emits;
     size_t count;
-    unsigned number, ran, jobs;
+    uint64_t now;
+    unsigned number, ran, jobs, sent; /* ran: callbacks before this iteration */
+    int inside;                       /* an iteration is under way */
     const char *ending;
 } guest;
 
@@ -27,10 +33,11 @@ typedef struct job {
     uv_work_t work;
     wasmloop_handle handle;
     guest *of;
+    struct job *next;
 } job;
 
 static uv_loop_t *uv;
-static uint64_t began;
+static uint64_t began, longest;
 static guest guests[MAX_LOOPS];
 static unsigned loops, sends, seen;
 static int status, jumps;
@@ -54,11 +61,23 @@ static void on_worked(uv_work_t *work, int cancelled) {
     job *j = work->data;
     guest *g = j->of;
     (void)cancelled;
-    int told = g->ending ? WASMLOOP_EMPTY : wasmloop_accept(&g->loop, &j->handle);
-    if (told != WASMLOOP_OK) wasmloop_drop(&j->handle);
+    j->next = g->done;
+    g->done = j;
+    turn(g);
+}
+
+/* Gives the loop the replies that have come, the first one first. */
+static void take_reply(guest *g, job *j) {
+    if (j->next) take_reply(g, j->next);
+    if (g->ending || wasmloop_accept(&g->loop, &j->handle) != WASMLOOP_OK) wasmloop_drop(&j->handle);
     free(j);
     g->jobs--;
-    if (!g->ending) turn(g);
+}
+
+static void take_replies(guest *g) {
+    job *j = g->done;
+    g->done = NULL;
+    if (j) take_reply(g, j);
 }
 
 /* at most 32 requests are outstanding, so it goes no deeper */
@@ -93,59 +112,67 @@ static void end(guest *g, const char *ending) {
     if (sends) uv_close((uv_handle_t *)&wake, NULL);
 }
 
-/* Steps up to the next timers phase, or to the loop's end, which it returns. */
-static const char *steps(guest *g) {
-    for (;;) {
-        wasmloop_did did;
-        must(wasmloop_step(&g->loop, &did), "step");
-        if (did.what == WASMLOOP_OVER) return "over";
-        if (did.what == WASMLOOP_FAILED) return "failed";
-        if (did.what == WASMLOOP_ENTERED && did.phase == WASMLOOP_TIMERS) return NULL;
-        if (did.what != WASMLOOP_RAN) continue;
-        g->ran++;
-        keep_emits(g, did.emits);
-        if (did.ending != WASMLOOP_RETURN) return "failed";
-        if (g->ran == MAX_CALLBACKS) return "limit";
+/* Begins an iteration, with what has come since the last one. */
+static void begin(guest *g) {
+    take_replies(g);
+    for (; g->sent < seen; g->sent++) must(wasmloop_async_send(&g->loop, 0), "async_send");
+    uv_update_time(uv);
+    must(wasmloop_clock(&g->loop, jumps ? 0 : uv_now(uv) - began, &g->now), "clock");
+    hand_out(g);
+    g->inside = 1;
+}
+
+/* How the loop ended, if it did. */
+static const char *ended(const guest *g, uint32_t over) {
+    const wasmloop_did *did = &g->turned.did;
+    if (over && did->what == WASMLOOP_OVER) return "over";
+    if (over && (did->what == WASMLOOP_FAILED || (did->what == WASMLOOP_RAN && did->ending != WASMLOOP_RETURN))) return "failed";
+    return g->ran + g->turned.callbacks == MAX_CALLBACKS ? "limit" : NULL;
+}
+
+/* An iteration is over: sleeps until the next one, or for ever. */
+static void rest(guest *g) {
+    uint64_t wait = g->turned.wait;
+    g->inside = 0;
+    g->ran += g->turned.callbacks;
+    hand_out(g);
+    if (wait == 0 || g->done || g->sent < seen) return;
+    uv_idle_stop(&g->idle);
+    if (wait == WASMLOOP_FOREVER) {
+        if (g->jobs == 0 && seen == sends) end(g, "waiting");
+    } else if (!jumps) {
+        /* the wait counts from the moment that is cached, the timer from now */
+        uv_timer_start(&g->timer, on_timer, wait, 0);
+    } else if (g->jobs == 0) {
+        must(wasmloop_clock(&g->loop, g->now + wait, &g->now), "clock");
+        uv_idle_start(&g->idle, on_idle);
     }
 }
 
-/* One turn of the loop, as the clock stands. */
+/* A slice of an iteration, the next one at the latest where the uv loop is idle. */
 static void turn(guest *g) {
-    unsigned before = g->ran;
-    uint64_t now, wait;
+    uint32_t over, before = g->inside ? g->turned.callbacks : 0;
+    uint64_t from = uv_hrtime();
     const char *ending;
-    if (g->ending) return;
-    uv_timer_stop(&g->timer);
-    uv_idle_stop(&g->idle);
-    uv_update_time(uv);
-    must(wasmloop_clock(&g->loop, jumps ? 0 : uv_now(uv) - began, &now), "clock");
-    hand_out(g);
-    if ((ending = steps(g))) return end(g, ending);
-    hand_out(g);
-    must(wasmloop_hint(&g->loop, &wait), "hint");
-    if (g->ran > before || wait == 0) {
-        uv_idle_start(&g->idle, on_idle);
-    } else if (wait != WASMLOOP_FOREVER && jumps) {
-        if (g->jobs) return;
-        must(wasmloop_clock(&g->loop, now + wait, &now), "clock");
-        uv_idle_start(&g->idle, on_idle);
-    } else if (wait != WASMLOOP_FOREVER) {
-        /* the hint counts from the moment that is cached, the timer from now */
-        uv_timer_start(&g->timer, on_timer, wait, 0);
-    } else if (g->jobs == 0 && seen == sends) {
-        end(g, "waiting");
+    if (g->ending) {
+        take_replies(g);
+        return;
     }
+    uv_timer_stop(&g->timer);
+    uv_idle_start(&g->idle, on_idle);
+    if (!g->inside) begin(g);
+    must(wasmloop_turn_for(&g->loop, MAX_CALLBACKS - g->ran - before, SLICE, &over, &g->turned), "turn_for");
+    if (uv_hrtime() - from > longest) longest = uv_hrtime() - from;
+    if (over && g->turned.did.what == WASMLOOP_RAN) keep_emits(g, g->turned.did.emits);
+    if ((ending = ended(g, over))) end(g, ending);
+    else if (over && g->turned.did.what == WASMLOOP_ENTERED) rest(g);
 }
 
 /* in the uv loop's thread: sends may have been joined, so they are counted */
 static void on_wake(uv_async_t *async) {
-    unsigned before = seen;
     (void)async;
     seen = sent_in;
-    for (unsigned i = 0; i < loops; i++) {
-        for (unsigned k = before; k < seen && !guests[i].ending; k++) must(wasmloop_async_send(&guests[i].loop, 0), "async_send");
-        turn(&guests[i]);
-    }
+    for (unsigned i = 0; i < loops; i++) turn(&guests[i]);
 }
 
 static void sender(void *unused) {
@@ -194,6 +221,7 @@ int main(int argc, char **argv) {
     uv_run(uv, UV_RUN_DEFAULT);
     if (sends) uv_thread_join(&thread);
     for (unsigned i = 0; i < loops; i++) print_guest(&guests[i]);
+    if (getenv("TIMES")) fprintf(stderr, "the longest slice: %.3f ms\n", (double)longest / 1e6);
     uv_loop_close(uv);
     return status;
 }

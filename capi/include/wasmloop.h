@@ -31,7 +31,8 @@
  * return WASMLOOP_OK: a job that runs out of memory is over with the outcome WASMLOOP_WORK_MEMORY, and wasmloop_request sets *answer to -12,
  * as queue_work does for the guest.
  *
- * Stack: each call uses at most 18 KiB, whatever the guest's depth and nesting; 16 KiB were measured.
+ * Stack: each call uses at most 18 KiB, whatever the guest's depth and nesting, and wasmloop_step_for and wasmloop_turn_for at most 40 KiB; 16 and
+ * 31 KiB were measured.
  *
  * Errors. If several errors apply, a call returns the first in this list:
  *
@@ -44,8 +45,8 @@
  *     KIND     a handle holds another kind of object, or is in the wrong state
  *     others   as documented for each call. MEMORY may come before each of them
  *
- * Which KIND it is: of a job, wasmloop_job_about says whether it has run, or is paused; an instance returns KIND while a call is in progress;
- * a handle to be filled is empty if it was initialised, or dropped since.
+ * Which KIND it is: of a job, wasmloop_job_about says whether it has run, or is paused; an instance returns KIND while a call is in progress, and
+ * a loop while a callback is paused; a handle to be filled is empty if it was initialised, or dropped since.
  *
  * A call that does not return WASMLOOP_OK has no effect and writes no output, except as documented for wasmloop_load and wasmloop_instance.
  */
@@ -241,7 +242,7 @@ int wasmloop_call_run_for(wasmloop_handle *instance, uint64_t units, uint32_t *o
 
 /* wasmloop_size, wasmloop_read and wasmloop_global inspect the instance of a handle: an instance as its last call left it, however that ended;
  * a loop's as its last callback left it, also the one that failed; or that of a call that is paused between two slices, as a call with just
- * the fuel that it has used would leave it. */
+ * the fuel that it has used would leave it. A loop whose callback is paused returns KIND. */
 
 /* Writes the size of the memory in bytes. A call may grow it. */
 int wasmloop_size(wasmloop_handle *handle, uint64_t *bytes);
@@ -303,9 +304,16 @@ typedef struct wasmloop_did {
 /* Takes one step: runs or skips a callback, enters a phase, or reports that the loop is over or has failed. Most hosts use wasmloop_turn. */
 int wasmloop_step(wasmloop_handle *loop, wasmloop_did *did);
 
+/* Takes a slice of a step: its callback uses at most `units` units of fuel, at least 1. Sets *over to 1 if the step is over: *did, the emitted
+ * values and the loop are those of wasmloop_step. Sets *over to 0 if its callback is paused: it has fuel left, and the next slice continues it,
+ * in this thread or another. A slice that pauses uses all its units, or fewer, at least one, once calls of "uv" have copied more than 64 bytes per
+ * unit in it. While a callback is paused you may drop the loop, or continue with wasmloop_step_for or wasmloop_turn_for; every other call on the
+ * loop returns KIND. Only the first slice of a step allocates. RANGE: `units` is 0. If *over is 0, *did is not written. */
+int wasmloop_step_for(wasmloop_handle *loop, uint64_t units, uint32_t *over, wasmloop_did *did);
+
 #define WASMLOOP_FOREVER UINT64_MAX
 
-/* The progress of a loop iteration. Zero it before the first call of wasmloop_turn, then let only wasmloop_turn write it. */
+/* The progress of a loop iteration. Zero it before the first call of wasmloop_turn, then let only wasmloop_turn and wasmloop_turn_for write it. */
 typedef struct wasmloop_turned {
     wasmloop_did did;   /* the last step taken */
     uint64_t wait;      /* for how many milliseconds the loop needs only replies and sends, or WASMLOOP_FOREVER: always if it has failed */
@@ -321,6 +329,14 @@ typedef struct wasmloop_turned {
  * Between two calls run jobs, accept replies, send to asyncs and set the clock. Sleep only if nothing was sent since the previous
  * iteration. RANGE: `most_callbacks` is 0. */
 int wasmloop_turn(wasmloop_handle *loop, uint32_t most_callbacks, wasmloop_turned *told);
+
+/* Takes steps as wasmloop_turn does, and pauses once the callbacks of this call have together used `units` units of fuel, at least 1: it bounds
+ * the time of the call. Sets *over to 1 if the turn is over, by one of wasmloop_turn's conditions, of which `most_callbacks` counts the callbacks
+ * that end in this call. Sets *over to 0 if it is not: call it again, without sleeping. Then a callback is paused, as in wasmloop_step_for; or
+ * none is, and each call on the loop works, if the last unit ended a callback or an allocation failed after the first step. told->did is the last
+ * step that is over, and told->callbacks counts those. The steps, from call to call, are those of wasmloop_step. A slice of a callback may use fewer
+ * units, as in wasmloop_step_for. RANGE: `most_callbacks` or `units` is 0. MEMORY: the first step could not begin. */
+int wasmloop_turn_for(wasmloop_handle *loop, uint32_t most_callbacks, uint64_t units, uint32_t *over, wasmloop_turned *told);
 
 /* Copies the values that the last callback emitted to `into`: at most `room` values. *count is how many there were. RANGE: `room` is above
  * PTRDIFF_MAX / 8. */
@@ -413,7 +429,7 @@ enum {
     WASMLOOP_OK = 0,       /* success */
     WASMLOOP_NONE = 1,     /* there is nothing to return: see the call */
     WASMLOOP_EMPTY = 2,    /* a handle is empty */
-    WASMLOOP_KIND = 3,     /* wrong kind of handle; a handle to be filled is not empty; or wrong state (run, not run, call in progress) */
+    WASMLOOP_KIND = 3,     /* wrong kind of handle; a handle to be filled is not empty; or wrong state (run, not run, call in progress, callback paused) */
     WASMLOOP_MEMORY = 4,   /* an allocation failed */
     WASMLOOP_REFUSED = 5,  /* the bytes are not a valid guest */
     WASMLOOP_RANGE = 6,    /* a number is out of range */

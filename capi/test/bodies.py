@@ -20,6 +20,7 @@ RUNS = [  # a test, how it is linked, and its words; the fastest ones first
     ("edges_test", [], [EXAMPLES]),
     ("calls_test", ["-lpthread"], [EXAMPLES]),
     ("slices_test", [], [EXAMPLES]),
+    ("steps_test", [], [EXAMPLES, "300"]),
     ("fuzz", WRAPPED, ["1", "300", *sorted(EXAMPLES.glob("*.wasm"))]),
 ]
 
@@ -40,6 +41,10 @@ BODIES = {
                                 "    if (length > PTRDIFF_MAX) return WASMLOOP_RANGE;\n    if (module == job) return WASMLOOP_KIND;"),
     "a_turn_without_told": ("return loop && told ? (int)wasmloop_rt_turn(loop,", "return loop ? (int)wasmloop_rt_turn(loop,"),
     "a_turn_of_one_callback": ("wasmloop_rt_turn(loop, most_callbacks, told)", "wasmloop_rt_turn(loop, most_callbacks ? 1 : 0, told)"),
+    "a_slice_of_a_step_without_over": ("return loop && over && did ? (int)wasmloop_rt_step_for(", "return loop && did ? (int)wasmloop_rt_step_for("),
+    "a_slice_of_a_turn_without_over": ("return loop && over && told ? (int)wasmloop_rt_turn_for(", "return loop && told ? (int)wasmloop_rt_turn_for("),
+    "a_slice_of_a_turn_of_one_unit_more": ("wasmloop_rt_turn_for(loop, most_callbacks, units, over, told)",
+                                           "wasmloop_rt_turn_for(loop, most_callbacks, units + 1, over, told)"),
     "emits_take_bytes_for_room": (f"if (room > PTRDIFF_MAX / sizeof *into) {RANGE}emits(", f"if (room > PTRDIFF_MAX) {RANGE}emits("),
     "a_stop_takes_bytes_for_room": (f"if (room > PTRDIFF_MAX / sizeof *into) {RANGE}stop(", f"if (room > PTRDIFF_MAX) {RANGE}stop("),
     "places_take_bytes_for_room": (f"if (room > PTRDIFF_MAX / sizeof *into) {RANGE}stop_places(", f"if (room > PTRDIFF_MAX) {RANGE}stop_places("),

@@ -588,6 +588,8 @@ static void orders(void) {
     wasmloop_call_limits no_calls = { 1, 0, 0 };
     wasmloop_task task = { 1, 0, 0 };
     wasmloop_ended ended;
+    wasmloop_did did;
+    wasmloop_turned turned;
     uint32_t count;
     wasmloop_handle copy = module;
     IS(wasmloop_loop(&module, NULL, &module), WASMLOOP_NULL);
@@ -606,6 +608,10 @@ static void orders(void) {
     IS(wasmloop_call_begin(&none, "uv_work", NULL, 0, &no_calls), WASMLOOP_RANGE);
     IS(wasmloop_call_run_for(&none, 0, &count, &ended), WASMLOOP_RANGE);
     IS(wasmloop_call_run_for(&none, 0, NULL, &ended), WASMLOOP_NULL);
+    IS(wasmloop_step_for(&none, 0, &count, &did), WASMLOOP_RANGE);
+    IS(wasmloop_step_for(&none, 0, NULL, &did), WASMLOOP_NULL);
+    IS(wasmloop_turn_for(&none, 1, 0, &count, &turned), WASMLOOP_RANGE);
+    IS(wasmloop_turn_for(&none, 0, 1, NULL, &turned), WASMLOOP_NULL);
     IS(wasmloop_accept(&module, &none), WASMLOOP_EMPTY);
     IS(wasmloop_accept(&none, &module), WASMLOOP_EMPTY);
     IS(wasmloop_job_start(&module, &none), WASMLOOP_EMPTY);

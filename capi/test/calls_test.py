@@ -123,6 +123,26 @@ def calls():
         same((loop.request(0, b"abc"), loop.request(0, bytes(65_537)), loop.stop_told(b"")), (5, -22, None))
         refused(lambda: loop.request(2**32), wasmloop.RANGE)
     refused(lambda: loop.request(0), wasmloop.EMPTY)
+    loops_in_slices((EXAMPLES / "digest.wasm").read_bytes())
+
+
+def loops_in_slices(data):
+    """Steps and turns in slices are those without."""
+    def fields(did):
+        return [getattr(did, name) for name, *_ in did._fields_]
+
+    with wasmloop.Module(data) as module, wasmloop.Loop(module) as whole, wasmloop.Loop(module) as cut:
+        slices = 0
+        for _ in range(8):
+            wanted = whole.step()
+            while not (did := cut.step_for(7)):
+                slices += 1
+            same((fields(did), cut.emits(), cut.memory[:]), (fields(wanted), whole.emits(), whole.memory[:]))
+        wanted = whole.turn()
+        while not (turned := cut.turn_for(7)):
+            same(cut.turned.wait, 0)
+        same((fields(turned.did), turned.wait, turned.callbacks), (fields(wanted.did), wanted.wait, wanted.callbacks))
+        same(slices > 2, True)
 
 
 def said(call):
@@ -140,6 +160,9 @@ def wrong_words():
     """Wrong types, numbers out of range and calls in the wrong state: one sentence each."""
     module = wasmloop.Module((EXAMPLES / "crc32.wasm").read_bytes())
     loop, job, plugin, busy = wasmloop.Loop(module), module.job(0, b"abc"), module.instance(), module.instance()
+    stepping = wasmloop.Loop(wasmloop.Module((EXAMPLES / "digest.wasm").read_bytes()))
+    says_paused = "Error: a callback is paused: continue it with step_for or turn_for"
+    same((stepping.turn_for(1), stepping.step_for(1)), (None, None))
     spent, paused = module.job(0, b"abc", fuel=3).run(), module.job(0, b"abc")
     same((paused.run_for(1), busy.begin("uv_work", 0).run_for(1)), (False, False))
     same((len(paused.stop()), len(busy.stop()), len(busy.stop_places()), len(busy.memory)), (1, 1, 1, len(plugin.memory)))
@@ -161,6 +184,14 @@ def wrong_words():
         (lambda: loop.accept(None), "TypeError: expected a Job, got NoneType"),
         (lambda: loop.send("1"), "TypeError: number: expected a whole number, got str"),
         (lambda: loop.turn(0), "OutOfRange: most 0 is out of range: expected 1 to 4294967295"),
+        (stepping.step, says_paused),
+        (stepping.turn, says_paused),
+        (stepping.standing, says_paused),
+        (lambda: stepping.memory[:], says_paused),
+        (lambda: stepping.accept(spent), says_paused),
+        (lambda: stepping.start(job), says_paused),
+        (lambda: stepping.step_for(0), f"OutOfRange: units 0 is out of range: expected 1 to {most}"),
+        (lambda: stepping.turn_for(1, 0), "OutOfRange: most 0 is out of range: expected 1 to 4294967295"),
         (lambda: job.run_for(0), f"OutOfRange: units 0 is out of range: expected 1 to {most}"),
         (job.reply, "Error: the job has not run yet"),
         (lambda: job.reply_into(bytearray(1)), "Error: the job has no reply: it has not run yet"),
@@ -186,6 +217,7 @@ def wrong_words():
         same(said(call), words)
     same(repr([module, loop, job, plugin]), "[<Module: uv_work, 3 imports, 2 pages>, <Loop: nothing to do, 0 requests outstanding>, "
          "<Job: op 0, not run>, <Instance: 131072 bytes of memory>]")
+    same(repr(stepping), "<Loop: a callback is paused: continue it with step_for or turn_for>")
     room, other = bytearray(6), module.share()
     same((job.run().reply_into(room), bytes(room)), (4, b"\x35\x24\x41\xc2\0\0"))
     module.close()

@@ -9,7 +9,8 @@
 #include "wasmloop.h"
 
 enum { SLOTS = 10, STEPS = 200, FILES = 64, GUARD = 0xa5, NAMES = 13 };
-enum { NOTHING, MODULE, LOOP, JOB, PAUSED, INSTANCE, CALLING }; /* PAUSED: a job between two slices; CALLING: an instance, between two of a call */
+/* PAUSED: a job between two slices; CALLING: an instance, between two of a call; STEPPING: a loop, between two of a callback */
+enum { NOTHING, MODULE, LOOP, JOB, PAUSED, INSTANCE, CALLING, STEPPING };
 
 typedef struct slot {
     wasmloop_handle handle;
@@ -17,7 +18,7 @@ typedef struct slot {
     unsigned long loop, id; /* a job's loop, by the slot's id, or 0 */
     uint32_t number;        /* the number of a loop, or of a job's loop */
     int file;               /* of which it was loaded, or -1 */
-    uint64_t used, fuel;    /* of a paused job or call, and of such a call */
+    uint64_t used, fuel;    /* of a paused job or call, or at most of a paused callback; and of such a call, or of a loop's callbacks */
 } slot;
 
 typedef struct file {
@@ -30,7 +31,7 @@ typedef struct file {
 static slot slots[SLOTS];
 static file files[FILES];
 static int file_count;
-static unsigned long ids, calls, pauses, paused_calls, given, answered[16], wrong;
+static unsigned long ids, calls, pauses, paused_calls, paused_steps, given, answered[16], wrong;
 static uint64_t state;
 static const char *const names[NAMES] = { "uv_work", "uv_main", "uv_after_work", "memory", "add", "put", "get", "divide", "spin", "deep", "grow", "count", "" };
 
@@ -185,7 +186,7 @@ static void make_loop(slot *from, slot *into) {
     wasmloop_limits limits = { below(100000), below(300000), below(3), depth() };
     int status = CALL(wasmloop_loop(&from->handle, &limits, &into->handle));
     if (!told("loop", status, in_empty(into, from, is_depth(limits.depth), MODULE))) return;
-    fill(into, LOOP), into->number = limits.number, into->file = from->file;
+    fill(into, LOOP), into->number = limits.number, into->file = from->file, into->fuel = limits.fuel;
 }
 
 static int is_between_slices(slot *it) { return it->kind == PAUSED || it->kind == CALLING; }
@@ -306,6 +307,58 @@ static void turn(slot *it) {
     if (standing.failed) is("a failed loop's wait", turned.wait == WASMLOOP_FOREVER, 1);
     else is("a turn's wait", turned.wait == 0 || !turned.callbacks, 1);
     did_right(it, &turned.did);
+}
+
+static uint64_t some_units(void) { return below(16) ? below(below(4) ? 12 : 4000) : UINT64_MAX; }
+static int kind_for_slices(const slot *it) { return it->kind == STEPPING ? WASMLOOP_OK : of_kind(it, LOOP); }
+
+/* What is so of a step that ended in a slice of so many units. */
+static void sliced_right(slot *it, const wasmloop_did *did, uint64_t units) {
+    is("a callback's fuel", did->used <= it->fuel, 1);
+    is("the units of its slices", did->used <= it->used || did->used - it->used <= units, 1);
+    it->used = 0;
+}
+
+static void step_for(slot *it) {
+    for (uint32_t more = below(6); more < 6; more++) {
+        uint64_t units = some_units();
+        uint32_t over = GUARD;
+        int wanted = kind_for_slices(it);
+        wasmloop_did did;
+        memset(&did, GUARD, sizeof did);
+        int status = CALL(wasmloop_step_for(&it->handle, units, &over, &did));
+        if (status == WASMLOOP_MEMORY && it->kind == STEPPING) fail("a later slice of a step takes no memory", status, WASMLOOP_OK);
+        if (!told("step_for", status, units ? wanted : WASMLOOP_RANGE)) is("over", over, GUARD);
+        if (status != WASMLOOP_OK || !over) untouched("did", &did, sizeof did);
+        if (status != WASMLOOP_OK) return;
+        is("over", over <= 1, 1);
+        it->kind = over ? LOOP : STEPPING;
+        if (!over) { paused_steps++, it->used += units; continue; }
+        sliced_right(it, &did, units);
+        did_right(it, &did);
+        if (did.what >= WASMLOOP_OVER) return;
+    }
+}
+
+static void turn_for(slot *it) {
+    wasmloop_turned turned = { 0 }, before = turned;
+    wasmloop_standing standing = { 0 };
+    uint32_t most = below(5), over = GUARD;
+    uint64_t units = some_units();
+    int was_stepping = it->kind == STEPPING, status = CALL(wasmloop_turn_for(&it->handle, most, units, &over, &turned)), was_refused = refused;
+    if (status == WASMLOOP_MEMORY && was_stepping) fail("a turn under way takes no memory at first", status, WASMLOOP_OK);
+    if (!told("turn_for", status, most && units ? kind_for_slices(it) : WASMLOOP_RANGE)) {
+        is("turned", memcmp(&turned, &before, sizeof turned) || over != GUARD, 0);
+        return;
+    }
+    is("over", over <= 1, 1);
+    is("a turn's callbacks", turned.callbacks <= most, 1);
+    it->kind = wasmloop_standing_of(&it->handle, &standing) == WASMLOOP_KIND ? STEPPING : LOOP;
+    if (over || turned.callbacks) it->used = 0;
+    if (over) { is("a turn that is over", it->kind, LOOP); did_right(it, &turned.did); return; }
+    is("the wait of a turn that isn't over", turned.wait == 0, 1);
+    if (it->kind == STEPPING) paused_steps++, it->used += units;
+    else is("a turn between two steps", turned.did.what == WASMLOOP_RAN || (was_refused && turned.did.what), 1);
 }
 
 static void clock_and_hint(slot *it) {
@@ -563,6 +616,8 @@ static void shapes(slot *a, slot *b) { (void)b, shape(a); }
 static void functions(slot *a, slot *b) { (void)b, function(a); }
 static void steps(slot *a, slot *b) { (void)b, step(a); }
 static void turns(slot *a, slot *b) { (void)b, turn(a); }
+static void steps_for(slot *a, slot *b) { (void)b, step_for(a); }
+static void turns_for(slot *a, slot *b) { (void)b, turn_for(a); }
 static void owns(slot *a, slot *b) { (void)b, clock_and_hint(a), sends(a), cancels(a); }
 static void looks(slot *a, slot *b) { (void)b, emits(a, GUARD), standing(a, NULL), stop(a, -1); }
 static void runs(slot *a, slot *b) { (void)b, run(a); }
@@ -594,6 +649,11 @@ static const struct { void (*call)(slot *, slot *); int first, second; } all[] =
     { begins, INSTANCE, NOTHING }, { begins, INSTANCE, NOTHING }, { calls_for, CALLING, NOTHING }, { calls_for, CALLING, NOTHING },
     { begins, CALLING, NOTHING }, { call_of, CALLING, NOTHING }, { memories, CALLING, NOTHING }, { globals, CALLING, NOTHING },
     { looks, CALLING, NOTHING }, { looks, PAUSED, NOTHING }, { drops, CALLING, NOTHING }, { memories, LOOP, NOTHING }, { globals, LOOP, NOTHING },
+    { steps_for, LOOP, NOTHING }, { steps_for, LOOP, NOTHING }, { steps_for, STEPPING, NOTHING }, { steps_for, STEPPING, NOTHING },
+    { turns_for, LOOP, NOTHING }, { turns_for, LOOP, NOTHING }, { turns_for, STEPPING, NOTHING }, { turns_for, STEPPING, NOTHING },
+    { steps, STEPPING, NOTHING }, { turns, STEPPING, NOTHING }, { owns, STEPPING, NOTHING }, { looks, STEPPING, NOTHING },
+    { next_job, STEPPING, NOTHING }, { start, STEPPING, JOB }, { accept, STEPPING, JOB }, { asks, STEPPING, NOTHING },
+    { memories, STEPPING, NOTHING }, { globals, STEPPING, NOTHING }, { tells, STEPPING, NOTHING }, { drops, STEPPING, NOTHING },
     { tells, CALLING, NOTHING }, { tells, LOOP, NOTHING }, { tells, INSTANCE, NOTHING }, { tells, JOB, NOTHING }, { tells, MODULE, NOTHING },
 };
 
@@ -642,7 +702,8 @@ int main(int count, char **words) {
     state = strtoull(words[1], NULL, 10) * 0x9e3779b97f4a7c15u + 1;
     for (int i = 3; i < count; i++) read_file(words[i]);
     for (unsigned long more = strtoul(words[2], NULL, 10); more; more--) sequence();
-    printf("fuzz: %lu calls, %lu not as foretold; %lu slices of jobs and %lu of calls that paused, %lu requests of the owner;", calls, wrong, pauses, paused_calls, given);
+    printf("fuzz: %lu calls, %lu not as foretold; %lu slices of jobs, %lu of calls and %lu of callbacks that paused, %lu requests of the owner;", calls, wrong, pauses, paused_calls,
+        paused_steps, given);
     for (int i = 0; i < 13; i++) printf(" %s %lu", wasmloop_status_name(i), answered[i]);
     puts("");
     return wrong != 0;

@@ -48,6 +48,30 @@ static int asks(wasmloop_handle *loop, int *again) {
     return got || (answer != 1 && answer != -38) ? 17 : 0;
 }
 
+/* a step in slices, of which the first takes memory */
+static int slices(wasmloop_handle *loop, wasmloop_did *did, int *again) {
+    for (uint32_t over = 0; !over;) {
+        int got = wasmloop_step_for(loop, 100, &over, did);
+        if (got == WASMLOOP_OK) continue;
+        if ((*again)++ > 2 || got != WASMLOOP_MEMORY) return 18;
+        told[8]++;
+    }
+    return 0;
+}
+
+/* a turn in slices, which goes on where memory is refused after a step */
+static int turns(wasmloop_handle *loop, wasmloop_did *did, int *again) {
+    wasmloop_turned turned = { .wait = 0 };
+    for (uint32_t over = 0; !over;) {
+        int got = wasmloop_turn_for(loop, 1, 100, &over, &turned);
+        if (got == WASMLOOP_OK) continue;
+        if ((*again)++ > 2 || got != WASMLOOP_MEMORY) return 19;
+        told[9]++;
+    }
+    *did = turned.did;
+    return 0;
+}
+
 /* all that a host does with a guest; what is answered MEMORY is counted and done again */
 static int life(void) {
     wasmloop_handle module = WASMLOOP_HANDLE_INIT, loop = WASMLOOP_HANDLE_INIT, job = WASMLOOP_HANDLE_INIT;
@@ -69,7 +93,7 @@ static int life(void) {
     if (wasmloop_drop(&module)) return 3;
     if ((got = asks(&loop, &again))) return got;
     for (int i = 0; i < 400; i++) {
-        if (wasmloop_step(&loop, &did)) return 4;
+        if ((got = i % 3 == 0 ? wasmloop_step(&loop, &did) : i % 3 == 1 ? slices(&loop, &did, &again) : turns(&loop, &did, &again))) return got;
         if (did.what == WASMLOOP_OVER || did.what == WASMLOOP_FAILED) break;
         while ((got = wasmloop_next_job(&loop, &job)) != WASMLOOP_NONE) {
             if (got == WASMLOOP_MEMORY) {
@@ -100,8 +124,8 @@ int main(int argc, char **argv) {
             if (left >= 0) break; /* fewer allocations than that */
         }
         left = -1;
-        printf("%s: each of %ld allocations refused in turn; answered: load %ld, loop %ld, next_job %ld, job_run %ld, share %ld, work %ld, explain %ld, request %ld\n", argv[k], n,
-            told[0], told[1], told[2], told[3], told[4], told[5], told[6], told[7]);
+        printf("%s: each of %ld allocations refused in turn; answered: load %ld, loop %ld, next_job %ld, job_run %ld, share %ld, work %ld, explain %ld, request %ld, "
+            "step_for %ld, turn_for %ld\n", argv[k], n, told[0], told[1], told[2], told[3], told[4], told[5], told[6], told[7], told[8], told[9]);
         for (int i = 0; i < 10; i++) told[i] = 0;
     }
     return 0;

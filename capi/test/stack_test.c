@@ -7,7 +7,7 @@
 #include <string.h>
 #include "wasmloop.h"
 
-enum { STACK = 1 << 20, PAINT = 0xa5, MOST = 18 << 10 };
+enum { STACK = 1 << 20, PAINT = 0xa5, MOST = 18 << 10, MOST_OF_SLICES = 40 << 10 };
 
 static uint8_t bytes[1 << 20], *stack;
 static size_t length;
@@ -37,6 +37,21 @@ static void turns(void) {
     uint64_t now;
     for (uint64_t i = 0; i < 1000 && turned.did.what < WASMLOOP_OVER; i++) {
         wasmloop_turn(&loop, 100, &turned);
+        wasmloop_clock(&loop, i * 100, &now);
+    }
+}
+static void steps_for(void) {
+    wasmloop_did did;
+    uint32_t over = 1;
+    for (int k = 0; k < 100 && over; k++) wasmloop_step_for(&loop, 1, &over, &did);
+    wasmloop_step_for(&loop, 1000000, &over, &did);
+}
+static void turns_for(void) {
+    wasmloop_turned turned = { .wait = 0 };
+    uint64_t now;
+    uint32_t over;
+    for (uint64_t i = 0; i < 1000 && turned.did.what < WASMLOOP_OVER; i++) {
+        wasmloop_turn_for(&loop, 100, 50 * i + 1, &over, &turned);
         wasmloop_clock(&loop, i * 100, &now);
     }
 }
@@ -162,7 +177,8 @@ static void drops(void) {
 
 static const struct { const char *name; void (*call)(void); } all[] = {
     { "load", loads }, { "explain", explains }, { "loop", makes_loop },
-    { "loop of nothing", makes_none }, { "request", asks }, { "warning", warns }, { "turn", turns }, { "next_job", hands_out }, { "job_run", runs },
+    { "loop of nothing", makes_none }, { "step_for", steps_for }, { "turn_for", turns_for }, { "drop", drops },
+    { "load", loads }, { "loop", makes_loop }, { "request", asks }, { "warning", warns }, { "turn", turns }, { "next_job", hands_out }, { "job_run", runs },
     { "accept", accepts }, { "job_new", makes_job }, { "job_run", runs }, { "stop", stops }, { "stop_told", stops_told },
     { "stop_places", tells_places }, { "instance", makes_instance }, { "call", calls }, { "call_begin", begins }, { "call_run_for", goes_on },
     { "call_run_for", goes_on }, { "work", works }, { "step", steps }, { "of a module", reads_module }, { "of a loop", reads_loop }, { "of a job", reads_job },
@@ -194,6 +210,8 @@ static size_t stack_of(void *(*what)(void *), size_t number) {
     return STACK - left;
 }
 
+static size_t limit_of(const char *name) { return strcmp(name, "step_for") && strcmp(name, "turn_for") ? MOST : MOST_OF_SLICES; }
+
 static void measure(const char *path, size_t *most, size_t base) {
     FILE *file = fopen(path, "rb");
     if (!file) { perror(path); exit(2); }
@@ -215,8 +233,9 @@ int main(int argc, char **argv) {
     printf("stack:");
     for (size_t i = 0; i < CALLS; i++) {
         printf("%s %s %zu", i ? "," : "", all[i].name, most[i]);
-        if (most[i] <= MOST) continue;
-        printf(" (more than %d)", MOST);
+        size_t limit = limit_of(all[i].name);
+        if (most[i] <= limit) continue;
+        printf(" (more than %zu)", limit);
         is_over = 1;
     }
     puts(" bytes at most");

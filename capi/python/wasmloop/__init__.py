@@ -286,6 +286,11 @@ def _about_of(job: _Handle) -> About:
     return about
 
 
+def _is_paused(loop: _Handle) -> bool:
+    """Whether a callback of the loop is paused."""
+    return bool(_lib.wasmloop_standing_of(c.byref(loop), c.byref(Standing())) == KIND)
+
+
 def _unfinished(about: About) -> str:
     """Why a job that is not over has no result."""
     return "the job is paused: continue it with run_for" if about.used else "the job has not run yet"
@@ -303,6 +308,8 @@ def _why(status: int, call: str, handles: List[_Handle]) -> Optional[str]:
         if it and it.gone:
             return it.gone
         return f"the {it.kind if it else 'object'} is in use by another thread"
+    if status == KIND and handles[0].kind == "loop" and call != "write" and _is_paused(handles[0]):
+        return "a callback is paused: continue it with step_for or turn_for"
     if status == KIND and job:
         about = _about_of(job)
         return _unfinished(about) if about.outcome == NOT_RUN else "the job has already run"
@@ -862,11 +869,25 @@ class Loop(_Inspected):
         _call("step", self.handle, did)
         return did
 
+    def step_for(self, units: int) -> Optional[Did]:
+        """Takes a slice of a step, whose callback uses at most `units` units of fuel. What `step` returns if the step is over; None if its callback
+        is paused: until it is over, the loop can only be continued and closed."""
+        over, did = c.c_uint32(), Did()
+        _call("step_for", self.handle, c.c_uint64(_whole("units", units, 1, 2**64 - 1)), c.byref(over), did)
+        return did if over.value else None
+
     def turn(self, most: int = 2**32 - 1) -> Turned:
         """Takes steps until the loop enters its timers phase, a callback emits values or does not return, `most` callbacks have run, or the loop is
         over. Of the result, `did` is the last step and `wait` the poll timeout in milliseconds."""
         _call("turn", self.handle, c.c_uint32(_whole("most", most, 1, 2**32 - 1)), self.turned)
         return self.turned
+
+    def turn_for(self, units: int, most: int = 2**32 - 1) -> Optional[Turned]:
+        """Takes steps as `turn` does, until their callbacks have used `units` units of fuel in this call. What `turn` returns if the turn is over;
+        else None: call it again, without sleeping. Meanwhile, `turned` has the last step that is over."""
+        over, words = c.c_uint32(), (c.c_uint32(_whole("most", most, 1, 2**32 - 1)), c.c_uint64(_whole("units", units, 1, 2**64 - 1)))
+        _call("turn_for", self.handle, *words, c.byref(over), self.turned)
+        return self.turned if over.value else None
 
     def emits(self) -> List[int]:
         """The values that the last callback emitted."""

@@ -20,7 +20,7 @@ import sys
 import threading
 import time
 
-from . import ENTERED, FAILED, FOREVER, OVER, RAN, TIMERS, WORK_MEMORY, Loop as Plain, _tool, lines, replay
+from . import ENTERED, FAILED, FOREVER, OVER, RAN, TIMERS, WORK_MEMORY, Loop as Plain, _is_paused, _tool, lines, replay
 
 
 class Loop(Plain):
@@ -30,6 +30,7 @@ class Loop(Plain):
     def __init__(self, module, data, note, number=0, fuel=1_000_000, work_fuel=1_000_000, depth=64, most=256 << 20):
         super().__init__(module, number, fuel, work_fuel, depth)
         self._number, self._steps, self._left = number, 0, most
+        self._ran, self._paused = 0, False              # of a turn that is to be written: its callbacks, and whether it has begun the one that is paused
         self._file, self._mine = (open(note, "w", encoding="ascii"), True) if isinstance(note, (str, bytes, os.PathLike)) else (note, False)
         self.note("loop", hashlib.sha256(data).hexdigest(), bytes(data).hex(), fuel, work_fuel, depth)
 
@@ -68,11 +69,46 @@ class Loop(Plain):
         self._flushed(did)
         return did
 
+    def step_for(self, units):
+        did = super().step_for(units)
+        if did and self._paused:
+            self._note_turn(self._ran + 1, did)
+        elif did:
+            self._steps += 1
+            self._flushed(did)
+        return did
+
     def turn(self, most=2**32 - 1):
         turned = super().turn(most)
-        self.note("turn", most)
-        self._flushed(turned.did)
+        self._note_turn(most, turned.did)
         return turned
+
+    def turn_for(self, units, most=2**32 - 1):
+        last = self.turned.did
+        before = 0 if (last.what, last.phase) == (ENTERED, TIMERS) else self.turned.callbacks
+        turned = super().turn_for(units, most)
+        if turned:
+            self._note_turn(self._ran + most, turned.did)
+        else:
+            self._ran += self.turned.callbacks - before
+            self._note_pause(self.turned.did)
+        return turned
+
+    def _note_turn(self, most, did):
+        """Writes a line of a turn, which ends at the latest with this callback, counted from the first since the last line."""
+        self.note("turn", most)
+        self._ran, self._paused = 0, False
+        self._flushed(did)
+
+    def _note_pause(self, did):
+        """A turn that is paused in a callback is written when it is over. One that is paused between two steps ends with a callback, or else because
+        an allocation failed, which no replay repeats."""
+        self._paused = _is_paused(self.handle)
+        if not self._paused and did.what == RAN:
+            self._note_turn(self._ran, did)
+        elif not self._paused:
+            self.note("memory")
+            self._ran = 0
 
     def clock(self, ms):
         now = super().clock(ms)

@@ -14,9 +14,7 @@ import sys
 
 from . import ENTERED, FAILED, NOT_RUN, OVER, RAN, SKIPPED, TIMERS, WORK_DONE, Loop, Module, _tool, lines
 
-PHASES = "begin timers idle poll check closing".split()
-KINDS = "start main timer idle after async check close".split()
-WORKERS = 16                                            # the maximum of a script
+PHASES, KINDS, WORKERS = "begin timers idle poll check closing".split(), "start main timer idle after async check close".split(), 16
 HELP = "n or Enter: next; b: back; g N: go to line N; c: continue to the failure or the end; w: where it failed; q: quit"
 
 
@@ -59,9 +57,8 @@ def line_of(did, emits):
 
 def failure(did, where, depth):
     """The sentence on a callback that did not return."""
-    number = f"{did.number}"
-    who = ("start function", "uv_main", "timer " + number, "idle " + number, "after-work of request " + number, "async " + number, "check " + number,
-           "close " + number)[did.kind]
+    named = ("timer", "idle", "after-work of request", "async", "check", "close")
+    who = ("start function", "uv_main", *(f"{it} {did.number}" for it in named))[did.kind]
     return _tool.ended(f"loop 0: {who}", ("return", "trap", "depth", "spent")[did.ending], did.trap, did.used, where, depth)
 
 
@@ -122,6 +119,9 @@ class Replay:
             if (did.what in (OVER, FAILED) or did.what == ENTERED and did.phase == TIMERS
                     or did.what == RAN and (did.emits or did.ending or ran == most)):
                 return
+
+    def _memory(self):
+        raise Differs(f"line {self.at} of the record: an allocation failed for a callback, which a replay cannot repeat")
 
     def _clock(self, ms):
         self.log.append(f"clock 0 {self.loop.clock(ms)}")

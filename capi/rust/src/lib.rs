@@ -300,7 +300,9 @@ extern "C" {
     fn wasmloop_loop(module: *const Handle, limits: *const Limits, made: *mut Handle) -> i32;
     fn wasmloop_drop(handle: *mut Handle) -> i32;
     fn wasmloop_step(handle: *mut Handle, did: *mut Did) -> i32;
+    fn wasmloop_step_for(handle: *mut Handle, units: u64, over: *mut u32, did: *mut Did) -> i32;
     fn wasmloop_turn(handle: *mut Handle, most_callbacks: u32, told: *mut Turned) -> i32;
+    fn wasmloop_turn_for(handle: *mut Handle, most_callbacks: u32, units: u64, over: *mut u32, told: *mut Turned) -> i32;
     fn wasmloop_emits(handle: *mut Handle, into: *mut i64, room: usize, count: *mut u32) -> i32;
     fn wasmloop_clock(handle: *mut Handle, ms: u64, now: *mut u64) -> i32;
     fn wasmloop_hint(handle: *mut Handle, ms: *mut u64) -> i32;
@@ -442,8 +444,21 @@ fn instance_error(_instance: &mut Handle, status: i32) -> Error {
     if status == KIND { Error::State { status, why: "a call is in progress" } } else { Error::Status(status) }
 }
 
+/// Why a call on a loop failed: each but `step_for` and `turn_for` fails with `KIND` while a callback is paused.
 fn loop_error(_loop: &mut Handle, status: i32) -> Error {
-    Error::Status(status)
+    loop_failed(status)
+}
+
+fn loop_failed(status: i32) -> Error {
+    if status == KIND { Error::State { status, why: "a callback is paused: continue it with step_for or turn_for" } } else { Error::Status(status) }
+}
+
+fn loop_done(status: i32) -> Result<(), Error> {
+    if status == OK { Ok(()) } else { Err(loop_failed(status)) }
+}
+
+fn is_paused(of: &mut Handle) -> bool {
+    unsafe { wasmloop_standing_of(of, &mut Standing::default()) == KIND }
 }
 
 fn job_done(job: &mut Handle, status: i32) -> Result<(), Error> {
@@ -451,8 +466,12 @@ fn job_done(job: &mut Handle, status: i32) -> Result<(), Error> {
 }
 
 /// False if the loop does not wait for the job.
-fn known(job: &mut Handle, status: i32) -> Result<bool, Error> {
-    if status == STRANGER { Ok(false) } else { job_done(job, status).map(|()| true) }
+fn known(of: &mut Handle, job: &mut Handle, status: i32) -> Result<bool, Error> {
+    match status {
+        STRANGER => Ok(false),
+        KIND if is_paused(of) => Err(loop_failed(status)),
+        _ => job_done(job, status).map(|()| true),
+    }
 }
 
 fn within(what: &'static str, value: u64, least: u64, most: u64) -> Result<(), Error> {
@@ -861,8 +880,23 @@ impl Loop {
     /// or the loop is over or has failed.
     pub fn turn(&mut self, most_callbacks: u32) -> Result<Turned, Error> {
         within("most_callbacks", most_callbacks.into(), 1, u32::MAX.into())?;
-        done(unsafe { wasmloop_turn(&mut self.0, most_callbacks, &mut self.1) })?;
+        loop_done(unsafe { wasmloop_turn(&mut self.0, most_callbacks, &mut self.1) })?;
         Ok(self.1)
+    }
+
+    /// Takes steps as `turn` does, until their callbacks have used `units` units of fuel in this call, of which `most_callbacks` counts those that
+    /// end in it. `None` if the turn is not over: call it again, without sleeping.
+    pub fn turn_for(&mut self, most_callbacks: u32, units: u64) -> Result<Option<Turned>, Error> {
+        let mut over = 0;
+        within("most_callbacks", most_callbacks.into(), 1, u32::MAX.into())?;
+        within("units", units, 1, u64::MAX)?;
+        loop_done(unsafe { wasmloop_turn_for(&mut self.0, most_callbacks, units, &mut over, &mut self.1) })?;
+        Ok(if over == 1 { Some(self.1) } else { None })
+    }
+
+    /// The progress of the iteration: of a turn that is not over, the last step that is.
+    pub fn turned(&self) -> Turned {
+        self.1
     }
 
     /// The value of the global exported under a name, as the last callback left it, also the one that failed; `None` if there is none.
@@ -883,7 +917,7 @@ impl Loop {
     /// Cancels a request, and returns what the guest's own cancel returns.
     pub fn cancel(&mut self, request: u32) -> Result<i32, Error> {
         let mut answer = 0;
-        done(unsafe { wasmloop_cancel(&mut self.0, request, &mut answer) })?;
+        loop_done(unsafe { wasmloop_cancel(&mut self.0, request, &mut answer) })?;
         Ok(answer)
     }
 
@@ -891,49 +925,58 @@ impl Loop {
     /// has failed.
     pub fn request(&mut self, op: u32, bytes: &[u8]) -> Result<i32, Error> {
         let mut answer = 0;
-        done(unsafe { wasmloop_request(&mut self.0, op, bytes.as_ptr(), bytes.len(), &mut answer) })?;
+        loop_done(unsafe { wasmloop_request(&mut self.0, op, bytes.as_ptr(), bytes.len(), &mut answer) })?;
         Ok(answer)
     }
 
     /// The status of the loop.
     pub fn standing(&mut self) -> Result<Standing, Error> {
         let mut standing = Standing::default();
-        done(unsafe { wasmloop_standing_of(&mut self.0, &mut standing) })?;
+        loop_done(unsafe { wasmloop_standing_of(&mut self.0, &mut standing) })?;
         Ok(standing)
     }
 
     /// Takes one step.
     pub fn step(&mut self) -> Result<Did, Error> {
         let mut did = Did::default();
-        done(unsafe { wasmloop_step(&mut self.0, &mut did) })?;
+        loop_done(unsafe { wasmloop_step(&mut self.0, &mut did) })?;
         Ok(did)
+    }
+
+    /// Takes a slice of a step, whose callback uses at most `units` units of fuel. `None` if the callback is paused: until it is over, every call
+    /// but this and `turn_for` fails.
+    pub fn step_for(&mut self, units: u64) -> Result<Option<Did>, Error> {
+        let (mut over, mut did) = (0, Did::default());
+        within("units", units, 1, u64::MAX)?;
+        loop_done(unsafe { wasmloop_step_for(&mut self.0, units, &mut over, &mut did) })?;
+        Ok(if over == 1 { Some(did) } else { None })
     }
 
     /// The values that the last callback emitted.
     pub fn emits(&mut self) -> Result<Vec<i64>, Error> {
         let (mut room, mut count) = ([0; 64], 0);
-        done(unsafe { wasmloop_emits(&mut self.0, room.as_mut_ptr(), room.len(), &mut count) })?;
+        loop_done(unsafe { wasmloop_emits(&mut self.0, room.as_mut_ptr(), room.len(), &mut count) })?;
         Ok(room[..count as usize].to_vec())
     }
 
     /// Advances the clock to `ms` milliseconds, and returns the new time. A smaller `ms` has no effect.
     pub fn clock(&mut self, ms: u64) -> Result<u64, Error> {
         let mut now = 0;
-        done(unsafe { wasmloop_clock(&mut self.0, ms, &mut now) })?;
+        loop_done(unsafe { wasmloop_clock(&mut self.0, ms, &mut now) })?;
         Ok(now)
     }
 
     /// The poll timeout in milliseconds; `None` if the loop needs replies or sends. Call it only after a step that entered the timers phase.
     pub fn hint(&mut self) -> Result<Option<u64>, Error> {
         let mut ms = 0;
-        done(unsafe { wasmloop_hint(&mut self.0, &mut ms) })?;
+        loop_done(unsafe { wasmloop_hint(&mut self.0, &mut ms) })?;
         Ok(if ms == u64::MAX { None } else { Some(ms) })
     }
 
     /// Sends to the guest's async `number`, counted from 0 in the order of creation.
     pub fn send(&mut self, number: u32) -> Result<(), Error> {
         within("number", number.into(), 0, 15)?;
-        done(unsafe { wasmloop_async_send(&mut self.0, number) })
+        loop_done(unsafe { wasmloop_async_send(&mut self.0, number) })
     }
 
     /// A job for the lowest request not returned yet.
@@ -941,19 +984,19 @@ impl Loop {
         let mut job = NOTHING;
         match unsafe { wasmloop_next_job(&mut self.0, &mut job) } {
             NONE => Ok(None),
-            status => done(status).map(|()| Some(Job(job))),
+            status => loop_done(status).map(|()| Some(Job(job))),
         }
     }
 
     /// Reports that a job is about to run. False if its request was cancelled or started before, or is another loop's.
     pub fn start(&mut self, job: &mut Job) -> Result<bool, Error> {
         let status = unsafe { wasmloop_job_start(&mut self.0, &mut job.0) };
-        known(&mut job.0, status)
+        known(&mut self.0, &mut job.0, status)
     }
 
     /// Completes the request of a job that has run. False if the reply is stale: the request was cancelled, or is another loop's.
     pub fn accept(&mut self, mut job: Job) -> Result<bool, Error> {
         let status = unsafe { wasmloop_accept(&mut self.0, &mut job.0) };
-        known(&mut job.0, status)
+        known(&mut self.0, &mut job.0, status)
     }
 }

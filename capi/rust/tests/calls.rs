@@ -138,6 +138,45 @@ fn a_loop_goes_by_turns() {
 }
 
 #[test]
+fn a_loop_goes_by_slices() {
+    let digests = module("digest");
+    let (mut whole, mut cut) = (Loop::new(&digests, LIMITS).unwrap(), Loop::new(&digests, LIMITS).unwrap());
+    let mut slices = 0;
+    loop {
+        let wanted = whole.step().unwrap();
+        let did = loop {
+            match cut.step_for(7).unwrap() {
+                Some(did) => break did,
+                None => slices += 1,
+            }
+        };
+        assert_eq!(format!("{did:?}"), format!("{wanted:?}"));
+        assert_eq!(cut.emits().unwrap(), whole.emits().unwrap());
+        if did.what == wasmloop::RAN {
+            break;
+        }
+    }
+    assert!(slices > 1);
+    let mut job = cut.next_job().unwrap().unwrap();
+    job.run().unwrap();
+    let (mut paused, paused_says) = (Loop::new(&digests, LIMITS).unwrap(), "a callback is paused: continue it with step_for or turn_for");
+    assert!(paused.turn_for(1, 1).unwrap().is_none());
+    assert_eq!((said(paused.step()), said(paused.size()), said(paused.stop())), (paused_says.into(), paused_says.into(), paused_says.into()));
+    assert_eq!((said(paused.start(&mut job)), said(paused.accept(job))), (paused_says.into(), paused_says.into()));
+    let mut calls = 0;
+    let turned = loop {
+        calls += 1;
+        if let Some(turned) = paused.turn_for(1, 5).unwrap() {
+            break turned;
+        }
+        assert_eq!(paused.turned().wait, 0);
+    };
+    assert!(calls > 1 && turned.did.what == wasmloop::RAN && turned.callbacks == 1);
+    assert_eq!(said(paused.step_for(0)), format!("units 0 is out of range: expected 1 to {}", u64::MAX));
+    assert_eq!(said(paused.turn_for(0, 1)), format!("most_callbacks 0 is out of range: expected 1 to {}", u32::MAX));
+}
+
+#[test]
 fn an_instance_keeps_its_memory() {
     let file = env::var("WASMLOOP_PLUGIN").unwrap_or_default();
     if file.is_empty() {

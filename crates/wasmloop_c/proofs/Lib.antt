@@ -5,3 +5,5 @@ mod Meant
 mod Offers
 mod Sites
 mod Turning
+mod TurnsCut
+mod HeldLoops

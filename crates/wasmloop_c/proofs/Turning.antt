@@ -9,7 +9,7 @@ use Rattle.wasmloop_c.specs.declared.did.Did.{Did}
 use Rattle.wasmloop_c.specs.declared.did.TheConstants.{RAN}
 
 -- a callback that does not end the turn is not the last one that may run
-one_more_may : (is_callback emitted stopped other : Bool) (most ran : ℕ) → ran < most
+pub one_more_may : (is_callback emitted stopped other : Bool) (most ran : ℕ) → ran < most
     → (if is_callback then emitted || (stopped || nat_le most (ran + 1)) else other) ≡ false → ran + one_if is_callback < most
 one_more_may false emitted stopped other most ran less goes_on = omega (arith, less)
 one_more_may true true stopped other most ran less goes_on = absurd cc

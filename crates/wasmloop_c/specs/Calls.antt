@@ -40,12 +40,19 @@ use Rattle.wasmloop_c.specs.declared.shape.Shape.{Shape}
 use Rattle.wasmloop_c.specs.declared.status.TheConstants.{OK, NONE, EMPTY, KIND, MEMORY, RANGE, STRANGER, USED_UP, NO_WORK}
 use Rattle.wasmloop_c.specs.declared.thing.Thing.{Thing}
 use Rattle.wasmloop_c.specs.declared.thing.Thing.TheVariants as thing
+use Rattle.wasmloop_c.specs.declared.thing.LoopStage.{LoopStage}
+use Rattle.wasmloop_c.specs.declared.thing.LoopStage.TheVariants as loop_stage
 use Rattle.wasmloop_c.specs.declared.thing.JobStage.{JobStage}
 use Rattle.wasmloop_c.specs.declared.thing.JobStage.TheVariants as stage
 
--- the loop that a handle has
+-- a loop between two steps
+abbrev pub core_in : LoopStage → Option (Core Desk)
+core_in (loop_stage.Resting held) = Some held.core
+core_in _ = None
+
+-- the loop that a handle has, between two steps
 abbrev pub loop_of : Thing → Option (Core Desk)
-loop_of (thing.Loop held) = Some held.core.value
+loop_of (thing.Loop it) = core_in it.value
 loop_of _ = None
 
 -- how far the job is that a thing is
@@ -67,10 +74,23 @@ asked_of _ = None
 abbrev pub OnHandle : (old new : Option Thing) → (status : ℕ) → (Same : Type 0) → (Does : Thing → Thing → Type 0) → Type 0
 OnHandle old new status Same Does = MatchOption old ((status ≡ EMPTY) × (new ≡ None) × Same) (λ t. IsSomeAnd new (λ u. Does t u))
 
+-- the loop that a thing is, in a step or not
+abbrev pub loop_stage_of : Thing → Option LoopStage
+loop_stage_of (thing.Loop it) = Some it.value
+loop_stage_of _ = None
+
 -- a call on what a handle has: where that is no loop it stays, and the status says so, and `Same` holds
+abbrev pub OnLoopStage : (old new : Thing) → (status : ℕ) → (Same : Type 0) → (Does : LoopStage → LoopStage → Type 0) → Type 0
+OnLoopStage old new status Same Does =
+    MatchOption (loop_stage_of old) ((status ≡ KIND) × (new ≡ old) × Same) (λ a. IsSomeAnd (loop_stage_of new) (λ b. Does a b))
+
+-- the same of a loop that is in no step
+abbrev pub OnResting : (old new : LoopStage) → (status : ℕ) → (Same : Type 0) → (Does : Core Desk → Core Desk → Type 0) → Type 0
+OnResting old new status Same Does =
+    MatchOption (core_in old) ((status ≡ KIND) × (new ≡ old) × Same) (λ c. IsSomeAnd (core_in new) (λ d. (d.setting ≡ c.setting) × Does c d))
+
 abbrev pub OnLoop : (old new : Thing) → (status : ℕ) → (Same : Type 0) → (Does : Core Desk → Core Desk → Type 0) → Type 0
-OnLoop old new status Same Does =
-    MatchOption (loop_of old) ((status ≡ KIND) × (new ≡ old) × Same) (λ c. IsSomeAnd (loop_of new) (λ d. (d.setting ≡ c.setting) × Does c d))
+OnLoop old new status Same Does = OnLoopStage old new status Same (λ a b. OnResting a b status Same Does)
 
 -- a call on the loop that a handle has
 abbrev pub OnHeldLoop : (old new : Option Thing) → (status : ℕ) → (Same : Type 0) → (Does : Core Desk → Core Desk → Type 0) → Type 0

@@ -1,2 +1,3 @@
--- No public clause reaches these: what a raw pointer owns.
+-- No public clause reaches these: what a raw pointer owns, and which loop a step is of.
 pub mod Owned
+pub mod Held

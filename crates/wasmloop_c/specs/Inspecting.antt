@@ -1,11 +1,12 @@
 -- What is read of an instance: of one that is kept, of a loop's, and of one between two slices of a call.
-use Rattle.std.specs.Prelude.{◌≡◌, ◌⊎◌, ℕ, List, length, Option, Some, None, MatchOption}
+use Rattle.std.specs.Prelude.{◌≡◌, ◌⊎◌, ℕ, List, length, Option, Some, None, MatchOption, option_map}
 use Rattle.syntax.specs.Loaded.{Loaded}
 use Rattle.syntax.specs.declared.types.Value.{Value}
 use Rattle.instance.specs.Store.{Store, bytes_at}
 use Rattle.instance.specs.Stops.{Halt}
 use Rattle.resident.specs.Calls.{ExportsGlobal, ExportsNoGlobal}
 use Rattle.resident.specs.Slices.{CallStandsAt}
+use Rattle.wasmloop_c.specs.Calls.{core_in}
 use Rattle.wasmloop_c.specs.Values.{value_numbers}
 use Rattle.wasmloop_c.specs.declared.inspect.Number.{Number}
 use Rattle.wasmloop_c.specs.declared.status.TheConstants.{OK, NONE, KIND, RANGE}
@@ -22,7 +23,7 @@ store_in stage.Gone = None
 
 -- of a loop between two steps, or after the one that failed, the store that its last callback left
 abbrev pub store_of : Thing → Option (Loaded × Store)
-store_of (thing.Loop held) = Some (held.core.value.setting.loaded, held.core.value.loop.store)
+store_of (thing.Loop it) = option_map (λ c. (c.setting.loaded, c.loop.store)) (core_in it.value)
 store_of (thing.Instance instance) = store_in instance.value
 store_of _ = None
 

@@ -10,4 +10,6 @@ pub mod Signatures
 pub mod Slices
 pub mod Sentences
 pub mod Statuses
+pub mod StepSlices
 pub mod Turning
+pub mod TurnSlices

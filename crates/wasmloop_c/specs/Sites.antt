@@ -19,6 +19,8 @@ use Rattle.wasmloop_c.specs.declared.stops.Site.{Site}
 use Rattle.wasmloop_c.specs.declared.stops.SpelledSite.{SpelledSite}
 use Rattle.wasmloop_c.specs.declared.thing.Thing.{Thing}
 use Rattle.wasmloop_c.specs.declared.thing.Thing.TheVariants as thing
+use Rattle.wasmloop_c.specs.declared.thing.LoopStage.{LoopStage}
+use Rattle.wasmloop_c.specs.declared.thing.LoopStage.TheVariants as loop
 use Rattle.wasmloop_c.specs.declared.thing.JobStage.{JobStage}
 use Rattle.wasmloop_c.specs.declared.thing.JobStage.TheVariants as job
 use Rattle.wasmloop_c.specs.declared.thing.InstanceStage.{InstanceStage}
@@ -55,10 +57,15 @@ CallStopsAs (instance.Resident resident) found = found ≡ Some (option_map whol
 CallStopsAs (instance.Calling call) found = (stop : Option Halt) × CallStandsAt call stop × (found ≡ Some (option_map whole_trail stop, call.loaded.bytes))
 CallStopsAs instance.Gone found = found ≡ None
 
+-- where a loop's last callback stopped, between two steps
+abbrev pub LoopStopsAs : LoopStage → FoundStop → Type 0
+LoopStopsAs (loop.Resting held) found =
+    (stop : Option Innermost) × IsStopOf held.core.setting held.core.loop.store stop × (found ≡ Some (stop, held.core.setting.loaded.bytes))
+LoopStopsAs _ found = found ≡ None
+
 -- where a loop's last callback or an instance's last call stopped, all of it, or where a job did
 abbrev pub StopsAs : Thing → FoundStop → Type 0
-StopsAs (thing.Loop held) found =
-    (stop : Option Innermost) × IsStopOf held.core.value.setting held.core.value.loop.store stop × (found ≡ Some (stop, held.core.value.setting.loaded.bytes))
+StopsAs (thing.Loop it) found = LoopStopsAs it.value found
 StopsAs (thing.Job job) found = JobStopsAs job.value found
 StopsAs (thing.Instance instance) found = CallStopsAs instance.value found
 StopsAs other found = found ≡ None

@@ -8,7 +8,7 @@ ghost use Rattle.wasmloop_c.specs.Values.{value_numbers};
 
 use crate::handle::{Handle, on};
 use crate::status::{KIND, NONE, OK, RANGE};
-use crate::thing::{InstanceStage, Thing};
+use crate::thing::{InstanceStage, Thing, resting_in};
 use imports::Linked;
 use instance::state::State;
 use resident::exported_global;
@@ -58,8 +58,11 @@ fn inspected(thing: &Thing) -> Option<(&Linked, &State)>
     ensures stands { Stands thing.now }
 {
     match thing {
-        Thing::Loop(held) => Some((held.core.linked(), held.core.store())),
         Thing::Instance(stage) => of_stage(stage),
+        Thing::Loop(_) => {
+            let core = resting_in(thing)?;
+            Some((core.linked(), core.store()))
+        }
         _ => None,
     }
 }

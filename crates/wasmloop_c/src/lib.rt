@@ -30,9 +30,11 @@ mod shape;
 mod signature;
 mod slices;
 mod status;
+mod step_slices;
 mod stops;
 mod thing;
 mod turn;
+mod turn_slices;
 mod warning;
 mod work;
 

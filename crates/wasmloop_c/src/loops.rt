@@ -3,7 +3,7 @@
 ghost use Rattle.std.specs.Prelude.{◌≡◌, ◌≤◌, ◌<◌, ◌↔◌, ◌⊎◌, None, IfOk, IsSomeAnd};
 ghost use Rattle.std.specs.Arc.{arc_value};
 ghost use Rattle.limits.specs.declared.TheConstants.{MAX_ASYNCS, MAX_DEPTH};
-ghost use Rattle.wasmloop_c.specs.Calls.{AnswersIn, IsDepth, OnLoop, OnHeldLoop, ReadsLoop, ReadsHeldLoop, StepsNumbered, Clocks, SendsFromOutside};
+ghost use Rattle.wasmloop_c.specs.Calls.{AnswersIn, IsDepth, OnLoop, OnResting, OnHeldLoop, ReadsLoop, ReadsHeldLoop, StepsNumbered, Clocks, SendsFromOutside};
 ghost use Rattle.wasmloop_c.specs.Calls.{CancelsNumbered, RequestsNumbered, IsNewLoop, CopiesEmits, loop_of, module_of, standing_of};
 ghost use Rattle.wasmloop_c.specs.Numbers.{hint_number};
 ghost use Rattle.phases.specs.PhaseList.{hint_of};
@@ -13,7 +13,7 @@ use crate::did::Did;
 use crate::handle::{Handle, on};
 use crate::held::HeldLoop;
 use crate::status::{KIND, MEMORY, OK, RANGE, USED_UP};
-use crate::thing::Thing;
+use crate::thing::{LoopStage, Thing, resting_in};
 use crate::turn::numbered_step;
 use desk::Desk;
 use events::did::Hint;
@@ -67,12 +67,12 @@ fn opened(
         limits.work_fuel,
         limits.depth,
     )?;
-    let core = Box::new(alloc, core)?;
     let held = HeldLoop {
         core,
         number: limits.loop_no,
     };
-    Ok(Box::new(alloc, Thing::Loop(held))?)
+    let stage = Box::new(alloc, LoopStage::Resting(held))?;
+    Ok(Box::new(alloc, Thing::Loop(stage))?)
 }
 
 fn open(alloc: Global, module: &Thing, limits: Limits, handle: &mut Handle) -> u32
@@ -112,14 +112,23 @@ pub extern "C" fn wasmloop_rt_loop(
     on!(module, alloc, held => open(alloc, &held, limits, handle))
 }
 
-fn step(thing: &mut Thing, did: &mut Did) -> u32
-    ensures { OnLoop thing.old thing.new result (did.new ≡ did.old) (λ c d. (result ≡ OK) × StepsNumbered c d did.new) }
+fn step_stage(stage: &mut LoopStage, did: &mut Did) -> u32
+    ensures { OnResting stage.old stage.new result (did.new ≡ did.old) (λ c d. (result ≡ OK) × StepsNumbered c d did.new) }
 {
-    let Thing::Loop(held) = thing else {
+    let LoopStage::Resting(held) = stage else {
         return KIND;
     };
     *did = numbered_step(&mut held.core);
     OK
+}
+
+fn step(thing: &mut Thing, did: &mut Did) -> u32
+    ensures { OnLoop thing.old thing.new result (did.new ≡ did.old) (λ c d. (result ≡ OK) × StepsNumbered c d did.new) }
+{
+    let Thing::Loop(stage) = thing else {
+        return KIND;
+    };
+    step_stage(stage, did)
 }
 
 /// Takes one step of a loop.
@@ -133,10 +142,10 @@ pub extern "C" fn wasmloop_rt_step(alloc: Global, handle: &mut Handle, did: &mut
 fn emits(thing: &Thing, into: &mut [u64], count: &mut u32) -> u32
     ensures { ReadsLoop thing.now result ((into.new ≡ into.old) × (count.new ≡ count.old)) (λ c. CopiesEmits c into.old into.new count.new) }
 {
-    let Thing::Loop(held) = thing else {
+    let Some(core) = resting_in(thing) else {
         return KIND;
     };
-    let emits = held.core.emits();
+    let emits = core.emits();
     copy_front(emits, into);
     *count = emits.len() as u32;
     OK
@@ -155,11 +164,19 @@ pub extern "C" fn wasmloop_rt_emits(
     on!(handle, alloc, held => emits(&held, into, count))
 }
 
-fn send(thing: &mut Thing, async_no: u32) -> u32
+fn send_to(core: &mut LoopCore<Desk>, async_no: u32) -> u32
     requires { async_no < MAX_ASYNCS }
-    ensures { OnLoop thing.old thing.new result (Unit {0}) (λ c d. SendsFromOutside c d async_no result) }
+    ensures sends { SendsFromOutside core.old core.new async_no result }
+    ensures setting { core.new.setting ≡ core.old.setting }
 {
-    let Thing::Loop(held) = thing else {
+    if core.sent(async_no) { OK } else { USED_UP }
+}
+
+fn send_stage(stage: &mut LoopStage, async_no: u32) -> u32
+    requires { async_no < MAX_ASYNCS }
+    ensures { OnResting stage.old stage.new result (Unit {0}) (λ c d. SendsFromOutside c d async_no result) }
+{
+    let LoopStage::Resting(held) = stage else {
         return KIND;
     };
     if held.core.sent(async_no) {
@@ -167,6 +184,16 @@ fn send(thing: &mut Thing, async_no: u32) -> u32
     } else {
         USED_UP
     }
+}
+
+fn send(thing: &mut Thing, async_no: u32) -> u32
+    requires { async_no < MAX_ASYNCS }
+    ensures { OnLoop thing.old thing.new result (Unit {0}) (λ c d. SendsFromOutside c d async_no result) }
+{
+    let Thing::Loop(stage) = thing else {
+        return KIND;
+    };
+    send_stage(stage, async_no)
 }
 
 /// A send to an async from outside.
@@ -181,14 +208,23 @@ pub extern "C" fn wasmloop_rt_async_send(alloc: Global, handle: &mut Handle, asy
     on!(handle, alloc, held => send(&mut held, async_no))
 }
 
-fn clock(thing: &mut Thing, ms: u64, now: &mut u64) -> u32
-    ensures { OnLoop thing.old thing.new result (now.new ≡ now.old) (λ c d. (result ≡ OK) × Clocks c d ms now.new) }
+fn clock_stage(stage: &mut LoopStage, ms: u64, now: &mut u64) -> u32
+    ensures { OnResting stage.old stage.new result (now.new ≡ now.old) (λ c d. (result ≡ OK) × Clocks c d ms now.new) }
 {
-    let Thing::Loop(held) = thing else {
+    let LoopStage::Resting(held) = stage else {
         return KIND;
     };
     *now = held.core.clock(ms);
     OK
+}
+
+fn clock(thing: &mut Thing, ms: u64, now: &mut u64) -> u32
+    ensures { OnLoop thing.old thing.new result (now.new ≡ now.old) (λ c d. (result ≡ OK) × Clocks c d ms now.new) }
+{
+    let Thing::Loop(stage) = thing else {
+        return KIND;
+    };
+    clock_stage(stage, ms, now)
 }
 
 /// Raises the clock, and answers it.
@@ -218,10 +254,10 @@ pub fn ms_of(hint: Hint) -> u64
 fn hint(thing: &Thing, ms: &mut u64) -> u32
     ensures { ReadsLoop thing.now result (ms.new ≡ ms.old) (λ c. ms.new ≡ hint_number (hint_of c.loop.state)) }
 {
-    let Thing::Loop(held) = thing else {
+    let Some(core) = resting_in(thing) else {
         return KIND;
     };
-    *ms = ms_of(held.core.hint());
+    *ms = ms_of(core.hint());
     OK
 }
 
@@ -233,14 +269,23 @@ pub extern "C" fn wasmloop_rt_hint(alloc: Global, handle: &mut Handle, ms: &mut 
     on!(handle, alloc, held => hint(&held, ms))
 }
 
-fn cancel(thing: &mut Thing, request: u32, answer: &mut i32) -> u32
-    ensures { OnLoop thing.old thing.new result (answer.new ≡ answer.old) (λ c d. (result ≡ OK) × CancelsNumbered c d request answer.new) }
+fn cancel_stage(stage: &mut LoopStage, request: u32, answer: &mut i32) -> u32
+    ensures { OnResting stage.old stage.new result (answer.new ≡ answer.old) (λ c d. (result ≡ OK) × CancelsNumbered c d request answer.new) }
 {
-    let Thing::Loop(held) = thing else {
+    let LoopStage::Resting(held) = stage else {
         return KIND;
     };
     *answer = held.core.cancel(request);
     OK
+}
+
+fn cancel(thing: &mut Thing, request: u32, answer: &mut i32) -> u32
+    ensures { OnLoop thing.old thing.new result (answer.new ≡ answer.old) (λ c d. (result ≡ OK) × CancelsNumbered c d request answer.new) }
+{
+    let Thing::Loop(stage) = thing else {
+        return KIND;
+    };
+    cancel_stage(stage, request, answer)
 }
 
 /// Cancels a request, as the guest does.
@@ -256,14 +301,23 @@ pub extern "C" fn wasmloop_rt_cancel(
     on!(handle, alloc, held => cancel(&mut held, request, answer))
 }
 
-fn request(thing: &mut Thing, op: u32, bytes: &[u8], answer: &mut i32) -> u32
-    ensures { OnLoop thing.old thing.new result (answer.new ≡ answer.old) (λ c d. (result ≡ OK) × RequestsNumbered c d op bytes.now answer.new) }
+fn request_stage(stage: &mut LoopStage, op: u32, bytes: &[u8], answer: &mut i32) -> u32
+    ensures { OnResting stage.old stage.new result (answer.new ≡ answer.old) (λ c d. (result ≡ OK) × RequestsNumbered c d op bytes.now answer.new) }
 {
-    let Thing::Loop(held) = thing else {
+    let LoopStage::Resting(held) = stage else {
         return KIND;
     };
     *answer = held.core.request(op, bytes);
     OK
+}
+
+fn request(thing: &mut Thing, op: u32, bytes: &[u8], answer: &mut i32) -> u32
+    ensures { OnLoop thing.old thing.new result (answer.new ≡ answer.old) (λ c d. (result ≡ OK) × RequestsNumbered c d op bytes.now answer.new) }
+{
+    let Thing::Loop(stage) = thing else {
+        return KIND;
+    };
+    request_stage(stage, op, bytes, answer)
 }
 
 /// Makes a request for the loop's owner, which goes the way of the guest's own.
@@ -283,13 +337,13 @@ pub extern "C" fn wasmloop_rt_request(
 fn tell_standing(thing: &Thing, standing: &mut Standing) -> u32
     ensures { ReadsLoop thing.now result (standing.new ≡ standing.old) (λ c. standing.new ≡ standing_of c) }
 {
-    let Thing::Loop(held) = thing else {
+    let Some(core) = resting_in(thing) else {
         return KIND;
     };
     *standing = Standing {
-        alive: held.core.alive() as u32,
-        failed: held.core.failed() as u32,
-        outstanding: held.core.outstanding() as u64,
+        alive: core.alive() as u32,
+        failed: core.failed() as u32,
+        outstanding: core.outstanding() as u64,
     };
     OK
 }

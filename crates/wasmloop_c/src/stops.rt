@@ -10,7 +10,7 @@ ghost use Rattle.wasmloop_c.specs.Sites.{IsSiteOf, IsByteOf, CopiesSites, Uncopi
 
 use crate::handle::{Handle, on};
 use crate::status::{KIND, NONE, OK};
-use crate::thing::{InstanceStage, JobStage, Thing};
+use crate::thing::{InstanceStage, JobStage, Thing, resting_in};
 use desk::Desk;
 use instance::stack::{Site as Operation, Stop};
 use order::{Running, Told, Trail};
@@ -196,7 +196,10 @@ pub fn stopped(thing: &Thing) -> Option<Stopped<'_>>
     ensures { StopsAs thing.now (option_map (λ s. (option_map told_of s.0, s.1.now)) result) }
 {
     match thing {
-        Thing::Loop(held) => Some((stop_of_loop(&held.core), held.core.module_bytes())),
+        Thing::Loop(_) => {
+            let core = resting_in(thing)?;
+            Some((stop_of_loop(core), core.module_bytes()))
+        }
         Thing::Job(stage) => job_stopped(stage),
         Thing::Instance(stage) => call_stopped(stage),
         _ => None,

@@ -1,9 +1,14 @@
 // What a handle has.
 
-use crate::held::HeldLoop;
+ghost use Rattle.std.specs.Prelude.{◌≡◌, option_map};
+ghost use Rattle.wasmloop_c.specs.Calls.{loop_of};
+
+use crate::held::{HeldLoop, HeldStep};
 use crate::job::RunnableOrder;
+use desk::Desk;
 use imports::Linked;
 use order::{Running, Told};
+use phases::LoopCore;
 use resident::{Calling, Resident};
 use std::alloc::{AllocError, Global};
 use std::sync::Arc;
@@ -13,12 +18,23 @@ use std::sync::Arc;
 pub enum Thing {
     /// A module.
     Module(Arc<Linked, Global>),
-    /// A loop.
-    Loop(HeldLoop),
+    /// A loop, in room that a step in slices has too.
+    Loop(Box<LoopStage, Global>),
     /// A job. Its room is as large at each stage, so that none takes memory that the others didn't.
     Job(Box<JobStage, Global>),
     /// An instance that is kept from call to call, in room that a call in slices has too.
     Instance(Box<InstanceStage, Global>),
+    /// Nothing, while a call is at work.
+    Gone,
+}
+
+/// A loop, in a step or not.
+#[derive(Drop)]
+pub enum LoopStage {
+    /// Between two steps.
+    Resting(HeldLoop),
+    /// Between two slices of a step.
+    Stepping(HeldStep),
     /// Nothing, while a call is at work.
     Gone,
 }
@@ -45,6 +61,19 @@ pub enum InstanceStage {
     Calling(Calling),
     /// Nothing, while a call is at work.
     Gone,
+}
+
+/// The loop that a thing is between two steps.
+pub fn resting_in(thing: &Thing) -> Option<&LoopCore<Desk>>
+    ensures { option_map (λ c. c.now) result ≡ loop_of thing.now }
+{
+    let Thing::Loop(stage) = thing else {
+        return None;
+    };
+    let LoopStage::Resting(held) = &**stage else {
+        return None;
+    };
+    Some(&held.core)
 }
 
 /// Room for what a handle has, and for what stands apart of it.

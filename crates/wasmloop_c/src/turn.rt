@@ -1,7 +1,7 @@
 // Turns: a loop's steps up to where its owner has something to do.
 
 ghost use Rattle.std.specs.Prelude.{◌≡◌, ◌≤◌, ◌<◌};
-ghost use Rattle.wasmloop_c.specs.Calls.{OnLoop, OnHeldLoop, StepsNumbered};
+ghost use Rattle.wasmloop_c.specs.Calls.{OnLoop, OnResting, OnHeldLoop, StepsNumbered};
 ghost use Rattle.wasmloop_c.specs.Numbers.{hint_number};
 ghost use Rattle.wasmloop_c.specs.Turning.{begun_callbacks, ends_turn, wait_after, TurnSteps, Turns};
 ghost use Rattle.phases.specs.PhaseList.{hint_of};
@@ -10,7 +10,7 @@ use crate::did::{Did, ENTERED, RAN, RETURN, SKIPPED, TIMERS};
 use crate::handle::{Handle, on};
 use crate::loops::ms_of;
 use crate::status::{KIND, OK, RANGE};
-use crate::thing::Thing;
+use crate::thing::{LoopStage, Thing};
 use desk::Desk;
 use phases::LoopCore;
 use std::alloc::Global;
@@ -30,7 +30,7 @@ pub struct Turned {
 }
 
 /// How many callbacks ran in this iteration: none where the call before entered the timers phase.
-fn begun(turned: &Turned) -> u32
+pub fn begun(turned: &Turned) -> u32
     ensures { result ≡ begun_callbacks turned.now }
 {
     if turned.did.what == ENTERED && turned.did.phase == TIMERS {
@@ -41,7 +41,7 @@ fn begun(turned: &Turned) -> u32
 }
 
 /// Whether a step ends a turn in which so many callbacks ran before it.
-fn ends(did: &Did, ran: u32, most: u32) -> bool
+pub fn ends(did: &Did, ran: u32, most: u32) -> bool
     requires { ran < most }
     ensures { result ≡ ends_turn most ran did.now }
 {
@@ -85,7 +85,7 @@ fn take_steps(core: &mut LoopCore<Desk>, most: u32, did: &mut Did) -> u32
 }
 
 /// How long the loop needs only replies and sends, after a step.
-fn wait_of(core: &LoopCore<Desk>, did: &Did, callbacks: u32) -> u64
+pub fn wait_of(core: &LoopCore<Desk>, did: &Did, callbacks: u32) -> u64
     ensures { result ≡ wait_after core.now did.now callbacks }
 {
     if core.failed() {
@@ -108,15 +108,25 @@ fn turn_core(core: &mut LoopCore<Desk>, most: u32, told: &mut Turned)
     told.wait = wait_of(core, &told.did, told.callbacks);
 }
 
-fn turn(thing: &mut Thing, most: u32, told: &mut Turned) -> u32
+fn turn_stage(stage: &mut LoopStage, most: u32, told: &mut Turned) -> u32
     requires { 1 ≤ most }
-    ensures { OnLoop thing.old thing.new result (told.new ≡ told.old) (λ c d. (result ≡ OK) × Turns c d most told.old told.new) }
+    ensures { OnResting stage.old stage.new result (told.new ≡ told.old) (λ c d. (result ≡ OK) × Turns c d most told.old told.new) }
 {
-    let Thing::Loop(held) = thing else {
+    let LoopStage::Resting(held) = stage else {
         return KIND;
     };
     turn_core(&mut held.core, most, told);
     OK
+}
+
+fn turn(thing: &mut Thing, most: u32, told: &mut Turned) -> u32
+    requires { 1 ≤ most }
+    ensures { OnLoop thing.old thing.new result (told.new ≡ told.old) (λ c d. (result ≡ OK) × Turns c d most told.old told.new) }
+{
+    let Thing::Loop(stage) = thing else {
+        return KIND;
+    };
+    turn_stage(stage, most, told)
 }
 
 /// Takes steps of a loop until it enters its timers phase, a callback emits values or does not return, or so many callbacks have run, or it is

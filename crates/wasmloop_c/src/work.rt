@@ -1,13 +1,14 @@
 // Jobs: what a loop asks for, and in time the reply.
 
 ghost use Rattle.std.specs.Prelude.{◌≡◌, ◌≢◌, ◌⊎◌, [], None, IsNone, IsSomeAnd, IfSome, IfOk, IfErr};
-ghost use Rattle.wasmloop_c.specs.Calls.{OnHandle, OnLoop, OnHeldLoop, ReadsHandle, HandsOut, RunsToEnd, RunsStageToEnd, StartsOfLoop, OffersReply, OffersStage, OffersHeld, TellsJob, TellsStage};
+ghost use Rattle.wasmloop_c.specs.Calls.{OnHandle, OnLoop, OnResting, OnHeldLoop, ReadsHandle, HandsOut, RunsToEnd, RunsStageToEnd};
+ghost use Rattle.wasmloop_c.specs.Calls.{StartsOfLoop, OffersReply, OffersStage, OffersHeld, TellsJob, TellsStage};
 ghost use Rattle.wasmloop_c.specs.Numbers.{about_order, about_paused, about_told, outcome_numbers};
 
 use crate::handle::{Handle, on};
 use crate::job::RunnableOrder;
 use crate::status::{EMPTY, KIND, MEMORY, NONE, OK, STRANGER};
-use crate::thing::{JobStage, Room, Thing, job_room};
+use crate::thing::{JobStage, LoopStage, Room, Thing, job_room};
 use desk::Desk;
 use order::{Order, Outcome, Running, Told};
 use phases::{Accepted, LoopCore};
@@ -114,11 +115,11 @@ fn hand_out(
     OK
 }
 
-fn next_job(alloc: Global, thing: &mut Thing, job: &mut Handle) -> u32
+fn next_job_of(alloc: Global, stage: &mut LoopStage, job: &mut Handle) -> u32
     requires { job.old.raw.value ≡ None }
-    ensures { OnLoop thing.old thing.new result (job.new.raw.value ≡ None) (λ c d. HandsOut c d job.new.raw.value result) }
+    ensures { OnResting stage.old stage.new result (job.new.raw.value ≡ None) (λ c d. HandsOut c d job.new.raw.value result) }
 {
-    let Thing::Loop(held) = thing else {
+    let LoopStage::Resting(held) = stage else {
         return KIND;
     };
     if held.core.outstanding() == 0 {
@@ -126,6 +127,16 @@ fn next_job(alloc: Global, thing: &mut Thing, job: &mut Handle) -> u32
     }
     let room = job_room(alloc);
     hand_out(alloc, &mut held.core, room, job)
+}
+
+fn next_job(alloc: Global, thing: &mut Thing, job: &mut Handle) -> u32
+    requires { job.old.raw.value ≡ None }
+    ensures { OnLoop thing.old thing.new result (job.new.raw.value ≡ None) (λ c d. HandsOut c d job.new.raw.value result) }
+{
+    let Thing::Loop(stage) = thing else {
+        return KIND;
+    };
+    next_job_of(alloc, stage, job)
 }
 
 /// Takes the loop's lowest request that is not handed out yet, as a job in an empty handle.
@@ -205,16 +216,16 @@ pub extern "C" fn wasmloop_rt_job_about(alloc: Global, job: &mut Handle, told: &
     on!(job, alloc, held => tell_about(&held, told))
 }
 
-fn start(thing: &mut Thing, job: &Thing) -> u32
-    ensures { OnLoop thing.old thing.new result (Unit {0}) (λ c d. StartsOfLoop c d job.now result) }
+fn start_stage(stage: &mut LoopStage, job: &Thing) -> u32
+    ensures { OnResting stage.old stage.new result (Unit {0}) (λ c d. StartsOfLoop c d job.now result) }
 {
-    let Thing::Loop(held) = thing else {
+    let LoopStage::Resting(held) = stage else {
         return KIND;
     };
-    let Thing::Job(stage) = job else {
+    let Thing::Job(asked) = job else {
         return KIND;
     };
-    let JobStage::Asked(job) = &**stage else {
+    let JobStage::Asked(job) = &**asked else {
         return KIND;
     };
     let order = job.order();
@@ -226,6 +237,15 @@ fn start(thing: &mut Thing, job: &Thing) -> u32
     } else {
         STRANGER
     }
+}
+
+fn start(thing: &mut Thing, job: &Thing) -> u32
+    ensures { OnLoop thing.old thing.new result (Unit {0}) (λ c d. StartsOfLoop c d job.now result) }
+{
+    let Thing::Loop(stage) = thing else {
+        return KIND;
+    };
+    start_stage(stage, job)
 }
 
 /// Tells a loop that a job of its own is started. A job that carries another loop's number is a stranger.
@@ -262,18 +282,27 @@ fn offer(core: &mut LoopCore<Desk>, stage: JobStage) -> (JobStage, u32)
     }
 }
 
+fn accept_stage(stage: &mut LoopStage, job: &mut Thing) -> u32
+    ensures { OnResting stage.old stage.new result (job.new ≡ job.old) (λ c d. OffersReply c d job.old (job.new ≡ job.old) (Unit {0}) result) }
+{
+    let LoopStage::Resting(held) = stage else {
+        return KIND;
+    };
+    let Thing::Job(offered) = job else {
+        return KIND;
+    };
+    let (left, status) = offer(&mut held.core, replace(&mut **offered, JobStage::Gone));
+    **offered = left;
+    status
+}
+
 fn accept(thing: &mut Thing, job: &mut Thing) -> u32
     ensures { OnLoop thing.old thing.new result (job.new ≡ job.old) (λ c d. OffersReply c d job.old (job.new ≡ job.old) (Unit {0}) result) }
 {
-    let Thing::Loop(held) = thing else {
+    let Thing::Loop(stage) = thing else {
         return KIND;
     };
-    let Thing::Job(stage) = job else {
-        return KIND;
-    };
-    let (left, status) = offer(&mut held.core, replace(&mut **stage, JobStage::Gone));
-    **stage = left;
-    status
+    accept_stage(stage, job)
 }
 
 /// Brings the reply of a job back to its loop, and leaves the job's handle empty where the loop takes it.

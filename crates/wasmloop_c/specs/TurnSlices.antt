@@ -1,0 +1,136 @@
+-- What a slice does to a turn of the loop that its handle has.
+use Rattle.std.specs.Prelude.{◌≡◌, ◌⊎◌, ◌≤◌, ◌<◌, ◌+◌, ◌-◌, ◌^◌, ◌==◌, min, ℕ, true, false, List, [], ◌∷◌, Option, Some}
+use Rattle.desk.specs.Desk.{Desk, desk_calls}
+use Rattle.phases.specs.State.{Core}
+use Rattle.phases.specs.Underway.{StepHasCome, used_by_step}
+use Rattle.wasmloop_c.specs.Calls.{OnHandle, OnLoopStage, StepsNumbered, core_in, one_if}
+use Rattle.wasmloop_c.specs.Turning.{begun_callbacks, ends_turn, ran_in, wait_after, NoneEnds, TakesSteps, TurnSteps}
+use Rattle.wasmloop_c.specs.declared.did.Did.{Did}
+use Rattle.wasmloop_c.specs.declared.did.TheConstants.{RAN}
+use Rattle.wasmloop_c.specs.declared.status.TheConstants.{OK, KIND, MEMORY}
+use Rattle.wasmloop_c.specs.declared.thing.Thing.{Thing}
+use Rattle.wasmloop_c.specs.declared.thing.LoopStage.{LoopStage}
+use Rattle.wasmloop_c.specs.declared.thing.LoopStage.TheVariants as stage
+use Rattle.wasmloop_c.specs.declared.turn.Turned.{Turned}
+use Rattle.wasmloop_c.specs.declared.turn_slices.TurnLeft.{TurnLeft}
+use Rattle.wasmloop_c.specs.declared.turn_slices.Turning.{Turning}
+use Rattle.wasmloop_c.specs.declared.turn_slices.TurnFlow.{TurnFlow}
+use Rattle.wasmloop_c.specs.declared.turn_slices.TurnFlow.TheVariants as flow
+
+-- where a loop is: between two steps, or in a step that began on it
+abbrev pub LoopIsAt : Core Desk → LoopStage → Type 0
+LoopIsAt c (stage.Resting held) = held.core ≡ c
+LoopIsAt c (stage.Stepping held) = StepHasCome desk_calls c held.step
+LoopIsAt c stage.Gone = ⊥
+
+-- the units that its callback under way has used
+abbrev pub used_in : LoopStage → ℕ
+used_in (stage.Stepping held) = used_by_step held.step
+used_in _ = 0
+
+-- the units that the callbacks of these steps used
+abbrev pub fuel_in : List Did → ℕ
+fuel_in [] = 0
+fuel_in (did ∷ before) = fuel_in before + did.used
+
+-- the last of these steps, or what was there before them
+abbrev pub last_did : Did → List Did → Did
+last_did old [] = old
+last_did old (did ∷ before) = did
+
+-- A call that ends a turn: the steps from where the loop stood, the one that was under way among them, are a turn's. Their callbacks have used
+-- no more units in it than it had.
+pub record SliceEnds (c : Core Desk) (from units most : ℕ) (did : Did) (ran : ℕ) (left : LoopStage) : Type 0 where
+  pub d : Core Desk
+  pub stands : core_in left ≡ Some d
+  pub setting : d.setting ≡ c.setting
+  pub steps : TurnSteps c d most did ran
+  pub within : fuel_in (did ∷ steps.before) ≤ from + units
+
+-- One that doesn't: none of its whole steps ends the turn, and the loop stands where they have come to, in its next step or before it. It has
+-- taken a step, or its callback has used some units.
+pub record SliceGoesOn (c : Core Desk) (from units most : ℕ) (old did : Did) (ran : ℕ) (left : LoopStage) : Type 0 where
+  pub before : List Did
+  pub e : Core Desk
+  pub steps : TakesSteps c before e
+  pub goes_on : NoneEnds most before
+  pub stands : LoopIsAt e left
+  pub setting : e.setting ≡ c.setting
+  pub last : did ≡ last_did old before
+  pub counted : ran ≡ ran_in before
+  pub within : fuel_in before + used_in left ≤ from + units
+  pub some : (before ≡ [] → ⊥) ⊎ (from < used_in left)
+
+-- why nothing is done
+abbrev pub refusal : LoopStage → ℕ
+refusal (stage.Resting held) = MEMORY
+refusal _ = KIND
+
+-- A step of a turn is over: from where the loop stood it was taken whole, and what it used in this call is no longer left.
+pub record StepIsTaken (from : Turning) (did : Did) (to : Turning) : Type 0 where
+  pub steps : (c : Core Desk) → LoopIsAt c from.stage → (d : Core Desk) × (core_in to.stage ≡ Some d) × (d.setting ≡ c.setting) × StepsNumbered c d did
+  pub ran : to.ran ≡ from.ran + one_if (did.what == RAN)
+  pub left : did.used + to.left ≡ used_in from.stage + from.left
+  pub rests : used_in to.stage ≡ 0
+
+-- A step is under way, or another slice of it: its callback has used some units more.
+pub record StepIsUnderway (from to : Turning) : Type 0 where
+  pub stands : (c : Core Desk) → LoopIsAt c from.stage → LoopIsAt c to.stage
+  pub ran : to.ran ≡ from.ran
+  pub some : used_in from.stage < used_in to.stage
+  pub most : used_in to.stage ≤ used_in from.stage + from.left
+
+-- what a slice of a step does to a turn of at most so many callbacks
+abbrev pub TakesSlice : Turning → (most : ℕ) → (old did : Did) → Turning → TurnFlow → Type 0
+TakesSlice from most old did to flow.GoesOn = StepIsTaken from did to × (ends_turn most from.ran did ≡ false) × (to.ran < most) × (1 ≤ to.left)
+TakesSlice from most old did to flow.Over = StepIsTaken from did to × (ends_turn most from.ran did ≡ true)
+TakesSlice from most old did to flow.Paused =
+    (StepIsTaken from did to × (ends_turn most from.ran did ≡ false))
+    ⊎ (StepIsUnderway from to × (did ≡ old))
+TakesSlice from most old did to (flow.Refused status) = (to ≡ from) × (did ≡ old) × (status ≡ refusal from.stage)
+
+-- what a slice leaves of a turn from a loop's stage, and of what the step before it did
+abbrev pub TakesSlices : LoopStage → (most units : ℕ) → (old did : Did) → TurnLeft → Type 0
+TakesSlices from most units old did it =
+    ((it.status ≡ OK) × (it.over ≡ 1) × ((c : Core Desk) → LoopIsAt c from → SliceEnds c (used_in from) units most did it.ran it.stage))
+    ⊎ ((it.status ≡ OK) × (it.over ≡ 0) × ((c : Core Desk) → LoopIsAt c from → SliceGoesOn c (used_in from) units most old did it.ran it.stage))
+    ⊎ ((it.status ≡ refusal from) × (it.stage ≡ from) × (did ≡ old))
+
+-- how long there is nothing to do: not at all while the turn isn't over
+abbrev pub WaitsFor : TurnLeft → Did → (callbacks wait : ℕ) → Type 0
+WaitsFor it did callbacks wait =
+    ((d : Core Desk) → it.over ≡ 1 → core_in it.stage ≡ Some d → wait ≡ wait_after d did callbacks)
+    × (it.over ≡ 0 → wait ≡ 0)
+
+-- A slice of a turn adds the callbacks that ended in it to those of the iteration so far. While the turn isn't over, there is nothing to wait for.
+abbrev pub counted_on : (old : Turned) → (ran : ℕ) → ℕ
+counted_on old ran = min (begun_callbacks old + ran) (2 ^ 32 - 1)
+
+pub record TurnEnds (c : Core Desk) (from units most : ℕ) (old new : Turned) (left : LoopStage) : Type 0 where
+  pub ran : ℕ
+  pub slice : SliceEnds c from units most new.did ran left
+  pub callbacks : new.callbacks ≡ counted_on old ran
+  pub wait : new.wait ≡ wait_after slice.d new.did new.callbacks
+  pub zero : new.zero ≡ old.zero
+
+pub record TurnGoesOn (c : Core Desk) (from units most : ℕ) (old new : Turned) (left : LoopStage) : Type 0 where
+  pub ran : ℕ
+  pub slice : SliceGoesOn c from units most old.did new.did ran left
+  pub callbacks : new.callbacks ≡ counted_on old ran
+  pub wait : new.wait ≡ 0
+  pub zero : new.zero ≡ old.zero
+
+-- a slice of a turn: it ends the turn, or it doesn't, or nothing is done
+abbrev pub TurnsStage : (old new : LoopStage) → (most units was over : ℕ) → (before told : Turned) → (status : ℕ) → Type 0
+TurnsStage from new most units was over before told status =
+    ((status ≡ OK) × (over ≡ 1) × ((c : Core Desk) → LoopIsAt c from → TurnEnds c (used_in from) units most before told new))
+    ⊎ ((status ≡ OK) × (over ≡ 0) × ((c : Core Desk) → LoopIsAt c from → TurnGoesOn c (used_in from) units most before told new))
+    ⊎ ((status ≡ refusal from) × (new ≡ from) × (over ≡ was) × (told ≡ before))
+
+abbrev pub TurnsFor : (old new : Thing) → (most units was over : ℕ) → (before told : Turned) → (status : ℕ) → Type 0
+TurnsFor old new most units was over before told status =
+    OnLoopStage old new status ((over ≡ was) × (told ≡ before)) (λ a b. TurnsStage a b most units was over before told status)
+
+abbrev pub TurnsHeld : (old new : Option Thing) → (most units was over : ℕ) → (before told : Turned) → (status : ℕ) → Type 0
+TurnsHeld old new most units was over before told status =
+    OnHandle old new status ((over ≡ was) × (told ≡ before)) (λ t u. TurnsFor t u most units was over before told status)

@@ -1,0 +1,191 @@
+// Turns in slices.
+
+ghost use Rattle.std.specs.Prelude.{◌≡◌, ◌≤◌, ◌<◌, ◌⊎◌};
+ghost use Rattle.wasmloop_c.specs.TurnSlices.{TakesSlice, TakesSlices, TurnsFor, TurnsHeld, TurnsStage, WaitsFor, used_in};
+
+use crate::did::{Did, RAN};
+use crate::handle::{Handle, on};
+use crate::status::{KIND, OK, RANGE};
+use crate::step_slices::{SliceEnd, slice};
+use crate::thing::{LoopStage, Thing};
+use crate::turn::{Turned, begun, ends, wait_of};
+use std::alloc::Global;
+use std::mem::replace;
+
+/// A turn in slices.
+#[derive(Drop)]
+pub struct Turning {
+    /// How far its loop is.
+    pub stage: LoopStage,
+    /// How many callbacks ended in this call.
+    pub ran: u32,
+    /// The units that are left to this call.
+    pub left: u64,
+}
+
+/// What a slice of a step means for the turn.
+#[derive(Drop)]
+pub enum TurnFlow {
+    GoesOn,
+    Over,
+    Paused,
+    /// There was none: nothing has changed, and this is what the call answers.
+    Refused(u32),
+}
+
+/// What a call leaves of a turn.
+#[derive(Drop)]
+pub struct TurnLeft {
+    /// How far its loop is.
+    pub stage: LoopStage,
+    /// How many callbacks ended in the call.
+    pub ran: u32,
+    /// 1 where the turn is over.
+    pub over: u32,
+    /// What the call answers.
+    pub status: u32,
+}
+
+/// The units that the callback under way has used.
+fn units_used(stage: &LoopStage) -> u64
+    ensures { result ≡ used_in stage.now }
+{
+    match stage {
+        LoopStage::Stepping(held) => held.step.used(),
+        _ => 0,
+    }
+}
+
+/// A slice of the turn's next step, of all units that are left.
+fn next(turn: Turning, most: u32, did: &mut Did) -> (Turning, TurnFlow)
+    requires { (turn.ran < most) × (1 ≤ turn.left) }
+    ensures { TakesSlice turn most did.old did.new result.0 result.1 }
+{
+    let Turning { stage, ran, left } = turn;
+    let used = units_used(&stage);
+    let (stage, end) = slice(stage, left);
+    let told = match end {
+        SliceEnd::Over(told) => told,
+        SliceEnd::Paused => return (Turning { stage, ran, left }, TurnFlow::Paused),
+        SliceEnd::Refused(status) => return (
+            Turning { stage, ran, left },
+            TurnFlow::Refused(status),
+        ),
+    };
+    *did = told;
+    let left = left - (did.used - used);
+    let flow = if ends(did, ran, most) {
+        TurnFlow::Over
+    } else if left == 0 {
+        TurnFlow::Paused
+    } else {
+        TurnFlow::GoesOn
+    };
+    let ran = if did.what == RAN { ran + 1 } else { ran };
+    (Turning { stage, ran, left }, flow)
+}
+
+fn left_of(turn: Turning, over: u32, status: u32) -> TurnLeft
+    ensures { result ≡ record { stage = turn.stage; ran = turn.ran; over = over; status = status } }
+{
+    let Turning {
+        stage,
+        ran,
+        left: _,
+    } = turn;
+    TurnLeft {
+        stage,
+        ran,
+        over,
+        status,
+    }
+}
+
+/// Takes steps in slices until one ends the turn, or the units are used. Where memory is refused after a step, the turn can go on later.
+fn take_slices(stage: LoopStage, most: u32, units: u64, did: &mut Did) -> TurnLeft
+    requires { (1 ≤ most) × (1 ≤ units) }
+    ensures { TakesSlices stage most units did.old did.new result }
+{
+    let mut turn = Turning {
+        stage,
+        ran: 0,
+        left: units,
+    };
+    for taken in 0..u64::MAX {
+        let (after, flow) = next(turn, most, did);
+        turn = after;
+        match flow {
+            TurnFlow::GoesOn => {}
+            TurnFlow::Over => return left_of(turn, 1, OK),
+            TurnFlow::Paused => return left_of(turn, 0, OK),
+            TurnFlow::Refused(status) => return left_of(
+                turn,
+                0,
+                if taken == 0 { status } else { OK },
+            ),
+        }
+    }
+    left_of(turn, 0, OK)
+}
+
+/// How long the loop needs only replies and sends: not at all while its turn isn't over.
+fn wait_for(left: &TurnLeft, did: &Did, callbacks: u32) -> u64
+    ensures { WaitsFor left.now did.now callbacks result }
+{
+    match &left.stage {
+        LoopStage::Resting(held) if left.over == 1 => wait_of(&held.core, did, callbacks),
+        _ => 0,
+    }
+}
+
+fn turn_stage(
+    stage: LoopStage,
+    most: u32,
+    units: u64,
+    over: &mut u32,
+    told: &mut Turned,
+) -> (LoopStage, u32)
+    requires { (1 ≤ most) × (1 ≤ units) }
+    ensures { TurnsStage stage result.0 most units over.old over.new told.old told.new result.1 }
+{
+    let begun = begun(told);
+    let left = take_slices(stage, most, units, &mut told.did);
+    if left.status == OK {
+        *over = left.over;
+        told.callbacks = begun.saturating_add(left.ran);
+        told.wait = wait_for(&left, &told.did, told.callbacks);
+    }
+    (left.stage, left.status)
+}
+
+fn turn_for(thing: &mut Thing, most: u32, units: u64, over: &mut u32, told: &mut Turned) -> u32
+    requires { (1 ≤ most) × (1 ≤ units) }
+    ensures { TurnsFor thing.old thing.new most units over.old over.new told.old told.new result }
+{
+    let Thing::Loop(stage) = thing else {
+        return KIND;
+    };
+    let taken = replace(&mut **stage, LoopStage::Gone);
+    let (left, status) = turn_stage(taken, most, units, over, told);
+    **stage = left;
+    status
+}
+
+/// Takes steps of a loop as `wasmloop_rt_turn` does, within so many units of fuel, at least one, and tells whether the turn is over.
+#[unsafe(no_mangle)]
+pub extern "C" fn wasmloop_rt_turn_for(
+    alloc: Global,
+    handle: &mut Handle,
+    most: u32,
+    units: u64,
+    over: &mut u32,
+    told: &mut Turned,
+) -> u32
+    ensures turns { (1 ≤ most) × (1 ≤ units) → TurnsHeld handle.old.raw.value handle.new.raw.value most units over.old over.new told.old told.new result }
+    ensures range { (most < 1) ⊎ (units < 1) → (result ≡ RANGE) × (handle.new ≡ handle.old) × (over.new ≡ over.old) × (told.new ≡ told.old) }
+{
+    if most < 1 || units < 1 {
+        return RANGE;
+    }
+    on!(handle, alloc, held => turn_for(&mut held, most, units, over, told))
+}

@@ -22,7 +22,7 @@ OUT, SEED = Path(sys.argv[1]), int(sys.argv[2]) if sys.argv[2:] else 1
 HERE = Path(__file__).resolve().parent
 TOP = HERE.parent.parent
 ASK = TOP / "examples" / "kit" / "ask"
-PROGRAMS, WAITING = 1500, 40
+PROGRAMS, WAITING, MOST = 1000, 40, 1.02
 AMPLE = 1 << 40
 RUST = ["--edition", "2021", "--target", "wasm32-unknown-unknown", "--crate-type", "cdylib", "-O", "-C", "target-cpu=mvp", "-C", "linker=wasm-ld",
         "-C", "panic=abort", "-C", "strip=debuginfo", "-C", "link-args=--demangle --stack-first -zstack-size=16384"]
@@ -37,9 +37,9 @@ def linked(*sources):
     return (OUT / "linked.wasm").read_bytes()
 
 
-def plugin(*sources):
+def plugin(*sources, small=False):
     """The plug-in of these files of C."""
-    made = ask.asyncified(linked(*sources))
+    made = ask.asyncified(linked(*sources), small=small)
     same(f"whether the host runs {sources[0].name}", explain(made), None)
     return made
 
@@ -117,9 +117,14 @@ class Running:
 
 
 def fuzz():
+    """Both forms of plug-ins."""
+    native = Native()
+    for small in (False, True):
+        crowds(native, random.Random(SEED + small), plugin(ASK / "ask.c", HERE / "ask" / "asks.c", small=small), "small, " if small else "")
+
+
+def crowds(native, rng, data, form):
     """Programs in a crowd of instances, answered in any order: each question once, in its order, none lost; and the result of the native build."""
-    native, rng = Native(), random.Random(SEED)
-    data = plugin(ASK / "ask.c", HERE / "ask" / "asks.c")
     reader = wasm.Module(data)
     module = Module(freeze.with_globals(reader))
     crowd, counts = [], {"return": 0, "spent": 0, "questions": 0, "put away": 0}
@@ -146,7 +151,7 @@ def fuzz():
             one.disturb()
         else:
             one.answer()
-    print(f"questions: {PROGRAMS} programs, {counts['questions']} questions, each answered once and in order; {counts['put away']} instances went on "
+    print(f"questions: {form}{PROGRAMS} programs, {counts['questions']} questions, each answered once and in order; {counts['put away']} instances went on "
           f"as another module, {counts['spent']} ran out of fuel")
 
 
@@ -191,26 +196,50 @@ def in_rust():
     return None
 
 
+SILENT = """
+#include <stdint.h>
+typedef int32_t step(int32_t);
+static int32_t once(int32_t it) { return it * 5 + 1; }
+static int32_t twice(int32_t it) { return once(once(it)) ^ 3; }
+static step *const steps[] = { once, twice };
+__attribute__((export_name("run"))) int32_t run(int32_t count) { int32_t it = 1; while (count-- > 0) it = steps[it >> 4 & 1](it); return it; }
+"""
+
+
+def units_of(data, *calls):
+    """What the calls return, and the units of the last one."""
+    with Module(data).instance() as it:
+        return [it.call(name, *words, fuel=AMPLE) for name, *words in calls], it.used
+
+
 def never():
-    """A function that leads to no question has the same units with Asyncify and without."""
-    (OUT / "none.c").write_text('#include "ask.h"\nint32_t ask(const void *question, uint32_t length, void *answer, uint32_t room)\n'
-                                "{\n    (void)question, (void)length, (void)answer, (void)room;\n    return ASK_NONE;\n}\n")
-    with_it, without = linked(ASK / "ask.c", ASK / "cart.c"), linked(OUT / "none.c", ASK / "cart.c")
-    (OUT / "without.wasm").write_bytes(without)
-    run(shutil.which("wasm-opt"), *ask.PLAIN, "-g", OUT / "without.wasm", "-o", OUT / "without.wasm", "-O1")
-    units = []
-    for made in ((OUT / "without.wasm").read_bytes(), ask.asyncified(with_it)):
-        with Module(made).instance() as it:
-            it.call("estimate", 1000)
-            units.append(it.used)
-    same("the units of a function that never asks", units[1], units[0])
+    """A call that never asks has the units of the same guest without Asyncify if it can't ask, and hardly more if it could."""
+    none = OUT / "none.c"
+    none.write_text('#include "ask.h"\nint32_t ask(const void *question, uint32_t length, void *answer, uint32_t room)\n'
+                    "{\n    (void)question, (void)length, (void)answer, (void)room;\n    return ASK_NONE;\n}\n")
+    (OUT / "silent.c").write_text(SILENT)
+    know, could = ("know", 512), HERE / "ask" / "never.c"
+    for what, most, source, *calls in (("a guest that names no question, by pointers", 1, OUT / "silent.c", ("run", 1000)),
+                                       ("a function that leads to none", 1, ASK / "cart.c", ("estimate", 1000)),
+                                       ("an interpreter that could ask", MOST, could, ("machine", 1000, 0)),
+                                       ("one that could ask in each loop", MOST, could, know, ("machine", 1000, 1)),
+                                       ("a sort by another function than the one that asks", 1.1, could, know, ("sorted", 0)),
+                                       ("a sort by the function that asks", 1.25, could, know, ("sorted", 1))):
+        (told, units), (known, own) = units_of(plugin(ASK / "ask.c", source), *calls), units_of(ask.optimized(linked(none, source)), *calls)
+        same(f"the results of {what}", told, known)
+        same(f"whether {what} has at most {most} times the units: {units} for {own}", units <= most * own, True)
+        print(f"questions: {what}: {units:,} units, {own:,} without Asyncify: {units / own:.3f}")
+
+
+def named():
+    """Functions that --never names."""
+    with_it = linked(ASK / "ask.c", ASK / "cart.c")
     wrong = ask.asyncified(with_it, "total")
     same("whether --never leaves a function as it is", len(wrong) < len(ask.asyncified(with_it)), True)
     asked = raised(lambda: asyncio.run(ask.Plugin(Module(wrong), price).call("total", 3)))
     same("a function of --never that asks", asked, "total trapped: unreachable, after ")
     other = ask.Plugin(Module(ask.asyncified(with_it, "estimate")), price)
     same("a function that asks beside one of --never", asyncio.run(other.call("total", 20)), total(20))
-    print(f"questions: a function that never asks uses {units[0]} units with Asyncify and without")
 
 
 def typed():
@@ -285,7 +314,7 @@ def main():
         if not shutil.which(tool):
             print(f"left out: questions: there is no {tool}")
             return 0
-    for part in (fuzz, examples, never, typed, faults):
+    for part in (fuzz, examples, never, named, typed, faults):
         part()
     return expecting.wrong != 0
 

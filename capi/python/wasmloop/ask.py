@@ -2,7 +2,8 @@
 
     python3 -m wasmloop.ask cart.wasm cart.wasm
 
-It runs binaryen's `wasm-opt --asyncify`, which adds code to each function that may ask: it saves its locals, and continues with them. Run it
+It runs binaryen's `wasm-opt --asyncify`, which adds code to each function that may ask: it saves its locals, and continues with them. The code
+that it had stays beside that, for calls that begin, so that a call that never asks is hardly slower; with --small it does not. Run it
 before wasmloop.lower, if the module needs both. A function that --never names, and those that ask by it alone, are left as they are: if it
 leads to a question, the call traps (unreachable).
 
@@ -24,7 +25,7 @@ import sys
 import tempfile
 from typing import Any, Awaitable, Callable, Generator, Optional, Tuple, Union
 
-from . import KIND, RANGE, Error, Module, _tool, explain, wasm
+from . import KIND, RANGE, Error, Module, _asyncify, _tool, explain
 
 Results = Union[None, int, Tuple[int, ...]]
 Steps = Generator[bytes, Optional[bytes], Results]
@@ -123,47 +124,38 @@ def moved(steps: Steps, answer: Optional[bytes]) -> Tuple[bool, Any]:
         return False, over.value
 
 
-UNREACHABLE, NOP = 0, 1
 # What the host accepts; and what wasmloop.lower rewrites.
 PLAIN = ["--mvp-features", "--enable-sign-ext", "--enable-multivalue"]
 NEWER = [*PLAIN, "--enable-bulk-memory", "--enable-nontrapping-float-to-int", "--enable-mutable-globals", "--enable-reference-types"]
 
 
-def asyncified(data: bytes, never: str = "", asks: bool = True) -> bytes:
-    """The module with the code by which its functions ask; or, to compare, with the other changes of wasm-opt alone."""
+def optimized(data: bytes, *words: str, level: str = "-O1") -> bytes:
+    """What wasm-opt makes of a module: it joins the many locals that Asyncify makes, of which a function may have 256."""
     tool = os.environ.get("WASM_OPT") or shutil.which("wasm-opt")
     if not tool:
         raise _tool.Failed("there is no wasm-opt: install Debian's package binaryen")
-    # (of imports, those of setjmp alone lead back into the module)
-    words = ["--asyncify", "--pass-arg=asyncify-imports@env.invoke_*"] if asks else []
-    if never:
-        words += [f"--pass-arg=asyncify-removelist@{never}", "--pass-arg=asyncify-asserts"]
     with tempfile.TemporaryDirectory() as room:
         before, after = os.path.join(room, "before.wasm"), os.path.join(room, "after.wasm")
         _tool.write(before, data)
         for features in (PLAIN, NEWER):
-            # (-O1 joins the many locals that Asyncify makes: a function may have 256)
-            ran = subprocess.run([tool, *features, "-g", before, "-o", after, *words, "-O1"], stdout=subprocess.DEVNULL, stderr=subprocess.PIPE, check=False)
+            ran = subprocess.run([tool, *features, "-g", before, "-o", after, *words, level], stdout=subprocess.DEVNULL, stderr=subprocess.PIPE, check=False)
             if ran.returncode == 0:
-                made = bytes(_tool.read(after))
-                return may_ask(made) if never else made
+                return bytes(_tool.read(after))
     raise _tool.Failed(f"wasm-opt: {ran.stderr.decode(errors='replace').strip()[-1000:]}")
 
 
-# What Asyncify asserts behind a call in a function that is left as it is: global.get, local.get, i32.ne, if, unreachable, end.
-ASSERT = [wasm.CALL, 0x23, 0x20, 0x47, wasm.IF, UNREACHABLE, wasm.END]
-
-
-def may_ask(data: bytes) -> bytes:
-    """The module without the assertions in `ask` itself, where the calls of Asyncify are."""
-    module, made = wasm.Module(data), bytearray(data)
-    for body in module.bodies:
-        found = [op for _, op, _ in body.ops]
-        for at in (it for it, op in enumerate(found) if op == wasm.CALL and found[it:it + len(ASSERT)] == ASSERT):
-            callee = wasm.number(data, body.ops[at][0] + 1)[0]
-            if module.names.get(callee, "").startswith("asyncify_"):
-                made[body.ops[at + ASSERT.index(UNREACHABLE)][0]] = NOP
-    return bytes(made)
+def asyncified(data: bytes, never: str = "", small: bool = False) -> bytes:
+    """The module with the code by which its functions ask."""
+    pointers = _asyncify.asked_by_pointer(data)
+    # (of imports, those of setjmp alone lead back into the module)
+    words = ["--asyncify", "--pass-arg=asyncify-imports@env.invoke_*" if pointers else "--pass-arg=asyncify-ignore-indirect"]
+    if never:
+        words += [f"--pass-arg=asyncify-removelist@{never}", "--pass-arg=asyncify-asserts"]
+    made = optimized(data, *words)
+    if never:
+        made = _asyncify.may_ask(made)
+    # (-O4 undoes what Asyncify changes in functions that it then leaves as they are)
+    return made if small else optimized(_asyncify.doubled(made, pointers), level="-O4")
 
 
 def main() -> int:
@@ -171,9 +163,10 @@ def main() -> int:
     parser.add_argument("before", metavar="IN", help="the linked module")
     parser.add_argument("after", metavar="OUT", help="the plug-in")
     parser.add_argument("--never", metavar="NAMES", default="", help="functions that lead to no question, with commas between them")
+    parser.add_argument("--small", action="store_true", help="the code of functions that may ask once, and not twice")
     given = parser.parse_args()
     data = _tool.read(given.before)
-    made = asyncified(data, given.never)
+    made = asyncified(data, given.never, given.small)
     _tool.write(given.after, made)
     why = explain(made)
     if why:

@@ -151,7 +151,7 @@ def main():
         print("left out: SQLite that asks: there is no wasm-opt or no tclsh, or the sources of SQLite can't be fetched")
         return 0
     OUT.mkdir(parents=True, exist_ok=True)
-    (OUT / "asks.wasm").write_bytes(ask.asyncified(built(), ",".join(NO_ASKERS)))
+    (OUT / "asks.wasm").write_bytes(ask.asyncified(built(), ",".join(NO_ASKERS), small=True))
     build.call(sys.executable, build.KIT / "lower.py", OUT / "asks.wasm", OUT / "asks.wasm", "--soft", build.soft())
     data = (OUT / "asks.wasm").read_bytes()
     if explain(data):

@@ -59,4 +59,4 @@ if [ ! -f /usr/include/llhttp.h ] && [ ! -f /usr/include/http_parser.h ] || [ ! 
     exit 0
 fi
 "$top/examples/edge/build.sh" "$out/edge"
-python3 "$top/capi/test/desk_edge.py" "$out/edge" "$out"
+python3 "$top/capi/test/desk_edge.py" "$out/edge" "$out" 20

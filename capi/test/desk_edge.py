@@ -1,6 +1,6 @@
-"""The edge server's -r: its guest fails under three clients, and the record of its loop fails in the same line.
+"""The edge server's -r: its guest fails under three clients, and the record of its loop fails in the same line, with at most 300 bytes per request.
 
-usage: PYTHONPATH=capi/python WASMLOOP_LIBRARY=LIBRARY desk_edge.py EDGE OUT
+usage: PYTHONPATH=capi/python WASMLOOP_LIBRARY=LIBRARY desk_edge.py EDGE OUT [FAILURES]     (1 by default)
 """
 
 import http.client
@@ -18,7 +18,7 @@ from wasmloop import lines, replay
 
 EDGE, OUT = sys.argv[1], Path(sys.argv[2])
 EXAMPLES = Path(__file__).resolve().parent.parent.parent / "examples"
-CLIENTS, REQUESTS, SECONDS = 3, 5000, 30
+CLIENTS, REQUESTS, SECONDS, MOST_BYTES = 3, 5000, 30, 300
 
 
 def free_port():
@@ -51,35 +51,55 @@ def client(port, seed, failures):
             failures.append(text.decode())
 
 
-def main():
+def recorded(number):
+    """The record of a loop of a new server, and what the server said when the loop failed; None if it did not."""
     tenants, records, port, failures = OUT / "tenants", OUT / "edge_records", free_port(), []
     for folder in (tenants, records):
         shutil.rmtree(folder, ignore_errors=True)
         folder.mkdir()
-    guest = guests.built(OUT, EXAMPLES, "quota")
-    shutil.copy(guest, tenants)
+    shutil.copy(guests.built(OUT, EXAMPLES, "quota"), tenants)
     server = subprocess.Popen([EDGE, "-p", str(port), "-w", "2", "-r", records, tenants], stdout=subprocess.DEVNULL)
-    threads = [threading.Thread(target=client, args=(port, seed, failures)) for seed in range(CLIENTS)]
+    threads = [threading.Thread(target=client, args=(port, CLIENTS * number + it, failures)) for it in range(CLIENTS)]
     for it in threads:
         it.start()
     for it in threads:
         it.join()
     server.terminate()
     server.wait()
-    if not failures:
-        print("skipped: the edge server's guest did not fail: no two requests met in one millisecond")
-        return 0
-    again = replay.Replay(replay.rows_of(str(records / "quota.1")))
-    told = ""
-    while again.next():
-        told = again.told or told
-    line = guests.marked(Path(__file__).with_name("desk") / "quota.c")[0]
-    if not again.failed or f"quota.c:{line}]" not in lines.Lines(again.code, again.code).told(told):
-        print(f"FAILED: the server: {failures[0]}the record: {told}")
+    return records / "quota.1", failures[0] if failures else None
+
+
+def again(path, failure, line):
+    """What is wrong with the record of a failure, how many requests it has, and the bytes of each."""
+    rows = replay.rows_of(str(path))
+    run, told = replay.Replay(rows), ""
+    while run.next():
+        told = run.told or told
+    asked = sum(it[0] == "request" for it in rows)
+    size = (path.stat().st_size - 2 * len(run.code)) / (asked + 1)      # (what begins the loop counts as a request)
+    if not run.failed or f"quota.c:{line}]" not in lines.Lines(run.code, run.code).told(told):
+        return f"the server: {failure}the record: {told}", asked, size
+    return f"{size:.0f} bytes per request" if size > MOST_BYTES else "", asked, size
+
+
+def main(failures=1):
+    line, found = guests.marked(Path(__file__).with_name("desk") / "quota.c")[0], []
+    for number in range(failures):
+        path, failure = recorded(number)
+        if failure is None:
+            print("left out: a guest that did not fail: no two requests met in one millisecond")
+            continue
+        found.append(again(path, failure, line))
+        if found[-1][0]:
+            print(f"FAILED: {found[-1][0]}")
+    right = sum(not it[0] for it in found)
+    if not found:
+        print("FAILED: the guest of the edge server never failed")
         return 1
-    print(f"records of the edge server: line {line}, after {again.at} rows")
-    return 0
+    print(f"records of the edge server: {right} of {len(found)} failures at line {line} again, after {sum(it[1] for it in found)} requests, "
+          f"of at most {max(it[2] for it in found):.0f} bytes")
+    return 0 if right == len(found) else 1
 
 
 if __name__ == "__main__":
-    sys.exit(main())
+    sys.exit(main(*map(int, sys.argv[3:])))

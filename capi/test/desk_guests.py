@@ -189,11 +189,11 @@ def functions(kinds, rng, apart, here):
 
 
 def with_globals():
-    """A module whose start function adds 10 to a global of 5, whose `init` makes globals negative and writes memory, and whose work function
+    """A module whose start function adds 10 to a global of 5, whose `init`, of short blocks, makes globals negative and writes memory, and whose work function
     answers the sum of all that and its operation: 16 + op before init, op - 25 after it."""
     from wasmloop.wasm import CODE, EXPORT, FUNCTION, GLOBAL, I32, I64, MEMORY, START, TYPE, Module, constant, sized, text, u, vec
     start = bytes.fromhex("2300410a6a2400" "0b")
-    init = bytes.fromhex("41b37f23006a2400" "427b2401" "4110412a360200" "0b")
+    init = bytes.fromhex("41b37f23006a2400" "024041000d0041000d000b" "427b2401" "4110412a360200" "0b")
     work = bytes.fromhex("23002301a76a" "41102802006a" "20006a" "0b")
     return Module(b"\0asm\1\0\0\0").written({
         TYPE: vec([b"\x60\0\0", bytes([0x60, 1, I32, 1, I32])]), FUNCTION: vec([u(0), u(0), u(1)]), MEMORY: vec([b"\0\1"]), START: u(0),
@@ -281,21 +281,21 @@ def without_floats(out, examples):
         yield f"linked with shorter numbers, {level}", ((folder / "short.wasm").read_bytes(), data)
 
 
-def rust(source, made):
-    """Compiles a guest in Rust. Returns False if rustc or its target is missing."""
-    if not shutil.which("rustc"):
-        return False
-    try:
-        run("rustc", "--edition=2021", "--crate-type=cdylib", "--target=wasm32-unknown-unknown", "-Copt-level=2", "-Cpanic=abort", "-g", "-Clinker=wasm-ld",
-            "-Clink-arg=-zstack-size=16384", "-o", made, source)
-    except subprocess.CalledProcessError as why:
-        if b"can't find crate" in why.stderr or b"may not be installed" in why.stderr:
-            return False
-        raise SystemExit(why.stderr.decode()) from None
-    return True
+def rust(source, made, *words):
+    """Compiles a guest in Rust, by the first rustc that can. Returns False if rustc or its target is missing."""
+    for rustc in filter(None, map(shutil.which, ("rustc", "/usr/bin/rustc"))):
+        try:
+            run(rustc, "--edition=2021", "--crate-type=cdylib", "--target=wasm32-unknown-unknown", "-Copt-level=2", "-Cpanic=abort", "-g",
+                "-Clinker=wasm-ld", "-Clink-arg=-zstack-size=16384", *words, "-o", made, source)
+            return True
+        except subprocess.CalledProcessError as why:
+            if b"can't find crate" not in why.stderr and b"may not be installed" not in why.stderr:
+                raise SystemExit(why.stderr.decode()) from None
+    return False
 
 
 def in_rust(out, examples):
+    """The same in Rust."""
     source, rng = out / "traps.rs", random.Random(4)
     made = "\n\n".join(text for _, text in functions(RUST_KINDS, rng, ("#[inline(never)]\n", "#[inline(always)]\n"), "HERE {}"))
     cases = "\n".join(f"#[inline(never)]\nfn op_{it}(n: i32) -> i32 {{ fails_{it}(n) + 1 }}" for it in range(TRAPS))
@@ -307,4 +307,16 @@ def in_rust(out, examples):
         return None
     debug = (out / "traps_rust.debug").read_bytes()
     ran = lowered(out, examples, out / "traps_rust.debug", out / "traps_rust.wasm")
-    return source, {"lowered without floats": (ran, debug)}
+    return source, {"lowered without floats": (ran, debug), **rust_without_floats(out)}
+
+
+def rust_without_floats(out):
+    """Guests that need no lowering, as they are and stripped. (The linker keeps the lines of all of `core`, too many for a module, unless the
+    compiler sees the whole program.)"""
+    folder = out / "whole"
+    folder.mkdir(exist_ok=True)
+    text = (out / "traps.rs").read_text()
+    (folder / "traps.rs").write_text(text.replace(" as f64 * 1.5", " * 3").replace(" as f64;", ";"))
+    rust(folder / "traps.rs", folder / "traps_rust.wasm", "-Clto=fat", "-Ctarget-cpu=mvp")
+    data = (folder / "traps_rust.wasm").read_bytes()
+    return {"as it is": (data, data), "stripped": (stripped(data), data)}

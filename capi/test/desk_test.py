@@ -1,8 +1,8 @@
-"""The tools of the package for Python: lines, record and replay, profile, cover, freeze.
+"""The tools of the package for Python: lines, record and replay, profile, cover, freeze, log, fuzz.
 
 usage: PYTHONPATH=capi/python WASMLOOP_LIBRARY=LIBRARY desk_test.py PROGRAM OUT [PART..]
 
-The parts are lines, hosts, units, callbacks, warm, log, fuzz and words; default: all. Parts that need a missing compiler are skipped with a message.
+The parts are lines, hosts, units, callbacks, covered, warm, log, fuzz and words; default: all. Parts that need a missing compiler are skipped with a message.
 """
 
 import collections
@@ -14,17 +14,18 @@ import re
 import shutil
 import subprocess
 import sys
+import warnings
 from concurrent.futures import ThreadPoolExecutor
 from pathlib import Path
 
 import desk_guests as guests
 import desk_pprof
 import wasmloop
-from wasmloop import _tool, callbacks, callgrind, counts, freeze, lines, log, lower, pprof, profile, record, replay, runs, tree, wasm
+from wasmloop import _tool, callbacks, callgrind, counts, cover, freeze, lines, log, lower, pprof, profile, record, replay, runs, tree, wasm
 
 PROGRAM, OUT = os.path.abspath(sys.argv[1]), Path(sys.argv[2])
 EXAMPLES = Path(__file__).resolve().parent.parent.parent / "examples"
-HOSTS, CALLBACKS, REQUESTS, THREADS = 300, 150, 200, max(os.cpu_count() or 1, 2) - 1
+HOSTS, CALLBACKS, REQUESTS, THREADS = 1000, 150, 200, max(os.cpu_count() or 1, 2) - 1
 wrong = 0
 
 
@@ -188,7 +189,11 @@ def drive(rng, data, path, asks):
 
         for _ in range(rng.randrange(20, 160)):
             it = rng.random()
-            if it < 0.3:
+            if it < 0.15 or wasmloop._is_paused(loop.handle):
+                did = sliced(rng, loop)
+                if did:
+                    saw(did)
+            elif it < 0.3:
                 saw(loop.step())
             elif it < 0.45:
                 saw(loop.turn(rng.choice([1, 3, 2**32 - 1])).did)
@@ -214,6 +219,15 @@ def drive(rng, data, path, asks):
             else:
                 stranger(loop, other)
     return live
+
+
+def sliced(rng, loop):
+    """A slice of a step or of a turn: the step that is over at its end, if one is."""
+    units = rng.choice([1, 30, 500])
+    if rng.random() < 0.5:
+        return loop.step_for(units)
+    turned = loop.turn_for(units, rng.choice([1, 3, 2**32 - 1]))
+    return turned.did if turned else None if wasmloop._is_paused(loop.handle) else loop.turned.did
 
 
 def stranger(loop, other):
@@ -249,6 +263,7 @@ def units_part():
                 tried, units, stopped = tried + 1, units + ran.used, stopped + (ran.outcome != "done")
     print(f"units: {tried} runs, {stopped} of which stopped, {units:,} units, each sum as the host's")
     each_unit()
+    deep()
     by_line()
 
 
@@ -260,9 +275,32 @@ def each_unit():
         told = profile.Profile(module, runs.Request(data, host, 0, b"abc", fuel=fuel), samples=0)
         same(f"the units of a run with {fuel}", (told.why, sum(told.functions.values())), ("", fuel))
     data = guests.with_globals()
-    run = runs.Call(data, wasmloop.Module(data), "init", ())
-    told = profile.Profile(wasm.Module(data), run, samples=0)
-    same("the units of a call without those of the start function", (told.why, dict(told.functions)), ("", {1: run.run().used}))
+    host, module = wasmloop.Module(data), wasm.Module(data)
+    whole = runs.Call(data, host, "init", ()).run().used
+    for fuel in range(1, whole + 1):
+        told = profile.Profile(module, runs.Call(data, host, "init", (), fuel=fuel), samples=0)
+        same(f"the units of a call with {fuel}, without those of the start function", (told.why, dict(told.functions)), ("", {1: fuel}))
+    for fuel in range(4, 14):
+        told = profile.Profile(module, runs.Request(data, host, 0, b"", fuel=fuel), samples=0)
+        same(f"the units of a request with {fuel}, with those of the start function", (told.why, sum(told.functions.values())), ("", fuel))
+
+
+def deep():
+    """Runs that stop so deep that a job does not keep all calls are exact, wherever they stop."""
+    file = guests.built(OUT, EXAMPLES, "parse")
+    if not file:
+        return
+    data = file.read_bytes()
+    host, module, tried = wasmloop.Module(data), wasm.Module(data), 0
+    for given, depth in ((b"(" * 200, 64), (b"1+(" * 40 + b"1/0", 100), (b"(" * 30 + b"1/0", 20)):
+        whole = host.work(0, given, depth=depth).used
+        for fuel in (10**6, *range(whole - 20, whole), *range(whole // 2, whole // 2 + 20)):
+            ran = runs.Request(data, host, 0, given, depth, fuel)
+            told = profile.Profile(module, ran, samples=0)
+            sums = {sum(told.functions.values()), sum(told.paths.values()), sum(it.units for it in told.nodes)}
+            same(f"{given[:4]!r} with {fuel} units", (told.why, sums), ("", {told.ran.used}))
+            tried += len(ran.backtrace()) == ran.kept_calls
+    print(f"units: {tried} runs that stopped deeper than a job's backtrace")
 
 
 def by_line():
@@ -283,10 +321,12 @@ def by_line():
     check_callgrind(told[0])
     check_pprof(told[0])
     slices(data, host, given)
-    most, tree.MOST_BYTES = tree.MOST_BYTES, len(tree.TreeWriter(module, 0, True).written())
+    most, tree.MOST_BYTES = tree.MOST_BYTES, len(tree.TreeWriter(module, 0, "PATH").written())
     light = profile.Profile(module, runs.Request(data, host, 0, given, 64), source, 0)
+    stopped = [sum(profile.Profile(module, runs.Request(data, host, 0, given, 64, fuel), source, 0).lines.values()) for fuel in (150, 200, 250)]
     tree.MOST_BYTES = most
     same("a profile whose counters of blocks do not fit beside the tree", (light.why, light.paths), ("", told[0].paths))
+    same("the same of runs that stopped", stopped, [150, 200, 250] if source else [0, 0, 0])
     same("the places where expression calls itself, by atom, which is inlined twice", len({it.site for it in told[0].nodes[3:]}), 2)
     measured, tree.measured = tree.measured, no_tree
     for kind in (runs.Request, Sliced, NoSlices):
@@ -382,7 +422,8 @@ class NoSlices(runs.Request):
 
 
 def check_callgrind(told):
-    """The units of all lines are the run's, and those of a function's calls and lines together are what its callers say."""
+    """The units of all lines are the run's, and those of a function's calls and lines together are what its callers say; and callgrind_annotate
+    reads it."""
     text = callgrind.written(told, "guest.wasm").split("\n")
     alone, within, called, function, callee = 0, collections.Counter(), collections.Counter(), "", ""
     for before, line in zip([""] + text, text):
@@ -396,6 +437,12 @@ def check_callgrind(told):
     same("the units of callgrind's lines", alone, told.ran.used)
     same("the units of calls", [it for it in called if it and called[it] > within[it]], [])
     same("the calls' number", sum(int(it[6:].split()[0]) for it in text if it.startswith("calls=")), sum(it.calls for it in told.nodes if it.parent))
+    if not shutil.which("callgrind_annotate"):
+        print("skipped: callgrind_annotate: valgrind is missing")
+        return
+    (OUT / "guest.callgrind").write_text("\n".join(text))
+    ran = subprocess.run(["callgrind_annotate", OUT / "guest.callgrind"], capture_output=True, check=False)
+    same("what callgrind_annotate prints", (ran.returncode, f"{told.ran.used:,} (100.0%)  PROGRAM TOTALS" in ran.stdout.decode()), (0, True))
 
 
 def check_pprof(told):
@@ -415,6 +462,44 @@ def check_pprof(told):
     (OUT / "guest.pprof").write_bytes(data)
     ran = subprocess.run(["go", "tool", "pprof", "-top", OUT / "guest.pprof"], capture_output=True, check=False)
     same("what pprof prints", (ran.returncode, f"100% of {told.ran.used} total" in ran.stdout.decode()), (0, True))
+
+
+def covered_part():
+    """Each line is counted as often as its mark says that it runs, also where a run stops; and all counts together are the units of the runs."""
+    file = guests.built(OUT, EXAMPLES, "covered")
+    source = lines.wanted(file.read_bytes(), None) if file else None
+    if not source:
+        print("skipped: covered: clang, wasm-ld or llvm-symbolizer is missing")
+        return
+    tried = sum(covers(file, source, *it) for it in (((0, 5, 12), 10**6), ((13,), 10**6), ((20, 3, 64), 10**6), ((40, 9), 300)))
+    words = [sys.executable, "-m", "wasmloop.cover", file, "0", "--least", "100", "--lcov", OUT / "lcov"]
+    ran = subprocess.run(words, capture_output=True, check=False)
+    same("a cover of an empty request", (ran.returncode, b"not run: never" in ran.stdout, b"expected 100" in ran.stderr), (1, True, True))
+    never = next(number for number, times in marked_to_run().items() if times == "0")
+    same("the line that never runs, in lcov's form", f"DA:{never},0\n" in (OUT / "lcov").read_text(), True)
+    print(f"covered: {tried} lines are counted as often as they run")
+
+
+def marked_to_run():
+    """Of each marked line how often it runs in a request of n bytes."""
+    text = Path(__file__).with_name("desk").joinpath("covered.c").read_text()
+    marks = {number: re.search(r"RUNS (.*) \*/", line) for number, line in enumerate(text.split("\n"), 1)}
+    return {number: mark[1] for number, mark in marks.items() if mark}
+
+
+def covers(file, source, sizes, fuel):
+    """How many marked lines are counted right in requests of so many bytes; those of runs without fuel have no marks."""
+    data = file.read_bytes()
+    host, coverage = wasmloop.Module(data), cover.Coverage(wasm.Module(data), source)
+    given = [runs.Request(data, host, 0, bytes(n), fuel=fuel) for n in sizes]
+    units = sum(coverage.add(it).used for it in given)
+    same(f"the units of all lines in {sizes}", sum(coverage.operations().values()), units)
+    if fuel < 10**6:
+        return 0
+    found = {line: count for name, held in coverage.lines().items() if name.endswith("covered.c") for line, count in held.items()}
+    wanted = {line: sum(int(eval(times, {"n": n})) for n in sizes) for line, times in marked_to_run().items()}
+    same(f"how often lines run in {sizes}", {it: found.get(it) for it in wanted}, wanted)
+    return len(wanted)
 
 
 def warm_part():
@@ -553,6 +638,9 @@ def words_part():
         ("profile --help", 0, "Shows where the fuel"), ("lines --help", 0, "at byte N"), ("cover --help", 0, "Counts how often"),
         ("record --help", 0, "Records the calls"), ("replay --help", 0, "Runs a record again"), ("freeze --help", 0, "in the resulting state"),
         (f"profile {crc} 0 --in {OUT}/request", 0, "uv_work(0) on 3 bytes: done, "), (f"profile {crc} 0 --budget 3", 1, "budget"),
+        (f"profile {crc} 0 --in {OUT}/request --budget uv_work=320 --budget 321", 1, "uv_work: 321 units exceed the budget of 320"),
+        (f"profile {crc} 0 --in {OUT}/request --budget uv_work=321 --budget 321", 0, "321 units"),
+        (f"profile {crc} 0 --in {OUT}/request --budget uv_work=321 --budget 320", 1, "uv_work(0) on 3 bytes: 321 units exceed the budget of 320"),
         (f"profile {crc} 0 --budget x", 2, "expected [FUNCTION=]UNITS"), (f"profile {crc} 0 --budget none=3", 2, "no function none"),
         (f"profile {none}", 1, "No such file"), (f"profile {OUT}/no.wasm", 3, "byte 4"), (f"profile {crc} --call none", 2, "none"),
         (f"profile {crc} --call uv_work", 2, "takes 1 arguments, got 0"), (f"profile {crc} --call uv_work,x", 2, "expected NAME,NUMBER.."),
@@ -598,8 +686,9 @@ def words_part():
 
 
 def main():
+    warnings.simplefilter("ignore", wasmloop.InertImports)      # (as the tools do)
     OUT.mkdir(parents=True, exist_ok=True)
-    for part in sys.argv[3:] or ("lines", "hosts", "units", "callbacks", "warm", "log", "fuzz", "words"):
+    for part in sys.argv[3:] or ("lines", "hosts", "units", "callbacks", "covered", "warm", "log", "fuzz", "words"):
         globals()[f"{part}_part"]()
     print("desk: " + ("no failures" if not wrong else f"{wrong} failures"))
     return 1 if wrong else 0

@@ -7,20 +7,21 @@ usage: PYTHONPATH=capi/python WASMLOOP_LIBRARY=LIBRARY exact_test.py PROGRAM [NA
 import pathlib
 import sys
 import tempfile
+import warnings
 
 TOP = pathlib.Path(__file__).resolve().parent.parent.parent
 sys.path[:0] = [str(TOP / "examples/libraries"), str(TOP / "examples/rust/crates")]
 import check as crates                                  # noqa: E402
 import ports                                            # noqa: E402
 import run as libraries                                 # noqa: E402
-from wasmloop import Module, profile, runs, wasm        # noqa: E402
+from wasmloop import InertImports, Module, profile, runs, wasm        # noqa: E402
 
 DEPTH = 127                                             # (with counters a run has one nested call more)
 
 
 def of_libraries(names):
-    """(label, module, operation, request) of each request of these libraries."""
-    lacking = [it for it in sorted({it.package for it in ports.PORTS.values()}) if not libraries.fetch(it)]
+    """(name, request's description, module, operation, request) of each request of these libraries."""
+    lacking = [it for it in sorted({it.package for it in ports.PORTS.values()}) if not libraries.fetch(it)] if names else []
     if lacking:                                         # (their files are requests of others)
         print(f"left out: libraries: the sources of {', '.join(lacking)} can't be fetched")
         return
@@ -28,7 +29,7 @@ def of_libraries(names):
         libraries.write_made(name, ports.PORTS[name])
         data = libraries.module(name, ports.PORTS[name]).read_bytes()
         for _, operation, request, what in (it for it in ports.rows(libraries.SOURCES) if it[0] == name):
-            yield f"{name}: {what}", data, operation, request
+            yield name, what, data, operation, request
 
 
 def of_crates(program, folder, names):
@@ -39,27 +40,30 @@ def of_crates(program, folder, names):
             print(f"{name}: left out, there is no Debian package of {crates.dependencies(name)}")
             continue
         for request in crates.REQUESTS[name]:
-            yield f"{name}: {len(request)} bytes", made.read_bytes(), 0, request
+            yield name, f"{len(request)} bytes", made.read_bytes(), 0, request
 
 
-def is_exact(label, data, operation, request):
+def is_exact(name, what, data, operation, request):
     """Whether each sum is the host's."""
     host = Module(data)
     told = profile.Profile(wasm.Module(data), runs.Request(data, host, operation, request, DEPTH), samples=3)
-    sums = [sum(told.functions.values()), sum(told.paths.values()), *([] if told.why else [sum(it.units for it in told.nodes)])]
+    sums = [sum(told.functions.values()), sum(told.paths.values()), sum(it.units for it in told.nodes)]
     right = set(sums) == {told.ran.used}
-    print(f"{label}: {told.ran.ending}, {told.ran.used:,} units, {'each sum as the host' if right else f'WRONG: {sums}'}"
+    print(f"{name}: {what}: {told.ran.ending}, {told.ran.used:,} units, {'each sum as the host' if right else f'WRONG: {sums}'}"
           f"{'; call paths are sampled: ' + told.why if told.why else ''}", flush=True)
     return right
 
 
 def main(program, names):
+    warnings.simplefilter("ignore", InertImports)       # (as the tools do)
     with tempfile.TemporaryDirectory() as room:
         folder = pathlib.Path(room)
         (folder / "soft.wasm").write_bytes(libraries.soft().read_bytes())
         known = [it for it in ports.PORTS if not names or it in names], [it for it in crates.REQUESTS if not names or it in names]
-        right = [is_exact(*it) for found in (of_libraries(known[0]), of_crates(program, folder, known[1])) for it in found]
-    print(f"exact: {sum(right)} of {len(right)} requests of {len(known[0])} libraries and {len(known[1])} crates")
+        ran = [[(it[0], is_exact(*it)) for it in found] for found in (of_libraries(known[0]), of_crates(program, folder, known[1]))]
+    right = [it for part in ran for _, it in part]
+    numbers = [len({name for name, _ in part}) for part in ran]
+    print(f"{len(right)} requests of {numbers[0]} libraries and {numbers[1]} crates, {'all' if all(right) else f'only {sum(right)}'} exact")
     return 0 if right and all(right) else 1
 
 

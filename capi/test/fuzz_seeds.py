@@ -11,7 +11,7 @@ from pathlib import Path
 import desk_guests as guests
 
 EXAMPLES = Path(__file__).resolve().parent.parent.parent / "examples"
-SECONDS, BUSY = 60, 4                                   # a busy machine may take so many times as long
+SECONDS, BUSY = 60, 20                                  # a busy machine may take so many times as long
 
 
 def spent():
@@ -20,11 +20,16 @@ def spent():
     return used.ru_utime + used.ru_stime
 
 
+def bounded():
+    """Ends each process that has used so much processor time."""
+    resource.setrlimit(resource.RLIMIT_CPU, (SECONDS, SECONDS))
+
+
 def finds(file, seed):
     """Whether this seed finds the fault in time."""
     began = spent()
     ran = subprocess.run([sys.executable, "-m", "wasmloop.fuzz", file, "0", "--most", "32", "--seconds", str(BUSY * SECONDS), "--seed", str(seed)],
-                         capture_output=True, check=False)
+                         capture_output=True, check=False, preexec_fn=bounded)
     took, found = spent() - began, ran.returncode == 4 and b"trapped: division by zero" in ran.stdout
     print(f"seed {seed}: {'found' if found else 'not found'}, {took:.1f} s", flush=True)
     return found and took <= SECONDS

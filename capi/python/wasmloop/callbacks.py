@@ -190,6 +190,7 @@ class Callback:
 
     can_be_sampled = False
     most_nodes = tree.MOST_NODES,
+    kept_calls = None
 
     def __init__(self, rows, given=None):
         watched = Watched(rows)

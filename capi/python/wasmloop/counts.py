@@ -196,22 +196,25 @@ class Writer:
         return m.written({**replaced, **more}, dropped=(0,))
 
 
+def fitting(writers, what, most=MOST_BYTES):
+    """The first of the writers whose module has at most so many bytes, and that module, loaded."""
+    for writer in writers:
+        code = writer.written()
+        if len(code) <= most:
+            return writer, Host(code)
+    raise _tool.Failed(f"with {what} the module has {len(code):,} bytes, more than {most:,}")
+
+
 class Counted:
     """A guest with counters, loaded. `fresh` returns an instance whose request has these bytes."""
 
     def __init__(self, data, kinds=(Writer.INLINE, Writer.CALLS)):
         module = wasm.Module(data)
-        for kind in kinds:
-            self.writer = Writer(module, kind)
-            code = self.writer.written()
-            if len(code) <= MOST_BYTES:
-                break
-        else:
-            raise _tool.Failed(f"with counters the module has {len(code):,} bytes, more than {MOST_BYTES:,}")
-        self.rows, self.host = self.writer.rows, Host(code)
+        self.writer, self.host = fitting((Writer(module, kind) for kind in kinds), "counters")
+        self.rows = self.writer.rows
 
-    def begin(self, instance):
-        """Called before the call that is measured."""
+    def begin(self, instance, with_start):
+        """Called before the call that is measured, with the start function or without."""
 
     def fresh(self, given, depth):
         at, it = self.writer, self.host.instance(fuel=ENOUGH, depth=depth)

@@ -10,7 +10,7 @@ editors. Without DWARF it reports functions alone. --least N fails if less than 
 import collections
 import sys
 
-from . import _tool, counts, lines, runs
+from . import Error, _tool, counts, lines, runs, tree
 
 
 def ranges(numbers):
@@ -31,29 +31,48 @@ class Coverage:
         self.module, self.source = module, source
         self.counted = counts.Counted(module.data)
         self.counts = [0] * len(self.counted.rows)
+        self.of_stopped, self.calls_of_stopped = collections.Counter(), collections.Counter()
 
     def add(self, run):
         """Runs it with counters and without, and returns how the plain run ended. Prints a message if the two differ."""
         wanted = run.run()
+        if wanted.ending != "done":
+            why = self._stopped(run, wanted)
+            if not why:
+                return wanted
+            print(f"not exact: {run} stopped, and {why}", file=sys.stderr)
         did, found = run.counted(self.counted)
         self.counts = [a + b for a, b in zip(self.counts, found)]
         if did[:3] != wanted[:3]:
             print(f"not exact: with counters, {run} ends differently: {did.ending}", file=sys.stderr)
         return wanted
 
+    def _stopped(self, run, wanted):
+        """Adds a run that stopped, without the rest of the blocks in which its calls were. Returns why that is not possible."""
+        try:
+            measured = tree.measured(self.module, run, wanted)
+        except (_tool.Failed, Error) as why:
+            return str(why)
+        self.of_stopped.update(measured.operations)
+        for node in measured.nodes[1:]:
+            self.calls_of_stopped[node.function] += node.calls
+        return ""
+
     def functions(self):
         """How often each function was called: its first block runs once per call."""
         found = {}
         for row, count in zip(self.counted.rows, self.counts):
-            found.setdefault(row.function, count)
+            found.setdefault(row.function, count + self.calls_of_stopped[row.function])
         return found
+
+    def operations(self):
+        """How often each instruction that costs fuel ran, by its byte."""
+        rows = counts.by_operation(self.module, self.counted.rows, self.counts)
+        return {byte: count + self.of_stopped[function, byte] for function, byte, count in rows}
 
     def lines(self):
         """For each file how often each line ran: as often as its most frequent instruction."""
-        places = collections.Counter()
-        for _, byte, count in counts.by_operation(self.module, self.counted.rows, self.counts):
-            places[byte] = max(places[byte], count)
-        found = collections.defaultdict(dict)
+        places, found = self.operations(), collections.defaultdict(dict)
         for byte, frames in zip(places, self.source.look_up(list(places))):
             for _, file, line in frames:
                 found[file][line] = max(found[file].get(line, 0), places[byte])

@@ -8,9 +8,6 @@ from . import KIND, Error, Module, Stopped, _tool
 from .counts import ENOUGH, Counted, Writer
 
 
-JOB_CALLS = 17                                          # how many calls of a backtrace a job keeps
-
-
 class Ran(NamedTuple):
     """How a run ended, its result, its reply, its units, and the sentence on one that did not return."""
 
@@ -53,6 +50,7 @@ class Call:
     can_be_sampled = True
     with_start = False                                  # whether it includes the units of the start function
     most_nodes = 32768, 8192, 1024                      # of a call tree: fewer, if the guest lacks the memory beside it
+    kept_calls = None                                   # a backtrace of so many calls may lack others; None: it is always complete
 
     def __init__(self, data, host, name, args, depth=64, fuel=ENOUGH):
         self.data, self.host, self.name, self.args, self.depth, self.fuel, self.given = data, host, name, args, depth, fuel, b""
@@ -76,7 +74,7 @@ class Call:
         """Runs the guest with counters, and returns what they read, too."""
         with counted.fresh(self.given, min(self.depth + 1, 128)) as it:
             before = None if self.with_start else counted.read(it)
-            counted.begin(it)
+            counted.begin(it, self.with_start)
             try:
                 answer, ending = it.call(self.name, *self.args, fuel=fuel or min(32 * self.fuel, ENOUGH), depth=min(self.depth + 1, 128)), "done"
             except Stopped as why:
@@ -85,15 +83,15 @@ class Call:
 
     def treed(self, most, most_nodes):
         """Runs the guest with a counted call tree of so many nodes, up to so many units: how it ended, the counts of its blocks, and its nodes."""
-        from .tree import Tree                          # (which imports this module)
+        from .tree import Blocks, Tree                  # (which imports this module)
         tree = Tree(self.data, most, most_nodes)
         ended, (counts, nodes) = self.counted(tree, ENOUGH)
-        if tree.writer.light and not most:
-            ended, counts = self.counted(Counted(self.data), ENOUGH)
+        if tree.writer.only:
+            ended, counts = self.counted(Blocks(self.data, most) if most else Counted(self.data), ENOUGH)
         return ended, counts, nodes
 
     def backtrace(self):
-        """The backtrace of a run that stopped, innermost first, as (function, instruction); None if it may not be complete."""
+        """The backtrace of a run that stopped, innermost first, as (function, instruction)."""
         return self._path_at(self.fuel)[0]
 
     def _path_at(self, fuel):
@@ -133,6 +131,7 @@ class Request(Call):
     128 calls of a backtrace and a job 17."""
 
     with_start = True
+    kept_calls = 17
 
     def __init__(self, data, host, op, given, depth=64, fuel=ENOUGH):
         super().__init__(data, host, "uv_work", (op,), depth, fuel)
@@ -148,8 +147,7 @@ class Request(Call):
 
     def backtrace(self):
         with self.host.job(self.args[0], self.given, fuel=self.fuel, depth=self.depth) as job:
-            found = job.run().stop()
-            return found if len(found) < JOB_CALLS else None
+            return job.run().stop()
 
     def sampled(self, count, threads):
         try:

@@ -8,10 +8,10 @@ the original stopped.
 import collections
 from typing import List, NamedTuple, Tuple
 
-from . import Module as Host, _tool, runs, wasm
-from .counts import ENOUGH, Counted, Writer, blocks, by_operation
+from . import _tool, runs, wasm
+from .counts import ENOUGH, Counted, Writer, blocks, by_operation, fitting
 from .lowering.bulk import assembled
-from .wasm import FREE, I32, I64, MOST_BYTES, MOST_PAGES, PAGE, constant, i32, text, u
+from .wasm import CALL, CALL_INDIRECT, FREE, I32, I64, MOST_BYTES, MOST_PAGES, PAGE, constant, i32, text, u
 
 NODE, MOST_NODES = 32, 32768                            # the bytes of a node; how many there may be
 ROOT = 0                                                # the index of the root, which is no call
@@ -43,13 +43,15 @@ end"""
 COUNT = """
     global on i32.eqz if ELSEWHERE return end
     BLOCK
-    get me get me i64.load 24 get cost i64.extend i64.add i64.store 24
+    PATH
     global total get cost i64.extend i64.add global-set total
     global total global most i64.ge_u if OVER unreachable end
 end"""
 
 
 BLOCK = "get row i32 4 i32.mul i32 COUNTERS i32.add tee row get row i32.load 0 i32 1 i32.add i32.store 0"
+PATH = "get me get me i64.load 24 get cost i64.extend i64.add i64.store 24"
+BEGIN = "i32 NODES global-set node i32 0 global-set site get with_start i32.eqz if i64 0 global-set total end end"
 
 
 class Node(NamedTuple):
@@ -63,16 +65,16 @@ class Node(NamedTuple):
 
 
 class TreeWriter(Writer):
-    """Writes the guest with counters of blocks and of call paths; `light` ones are of call paths alone. `most` units end a run; 0: it is not
-    limited."""
+    """Writes the guest with counters of blocks and of call paths; `only` names one of them, `BLOCK` or `PATH`. `most` units end a run; 0: it is
+    not limited."""
 
-    def __init__(self, module, most=0, light=False, most_nodes=MOST_NODES):
+    def __init__(self, module, most=0, only="", most_nodes=MOST_NODES):
         least = (module.memory or (0, 0))[0]
         rows = 4 * sum(len(body.ops) for body in module.bodies) // PAGE + 4
         self.nodes_room = NODE * min(most_nodes, max((MOST_PAGES - least - rows) * PAGE // NODE // 2, 64))
         super().__init__(module, self.CALLS)
         self.nodes = (self.counters + 4 * len(self.rows) + 15) // 16 * 16
-        self.most, self.first_global, self.light = most or ENOUGH, len(module.globals()) + 1, light
+        self.most, self.first_global, self.only = most or ENOUGH, len(module.globals()) + 1, only
         self.names = {name: self.first_global + k for k, name in enumerate(GLOBALS)}
 
     def more_room(self):
@@ -105,6 +107,8 @@ class TreeWriter(Writer):
         return len(self.module.types[self.module.functions[number]][0]) + self.module.bodies[number].local_count
 
     def head(self, number, body):
+        if self.only == "BLOCK":
+            return super().head(number, body)
         groups, at = wasm.number(body.data, body.start)
         locals_ = u(groups + 1) + body.data[at:body.code] + u(1) + bytes([I32])
         return locals_ + i32(number) + b"\x10" + u(self.enter()) + b"\x21" + u(self.me(number))
@@ -118,16 +122,22 @@ class TreeWriter(Writer):
         return ""
 
     def counter(self, place):
-        row = self.rows[place]
-        params = ["cost", "me"] if self.light else ["row", "cost", "me"]
-        words = COUNT.replace("BLOCK", "" if self.light else BLOCK)
-        count = self.added_function("count", words, params, [], ELSEWHERE=self.elsewhere(), OVER=self.over())
-        given = b"" if self.light else i32(place)
-        return given + i32(row.cost) + b"\x20" + u(self.me(row.function)) + b"\x10" + u(count) if row.cost else b""
+        return self.charge(self.rows[place].cost, place)
+
+    def charge(self, cost, place):
+        """What counts so many units, and the block of this number."""
+        words, given = COUNT, {"cost": i32(cost)}
+        if self.only != "PATH":
+            words, given = words.replace("BLOCK", BLOCK), {"row": i32(place), **given}
+        if self.only != "BLOCK":
+            words, given = words.replace("PATH", PATH), {**given, "me": b"\x20" + u(self.me(self.number))}
+        words = words.replace("BLOCK", "").replace("PATH", "")
+        count = self.added_function("count", words, list(given), [], ELSEWHERE=self.elsewhere(), OVER=self.over())
+        return b"".join(given.values()) + b"\x10" + u(count) if cost else b""
 
     def call(self, place, callee, piece):
         written = super().call(place, callee, piece)
-        if callee is not None and callee < len(self.module.imported):
+        if self.only == "BLOCK" or callee is not None and callee < len(self.module.imported):
             return written
         site, node = self.names["site"], self.names["node"]
         return i32(place) + b"\x24" + u(site) + written + b"\x20" + u(self.me(self.number)) + b"\x24" + u(node)
@@ -137,27 +147,22 @@ class TreeWriter(Writer):
         return super().body(number, body)
 
     def begin(self):
-        return self.added_function("begin", "i32 NODES global-set node i32 0 global-set site end", [], [])
+        return self.added_function("begin", BEGIN, ["with_start"], [])
 
     def exports(self):
         return [*super().exports(), text("profile begin") + b"\0" + u(self.begin())]
 
 
 class Tree(Counted):
-    """A guest with a counted call tree, loaded: a light one if the other does not fit."""
+    """A guest with a counted call tree, loaded: one without counters of blocks if the other does not fit."""
 
     def __init__(self, data, most=0, most_nodes=MOST_NODES):
-        for light in (False, True):
-            self.writer = TreeWriter(wasm.Module(data), most, light, most_nodes)
-            code = self.writer.written()
-            if len(code) <= MOST_BYTES:
-                break
-        else:
-            raise _tool.Failed(f"with the call tree the module has {len(code):,} bytes, more than {MOST_BYTES:,}")
-        self.rows, self.host = self.writer.rows, Host(code)
+        module = wasm.Module(data)
+        self.writer, self.host = fitting((TreeWriter(module, most, it, most_nodes) for it in ("", "PATH")), "the call tree", MOST_BYTES)
+        self.rows = self.writer.rows
 
-    def begin(self, instance):
-        instance.call("profile begin", depth=128)
+    def begin(self, instance, with_start):
+        instance.call("profile begin", int(with_start), depth=128)
 
     def read(self, instance, before=None):
         """How often each row has run, and the nodes, since `before` was read."""
@@ -177,6 +182,56 @@ class Tree(Counted):
                 break
             found.append(Node(site, function, (parent - at) // NODE if start else ROOT, calls, units))
         return found
+
+
+class Blocks(Tree):
+    """The same with counters of blocks alone."""
+
+    def __init__(self, data, most):
+        self.writer, self.host = fitting([TreeWriter(wasm.Module(data), most, "BLOCK", 0)], "counters")
+        self.rows = self.writer.rows
+
+    def read(self, instance, before=None):
+        return Counted.read(self, instance, before)
+
+
+class FindingWriter(TreeWriter):
+    """Counts a block up to its next call, and what is behind a call once that has returned: so the run ends in the very calls in which the
+    original stopped. The root's field of the function then has the address of the node that was current."""
+
+    def body(self, number, body):
+        self.parts = {}                                 # the units from an instruction to the next call, or to the end of its block
+        for row in blocks(number, body):
+            part = 0
+            for place in reversed(range(row.began(body.ops), row.end)):
+                _, op, _ = body.ops[place]
+                self.parts[place + 1] = part
+                part = (0 if self.enters(body, place) else part) + (op not in FREE)
+            self.parts[row.first] = part
+        return super().body(number, body)
+
+    def enters(self, body, place):
+        """Whether the instruction calls a function of the guest."""
+        start, op, _ = body.ops[place]
+        return op == CALL_INDIRECT or op == CALL and wasm.number(body.data, start + 1)[0] >= len(self.module.imported)
+
+    def counter(self, place):
+        return self.charge(self.parts[self.rows[place].first], place)
+
+    def call(self, place, callee, piece):
+        written = super().call(place, callee, piece)
+        return written + self.charge(self.parts[place + 1], 0) if self.enters(self.module.bodies[self.number], place) else written
+
+    def over(self):
+        return f"i32 {self.nodes} get me i32.store 4"
+
+
+class Finding(Tree):
+    """The same without counters of blocks, loaded."""
+
+    def __init__(self, data, most):
+        self.writer, self.host = fitting([FindingWriter(wasm.Module(data), most, "PATH")], "the call tree")
+        self.rows = self.writer.rows
 
 
 def less(nodes, before):
@@ -223,8 +278,6 @@ def checked(module, ran, counted, sites, cut):
     rows = [row for number, body in enumerate(module.bodies) for row in blocks(number, body)]
     if (ended.ending == "done") != (ran.ending == "done") or not sites and ended[:3] != ran[:3]:
         raise Differs(f"with counters it ends differently: {ended.ending}")
-    if sites and not any(counters):
-        raise _tool.Failed("the counters of blocks do not fit beside the call tree, which a run that stopped needs")
     operations = collections.Counter()
     for function, byte, count in by_operation(module, rows, counters):
         operations[function, byte] += count
@@ -241,11 +294,22 @@ def stop_of(module, run, ran):
     empty if it returned."""
     if ran.ending == "done":
         return [], []
-    sites = run.backtrace()
-    if sites is None:
-        raise _tool.Failed("its backtrace is not complete")
-    sites = [(site[0], runs.instruction_of(module, site)) for site in sites]
+    sites = [(site[0], runs.instruction_of(module, site)) for site in run.backtrace()]
+    if len(sites) == run.kept_calls:
+        sites = whole(run, ran, sites)
     return sites, [rest_of(module, site, ran.ending != "spent" or place > 0) for place, site in enumerate(sites)]
+
+
+def whole(run, ran, inner):
+    """The backtrace of a run that stopped, of which the innermost calls are known."""
+    finding = Finding(run.data, ran.used + (ran.ending == "spent"))
+    _, (_, nodes) = run.counted(finding, ENOUGH)
+    place = (nodes[ROOT].function - finding.writer.nodes) // NODE
+    path = path_of(nodes, place) if place > 0 else ()
+    sites = inner[:1] + [(function, site) for (_, function), (site, _) in reversed(list(zip(path, path[1:])))]
+    if sites[:len(inner)] != inner:
+        raise _tool.Failed("its backtrace is not complete")
+    return sites
 
 
 def rest_of(module, site, is_charged):

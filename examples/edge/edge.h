@@ -44,7 +44,7 @@ struct task {
     int status;                 /* of a load: the library's status, or ABSENT; of a turn: what its last step did */
     wasmloop_handle handle;     /* its job, or the module */
     wasmloop_about about;       /* the outcome may be LATE */
-    uint64_t units, cpu, until; /* units: of its next slice; until: its deadline, or when a client times out */
+    uint64_t cpu, until;        /* until: its deadline, or when a client times out */
     char said[SAID];            /* why it failed, and where */
 };
 

@@ -3,8 +3,8 @@
 usage: WASMLOOP_LIBRARY=libwasmloop.so PYTHONPATH=capi/python python3 edge.py FOLDER [PORT [WORKERS]]
 
 POST /NAME[/OP] runs uv_work(OP) of FOLDER/NAME.wasm on the body; FOLDER/NAME.conf may have lines such as "fuel 2000000". The request that finds
-a file changed reads it again; if a module is rejected, the old one stays. README.md has the statuses. A job runs in slices of some SLICE
-seconds: the time that one took sets the units of the next, and deadlines are checked between them. A running job does not yield to others."""
+a file changed reads it again; if a module is rejected, the old one stays. README.md has the statuses. A job runs in slices of SLICE units, and
+deadlines are checked between them. A running job does not yield to others."""
 import asyncio
 import bisect
 import collections
@@ -24,7 +24,7 @@ STATUS = {"done": 200, "nowork": 404, "trap": 500, "depth": 500, "nomemory": 503
 LIMITS = {"fuel": 10_000_000, "depth": 64, "queue": 64, "deadline": 1000, "type": "application/octet-stream"}
 TRAPS = ("", "unreachable", "division by zero", "a quotient out of range", "an access outside the memory", "an index past the table", "an empty element",
          "a function of another type")
-MOST_WAITING, SLICE, FIRST, MOST = 4096, 0.001, 1000, 20_000  # FIRST, MOST: units
+MOST_WAITING, SLICE = 4096, 20_000  # SLICE: units
 tenants, active, pace = {}, set(), 0.0
 
 
@@ -79,12 +79,11 @@ def explain(name, code, reply, job):
 
 def run(name, module, code, op, data, limits, until):
     """In a thread: the reply, the text of a failure, and the processor time."""
-    began, over, units, now, said = time.thread_time(), False, FIRST, time.monotonic(), ""
+    began, over, said = time.thread_time(), False, ""
     try:
         with module.job(op, data, limits["fuel"], limits["depth"]) as job:
-            while not over and now < until:
-                over, before, now = job.run_for(units), now, time.monotonic()
-                units = int(min(MOST, 1 + units * SLICE / (now - before + 1e-6)))
+            while not over and time.monotonic() < until:
+                over = job.run_for(SLICE)
             reply = job.reply() if over else wasmloop.Reply("late", 0, b"", job.about().used)
             if reply.outcome != "done":
                 said = explain(name, code, reply, job)

@@ -5,6 +5,7 @@
  *     GET /-/log/NAME      a loop's last steps
  *     GET /-/              FOLDER/dashboard.html */
 #include <fcntl.h>
+#include <malloc.h>
 #include <stdlib.h>
 #include <string.h>
 #include <time.h>
@@ -131,6 +132,7 @@ static void write_type(FILE *to, const char *name, const char *type, const char 
 
 static void write_server(FILE *to) {
     size_t loaded = 0;
+    const struct mallinfo2 memory = mallinfo2();
     for (tenant *t = LIST_FIRST(&tenants); t; t = LIST_NEXT(t, next)) loaded++;
     const struct {
         const char *name, *type, *help;
@@ -138,6 +140,7 @@ static void write_server(FILE *to) {
     } numbers[] = { { "tenants", "gauge", "Tenants that are loaded.", loaded }, { "clients", "gauge", "Connections that are open.", clients },
         { "threads_busy", "gauge", "Threads of the pool that have a task.", running },
         { "tasks_waiting", "gauge", "Tasks that wait for a thread.", waiting }, { "held_bytes", "gauge", "Bytes of bodies that are read.", held },
+        { "allocated_bytes", "gauge", "Bytes that malloc has given out.", memory.uordblks + memory.hblkhd },
         { "log_lines_lost_total", "counter", "Lines of the access log that standard output didn't take.", lines_lost } };
     for (size_t k = 0; k < sizeof numbers / sizeof *numbers; k++) {
         write_type(to, numbers[k].name, numbers[k].type, numbers[k].help);

@@ -27,6 +27,17 @@ soak() {
     fi
 }
 
+# A server that never frees a request's body, 32 bytes each, must fail the soak.
+leak() {
+    leaky=$out/leaky/examples/edge
+    mkdir -p "$out/leaky/examples" && cp -r "$here" "$leaky" && ln -s "$top/capi" "$out/leaky/capi" && sed -i '/^    free(b->at);$/d' "$leaky/http.c" &&
+        "$leaky/build.sh" "$out/leaks" "$library" || { say 'FAILED: build.sh of a leak'; failed=1; return; }
+    python3 "$here/bench/soak.py" --seconds "$1" "$out/leaks" "$out/load" "$out/guests" > "$out/soak"
+    if grep -q '^wrong: a leak$' "$out/soak"; then say "soak: $1 s, finds a leak"
+    else say "FAILED: the soak finds no leak: $(cat "$out/soak")"; failed=1
+    fi
+}
+
 # Makes a guest's source lines from a build with debug information.
 source_lines() {
     flags="--target=wasm32 -mcpu=mvp -std=c99 -O2 -ffreestanding -I $here/.."
@@ -63,6 +74,7 @@ for how; do
         part "$out/plain" "$out/guests" functions bounds end clients $strict
         if has chromium; then part "$out/plain" "$out/guests" page; else left_out 'the page: there is no chromium'; fi
         soak "$out/plain" 10
+        leak 10
         if has curl; then "$here/test/lines.sh" "$out/plain" "$out/guests" || failed=1; else left_out 'the lines of README.md: there is no curl'; fi
         if [ ! -f "$WASMLOOP_LIBRARY" ]; then left_out 'edge.py: there is no libwasmloop.so.0'
         elif ! /usr/bin/python3 -c 'import aiohttp' 2> /dev/null; then left_out 'edge.py: there is no aiohttp'

@@ -7,7 +7,7 @@
 #include <unistd.h>
 #include "http.h"
 
-enum { SLICE_NS = 25000, FIRST = 5000, FEWEST = 50, MOST = 50000, MOST_RESTS = 32 };
+enum { SLICE = 10000, MOST_RESTS = 32 }; /* SLICE: units */
 
 uint32_t running, waiting;
 atomic_bool hurry;
@@ -41,25 +41,16 @@ void explain(task *k, wasmloop_handle *of, const char *how, uint32_t trap, uint6
     }
 }
 
-/* How many units the next slice has, by the time that the last one took: some 25 us, and none ends long after the deadline. */
-static uint64_t units_of(const task *k, uint64_t took, uint64_t now) {
-    uint64_t wish = k->until - now < SLICE_NS ? k->until - now : SLICE_NS, units = k->units * wish / (took + SLICE_NS / 8);
-    return units < FEWEST ? FEWEST : units > MOST ? MOST : units;
-}
-
 /* Runs a job in slices until it ends, its deadline passes, its client disconnects, or, after half a millisecond, another tenant waits. */
 void run_job(task *k) {
     uint32_t over = 0;
     int is_late = 0;
     wasmloop_about *a = &k->about;
-    uint64_t began = uv_hrtime(), from = began, now;
-    if (k->units == 0) k->units = FIRST;
-    while (!over && !is_late && !k->gone && !(hurry && from - began >= TURN_NS)) {
-        if (wasmloop_job_run_for(&k->handle, k->units, &over) != WASMLOOP_OK) over = 1;
+    uint64_t began = uv_hrtime(), now = began;
+    while (!over && !is_late && !k->gone && !(hurry && now - began >= TURN_NS)) {
+        if (wasmloop_job_run_for(&k->handle, SLICE, &over) != WASMLOOP_OK) over = 1;
         now = uv_hrtime();
         is_late = !over && now >= k->until;
-        k->units = units_of(k, now - from, now);
-        from = now;
     }
     k->goes_on = !over && !is_late;
     wasmloop_job_about(&k->handle, a);
@@ -81,7 +72,7 @@ static void lower_priority(void) {
     if (syscall(SYS_sched_getattr, 0, &own, sizeof own, 0) != 0) return;
     own.priority -= own.priority > 1;
     own.nice++;
-    own.slice = 4 * SLICE_NS;
+    own.slice = MS / 10;
     syscall(SYS_sched_setattr, 0, &own, 0);
 }
 

@@ -870,7 +870,8 @@ def secrets(s, count=100):
         looks = [pool.submit(s.ask, "/looks/1", b"") for _ in range(count)]
         got = collections.Counter((it.result()[0], it.result()[2]["Wasmloop-Value"]) for it in looks)
         check(set(got) == {(200, "0")}, "another's bytes", got)
-        check({it.result()[:2] for it in fills} == {(200, b"SECRET!!" * 8192)}, "its own bytes")
+        own = collections.Counter((it.result()[0], it.result()[1] == b"SECRET!!" * 8192 or it.result()[1][:99]) for it in fills)
+        check(set(own) == {(200, True)}, "its own bytes", own)
 
 
 def churn(s, seconds=10):
@@ -924,9 +925,11 @@ def crowd_of_the_worst(s):
         return subprocess.Popen([os.environ["LOAD"], *words], stdout=subprocess.PIPE, stderr=subprocess.DEVNULL, text=True)
 
     def p99():
-        said = load("-r", "100", "-d", "4", str(s.port), "/hello").communicate()[0]
-        check(" strays 0 " in said and re.search(" status 200 400$", said.strip()), "a good tenant's answers", said)
-        return int(re.search(r" p99 (\d+)", said)[1])
+        """None if the machine was too busy for all 400 requests to be sent in time."""
+        said = load("-r", "100", "-d", "4", str(s.port), "/hello").communicate()[0].strip()
+        got = re.search(r"asked (\d+) answered \1 lost 0 strays 0 .* p99 (\d+) .* status 200 \1$", said)
+        check(got, "a good tenant's answers", said)
+        return int(got[2]) if got and got[1] == "400" else None
 
     def pair():
         alone, worst = p99(), [load("-c", "3", "-r", "0", "-d", "6", str(s.port), f"/{it}") for it in paths]
@@ -935,14 +938,14 @@ def crowd_of_the_worst(s):
         for it in worst:
             it.communicate()
         print(f"test: a good tenant's p99: {alone} us alone, {beside} beside 42 hostile clients")
-        return beside <= 2 * alone
+        return alone is not None and beside is not None and beside <= 2 * alone
 
     until("a good tenant beside the worst", pair, 300)
 
 
 def hostile():
     broken_too()
-    s = Server("-t", "10", "-x", "127.0.0.1", hello="type text/plain\n", slow=ENDLESS, hog=HOG, crowd="queue 200\n", mine="")
+    s = Server("-t", "10", "-x", "127.0.0.1", hello="type text/plain\n", slow=ENDLESS, hog=HOG, crowd="queue 200\n", mine="", looks="")
     put(s, "looks.wasm", (GUESTS / "snoop.wasm").read_bytes())
     noise(s, 3000, time.time())
     secrets(s)

@@ -264,11 +264,11 @@ class Tree:
         return self.kept.setdefault(id(impl), Node(impl.file, impl.name, lines, told, impl.scope, impl.of))
 
     def roots(self, call):
-        """`crate::function`, `crate::module::function`, `crate::Type` (all its public calls), `crate::Type::function`, or a crate
-        with all calls that it exports to C"""
+        """`crate::function`, `crate::module::function`, `crate::Type` (all its public calls), `crate::module::Type` (those in that module),
+        `crate::Type::function`, or a crate with all calls that it exports to C"""
         crate, *path = call.split('::')
         found = [node for (file, of), nodes in self.calls.items() for node in nodes if node.scope.crate == crate
-                 and ([of, node.name] == path or [of] == path or not of and path in ([node.name], [file.stem, node.name])
+                 and (path in ([of, node.name], [of], [file.stem, of]) or not of and path in ([node.name], [file.stem, node.name])
                       or not path and 'extern' in node.text)]
         item = self.rust_type(crate, '', path[-1]) if path else None
         return found + ([item] if item else []) or sys.exit(f"audit: there is no public call {call}")

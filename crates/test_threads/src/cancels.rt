@@ -103,16 +103,20 @@ fn cancel_while_held(side: &mut LoopSide<'_>, hold: &HoldAt) -> (bool, bool) {
 fn held<R: Threads + Wait + Sync>(
     rt: &R,
     side: &mut LoopSide<'_>,
-    worker: &mut WorkerSide<'_>,
+    worker: WorkerSide<'_>,
     point: Point,
 ) -> (End, (bool, bool), bool) {
     let hold = HoldAt::new(point);
+    let gate = &hold;
     let (end, cancelled) = thread::join(
         rt,
-        || -> End
+        move || -> End
             requires { IsSync R.row }
-        { worker.turn(rt, &hold) },
-        || cancel_while_held(side, &hold),
+        {
+            let mut worker = worker;
+            worker.turn(rt, gate)
+        },
+        || cancel_while_held(side, gate),
     );
     (end, cancelled, hold.ran_out.load(Ordering::SeqCst) == 1)
 }
@@ -121,9 +125,10 @@ fn held<R: Threads + Wait + Sync>(
 fn early<R: Wait>(
     rt: &R,
     side: &mut LoopSide<'_>,
-    worker: &mut WorkerSide<'_>,
+    worker: WorkerSide<'_>,
 ) -> (End, (bool, bool), bool) {
     let cancelled = cancel_twice(side);
+    let mut worker = worker;
     (worker.turn(rt, &OpenGate), cancelled, false)
 }
 
@@ -131,7 +136,7 @@ fn turn<R: Threads + Wait + Sync>(
     rt: &R,
     jobs: &Jobs,
     side: &mut LoopSide<'_>,
-    worker: &mut WorkerSide<'_>,
+    worker: WorkerSide<'_>,
     when: When,
 ) -> Result<Seen, Fail> {
     side.open()?;
@@ -160,7 +165,7 @@ impl Scene for When {
         side: &mut LoopSide<'_>,
         spares: &mut Spares<'_>,
     ) -> Result<Seen, Fail> {
-        turn(rt, jobs, side, &mut spares.worker()?, *self)
+        turn(rt, jobs, side, spares.worker()?, *self)
     }
 }
 

@@ -1,3 +1,4 @@
 pub mod Inner
+pub mod Machines
 pub mod Slots
 pub mod Slices

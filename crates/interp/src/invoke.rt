@@ -156,6 +156,29 @@ pub fn invoke_on<H: Host>(
     ended
 }
 
+/// Does what `invoke_on` does, and writes how it ended to a place that is lent, so that no room for results is copied.
+pub fn invoke_lent<H: Host>(
+    valid: &Valid,
+    state: &mut State,
+    stack: &mut CallStack,
+    host: &mut H,
+    ended: &mut Ended,
+    call: &FunctionCall,
+)
+    requires store { IsStoreOf valid.now.contents state.old }
+    requires names { Names valid.now.contents (H.types host.old) }
+    requires typed { TakesArguments valid.now.contents call.now.function call.now.args.now }
+    requires depth { (1 ≤ call.now.depth) × (call.now.depth ≤ MAX_DEPTH) }
+    ensures runs { Leads H.moves (calling valid.now.contents call.now.function call.now.args.now call.now.fuel call.now.depth) (scene state.old host.old)
+        ended.new stack.new (scene state.new host.new) }
+    ensures within { ended.new.used ≤ call.now.fuel }
+    ensures results { ReturnsTyped valid.now.contents call.now.function ended.new.ending }
+    ensures kept { IsStoreOf valid.now.contents state.new }
+    ensures types { H.types host.new ≡ H.types host.old }
+{
+    invoke_into(valid, state, stack, host, ended, call);
+}
+
 /// Calls a function that has no results, as `invoke_on` does. Its ending needs no room for any: that is lent, and nothing is
 /// promised of what is in it afterwards, so that none is filled with zeros at each call.
 pub fn invoke_bare<H: Host>(

@@ -57,6 +57,7 @@ fn lay_on(slots: &mut Slots, args: &[Value], zeros: usize)
 }
 
 /// Lays the locals of a call from outside in the lowest slots, of which there are then enough for it, and returns where its run begins.
+#[inline(always)]
 pub fn open(contents: &Contents, slots: &mut Slots, function: u32, args: &[Value]) -> At
     requires { CanOpen contents.now function args.now }
     ensures opened { CallOpened contents.now function args.now result slots.new }

@@ -12,7 +12,7 @@ ghost use Rattle.reduction.specs.Hosting.{Names};
 ghost use Rattle.reduction.specs.Invoking.{TakesArguments, ReturnsTyped};
 ghost use Rattle.interp.specs.Slices.{RunIsPaused, IsSomePaused, RunIsOver, IsMost, UsesAll, UsesSome};
 
-use crate::call::FunctionCall;
+use crate::call::{FunctionCall, ModuleCode};
 use crate::host::Host;
 use crate::invoke::unwritten;
 use crate::opening::open;
@@ -23,8 +23,7 @@ use events::ended::{Ended, Ending};
 use instance::stack::{Caller, Last, Slots};
 use instance::state::State;
 use limits::MAX_DEPTH;
-use syntax::contents::Contents;
-use validate::{SideTable, type_of_function};
+use validate::type_of_function;
 
 /// A call that is under way, and how many units of fuel it may use until it is paused again.
 #[derive(Clone, Copy)]
@@ -33,37 +32,29 @@ pub struct Slice {
     pub units: u64,
 }
 
-/// How a call was over, with all fuel that it has used since it began, and where, unless it returned.
-#[derive(Drop)]
-pub struct CallEnd {
-    pub ended: Ended,
-    pub last: Option<Last>,
-}
-
 /// Begins a call of a defined function on this state, with room for these callers, over this host: nothing runs yet.
-pub fn begin<H: Host>(
-    contents: &Contents,
-    tables: &[SideTable],
+pub(crate) fn begin<H: Host>(
+    code: &ModuleCode,
     state: &State,
     host: &H,
     slots: &mut Slots,
     frames: &[Caller],
     call: &FunctionCall,
 ) -> Paused
-    requires valid { ValidModule contents.now }
-    requires agree { AreTables contents.now tables.now }
-    requires store { IsStoreOf contents.now state.now }
-    requires typed { TakesArguments contents.now call.now.function call.now.args.now }
-    requires defined { length contents.now.imports ≤ call.now.function }
+    requires valid { ValidModule code.now.contents.now }
+    requires agree { AreTables code.now.contents.now code.now.tables.now }
+    requires store { IsStoreOf code.now.contents.now state.now }
+    requires typed { TakesArguments code.now.contents.now call.now.function call.now.args.now }
+    requires defined { length code.now.contents.now.imports ≤ call.now.function }
     requires depth { (1 ≤ call.now.depth) × (call.now.depth ≤ MAX_DEPTH) }
     requires room { MAX_DEPTH ≤ length frames.now }
-    ensures paused { RunIsPaused contents.now tables.now H.moves state.now host.now call.now.args.now call.now.fuel result slots.new frames.now state.now host.now }
+    ensures paused { RunIsPaused code.now.contents.now code.now.tables.now H.moves state.now host.now call.now.args.now call.now.fuel result slots.new frames.now state.now host.now }
     ensures function { result.function ≡ call.now.function }
     ensures depth { result.depth ≡ call.now.depth }
     ensures used { result.used ≡ 0 }
     ensures left { result.left ≡ call.now.fuel }
 {
-    let at = open(contents, slots, call.function, call.args);
+    let at = open(code.contents, slots, call.function, call.args);
     Paused {
         function: call.function,
         depth: call.depth,
@@ -89,45 +80,46 @@ fn most_bytes(copied: u64, units: u64) -> u64
 }
 
 /// Goes on with a call for at most the units of the slice, where each `UNIT_BYTES` that the host copies count as one. If it is over then, its
-/// ending is returned, with all fuel that it has used since it began; else some fuel is left, and it stands where a run with just so much fuel
-/// as it has used is over as spent.
-pub fn go_on<H: Host>(
-    contents: &Contents,
-    tables: &[SideTable],
+/// ending is returned, with all fuel that it has used since it began, and where it was over is kept, unless it returned; else some fuel is left,
+/// and it stands where a run with just so much fuel as it has used is over as spent.
+pub(crate) fn go_on<H: Host>(
+    code: &ModuleCode,
     state: &mut State,
     host: &mut H,
     slots: &mut Slots,
     frames: &mut [Caller],
+    ended_at: &mut Option<Last>,
     slice: &mut Slice,
-) -> Option<CallEnd>
-    requires valid { ValidModule contents.now }
-    requires agree { AreTables contents.now tables.now }
-    requires names { Names contents.now (H.types host.old) }
+) -> Option<Ended>
+    requires valid { ValidModule code.now.contents.now }
+    requires agree { AreTables code.now.contents.now code.now.tables.now }
+    requires names { Names code.now.contents.now (H.types host.old) }
     requires room { MAX_DEPTH ≤ length frames.old }
-    requires paused { IsSomePaused contents.now tables.now H.moves slice.old.paused slots.old frames.old state.old host.old }
+    requires paused { IsSomePaused code.now.contents.now code.now.tables.now H.moves slice.old.paused slots.old frames.old state.old host.old }
     ensures over { IfSome result (λ o. (s : Store) (before : H) (args : List Argument) (fuel : ℕ)
-        → RunIsPaused contents.now tables.now H.moves s before args fuel slice.old.paused slots.old frames.old state.old host.old
-        → RunIsOver contents.now slice.old.paused.depth H.moves slice.old.paused.function s before args fuel o.ended state.new host.new (stop_of o.last frames.new)) }
+        → RunIsPaused code.now.contents.now code.now.tables.now H.moves s before args fuel slice.old.paused slots.old frames.old state.old host.old
+        → RunIsOver code.now.contents.now slice.old.paused.depth H.moves slice.old.paused.function s before args fuel o state.new host.new (stop_of ended_at.new frames.new)) }
     ensures paused { result ≡ None → (s : Store) (before : H) (args : List Argument) (fuel : ℕ)
-        → RunIsPaused contents.now tables.now H.moves s before args fuel slice.old.paused slots.old frames.old state.old host.old
-        → RunIsPaused contents.now tables.now H.moves s before args fuel slice.new.paused slots.new frames.new state.new host.new }
+        → RunIsPaused code.now.contents.now code.now.tables.now H.moves s before args fuel slice.old.paused slots.old frames.old state.old host.old
+        → RunIsPaused code.now.contents.now code.now.tables.now H.moves s before args fuel slice.new.paused slots.new frames.new state.new host.new }
     ensures stands { result ≡ None → IsSome slice.new.paused.last }
     ensures call { (slice.new.paused.function ≡ slice.old.paused.function) × (slice.new.paused.depth ≡ slice.old.paused.depth) }
     ensures slice { result ≡ None → UsesAll slice.old.paused slice.old.units (H.copied host.old) (H.copied host.new) slice.new.paused }
-    ensures last { IfSome result (λ o. UsesSome slice.old.paused slice.old.units o.ended.used) }
-    ensures results { IfSome result (λ o. ReturnsTyped contents.now slice.old.paused.function o.ended.ending) }
-    ensures callers { IfSome result (λ o. IfSome o.last (λ l. l.depth ≤ MAX_DEPTH)) }
-    ensures kept { IsStoreOf contents.now state.new }
+    ensures last { IfSome result (λ o. UsesSome slice.old.paused slice.old.units o.used) }
+    ensures results { IfSome result (λ o. ReturnsTyped code.now.contents.now slice.old.paused.function o.ending) }
+    ensures callers { IfSome result (λ _. IfSome ended_at.new (λ l. l.depth ≤ MAX_DEPTH)) }
+    ensures same { result ≡ None → ended_at.new ≡ ended_at.old }
+    ensures kept { IsStoreOf code.now.contents.now state.new }
     ensures copies { H.copied host.old ≤ H.copied host.new }
     ensures types { H.types host.new ≡ H.types host.old }
 {
     let Slice { paused, units } = *slice;
-    let Some(func_type) = type_of_function(contents, paused.function) else {
+    let Some(func_type) = type_of_function(code.contents, paused.function) else {
         unreachable!()
     };
     let outermost = Outermost {
-        contents,
-        program: Program::new(contents, tables),
+        contents: code.contents,
+        program: Program::new(code.contents, code.tables),
         types: func_type.results.as_slice(),
         depth: paused.depth,
         bytes: most_bytes(host.copied(), units),
@@ -153,5 +145,6 @@ pub fn go_on<H: Host>(
         return None;
     }
     ended.used += paused.used;
-    Some(CallEnd { ended, last })
+    *ended_at = last;
+    Some(ended)
 }

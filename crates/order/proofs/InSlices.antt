@@ -1,7 +1,6 @@
 -- An order that ran in slices.
-use Rattle.std.proofs.Common.{◌≡◌, ℕ, ◌+◌, ◌-◌, ◌<◌, ◌≤◌, List, [], ◌∷◌, length, take, ◌++◌, reverse, Option, Some, None, codes, refl, sym, ap, ◌∙◌, subst, arith, inl, inr}
+use Rattle.std.proofs.Common.{◌≡◌, ℕ, ◌+◌, ◌-◌, ◌<◌, ◌≤◌, List, [], ◌∷◌, length, reverse, Option, Some, None, codes, refl, sym, ap, ◌∙◌, subst, arith, inl, inr}
 use Rattle.std.proofs.lemmas.Bool.{cases_lt}
-use Rattle.std.proofs.Math.Seq.{take-append_seam}
 use Rattle.syntax.specs.declared.types.Value.{Value}
 use Rattle.syntax.specs.declared.types.Value.TheVariants.{I32}
 use Rattle.instance.specs.Store.{Store}
@@ -61,10 +60,6 @@ module _ (o : WorkOrder) (fuel : ℕ) (s t : Store) (old new : WorkHost) (serves
 
   pub over_serves : Serves new o
   over_serves = work_serves o fuel o.loaded refl s t old new serves function args ended stop over.leads
-
--- the front of a list of two parts
-pub take_seam : {A : Type 0} (n : ℕ) (xs ys : List A) → length xs ≡ n → take n (xs ++ ys) ≡ xs
-take_seam n xs ys e = subst (λ (k : ℕ). take k (xs ++ ys) ≡ xs) e (take-append_seam xs ys)
 
 -- the start function, in slices, is over
 module _ (o : WorkOrder) (s t : Store) (old reply : List ℕ) (function : ℕ) (ended : Ended) (stop : Option Halt)
@@ -194,15 +189,6 @@ came_to o valid tables agree s t old new args fuel paused slots frames serves c 
     (under_way m paused.function args c.takes valid c.defined tables agree p refl c.start c.first_slots c.opened c.small c.first_frames s fuel c.fit types refl) in
     let come = c.comes u.body u.contexts u.places u.bodies u.program u.represents in
     (served o come.trace old new serves come.lawful).serves
-
--- the same of an equal module, tables and callers
-pub paused_in : (m m' : Contents) (tables tables' : List SideTable) (frames frames' : List Caller) → m ≡ m' → tables ≡ tables' → frames ≡ frames'
-    → (s t : Store) (old new : WorkHost) (args : List Value) (fuel : ℕ) (paused : Paused) (slots : List ℕ)
-    → RunIsPaused m tables WorkAnswered s old args fuel paused slots frames t new → RunIsPaused m' tables' WorkAnswered s old args fuel paused slots frames' t new
-paused_in m m' tables tables' frames frames' em et ef s t old new args fuel paused slots k =
-    subst (λ (x : Contents). RunIsPaused x tables' WorkAnswered s old args fuel paused slots frames' t new) em
-    (subst (λ (x : List SideTable). RunIsPaused m x WorkAnswered s old args fuel paused slots frames' t new) et
-    (subst (λ (x : List Caller). RunIsPaused m tables WorkAnswered s old args fuel paused slots x t new) ef k))
 
 -- an order that went on with what was left of a slice went on for the whole slice
 module _ (o : WorkOrder) (used now copied copied' units rest : ℕ) (later : used ≤ now) (within : now ≤ used + units) (is : rest ≡ units - (now - used))

@@ -16,7 +16,7 @@ use Rattle.events.specs.declared.ended.Ending.TheVariants as ending
 use Rattle.interp.specs.declared.paused.Paused.{Paused}
 use Rattle.interp.specs.Slices.{RunIsOver, RunStandsAt}
 use Rattle.order.specs.declared.host.WorkHost.{WorkHost}
-use Rattle.order.specs.declared.machine.Machine.{Machine}
+use Rattle.order.specs.declared.machine.WorkMachine.{WorkMachine}
 use Rattle.order.specs.Inner.Serving.{Serves}
 use Rattle.order.specs.Inner.WorkHosting.{WorkAnswered}
 use Rattle.order.specs.Inner.Going.{IsStarting, IsWorking, IsAtStage, used_in_stage}
@@ -59,63 +59,63 @@ module _ (o : WorkOrder) (n : ℕ) (paused : Paused) (deep : paused.depth ≡ o.
       work_stops (with_fuel n o) paused.used o.loaded refl s t old new (record { linked = serves.linked; bytes = serves.bytes }) paused.function args spent
       (Some (halt_of last frames)) over.leads
 
-module _ (o : WorkOrder) (m : Machine) (paused : Paused) where
+module _ (o : WorkOrder) (m : WorkMachine) (paused : Paused) where
   module _ (q : IsStarting o m paused) where
     starts_by : (last : Option Last)
-        → RunStandsAt o.loaded.contents paused.depth WorkAnswered paused.function q.s q.old [] paused.used m.state m.host last m.frames.items
-        → OrderStandsAt (record { order = o; used = paused.used; copied = m.host.copied }) (stop_of last m.frames.items)
+        → RunStandsAt o.loaded.contents paused.depth WorkAnswered paused.function q.s q.old [] paused.used m.state m.host last m.machine.frames.items
+        → OrderStandsAt (record { order = o; used = paused.used; copied = m.host.copied }) (stop_of last m.machine.frames.items)
     starts_by None stands = stands
     starts_by (Some last) stands =
         let ran : WorkStop (with_fuel paused.used o) paused.used q.s [] paused.function [] (record { ending = ending.Spent; used = paused.used })
-        m.state m.host.reply.items (Some (halt_of last m.frames.items)) =
+        m.state m.host.reply.items (Some (halt_of last m.machine.frames.items)) =
         subst (λ (bytes : List ℕ). WorkStop (with_fuel paused.used o) paused.used q.s bytes paused.function [] (record { ending = ending.Spent; used = paused.used })
-        m.state m.host.reply.items (Some (halt_of last m.frames.items))) q.empty
-        (stands_work o paused.used paused q.calling.deep q.s m.state q.old m.host q.calling.serves [] m.frames.items last stands) in
+        m.state m.host.reply.items (Some (halt_of last m.machine.frames.items))) q.empty
+        (stands_work o paused.used paused q.calling.deep q.s m.state q.old m.host q.calling.serves [] m.machine.frames.items last stands) in
         stopping.stops q.s m.state (record { ending = ending.Spent; used = paused.used }) m.host.reply.items paused.function q.fresh q.is_start ran
         (not_returned ending.Spent (λ values e. absurd (cc))) refl refl
 
-    pub starting_stands : OrderStandsAt (record { order = o; used = paused.used; copied = m.host.copied }) (stop_of paused.last m.frames.items)
+    pub starting_stands : OrderStandsAt (record { order = o; used = paused.used; copied = m.host.copied }) (stop_of paused.last m.machine.frames.items)
     starting_stands = starts_by paused.last q.calling.under_way.stands
 
-    pub starting_within : MAX_DEPTH ≤ length m.frames.items → IfSome paused.last (λ l. l.depth ≤ length m.frames.items)
+    pub starting_within : MAX_DEPTH ≤ length m.machine.frames.items → IfSome paused.last (λ l. l.depth ≤ length m.machine.frames.items)
     starting_within room = by_last paused.last q.calling.under_way.stands where
       by_last : (last : Option Last)
-          → RunStandsAt o.loaded.contents paused.depth WorkAnswered paused.function q.s q.old [] paused.used m.state m.host last m.frames.items
-          → IfSome last (λ l. l.depth ≤ length m.frames.items)
+          → RunStandsAt o.loaded.contents paused.depth WorkAnswered paused.function q.s q.old [] paused.used m.state m.host last m.machine.frames.items
+          → IfSome last (λ l. l.depth ≤ length m.machine.frames.items)
       by_last None stands = tt
       by_last (Some last) stands = omega (arith, stands.0, room)
 
   module _ (first : ℕ) (q : IsWorking o m first paused) where
     works_by : (last : Option Last) → IsSome last
-        → RunStandsAt o.loaded.contents paused.depth WorkAnswered paused.function q.t q.old (I32 o.op ∷ []) paused.used m.state m.host last m.frames.items
-        → OrderStandsAt (record { order = o; used = first + paused.used; copied = m.host.copied }) (stop_of last m.frames.items)
+        → RunStandsAt o.loaded.contents paused.depth WorkAnswered paused.function q.t q.old (I32 o.op ∷ []) paused.used m.state m.host last m.machine.frames.items
+        → OrderStandsAt (record { order = o; used = first + paused.used; copied = m.host.copied }) (stop_of last m.machine.frames.items)
     works_by None some stands = absurd (cc)
     works_by (Some last) some stands =
         let n : ℕ = first + paused.used in
         let left : paused.used ≡ n - first = omega arith in
         let few : first ≤ n = omega arith in
         let ran : WorkStop (with_fuel n o) (n - first) q.t q.old.reply.items paused.function (I32 o.op ∷ []) (record { ending = ending.Spent; used = paused.used })
-        m.state m.host.reply.items (Some (halt_of last m.frames.items)) =
+        m.state m.host.reply.items (Some (halt_of last m.machine.frames.items)) =
         subst (λ (k : ℕ). WorkStop (with_fuel n o) k q.t q.old.reply.items paused.function (I32 o.op ∷ []) (record { ending = ending.Spent; used = paused.used })
-        m.state m.host.reply.items (Some (halt_of last m.frames.items))) left
-        (stands_work o n paused q.calling.deep q.t m.state q.old m.host q.calling.serves (I32 o.op ∷ []) m.frames.items last stands) in
+        m.state m.host.reply.items (Some (halt_of last m.machine.frames.items))) left
+        (stands_work o n paused q.calling.deep q.t m.state q.old m.host q.calling.serves (I32 o.op ∷ []) m.machine.frames.items last stands) in
         stopping.works q.started.s q.t m.state q.started.results (record { ending = ending.Spent; used = paused.used }) first q.old.reply.items m.host.reply.items
         paused.function q.started.fresh
         (started_with o n o.loaded.contents.start q.started.s q.t q.started.results first q.old.reply.items few q.started.run) q.exported ran refl refl
 
-    pub working_stands : IsSome paused.last → OrderStandsAt (record { order = o; used = first + paused.used; copied = m.host.copied }) (stop_of paused.last m.frames.items)
+    pub working_stands : IsSome paused.last → OrderStandsAt (record { order = o; used = first + paused.used; copied = m.host.copied }) (stop_of paused.last m.machine.frames.items)
     working_stands some = works_by paused.last some q.calling.under_way.stands
 
-    pub working_within : MAX_DEPTH ≤ length m.frames.items → IfSome paused.last (λ l. l.depth ≤ length m.frames.items)
+    pub working_within : MAX_DEPTH ≤ length m.machine.frames.items → IfSome paused.last (λ l. l.depth ≤ length m.machine.frames.items)
     working_within room = by_last paused.last q.calling.under_way.stands where
       by_last : (last : Option Last)
-          → RunStandsAt o.loaded.contents paused.depth WorkAnswered paused.function q.t q.old (I32 o.op ∷ []) paused.used m.state m.host last m.frames.items
-          → IfSome last (λ l. l.depth ≤ length m.frames.items)
+          → RunStandsAt o.loaded.contents paused.depth WorkAnswered paused.function q.t q.old (I32 o.op ∷ []) paused.used m.state m.host last m.machine.frames.items
+          → IfSome last (λ l. l.depth ≤ length m.machine.frames.items)
       by_last None stands = tt
       by_last (Some last) stands = omega (arith, stands.0, room)
 
 -- it has used no more than it has
-pub used_within : (o : WorkOrder) (m : Machine) (stage : RunStage) → IsAtStage o m stage → used_in_stage stage ≤ o.fuel
+pub used_within : (o : WorkOrder) (m : WorkMachine) (stage : RunStage) → IsAtStage o m stage → used_in_stage stage ≤ o.fuel
 used_within o m Fresh at = omega arith
 used_within o m (Starting paused) at = omega (arith, at.calling.under_way.paid)
 used_within o m (Working first paused) at = omega (arith, at.0.started.within, at.0.calling.under_way.paid)

@@ -4,11 +4,11 @@ ghost use Rattle.std.specs.Prelude.{◌≡◌, ◌<◌, ◌≤◌, ℕ, List, le
 ghost use Rattle.std.specs.Arc.{arc_value};
 ghost use Rattle.limits.specs.declared.TheConstants.{MAX_DEPTH};
 ghost use Rattle.syntax.specs.declared.types.Value.{Value as Argument};
-ghost use Rattle.validate.specs.Targets.{AreTables};
 ghost use Rattle.instance.specs.Store.{Store};
 ghost use Rattle.instance.specs.Storing.{IsStoreOf};
 ghost use Rattle.instance.specs.Stops.{stop_of};
 ghost use Rattle.reduction.specs.Invoking.{TakesArguments, ReturnsTyped};
+ghost use Rattle.interp.specs.Machines.{MachineFits};
 ghost use Rattle.interp.specs.Slices.{UsesAll, UsesSome};
 ghost use Rattle.order.specs.declared.host.WorkHost.{WorkHost as Answering};
 ghost use Rattle.order.specs.Orders.{order_of};
@@ -22,47 +22,37 @@ use crate::host::WorkHost;
 use crate::order::Order;
 use crate::reserving::ReservedParts;
 use events::ended::Ended;
-use instance::stack::{CallStack, Caller, Last, Slots};
+use instance::stack::CallStack;
 use instance::state::State;
 use interp::call::FunctionCall;
-use interp::slices::{Paused, Slice, begin, go_on};
-use std::alloc::Global;
-use std::sync::Arc;
-use syntax::items::Items;
+use interp::machine::Machine;
+use interp::slices::{Paused, Slice};
 use syntax::types::Value;
-use validate::SideTable;
 
-/// What an order under way runs on: the parts of its instance, its host, and the side tables of its module, which stay the same
-/// from slice to slice. All of it is reserved when the order begins.
-pub(crate) struct Machine {
+/// What an order under way runs on: its instance's state, its host, and a machine for calls in slices. All of it is reserved when the
+/// order begins.
+pub(crate) struct WorkMachine {
     pub(crate) state: State,
-    pub(crate) slots: Slots,
-    pub(crate) frames: Vec<Caller>,
-    pub(crate) last: Option<Last>,
     pub(crate) host: WorkHost,
-    pub(crate) tables: Arc<Items<SideTable>, Global>,
+    pub(crate) machine: Machine,
 }
 
-impl Drop for Machine {
+impl Drop for WorkMachine {
     fn drop(self) {
-        let Machine {
+        let WorkMachine {
             state: _,
-            slots: _,
-            frames: _,
-            last: _,
             host: _,
-            tables: _,
+            machine: _,
         } = self;
     }
 }
 
-impl Machine {
+impl WorkMachine {
     /// The machine of an order, in what was reserved for it.
-    pub(crate) fn of(order: &Order, reserved: ReservedParts<Vec<u8>>) -> Machine
+    pub(crate) fn of(order: &Order, reserved: ReservedParts<Vec<u8>>) -> WorkMachine
         requires can { CanRun (order_of order.now) }
         requires ready { IsReadyToRun (arc_value order.now.module).contents reserved.state }
-        requires agree { AreTables (arc_value order.now.module).contents (arc_value reserved.tables) }
-        requires callers { MAX_DEPTH ≤ length reserved.frames.items }
+        requires fits { MachineFits (arc_value order.now.module).contents reserved.machine }
         requires linked { arc_value reserved.linked ≡ arc_value order.now.module }
         requires input { arc_value reserved.input ≡ arc_value order.now.bytes }
         ensures runs { RunsOrder (order_of order.now) result }
@@ -71,25 +61,20 @@ impl Machine {
     {
         let ReservedParts {
             state,
-            slots,
-            frames,
-            tables,
+            machine,
             linked,
             input,
             reply,
         } = reserved;
-        Machine {
+        WorkMachine {
             state,
-            slots,
-            frames,
-            last: None,
             host: WorkHost {
                 linked,
                 bytes: input,
                 reply,
                 copied: 0,
             },
-            tables,
+            machine,
         }
     }
 
@@ -112,31 +97,18 @@ impl Machine {
         ensures used { result.used ≡ 0 }
         ensures copied { self.new.host.copied ≡ self.old.host.copied }
     {
-        let Machine {
+        let WorkMachine {
             state,
-            slots,
-            frames,
-            last: _,
             host,
-            tables,
+            machine,
         } = self;
-        let contents = order.module.valid().contents();
         let call = FunctionCall {
             function,
             args,
             fuel,
             depth: order.depth,
         };
-        let callers = frames.as_slice();
-        begin(
-            contents,
-            tables.as_slice(),
-            state,
-            host,
-            slots,
-            callers,
-            &call,
-        )
+        machine.begin(order.module.valid(), state, host, &call)
     }
 
     /// Goes on with a call of a function of the order's module for at most the units of the slice, and returns its ending, if it is
@@ -147,7 +119,7 @@ impl Machine {
         ensures over { IfSome result (λ ended. (s : Store) (old : Answering) (args : List Argument) (fuel : ℕ)
             → IsCallingOn (order_of order.now) self.old s old slice.old.paused fuel args
             → WorkStop (order_of order.now) fuel s old.reply.items slice.old.paused.function args ended self.new.state self.new.host.reply.items
-            (stop_of self.new.last self.new.frames.items) × Serves self.new.host (order_of order.now) × (ended.used ≤ fuel)) }
+            (stop_of self.new.machine.last self.new.machine.frames.items) × Serves self.new.host (order_of order.now) × (ended.used ≤ fuel)) }
         ensures paused { result ≡ None → (s : Store) (old : Answering) (args : List Argument) (fuel : ℕ)
             → IsCallingOn (order_of order.now) self.old s old slice.old.paused fuel args
             → IsCallingOn (order_of order.now) self.new s old slice.new.paused fuel args }
@@ -160,52 +132,27 @@ impl Machine {
         ensures store { IsStoreOf (arc_value order.now.module).contents self.new.state }
         ensures runs { RunsOrder (order_of order.now) self.new }
     {
-        let Machine {
+        let WorkMachine {
             state,
-            slots,
-            frames,
-            last,
             host,
-            tables,
+            machine,
         } = self;
-        let contents = order.module.valid().contents();
-        let callers = frames.as_mut_slice();
-        let Some(end) = go_on(
-            contents,
-            tables.as_slice(),
-            state,
-            host,
-            slots,
-            callers,
-            slice,
-        ) else {
-            return None;
-        };
-        *last = end.last;
-        Some(end.ended)
+        machine.go_on(order.module.valid(), state, host, slice)
     }
 
     /// The stack and the host, where the order is over.
     pub(crate) fn into_parts(self) -> (CallStack, WorkHost)
-        requires room { MAX_DEPTH ≤ length self.frames.items }
-        requires shallow { IfSome self.last (λ l. l.depth ≤ MAX_DEPTH) }
-        ensures stack { result.0 ≡ stop_of self.last self.frames.items }
+        requires room { MAX_DEPTH ≤ length self.machine.frames.items }
+        requires shallow { IfSome self.machine.last (λ l. l.depth ≤ MAX_DEPTH) }
+        ensures stack { result.0 ≡ stop_of self.machine.last self.machine.frames.items }
         ensures host { result.1 ≡ self.host }
     {
-        let Machine {
+        let WorkMachine {
             state: _,
-            slots,
-            frames,
-            last,
             host,
-            tables: _,
+            machine,
         } = self;
-        let stack = CallStack {
-            slots,
-            frames,
-            last,
-        };
-        (stack, host)
+        (machine.into_stack(), host)
     }
 
     /// Calls an imported function, which uses no fuel.
@@ -225,20 +172,13 @@ impl Machine {
         ensures free { result.0.used ≡ 0 }
         ensures results { ReturnsTyped (arc_value order.now.module).contents function result.0.ending }
     {
-        let Machine {
+        let WorkMachine {
             state,
-            slots,
-            frames,
-            last,
             host,
-            tables: _,
+            machine,
         } = self;
         let (mut state, mut host) = (state, host);
-        let mut stack = CallStack {
-            slots,
-            frames,
-            last,
-        };
+        let mut stack = machine.into_stack();
         let ended = order.call(&mut state, &mut stack, &mut host, function, args, fuel);
         (ended, stack, host)
     }

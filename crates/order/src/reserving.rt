@@ -1,21 +1,19 @@
 // The memory of an order's run, which is reserved before it.
 
-ghost use Rattle.std.specs.Prelude.{◌≡◌, ◌≤◌, [], length, vec_capacity, IfOk};
+ghost use Rattle.std.specs.Prelude.{◌≡◌, ◌≤◌, [], vec_capacity, IfOk};
 ghost use Rattle.std.specs.Arc.{arc_value};
-ghost use Rattle.limits.specs.declared.TheConstants.{MAX_BYTES, MAX_DEPTH};
-ghost use Rattle.validate.specs.Targets.{AreTables};
+ghost use Rattle.limits.specs.declared.TheConstants.{MAX_BYTES};
+ghost use Rattle.interp.specs.Machines.{MachineFits};
 ghost use Rattle.order.specs.Inner.Ready.{IsReadyToRun};
 
 use imports::Linked;
 use instance::fault::InstFault;
 use instance::room::Room;
-use instance::stack::{Caller, Slots};
 use instance::state::{Instance, State};
-use limits::{MAX_BYTES, MAX_DEPTH};
+use interp::machine::Machine;
+use limits::MAX_BYTES;
 use std::alloc::{AllocError, Global};
 use std::sync::Arc;
-use syntax::items::Items;
-use validate::SideTable;
 
 /// Memory was refused. One is made in this module alone, where an allocation was, by functions that see neither the operation nor what is
 /// in the input: so there is no memory for an order only where it was refused.
@@ -35,12 +33,10 @@ pub(crate) struct Reserved<T> {
     pub ghost room: { MAX_BYTES ≤ vec_capacity reply },
 }
 
-/// The same for a run in slices: the parts of the instance, and its side tables.
+/// The same for a run in slices: the state of the instance, and a machine for its calls.
 pub(crate) struct ReservedParts<T> {
     pub(crate) state: State,
-    pub(crate) slots: Slots,
-    pub(crate) frames: Vec<Caller>,
-    pub(crate) tables: Arc<Items<SideTable>, Global>,
+    pub(crate) machine: Machine,
     pub(crate) linked: Arc<Linked, Global>,
     pub(crate) input: Arc<T, Global>,
     pub(crate) reply: Vec<u8>,
@@ -86,26 +82,15 @@ fn all_parts<T: Drop>(
     input: &Arc<T, Global>,
 ) -> Result<ReservedParts<T>, AllocError>
     ensures ready { IfOk result (λ r. IsReadyToRun (arc_value linked.now).contents r.state) }
-    ensures agree { IfOk result (λ r. AreTables (arc_value linked.now).contents (arc_value r.tables)) }
-    ensures callers { IfOk result (λ r. MAX_DEPTH ≤ length r.frames.items) }
+    ensures fits { IfOk result (λ r. MachineFits (arc_value linked.now).contents r.machine) }
     ensures linked { IfOk result (λ r. arc_value r.linked ≡ arc_value linked.now) }
     ensures input { IfOk result (λ r. arc_value r.input ≡ arc_value input.now) }
 {
     let (state, _) = instance_of(alloc, linked, &mut Room::empty())?.into_parts();
-    let tables = linked.valid().share_tables()?;
-    let slots = Slots::new(alloc)?;
-    let nowhere = Caller {
-        function: 0,
-        pc: 0,
-        base: 0,
-    };
-    let mut frames = Vec::new(alloc);
-    frames.resize(MAX_DEPTH as usize, nowhere)?;
+    let machine = Machine::new(alloc, linked.valid())?;
     Ok(ReservedParts {
         state,
-        slots,
-        frames,
-        tables,
+        machine,
         linked: Arc::try_clone(linked)?,
         input: Arc::try_clone(input)?,
         reply: Vec::with_capacity(alloc, MAX_BYTES)?,
@@ -136,8 +121,7 @@ pub(crate) fn reserve_parts<T: Drop>(
     input: &Arc<T, Global>,
 ) -> Result<ReservedParts<T>, RefusedMemory>
     ensures ready { IfOk result (λ r. IsReadyToRun (arc_value linked.now).contents r.state) }
-    ensures agree { IfOk result (λ r. AreTables (arc_value linked.now).contents (arc_value r.tables)) }
-    ensures callers { IfOk result (λ r. MAX_DEPTH ≤ length r.frames.items) }
+    ensures fits { IfOk result (λ r. MachineFits (arc_value linked.now).contents r.machine) }
     ensures linked { IfOk result (λ r. arc_value r.linked ≡ arc_value linked.now) }
     ensures input { IfOk result (λ r. arc_value r.input ≡ arc_value input.now) }
 {

@@ -5,7 +5,6 @@ ghost use Rattle.std.specs.Arc.{arc_value};
 ghost use Rattle.limits.specs.declared.TheConstants.{MAX_BYTES, MAX_DEPTH};
 ghost use Rattle.syntax.specs.declared.types.ValType.TheVariants as valtype;
 ghost use Rattle.validate.specs.Valid.{ValidModule};
-ghost use Rattle.validate.specs.Targets.{AreTables};
 ghost use Rattle.instance.specs.Storing.{IsStoreOf};
 ghost use Rattle.instance.specs.Stops.{stop_of};
 ghost use Rattle.reduction.specs.Running.{end_of_run, AreResults};
@@ -13,6 +12,7 @@ ghost use Rattle.validate.specs.Typing.{type_of_function};
 ghost use Rattle.imports.specs.Linking.{ExportsFunction};
 ghost use Rattle.imports.specs.Uv.{type_of_entry};
 ghost use Rattle.imports.specs.declared.entry_point.EntryPoint.TheVariants.{Work};
+ghost use Rattle.interp.specs.Machines.{MachineFits};
 ghost use Rattle.order.specs.Orders.{order_of, end_of};
 ghost use Rattle.order.specs.Work.{WorkEnd, NoMemory, EndsAs, Computes, Uses};
 ghost use Rattle.order.specs.Stopping.{ComputesTo, LeavesTrail};
@@ -23,7 +23,7 @@ ghost use Rattle.order.specs.Inner.Serving.{Serves};
 ghost use Rattle.order.specs.Inner.Going.{RunsOrder, IsUnbegun, IsStarting, StartIsOver, IsWorking, used_in_stage};
 
 use crate::host::WorkHost;
-use crate::machine::Machine;
+use crate::machine::WorkMachine;
 use crate::order::{Order, Outcome};
 use crate::reply::Reply;
 use crate::reserving::{RefusedMemory, ReservedParts, reserve_parts};
@@ -43,7 +43,7 @@ use syntax::types::Value;
 /// many units of fuel it has used so far, and how many bytes `in_copy` and `out_set` have copied for it.
 pub struct Running {
     order: Order,
-    machine: Machine,
+    machine: WorkMachine,
     stage: RunStage,
 }
 
@@ -103,8 +103,7 @@ impl Order {
     ) -> Result<Running, Reply>
         requires runs { CanRun (order_of self) }
         requires ready { IfOk reserved (λ r. IsReadyToRun (arc_value self.module).contents r.state) }
-        requires agree { IfOk reserved (λ r. AreTables (arc_value self.module).contents (arc_value r.tables)) }
-        requires callers { IfOk reserved (λ r. MAX_DEPTH ≤ length r.frames.items) }
+        requires fits { IfOk reserved (λ r. MachineFits (arc_value self.module).contents r.machine) }
         requires linked { IfOk reserved (λ r. arc_value r.linked ≡ arc_value self.module) }
         requires input { IfOk reserved (λ r. arc_value r.input ≡ arc_value self.bytes) }
         ensures begun { IfOk result (λ r. r ≡ record { order = order_of self; used = 0; copied = 0 }) }
@@ -112,7 +111,7 @@ impl Order {
     {
         match reserved {
             Ok(reserved) => {
-                let machine = Machine::of(&self, reserved);
+                let machine = WorkMachine::of(&self, reserved);
                 Ok(Running {
                     order: self,
                     machine,
@@ -151,11 +150,11 @@ impl Running {
     pub fn stop(&self) -> Option<Stop<'_>>
         ensures { OrderStandsAt self.now result }
     {
-        let callers = self.machine.frames.as_slice();
+        let machine = &self.machine.machine;
         match &self.stage {
             RunStage::Fresh => None,
-            RunStage::Starting(paused) => paused.stop(callers),
-            RunStage::Working(_, paused) => paused.stop(callers),
+            RunStage::Starting(paused) => machine.stop(paused),
+            RunStage::Working(_, paused) => machine.stop(paused),
         }
     }
 
@@ -216,10 +215,10 @@ fn tell(order: Order, host: WorkHost, stack: CallStack, ending: Ending, used: u6
 }
 
 /// The answer for an order whose machine is at its end.
-fn over(order: Order, machine: Machine, ending: Ending, used: u64) -> Told
+fn over(order: Order, machine: WorkMachine, ending: Ending, used: u64) -> Told
     requires runs { RunsOrder (order_of order) machine }
     requires computes { (end : WorkEnd) → EndsAs (end_of_run ending) machine.host.reply.items end
-        → Computes (order_of order) end used × ComputesTo (order_of order) end used (stop_of machine.last machine.frames.items) }
+        → Computes (order_of order) end used × ComputesTo (order_of order) end used (stop_of machine.machine.last machine.machine.frames.items) }
     requires results { AreResults ending (valtype.I32 ∷ []) }
     ensures order { order_of result.reply.order ≡ order_of order }
     ensures memory { end_of result.reply.outcome ≢ NoMemory }
@@ -232,7 +231,7 @@ fn over(order: Order, machine: Machine, ending: Ending, used: u64) -> Told
 }
 
 /// Begins the start function, where there is one, and goes on.
-fn begin_start(order: Order, machine: Machine, units: u64) -> OrderGoing
+fn begin_start(order: Order, machine: WorkMachine, units: u64) -> OrderGoing
     requires runs { RunsOrder (order_of order) machine }
     requires unbegun { IsUnbegun (order_of order) machine }
     ensures { OrderGoesOn (record { order = order_of order; used = 0; copied = machine.host.copied }) units result }
@@ -246,7 +245,7 @@ fn begin_start(order: Order, machine: Machine, units: u64) -> OrderGoing
 }
 
 /// Goes on with the start function, and with `uv_work`, where that returns within the slice.
-fn start_on(order: Order, machine: Machine, paused: Paused, units: u64) -> OrderGoing
+fn start_on(order: Order, machine: WorkMachine, paused: Paused, units: u64) -> OrderGoing
     requires runs { RunsOrder (order_of order) machine }
     requires starting { IsStarting (order_of order) machine paused }
     ensures { OrderGoesOn (record { order = order_of order; used = paused.used; copied = machine.host.copied }) units result }
@@ -268,7 +267,7 @@ fn start_on(order: Order, machine: Machine, paused: Paused, units: u64) -> Order
 }
 
 /// Begins `uv_work`, after a start function that used so much, or none, and goes on.
-fn begin_work(order: Order, machine: Machine, first: u64, units: u64) -> OrderGoing
+fn begin_work(order: Order, machine: WorkMachine, first: u64, units: u64) -> OrderGoing
     requires runs { RunsOrder (order_of order) machine }
     requires store { IsStoreOf (arc_value order.module).contents machine.state }
     requires serves { Serves machine.host (order_of order) }
@@ -288,7 +287,7 @@ fn begin_work(order: Order, machine: Machine, first: u64, units: u64) -> OrderGo
 }
 
 /// Goes on with `uv_work`, after a start function that used so much, or none.
-fn work_on(order: Order, machine: Machine, first: u64, paused: Paused, units: u64) -> OrderGoing
+fn work_on(order: Order, machine: WorkMachine, first: u64, paused: Paused, units: u64) -> OrderGoing
     requires runs { RunsOrder (order_of order) machine }
     requires working { IsWorking (order_of order) machine first paused }
     ensures { OrderGoesOn (record { order = order_of order; used = first + paused.used; copied = machine.host.copied }) units result }
@@ -307,7 +306,7 @@ fn work_on(order: Order, machine: Machine, first: u64, paused: Paused, units: u6
 }
 
 /// Asks the host for a `uv_work` that is an import, after a start function that used so much, or none.
-fn ask(order: Order, machine: Machine, function: u32, first: u64) -> Told
+fn ask(order: Order, machine: WorkMachine, function: u32, first: u64) -> Told
     requires runs { RunsOrder (order_of order) machine }
     requires store { IsStoreOf (arc_value order.module).contents machine.state }
     requires serves { Serves machine.host (order_of order) }

@@ -15,8 +15,8 @@ use Rattle.events.specs.declared.phase.EntryKind.{EntryKind}
 use Rattle.reduction.specs.Leading.{Leads, calling, scene}
 use Rattle.phases.specs.Calls.{Calls}
 use Rattle.phases.specs.Guests.{GuestCall}
-use Rattle.phases.specs.Inner.Keeping.{KeepsLoop}
-use Rattle.phases.specs.Inner.Setting.{setting_of}
+use Rattle.phases.specs.Keeping.{KeepsLoop}
+use Rattle.phases.specs.Settings.{setting_of}
 use Rattle.phases.specs.State.{Setting, State, Loop}
 use Rattle.phases.specs.Step.{RunsFrom, begun, finished}
 use Rattle.phases.specs.Stopping.{LoopStopsAt}

@@ -26,7 +26,7 @@ use Rattle.phases.specs.Roster.{Roster, is_open_of, async_number}
 use Rattle.phases.specs.State.{Setting, State}
 use Rattle.phases.specs.Guests.{GuestCall, GuestSteps, trace_of}
 use Rattle.phases.specs.Host.{HostStep, CallStep, cancel_state_of, CancelsFrom, Opens, QueuesWork, Sends, emitted_in}
-use Rattle.phases.specs.Inner.Hosting.{Answered, Replies}
+use Rattle.phases.specs.Hosting.{Answered, Replies}
 
 -- the calls of a whole run are those of the loop that the host stands for
 pub record Served {G S : Type 0} (calls : Calls S) (setting : G → Setting) (standing : G → State × S) (trace : List HostCall) (old new : G) : Type 0 where

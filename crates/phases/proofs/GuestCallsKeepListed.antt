@@ -33,7 +33,7 @@ use Rattle.phases.specs.State.{Setting, State}
 use Rattle.phases.specs.Calls.{Calls}
 use Rattle.phases.specs.Guests.{GuestCall, GuestSteps}
 use Rattle.phases.specs.Host.{with_roster, with_requests, emitted_in, next_work, CancelsFrom, Cancels, Opens, QueuesWork, Relates, RelatesWork, Does, DoesTo, CallStep, HostStep}
-use Rattle.phases.specs.Inner.Ready.{IsSettledIn, Grows}
+use Rattle.phases.specs.Ready.{IsSettledIn, Grows}
 use Rattle.phases.proofs.RosterKeeps.{choose, changed, still_closing, closing_there}
 
 -- steps of it

@@ -12,7 +12,7 @@ use Rattle.phases.specs.Requests.{Request, has_number, without_request}
 use Rattle.phases.specs.Roster.{async_handle, with_handles, without_handle}
 use Rattle.phases.specs.State.{State}
 use Rattle.phases.specs.Host.{with_roster, with_requests}
-use Rattle.phases.specs.Inner.Ready.{IsReady, Spares, AreApart, AreReady, Grows}
+use Rattle.phases.specs.Ready.{IsReady, Spares, AreApart, AreReady, Grows}
 use Rattle.phases.proofs.RosterKeeps.{gone_or_same}
 use Rattle.phases.proofs.GuestCallsKeepListed.{IsSettledOne, grows_roster, holds_handles, again_closing}
 

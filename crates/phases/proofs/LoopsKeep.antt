@@ -41,11 +41,11 @@ use Rattle.phases.specs.Requests.{Requests, Request, Completion, completion_of}
 use Rattle.phases.specs.View.{AreOpenedUpTo}
 use Rattle.phases.specs.Guests.{GuestCall}
 use Rattle.phases.specs.Host.{HostStep, Cancels, cancel_state_of, with_requests}
-use Rattle.phases.specs.Inner.Hosting.{Answered}
-use Rattle.phases.specs.Inner.Keeping.{KeepsLoop, IsOrderOf, AreOrdersOf}
+use Rattle.phases.specs.Hosting.{Answered}
+use Rattle.phases.specs.Keeping.{KeepsLoop, IsOrderOf, AreOrdersOf}
 use Rattle.events.specs.Phases.{may_end}
 use Rattle.phases.specs.PhaseList.{is_alive, exports, first_list, begin_list}
-use Rattle.phases.specs.Inner.Ready.{AreReady, Grows}
+use Rattle.phases.specs.Ready.{AreReady, Grows}
 use Rattle.phases.specs.Roster.{Roster, callback_in, callbacks_of, callback_function, in_table, takes_one_number, opening_roster}
 use Rattle.phases.specs.State.{Setting, State, Loop, opening}
 use Rattle.phases.specs.Step.{RunsFrom, begun, finished, turn, handle_function}

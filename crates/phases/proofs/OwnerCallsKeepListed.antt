@@ -14,7 +14,7 @@ use Rattle.phases.specs.Calls.{Calls}
 use Rattle.phases.specs.Host.{with_requests}
 use Rattle.phases.specs.Outside.{after_clock, handing, next_of, next_in, next_order_of, answered, CancelIn}
 use Rattle.phases.specs.Step.{begun, finished}
-use Rattle.phases.specs.Inner.Ready.{Grows}
+use Rattle.phases.specs.Ready.{Grows}
 use Rattle.phases.proofs.RequestsRise.{number_of, found_passes, at_all}
 use Rattle.phases.proofs.PhaseListsAreReady.{found_by_number, IsFoundIn}
 use Rattle.phases.proofs.GuestCallsKeepListed.{IsSettledOne, Settles, picked, settles_stage, settles_cancel, grows_same, grows_refl, grows_requests}

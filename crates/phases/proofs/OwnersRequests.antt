@@ -13,8 +13,8 @@ use Rattle.phases.specs.Calls.{Calls, IsLawful}
 use Rattle.phases.specs.Guests.{GuestCall}
 use Rattle.phases.specs.History.{owners_call}
 use Rattle.phases.specs.Host.{CallStep, QueuesWork, OpensNext, with_requests}
-use Rattle.phases.specs.Inner.Keeping.{AreOrdersOf}
-use Rattle.phases.specs.Inner.Ready.{Grows}
+use Rattle.phases.specs.Keeping.{AreOrdersOf}
+use Rattle.phases.specs.Ready.{Grows}
 use Rattle.phases.specs.Outside.{RequestIn}
 use Rattle.phases.specs.PhaseList.{exports}
 use Rattle.phases.specs.Requests.{Requests}

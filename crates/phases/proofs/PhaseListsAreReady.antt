@@ -18,7 +18,7 @@ use Rattle.phases.specs.Requests.{Requests, Request, has_number, is_settled, set
 use Rattle.phases.specs.Roster.{Roster, in_table, async_handle}
 use Rattle.phases.specs.State.{State, opening}
 use Rattle.phases.specs.Step.{phase_entered}
-use Rattle.phases.specs.Inner.Ready.{IsSettledIn, IsReady, Spares, AreApart, AreReady}
+use Rattle.phases.specs.Ready.{IsSettledIn, IsReady, Spares, AreApart, AreReady}
 use Rattle.phases.proofs.RequestsRise.{number_of, rising_filter}
 use Rattle.phases.proofs.RosterKeeps.{choose, both_false}
 use Rattle.phases.proofs.GuestCallsKeepListed.{IsSettledOne}

@@ -20,7 +20,7 @@ use Rattle.interp.specs.Slices.{RunIsPaused, RunStandsAt}
 use Rattle.interp.proofs.Slots.CallsBegin.{under_way}
 use Rattle.phases.specs.Calls.{Calls}
 use Rattle.phases.specs.Host.{HostStep}
-use Rattle.phases.specs.Inner.Setting.{setting_of}
+use Rattle.phases.specs.Settings.{setting_of}
 use Rattle.phases.specs.State.{Setting, State}
 use Rattle.phases.specs.Underway.{Host, moves}
 use Rattle.phases.specs.View.{View, AreOpenedUpTo}

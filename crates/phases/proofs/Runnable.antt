@@ -34,9 +34,9 @@ use Rattle.phases.specs.declared.entry.Status.{Status}
 use Rattle.phases.specs.declared.entry.Status.TheVariants.{Running, Over, Failed}
 use Rattle.phases.specs.Outside.{handing, next_in, next_order_of}
 use Rattle.phases.specs.Host.{next_work, CancelsFrom, Cancels, Opens, QueuesWork, RelatesWork, CallStep, HostStep}
-use Rattle.phases.specs.Inner.Ready.{IsSettledIn}
+use Rattle.phases.specs.Ready.{IsSettledIn}
 use Rattle.order.specs.Runnable.{CanRun}
-use Rattle.phases.specs.Inner.Keeping.{IsOrderOf, AreOrdersOf}
+use Rattle.phases.specs.Keeping.{IsOrderOf, AreOrdersOf}
 use Rattle.phases.proofs.GuestCallsKeep.{emitted_requests}
 
 decide : {P Q R : Type 0} (b : Bool) → (b ≡ true → P → R) → (b ≡ false → Q → R) → MatchBool b P Q → R

@@ -16,7 +16,6 @@ use Rattle.events.specs.Bare.{IsBare}
 use Rattle.events.specs.declared.ended.Ending.{Ending}
 use Rattle.events.specs.declared.ended.Ending.TheVariants.{Return, Trap, Depth, Spent}
 use Rattle.reduction.specs.Invoking.{TakesArguments, HasNoResults, ReturnsTyped}
-use Rattle.reduction.specs.Run.{HostCall}
 use Rattle.reduction.specs.Running.{AreResults}
 use Rattle.syntax.specs.declared.types.ValType.{ValType}
 use Rattle.reduction.specs.Leading.{Leads, calling, scene}
@@ -24,23 +23,14 @@ use Rattle.interp.specs.declared.paused.Paused.{Paused}
 use Rattle.interp.specs.Slices.{RunIsPaused, RunIsOver}
 use Rattle.phases.specs.Calls.{Calls}
 use Rattle.phases.specs.Guests.{GuestCall}
-use Rattle.phases.specs.Inner.Keeping.{KeepsLoop}
-use Rattle.phases.specs.Inner.Setting.{setting_of}
+use Rattle.phases.specs.Keeping.{KeepsLoop}
+use Rattle.phases.specs.Settings.{setting_of}
 use Rattle.imports.specs.Linking.{IsLinked}
 use Rattle.order.proofs.InSlices.{bare_is_defined}
 use Rattle.phases.specs.State.{Setting, State, Loop, Core}
 use Rattle.phases.specs.Step.{RunsFrom, StepsWith, begun}
 use Rattle.phases.specs.Underway.{StepInSlices, Host, moves, StepHasCome, IsCallback}
 use Rattle.phases.proofs.Relocated.{placed, placed_is, paused_at_placed, same_made}
-
--- a call is paused over an equal module, equal tables and equal callers
-module _ {H : Type 0} (moved : H → HostCall → H → Type 0) (m m' : Contents) (ts ts' : List SideTable) (fs fs' : List Caller) (em : m ≡ m') (et : ts ≡ ts') (ef : fs ≡ fs') where
-  pub paused_in : (s t : Store) (old new : H) (args : List Value) (fuel : ℕ) (paused : Paused) (slots : List ℕ)
-      → RunIsPaused m ts moved s old args fuel paused slots fs t new → RunIsPaused m' ts' moved s old args fuel paused slots fs' t new
-  paused_in s t old new args fuel paused slots k =
-      subst (λ (x : Contents). RunIsPaused x ts' moved s old args fuel paused slots fs' t new) em
-      (subst (λ (x : List SideTable). RunIsPaused m x moved s old args fuel paused slots fs' t new) et
-      (subst (λ (x : List Caller). RunIsPaused m ts moved s old args fuel paused slots x t new) ef k))
 
 module _ {S : Type 0} (calls : Calls S) (loaded : Loaded) (kind : EntryKind) (number : ℕ) (tables : List SideTable) where
   -- a step whose callback has come there

@@ -9,7 +9,7 @@ use Rattle.reduction.specs.Hosting.{Lawful}
 use Rattle.reduction.specs.Leading.{Leads, calling, scene}
 use Rattle.phases.specs.Calls.{Calls}
 use Rattle.phases.specs.Host.{HostStep}
-use Rattle.phases.specs.Inner.Hosting.{Answered}
+use Rattle.phases.specs.Hosting.{Answered}
 use Rattle.phases.specs.State.{Setting, State}
 use Rattle.phases.specs.Stopping.{LoopStopsAt}
 use Rattle.phases.proofs.GuestCallsKeep.{served}

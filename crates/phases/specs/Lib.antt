@@ -6,11 +6,15 @@ pub mod Fitting
 pub mod Guests
 pub mod History
 pub mod Host
+pub mod Hosting
+pub mod Keeping
 pub mod Laws
 pub mod Outside
 pub mod PhaseList
+pub mod Ready
 pub mod Requests
 pub mod Roster
+pub mod Settings
 pub mod State
 pub mod Slices
 pub mod Step

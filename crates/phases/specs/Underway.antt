@@ -12,9 +12,9 @@ use Rattle.events.specs.declared.phase.EntryKind.{EntryKind}
 use Rattle.phases.specs.declared.loop_host.LoopHost.{LoopHost}
 use Rattle.phases.specs.Calls.{Calls}
 use Rattle.phases.specs.Guests.{GuestCall}
-use Rattle.phases.specs.Inner.Hosting.{Answered}
-use Rattle.phases.specs.Inner.Keeping.{KeepsLoop}
-use Rattle.phases.specs.Inner.Setting.{setting_of}
+use Rattle.phases.specs.Hosting.{Answered}
+use Rattle.phases.specs.Keeping.{KeepsLoop}
+use Rattle.phases.specs.Settings.{setting_of}
 use Rattle.phases.specs.State.{Setting, State, Loop, Core}
 use Rattle.phases.specs.Step.{begun, RunsFrom, StepsWith}
 

@@ -16,9 +16,9 @@ ghost use Rattle.phases.specs.Guests.{GuestCall};
 ghost use Rattle.order.specs.Runnable.{CanRun};
 ghost use Rattle.phases.specs.PhaseList.{begin_list, hint_of, is_alive, IsAlive, IsHint};
 ghost use Rattle.phases.specs.Bare.{whole_did};
-ghost use Rattle.phases.specs.Inner.Keeping.{KeepsLoop};
-ghost use Rattle.phases.specs.Inner.Ready.{IsReady, Spares};
-ghost use Rattle.phases.specs.Inner.Setting.{setting_of};
+ghost use Rattle.phases.specs.Keeping.{KeepsLoop};
+ghost use Rattle.phases.specs.Ready.{IsReady, Spares};
+ghost use Rattle.phases.specs.Settings.{setting_of};
 ghost use Rattle.phases.specs.Requests.{IsLowestOpen};
 ghost use Rattle.phases.specs.Roster.{opening_roster};
 ghost use Rattle.phases.specs.State.{opening};
@@ -89,8 +89,8 @@ impl<B: Shared + Drop> Model for LoopCore<B> {
     ghost use Rattle.phases.specs.Inner.Codes.{roster_code, requests_code};
     ghost use Rattle.syntax.specs.Loaded.{loaded_coded};
     ghost use Rattle.phases.specs.State.{Core};
-    ghost use Rattle.phases.specs.Inner.Setting.{setting_of};
-    ghost use Rattle.phases.specs.Inner.Keeping.{KeepsLoop};
+    ghost use Rattle.phases.specs.Settings.{setting_of};
+    ghost use Rattle.phases.specs.Keeping.{KeepsLoop};
     ghost use Rattle.std.specs.Arc.{arc_value};
 
     ghost Value = { Core B };

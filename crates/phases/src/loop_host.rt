@@ -1,12 +1,14 @@
 // The host of a loop's callbacks.
 
-ghost use Rattle.std.specs.Prelude.{◌≡◌, Some, map, length};
+ghost use Rattle.std.specs.Prelude.{◌≡◌, ◌+◌, Some, map, length};
 ghost use Rattle.validate.specs.Typing.{type_of};
 ghost use Rattle.reduction.specs.Hosting.{Answers};
 ghost use Rattle.imports.specs.Uv.{type_of_call};
-ghost use Rattle.phases.specs.Inner.Hosting.{Replies};
-ghost use Rattle.phases.specs.Roster.{started_in};
-ghost use Rattle.phases.specs.Inner.Setting.{setting_of};
+ghost use Rattle.handles.specs.Table.{saturated};
+ghost use Rattle.handles.specs.declared.handle.Kind.TheVariants as kind;
+ghost use Rattle.phases.specs.Hosting.{Replies};
+ghost use Rattle.phases.specs.Roster.{started_in, closed_in};
+ghost use Rattle.phases.specs.Settings.{setting_of};
 ghost use Rattle.phases.specs.View.{AreOpenedUpTo};
 
 use crate::loop_state::LoopState;
@@ -71,6 +73,25 @@ fn start(roster: &mut Roster, kind: Kind, args: (u32, u32)) -> u32
     roster.start(kind, handle, callback, 0, 0)
 }
 
+/// Starts a timer that is due so long after now.
+fn start_timer(roster: &mut Roster, now: u64, args: (u32, u32, u64, u64)) -> u32
+    ensures answer { result ≡ (started_in kind.Timer args.0 args.1 (saturated (now + args.2)) args.3 roster.old).0 }
+    ensures roster { roster.new ≡ (started_in kind.Timer args.0 args.1 (saturated (now + args.2)) args.3 roster.old).1 }
+{
+    let (handle, callback, timeout, repeat) = args;
+    let due = now.saturating_add(timeout);
+    roster.start(Kind::Timer, handle, callback, due, repeat)
+}
+
+/// Closes a handle.
+fn close(roster: &mut Roster, args: (u32, u32)) -> u32
+    ensures answer { result ≡ (closed_in args.0 args.1 roster.old).0 }
+    ensures roster { roster.new ≡ (closed_in args.0 args.1 roster.old).1 }
+{
+    let (handle, callback) = args;
+    roster.close(handle, callback)
+}
+
 /// What a loop answers to a function of "uv".
 #[inline(always)]
 fn answer<B: Shared>(
@@ -94,13 +115,7 @@ fn answer<B: Shared>(
         Call::TimerInit => state.roster.init(Kind::Timer),
         Call::IdleInit => state.roster.init(Kind::Idle),
         Call::CheckInit => state.roster.init(Kind::Check),
-        Call::TimerStart => {
-            let (handle, callback, timeout, repeat) = two_and_two_wide(args);
-            let due = state.time.saturating_add(timeout);
-            state
-                .roster
-                .start(Kind::Timer, handle, callback, due, repeat)
-        }
+        Call::TimerStart => start_timer(&mut state.roster, state.time, two_and_two_wide(args)),
         Call::TimerStop => state.roster.stop(Kind::Timer, one(args)),
         Call::IdleStop => state.roster.stop(Kind::Idle, one(args)),
         Call::CheckStop => state.roster.stop(Kind::Check, one(args)),
@@ -110,10 +125,7 @@ fn answer<B: Shared>(
         Call::AsyncInit => state.roster.init_async(one(args)),
         Call::AsyncSend => send(&state.roster, shared, one(args)),
         Call::IsActive => state.roster.active_answer(one(args)),
-        Call::Close => {
-            let (handle, callback) = two(args);
-            state.roster.close(handle, callback)
-        }
+        Call::Close => close(&mut state.roster, two(args)),
         Call::QueueWork => {
             let (op, place, count) = three(args);
             let asked = Asked { op, place, count };
@@ -132,8 +144,8 @@ fn answer<B: Shared>(
 }
 
 impl<B: Shared + Drop> Host for LoopHost<B> {
-    ghost use Rattle.phases.specs.Inner.Hosting.{Answered};
-    ghost use Rattle.phases.specs.Inner.Setting.{setting_of};
+    ghost use Rattle.phases.specs.Hosting.{Answered};
+    ghost use Rattle.phases.specs.Settings.{setting_of};
     ghost use Rattle.order.specs.ImportTypes.{import_types};
 
     ghost types = { λ g. import_types (setting_of g.setting).loaded.contents };

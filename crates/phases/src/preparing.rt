@@ -2,7 +2,7 @@
 
 ghost use Rattle.std.specs.Prelude.{◌≡◌, All, MatchBool};
 ghost use Rattle.phases.specs.Inner.Preparing.{Prepares, CanRunIn};
-ghost use Rattle.phases.specs.Inner.Ready.{IsReady, Spares};
+ghost use Rattle.phases.specs.Ready.{IsReady, Spares};
 ghost use Rattle.phases.specs.Step.{StepsWith, ListStep, EntryStep, CallsHandle, Skips, is_as_listed};
 
 use crate::callback::{Prepared, PreparedCallback};

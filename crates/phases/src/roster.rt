@@ -7,7 +7,7 @@ ghost use Rattle.phases.specs.Roster.{callback_function, is_callback, is_open, i
 ghost use Rattle.phases.specs.Roster.{is_handle, unless_handle, stopped_in, started_in, again_in, closed_in, active_answer, Makes, MakesAsync};
 ghost use Rattle.phases.specs.PhaseList.{is_empty, has_active, active_asyncs, is_active_handle};
 ghost use Rattle.phases.specs.Fitting.{has_duty, RosterIsKept};
-ghost use Rattle.phases.specs.Inner.Ready.{IsActiveAsync};
+ghost use Rattle.phases.specs.Ready.{IsActiveAsync};
 ghost use Rattle.phases.specs.Step.{is_as_listed, handle_function};
 
 use arrayvec::ArrayVec;

@@ -4,7 +4,7 @@ ghost use Rattle.std.specs.Prelude.{◌≡◌, IfOk};
 ghost use Rattle.std.specs.Arc.{arc_value};
 ghost use Rattle.order.specs.Orders.{order_of};
 ghost use Rattle.phases.specs.Host.{work_of};
-ghost use Rattle.phases.specs.Inner.Setting.{setting_of};
+ghost use Rattle.phases.specs.Settings.{setting_of};
 
 use events::settings::LoopSettings;
 use imports::Linked;

@@ -1,10 +1,8 @@
 //! A step in slices.
 
-ghost use Rattle.std.specs.Prelude.{◌≡◌, ◌≤◌, List, length, IfOk, IfErr};
-ghost use Rattle.std.specs.Arc.{arc_value};
-ghost use Rattle.limits.specs.declared.TheConstants.{MAX_DEPTH};
-ghost use Rattle.validate.specs.Targets.{AreTables};
+ghost use Rattle.std.specs.Prelude.{◌≡◌, ◌≤◌, List, IfOk, IfErr};
 ghost use Rattle.events.specs.declared.did.StepDid.{StepDid as Did};
+ghost use Rattle.interp.specs.Machines.{MachineFits};
 ghost use Rattle.phases.specs.Guests.{GuestCall};
 ghost use Rattle.phases.specs.Inner.Preparing.{CanCallBack, RunsCallback};
 ghost use Rattle.phases.specs.Slices.{StepBegins, StepGoesOn};
@@ -14,11 +12,12 @@ ghost use Rattle.phases.specs.Underway.{StepHasCome, used_by_step};
 
 use crate::callback::{Prepared, PreparedCallback};
 use crate::loop_core::LoopCore;
-use crate::machine::{LoopMachine, ReservedMachine};
+use crate::machine::LoopMachine;
 use crate::shared::Shared;
 use events::did::StepDid;
 use events::phase::EntryKind;
 use imports::Linked;
+use interp::machine::Machine;
 use interp::slices::{Paused, Slice};
 use order::laws::imports_are_named;
 use std::alloc::Global;
@@ -81,7 +80,7 @@ impl<B: Shared + Drop> LoopCore<B> {
         ensures begun { IfOk result (StepBegins B.calls self) }
         ensures refused { IfErr result (λ same. same ≡ self) }
     {
-        let Ok(reserved) = ReservedMachine::new(self.host.alloc, self.linked.valid()) else {
+        let Ok(reserved) = Machine::new(self.host.alloc, self.linked.valid()) else {
             return Err(self);
         };
         let mut core = self;
@@ -92,9 +91,8 @@ impl<B: Shared + Drop> LoopCore<B> {
     }
 
     /// Begins a callback in what was reserved for it.
-    fn call_back(self, reserved: ReservedMachine, callback: PreparedCallback) -> Stepping<B>
-        requires agree { AreTables self.setting.loaded.contents (arc_value reserved.tables) }
-        requires room { MAX_DEPTH ≤ length reserved.frames.items }
+    fn call_back(self, reserved: Machine, callback: PreparedCallback) -> Stepping<B>
+        requires runs { MachineFits self.setting.loaded.contents reserved }
         requires fits { CanCallBack self.setting.loaded.contents callback }
         ensures come { (a : Core B) → a.setting ≡ self.setting
             → ((did : Did) (made : List GuestCall) (new : Loop B) → RunsCallback B.calls a.setting self.loop callback did made new → StepsWith B.calls a.setting a.loop did made new)
@@ -112,7 +110,11 @@ impl<B: Shared + Drop> LoopCore<B> {
         imports_are_named(&linked);
         let mut host = host;
         host.state.begin_callback(reply);
-        let mut machine = LoopMachine::of(reserved, store, host);
+        let mut machine = LoopMachine {
+            store,
+            host,
+            machine: reserved,
+        };
         let paused = machine.begin(linked.valid(), function, args.as_slice());
         Stepping {
             linked,
@@ -142,8 +144,8 @@ impl<B: Shared + Drop> Stepping<B> {
         let mut machine = machine;
         let mut slice = Slice { paused, units };
         match machine.go_on(linked.valid(), &mut slice) {
-            Some(end) => {
-                let (core, did) = machine.over(linked, end, kind, number);
+            Some(ended) => {
+                let (core, did) = machine.over(linked, ended, kind, number);
                 StepSlice::Over(core, did.whole())
             }
             None => StepSlice::Paused(Stepping {

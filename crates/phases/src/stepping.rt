@@ -14,7 +14,7 @@ ghost use Rattle.phases.specs.PhaseList.{is_active_handle, is_alive, phase_list}
 ghost use Rattle.phases.specs.Bare.{whole_did};
 ghost use Rattle.phases.specs.Inner.Stage.{completion_in};
 ghost use Rattle.syntax.specs.declared.contents.Contents.{Contents};
-ghost use Rattle.phases.specs.Inner.Ready.{AreReady, IsActiveAsync};
+ghost use Rattle.phases.specs.Ready.{AreReady, IsActiveAsync};
 ghost use Rattle.phases.specs.Requests.{request_of, without_request, is_settled, completion_of};
 ghost use Rattle.phases.specs.Roster.{async_handle, with_handles, without_handle};
 ghost use Rattle.phases.specs.Step.{turn, in_phase, now_in, moment_in, begun, finished, returns, is_as_listed, handle_function};

@@ -4,7 +4,7 @@ ghost use Rattle.std.specs.Prelude.{◌≡◌, ◌<◌, ◌≤◌, ◌+◌, leng
 ghost use Rattle.imports.specs.Uv.{name_of_entry};
 ghost use Rattle.phases.specs.Host.{Sends, QueuesWork, OpensNext, OpensIfRoom};
 ghost use Rattle.phases.specs.PhaseList.{exports};
-ghost use Rattle.phases.specs.Inner.Setting.{setting_of};
+ghost use Rattle.phases.specs.Settings.{setting_of};
 ghost use Rattle.phases.specs.View.{AreOpenedUpTo};
 
 use crate::requests::Requests;

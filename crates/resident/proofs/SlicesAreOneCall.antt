@@ -1,11 +1,9 @@
 -- A call of an instance in slices is a call of it.
-use Rattle.std.proofs.Common.{◌≡◌, ℕ, ◌<◌, ◌≤◌, List, ◌++◌, length, take, Option, Some, None, refl, sym, ap, ◌∙◌, subst, arith}
+use Rattle.std.proofs.Common.{◌≡◌, ℕ, ◌<◌, ◌≤◌, List, length, Option, Some, None, refl, sym, ap, ◌∙◌, subst, arith}
 use Rattle.std.specs.Prelude.{slice_get, IfSome}
 use Rattle.limits.specs.declared.TheConstants.{MAX_DEPTH}
-use Rattle.std.proofs.Math.Seq.{take-append_seam}
 use Rattle.syntax.specs.Loaded.{Loaded}
 use Rattle.syntax.specs.declared.types.Value.{Value}
-use Rattle.syntax.specs.declared.contents.Contents.{Contents}
 use Rattle.instance.specs.Store.{Store, memory_of}
 use Rattle.instance.specs.declared.stack.Caller.{Caller}
 use Rattle.instance.specs.declared.stack.Last.{Last}
@@ -21,7 +19,7 @@ use Rattle.interp.specs.declared.paused.Paused.{Paused}
 use Rattle.interp.specs.Slices.{RunIsPaused, IsSomePaused, RunIsOver, RunStandsAt}
 use Rattle.resident.specs.NoHost.{IsMinusOne, types_of_imports}
 use Rattle.resident.specs.Calls.{KeptInstance, CallsInstance}
-use Rattle.resident.specs.Underway.{CallUnderway, HasCome, ComesTo, IsSomeCall, used_at, used_by, answers}
+use Rattle.resident.specs.Underway.{CallUnderway, HasCome, ComesTo, IsSomeCall, used_at, used_by}
 use Rattle.resident.specs.Slices.{CallIsOver as IsOverCall, CallStandsAt}
 use Rattle.resident.specs.Inner.Going.{paused_at}
 use Rattle.resident.specs.declared.calling.CallPlace.{CallPlace}
@@ -42,25 +40,7 @@ module _ (loaded : Loaded) (function depth : ℕ) (ended : Ended) (b : KeptInsta
       (subst (λ (n : ℕ). CallsInstance (record { loaded = loaded; store = a.store; stop = a.stop }) n fuel f args ended b) deep
       (subst (λ (n : ℕ). CallsInstance (record { loaded = loaded; store = a.store; stop = a.stop }) depth fuel n args ended b) named calls))
 
--- the front of a list of two parts
-pub take_seam : {A : Type 0} (n : ℕ) (xs ys : List A) → length xs ≡ n → take n (xs ++ ys) ≡ xs
-take_seam n xs ys e = subst (λ (k : ℕ). take k (xs ++ ys) ≡ xs) e (take-append_seam xs ys)
-
--- a call is paused over an equal module, equal tables and equal callers
-module _ {H : Type 0} (m m' : Contents) (ts ts' : List SideTable) (fs fs' : List Caller) (em : m ≡ m') (et : ts ≡ ts') (ef : fs ≡ fs') where
-  paused_in : (s t : Store) (old new : H) (args : List Value) (fuel : ℕ) (paused : Paused) (slots : List ℕ)
-      → RunIsPaused m ts refuses s old args fuel paused slots fs t new → RunIsPaused m' ts' refuses s old args fuel paused slots fs' t new
-  paused_in s t old new args fuel paused slots k =
-      subst (λ (x : Contents). RunIsPaused x ts' refuses s old args fuel paused slots fs' t new) em
-      (subst (λ (x : List SideTable). RunIsPaused m x refuses s old args fuel paused slots fs' t new) et
-      (subst (λ (x : List Caller). RunIsPaused m ts refuses s old args fuel paused slots x t new) ef k))
-
-  -- a call that begins is under way, whatever is seen of the host
-  pub begun : (s : Store) (args : List Value) (fuel : ℕ) (paused : Paused) (slots : List ℕ) (h : H) → RunIsPaused m ts refuses s h args fuel paused slots fs s h
-      → RunIsPaused m' ts' answers s tt args fuel paused slots fs' s tt
-  begun s args fuel paused slots h q = paused_unseen m' ts' s s args fuel paused slots fs' h h (paused_in s s h h args fuel paused slots q)
-
--- A call over a host of whatever state, at a place. The module's parts are told beside what they are the same as.
+-- A call over a host of whatever state, at a place.
 module _ (loaded : Loaded) (tables : List SideTable) (slots : List ℕ) (frames : List Caller) (store : Store) (paused : Paused) where
   abbrev pub now : CallUnderway
   now = record {
@@ -104,57 +84,55 @@ module _ (loaded : Loaded) (tables : List SideTable) (slots : List ℕ) (frames 
   pub stands_within : IsSomeCall now → MAX_DEPTH ≤ length frames → IfSome paused.last (λ l. l.depth ≤ length frames)
   stands_within (a, d, fuel, f, args, come) room = shallow_by paused.last a.store args (stands_so a d fuel f args come) room
 
-  module _ {H : Type 0} (m : Contents) (ts : List SideTable) (fs : List Caller) (same : m ≡ loaded.contents) (same_tables : ts ≡ tables) (same_frames : fs ≡ frames) (h : H) where
+  module _ {H : Type 0} (h : H) where
     -- a call that has come here is paused here, over whatever host
-    here : (a : KeptInstance) (d fuel f : ℕ) (args : List Value) → HasCome a d fuel f args now → RunIsPaused m ts refuses a.store h args fuel paused slots fs store h
-    here a d fuel f args come =
-        paused_in loaded.contents m tables ts frames fs (sym same) (sym same_tables) (sym same_frames) a.store store h h args fuel paused slots
-        (paused_seen loaded.contents tables a.store store args fuel paused slots frames h come.comes.2)
+    here : (a : KeptInstance) (d fuel f : ℕ) (args : List Value) → HasCome a d fuel f args now
+        → RunIsPaused loaded.contents tables refuses a.store h args fuel paused slots frames store h
+    here a d fuel f args come = paused_seen loaded.contents tables a.store store args fuel paused slots frames h come.comes.2
 
-    pub some_paused : IsSomeCall now → IsSomePaused m ts refuses paused slots fs store h
+    pub some_paused : IsSomeCall now → IsSomePaused loaded.contents tables refuses paused slots frames store h
     some_paused (a, d, fuel, f, args, come) = (a.store, h, args, fuel, here a d fuel f args come)
 
     module _ (h' : H) where
-      pub over_calls : (ended : Ended) (t : Store) (stop whole : Option Halt) → whole ≡ stop
-          → ((s : Store) (before : H) (args : List Value) (fuel : ℕ) → RunIsPaused m ts refuses s before args fuel paused slots fs store h
-          → RunIsOver m paused.depth refuses paused.function s before args fuel ended t h' stop)
-          → ReturnsTyped m paused.function ended.ending
+      pub over_calls : (ended : Ended) (t : Store) (stop : Option Halt)
+          → ((s : Store) (before : H) (args : List Value) (fuel : ℕ) → RunIsPaused loaded.contents tables refuses s before args fuel paused slots frames store h
+          → RunIsOver loaded.contents paused.depth refuses paused.function s before args fuel ended t h' stop)
+          → ReturnsTyped loaded.contents paused.function ended.ending
           → (a : KeptInstance) (d fuel f : ℕ) (args : List Value) → HasCome a d fuel f args now
-          → CallsInstance a d fuel f args ended (record { loaded = loaded; store = t; stop = whole })
-      over_calls ended t stop whole e over typed a d fuel f args come =
-          let it : RunIsOver loaded.contents paused.depth refuses paused.function a.store h args fuel ended t h' whole =
-          subst (λ (x : Option Halt). RunIsOver loaded.contents paused.depth refuses paused.function a.store h args fuel ended t h' x) (sym e)
-          (subst (λ (x : Contents). RunIsOver x paused.depth refuses paused.function a.store h args fuel ended t h' stop) same (over a.store h args fuel (here a d fuel f args come))) in
-          let b : KeptInstance = record { loaded = loaded; store = t; stop = whole } in
+          → CallsInstance a d fuel f args ended (record { loaded = loaded; store = t; stop = stop })
+      over_calls ended t stop over typed a d fuel f args come =
+          let it : RunIsOver loaded.contents paused.depth refuses paused.function a.store h args fuel ended t h' stop =
+          over a.store h args fuel (here a d fuel f args come) in
+          let b : KeptInstance = record { loaded = loaded; store = t; stop = stop } in
           let own : KeptInstance = record { loaded = loaded; store = a.store; stop = a.stop } in
           as_told loaded paused.function paused.depth ended b fuel args a d f come.same come.named come.deep
-          (called own paused.depth fuel paused.function args h h' ended b refl it.leads it.within (subst (λ (x : Contents). ReturnsTyped x paused.function ended.ending) same typed))
+          (called own paused.depth fuel paused.function args h h' ended b refl it.leads it.within typed)
 
-      pub goes_on : (next : Paused) (after : List ℕ) (callers whole : List Caller) → whole ≡ callers → (t : Store)
+      pub goes_on : (next : Paused) (ts : List SideTable) (after : List ℕ) (callers : List Caller) (t : Store)
           → (next.function ≡ paused.function) × (next.depth ≡ paused.depth)
-          → ((s : Store) (before : H) (args : List Value) (fuel : ℕ) → RunIsPaused m ts refuses s before args fuel paused slots fs store h
-          → RunIsPaused m ts refuses s before args fuel next after callers t h')
+          → ((s : Store) (before : H) (args : List Value) (fuel : ℕ) → RunIsPaused loaded.contents tables refuses s before args fuel paused slots frames store h
+          → RunIsPaused loaded.contents ts refuses s before args fuel next after callers t h')
           → 1 ≤ next.left
           → (a : KeptInstance) (d fuel f : ℕ) (args : List Value) → HasCome a d fuel f args now
           → HasCome a d fuel f args (record {
             loaded = loaded;
-            tables = tables;
+            tables = ts;
             function = next.function;
             depth = next.depth;
             place = Some next;
             slots = after;
-            callers = whole;
+            callers = callers;
             store = t;
           })
           × (next.used < fuel)
-      goes_on next after callers whole e t call going left a d fuel f args come =
-          let there : RunIsPaused loaded.contents tables refuses a.store h args fuel next after whole t h' =
-          paused_in m loaded.contents ts tables callers whole same same_tables (sym e) a.store t h h' args fuel next after (going a.store h args fuel (here a d fuel f args come)) in (
+      goes_on next ts after callers t call going left a d fuel f args come =
+          let there : RunIsPaused loaded.contents ts refuses a.store h args fuel next after callers t h' =
+          going a.store h args fuel (here a d fuel f args come) in (
             record {
               same = come.same;
               named = call.0 ∙ come.named;
               deep = call.1 ∙ come.deep;
-              comes = (refl, refl, paused_unseen loaded.contents tables a.store t args fuel next after whole h h' there);
+              comes = (refl, refl, paused_unseen loaded.contents ts a.store t args fuel next after callers h h' there);
             },
             omega (arith, there.paid, left),
           )

@@ -1,52 +1,33 @@
 // A call of an instance in slices.
 
-ghost use Rattle.std.specs.Prelude.{◌≡◌, ◌≤◌, ℕ, length, Option, Some, None, IfOk, IfErr, IfSome};
+ghost use Rattle.std.specs.Prelude.{◌≡◌, ◌≤◌, ℕ, Option, Some, None, IfOk, IfErr, IfSome};
 ghost use Rattle.limits.specs.declared.TheConstants.{MAX_DEPTH};
 ghost use Rattle.events.specs.declared.ended.Ending.TheVariants.{Return};
 ghost use Rattle.instance.specs.Storing.{IsStoreOf};
-ghost use Rattle.instance.specs.Stops.{stop_of, Halt};
+ghost use Rattle.instance.specs.Stops.{Halt};
 ghost use Rattle.reduction.specs.Invoking.{TakesArguments};
 ghost use Rattle.reduction.specs.Run.{as_operands};
 ghost use Rattle.resident.specs.Slices.{CallGoesOn, CallIsOver, CallStandsAt, IsPausedAgain};
 ghost use Rattle.resident.specs.Underway.{HasCome, ComesTo, IsSomeCall, used_by};
-ghost use Rattle.resident.specs.Inner.Going.{MachineFits, call_underway, inside_call, kept, paused_at};
+ghost use Rattle.interp.specs.Machines.{MachineFits};
+ghost use Rattle.resident.specs.Inner.Going.{call_underway, inside_call, kept, paused_at};
 
 use crate::no_host::{NoHost, answer};
 use crate::resident::Resident;
 use events::ended::{Ended, Ending};
 use events::values::Values;
 use imports::Linked;
-use instance::stack::{CallStack, Caller, Last, Slots, Stop};
+use instance::stack::Stop;
 use instance::state::State;
 use interp::call::FunctionCall;
-use interp::slices::{Paused, Slice, begin, go_on};
+use interp::machine::Machine;
+use interp::slices::{Paused, Slice};
 use limits::MAX_DEPTH;
 use std::alloc::{AllocError, Global};
 use std::marker::Model;
 use std::sync::Arc;
-use syntax::items::Items;
 use syntax::types::Value;
-use validate::{SideTable, Valid};
-
-/// What a call under way runs on besides its instance's state: the side tables of its module, which stay the same from slice to
-/// slice, and a stack in its parts.
-pub(crate) struct CallMachine {
-    tables: Arc<Items<SideTable>, Global>,
-    slots: Slots,
-    frames: Vec<Caller>,
-    last: Option<Last>,
-}
-
-impl Drop for CallMachine {
-    fn drop(self) {
-        let CallMachine {
-            tables: _,
-            slots: _,
-            frames: _,
-            last: _,
-        } = self;
-    }
-}
+use validate::Valid;
 
 /// Where a call goes on.
 #[derive(Clone, Copy)]
@@ -62,7 +43,7 @@ pub(crate) enum CallPlace {
 pub struct Calling {
     linked: Arc<Linked, Global>,
     state: State,
-    machine: CallMachine,
+    machine: Machine,
     place: CallPlace,
 }
 
@@ -116,101 +97,42 @@ fn returned(answer: Option<Value>) -> Ended
     }
 }
 
-impl CallMachine {
-    /// One on which nothing has run. An error comes where memory is refused.
-    pub(crate) fn new(alloc: Global, valid: &Valid) -> Result<CallMachine, AllocError>
-        ensures { IfOk result (λ m. MachineFits valid.now m) }
-    {
-        let nowhere = Caller {
-            function: 0,
-            pc: 0,
-            base: 0,
-        };
-        let tables = valid.share_tables()?;
-        let slots = Slots::new(alloc)?;
-        let mut frames = Vec::new(alloc);
-        frames.resize(MAX_DEPTH as usize, nowhere)?;
-        Ok(CallMachine {
-            tables,
-            slots,
-            frames,
-            last: None,
-        })
+/// Begins a call on this machine. Nothing of it runs yet.
+fn begin_call(machine: &mut Machine, valid: &Valid, state: &State, call: &FunctionCall) -> CallPlace
+    requires runs { MachineFits valid.now.contents machine.old }
+    requires store { IsStoreOf valid.now.contents state.now }
+    requires typed { TakesArguments valid.now.contents call.now.function call.now.args.now }
+    requires deep { (1 ≤ call.now.depth) × (call.now.depth ≤ MAX_DEPTH) }
+    ensures comes { ComesTo (call_underway valid.now state.now machine.new result) (paused_at result) state.now call.now.fuel call.now.args.now }
+    ensures function { (call_underway valid.now state.now machine.new result).function ≡ call.now.function }
+    ensures depth { (call_underway valid.now state.now machine.new result).depth ≡ call.now.depth }
+    ensures unused { used_by (call_underway valid.now state.now machine.new result) ≡ 0 }
+    ensures runs { MachineFits valid.now.contents machine.new }
+{
+    if (call.function as usize) < valid.contents().imports.len() {
+        return CallPlace::Import(call.function, call.depth);
     }
+    let host = NoHost::new(valid);
+    CallPlace::Inside(machine.begin(valid, state, &host, call))
+}
 
-    /// Begins a call. Nothing of it runs yet.
-    fn begin(&mut self, valid: &Valid, state: &State, call: &FunctionCall) -> CallPlace
-        requires runs { MachineFits valid.now self.old }
-        requires store { IsStoreOf valid.now.contents state.now }
-        requires typed { TakesArguments valid.now.contents call.now.function call.now.args.now }
-        requires deep { (1 ≤ call.now.depth) × (call.now.depth ≤ MAX_DEPTH) }
-        ensures comes { ComesTo (call_underway valid.now state.now self.new result) (paused_at result) state.now call.now.fuel call.now.args.now }
-        ensures function { (call_underway valid.now state.now self.new result).function ≡ call.now.function }
-        ensures depth { (call_underway valid.now state.now self.new result).depth ≡ call.now.depth }
-        ensures unused { used_by (call_underway valid.now state.now self.new result) ≡ 0 }
-        ensures runs { MachineFits valid.now self.new }
-    {
-        let contents = valid.contents();
-        if (call.function as usize) < contents.imports.len() {
-            return CallPlace::Import(call.function, call.depth);
-        }
-        let CallMachine {
-            tables,
-            slots,
-            frames,
-            last: _,
-        } = self;
-        let host = NoHost::new(valid);
-        let tables = tables.as_slice();
-        let callers = frames.as_slice();
-        CallPlace::Inside(begin(contents, tables, state, &host, slots, callers, call))
-    }
-
-    /// Goes on with a call of a function of the module for at most the units of the slice. Where it is over then, its ending is told.
-    fn go_on(&mut self, valid: &Valid, state: &mut State, slice: &mut Slice) -> Option<Ended>
-        requires runs { MachineFits valid.now self.old }
-        requires some { IsSomeCall (inside_call valid.now state.old self.old slice.old.paused) }
-        ensures over { IfSome result (CallIsOver (inside_call valid.now state.old self.old slice.old.paused) slice.old.units (kept valid.now state.new self.new)) }
-        ensures paused { result ≡ None → IsPausedAgain (inside_call valid.now state.old self.old slice.old.paused) slice.old.units
-            (inside_call valid.now state.new self.new slice.new.paused) }
-        ensures runs { MachineFits valid.now self.new }
-        ensures store { IsStoreOf valid.now.contents state.new }
-    {
-        let CallMachine {
-            tables,
-            slots,
-            frames,
-            last,
-        } = self;
-        let mut host = NoHost::new(valid);
-        let contents = valid.contents();
-        let tables = tables.as_slice();
-        let callers = frames.as_mut_slice();
-        let Some(end) = go_on(contents, tables, state, &mut host, slots, callers, slice) else {
-            return None;
-        };
-        *last = end.last;
-        Some(end.ended)
-    }
-
-    /// The stack, where the call is over.
-    fn into_stack(self) -> CallStack
-        requires room { MAX_DEPTH ≤ length self.frames.items }
-        requires shallow { IfSome self.last (λ l. l.depth ≤ MAX_DEPTH) }
-        ensures { result ≡ stop_of self.last self.frames.items }
-    {
-        let CallMachine {
-            tables: _,
-            slots,
-            frames,
-            last,
-        } = self;
-        CallStack {
-            slots,
-            frames,
-            last,
-        }
-    }
+/// Goes on with a call of a function of the module for at most the units of the slice. Where it is over then, its ending is told.
+fn go_on_call(
+    machine: &mut Machine,
+    valid: &Valid,
+    state: &mut State,
+    slice: &mut Slice,
+) -> Option<Ended>
+    requires runs { MachineFits valid.now.contents machine.old }
+    requires some { IsSomeCall (inside_call valid.now state.old machine.old slice.old.paused) }
+    ensures over { IfSome result (CallIsOver (inside_call valid.now state.old machine.old slice.old.paused) slice.old.units (kept valid.now state.new machine.new)) }
+    ensures paused { result ≡ None → IsPausedAgain (inside_call valid.now state.old machine.old slice.old.paused) slice.old.units
+        (inside_call valid.now state.new machine.new slice.new.paused) }
+    ensures runs { MachineFits valid.now.contents machine.new }
+    ensures store { IsStoreOf valid.now.contents state.new }
+{
+    let mut host = NoHost::new(valid);
+    machine.go_on(valid, state, &mut host, slice)
 }
 
 impl Resident {
@@ -242,15 +164,15 @@ impl Resident {
     }
 
     /// Begins it on this machine.
-    fn begin_on(self, machine: CallMachine, call: &FunctionCall) -> Calling
-        requires runs { MachineFits self.loaded machine }
+    fn begin_on(self, machine: Machine, call: &FunctionCall) -> Calling
+        requires runs { MachineFits self.loaded.contents machine }
         requires typed { TakesArguments self.loaded.contents call.now.function call.now.args.now }
         requires depth { (1 ≤ call.now.depth) × (call.now.depth ≤ MAX_DEPTH) }
         ensures { HasCome self call.now.depth call.now.fuel call.now.function call.now.args.now result × (used_by result ≡ 0) }
     {
         let (linked, state) = self.into_parts();
         let mut machine = machine;
-        let place = machine.begin(linked.valid(), &state, call);
+        let place = begin_call(&mut machine, linked.valid(), &state, call);
         Calling {
             linked,
             state,
@@ -279,7 +201,7 @@ impl Calling {
     {
         match self.place {
             CallPlace::Import(_, _) => None,
-            CallPlace::Inside(paused) => paused.stop(self.machine.frames.as_slice()),
+            CallPlace::Inside(paused) => self.machine.stop(&paused),
         }
     }
 
@@ -338,7 +260,7 @@ impl Calling {
         } = self;
         let (mut state, mut machine) = (state, machine);
         let mut slice = Slice { paused, units };
-        match machine.go_on(linked.valid(), &mut state, &mut slice) {
+        match go_on_call(&mut machine, linked.valid(), &mut state, &mut slice) {
             Some(ended) => {
                 let stack = machine.into_stack();
                 Going::Over(Resident::of_parts(linked, state, stack), ended)

@@ -9,11 +9,10 @@ ghost use Rattle.instance.specs.Reads.{WritesAt};
 ghost use Rattle.instance.specs.Fresh.{IsFresh};
 ghost use Rattle.instance.specs.Storing.{IsStoreOf};
 ghost use Rattle.reduction.specs.Invoking.{TakesArguments};
-ghost use Rattle.resident.specs.Inner.Going.{MachineFits};
+ghost use Rattle.interp.specs.Machines.{MachineFits};
 ghost use Rattle.resident.specs.Numbered.{HasNoType, ExportsAt, ExportsNoFunctionAt};
 ghost use Rattle.resident.specs.Calls.{CallsInstance, IsNew, StartsInstance, ExportsFirst, ExportsNoFunction, ExportsGlobal, ExportsNoGlobal};
 
-use crate::calling::CallMachine;
 use crate::exported::{exported_function, exported_global, function_at, type_of};
 use crate::no_host::NoHost;
 use events::ended::{Ended, Ending};
@@ -24,7 +23,8 @@ use instance::stack::{CallStack, Stop};
 use instance::state::{Instance, State};
 use interp::call::FunctionCall;
 use interp::conditions::takes_arguments;
-use interp::invoke::invoke_on;
+use interp::invoke::{invoke_lent, unwritten};
+use interp::machine::Machine;
 use std::alloc::{AllocError, Global};
 use std::marker::Model;
 use std::sync::Arc;
@@ -121,10 +121,10 @@ impl Resident {
     }
 
     /// A machine for a call in slices.
-    pub(crate) fn machine(&self, alloc: Global) -> Result<CallMachine, AllocError>
-        ensures { IfOk result (λ m. MachineFits self.now.loaded m) }
+    pub(crate) fn machine(&self, alloc: Global) -> Result<Machine, AllocError>
+        ensures { IfOk result (λ m. MachineFits self.now.loaded.contents m) }
     {
-        CallMachine::new(alloc, self.linked.valid())
+        Machine::new(alloc, self.linked.valid())
     }
 
     /// Its module, and its state.
@@ -160,6 +160,25 @@ impl Resident {
         requires depth { (1 ≤ depth) × (depth ≤ MAX_DEPTH) }
         ensures { CallsInstance self.old depth fuel function args.now result self.new }
     {
+        let mut ended = unwritten();
+        self.call_lent(function, args, fuel, depth, &mut ended);
+        ended
+    }
+
+    /// Does what `call` does, and writes how it ended to a place that is lent.
+    #[inline(always)]
+    pub fn call_lent(
+        &mut self,
+        function: u32,
+        args: &[Value],
+        fuel: u64,
+        depth: u32,
+        ended: &mut Ended,
+    )
+        requires typed { TakesArguments self.old.loaded.contents function args.now }
+        requires depth { (1 ≤ depth) × (depth ≤ MAX_DEPTH) }
+        ensures { CallsInstance self.old depth fuel function args.now ended.new self.new }
+    {
         let valid = self.linked.valid();
         let mut host = NoHost::new(valid);
         let call = FunctionCall {
@@ -168,7 +187,14 @@ impl Resident {
             fuel,
             depth,
         };
-        invoke_on(valid, &mut self.state, &mut self.stack, &mut host, &call)
+        invoke_lent(
+            valid,
+            &mut self.state,
+            &mut self.stack,
+            &mut host,
+            ended,
+            &call,
+        );
     }
 
     /// Runs the start function, where there is one.

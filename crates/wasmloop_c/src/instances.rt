@@ -5,7 +5,7 @@ ghost use Rattle.std.specs.Arc.{arc_value};
 ghost use Rattle.limits.specs.declared.TheConstants.{MAX_DEPTH};
 ghost use Rattle.syntax.specs.declared.contents.FuncType.{FuncType};
 ghost use Rattle.validate.specs.Typing.{HasFunctionType};
-ghost use Rattle.events.specs.declared.ended.Ended.{Ended};
+ghost use Rattle.events.specs.declared.ended.Ended.{Ended as HowEnded};
 ghost use Rattle.reduction.specs.Invoking.{TakesArguments};
 ghost use Rattle.resident.specs.Calls.{CallsInstance, ExportsFirst, ExportsNoFunction, IsNew};
 ghost use Rattle.wasmloop_c.specs.Calls.{AnswersIn, IsDepth, module_of};
@@ -16,7 +16,8 @@ use crate::ended::{CallEnded, lay, values};
 use crate::handle::{Handle, on};
 use crate::status::{ARGUMENTS, KIND, MEMORY, NONE, NOT_STARTED, OK, RANGE};
 use crate::thing::{InstanceStage, Room, Thing, instance_room};
-use events::ended::Ending;
+use events::ended::{Ended, Ending};
+use events::values::Values;
 use imports::Linked;
 use limits::MAX_DEPTH;
 use resident::Resident;
@@ -144,9 +145,13 @@ fn call_with(
 )
     requires typed { TakesArguments resident.old.loaded.contents function args.now }
     requires depth { (1 ≤ limits.depth) × (limits.depth ≤ MAX_DEPTH) }
-    ensures { (ended : Ended) × CallsInstance resident.old limits.depth limits.fuel function args.now ended resident.new × (told.new ≡ call_numbers ended) }
+    ensures { (ended : HowEnded) × CallsInstance resident.old limits.depth limits.fuel function args.now ended resident.new × (told.new ≡ call_numbers ended) }
 {
-    let ended = resident.call(function, args, limits.fuel, limits.depth);
+    let mut ended = Ended {
+        ending: Ending::Return(Values::empty()),
+        used: 0,
+    };
+    resident.call_lent(function, args, limits.fuel, limits.depth, &mut ended);
     told.write(&ended);
 }
 

@@ -1,25 +1,19 @@
 -- An order under way, between two slices.
-use Rattle.std.specs.Prelude.{◌≡◌, ℕ, ◌+◌, ◌-◌, ◌≤◌, List, [], ◌∷◌, length, Some, codes, IsSome, IfSome}
-use Rattle.std.specs.Arc.{arc_value}
-use Rattle.limits.specs.declared.TheConstants.{MAX_DEPTH}
+use Rattle.std.specs.Prelude.{◌≡◌, ℕ, ◌+◌, ◌-◌, ◌≤◌, List, [], ◌∷◌, Some, codes, IsSome}
 use Rattle.syntax.specs.declared.types.Value.{Value}
 use Rattle.syntax.specs.declared.types.Value.TheVariants.{I32}
-use Rattle.validate.specs.Valid.{ValidModule}
-use Rattle.validate.specs.Targets.{AreTables}
-use Rattle.validate.specs.declared.side_table.SideTable.{SideTable}
 use Rattle.instance.specs.Store.{Store}
 use Rattle.instance.specs.Fresh.{IsFresh}
 use Rattle.instance.specs.Storing.{IsStoreOf}
-use Rattle.instance.specs.declared.stack.Caller.{Caller}
 use Rattle.reduction.specs.Run.{Returned}
 use Rattle.validate.specs.Typing.{type_of_function}
 use Rattle.imports.specs.Linking.{ExportsFunction}
 use Rattle.imports.specs.Uv.{type_of_entry}
 use Rattle.imports.specs.declared.entry_point.EntryPoint.TheVariants.{Work}
 use Rattle.interp.specs.declared.paused.Paused.{Paused}
-use Rattle.interp.specs.Slices.{RunIsPaused}
+use Rattle.interp.specs.Machines.{MachineFits, IsPausedOn}
 use Rattle.order.specs.declared.host.WorkHost.{WorkHost}
-use Rattle.order.specs.declared.machine.Machine.{Machine}
+use Rattle.order.specs.declared.machine.WorkMachine.{WorkMachine}
 use Rattle.order.specs.declared.stage.RunStage.{RunStage}
 use Rattle.order.specs.declared.stage.RunStage.TheVariants.{Fresh, Starting, Working}
 use Rattle.order.specs.Inner.Serving.{Serves}
@@ -27,34 +21,26 @@ use Rattle.order.specs.Inner.WorkHosting.{WorkAnswered}
 use Rattle.order.specs.Runnable.{CanRun}
 use Rattle.order.specs.Work.{WorkOrder, StartRun}
 
--- A call of a function of the order's module is under way, which began with this store and these bytes of the reply.
-pub record IsCalling (o : WorkOrder) (tables : List SideTable) (s : Store) (old : WorkHost) (paused : Paused) (slots : List ℕ) (frames : List Caller)
-    (t : Store) (host : WorkHost) (fuel : ℕ) (args : List Value) : Type 0 where
+-- On this machine a call of a function of the order's module is under way, which began with this store and these bytes of the reply.
+pub record IsCallingOn (o : WorkOrder) (m : WorkMachine) (s : Store) (old : WorkHost) (paused : Paused) (fuel : ℕ) (args : List Value) : Type 0 where
   pub serves : Serves old o
   pub deep : paused.depth ≡ o.depth
-  pub under_way : RunIsPaused o.loaded.contents tables WorkAnswered s old args fuel paused slots frames t host
+  pub under_way : IsPausedOn o.loaded.contents m.machine WorkAnswered s old args fuel paused m.state m.host
 
--- a machine on which it is under way
-abbrev pub IsCallingOn : WorkOrder → Machine → Store → WorkHost → Paused → (fuel : ℕ) → List Value → Type 0
-IsCallingOn o m s old paused fuel args = IsCalling o (arc_value m.tables) s old paused m.slots m.frames.items m.state m.host fuel args
-
--- a machine that runs the order: its module is valid, and has these tables; there is room for all callers
-pub record RunsOrder (o : WorkOrder) (m : Machine) : Type 0 where
+-- a machine that runs the order: it fits its module
+pub record RunsOrder (o : WorkOrder) (m : WorkMachine) : Type 0 where
   pub can : CanRun o
-  pub valid : ValidModule o.loaded.contents
-  pub agree : AreTables o.loaded.contents (arc_value m.tables)
-  pub room : MAX_DEPTH ≤ length m.frames.items
-  pub shallow : IfSome m.last (λ l. l.depth ≤ MAX_DEPTH)
+  pub fits : MachineFits o.loaded.contents m.machine
 
 -- nothing has run
-pub record IsUnbegun (o : WorkOrder) (m : Machine) : Type 0 where
+pub record IsUnbegun (o : WorkOrder) (m : WorkMachine) : Type 0 where
   pub fresh : IsFresh o.loaded.contents m.state
   pub store : IsStoreOf o.loaded.contents m.state
   pub serves : Serves m.host o
   pub empty : m.host.reply.items ≡ []
 
 -- the start function is under way
-pub record IsStarting (o : WorkOrder) (m : Machine) (paused : Paused) : Type 0 where
+pub record IsStarting (o : WorkOrder) (m : WorkMachine) (paused : Paused) : Type 0 where
   pub s : Store
   pub old : WorkHost
   pub fresh : IsFresh o.loaded.contents s
@@ -71,7 +57,7 @@ pub record StartIsOver (o : WorkOrder) (first : ℕ) (t : Store) (reply : List �
   pub within : first ≤ o.fuel
 
 -- then `uv_work` is under way, with the fuel that was left
-pub record IsWorking (o : WorkOrder) (m : Machine) (first : ℕ) (paused : Paused) : Type 0 where
+pub record IsWorking (o : WorkOrder) (m : WorkMachine) (first : ℕ) (paused : Paused) : Type 0 where
   pub t : Store
   pub old : WorkHost
   pub started : StartIsOver o first t old.reply.items
@@ -79,12 +65,12 @@ pub record IsWorking (o : WorkOrder) (m : Machine) (first : ℕ) (paused : Pause
   pub typed : type_of_function o.loaded.contents paused.function ≡ Some (type_of_entry Work)
   pub calling : IsCallingOn o m t old paused (o.fuel - first) (I32 o.op ∷ [])
 
-abbrev pub IsAtStage : WorkOrder → Machine → RunStage → Type 0
+abbrev pub IsAtStage : WorkOrder → WorkMachine → RunStage → Type 0
 IsAtStage o m Fresh = IsUnbegun o m
 IsAtStage o m (Starting paused) = IsStarting o m paused
 IsAtStage o m (Working first paused) = IsWorking o m first paused × IsSome paused.last
 
-pub record IsGoing (o : WorkOrder) (m : Machine) (stage : RunStage) : Type 0 where
+pub record IsGoing (o : WorkOrder) (m : WorkMachine) (stage : RunStage) : Type 0 where
   pub runs : RunsOrder o m
   pub at : IsAtStage o m stage
 

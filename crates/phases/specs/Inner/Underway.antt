@@ -1,18 +1,17 @@
 -- What is true of a step under way.
-use Rattle.std.specs.Prelude.{ℕ, ◌≤◌, List, length, Option}
+use Rattle.std.specs.Prelude.{ℕ, List, Option}
 use Rattle.std.specs.Arc.{arc_value}
-use Rattle.limits.specs.declared.TheConstants.{MAX_DEPTH}
 use Rattle.syntax.specs.Loaded.{Loaded}
 use Rattle.syntax.specs.declared.types.Value.{Value}
-use Rattle.validate.specs.Targets.{AreTables}
 use Rattle.events.specs.declared.phase.EntryKind.{EntryKind}
 use Rattle.reduction.specs.Hosting.{Names}
 use Rattle.reduction.specs.Invoking.{HasNoResults}
 use Rattle.interp.specs.declared.paused.Paused.{Paused}
+use Rattle.interp.specs.Machines.{MachineFits}
 use Rattle.order.specs.ImportTypes.{import_types}
 use Rattle.phases.specs.declared.shared.Shared.{Ghosts}
 use Rattle.phases.specs.declared.machine.LoopMachine.{LoopMachine}
-use Rattle.phases.specs.Inner.Setting.{setting_of}
+use Rattle.phases.specs.Settings.{setting_of}
 use Rattle.phases.specs.State.{Setting, Loop}
 use Rattle.phases.specs.Underway.{StepInSlices, IsCallback}
 
@@ -24,18 +23,17 @@ module _ {S : Type 0} {gh : Ghosts S} where
     setting = setting_of machine.host.setting;
     kind = kind;
     number = number;
-    tables = arc_value machine.tables;
+    tables = arc_value machine.machine.tables;
     paused = paused;
-    slots = machine.slots;
-    callers = machine.frames.items;
+    slots = machine.machine.slots;
+    callers = machine.machine.frames.items;
     loop = record { state = machine.host.state; store = machine.store; shared = machine.host.shared };
     copied = machine.host.copied;
   }
 
-  -- The side tables are the module's, there is room for all callers, and the host knows the module's imports.
+  -- The machine fits the module, and the host knows the module's imports.
   pub record LoopMachineFits (loaded : Loaded) (machine : LoopMachine S gh) : Type 0 where
-    pub agree : AreTables loaded.contents (arc_value machine.tables)
-    pub room : MAX_DEPTH ≤ length machine.frames.items
+    pub runs : MachineFits loaded.contents machine.machine
     pub names : Names loaded.contents (import_types (setting_of machine.host.setting).loaded.contents)
 
   -- So it is, and some callback has come there, which has no results.

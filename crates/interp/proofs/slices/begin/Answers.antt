@@ -10,11 +10,11 @@ use Rattle.interp.proofs.slices.begin.Goals as goal
 pub open-at-requires : goal.open-at-requires
 open-at-requires g c =
     let call = c.args.call.now in
-    can_open c.args.contents.now call.function call.args.now c.requires.typed c.requires.valid c.requires.defined
+    can_open c.args.code.now.contents.now call.function call.args.now c.requires.typed c.requires.valid c.requires.defined
 
 pub returns-clause-paused : goal.returns-clause-paused
 returns-clause-paused g c =
-    let m = c.args.contents.now in
+    let m = c.args.code.now.contents.now in
     let call = c.args.call.now in
     let callers : List Caller = take (call.depth - 1) c.args.frames.now in
     record {
@@ -28,7 +28,7 @@ returns-clause-paused g c =
       small = c.open-at.ensures.small;
       deep = deep call.depth c.requires.depth c.args.frames.now c.requires.room;
       paid = omega arith;
-      comes = comes_nowhere m (program_of m c.args.tables.now) call.depth g.H.Host.moves c.requires.typed.type.results
+      comes = comes_nowhere m (program_of m c.args.code.now.tables.now) call.depth g.H.Host.moves c.requires.typed.type.results
           (standing c.open-at.result c.open-at.new.slots callers c.args.state.now call.fuel) c.args.host.now;
       stands = refl;
     }

@@ -17,7 +17,7 @@ run_within-last-requires-clause-can g c =
     record {
       valid = c.requires.valid;
       names = c.requires.names;
-      few = slice_few_results c.args.contents.now c.requires.valid c.args.tables.now c.requires.agree g.H.Host.moves c.args.slice.now.paused
+      few = slice_few_results c.args.code.now.contents.now c.requires.valid c.args.code.now.tables.now c.requires.agree g.H.Host.moves c.args.slice.now.paused
           c.as_slice.result.now c.in-Some.func_type.now c.in-Some.ensures c.as_slice.ensures c.new.result c.new.ensures
           c.args.slots.now c.args.frames.now c.args.state.now c.args.host.now
           q.0 q.1 q.2 q.3 q.4;
@@ -26,7 +26,7 @@ run_within-last-requires-clause-can g c =
 pub run_within-last-requires-clause-under_way : goal.run_within-last-requires-clause-under_way
 run_within-last-requires-clause-under_way g c =
     let q = c.requires.paused in
-    going c.args.contents.now c.requires.valid c.args.tables.now c.requires.agree g.H.Host.moves c.args.slice.now.paused
+    going c.args.code.now.contents.now c.requires.valid c.args.code.now.tables.now c.requires.agree g.H.Host.moves c.args.slice.now.paused
     c.as_slice.result.now c.in-Some.func_type.now c.in-Some.ensures c.as_slice.ensures c.new.result c.new.ensures
     c.args.slots.now c.args.frames.now c.args.state.now c.args.host.now
     q.0 q.1 q.2 q.3 q.4 c.min.result
@@ -52,16 +52,16 @@ module _ (g : Over) (c : After-run_within-last g) where
   few_units : granted ≤ c.args.slice.now.units
   few_units = let most = granted_is.within in omega (arith, c.min.ensures, most)
 
-  ends : EndsAt c.args.contents.now c.new.result c.args.slice.now.paused.depth g.H.Host.moves c.as_slice.result.now
+  ends : EndsAt c.args.code.now.contents.now c.new.result c.args.slice.now.paused.depth g.H.Host.moves c.as_slice.result.now
       (record { at = c.args.slice.now.paused.at; slots = c.args.slots.now; frames = take (c.args.slice.now.paused.depth - 1) c.args.frames.now; store = c.args.state.now; fuel = granted })
       c.args.host.now c.run_within-last.new.ended c.run_within-last.result (take (c.args.slice.now.paused.depth - 1) c.run_within-last.new.frames) c.run_within-last.new.state c.run_within-last.new.host
   ends = c.run_within-last.ensures.ends.ends
 
-  began : IsUnderWay c.args.contents.now c.new.result c.args.slice.now.paused.depth c.as_slice.result.now
+  began : IsUnderWay c.args.code.now.contents.now c.new.result c.args.slice.now.paused.depth c.as_slice.result.now
       (record { at = c.args.slice.now.paused.at; slots = c.args.slots.now; frames = take (c.args.slice.now.paused.depth - 1) c.args.frames.now; store = c.args.state.now; fuel = granted })
   began =
       let q = c.requires.paused in
-      going c.args.contents.now c.requires.valid c.args.tables.now c.requires.agree g.H.Host.moves c.args.slice.now.paused
+      going c.args.code.now.contents.now c.requires.valid c.args.code.now.tables.now c.requires.agree g.H.Host.moves c.args.slice.now.paused
       c.as_slice.result.now c.in-Some.func_type.now c.in-Some.ensures c.as_slice.ensures c.new.result c.new.ensures
       c.args.slots.now c.args.frames.now c.args.state.now c.args.host.now
       q.0 q.1 q.2 q.3 q.4 granted
@@ -102,7 +102,7 @@ slice_used old left units before since copied most min granted used g is same bo
 pub returns-then-is_paused-clause-paused : goal.returns-then-is_paused-clause-paused
 returns-then-is_paused-clause-paused g c _ s before args fuel q =
     let a = (goal.at.returns-then-is_paused-clause-paused g c).After-run_within-last in
-    let m = c.args.contents.now in
+    let m = c.args.code.now.contents.now in
     let paused = c.is_paused.ensures.0 c.if-is_paused.true in
     let there = c.run_within-last.ensures.ends.spent paused.0 in
     let n = c.run_within-last.new in
@@ -117,12 +117,12 @@ returns-then-is_paused-clause-paused g c _ s before args fuel q =
     let come = subst (λ (k : ℕ). ComesFromAny m c.new.result depth g.H.Host.moves types (first k) c.args.host.now
     (record { at = n.place.at; slots = n.slots; frames = take (depth - 1) n.frames; store = n.state; fuel = n.place.fuel }) n.host) used there.1 in
     let stands =
-    stands_there m c.requires.valid c.args.tables.now c.requires.agree g.H.Host.moves p
+    stands_there m c.requires.valid c.args.code.now.tables.now c.requires.agree g.H.Host.moves p
     types c.in-Some.func_type.now c.in-Some.ensures c.as_slice.ensures c.new.result c.new.ensures
     c.args.slots.now c.args.frames.now c.args.state.now c.args.host.now
     s before args fuel q n.ended.used few n.ended c.run_within-last.result _ n.frames n.state n.host paused.0 refl ended
     c.run_within-last.ensures.stop c.run_within-last.ensures.callers in
-    paused_again m c.requires.valid c.args.tables.now c.requires.agree g.H.Host.moves p
+    paused_again m c.requires.valid c.args.code.now.tables.now c.requires.agree g.H.Host.moves p
     types c.in-Some.func_type.now c.in-Some.ensures c.as_slice.ensures c.new.result c.new.ensures
     c.args.slots.now c.args.frames.now c.args.state.now c.args.host.now
     s before args fuel q n.ended.used few _ _ _ _ _ _ _ _ c.run_within-last.result stands there.0 come
@@ -163,9 +163,9 @@ returns-clause-over g c s before args fuel q =
     (is, subst (λ (k : ℕ). k < c.args.slice.now.paused.left) (sym (all g a is)) less)) in
     let n = c.run_within-last.new in
     let p = c.args.slice.now.paused in
-    subst (λ (stop : Option Halt). RunIsOver c.args.contents.now p.depth g.H.Host.moves p.function s before args fuel
+    subst (λ (stop : Option Halt). RunIsOver c.args.code.now.contents.now p.depth g.H.Host.moves p.function s before args fuel
     (record { ending = n.ended.ending; used = n.ended.used + p.used }) n.state n.host stop) (sym c.run_within-last.ensures.stop)
-    (is_over c.args.contents.now c.requires.valid c.args.tables.now c.requires.agree g.H.Host.moves c.args.slice.now.paused
+    (is_over c.args.code.now.contents.now c.requires.valid c.args.code.now.tables.now c.requires.agree g.H.Host.moves c.args.slice.now.paused
     c.as_slice.result.now c.in-Some.func_type.now c.in-Some.ensures c.as_slice.ensures c.new.result c.new.ensures
     c.args.slots.now c.args.frames.now c.args.state.now c.args.host.now
     s before args fuel q (granted g a) (few g a) _ _ _ _ _ spent (ends g a))
@@ -182,7 +182,7 @@ pub returns-clause-results : goal.returns-clause-results
 returns-clause-results g c =
     let a = (goal.at.returns-clause-results g c).After-run_within-last in
     let q = c.requires.paused in
-    slice_returns_typed c.args.contents.now c.requires.valid c.args.tables.now c.requires.agree g.H.Host.moves c.args.slice.now.paused
+    slice_returns_typed c.args.code.now.contents.now c.requires.valid c.args.code.now.tables.now c.requires.agree g.H.Host.moves c.args.slice.now.paused
     c.as_slice.result.now c.in-Some.func_type.now c.in-Some.ensures c.as_slice.ensures c.new.result c.new.ensures
     c.args.slots.now c.args.frames.now c.args.state.now c.args.host.now
     q.0 q.1 q.2 q.3 q.4 c.run_within-last.new.ended.ending

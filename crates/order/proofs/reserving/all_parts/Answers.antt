@@ -1,9 +1,8 @@
 use Rattle.std.proofs.Common.{◌∙◌, subst}
-use Rattle.std.specs.Arc.{arc_value}
 use Rattle.syntax.specs.Loaded.{Loaded}
-use Rattle.validate.specs.Targets.{AreTables}
+use Rattle.interp.specs.Machines.{MachineFits}
 use Rattle.order.proofs.reserving.all_parts.Goals as goal
 
-pub returns-clause-agree : goal.returns-clause-agree
-returns-clause-agree g c =
-    subst (λ (l : Loaded). AreTables l.contents (arc_value c.in_ok-tables.tables)) (c.valid.ensures.same ∙ c.deref-2.ensures) c.in_ok-tables.ensures
+pub returns-clause-fits : goal.returns-clause-fits
+returns-clause-fits g c =
+    subst (λ (l : Loaded). MachineFits l.contents c.in_ok-machine.machine) (c.valid.ensures.same ∙ c.deref-2.ensures) c.in_ok-machine.ensures

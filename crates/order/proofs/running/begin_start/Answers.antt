@@ -16,12 +16,12 @@ begin_work-requires-clause-started c =
 pub begin-paused-requires-clause-typed : goal.begin-paused-requires-clause-typed
 begin-paused-requires-clause-typed c =
     let same : c.contents.result.now ≡ (arc_value c.args.order.module).contents = c.contents.ensures.same ∙ ap (λ (l : Loaded). l.contents) (c.valid.ensures.same ∙ c.deref.ensures) in
-    start_takes (arc_value c.args.order.module).contents c.requires.runs.valid c.in-Some.function (subst (λ (m : Contents). m.start ≡ Some c.in-Some.function) same c.in-Some.is)
+    start_takes (arc_value c.args.order.module).contents c.requires.runs.fits.valid c.in-Some.function (subst (λ (m : Contents). m.start ≡ Some c.in-Some.function) same c.in-Some.is)
 
 pub begin-paused-requires-clause-defined : goal.begin-paused-requires-clause-defined
 begin-paused-requires-clause-defined c =
     let same : c.contents.result.now ≡ (arc_value c.args.order.module).contents = c.contents.ensures.same ∙ ap (λ (l : Loaded). l.contents) (c.valid.ensures.same ∙ c.deref.ensures) in
-    start_is_defined (arc_value c.args.order.module).contents c.requires.runs.valid (subst (λ (l : Loaded). IsLinked l.contents) c.deref.ensures c.valid.ensures.linked) c.in-Some.function
+    start_is_defined (arc_value c.args.order.module).contents c.requires.runs.fits.valid (subst (λ (l : Loaded). IsLinked l.contents) c.deref.ensures c.valid.ensures.linked) c.in-Some.function
     (subst (λ (m : Contents). m.start ≡ Some c.in-Some.function) same c.in-Some.is)
 
 pub start_on-requires-clause-starting : goal.start_on-requires-clause-starting

@@ -35,7 +35,7 @@ over-requires-clause-computes c end reads =
     let n = c.go_on.new in
     let done = c.in-Some.ensures.over w.t w.old (I32 c.args.order.op ∷ []) (c.args.order.fuel - c.args.first) w.calling in
     work_computes (order_of c.args.order) w.t n.self.state w.old.reply.items n.self.host.reply.items c.args.first c.args.paused.function c.in-Some.ended
-    (stop_of n.self.last n.self.frames.items) w.started w.exported done.0 end reads
+    (stop_of n.self.machine.last n.self.machine.frames.items) w.started w.exported done.0 end reads
 
 pub over-requires-clause-results : goal.over-requires-clause-results
 over-requires-clause-results c =

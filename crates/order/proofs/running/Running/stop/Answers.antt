@@ -1,6 +1,5 @@
-use Rattle.std.proofs.Common.{◌≡◌, ◌+◌, ◌≤◌, List, length, Option, sym, ap, ◌∙◌, subst}
-use Rattle.std.specs.Prelude.{IfSome, IsSome}
-use Rattle.instance.specs.declared.stack.Caller.{Caller}
+use Rattle.std.proofs.Common.{◌≡◌, ◌+◌, Option, sym, ap, ◌∙◌, subst}
+use Rattle.std.specs.Prelude.{IsSome}
 use Rattle.instance.specs.Stops.{Halt, stop_of}
 use Rattle.order.specs.Orders.{order_of}
 use Rattle.order.specs.Slices.{OrderStandsAt}
@@ -15,8 +14,7 @@ stop-requires c =
     let i = c.self.inside in
     let p = c.in-Starting.paused in
     let q : IsStarting (order_of i.order) i.machine p = subst (λ (s : RunStage). IsAtStage (order_of i.order) i.machine s) c.in-Starting.is c.self.invariant.at in
-    subst (λ (frames : List Caller). IfSome p.last (λ l. l.depth ≤ length frames)) (sym c.as_slice-callers.ensures.value)
-    (starting_within (order_of i.order) i.machine p q c.self.invariant.runs.room)
+    starting_within (order_of i.order) i.machine p q c.self.invariant.runs.fits.room
 
 pub stop-requires-in-Working : goal.stop-requires-in-Working
 stop-requires-in-Working c =
@@ -24,8 +22,7 @@ stop-requires-in-Working c =
     let p = c.in-Working.paused in
     let q : IsWorking (order_of i.order) i.machine c.in-Working.field-0 p × IsSome p.last =
     subst (λ (s : RunStage). IsAtStage (order_of i.order) i.machine s) c.in-Working.is c.self.invariant.at in
-    subst (λ (frames : List Caller). IfSome p.last (λ l. l.depth ≤ length frames)) (sym c.as_slice-callers.ensures.value)
-    (working_within (order_of i.order) i.machine p c.in-Working.field-0 q.0 c.self.invariant.runs.room)
+    working_within (order_of i.order) i.machine p c.in-Working.field-0 q.0 c.self.invariant.runs.fits.room
 
 pub returns-in-Starting : goal.returns-in-Starting
 returns-in-Starting c =
@@ -33,11 +30,9 @@ returns-in-Starting c =
     let p = c.in-Starting.paused in
     let q : IsStarting (order_of i.order) i.machine p = subst (λ (s : RunStage). IsAtStage (order_of i.order) i.machine s) c.in-Starting.is c.self.invariant.at in
     let at : Underway = record { order = order_of i.order; used = p.used; copied = i.machine.host.copied } in
-    let stands : OrderStandsAt at (stop_of p.last i.machine.frames.items) = starting_stands (order_of i.order) i.machine p q in
-    let told : c.stop.result ≡ stop_of p.last i.machine.frames.items =
-    c.stop.ensures ∙ ap (λ (frames : List Caller). stop_of p.last frames) c.as_slice-callers.ensures.value in
+    let stands : OrderStandsAt at (stop_of p.last i.machine.machine.frames.items) = starting_stands (order_of i.order) i.machine p q in
     let same : at ≡ c.args.self.now = ap {B = Underway} (λ (s : RunStage). record { order = order_of i.order; used = used_in_stage s; copied = i.machine.host.copied }) (sym c.in-Starting.is) ∙ c.self.view_is in
-    subst (λ (r : Underway). OrderStandsAt r c.stop.result) same (subst (λ (stop : Option Halt). OrderStandsAt at stop) (sym told) stands)
+    subst (λ (r : Underway). OrderStandsAt r c.stop.result) same (subst (λ (stop : Option Halt). OrderStandsAt at stop) (sym c.stop.ensures) stands)
 
 pub returns-in-Working : goal.returns-in-Working
 returns-in-Working c =
@@ -46,8 +41,6 @@ returns-in-Working c =
     let q : IsWorking (order_of i.order) i.machine c.in-Working.field-0 p × IsSome p.last =
     subst (λ (s : RunStage). IsAtStage (order_of i.order) i.machine s) c.in-Working.is c.self.invariant.at in
     let at : Underway = record { order = order_of i.order; used = c.in-Working.field-0 + p.used; copied = i.machine.host.copied } in
-    let stands : OrderStandsAt at (stop_of p.last i.machine.frames.items) = working_stands (order_of i.order) i.machine p c.in-Working.field-0 q.0 q.1 in
-    let told : c.stop-in-Working.result ≡ stop_of p.last i.machine.frames.items =
-    c.stop-in-Working.ensures ∙ ap (λ (frames : List Caller). stop_of p.last frames) c.as_slice-callers.ensures.value in
+    let stands : OrderStandsAt at (stop_of p.last i.machine.machine.frames.items) = working_stands (order_of i.order) i.machine p c.in-Working.field-0 q.0 q.1 in
     let same : at ≡ c.args.self.now = ap {B = Underway} (λ (s : RunStage). record { order = order_of i.order; used = used_in_stage s; copied = i.machine.host.copied }) (sym c.in-Working.is) ∙ c.self.view_is in
-    subst (λ (r : Underway). OrderStandsAt r c.stop-in-Working.result) same (subst (λ (stop : Option Halt). OrderStandsAt at stop) (sym told) stands)
+    subst (λ (r : Underway). OrderStandsAt r c.stop-in-Working.result) same (subst (λ (stop : Option Halt). OrderStandsAt at stop) (sym c.stop-in-Working.ensures) stands)

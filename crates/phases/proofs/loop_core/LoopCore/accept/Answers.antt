@@ -1,10 +1,10 @@
 use Rattle.std.specs.Arc.{arc_value}
 use Rattle.order.specs.Orders.{order_of, end_of}
 use Rattle.phases.specs.Host.{with_requests}
-use Rattle.phases.specs.Inner.Keeping.{KeepsLoop}
+use Rattle.phases.specs.Keeping.{KeepsLoop}
 use Rattle.phases.specs.Outside.{answered}
 use Rattle.phases.specs.Requests.{Answered}
-use Rattle.phases.specs.Inner.Setting.{setting_of}
+use Rattle.phases.specs.Settings.{setting_of}
 use Rattle.phases.specs.State.{State}
 use Rattle.phases.specs.View.{AreOpenedUpTo}
 use Rattle.phases.proofs.LoopsKeep.{by_reply, kept_on}

@@ -1,17 +1,16 @@
 use Rattle.std.proofs.Common.{[], sym, ap, ◌∙◌, subst}
-use Rattle.std.specs.Arc.{arc_value}
 use Rattle.syntax.specs.Loaded.{Loaded}
-use Rattle.validate.specs.Targets.{AreTables}
 use Rattle.events.specs.declared.did.StepDid.{StepDid}
+use Rattle.interp.specs.Machines.{MachineFits}
 use Rattle.phases.specs.Inner.Preparing.{CanCallBack}
 use Rattle.phases.specs.State.{Setting, Core}
 use Rattle.phases.specs.Step.{StepsWith, RanNone}
 use Rattle.phases.proofs.loop_core.LoopCore.begin_step.Goals as goal
 
-pub call_back-requires-clause-agree : goal.call_back-requires-clause-agree
-call_back-requires-clause-agree g c =
+pub call_back-requires-clause-runs : goal.call_back-requires-clause-runs
+call_back-requires-clause-runs g c =
     let same = c.valid.ensures.same ∙ c.deref.ensures ∙ c.self.invariant.same ∙ ap (λ (x : Setting). x.loaded) (ap (λ (x : Core _). x.setting) c.self.view_is ∙ sym c.prepare.ensures.setting) in
-    subst (λ (l : Loaded). AreTables l.contents (arc_value c.in-Ok.reserved.tables)) same c.in-Ok.ensures.agree
+    subst (λ (l : Loaded). MachineFits l.contents c.in-Ok.reserved) same c.in-Ok.ensures
 
 pub call_back-requires-clause-fits : goal.call_back-requires-clause-fits
 call_back-requires-clause-fits g c = subst (λ (x : Setting). CanCallBack x.loaded.contents c.in-Runs.callback) (sym c.prepare.ensures.setting) c.in-Runs.ensures.fits

@@ -8,10 +8,10 @@ use Rattle.instance.specs.Storing.{IsStoreOf}
 use Rattle.imports.specs.Linking.{IsLinked}
 use Rattle.reduction.specs.Hosting.{Names}
 use Rattle.reduction.specs.Invoking.{TakesArguments, HasNoResults}
+use Rattle.interp.specs.Machines.{MachineFits}
 use Rattle.order.specs.ImportTypes.{import_types}
-use Rattle.phases.specs.Inner.Setting.{setting_of}
+use Rattle.phases.specs.Settings.{setting_of}
 use Rattle.phases.specs.Inner.Underway.{LoopMachineFits}
-use Rattle.phases.specs.declared.machine.LoopMachine.{LoopMachine}
 use Rattle.phases.specs.Step.{begun}
 use Rattle.phases.specs.State.{Setting, State}
 use Rattle.phases.specs.Underway.{Host}
@@ -33,21 +33,17 @@ begin-paused-requires-clause-fits g c =
     let names : Names linked.contents (import_types (setting_of c.into_parts-linked.result.2.setting).loaded.contents) =
     subst (λ (l : Loaded). Names linked.contents (import_types l.contents)) (keeps.same ∙ ap (λ (x : Setting). x.loaded) (sym set))
     (subst (λ (l : Loaded). Names l.contents (import_types l.contents)) c.deref.ensures c.imports_are_named.ensures) in
-    subst (λ (l : Loaded). LoopMachineFits l c.of-machine.result) (sym loaded)
-    (subst (λ (m : LoopMachine _ _). LoopMachineFits linked m) (sym c.of-machine.ensures) (record {
-      agree = rw (← keeps.same) at c.requires.agree;
-      room = c.requires.room;
-      names = names;
-    }))
+    record {
+      runs = subst (λ (l : Loaded). MachineFits l.contents c.args.reserved) (sym (loaded ∙ keeps.same)) c.requires.runs;
+      names = subst (λ (l : Loaded). Names l.contents (import_types (setting_of c.into_parts-linked.result.2.setting).loaded.contents)) (sym loaded) names;
+    }
 
 pub begin-paused-requires-clause-store : goal.begin-paused-requires-clause-store
 begin-paused-requires-clause-store g c =
     let keeps = c.into_parts-linked.ensures.keeps in
-    let linked = arc_value c.into_parts-linked.result.0 in
-    let loaded : c.valid.result.now ≡ linked = c.valid.ensures.same ∙ c.deref-2.ensures in
-    let stored = ap (λ (m : LoopMachine _ _). m.store) c.of-machine.ensures ∙ c.into_parts-linked.ensures.store in
-    subst (λ (l : Loaded). IsStoreOf l.contents c.of-machine.result.store) (sym (loaded ∙ keeps.same))
-    (subst (λ (s : Store). IsStoreOf c.args.self.setting.loaded.contents s) (sym stored) keeps.store)
+    let loaded = c.valid.ensures.same ∙ c.deref-2.ensures ∙ keeps.same in
+    subst (λ (l : Loaded). IsStoreOf l.contents c.into_parts-linked.result.1) (sym loaded)
+    (subst (λ (s : Store). IsStoreOf c.args.self.setting.loaded.contents s) (sym c.into_parts-linked.ensures.store) keeps.store)
 
 pub begin-paused-requires-clause-typed : goal.begin-paused-requires-clause-typed
 begin-paused-requires-clause-typed g c =
@@ -66,8 +62,7 @@ begin-paused-requires-clause-defined g c =
 pub begin-paused-requires-clause-deep : goal.begin-paused-requires-clause-deep
 begin-paused-requires-clause-deep g c =
     let keeps = c.into_parts-linked.ensures.keeps in
-    let set = ap (λ (m : LoopMachine _ _). setting_of m.host.setting) c.of-machine.ensures ∙ c.into_parts-linked.ensures.setting in
-    subst (λ (x : Setting). (1 ≤ x.depth) × (x.depth ≤ MAX_DEPTH)) (sym set) keeps.depth
+    subst (λ (x : Setting). (1 ≤ x.depth) × (x.depth ≤ MAX_DEPTH)) (sym c.into_parts-linked.ensures.setting) keeps.depth
 
 pub invariant_of-result : goal.invariant_of-result
 invariant_of-result g c =
@@ -78,13 +73,13 @@ invariant_of-result g c =
     let reply = option_map (λ v. v.items) callback.reply in
     let mid = c.args.self.loop in
     let m = c.begin-paused.new.self in
-    let set = ap (λ (h : Host g.B.Shared.calls). setting_of h.setting) c.begin-paused.ensures.host ∙ ap (λ (m : LoopMachine _ _). setting_of m.host.setting) c.of-machine.ensures ∙ c.into_parts-linked.ensures.setting in
-    let stored = c.begin-paused.ensures.store ∙ ap (λ (m : LoopMachine _ _). m.store) c.of-machine.ensures ∙ c.into_parts-linked.ensures.store in
+    let set = ap (λ (h : Host g.B.Shared.calls). setting_of h.setting) c.begin-paused.ensures.host ∙ c.into_parts-linked.ensures.setting in
+    let stored = c.begin-paused.ensures.store ∙ c.into_parts-linked.ensures.store in
     let state : m.host.state ≡ begun mid.state reply =
-    ap (λ (h : Host g.B.Shared.calls). h.state) c.begin-paused.ensures.host ∙ ap (λ (m : LoopMachine _ _). m.host.state) c.of-machine.ensures ∙ c.begin_callback.ensures
+    ap (λ (h : Host g.B.Shared.calls). h.state) c.begin-paused.ensures.host ∙ c.begin_callback.ensures
     ∙ ap (λ (s : State). begun s reply) c.into_parts-linked.ensures.state in
     let shared : m.host.shared ≡ mid.shared =
-    ap (λ (h : Host g.B.Shared.calls). h.shared) c.begin-paused.ensures.host ∙ ap (λ (m : LoopMachine _ _). m.host.shared) c.of-machine.ensures ∙ c.into_parts-linked.ensures.shared in
+    ap (λ (h : Host g.B.Shared.calls). h.shared) c.begin-paused.ensures.host ∙ c.into_parts-linked.ensures.shared in
     record {
       fits = subst (λ (l : Loaded). LoopMachineFits l m) loaded c.begin-paused.ensures.fits;
       g = c.args.self.setting;
@@ -92,7 +87,7 @@ invariant_of-result g c =
       args = callback.args;
       reply = reply;
       callback = begins_callback g.B.Shared.calls linked c.args.self.setting mid keeps m.host m.store set stored c.valid.result.now loaded callback.kind callback.number
-          (arc_value m.tables) callback.args reply c.begin-paused.result m.slots m.frames.items (λ i. (state i, shared i)) c.begin-paused.ensures.depth
+          (arc_value m.machine.tables) callback.args reply c.begin-paused.result m.machine.slots m.machine.frames.items (λ i. (state i, shared i)) c.begin-paused.ensures.depth
           (rw (← c.as_slice.ensures) c.begin-paused.ensures.paused);
       bare = subst (λ (l : Loaded). HasNoResults l.contents c.begin-paused.result.function) (sym keeps.same) (rw c.begin-paused.ensures.function c.requires.fits.bare);
     }
@@ -106,13 +101,13 @@ returns-clause-come g c a same leads =
     let reply = option_map (λ v. v.items) callback.reply in
     let mid = c.args.self.loop in
     let m = c.begin-paused.new.self in
-    let set = ap (λ (h : Host g.B.Shared.calls). setting_of h.setting) c.begin-paused.ensures.host ∙ ap (λ (m : LoopMachine _ _). setting_of m.host.setting) c.of-machine.ensures ∙ c.into_parts-linked.ensures.setting ∙ sym same in
-    let stored = c.begin-paused.ensures.store ∙ ap (λ (m : LoopMachine _ _). m.store) c.of-machine.ensures ∙ c.into_parts-linked.ensures.store in
+    let set = ap (λ (h : Host g.B.Shared.calls). setting_of h.setting) c.begin-paused.ensures.host ∙ c.into_parts-linked.ensures.setting ∙ sym same in
+    let stored = c.begin-paused.ensures.store ∙ c.into_parts-linked.ensures.store in
     let state : m.host.state ≡ begun mid.state reply =
-    ap (λ (h : Host g.B.Shared.calls). h.state) c.begin-paused.ensures.host ∙ ap (λ (m : LoopMachine _ _). m.host.state) c.of-machine.ensures ∙ c.begin_callback.ensures
+    ap (λ (h : Host g.B.Shared.calls). h.state) c.begin-paused.ensures.host ∙ c.begin_callback.ensures
     ∙ ap (λ (s : State). begun s reply) c.into_parts-linked.ensures.state in
     let shared : m.host.shared ≡ mid.shared =
-    ap (λ (h : Host g.B.Shared.calls). h.shared) c.begin-paused.ensures.host ∙ ap (λ (m : LoopMachine _ _). m.host.shared) c.of-machine.ensures ∙ c.into_parts-linked.ensures.shared in
+    ap (λ (h : Host g.B.Shared.calls). h.shared) c.begin-paused.ensures.host ∙ c.into_parts-linked.ensures.shared in
     record {
       mid = mid;
       args = callback.args;
@@ -120,7 +115,7 @@ returns-clause-come g c a same leads =
       host = m.host;
       stands = refl;
       callback = begins_callback g.B.Shared.calls linked a.setting mid (rw same keeps) m.host m.store set stored c.valid.result.now loaded callback.kind callback.number
-          (arc_value m.tables) callback.args reply c.begin-paused.result m.slots m.frames.items (λ i. (state i, shared i)) c.begin-paused.ensures.depth
+          (arc_value m.machine.tables) callback.args reply c.begin-paused.result m.machine.slots m.machine.frames.items (λ i. (state i, shared i)) c.begin-paused.ensures.depth
           (rw (← c.as_slice.ensures) c.begin-paused.ensures.paused);
       leads = rw c.begin-paused.ensures.function leads;
     }

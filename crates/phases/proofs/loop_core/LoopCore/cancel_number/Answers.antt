@@ -1,5 +1,5 @@
 use Rattle.std.specs.Arc.{arc_value}
-use Rattle.phases.specs.Inner.Setting.{setting_of}
+use Rattle.phases.specs.Settings.{setting_of}
 use Rattle.phases.specs.State.{State}
 use Rattle.phases.proofs.LoopsKeep.{cancel_upto, cancel_orders, kept_on}
 use Rattle.phases.proofs.OwnerCallsKeepListed.{grows_cancel}

@@ -8,8 +8,8 @@ use Rattle.imports.specs.declared.entry_point.EntryPoint.TheVariants.{AfterWork 
 use Rattle.imports.specs.Linking.{ExportsFunction}
 use Rattle.imports.specs.Uv.{name_of_entry, type_of_entry}
 use Rattle.phases.specs.Host.{with_requests}
-use Rattle.phases.specs.Inner.Keeping.{KeepsLoop}
-use Rattle.phases.specs.Inner.Setting.{setting_of}
+use Rattle.phases.specs.Keeping.{KeepsLoop}
+use Rattle.phases.specs.Settings.{setting_of}
 use Rattle.phases.specs.Inner.Stage.{completion_in}
 use Rattle.phases.specs.Requests.{without_request}
 use Rattle.phases.specs.State.{State, Loop}

@@ -1,12 +1,12 @@
 use Rattle.std.proofs.Common.{refl, sym, subst, ap, drop, ◌∙◌, List, []}
 use Rattle.std.specs.Arc.{arc_value}
 use Rattle.phases.specs.Bare.{whole_did}
-use Rattle.phases.specs.Inner.Keeping.{KeepsLoop, AreOrdersOf}
+use Rattle.phases.specs.Keeping.{KeepsLoop, AreOrdersOf}
 use Rattle.phases.specs.Inner.Preparing.{Prepares}
-use Rattle.phases.specs.Inner.Ready.{IsReady}
+use Rattle.phases.specs.Ready.{IsReady}
 use Rattle.phases.specs.Requests.{Requests}
 use Rattle.phases.specs.Roster.{Roster}
-use Rattle.phases.specs.Inner.Setting.{setting_of}
+use Rattle.phases.specs.Settings.{setting_of}
 use Rattle.phases.specs.State.{State, Loop}
 use Rattle.phases.specs.Step.{ListStep, EntryStep, RanNone}
 use Rattle.phases.specs.declared.entry.Entry.{Entry}

@@ -1,6 +1,6 @@
 use Rattle.std.proofs.Common.{[], ◌∷◌}
 use Rattle.syntax.specs.declared.types.Value.TheVariants.{I32}
-use Rattle.phases.specs.Inner.Setting.{setting_of}
+use Rattle.phases.specs.Settings.{setting_of}
 use Rattle.phases.specs.State.{Loop}
 use Rattle.phases.proofs.EntriesPrepared.{listed_step}
 use Rattle.phases.proofs.LoopsKeep.{handle_takes, handle_bare}

@@ -6,7 +6,7 @@ use Rattle.events.specs.declared.phase.EntryKind.TheVariants as kind
 use Rattle.imports.specs.declared.entry_point.EntryPoint.TheVariants.{Main}
 use Rattle.imports.specs.Linking.{ExportsFunction}
 use Rattle.imports.specs.Uv.{name_of_entry, type_of_entry}
-use Rattle.phases.specs.Inner.Setting.{setting_of}
+use Rattle.phases.specs.Settings.{setting_of}
 use Rattle.phases.specs.State.{Loop}
 use Rattle.phases.proofs.EntriesPrepared.{main_step}
 use Rattle.phases.proofs.LoopsKeep.{takes, gives_nothing, not_missing}

@@ -5,12 +5,12 @@ use Rattle.validate.specs.Typing.{type_of_function}
 use Rattle.imports.specs.declared.entry_point.EntryPoint.TheVariants.{AfterWork as AfterWorkExport}
 use Rattle.imports.specs.Linking.{ExportsFunction}
 use Rattle.imports.specs.Uv.{name_of_entry, type_of_entry}
-use Rattle.phases.specs.Inner.Setting.{setting_of}
+use Rattle.phases.specs.Settings.{setting_of}
 use Rattle.std.proofs.Common.{◌≡◌, [], ◌∷◌}
 use Rattle.syntax.specs.declared.types.Value.TheVariants.{I32}
 use Rattle.phases.specs.Host.{with_requests}
 use Rattle.phases.specs.Bare.{whole_did}
-use Rattle.phases.specs.Inner.Keeping.{KeepsLoop}
+use Rattle.phases.specs.Keeping.{KeepsLoop}
 use Rattle.phases.specs.Inner.Stage.{completion_in}
 use Rattle.phases.specs.Requests.{request_of, without_request}
 use Rattle.events.specs.declared.phase.EntryKind.TheVariants.{After}

@@ -4,7 +4,7 @@ use Rattle.events.specs.declared.phase.EntryKind.TheVariants.{Async}
 use Rattle.phases.specs.PhaseList.{is_active_handle}
 use Rattle.phases.specs.Roster.{async_handle}
 use Rattle.phases.specs.Bare.{whole_did}
-use Rattle.phases.specs.Inner.Setting.{setting_of}
+use Rattle.phases.specs.Settings.{setting_of}
 use Rattle.phases.specs.State.{Loop}
 use Rattle.phases.specs.Step.{TakesFirst, Skips, CallsHandle, RunsFrom, handle_function, sharing}
 use Rattle.phases.proofs.GuestCallsKeep.{taken_upto}

@@ -1,9 +1,9 @@
 use Rattle.std.proofs.Common.{refl, sym, subst}
 use Rattle.std.specs.Arc.{arc_value}
 use Rattle.phases.specs.Host.{with_roster}
-use Rattle.phases.specs.Inner.Keeping.{KeepsLoop}
+use Rattle.phases.specs.Keeping.{KeepsLoop}
 use Rattle.phases.specs.Roster.{without_handle}
-use Rattle.phases.specs.Inner.Setting.{setting_of}
+use Rattle.phases.specs.Settings.{setting_of}
 use Rattle.phases.specs.State.{State}
 use Rattle.phases.proofs.LoopsKeep.{still_upto, handle_takes, handle_bare, kept_with}
 use Rattle.phases.proofs.ListedStaysReady.{ready_without_handle}

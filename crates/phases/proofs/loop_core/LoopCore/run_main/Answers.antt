@@ -4,7 +4,7 @@ use Rattle.syntax.specs.Loaded.{Loaded}
 use Rattle.validate.specs.Typing.{type_of_function}
 use Rattle.imports.specs.declared.entry_point.EntryPoint.TheVariants.{Main}
 use Rattle.imports.specs.Uv.{name_of_entry, type_of_entry}
-use Rattle.phases.specs.Inner.Setting.{setting_of}
+use Rattle.phases.specs.Settings.{setting_of}
 use Rattle.std.proofs.Common.{[], ◌≡◌}
 use Rattle.phases.proofs.LoopsKeep.{takes, gives_nothing, not_missing}
 use Rattle.phases.proofs.loop_core.LoopCore.run_main.Goals as goal

@@ -1,4 +1,4 @@
-use Rattle.phases.specs.Inner.Setting.{setting_of}
+use Rattle.phases.specs.Settings.{setting_of}
 use Rattle.phases.proofs.GuestCallsKeep.{replies_upto}
 use Rattle.phases.proofs.loop_host.LoopHostHost.call.Goals as goal
 

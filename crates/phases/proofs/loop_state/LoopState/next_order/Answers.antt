@@ -1,6 +1,6 @@
 use Rattle.std.proofs.Common.{sym, subst, ap, ◌∙◌}
 use Rattle.phases.specs.Host.{with_requests}
-use Rattle.phases.specs.Inner.Ready.{Grows}
+use Rattle.phases.specs.Ready.{Grows}
 use Rattle.phases.specs.State.{State}
 use Rattle.phases.specs.contracts.loop_state.LoopState.{the_view}
 use Rattle.phases.proofs.LoopsKeep.{next_unfailed}

@@ -1,12 +1,14 @@
-use Rattle.std.proofs.Common.{List, sym, ap, ◌∙◌, subst}
+use Rattle.std.proofs.Common.{List, Option, IfSome, sym, ap, ◌∙◌, subst}
 use Rattle.std.specs.Arc.{arc_value}
 use Rattle.syntax.specs.Loaded.{Loaded}
 use Rattle.imports.specs.Linking.{IsLinked}
 use Rattle.events.specs.declared.did.StepDid.TheVariants.{Ran}
 use Rattle.events.specs.declared.ended.Ended.{Ended}
-use Rattle.instance.specs.Stops.{stop_of}
+use Rattle.instance.specs.Stops.{Halt, stop_of}
 use Rattle.phases.specs.Guests.{GuestCall}
+use Rattle.phases.specs.Settings.{setting_of}
 use Rattle.phases.specs.Step.{RunsFrom, finished}
+use Rattle.phases.specs.Stopping.{LoopStopsAt}
 use Rattle.phases.proofs.CallbacksEnd.{whole_is, over_setting, over_stops, over_keeps, over_runs}
 use Rattle.phases.proofs.LoopsKeep.{still_upto}
 use Rattle.phases.proofs.machine.LoopMachine.over.Goals as goal
@@ -21,8 +23,9 @@ invariant_of-core-inside g c =
     let m = c.args.self in
     let q = c.requires.some in
     let h = q.5 in (
-      over_stops g.B.Shared.calls (arc_value c.args.linked) q.0 q.1 q.2 q.3 q.4 h.keeps h.before m.host h.made h.begins m.store c.args.end.ended
-          (stop_of c.args.end.last m.frames.items) h.leads,
+      subst (λ (stop : Option Halt). IfSome stop (λ sites. ∥ LoopStopsAt g.B.Shared.calls (setting_of m.host.setting) m.store sites ∥₁)) (sym c.into_stack-stack.ensures)
+          (over_stops g.B.Shared.calls (arc_value c.args.linked) q.0 q.1 q.2 q.3 q.4 h.keeps h.before m.host h.made h.begins m.store c.args.place
+          (stop_of m.machine.last m.machine.frames.items) h.leads),
       tt,
     )
 
@@ -32,19 +35,19 @@ invariant_of-core g c =
     let q = c.requires.some in
     let h = q.5 in
     let linked = subst (λ (l : Loaded). IsLinked l.contents) c.deref.ensures c.valid-valid.ensures.linked in
-    let is = c.end_callback.ensures ∙ ap (λ (x : Ended). finished m.host.state x) (whole_is c.of.result c.args.end.ended c.of.ensures) in
-    over_keeps g.B.Shared.calls (arc_value c.args.linked) q.0 q.1 q.2 q.3 q.4 h.keeps h.before m.host h.made h.begins m.store c.args.end.ended (stop_of c.args.end.last m.frames.items)
+    let is = c.end_callback.ensures ∙ ap (λ (x : Ended). finished m.host.state x) (whole_is c.of.result c.args.place c.of.ensures) in
+    over_keeps g.B.Shared.calls (arc_value c.args.linked) q.0 q.1 q.2 q.3 q.4 h.keeps h.before m.host h.made h.begins m.store c.args.place (stop_of m.machine.last m.machine.frames.items)
     h.leads c.end_callback.new.self is linked c.requires.store
 
 pub returns-clause-runs : goal.returns-clause-runs
 returns-clause-runs g c set mid function args reply h =
     let m = c.args.self in
-    let whole = whole_is c.of.result c.args.end.ended c.of.ensures in
+    let whole = whole_is c.of.result c.args.place c.of.ensures in
     let is = c.end_callback.ensures ∙ ap (λ (x : Ended). finished m.host.state x) whole in
-    let stop = stop_of c.args.end.last m.frames.items in (
-      over_setting g.B.Shared.calls (arc_value c.args.linked) set mid function args reply h.keeps h.before m.host h.made h.begins m.store c.args.end.ended stop h.leads,
+    let stop = stop_of m.machine.last m.machine.frames.items in (
+      over_setting g.B.Shared.calls (arc_value c.args.linked) set mid function args reply h.keeps h.before m.host h.made h.begins m.store c.args.place stop h.leads,
       subst (λ (x : Ended). (made : List GuestCall) × RunsFrom g.B.Shared.calls set mid c.args.kind c.args.number function args reply (Ran c.args.kind c.args.number x) made
           (record { state = c.end_callback.new.self; store = m.store; shared = m.host.shared })) (sym whole)
-          (over_runs g.B.Shared.calls (arc_value c.args.linked) set mid function args reply h.keeps h.before m.host h.made h.begins m.store c.args.end.ended stop h.leads
+          (over_runs g.B.Shared.calls (arc_value c.args.linked) set mid function args reply h.keeps h.before m.host h.made h.begins m.store c.args.place stop h.leads
           c.end_callback.new.self is c.args.kind c.args.number),
     )

@@ -20,7 +20,7 @@ go_on-requires-clause-paused g c =
     let v = c.self.invariant in
     let k = v.callback in
     let loaded : c.valid.result.now ≡ arc_value i.linked = c.valid.ensures.same ∙ c.deref.ensures in
-    subst (λ (l : Loaded). IsSomePaused l.contents (arc_value i.machine.tables) (moves g.B.Shared.calls) i.paused i.machine.slots i.machine.frames.items i.machine.store i.machine.host)
+    subst (λ (l : Loaded). IsSomePaused l.contents (arc_value i.machine.machine.tables) (moves g.B.Shared.calls) i.paused i.machine.machine.slots i.machine.machine.frames.items i.machine.store i.machine.host)
     (sym loaded) (v.mid.store, k.before, v.args, v.g.fuel, k.under_way)
 
 pub over-core-requires-clause-some : goal.over-core-requires-clause-some
@@ -29,17 +29,17 @@ over-core-requires-clause-some g c =
     let v = c.self.invariant in
     let k = v.callback in
     let n = c.go_on.new.self in
-    let end = c.in-Some.end in
+    let ended = c.in-Some.ended in
     let calls = g.B.Shared.calls in
     let loaded : c.valid.result.now ≡ arc_value i.linked = c.valid.ensures.same ∙ c.deref.ensures in
     let m = (arc_value i.linked).contents in
-    let here : RunIsPaused c.valid.result.now.contents (arc_value i.machine.tables) (moves calls) v.mid.store k.before v.args v.g.fuel i.paused i.machine.slots i.machine.frames.items i.machine.store i.machine.host =
-    subst (λ (l : Loaded). RunIsPaused l.contents (arc_value i.machine.tables) (moves calls) v.mid.store k.before v.args v.g.fuel i.paused i.machine.slots i.machine.frames.items i.machine.store i.machine.host)
+    let here : RunIsPaused c.valid.result.now.contents (arc_value i.machine.machine.tables) (moves calls) v.mid.store k.before v.args v.g.fuel i.paused i.machine.machine.slots i.machine.machine.frames.items i.machine.store i.machine.host =
+    subst (λ (l : Loaded). RunIsPaused l.contents (arc_value i.machine.machine.tables) (moves calls) v.mid.store k.before v.args v.g.fuel i.paused i.machine.machine.slots i.machine.machine.frames.items i.machine.store i.machine.host)
     (sym loaded) k.under_way in
-    let stop = stop_of end.last n.frames.items in
-    let over : RunIsOver m v.g.depth (moves calls) i.paused.function v.mid.store k.before v.args v.g.fuel end.ended n.store n.host stop =
-    subst (λ (d : ℕ). RunIsOver m d (moves calls) i.paused.function v.mid.store k.before v.args v.g.fuel end.ended n.store n.host stop) k.deep
-    (subst (λ (l : Loaded). RunIsOver l.contents i.paused.depth (moves calls) i.paused.function v.mid.store k.before v.args v.g.fuel end.ended n.store n.host stop) loaded
+    let stop = stop_of n.machine.last n.machine.frames.items in
+    let over : RunIsOver m v.g.depth (moves calls) i.paused.function v.mid.store k.before v.args v.g.fuel ended n.store n.host stop =
+    subst (λ (d : ℕ). RunIsOver m d (moves calls) i.paused.function v.mid.store k.before v.args v.g.fuel ended n.store n.host stop) k.deep
+    (subst (λ (l : Loaded). RunIsOver l.contents i.paused.depth (moves calls) i.paused.function v.mid.store k.before v.args v.g.fuel ended n.store n.host stop) loaded
     (c.in-Some.ensures.over v.mid.store k.before v.args v.g.fuel here)) in (
       v.g,
       v.mid,
@@ -54,7 +54,7 @@ over-core-requires-clause-bare g c =
     let i = c.self.inside in
     let v = c.self.invariant in
     let loaded : c.valid.result.now ≡ arc_value i.linked = c.valid.ensures.same ∙ c.deref.ensures in
-    ended_bare (arc_value i.linked).contents c.valid.result.now.contents (ap (λ (l : Loaded). l.contents) loaded) i.paused.function v.args v.callback.under_way.takes v.bare c.in-Some.end.ended.ending c.in-Some.ensures.results
+    ended_bare (arc_value i.linked).contents c.valid.result.now.contents (ap (λ (l : Loaded). l.contents) loaded) i.paused.function v.args v.callback.under_way.takes v.bare c.in-Some.ended.ending c.in-Some.ensures.results
 
 pub invariant_of-result : goal.invariant_of-result
 invariant_of-result g c =
@@ -67,11 +67,11 @@ invariant_of-result g c =
     let calls = g.B.Shared.calls in
     let l = arc_value i.linked in
     let loaded : c.valid.result.now ≡ l = c.valid.ensures.same ∙ c.deref.ensures in
-    let here : RunIsPaused c.valid.result.now.contents (arc_value i.machine.tables) (moves calls) v.mid.store k.before v.args v.g.fuel i.paused i.machine.slots i.machine.frames.items i.machine.store i.machine.host =
-    subst (λ (l : Loaded). RunIsPaused l.contents (arc_value i.machine.tables) (moves calls) v.mid.store k.before v.args v.g.fuel i.paused i.machine.slots i.machine.frames.items i.machine.store i.machine.host)
+    let here : RunIsPaused c.valid.result.now.contents (arc_value i.machine.machine.tables) (moves calls) v.mid.store k.before v.args v.g.fuel i.paused i.machine.machine.slots i.machine.machine.frames.items i.machine.store i.machine.host =
+    subst (λ (l : Loaded). RunIsPaused l.contents (arc_value i.machine.machine.tables) (moves calls) v.mid.store k.before v.args v.g.fuel i.paused i.machine.machine.slots i.machine.machine.frames.items i.machine.store i.machine.host)
     (sym loaded) k.under_way in
-    let there : RunIsPaused l.contents (arc_value n.tables) (moves calls) v.mid.store k.before v.args v.g.fuel p n.slots n.frames.items n.store n.host =
-    subst (λ (x : Loaded). RunIsPaused x.contents (arc_value n.tables) (moves calls) v.mid.store k.before v.args v.g.fuel p n.slots n.frames.items n.store n.host) loaded
+    let there : RunIsPaused l.contents (arc_value n.machine.tables) (moves calls) v.mid.store k.before v.args v.g.fuel p n.machine.slots n.machine.frames.items n.store n.host =
+    subst (λ (x : Loaded). RunIsPaused x.contents (arc_value n.machine.tables) (moves calls) v.mid.store k.before v.args v.g.fuel p n.machine.slots n.machine.frames.items n.store n.host) loaded
     (e.paused c.in-None.is v.mid.store k.before v.args v.g.fuel here) in
     let fits : LoopMachineFits l n = subst (λ (x : Loaded). LoopMachineFits x n) loaded e.fits in
     record {
@@ -80,8 +80,8 @@ invariant_of-result g c =
       mid = v.mid;
       args = v.args;
       reply = v.reply;
-      callback = further calls l i.kind i.number (arc_value i.machine.tables) (arc_value n.tables) (rw (← loaded) e.valid) fits.agree i.paused i.machine.slots i.machine.frames.items
-          i.machine.store i.machine.host p n.slots n.frames.items n.store n.host e.call v.g v.mid v.args v.reply i.machine.host k k.before k.made k.begins there;
+      callback = further calls l i.kind i.number (arc_value i.machine.machine.tables) (arc_value n.machine.tables) fits.runs.valid fits.runs.agree i.paused i.machine.machine.slots i.machine.machine.frames.items
+          i.machine.store i.machine.host p n.machine.slots n.machine.frames.items n.store n.host e.call v.g v.mid v.args v.reply i.machine.host k k.before k.made k.begins there;
       bare = subst (λ (f : ℕ). HasNoResults l.contents f) (sym e.call.0) v.bare;
     }
 
@@ -89,7 +89,7 @@ pub returns-in-Some : goal.returns-in-Some
 returns-in-Some g c =
     let i = c.self.inside in
     let n = c.go_on.new.self in
-    let end = c.in-Some.end in
+    let ended = c.in-Some.ended in
     let calls = g.B.Shared.calls in
     let l = arc_value i.linked in
     let loaded : c.valid.result.now ≡ l = c.valid.ensures.same ∙ c.deref.ensures in
@@ -98,31 +98,31 @@ returns-in-Some g c =
     let core = c.over-core.result.0 in
     subst (λ (s : StepInSlices _). StepIsOver calls s c.args.units core c.whole.result) c.self.view_is (record {
       steps = λ a come.
-          let before = first calls l i.kind i.number (arc_value i.machine.tables) i.paused i.machine.slots i.machine.frames.items i.machine.store i.machine.host a come in
-          let at : RunIsPaused l.contents (arc_value i.machine.tables) (moves calls) come.mid.store before come.args a.setting.fuel i.paused i.machine.slots i.machine.frames.items i.machine.store i.machine.host =
-          here calls l i.kind i.number (arc_value i.machine.tables) i.paused i.machine.slots i.machine.frames.items i.machine.store i.machine.host a come in
-          let from = subst (λ (x : Loaded). RunIsPaused x.contents (arc_value i.machine.tables) (moves calls) come.mid.store before come.args a.setting.fuel i.paused i.machine.slots i.machine.frames.items
+          let before = first calls l i.kind i.number (arc_value i.machine.machine.tables) i.paused i.machine.machine.slots i.machine.machine.frames.items i.machine.store i.machine.host a come in
+          let at : RunIsPaused l.contents (arc_value i.machine.machine.tables) (moves calls) come.mid.store before come.args a.setting.fuel i.paused i.machine.machine.slots i.machine.machine.frames.items i.machine.store i.machine.host =
+          here calls l i.kind i.number (arc_value i.machine.machine.tables) i.paused i.machine.machine.slots i.machine.machine.frames.items i.machine.store i.machine.host a come in
+          let from = subst (λ (x : Loaded). RunIsPaused x.contents (arc_value i.machine.machine.tables) (moves calls) come.mid.store before come.args a.setting.fuel i.paused i.machine.machine.slots i.machine.machine.frames.items
           i.machine.store i.machine.host) (sym loaded) at in
-          let stop = stop_of end.last n.frames.items in
-          let over : RunIsOver l.contents i.paused.depth (moves calls) i.paused.function come.mid.store before come.args a.setting.fuel end.ended n.store n.host stop =
-          subst (λ (x : Loaded). RunIsOver x.contents i.paused.depth (moves calls) i.paused.function come.mid.store before come.args a.setting.fuel end.ended n.store n.host stop) loaded
+          let stop = stop_of n.machine.last n.machine.frames.items in
+          let over : RunIsOver l.contents i.paused.depth (moves calls) i.paused.function come.mid.store before come.args a.setting.fuel ended n.store n.host stop =
+          subst (λ (x : Loaded). RunIsOver x.contents i.paused.depth (moves calls) i.paused.function come.mid.store before come.args a.setting.fuel ended n.store n.host stop) loaded
           (c.in-Some.ensures.over come.mid.store before come.args a.setting.fuel from) in
-          let ended : CallbackHasEnded a.setting come.mid i.paused.function come.args come.reply l n end =
+          let over_here : CallbackHasEnded a.setting come.mid i.paused.function come.args come.reply l n ended =
           record {
             keeps = come.callback.keeps;
             before = before;
             made = come.callback.set;
             begins = come.callback.begins;
-            leads = leads_over calls l i.kind i.number (arc_value i.machine.tables) i.paused i.machine.slots i.machine.frames.items i.machine.store i.machine.host a come end.ended n.store n.host stop over;
+            leads = leads_over calls l i.kind i.number (arc_value i.machine.machine.tables) i.paused i.machine.machine.slots i.machine.machine.frames.items i.machine.store i.machine.host a come ended n.store n.host stop over;
           } in
-          let ran = c.over-core.ensures.runs a.setting come.mid i.paused.function come.args come.reply ended in (
+          let ran = c.over-core.ensures.runs a.setting come.mid i.paused.function come.args come.reply over_here in (
             ran.0,
             (
               ran.1.0,
               subst (λ (d : StepDid). StepsWith calls a.setting a.loop d ran.1.0 core.loop) (sym did) (come.leads (whole_did c.over-core.result.1) ran.1.0 core.loop ran.1.1),
             ),
           );
-      ended = end.ended;
+      ended = ended;
       told = did ∙ c.over-core.ensures.did;
       since = last.0;
       slice = last.1;
@@ -141,15 +141,15 @@ returns-in-None g c =
     let fits : LoopMachineFits l n = subst (λ (x : Loaded). LoopMachineFits x n) loaded e.fits in
     subst (λ (s : StepInSlices _). StepIsPaused calls s c.args.units (step_in_slices l i.kind i.number n p)) c.self.view_is (record {
       goes_on = λ a come.
-          let before = first calls l i.kind i.number (arc_value i.machine.tables) i.paused i.machine.slots i.machine.frames.items i.machine.store i.machine.host a come in
-          let at : RunIsPaused l.contents (arc_value i.machine.tables) (moves calls) come.mid.store before come.args a.setting.fuel i.paused i.machine.slots i.machine.frames.items i.machine.store i.machine.host =
-          here calls l i.kind i.number (arc_value i.machine.tables) i.paused i.machine.slots i.machine.frames.items i.machine.store i.machine.host a come in
-          let from = subst (λ (x : Loaded). RunIsPaused x.contents (arc_value i.machine.tables) (moves calls) come.mid.store before come.args a.setting.fuel i.paused i.machine.slots i.machine.frames.items
+          let before = first calls l i.kind i.number (arc_value i.machine.machine.tables) i.paused i.machine.machine.slots i.machine.machine.frames.items i.machine.store i.machine.host a come in
+          let at : RunIsPaused l.contents (arc_value i.machine.machine.tables) (moves calls) come.mid.store before come.args a.setting.fuel i.paused i.machine.machine.slots i.machine.machine.frames.items i.machine.store i.machine.host =
+          here calls l i.kind i.number (arc_value i.machine.machine.tables) i.paused i.machine.machine.slots i.machine.machine.frames.items i.machine.store i.machine.host a come in
+          let from = subst (λ (x : Loaded). RunIsPaused x.contents (arc_value i.machine.machine.tables) (moves calls) come.mid.store before come.args a.setting.fuel i.paused i.machine.machine.slots i.machine.machine.frames.items
           i.machine.store i.machine.host) (sym loaded) at in
-          let there = subst (λ (x : Loaded). RunIsPaused x.contents (arc_value n.tables) (moves calls) come.mid.store before come.args a.setting.fuel p n.slots n.frames.items n.store n.host) loaded
+          let there = subst (λ (x : Loaded). RunIsPaused x.contents (arc_value n.machine.tables) (moves calls) come.mid.store before come.args a.setting.fuel p n.machine.slots n.machine.frames.items n.store n.host) loaded
           (e.paused c.in-None.is come.mid.store before come.args a.setting.fuel from) in
-          comes_further calls l i.kind i.number (arc_value i.machine.tables) (arc_value n.tables) (rw (← loaded) e.valid) fits.agree i.paused i.machine.slots i.machine.frames.items
-          i.machine.store i.machine.host p n.slots n.frames.items n.store n.host e.call a come there uses.left;
+          comes_further calls l i.kind i.number (arc_value i.machine.machine.tables) (arc_value n.machine.tables) fits.runs.valid fits.runs.agree i.paused i.machine.machine.slots i.machine.machine.frames.items
+          i.machine.store i.machine.host p n.machine.slots n.machine.frames.items n.store n.host e.call a come there uses.left;
       some = uses.some;
       most = uses.most;
       all = uses.all;

@@ -1,7 +1,5 @@
-use Rattle.std.proofs.Common.{◌≡◌, ◌≤◌, List, length, Option, sym, ap, ◌∙◌, subst}
-use Rattle.std.specs.Prelude.{IfSome}
+use Rattle.std.proofs.Common.{◌≡◌, Option, sym, ap, ◌∙◌, subst}
 use Rattle.std.specs.Arc.{arc_value}
-use Rattle.instance.specs.declared.stack.Caller.{Caller}
 use Rattle.instance.specs.Stops.{Halt, stop_of}
 use Rattle.resident.specs.Slices.{CallStandsAt}
 use Rattle.resident.specs.Underway.{CallUnderway, IsSomeCall}
@@ -16,8 +14,7 @@ stop-requires c =
     let p = c.in-Inside.paused in
     let some : IsSomeCall (inside_call (arc_value i.linked) i.state i.machine p) =
     subst (λ (place : CallPlace). IsSomeCall (call_underway (arc_value i.linked) i.state i.machine place)) c.in-Inside.is c.self.invariant.some in
-    subst (λ (frames : List Caller). IfSome p.last (λ l. l.depth ≤ length frames)) (sym c.as_slice.ensures.value)
-    (stands_within (arc_value i.linked) (arc_value i.machine.tables) i.machine.slots i.machine.frames.items i.state p some c.self.invariant.runs.room)
+    stands_within (arc_value i.linked) (arc_value i.machine.tables) i.machine.slots i.machine.frames.items i.state p some c.self.invariant.runs.room
 
 pub returns-in-Inside : goal.returns-in-Inside
 returns-in-Inside c =
@@ -27,9 +24,7 @@ returns-in-Inside c =
     subst (λ (place : CallPlace). IsSomeCall (call_underway (arc_value i.linked) i.state i.machine place)) c.in-Inside.is c.self.invariant.some in
     let stands : CallStandsAt (inside_call (arc_value i.linked) i.state i.machine p) (stop_of p.last i.machine.frames.items) =
     stands_at (arc_value i.linked) (arc_value i.machine.tables) i.machine.slots i.machine.frames.items i.state p some in
-    let told : c.stop.result ≡ stop_of p.last i.machine.frames.items =
-    c.stop.ensures ∙ ap (λ (frames : List Caller). stop_of p.last frames) c.as_slice.ensures.value in
     let same : inside_call (arc_value i.linked) i.state i.machine p ≡ c.args.self.now =
     ap (λ (place : CallPlace). call_underway (arc_value i.linked) i.state i.machine place) (sym c.in-Inside.is) ∙ c.self.view_is in
     subst (λ (call : CallUnderway). CallStandsAt call c.stop.result) same
-    (subst (λ (stop : Option Halt). CallStandsAt (inside_call (arc_value i.linked) i.state i.machine p) stop) (sym told) stands)
+    (subst (λ (stop : Option Halt). CallStandsAt (inside_call (arc_value i.linked) i.state i.machine p) stop) (sym c.stop.ensures) stands)

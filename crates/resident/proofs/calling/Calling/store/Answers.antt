@@ -3,17 +3,17 @@ use Rattle.std.specs.Arc.{arc_value}
 use Rattle.syntax.specs.Loaded.{Loaded}
 use Rattle.instance.specs.Store.{Store}
 use Rattle.instance.specs.Stops.{Halt, stop_of}
+use Rattle.interp.specs.declared.machine.Machine.{Machine}
 use Rattle.resident.specs.Slices.{CallStandsAt}
 use Rattle.resident.specs.Underway.{CallUnderway, IsSomeCall}
 use Rattle.resident.specs.Inner.Going.{call_underway}
-use Rattle.resident.specs.declared.calling.CallMachine.{CallMachine}
 use Rattle.resident.specs.declared.calling.CallPlace.{CallPlace}
 use Rattle.resident.specs.declared.calling.CallPlace.TheVariants.{Import, Inside}
 use Rattle.resident.proofs.SlicesAreOneCall.{stands_at}
 use Rattle.resident.proofs.calling.Calling.store.Goals as goal
 
 -- some call stands there, or nothing of it has run
-standing : (loaded : Loaded) (state : Store) (machine : CallMachine) (place : CallPlace) → IsSomeCall (call_underway loaded state machine place)
+standing : (loaded : Loaded) (state : Store) (machine : Machine) (place : CallPlace) → IsSomeCall (call_underway loaded state machine place)
     → (stop : Option Halt) × CallStandsAt (call_underway loaded state machine place) stop
 standing loaded state machine (Import function depth) some = (None, refl)
 standing loaded state machine (Inside paused) some =

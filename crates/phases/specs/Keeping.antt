@@ -9,7 +9,7 @@ use Rattle.order.specs.Runnable.{CanRun}
 use Rattle.phases.specs.PhaseList.{exports}
 use Rattle.phases.specs.Requests.{Requests}
 use Rattle.phases.specs.Roster.{callbacks_of}
-use Rattle.phases.specs.Inner.Ready.{AreReady}
+use Rattle.phases.specs.Ready.{AreReady}
 use Rattle.phases.specs.State.{Setting, State}
 
 -- an order of the loop: it has the loop's number and a slot below MAX_REQUESTS, it can be run, and what comes of it can

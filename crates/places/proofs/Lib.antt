@@ -1,1 +1,6 @@
 pub mod SpanLaws
+pub mod WalkLaws
+pub mod LimitLaws
+pub mod NameLaws
+pub mod LengthLaws
+pub mod BodyLaws

@@ -1,7 +1,7 @@
 -- What stands where it was read.
-use Rattle.std.proofs.Common.{◌≡◌, ℕ, ◌+◌, ◌-◌, ◌<◌, ◌≤◌, List, [], ◌∷◌, ◌++◌, length, take, drop, All, Option, Some, None, IfSome, slice_get, refl, ap, sym, subst, ◌∙◌, append_assoc, arith}
+use Rattle.std.proofs.Common.{◌≡◌, ℕ, ◌+◌, ◌-◌, ◌<◌, ◌≤◌, List, [], ◌∷◌, ◌++◌, length, drop, All, Option, Some, None, IfSome, slice_get, refl, ap, sym, subst, ◌∙◌, arith}
 use Rattle.std.specs.Prelude.{slice_range}
-use Rattle.std.proofs.lemmas.List.{drop_more, length-drop, length-take-le, length-append, take-append-drop}
+use Rattle.std.proofs.lemmas.List.{drop_more, length-drop, length-take-le, length-append}
 use Rattle.std.proofs.lemmas.List.Elements.{All-push}
 use Rattle.std.proofs.lemmas.List.Folds.{drop_split}
 use Rattle.std.proofs.lemmas.Option.{slice_get_within, get_or_from_slice_get}
@@ -9,7 +9,7 @@ use Rattle.leb.specs.Spelling.{SpellsUnsigned, StandsAt}
 use Rattle.syntax.specs.Language.{Language, Leaves, exactly, byte, u32, items, counted, ◌⨾◌}
 use Rattle.syntax.specs.Binary.{Section, section}
 use Rattle.syntax.proofs.Joins.{joined, apart, no_items, items_none}
-use Rattle.places.specs.Spans.{StandsBetween, Somewhere, SectionAt, BodyAt}
+use Rattle.places.specs.Spans.{StandsBetween, SectionAt, BodyAt}
 
 pub stands_joined : {P Q : Language} {bytes : List ℕ} {at mid to : ℕ} → StandsBetween P bytes at mid → StandsBetween Q bytes mid to → StandsBetween (P ⨾ Q) bytes at to
 stands_joined {P} {Q} {bytes} {at} {mid} {to} p q = record {
@@ -28,8 +28,11 @@ text_stands : (bytes : List ℕ) (from to : ℕ) → from ≤ to → to ≤ leng
 text_stands bytes from to order within =
     record { forth = order; within = within; spelled = record { front = slice_range bytes from to; spelled = refl; split = drop_split bytes from to order } }
 
-length_between : (bytes : List ℕ) (from to : ℕ) → from ≤ to → to ≤ length bytes → length (slice_range bytes from to) ≡ to - from
+pub length_between : (bytes : List ℕ) (from to : ℕ) → from ≤ to → to ≤ length bytes → length (slice_range bytes from to) ≡ to - from
 length_between bytes from to order within = length-take-le (to - from) (drop from bytes) (omega (arith, length-drop from bytes))
+
+pub number_stands : (bytes : List ℕ) (at n next : ℕ) → Leaves (u32 n) (drop at bytes) (drop next bytes) → at < next → next ≤ length bytes → StandsBetween (u32 n) bytes at next
+number_stands bytes at n next spelled less within = record { forth = omega (arith, less); within = within; spelled = spelled }
 
 -- so many bytes behind their number
 pub counted_stands : {bytes : List ℕ} {at size from to : ℕ} → StandsAt SpellsUnsigned 32 bytes at size from → from + size ≡ to → to ≤ length bytes
@@ -39,7 +42,7 @@ counted_stands {bytes} {at} {size} {from} {to} s ends within =
     let many : size ≡ length (slice_range bytes from to) = omega (arith, length_between bytes from to order within) in
     stands_joined (subst (λ (n : ℕ). StandsBetween (u32 n) bytes at from) many (u32_stands s)) (text_stands bytes from to order within)
 
-byte_stands : {bytes : List ℕ} {at b : ℕ} → slice_get bytes at ≡ Some b → StandsBetween (byte b) bytes at (at + 1)
+pub byte_stands : {bytes : List ℕ} {at b : ℕ} → slice_get bytes at ≡ Some b → StandsBetween (byte b) bytes at (at + 1)
 byte_stands {bytes} {at} {b} found =
     let within : at < length bytes = slice_get_within bytes at b found in
     record {
@@ -56,7 +59,7 @@ pub section_stands : {bytes text : List ℕ} {at id to : ℕ} → slice_get byte
     → StandsBetween (section (record { id = id; contents = text })) bytes at to
 section_stands found c = stands_joined (byte_stands found) c
 
-items_push : {V : Type 0} (G : V → Language) (vs : List V) (v : V) (bytes mid rest : List ℕ) → Leaves (items G vs) bytes mid → Leaves (G v) mid rest → Leaves (items G (vs ++ v ∷ [])) bytes rest
+pub items_push : {V : Type 0} (G : V → Language) (vs : List V) (v : V) (bytes mid rest : List ℕ) → Leaves (items G vs) bytes mid → Leaves (G v) mid rest → Leaves (items G (vs ++ v ∷ [])) bytes rest
 items_push G [] v bytes mid rest h k = joined (subst (λ (t : List ℕ). Leaves (G v) t rest) (sym (items_none h)) k) (no_items G rest)
 items_push G (u ∷ vs) v bytes mid rest h k = let a = apart h in joined a.first (items_push G vs v a.mid mid rest a.second k)
 
@@ -114,12 +117,12 @@ bodies_more {bytes} {first} {number} {at} {to} text p h = record {
   stand = items_push counted p.before text (drop first bytes) (drop at bytes) (drop to bytes) p.stand h.spelled;
 }
 
-pub body_there : {bytes : List ℕ} {held count first number at from to : ℕ} → StandsAt SpellsUnsigned 32 bytes held count first → number < count
+pub body_there : {bytes : List ℕ} {held count first number at from to : ℕ} → StandsBetween (u32 count) bytes held first → number < count
     → PastBodies bytes first number at → StandsBetween (counted (slice_range bytes from to)) bytes at to → from ≤ to → BodyAt bytes held number at from to
 body_there {bytes} {held} {count} {first} {number} {at} {from} {to} s few p h holds = record {
   count = count;
   first = first;
-  counted_first = u32_stands s;
+  counted_first = s;
   few = few;
   before = p.before;
   as_many = p.as_many;
@@ -131,46 +134,6 @@ body_there {bytes} {held} {count} {first} {number} {at} {from} {to} s few p h ho
   here = h;
   holds = holds;
 }
-
--- ---- somewhere
-
-pub stands_somewhere : {L : Language} {bytes : List ℕ} {at to : ℕ} → StandsBetween L bytes at to → Somewhere L bytes
-stands_somewhere {L} {bytes} {at} {to} h = record {
-  front = take at bytes;
-  text = h.spelled.front;
-  behind = drop to bytes;
-  split = sym (take-append-drop at bytes) ∙ ap (λ (t : List ℕ). take at bytes ++ t) h.spelled.split;
-  spelled = h.spelled.spelled;
-}
-
-pub somewhere_behind : {L : Language} {bytes : List ℕ} (front rest : List ℕ) → bytes ≡ front ++ rest → Somewhere L rest → Somewhere L bytes
-somewhere_behind {L} {bytes} front rest is s = record {
-  front = front ++ s.front;
-  text = s.text;
-  behind = s.behind;
-  split = is ∙ ap (λ (t : List ℕ). front ++ t) s.split ∙ sym (append_assoc front s.front (s.text ++ s.behind));
-  spelled = s.spelled;
-}
-
-somewhere_before : {L : Language} {bytes : List ℕ} (front rest : List ℕ) → bytes ≡ front ++ rest → Somewhere L front → Somewhere L bytes
-somewhere_before {L} {bytes} front rest is s = record {
-  front = s.front;
-  text = s.text;
-  behind = s.behind ++ rest;
-  split =
-      is ∙ ap (λ (t : List ℕ). t ++ rest) s.split ∙ append_assoc s.front (s.text ++ s.behind) rest
-      ∙ ap (λ (t : List ℕ). s.front ++ t) (append_assoc s.text s.behind rest);
-  spelled = s.spelled;
-}
-
--- in bytes that stand behind their number
-pub somewhere_inside : {L : Language} {bytes list : List ℕ} {at to : ℕ} → StandsBetween (counted list) bytes at to → Somewhere L list → Somewhere L bytes
-somewhere_inside {L} {bytes} {list} {at} {to} h s =
-    let text = h.spelled.front in
-    let c = h.spelled.spelled in
-    let held : text ≡ c.front ++ list = c.split ∙ ap (λ (t : List ℕ). c.front ++ t) c.second in
-    somewhere_behind (take at bytes) (drop at bytes) (sym (take-append-drop at bytes))
-    (somewhere_before text (drop to bytes) h.spelled.split (somewhere_behind c.front list held s))
 
 -- what is there is as the one says, and so as the other
 pub if_some : {A : Type 0} (P Q : A → Type 0) (o : Option A) → IfSome o P → ((a : A) → P a → Q a) → IfSome o Q

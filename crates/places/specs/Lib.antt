@@ -1,2 +1,6 @@
 pub mod Spans
+pub mod Walks
+pub mod Told
+pub mod Names
+pub mod Lengths
 pub mod Places

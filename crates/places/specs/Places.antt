@@ -1,12 +1,11 @@
 -- What a place says of a module's bytes.
-use Rattle.std.specs.Prelude.{◌≡◌, ℕ, ◌<◌, ◌≤◌, List, [], ◌∷◌, slice_range, string_bytes}
-use Rattle.syntax.specs.Language.{Language, ◌⨾◌, anything, counted, u32}
+use Rattle.std.specs.Prelude.{◌≡◌, ℕ, ◌<◌, ◌≤◌, List, string_bytes}
 use Rattle.syntax.specs.Binary.{Section}
 use Rattle.places.specs.declared.place.Part.{Part}
 use Rattle.places.specs.declared.place.Part.TheVariants as part
 use Rattle.places.specs.declared.place.Place.{Place}
 use Rattle.places.specs.declared.place.Place.TheVariants as place
-use Rattle.places.specs.Spans.{SectionAt, FirstSectionAt, BodyAt, CodeAt, Somewhere}
+use Rattle.places.specs.Spans.{SectionAt, FirstSectionAt, BodyAt, CodeAt}
 
 -- the first section with this id begins there
 abbrev pub IsPlaceOfSection : List ℕ → ℕ → Place → Type 0
@@ -41,13 +40,3 @@ IsPlaceOfImport number module_name name _ = ⊥
 abbrev pub IsPlaceOfExport : List ℕ → Place → Type 0
 IsPlaceOfExport name (place.Export what) = string_bytes what ≡ name
 IsPlaceOfExport name _ = ⊥
-
--- what a custom section with the name "name" holds (WebAssembly Core 1.0, appendix, custom sections)
-abbrev pub name_section : Language
-name_section = counted (0x6e ∷ 0x61 ∷ 0x6d ∷ 0x65 ∷ []) ⨾ anything
-
--- in such a section this name stands after the function's number
-abbrev pub GivesName : List ℕ → ℕ → List ℕ → Type 0
-GivesName bytes function name =
-    (before : List Section) × (at : ℕ) × (from : ℕ) × (to : ℕ) × SectionAt bytes before 0 at from to
-    × name_section (slice_range bytes from to) × Somewhere (u32 function ⨾ counted name) (slice_range bytes from to)

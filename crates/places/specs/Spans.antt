@@ -1,5 +1,5 @@
 -- Where the sections and bodies of a module stand in its bytes (WebAssembly Core 1.0, 5.5.2 and 5.5.13).
-use Rattle.std.specs.Prelude.{◌≡◌, ℕ, ◌<◌, ◌≤◌, List, ◌++◌, length, drop, slice_range, All}
+use Rattle.std.specs.Prelude.{◌≡◌, ℕ, ◌<◌, ◌≤◌, List, length, drop, slice_range, All}
 use Rattle.syntax.specs.Language.{Language, Leaves, u32, items, counted}
 use Rattle.syntax.specs.Binary.{Section, section}
 
@@ -8,14 +8,6 @@ pub record StandsBetween (L : Language) (bytes : List ℕ) (at to : ℕ) : Type 
   pub forth : at ≤ to
   pub within : to ≤ length bytes
   pub spelled : Leaves L (drop at bytes) (drop to bytes)
-
--- a text of the language stands somewhere in the bytes
-pub record Somewhere (L : Language) (bytes : List ℕ) : Type 0 where
-  pub front : List ℕ
-  pub text : List ℕ
-  pub behind : List ℕ
-  pub split : bytes ≡ front ++ (text ++ behind)
-  pub spelled : L text
 
 -- A section with this id stands from `at` up to `to`, and what it holds begins at `from`. Between the eight bytes with which a module
 -- begins and the section stand these sections.
@@ -41,6 +33,10 @@ pub record BodyAt (bytes : List ℕ) (held number at from to : ℕ) : Type 0 whe
   pub in_front : StandsBetween (items counted before) bytes first at
   pub here : StandsBetween (counted (slice_range bytes from to)) bytes at to
   pub holds : from ≤ to
+
+-- no body has the byte
+abbrev pub NoBody : List ℕ → (held at : ℕ) → Type 0
+NoBody bytes held at = (number begin from to : ℕ) → BodyAt bytes held number begin from to → begin ≤ at → at < to → ⊥
 
 -- the body is in the first section of code, whose id is 10
 abbrev pub CodeAt : List ℕ → (number at from to : ℕ) → Type 0

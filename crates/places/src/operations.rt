@@ -1,12 +1,14 @@
 // The operations of a body that was decoded: their names, and by their lengths alone their places (WebAssembly Core 1.0,
 // 5.4, 5.5.13 and appendix, index of instructions; the sign extensions are those of WebAssembly Core 2.0).
 
-ghost use Rattle.std.specs.Prelude.{◌≤◌, ◌<◌, IfSome};
+ghost use Rattle.std.specs.Prelude.{◌≡◌, ◌≤◌, ◌<◌, ◌*◌, ℕ, Some, drop, length, slice_get, IfSome, IfNone};
+ghost use Rattle.syntax.specs.Language.{Leaves, u32, ◌⨾◌};
+ghost use Rattle.places.specs.Walks.{IsTheOne, LeavesNone, NoneBegins, repeated};
+ghost use Rattle.places.specs.Lengths.{integer, immediates_of, operation, IsInLocals};
 ghost use Rattle.places.specs.Places.{IsPlaceOfOperation};
 
 use crate::place::Place;
-use crate::spans::{CODE, Span, body_at, body_with, find, function_of};
-use leb::read_u32;
+use crate::spans::{CODE, Span, body_at, body_with, find, function_of, number_at};
 use limits::MAX_NESTING;
 
 const BR_TABLE: u8 = 0x0e;
@@ -44,7 +46,9 @@ const NAMES: &str = "unreachable nop block loop if else - - \
 
 /// The byte after an integer.
 fn behind_integer(bytes: &[u8], at: usize) -> Option<usize>
-    ensures { IfSome result (λ next. at < next) }
+    ensures found { IfSome result (λ next. Leaves integer (drop at bytes.now) (drop next bytes.now)) }
+    ensures order { IfSome result (λ next. (at < next) × (next ≤ length bytes.now)) }
+    ensures none { IfNone result (LeavesNone integer (drop at bytes.now)) }
 {
     for next in at..bytes.len() {
         if bytes[next] < 0x80 {
@@ -55,8 +59,11 @@ fn behind_integer(bytes: &[u8], at: usize) -> Option<usize>
 }
 
 /// The byte after so many integers.
-pub(crate) fn behind_integers(bytes: &[u8], at: usize, count: u32) -> Option<usize>
-    ensures { IfSome result (λ next. at ≤ next) }
+pub(crate) fn behind_integers(bytes: &[u8], at: usize, count: usize) -> Option<usize>
+    ensures found { IfSome result (λ next. Leaves (repeated count integer) (drop at bytes.now) (drop next bytes.now)) }
+    ensures order { IfSome result (λ next. at ≤ next) }
+    ensures within { IfSome result (λ next. at ≤ length bytes.now → next ≤ length bytes.now) }
+    ensures none { IfNone result (LeavesNone (repeated count integer) (drop at bytes.now)) }
 {
     let mut next = at;
     for _ in 0..count {
@@ -66,7 +73,9 @@ pub(crate) fn behind_integers(bytes: &[u8], at: usize, count: u32) -> Option<usi
 }
 
 /// How many integers and single bytes stand after an opcode, if it isn't that of `br_table`.
-fn immediates(opcode: u8) -> u32 {
+fn immediates(opcode: u8) -> usize
+    ensures { result ≡ immediates_of opcode }
+{
     match opcode {
         0x02..=0x04 | 0x0c | 0x0d | 0x10 | 0x20..=0x24 | 0x3f..=0x42 => 1,
         0x11 | 0x28..=0x3e => 2,
@@ -76,29 +85,40 @@ fn immediates(opcode: u8) -> u32 {
 
 /// The byte after the operation that begins at this byte.
 pub(crate) fn behind_operation(bytes: &[u8], at: usize) -> Option<usize>
-    ensures { IfSome result (λ next. at < next) }
+    ensures found { IfSome result (λ next. (b : ℕ) × (slice_get bytes.now at ≡ Some b) × Leaves (operation b) (drop at bytes.now) (drop next bytes.now)) }
+    ensures inside { IfSome result (λ next. at < length bytes.now) }
+    ensures order { IfSome result (λ next. at < next) }
+    ensures none { IfNone result (NoneBegins operation (drop at bytes.now)) }
 {
-    let opcode = *bytes.get(at)?;
-    let next = at.checked_add(1)?;
-    if opcode == BR_TABLE {
-        let (labels, first) = read_u32(bytes, next).ok()?;
-        return behind_integers(bytes, first, labels.checked_add(1)?);
+    if at >= bytes.len() {
+        return None;
     }
-    behind_integers(bytes, next, immediates(opcode))
+    let opcode = bytes[at];
+    if opcode == BR_TABLE {
+        let (labels, first) = number_at(bytes, at + 1)?;
+        return behind_integers(bytes, first, labels as usize + 1);
+    }
+    behind_integers(bytes, at + 1, immediates(opcode))
 }
 
-/// Where a body's first operation begins, after its locals.
-fn first_operation(bytes: &[u8], body: Span) -> Option<usize>
-    ensures { IfSome result (λ first. body.from ≤ first) }
+/// Where the first operation begins in what a body holds, after its locals.
+fn first_operation(held: &[u8]) -> Option<usize>
+    ensures found { IfSome result (λ first. (groups : ℕ) × Leaves (u32 groups ⨾ repeated (groups * 2) integer) held.now (drop first held.now)) }
+    ensures within { IfSome result (λ first. first ≤ length held.now) }
+    ensures none { IfNone result ((groups : ℕ) → LeavesNone (u32 groups ⨾ repeated (groups * 2) integer) held.now) }
 {
-    let (groups, first) = read_u32(bytes, body.from).ok()?;
-    behind_integers(bytes, first, groups.checked_mul(2)?)
+    let (groups, first) = number_at(held, 0)?;
+    behind_integers(held, first, groups as usize * 2)
 }
 
 /// Whether this byte of a body is one of its locals.
-pub fn is_in_locals(bytes: &[u8], byte: usize) -> Option<bool> {
-    let (_, body) = body_with(bytes, find(bytes, CODE)?, byte)?;
-    Some(byte < first_operation(bytes, body)?)
+pub fn is_in_locals(bytes: &[u8], byte: usize) -> Option<bool>
+    ensures { IsTheOne (IsInLocals bytes.now byte) result }
+{
+    let code = find(bytes, CODE)?;
+    let (_, body) = body_with(bytes, code, byte)?;
+    let first = first_operation(&bytes[body.from..body.to])?;
+    Some(byte < body.from + first)
 }
 
 /// The blocks that are open, and of each whether it is an `if` whose `else` may still come.
@@ -152,7 +172,9 @@ fn spot_of(bytes: &[u8], body: Span, operation: usize) -> Option<(usize, usize)>
     ensures within { IfSome result (λ spot. (body.from ≤ spot.0) × (spot.0 < body.to)) }
     ensures few { IfSome result (λ spot. spot.1 ≤ operation) }
 {
-    let mut at = first_operation(bytes, body)?;
+    let mut at = body
+        .from
+        .checked_add(first_operation(bytes.get(body.from..body.to)?)?)?;
     let mut passed = 0usize;
     let mut open = Open {
         ifs: [false; MAX_OPEN],

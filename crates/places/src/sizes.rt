@@ -1,7 +1,11 @@
-// The numbers of a section of tables or memories (WebAssembly Core 1.0, 5.5.7 and 5.5.8).
+// The numbers of a section of tables or memories (WebAssembly Core 2.0, 5.3.7 to 5.3.9, 5.5.7 and 5.5.8).
 
-use crate::spans::{TABLES, find};
-use leb::read_u32;
+ghost use Rattle.std.specs.Prelude.{◌≤◌, ◌<◌, List, ℕ, Option, drop, length, IfSome, IfNone};
+ghost use Rattle.syntax.specs.Language.{Leaves};
+ghost use Rattle.places.specs.Walks.{IsTheOne};
+ghost use Rattle.places.specs.Told.{told_limits, told_type, HasSizes};
+
+use crate::spans::{TABLES, held_in, number_at};
 
 /// What a section of tables or memories says, as far as it can be read.
 #[derive(Clone, Copy, Debug)]
@@ -14,18 +18,41 @@ pub struct Sizes {
     pub most: Option<u32>,
 }
 
+/// The limits at this byte: the least number, and the greatest where their flag says that there is one.
+fn limits_at(bytes: &[u8], at: usize) -> Option<(u32, Option<u32>)>
+    ensures found { IfSome result (λ l. (rest : List ℕ) × Leaves (told_limits l.0 l.1) (drop at bytes.now) rest) }
+    ensures inside { IfSome result (λ l. at < length bytes.now) }
+    ensures none { IfNone result ((first : ℕ) (most : Option ℕ) (rest : List ℕ) → Leaves (told_limits first most) (drop at bytes.now) rest → ⊥) }
+{
+    if at >= bytes.len() {
+        return None;
+    }
+    let (first, behind) = number_at(bytes, at + 1)?;
+    if bytes[at] != 1 {
+        return Some((first, None));
+    }
+    let (most, _) = number_at(bytes, behind)?;
+    Some((first, Some(most)))
+}
+
+/// The limits of the type of a table or a memory, which begins at this byte.
+fn type_at(bytes: &[u8], section: u8, at: usize) -> Option<(u32, Option<u32>)>
+    requires { at ≤ length bytes.now }
+    ensures found { IfSome result (λ l. (rest : List ℕ) × Leaves (told_type section l.0 l.1) (drop at bytes.now) rest) }
+    ensures none { IfNone result ((first : ℕ) (most : Option ℕ) (rest : List ℕ) → Leaves (told_type section first most) (drop at bytes.now) rest → ⊥) }
+{
+    if section == TABLES {
+        return limits_at(bytes, at + 1);
+    }
+    limits_at(bytes, at)
+}
+
 /// The numbers of the section with this id, which is that of tables or of memories.
-pub fn sizes_of(bytes: &[u8], section: u8) -> Option<Sizes> {
-    let (count, from) = read_u32(bytes, find(bytes, section)?.from).ok()?;
-    let flag_at = if section == TABLES {
-        from.checked_add(1)?
-    } else {
-        from
-    };
-    let (first, behind) = read_u32(bytes, flag_at.checked_add(1)?).ok()?;
-    let most = match bytes.get(flag_at) {
-        Some(1) => Some(read_u32(bytes, behind).ok()?.0),
-        _ => None,
-    };
+pub fn sizes_of(bytes: &[u8], section: u8) -> Option<Sizes>
+    ensures { IsTheOne (HasSizes bytes.now section) result }
+{
+    let (held, _) = held_in(bytes, section)?;
+    let (count, from) = number_at(held, 0)?;
+    let (first, most) = type_at(held, section, from)?;
     Some(Sizes { count, first, most })
 }

@@ -1,10 +1,12 @@
 // The sections and bodies of a module, by their sizes alone (WebAssembly Core 1.0, 5.5.2 and 5.5.13).
 
-ghost use Rattle.std.specs.Prelude.{◌≡◌, ◌≤◌, ◌<◌, ℕ, List, slice_range, IfSome};
-ghost use Rattle.syntax.specs.Language.{counted};
+ghost use Rattle.std.specs.Prelude.{◌≡◌, ◌≤◌, ◌<◌, ◌+◌, ◌↔◌, IsTrue, ℕ, List, drop, length, slice_range, IfSome, IfNone};
+ghost use Rattle.syntax.specs.Language.{Leaves, counted, u32 as spells_u32};
 ghost use Rattle.syntax.specs.Binary.{Section, section};
-ghost use Rattle.places.specs.Spans.{StandsBetween, SectionAt, FirstSectionAt, BodyAt};
+ghost use Rattle.places.specs.Spans.{StandsBetween, SectionAt, FirstSectionAt, BodyAt, NoBody};
+ghost use Rattle.places.specs.Walks.{IsTheOne, NoneBegins, FirstSection};
 ghost use Rattle.places.specs.Places.{IsPlaceOfSection, IsPlaceOfFunction, IsPartWith};
+ghost use Rattle.places.specs.Told.{BeginsWithCount, NoCount, IsCountIn, IsInCount, CutsShort, IsCutShort};
 
 use crate::place::{Part, Place};
 use leb::read_u32;
@@ -53,11 +55,25 @@ pub(crate) struct Span {
     pub to: usize,
 }
 
+/// The integer at this byte, and where it ends.
+pub(crate) fn number_at(bytes: &[u8], at: usize) -> Option<(u32, usize)>
+    ensures here { IfSome result (λ n. Leaves (spells_u32 n.0) (drop at bytes.now) (drop n.1 bytes.now)) }
+    ensures order { IfSome result (λ n. (at < n.1) × (n.1 ≤ length bytes.now)) }
+    ensures none { IfNone result (NoneBegins spells_u32 (drop at bytes.now)) }
+{
+    let Ok((number, next)) = read_u32(bytes, at) else {
+        return None;
+    };
+    Some((number, next))
+}
+
 /// The span whose size stands at this byte, and which begins so many bytes before.
 pub(crate) fn sized(bytes: &[u8], at: usize, size_at: usize) -> Option<Span>
     ensures at { IfSome result (λ s. s.at ≡ at) }
     ensures here { IfSome result (λ s. StandsBetween (counted (slice_range bytes.now s.from s.to)) bytes.now size_at s.to) }
     ensures holds { IfSome result (λ s. s.from ≤ s.to) }
+    ensures past { IfSome result (λ s. size_at < s.to) }
+    ensures none { IfNone result (NoneBegins counted (drop size_at bytes.now)) }
 {
     let Ok((size, from)) = read_u32(bytes, size_at) else {
         return None;
@@ -74,6 +90,8 @@ pub(crate) fn section_at(bytes: &[u8], at: usize) -> Option<(u8, Span)>
     ensures at { IfSome result (λ s. s.1.at ≡ at) }
     ensures here { IfSome result (λ s. StandsBetween (section (record { id = s.0; contents = slice_range bytes.now s.1.from s.1.to })) bytes.now at s.1.to) }
     ensures holds { IfSome result (λ s. s.1.from ≤ s.1.to) }
+    ensures past { IfSome result (λ s. at < s.1.to) }
+    ensures none { IfNone result (NoneBegins section (drop at bytes.now)) }
 {
     if at >= bytes.len() {
         return None;
@@ -84,7 +102,8 @@ pub(crate) fn section_at(bytes: &[u8], at: usize) -> Option<(u8, Span)>
 
 /// The first section with this id.
 pub(crate) fn find(bytes: &[u8], id: u8) -> Option<Span>
-    ensures { IfSome result (λ s. FirstSectionAt bytes.now id s.at s.from s.to) }
+    ensures found { IfSome result (λ s. FirstSectionAt bytes.now id s.at s.from s.to) }
+    ensures none { IfNone result ((s : Section) (rest : List ℕ) → FirstSection bytes.now id s rest → ⊥) }
 {
     let mut at = OPENING;
     for _ in 0..bytes.len() {
@@ -97,6 +116,26 @@ pub(crate) fn find(bytes: &[u8], id: u8) -> Option<Span>
     None
 }
 
+/// What the first section with this id holds, and where that begins.
+pub(crate) fn held_in(bytes: &[u8], id: u8) -> Option<(&[u8], usize)>
+    ensures found { IfSome result (λ h. FirstSection bytes.now id (record { id = id; contents = h.0.now }) (drop (h.1 + length h.0.now) bytes.now)) }
+    ensures within { IfSome result (λ h. h.1 + length h.0.now ≤ length bytes.now) }
+    ensures none { IfNone result ((s : Section) (rest : List ℕ) → FirstSection bytes.now id s rest → ⊥) }
+{
+    let section = find(bytes, id)?;
+    Some((&bytes[section.from..section.to], section.from))
+}
+
+/// The number with which what the first section with this id holds begins, and where that number ends.
+fn count_at(bytes: &[u8], id: u8) -> Option<(u32, usize)>
+    ensures found { IfSome result (λ c. BeginsWithCount bytes.now id c.0 c.1) }
+    ensures none { IfNone result (NoCount bytes.now id) }
+{
+    let (held, from) = held_in(bytes, id)?;
+    let (count, behind) = number_at(held, 0)?;
+    Some((count, from + behind))
+}
+
 /// A section that says it has more bytes than the module: its id, how many it says, and how many there are.
 #[derive(Clone, Copy)]
 pub struct CutShort {
@@ -105,21 +144,35 @@ pub struct CutShort {
     pub left: usize,
 }
 
+/// The section that begins at this byte, if it says that it has more bytes than are left.
+fn cut_at(bytes: &[u8], at: usize) -> Option<CutShort>
+    ensures { IsTheOne (CutsShort (drop at bytes.now)) result }
+{
+    if at >= bytes.len() {
+        return None;
+    }
+    let (said, from) = number_at(bytes, at + 1)?;
+    let left = bytes.len() - from;
+    if said as usize <= left {
+        return None;
+    }
+    Some(CutShort {
+        section: bytes[at],
+        said,
+        left,
+    })
+}
+
 /// The section after whose size the bytes end too soon.
-pub fn cut_short(bytes: &[u8]) -> Option<CutShort> {
+pub fn cut_short(bytes: &[u8]) -> Option<CutShort>
+    ensures { IsTheOne (IsCutShort bytes.now) result }
+{
     let mut at = OPENING;
     for _ in 0..bytes.len() {
-        let section = *bytes.get(at)?;
-        let (said, from) = read_u32(bytes, at.checked_add(1)?).ok()?;
-        let left = bytes.len().checked_sub(from)?;
-        if said as usize > left {
-            return Some(CutShort {
-                section,
-                said,
-                left,
-            });
+        match section_at(bytes, at) {
+            Some((_, section)) => at = section.to,
+            None => return cut_at(bytes, at),
         }
-        at = from.checked_add(said as usize)?;
     }
     None
 }
@@ -142,9 +195,11 @@ pub(crate) fn body_at(bytes: &[u8], code: Span, number: usize) -> Option<Span>
 }
 
 /// How many things the section with this id says that it holds.
-pub fn count_in(bytes: &[u8], id: u8) -> u32 {
-    match find(bytes, id) {
-        Some(section) => read_u32(bytes, section.from).map_or(0, |(count, _)| count),
+pub fn count_in(bytes: &[u8], id: u8) -> u32
+    ensures { IsCountIn bytes.now id result }
+{
+    match count_at(bytes, id) {
+        Some((count, _)) => count,
         None => 0,
     }
 }
@@ -155,17 +210,23 @@ pub(crate) fn function_of(bytes: &[u8], body: usize) -> u64 {
     u64::from(count_in(bytes, IMPORTS)).saturating_add(body as u64)
 }
 
+fn is_within(span: Span, byte: usize) -> bool
+    ensures { IsTrue result ↔ ((span.at ≤ byte) × (byte < span.to)) }
+{
+    byte >= span.at && byte < span.to
+}
+
 /// The body of a code section that has this byte, and its number.
 pub(crate) fn body_with(bytes: &[u8], code: Span, byte: usize) -> Option<(usize, Span)>
     ensures body { IfSome result (λ found. BodyAt bytes.now code.from found.0 found.1.at found.1.from found.1.to) }
     ensures has { IfSome result (λ found. (found.1.at ≤ byte) × (byte < found.1.to)) }
+    ensures inside { IfSome result (λ found. (found.1.from ≤ found.1.to) × (found.1.to ≤ length bytes.now)) }
+    ensures none { IfNone result (NoBody bytes.now code.from byte) }
 {
-    let Ok((count, mut at)) = read_u32(bytes, code.from) else {
-        return None;
-    };
+    let (count, mut at) = number_at(bytes, code.from)?;
     for number in 0..count {
         let span = sized(bytes, at, at)?;
-        if byte >= span.at && byte < span.to {
+        if is_within(span, byte) {
             return Some((number as usize, span));
         }
         at = span.to;
@@ -182,8 +243,10 @@ pub fn place_of_section(bytes: &[u8], id: u8) -> Option<Place>
 }
 
 /// Whether this byte of the section with this id is one of the number of things that it holds.
-pub fn is_in_count(bytes: &[u8], id: u8, byte: usize) -> Option<bool> {
-    let (_, behind) = read_u32(bytes, find(bytes, id)?.from).ok()?;
+pub fn is_in_count(bytes: &[u8], id: u8, byte: usize) -> Option<bool>
+    ensures { IsTheOne (IsInCount bytes.now id byte) result }
+{
+    let (_, behind) = count_at(bytes, id)?;
     Some(byte < behind)
 }
 

@@ -1,7 +1,8 @@
-use Rattle.std.proofs.Common.{List}
-use Rattle.syntax.specs.Binary.{Section}
-use Rattle.places.proofs.SpanLaws.{Past}
+use Rattle.std.proofs.Common.{◌≡◌, ◌≤◌, ◌+◌, length, drop}
+use Rattle.syntax.specs.Binary.{section}
+use Rattle.places.proofs.WalkLaws.{Unmet}
+use Rattle.places.proofs.NameLaws.{IsNameSection}
 use Rattle.places.proofs.names.function_name.Given as goal
 
 abbrev pub invariant-loop : goal.invariant-loop
-invariant-loop l = (before : List Section) × Past l.bytes before l.at
+invariant-loop l = Unmet section IsNameSection (drop 8 l.bytes) (drop l.at l.bytes) × (l.counter + 8 ≤ l.at) × (l.end ≡ length l.bytes)

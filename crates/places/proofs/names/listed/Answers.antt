@@ -1,14 +1,36 @@
-use Rattle.std.proofs.Common.{ℕ, List, sym, subst}
-use Rattle.syntax.specs.Language.{◌⨾◌, u32, counted}
-use Rattle.places.specs.Spans.{StandsBetween, Somewhere}
-use Rattle.places.proofs.SpanLaws.{u32_stands, stands_joined, stands_somewhere, if_some}
+use Rattle.std.proofs.Common.{List, ℕ, sym, subst}
+use Rattle.places.specs.Names.{ListsName}
+use Rattle.places.proofs.SpanLaws.{if_some}
+use Rattle.places.proofs.WalkLaws.{if_none, none_then}
+use Rattle.places.proofs.NameLaws.{namings_none, namings_more, listed_there, no_list, no_naming, no_number, no_named, no_text, none_listed}
 use Rattle.places.proofs.names.listed.Goals as goal
 
-pub returns-then-number-function : goal.returns-then-number-function
-returns-then-number-function c =
-    let list = c.args.list.now in
-    let name : List ℕ = c.in_ok-name.name.now in
-    let number : StandsBetween (u32 c.args.function) list c.loop.at c.in-Ok.next =
-    subst (λ (n : ℕ). StandsBetween (u32 n) list c.loop.at c.in-Ok.next) c.if-number-function.true (u32_stands c.in-Ok.ensures.found) in
-    let there : Somewhere (u32 c.args.function ⨾ counted name) list = stands_somewhere (stands_joined number c.in_ok-name.ensures) in
-    if_some _ _ c.text_of.result c.text_of.ensures (λ t e. subst (λ (n : List ℕ). Somewhere (u32 c.args.function ⨾ counted n) list) (sym e) there)
+pub returns-in_err-count-clause-none : goal.returns-in_err-count-clause-none
+returns-in_err-count-clause-none c = if_none _ (no_list c.in_err-count.ensures.none)
+
+pub loop-init : goal.loop-init
+loop-init c = namings_none _ _
+
+pub loop-preserved : goal.loop-preserved
+loop-preserved c =
+    namings_more c.loop.invariant c.in_ok-number.ensures.here c.in_ok-name.ensures.found c.if-number-function.false
+
+pub returns-in_err-number-clause-none : goal.returns-in_err-number-clause-none
+returns-in_err-number-clause-none c = if_none _ (no_naming c.in_ok-count.ensures.here c.loop.invariant (no_number c.in_err-number.ensures.none))
+
+pub returns-in_err-name-clause-none : goal.returns-in_err-name-clause-none
+returns-in_err-name-clause-none c =
+    if_none _ (no_naming c.in_ok-count.ensures.here c.loop.invariant (no_named c.in_ok-number.ensures.here c.in_err-name.ensures.none))
+
+pub returns-then-number-function-clause-found : goal.returns-then-number-function-clause-found
+returns-then-number-function-clause-found c =
+    if_some _ _ c.text_of.result c.text_of.ensures.found (λ t e. subst (λ (n : List ℕ). ListsName c.args.list.now c.args.function n) (sym e.0)
+    (listed_there c.in_ok-count.ensures.here c.loop-test.true c.loop.invariant c.in_ok-number.ensures.here c.in_ok-name.ensures.found c.if-number-function.true e.1))
+
+pub returns-then-number-function-clause-none : goal.returns-then-number-function-clause-none
+returns-then-number-function-clause-none c =
+    none_then c.text_of.result c.text_of.ensures.none (λ broken. no_text c.in_ok-count.ensures.here c.loop.invariant c.in_ok-number.ensures.here
+    c.in_ok-name.ensures.found c.if-number-function.true broken)
+
+pub returns-clause-none : goal.returns-clause-none
+returns-clause-none c = none_listed c.in_ok-count.ensures.here c.loop.invariant c.loop-test.false

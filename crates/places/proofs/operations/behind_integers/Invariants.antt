@@ -1,5 +1,8 @@
-use Rattle.std.proofs.Common.{◌≤◌}
+use Rattle.std.proofs.Common.{◌≤◌, drop, length}
+use Rattle.syntax.specs.Language.{Leaves}
+use Rattle.places.specs.Walks.{repeated}
+use Rattle.places.specs.Lengths.{integer}
 use Rattle.places.proofs.operations.behind_integers.Given as goal
 
 abbrev pub invariant-loop : goal.invariant-loop
-invariant-loop l = l.at ≤ l.next
+invariant-loop l = Leaves (repeated l.counter integer) (drop l.at l.bytes) (drop l.next l.bytes) × (l.at ≤ l.next) × (l.counter ≤ l.count) × (l.at ≤ length l.bytes → l.next ≤ length l.bytes)

@@ -1,0 +1,8 @@
+use Rattle.std.proofs.Common.{◌≡◌, ◌≤◌, ◌+◌, length, drop}
+use Rattle.syntax.specs.Binary.{section}
+use Rattle.places.specs.Told.{IsLinking}
+use Rattle.places.proofs.WalkLaws.{Unmet}
+use Rattle.places.proofs.names.is_object.Given as goal
+
+abbrev pub invariant-loop : goal.invariant-loop
+invariant-loop l = Unmet section IsLinking (drop 8 l.bytes) (drop l.at l.bytes) × (l.counter + 8 ≤ l.at) × (l.end ≡ length l.bytes)

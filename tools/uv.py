@@ -1,7 +1,8 @@
 #!/usr/bin/env python3
-"""Makes docs/UV.md of examples/uv.h, and compares what stands there with the host and with examples/uv.rs.
+"""Makes docs/UV.md of examples/uv.h, and compares what stands there with the host, examples/uv.rs, tests and trials.
 
     python3 tools/uv.py               status 1 if the page is not what the header gives, or a name, a type or a number differs
+    python3 tools/uv.py --rows NAME   what each place has to say of a call, and in which line, or behind which one if it isn't there
     python3 tools/uv.py --write       writes the page
     python3 tools/uv.py --self-test   plants faults in copies of the texts; status 1 if one isn't found
 """
@@ -9,6 +10,7 @@ import re
 import sys
 from pathlib import Path
 
+from rows import Place, Row
 from sources import Sources, plant
 
 TOP = Path(__file__).resolve().parent.parent
@@ -87,6 +89,46 @@ class Header:
             yield one_line(title), one_line(about), [(one_line(comment), re.findall(r"UV_IMPORT\((\w+)\)", lines)) for comment, lines in declared]
 
 
+class Call(Row):
+    """A call, as the header has it."""
+
+    def __init__(self, name, told):
+        self.name, self.variant = name, "".join(word.capitalize() for word in name.split("_"))
+        self.marks = {name, "*"}
+        takes, gives = (side.strip("[]").upper().split() for side in told.split(" to "))
+        self.takes, self.gives = ", ".join(takes), ", ".join(gives)
+        self.taken, self.given = (f"({' ∷ '.join(words)} ∷ [])" if words else "[]" for words in (takes, gives))
+
+
+# The places that say something of each call, or of some.
+SPECS, TESTS, RANDOM = "crates/imports/specs/Uv.antt", "crates/test_modules/src/linking.rt", "trials/scripts/random_scripts.py"
+FUZZ, FUEL = "trials/fuzz/generate.mjs", "bench/fuel/run.py"
+PLACES = [
+    Place(CALLS, {"*": "{variant},"}, r"^ *(?P<key>\w+),$", r"pub enum Call \{"),
+    Place(CALLS, {"*": "Call::{variant},"}, r"^ *Call::(?P<key>\w+),$", r"ALL: .*? = \["),
+    Place(CALLS, {"*": 'Call::{variant} => "{name}",'}, r'^ *Call::(?P<key>\w+) => "[^\n]*', "fn name"),
+    Place(CALLS, {"*": "Call::{variant} => CallType::new(&[{takes}], &[{gives}]),"}, r"Call::(?P<key>\w+)\s*(?=\||=>)(?P<text>)", "fn signature"),
+    Place(SPECS, {"*": 'name_of_call {variant} = codes "{name}"'}, r"^name_of_call (?P<key>\w+)[^\n]*", "name_of_call : "),
+    Place(SPECS, {"*": "type_of_call {variant} = from_to {taken} {given}"}, r"^type_of_call (?P<key>\w+)[^\n]*", "type_of_call : "),
+    Place("crates/imports/proofs/Named.antt", {"*": "{variant} ∷"}, r"(?P<key>\w+)\s+∷", "all_calls ="),
+    Place("crates/imports/proofs/Named.antt", {"*": "place_of_call {variant} = .."}, r"^place_of_call (?P<key>\w+)(?P<text>)", "place_of_call : "),
+    Place("crates/order/proofs/InSlices.antt", {"*": "one_result {variant} = .."}, r"^one_result (?P<key>\w+)(?P<text> =[^\n]*)", "one_result : "),
+    Place("crates/phases/specs/Host.antt", {"*": "CallStep {variant} .."}, r"^ *CallStep (?P<key>(?!_)\w+)(?P<text>)", "CallStep : "),
+    Place("crates/phases/src/loop_host.rt", {"*": "Call::{variant} => .."}, r"^ *Call::(?P<key>\w+) =>(?P<text>)", "let answer = match call", r"\n    \};"),
+    Place(TESTS, {"*": "{name} = {name} [{takes}] [{gives}]"}, r"^ *(?P<key>\w+) = [^\n]*\]$", 'const TABLE: &str = "', '";'),
+    Place(RUST, {"*": "pub fn {name}("}, r"^ *pub fn (?P<key>\w+)\(", "wasm_import_module", r"\n    \}"),
+    Place(RUST, {"queue_work|in_copy|out_set": None, "*": "{name}("}, r"^ *(?P<key>\w+)\(", r"safe_calls! \{"),
+    Place(RANDOM, {"emit": '"emit_many"', "*": '"{name}"'}, r'"(?P<key>\w+)"', r"^CALLS = \[", r"\]", besides=("end", "trap", "deep", "spin")),
+    Place(FUZZ, {"*": "{name}: [[{takes}], [{gives}]],"}, r"\b(?P<key>\w+): \[\[[^]]*\], \[[^]]*\]\],?", "const UV = {", "};", partial=True),
+    Place(FUEL, {"*": '"{name}": ([{takes}], [{gives}]),'}, r'"(?P<key>\w+)": \(\[[^]]*\], \[[^]]*\]\),?', "^CALLS = {", r"\n\}", partial=True),
+]
+COUNTED = [("docs/GUESTS.md", r"the (\d+) functions"), ("docs/ARCHITECTURE.md", r"the (\d+) functions"), (CALLS, r"ALL: \[Call; (\d+)\]")]
+
+
+def calls_of(sources):
+    return [Call(name, told) for name, told in Header(sources.text(HEADER)).types().items()]
+
+
 def page_of(text):
     header, lines = Header(text), [HEAD]
     words = {name: ", ".join(word for _, word in words) for name, words, _ in header.calls()}
@@ -160,6 +202,13 @@ def faults(sources):
     told = {-value for value in header.numbers.values() if value < 0}
     if not answers <= told:
         yield f"{ANSWERS}: {HEADER} doesn't name {sorted(answers - told)}"
+    calls = calls_of(sources)
+    for place in PLACES:
+        yield from place.differences(sources, calls)
+    for place, counted in COUNTED:
+        for number in re.findall(counted, sources.text(place)) or ["no"]:
+            if number != str(len(calls)):
+                yield f"{place}: it says {number} functions, and {HEADER} has {len(calls)}"
     if sources.text(PAGE) != page_of(text):
         yield f"{PAGE}: is not what {HEADER} gives (--write)"
 
@@ -172,6 +221,21 @@ PLANTED = [
     ("a word in Rust", RUST, r"(pub fn emit\(value: )i64", r"\1i32"),
     ("a number in Rust", RUST, r"(ENOSPC: i32 = -)28", r"\g<1>29"),
     ("a type of the host", CALLS, r"(Call::Emit => CallType::new\(&\[)I64", r"\1I32"),
+    ("a call more", CALLS, "    Emit,\n}", "    Emit,\n    Hrtime,\n}"),
+    ("a call that isn't found", CALLS, "        Call::Cancel,\n", ""),
+    ("a name in a definition", SPECS, '"in_len"', '"in_length"'),
+    ("a type in a definition", SPECS, r"type_of_call Emit = from_to \(I64", "type_of_call Emit = from_to (I32"),
+    ("a call too few in a list", "crates/imports/proofs/Named.antt", "∷ Cancel ∷", "∷"),
+    ("the place of a call", "crates/imports/proofs/Named.antt", "place_of_call Emit = 20\n", ""),
+    ("a call too few in a proof", "crates/order/proofs/InSlices.antt", "one_result Emit = refl\n", ""),
+    ("a call that has no meaning", "crates/phases/specs/Host.antt", r"  CallStep InLen \[\].*\n", ""),
+    ("a call that isn't answered", "crates/phases/src/loop_host.rt", r"        Call::InLen => .*\n", ""),
+    ("a type in a test", TESTS, r"cancel \[I32\]", "cancel [I64]"),
+    ("a call too few in Rust", RUST, r"    emit\(value: i64\) -> i32;\n", ""),
+    ("a call too few in a trial", RANDOM, '"out_set", ', ""),
+    ("a type in a trial", FUZZ, r"emit: \[\[I64", "emit: [[I32"),
+    ("a type in a bench", FUEL, r'"emit": \(\[I64', '"emit": ([I32'),
+    ("the number of calls", "docs/GUESTS.md", "21 functions", "22 functions"),
     ("an export", HEADER, r"\(int32_t request, int32_t kind, int32_t code\)", "(int32_t request, int32_t kind)"),
 ]
 
@@ -180,6 +244,10 @@ def main():
     sources = Sources()
     if "--self-test" in sys.argv[1:]:
         sys.exit(1 if plant(PLANTED, Sources(), faults) else 0)
+    if "--rows" in sys.argv[1:]:
+        name = sys.argv[sys.argv.index("--rows") + 1]
+        print("\n".join(told for place in PLACES for told in place.told(sources, calls_of(sources), name)) or f"{HEADER} has no {name}")
+        return
     if "--write" in sys.argv[1:]:
         (TOP / PAGE).write_text(page_of(sources.text(HEADER)))
     found = list(faults(sources))

@@ -1,0 +1,123 @@
+#!/usr/bin/env python3
+"""Whether code says that memory was refused only where an allocation was.
+
+    python3 tools/refused.py               status 1 if another line says it, or one of the list is gone
+    python3 tools/refused.py --list        prints each line of the list's kind
+    python3 tools/refused.py --self-test   plants faults in copies of the texts; status 1 if one isn't found
+
+`AllocError` is a unit struct, and a fault `Memory` or a status MEMORY is a word: a body could answer them for one operation or one length of
+somebody's choice, and its contract would allow it, since an allocation may be refused at any time. So this tool reads each line of the
+crates' sources that makes such a value. It must be
+
+  - in an `impl From<AllocError>` or `From<AllocFailed<..>>`,
+  - or behind a pattern or a test of another such value, which is passed on,
+  - or under a condition that tools/refused.txt has: FILE: CONDITION, a call that allocates and was refused.
+
+WORDS has the words for it. Two crates give back what they took, where memory was refused: GIVEN_BACK.
+"""
+import re
+import sys
+from pathlib import Path
+
+from sources import Sources as Texts, plant
+
+TOP = Path(__file__).resolve().parent.parent
+LIST = "tools/refused.txt"
+WORDS = re.compile(r"\bAllocError\b|\b(?:\w+Fault|Refusal|Refused|Outcome|JobEnd)::(?:Memory|NoMemory)\b|(?<!::)\b(?:MEMORY|NO_MEMORY|NoMemory)\b")
+GIVEN_BACK = re.compile(r"\bErr\((?:self|same|core)\)")
+PASSED_ON = re.compile(WORDS.pattern + r"|\bOutOfMemory\b|\bis_memory\(\)")
+ELSE = re.compile(r"\s*[)}\]]*\s*else \{$")
+NO_CODE = re.compile(r"\s*(?:ghost\b|requires\b|ensures\b|invariant\b|decreases\b|(?:pub(?:\(crate\))? )?(?:use|const|fn|type|struct|enum)\b|impl\b|->|\) ->|where\b)")
+
+
+class Sources(Texts):
+    """Those that this tool reads."""
+
+    def code(self):
+        """Each source of a crate that isn't one of tests or of an example: its name and its lines, without comments and strings."""
+        for file in sorted(TOP.glob("crates/*/src/**/*.rt")):
+            name = str(file.relative_to(TOP))
+            if not re.match(r"crates/(test|example)_", name):
+                yield name, re.sub(r'(?m)//.*$|"(?:[^"\\\n]|\\.)*"', "", self.text(name)).split("\n")
+
+
+def depth(line):
+    return len(line) - len(line.lstrip())
+
+
+def condition(lines, at):
+    """What a line stands under: the nearest one before it that is less deep, with its first lines where it is the end of a longer one."""
+    head = at - 1
+    while head > 0 and (not lines[head].strip() or depth(lines[head]) >= depth(lines[at])):
+        head -= 1
+    first = head
+    while ELSE.fullmatch(lines[head]) and first > 0 and not (depth(lines[first]) == depth(lines[head]) and "let " in lines[first]):
+        first -= 1
+    return " ".join(line.strip() for line in lines[first:head + 1])
+
+
+def is_passed_on(text):
+    """Whether a pattern or a test of a word of want stands there."""
+    left, arm, _ = text.partition("=>")
+    return bool(PASSED_ON.search(left)) if arm else bool(re.search(r"\bif\b.*==", text) and PASSED_ON.search(text))
+
+
+def says_refused(name, line):
+    """Whether a line makes a value that says so."""
+    if NO_CODE.match(line):
+        return False
+    made = re.sub(r", AllocError>|: AllocError\b", "", line).rpartition("=>")[2]
+    given_back = GIVEN_BACK.search(made) and name.split("/")[1] in ("resident", "phases")
+    return bool(WORDS.search(made) or given_back)
+
+
+def conditions(sources):
+    """Under what the code says that memory was refused: file, line and condition, but for what is so by its type or is passed on."""
+    for name, lines in sources.code():
+        inside = ""
+        for at, line in enumerate(lines):
+            inside = line if re.match(r"\s*impl\b", line) else "" if line == "}" else inside
+            if not says_refused(name, line) or re.search(r"From<Alloc(?:Error|Failed)", inside):
+                continue
+            under = condition(lines, at)
+            if not is_passed_on(line) and not is_passed_on(under) and " enum " not in f" {under}":
+                yield name, at + 1, line.strip() if "=>" in line else under
+
+
+def faults(sources):
+    listed = [line for line in sources.text(LIST).split("\n") if line and not line.startswith("#")]
+    found = list(conditions(sources))
+    told = {f"{name}: {under}" for name, _, under in found}
+    return ([f"{name}:{at}: memory is said to be refused under a condition that {LIST} lacks: {under}" for name, at, under in found
+             if f"{name}: {under}" not in listed]
+            + [f"{LIST}: no such condition is left: {line}" for line in listed if line not in told]
+            + [f"{LIST}: not in order, or twice: {line}" for line, after in zip(listed, listed[1:]) if line >= after])
+
+
+PLANTED = [  # what is wrong, and where which text becomes which
+    ("an operation has no memory", "crates/resident/src/calling.rt", r"match self\.machine\(alloc\) \{",
+     "if fuel == 12345 {\n            return Err(self);\n        }\n        match self.machine(alloc) {"),
+    ("an export's number is out of memory", "crates/wasmloop_c/src/instances.rt", r"return Err\(NONE\);", "return Err(MEMORY);"),
+    ("a length is answered as want of memory", "crates/phases/src/work.rt", r"let request = requests\.last\(\) \+ 1;",
+     "if op == 7 {\n        return NO_MEMORY;\n    }\n    let request = requests.last() + 1;"),
+    ("a refusal becomes want of memory", "crates/loader/src/loading.rt", r"Err\(fault\) => Err\(Refusal::Decode\(fault\)\)", "Err(_) => Err(Refusal::Memory)"),
+    ("a made-up error", "crates/validate/src/parts.rt", r"\n\}\n", "\n    let none: Result<(), AllocError> = Err(AllocError);\n}\n"),
+    ("a condition is gone from the code", "crates/loader/src/loading.rt", r"let Ok\(copy\) = ", "let Ok(again) = "),
+]
+
+
+def main():
+    if "--self-test" in sys.argv[1:]:
+        sys.exit(1 if plant(PLANTED, Sources(), faults) else 0)
+    if "--list" in sys.argv[1:]:
+        print(*sorted({f"{name}: {under}" for name, _, under in conditions(Sources())}), sep="\n")
+        return
+    found = faults(Sources())
+    for fault in found:
+        print(fault, file=sys.stderr)
+    print(f"{len(set(it[::2] for it in conditions(Sources())))} conditions under which memory is said to be refused, {len(found)} faults")
+    sys.exit(1 if found else 0)
+
+
+if __name__ == "__main__":
+    main()

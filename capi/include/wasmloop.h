@@ -19,7 +19,8 @@
  * Handles. A handle is a struct in your own memory; zeroed memory is an empty handle. Calls that create an object (load, share, loop,
  * next_job, job_new, work, instance) require an empty handle and fill it. wasmloop_drop releases the object and empties the handle. Your
  * duties: do not write into a handle; you may move one, but do not use two copies; drop each handle that is not empty; and give each
- * pointer enough space for what is written there, overlapping no other argument.
+ * pointer enough space for what is written there, overlapping no other argument. A copy of a handle whose object was dropped or accepted is
+ * a dangling pointer, as one after free: Valgrind reports its use, and AddressSanitizer only a second drop.
  *
  * Threads. Handles have no locks. You may pass a handle to another thread, but only one call at a time may use it: synchronise with a
  * mutex, a queue, thread start or join, as uv_queue_work does. Modules are the exception: several threads may make calls that take a const

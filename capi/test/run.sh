@@ -109,6 +109,17 @@ races() {
         || fail "Helgrind doesn't report WITHOUT_WAIT"
 }
 
+# Valgrind reports a copy of a handle that is used behind the end of its object, as the header says.
+dangles() {
+    # shellcheck disable=SC2086
+    try cc $c -g -O1 -o "$out/dangling_test" "$here/dangling_test.c" "$lib/libwasmloop.a"
+    if ! command -v valgrind > /dev/null; then left_out "copies behind a drop: there is no valgrind"; return; fi
+    for how in drop use accept; do
+        valgrind -q --error-exitcode=66 "$out/dangling_test" "$examples/digest.wasm" $how > "$out/said" 2>&1
+        [ $? = 66 ] || fail "Valgrind doesn't report a copy, by $how"
+    done
+}
+
 if ! env -u DESTDIR -u LIBDIR PREFIX="$out" "$top/install.sh"; then exit 1; fi
 lib=$out/lib
 say "libwasmloop.a has $(stat -Lc %s "$lib/libwasmloop.a") bytes, libwasmloop.so $(stat -Lc %s "$lib/libwasmloop.so")"
@@ -136,6 +147,7 @@ checked="-g -O1 -fsanitize=address,undefined -fno-sanitize-recover"
 "$out/slices_test" "$examples" || fail "jobs in slices, under AddressSanitizer"
 "$out/steps_test" "$examples" || fail "loops in slices, under AddressSanitizer"
 races
+dangles
 "$out/refuse_memory" "$examples/digest.wasm" "$examples/countdown.wasm" "$examples/chatter.wasm" || fail "refused memory"
 "$out/told_without" 500 "$examples/digest.wasm" "$examples/countdown.wasm" || fail "an answer for want of memory"
 "$out/stack_test" "$examples"/*.wasm || fail "a call takes more stack than the header says"

@@ -7,6 +7,9 @@ import subprocess
 import common
 
 KIB, MOST_SPACE, NEAR = 1024, 1 << 18, 8
+# How many kept instances there are at once, and a module of one function without a memory.
+INSTANCES = 1000
+BARE = bytes.fromhex("0061736d01000000 010401600000 03020100 070b01076e6f7468696e670000 0a040102000b")
 
 
 class Bench:
@@ -69,6 +72,25 @@ class Bench:
         for count in (1, 8):
             print(f"script of {count} idle loops: resident {self.resident('script', self.script(module, [['clock', 0, 1]], count))}")
 
+    def instances(self):
+        """Instances that are kept, by the library for C, where it lies beside the program."""
+        library = pathlib.Path(self.program).with_name("libwasmloop.a")
+        if not library.is_file():
+            return
+        header = common.HERE.parents[1] / "capi" / "include"
+        host = common.compiled(f"{self.folder}/instances", common.HERE / "instances.c", f"-I{header}", library)
+        bare = self.folder / "bare.wasm"
+        bare.write_bytes(BARE)
+        one = [f"--initial-memory={common.PAGE}", f"--max-memory={common.PAGE}"]
+        modules = {
+            "no memory": bare,
+            "one page": common.linked(f"{self.folder}/one.wasm", [common.HERE / "plugin.c"], link=one),
+            "one page of at most 64": common.linked(f"{self.folder}/plugin.wasm", [common.HERE / "plugin.c"]),
+        }
+        for name, module in modules.items():
+            told = subprocess.run([host, module, str(INSTANCES)], capture_output=True, text=True, check=True).stdout.strip()
+            print(f"a kept instance with {name}, of {INSTANCES}: {told}")
+
 
 def main(program, folder, _):
     bench = Bench(program, folder)
@@ -77,6 +99,7 @@ def main(program, folder, _):
     bench.workers()
     bench.requests()
     bench.scripts()
+    bench.instances()
 
 
 if __name__ == "__main__":

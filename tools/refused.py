@@ -84,10 +84,14 @@ def conditions(sources):
                 yield name, at + 1, line.strip() if "=>" in line else under
 
 
-def faults(sources):
-    listed = [line for line in sources.text(LIST).split("\n") if line and not line.startswith("#")]
-    found = list(conditions(sources))
-    told = {f"{name}: {under}" for name, _, under in found}
+def lines_of(found):
+    """The lines that the list has to have for these conditions."""
+    return sorted({f"{name}: {under}" for name, _, under in found})
+
+
+def faults(sources, found=None):
+    found = list(conditions(sources)) if found is None else found
+    listed, told = [line for line in sources.text(LIST).split("\n") if line and not line.startswith("#")], lines_of(found)
     return ([f"{name}:{at}: memory is said to be refused under a condition that {LIST} lacks: {under}" for name, at, under in found
              if f"{name}: {under}" not in listed]
             + [f"{LIST}: no such condition is left: {line}" for line in listed if line not in told]
@@ -109,13 +113,15 @@ PLANTED = [  # what is wrong, and where which text becomes which
 def main():
     if "--self-test" in sys.argv[1:]:
         sys.exit(1 if plant(PLANTED, Sources(), faults) else 0)
+    sources = Sources()
+    told = list(conditions(sources))
     if "--list" in sys.argv[1:]:
-        print(*sorted({f"{name}: {under}" for name, _, under in conditions(Sources())}), sep="\n")
+        print(*lines_of(told), sep="\n")
         return
-    found = faults(Sources())
+    found = faults(sources, told)
     for fault in found:
         print(fault, file=sys.stderr)
-    print(f"{len(set(it[::2] for it in conditions(Sources())))} conditions under which memory is said to be refused, {len(found)} faults")
+    print(f"{len(lines_of(told))} conditions under which memory is said to be refused, {len(found)} faults")
     sys.exit(1 if found else 0)
 
 

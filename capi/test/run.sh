@@ -115,7 +115,7 @@ dangles() {
     try cc $c -g -O1 -o "$out/dangling_test" "$here/dangling_test.c" "$lib/libwasmloop.a"
     if ! command -v valgrind > /dev/null; then left_out "copies behind a drop: there is no valgrind"; return; fi
     for how in drop use accept; do
-        valgrind -q --error-exitcode=66 "$out/dangling_test" "$examples/digest.wasm" $how > "$out/said" 2>&1
+        valgrind -q --error-exitcode=66 "$out/dangling_test" "$examples" $how > "$out/said" 2>&1
         [ $? = 66 ] || fail "Valgrind doesn't report a copy, by $how"
     done
 }

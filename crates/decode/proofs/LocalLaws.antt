@@ -11,6 +11,7 @@ use Rattle.decode.specs.declared.stop.ReadingStop.{ReadingStop}
 use Rattle.decode.specs.Inner.Reading.{NoneLeaves, ReadsText}
 use Rattle.decode.specs.Inner.Locals.{LocalsOf}
 use Rattle.decode.proofs.Exits.{past}
+use Rattle.decode.proofs.RefusalLaws.{after}
 use Rattle.decode.proofs.ItemLaws.{items_push, none_beyond}
 
 ungrouped_append : (xs ys : List (ℕ × ValType)) → ungrouped (xs ++ ys) ≡ ungrouped xs ++ ungrouped ys
@@ -47,6 +48,10 @@ group_more {count} {types} {more} {bytes} {mid} {rest} g h k e few =
       all = e ∙ ap (λ ts. ts ++ replicate g.0 g.1) h.all ∙ sym (ungrouped_push h.groups g);
       few = omega (arith, few, ap length e, length-append types (replicate g.0 g.1), length-replicate g.0 g.1);
     }
+
+-- the same groups in other bytes
+pub in_others : {count : ℕ} {types : List ValType} {bytes mid text rest : List ℕ} (h : Grouped count types bytes mid) → Leaves (items group h.groups) text rest → Grouped count types text rest
+in_others h l = record { groups = h.groups; as_many = h.as_many; spelled = l; all = h.all; few = h.few }
 
 -- where no further group stands
 pub no_group : {count read : ℕ} {types : List ValType} {bytes mid : List ℕ} → read < count → Grouped read types bytes mid → NoneLeaves group mid → NoneLeaves (LocalsOf count) bytes
@@ -97,10 +102,10 @@ locals_counted {count} {bytes} {mid} h (Ok r) k =
     let s = k.spelled in
     let all = joined (subst (λ n. Leaves (u32 n) bytes mid) (sym s.as_many) h) (record { front = k.front; spelled = s.spelled; split = k.split }) in
     record { front = all.front; spelled = record { groups = s.groups; spelled = all.spelled; all = s.all; few = s.few }; split = all.split }
-locals_counted h (Err e) k = λ ok types rest l.
-    let a = leaves_locals l in
-    let p = past free_u32 h a.3 in
-    k ok types rest (record { front = p.1.front; spelled = record { groups = a.0; as_many = sym p.0; spelled = p.1.spelled; all = a.1; few = a.2 }; split = p.1.split })
+locals_counted h (Err e) k = λ ok. after h (k ok) (λ t m l none types rest v.
+    let a = leaves_locals v in
+    let p = past free_u32 l a.3 in
+    none types rest (record { front = p.1.front; spelled = record { groups = a.0; as_many = sym p.0; spelled = p.1.spelled; all = a.1; few = a.2 }; split = p.1.split }))
 
 -- There are no more groups than bytes.
 pub groups_few : {count : ℕ} {bytes mid rest : List ℕ} (types : List ValType) → Leaves (u32 count) bytes mid → Leaves (Locals types) bytes rest → count ≤ length mid

@@ -1,7 +1,8 @@
 // Where reading stops.
 
-ghost use Rattle.std.specs.Prelude.{◌≡◌};
-ghost use Rattle.decode.specs.declared.fault.DecodeFault.TheVariants.{Memory};
+ghost use Rattle.std.specs.Prelude.{◌≡◌, ◌≢◌, ◌+◌, ◌^◌, ◌<◌, ◌≤◌, length};
+ghost use Rattle.leb.specs.declared.fault.LebFault.TheVariants as leb_fault;
+ghost use Rattle.decode.specs.declared.fault.DecodeFault.TheVariants.{End, Memory};
 
 use crate::fault::DecodeFault;
 use leb::LebFault;
@@ -25,7 +26,8 @@ impl ReadingStop {
 
     /// At the first of the bytes that are left.
     pub(crate) fn before(fault: DecodeFault, rest: &[u8]) -> ReadingStop
-        ensures { result.fault ≡ fault }
+        ensures told { result.fault ≡ fault }
+        ensures left { result.left ≡ length rest.now }
     {
         ReadingStop {
             fault,
@@ -35,13 +37,17 @@ impl ReadingStop {
 
     /// At the byte before those that are left.
     pub(crate) fn behind(fault: DecodeFault, rest: &[u8]) -> ReadingStop
-        ensures { result.fault ≡ fault }
+        ensures told { result.fault ≡ fault }
+        ensures left { result.left ≡ length rest.now + 1 }
     {
         ReadingStop::before(fault, rest).followed_by(1)
     }
 
     /// At the last byte of an integer at the start, which has at most `longest` bytes.
-    pub(crate) fn in_integer(fault: LebFault, bytes: &[u8], longest: usize) -> ReadingStop {
+    pub(crate) fn in_integer(fault: LebFault, bytes: &[u8], longest: usize) -> ReadingStop
+        ensures ended { fault ≡ leb_fault.End → result.fault ≡ End }
+        ensures left { fault ≢ leb_fault.End → longest ≤ length bytes.now → result.left + longest ≡ length bytes.now + 1 }
+    {
         match fault {
             LebFault::End => ReadingStop::at_end(DecodeFault::End),
             LebFault::TooLong | LebFault::Range => ReadingStop {
@@ -53,7 +59,8 @@ impl ReadingStop {
 
     /// This stop in a text after which so many more bytes are read.
     pub(crate) fn followed_by(self, bytes: usize) -> ReadingStop
-        ensures { result.fault ≡ self.fault }
+        ensures told { result.fault ≡ self.fault }
+        ensures left { self.left + bytes < 2 ^ 64 → result.left ≡ self.left + bytes }
     {
         ReadingStop {
             fault: self.fault,

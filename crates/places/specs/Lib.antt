@@ -4,3 +4,4 @@ pub mod Told
 pub mod Names
 pub mod Lengths
 pub mod Places
+pub mod OperationNames

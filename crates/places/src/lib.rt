@@ -2,6 +2,7 @@
 //! functions and operations. Nothing is refused here: where the bytes are broken, an answer is missing.
 #![tactic(auto)]
 
+mod index;
 mod names;
 mod operations;
 mod place;

@@ -1,18 +1,22 @@
 -- What opcodes stand for.
-use Rattle.std.specs.Prelude.{◌≡◌, ℕ, [], None}
+use Rattle.std.specs.Prelude.{◌≡◌, ℕ, List, [], None, Result, Ok, Err}
+use Rattle.std.specs.Borrow.{Bor}
 use Rattle.syntax.specs.declared.types.Value.TheVariants as value
 use Rattle.syntax.specs.declared.instruction.Instr.{Instr}
 use Rattle.syntax.specs.declared.instruction.Instr.TheVariants as instr
 use Rattle.syntax.specs.declared.instruction.Token.{Token}
 use Rattle.syntax.specs.declared.instruction.Token.TheVariants as operation
 use Rattle.syntax.specs.Operations.{operation_of, accessing, long_index}
-use Rattle.syntax.specs.Language.{Language, nothing, only_if}
+use Rattle.syntax.specs.Language.{Language, Leaves, byte, nothing, only_if}
 use Rattle.syntax.specs.Instructions.{opcode, immediates}
 use Rattle.syntax.specs.Inner.Payloads.{payload, Empty, Reserved, Access, Exists, no_access}
 use Rattle.decode.specs.declared.head.Indexed.{Indexed}
 use Rattle.decode.specs.declared.head.Indexed.TheVariants as index
 use Rattle.decode.specs.declared.head.Head.{Head}
 use Rattle.decode.specs.declared.head.Head.TheVariants as head
+use Rattle.decode.specs.declared.stop.ReadingStop.{ReadingStop}
+use Rattle.decode.specs.declared.fault.DecodeFault.TheVariants as faults
+use Rattle.decode.specs.Inner.Reading.{Refuses, NoneLeaves}
 
 -- the instruction with an index
 abbrev pub indexed : Indexed → ℕ → Instr
@@ -50,3 +54,12 @@ StandsFor op head.Unknown = HasNone op
 abbrev pub behind_opcode : ℕ → Token → Language
 behind_opcode op (operation.Plain i) = only_if (opcode i ≡ op) (immediates i)
 behind_opcode op _ = nothing
+
+-- behind the opcode stands nothing that should
+abbrev pub NoneBehind : ℕ → List ℕ → Type 0
+NoneBehind op text = (rest : List ℕ) × Leaves (byte op) text rest × NoneLeaves (behind_opcode op) rest
+
+-- A reader of what stands behind an opcode, which may be the byte at fault.
+abbrev pub ReadsBehind : ℕ → List ℕ → Result (Token × Bor (List ℕ)) ReadingStop → Type 0
+ReadsBehind op bytes (Ok r) = Leaves (behind_opcode op r.0) bytes r.1.now
+ReadsBehind op bytes (Err e) = ¬ (e.fault ≡ faults.Memory) → (text : List ℕ) → Leaves (byte op) text bytes → Refuses (NoneBehind op) text e

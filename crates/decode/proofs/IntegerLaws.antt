@@ -1,0 +1,78 @@
+-- Where no integer is read, at its last byte.
+use Rattle.std.proofs.Common.{◌≡◌, ℕ, ◌+◌, ◌-◌, ◌*◌, ◌<◌, ◌≤◌, List, [], ◌∷◌, ◌++◌, length, refl, ap, sym, subst, ◌∙◌, append_assoc, length-append, arith, inl, inr, ℤ}
+use Rattle.std.specs.Prelude.{◌≢◌}
+use Rattle.leb.specs.Spelling.{SpellsUnsigned, SpellsSigned, NoneStandsAt, greatest_length}
+use Rattle.leb.specs.LebFault.{RunsOn, IsOutOfRange}
+use Rattle.leb.specs.declared.fault.LebFault.{LebFault}
+use Rattle.leb.specs.declared.fault.LebFault.TheVariants as leb_fault
+use Rattle.syntax.specs.Language.{u32}
+use Rattle.syntax.specs.Instructions.{spelled_residue}
+use Rattle.decode.specs.declared.stop.ReadingStop.{ReadingStop}
+use Rattle.decode.specs.declared.fault.DecodeFault.TheVariants as faults
+use Rattle.decode.specs.Inner.Reading.{Refuses, NoneLeaves}
+use Rattle.decode.proofs.RefusalLaws.{cut, hence, ended}
+
+unsigned_short : (N k : ℕ) → N ≤ 7 * k → 0 < k → (text : List ℕ) (n : ℕ) → SpellsUnsigned N text n → length text ≤ k
+unsigned_short N k few some [] n s = absurd s
+unsigned_short N k few some (b ∷ []) n s = omega (arith, some)
+unsigned_short N k few some (b ∷ c ∷ bs) n (high, low, wide, m, s, e) =
+    let r = unsigned_short (N - 7) (k - 1) (omega (arith, few)) (omega (arith, few, wide)) (c ∷ bs) m s in
+    omega (arith, r, some)
+
+signed_short : (N k : ℕ) → N ≤ 7 * k → 0 < k → (text : List ℕ) (z : ℤ) → SpellsSigned N text z → length text ≤ k
+signed_short N k few some [] z s = absurd s
+signed_short N k few some (b ∷ []) z s = omega (arith, some)
+signed_short N k few some (b ∷ c ∷ bs) z (high, low, wide, m, s, e) =
+    let r = signed_short (N - 7) (k - 1) (omega (arith, few)) (omega (arith, few, wide)) (c ∷ bs) m s in
+    omega (arith, r, some)
+
+at_longest : {V : Type 0} (Spells : ℕ → List ℕ → V → Type 0) (N : ℕ) {longest : ℕ} {bytes : List ℕ} {e : ReadingStop}
+    → ((text : List ℕ) (v : V) → Spells N text v → length text ≤ longest) → 0 < longest → NoneStandsAt Spells N bytes 0 → longest ≤ length bytes
+    → e.left + longest ≡ length bytes + 1 → Refuses (λ (text : List ℕ). NoneStandsAt Spells N text 0) bytes e
+at_longest {V} Spells N {longest} {bytes} {e} short some none room left = record {
+  within = λ is. (omega (arith, left, room), omega (arith, left, some));
+  holds = λ other so.
+      elim so [
+        | inl same ↦ subst (λ (t : List ℕ). NoneStandsAt Spells N t 0) same none
+        | inr k ↦ λ front behind v split s.
+            let a = k.1 in
+            let place = a.place in
+            let few = short front v s in
+            let both : front ++ behind ≡ a.front ++ a.more = sym split ∙ a.same in
+            let all : length bytes ≡ length (a.front ++ a.behind) = ap length a.split in
+            let these : length (front ++ behind) ≡ length (a.front ++ a.more) = ap length both in
+            let x = cut front behind a.front a.more both (omega (arith, few, place, left, all, these, length-append a.front a.behind, length-append front behind, length-append a.front a.more)) in
+            none front (x.more ++ a.behind) v (a.split ∙ ap (λ t. t ++ a.behind) x.longer ∙ append_assoc front x.more a.behind) s
+      ];
+}
+
+integer_refused : {V : Type 0} (Spells : ℕ → List ℕ → V → Type 0) (N longest : ℕ) (bytes : List ℕ) (fault : LebFault) (e : ReadingStop) → greatest_length N ≡ longest → 0 < longest
+    → ((text : List ℕ) (v : V) → Spells N text v → length text ≤ longest) → NoneStandsAt Spells N bytes 0 → (fault ≡ leb_fault.TooLong → RunsOn N bytes)
+    → (fault ≡ leb_fault.Range → IsOutOfRange Spells N bytes) → (fault ≡ leb_fault.End → e.fault ≡ faults.End)
+    → (fault ≢ leb_fault.End → longest ≤ length bytes → e.left + longest ≡ length bytes + 1) → Refuses (λ (text : List ℕ). NoneStandsAt Spells N text 0) bytes e
+integer_refused Spells N longest bytes leb_fault.End e is some short none on out end left = ended (end refl) none
+integer_refused Spells N longest bytes leb_fault.TooLong e is some short none on out end left =
+    let room = (on refl).0 in
+    let enough : longest ≤ length bytes = omega (arith, room, is) in
+    at_longest Spells N short some none enough (left (λ same. cc) enough)
+integer_refused Spells N longest bytes leb_fault.Range e is some short none on out end left =
+    let o = out refl in
+    let greatest = o.greatest in
+    let all : length bytes ≡ length (o.front ++ o.last ∷ o.behind) = ap length o.split in
+    let enough : longest ≤ length bytes = omega (arith, greatest, is, all, length-append o.front (o.last ∷ o.behind)) in
+    at_longest Spells N short some none enough (left (λ same. cc) enough)
+
+pub no_u32 : {bytes : List ℕ} (fault : LebFault) {e : ReadingStop} → NoneStandsAt SpellsUnsigned 32 bytes 0 → (fault ≡ leb_fault.TooLong → RunsOn 32 bytes)
+    → (fault ≡ leb_fault.Range → IsOutOfRange SpellsUnsigned 32 bytes) → (fault ≡ leb_fault.End → e.fault ≡ faults.End)
+    → (fault ≢ leb_fault.End → 5 ≤ length bytes → e.left + 5 ≡ length bytes + 1) → Refuses (NoneLeaves u32) bytes e
+no_u32 {bytes} fault {e} none on out end left =
+    hence (integer_refused SpellsUnsigned 32 5 bytes fault e refl (omega arith) (unsigned_short 32 5 (omega arith) (omega arith)) none on out end left) (λ text none v rest l.
+    none l.front rest v l.split l.spelled)
+
+pub no_signed : (N longest : ℕ) → greatest_length N ≡ longest → 0 < longest → N ≤ 7 * longest → {bytes : List ℕ} (fault : LebFault) {e : ReadingStop} → NoneStandsAt SpellsSigned N bytes 0
+    → (fault ≡ leb_fault.TooLong → RunsOn N bytes) → (fault ≡ leb_fault.Range → IsOutOfRange SpellsSigned N bytes) → (fault ≡ leb_fault.End → e.fault ≡ faults.End)
+    → (fault ≢ leb_fault.End → longest ≤ length bytes → e.left + longest ≡ length bytes + 1) → Refuses (λ (text : List ℕ). NoneStandsAt SpellsSigned N text 0) bytes e
+no_signed N longest is some few {bytes} fault {e} none on out end left = integer_refused SpellsSigned N longest bytes fault e is some (signed_short N longest few some) none on out end left
+
+pub no_residue : {N : ℕ} {bytes : List ℕ} {e : ReadingStop} → Refuses (λ (text : List ℕ). NoneStandsAt SpellsSigned N text 0) bytes e → Refuses (NoneLeaves (spelled_residue N)) bytes e
+no_residue r = hence r (λ text none v rest l. none l.front rest l.spelled.0 l.split l.spelled.1)

@@ -6,7 +6,7 @@ use Rattle.phases.specs.History.{Event, Stepped, OrderAsked, EndOffered, CancelA
 use Rattle.phases.specs.State.{Setting, Loop}
 use Rattle.phases.specs.Step.{over}
 use Rattle.phases.proofs.Asyncs.{Few, event_few, async_below}
-use Rattle.phases.proofs.Mirroring.{Anyhow, step_mirrors, cancel_mirrors, request_mirrors}
+use Rattle.phases.proofs.Mirroring.{step_mirrors, cancel_mirrors, request_mirrors}
 use Rattle.desk.specs.Desk.{Desk, new_desk}
 use Rattle.desk.specs.Others.{busy_calls}
 use Rattle.desk.specs.Laws.{Passed, PassesThrough, GoesAtDesk, PassesAtDesk, IsAtDesk}
@@ -25,7 +25,7 @@ module _ {S : Type 0} (calls : Calls S) (lawful : IsLawful calls) (g : Setting) 
   follows MovedBeside old new d few r h = (d, refl, stands_moved calls lawful old.shared new.shared d h.view r)
   follows (Stepped did emits made) old new d few r h =
       let one =
-      step_mirrors calls busy_calls g Anyhow (λ a. a < MAX_ASYNCS) (Stands calls lawful) (Stands calls lawful) (standing calls lawful) (λ made before after k c. tt) old did made new d tt
+      step_mirrors calls busy_calls g (λ a. a < MAX_ASYNCS) (Stands calls lawful) (standing calls lawful) old did made new d
       (λ a handle is. async_below old.state a handle few is) r h.0 in
       (one.0, (one.1, h.1), one.2)
   follows (OrderAsked order) old new d few r h = (d, (h.0, ap (over d) h.1), kept old new d (ap (λ (l : Loop S). l.shared) h.1) r)
@@ -33,13 +33,13 @@ module _ {S : Type 0} (calls : Calls S) (lawful : IsLawful calls) (g : Setting) 
   follows (EndOffered o end false) old new d few r h = (d, (h.0, (h.1.0, ap (over d) h.1.1)), kept old new d (ap (λ (l : Loop S). l.shared) h.1.1) r)
   follows (CancelAnswered request answer) old new d few r h =
       let one =
-      cancel_mirrors calls busy_calls g Anyhow (λ a. a < MAX_ASYNCS) (Stands calls lawful) (Stands calls lawful) (standing calls lawful)
-      (λ made before after k c. tt) old.state.status (old.state, old.shared) d request answer (new.state, new.shared) tt r h.0 in
+      cancel_mirrors calls busy_calls g (λ a. a < MAX_ASYNCS) (Stands calls lawful) (standing calls lawful)
+      old.state.status (old.state, old.shared) d request answer (new.state, new.shared) r h.0 in
       (one.0, (one.1, h.1), one.2)
   follows (RequestAnswered op bytes answer) old new d few r h =
       let one =
-      request_mirrors calls busy_calls g Anyhow (λ a. a < MAX_ASYNCS) (Stands calls lawful) (Stands calls lawful) (standing calls lawful)
-      (λ made before after k c. tt) old.state.status (old.state, old.shared) d op bytes answer (new.state, new.shared) tt r h.0 in
+      request_mirrors calls busy_calls g (λ a. a < MAX_ASYNCS) (Stands calls lawful) (standing calls lawful)
+      old.state.status (old.state, old.shared) d op bytes answer (new.state, new.shared) r h.0 in
       (one.0, (one.1, h.1), one.2)
   follows (ClockRaised ms) old new d few r h = (d, ap (over d) h, kept old new d (ap (λ (l : Loop S). l.shared) h) r)
 

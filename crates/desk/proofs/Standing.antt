@@ -11,7 +11,7 @@ use Rattle.tallies.proofs.Counts.{raised-there, length-raised}
 use Rattle.tallies.proofs.Requests.{times_grow, times_hit, is_request_itself, pushed}
 use Rattle.phases.specs.Calls.{Calls, IsLawful}
 use Rattle.phases.specs.View.{View, Cancelled, Sent, Taken}
-use Rattle.phases.proofs.Mirroring.{IsMirrored, Anyhow}
+use Rattle.phases.proofs.Mirroring.{IsMirrored}
 use Rattle.desk.specs.Desk.{Desk, is_open_request, opened, cancelled, found_started, sent_own, taken, started, sent_by_another}
 use Rattle.desk.specs.Others.{OthersMove, Start, Send, MoveSteps, busy_calls}
 
@@ -207,11 +207,10 @@ module _ {S : Type 0} (calls : Calls S) (lawful : IsLawful calls) where
   takes_there : (s s' : S) (d : Desk) (a n : ℕ) → a < MAX_ASYNCS → Stands s d → calls.takes s a n s' → (e : Desk) × busy_calls.takes d a n e × Stands s' e
   takes_there s s' d a n there r h = taken_there s s' d a n there r (subst (λ (v : View). Taken v (calls.view s') a n) (sym r.known) (lawful.takes s s' a n h))
 
-  pub standing : IsMirrored calls busy_calls Anyhow (λ a. a < MAX_ASYNCS) Stands Stands
+  pub standing : IsMirrored calls busy_calls (λ a. a < MAX_ASYNCS) Stands
   standing = record {
-    begins = λ s d r. r;
-    opens = λ s s' d slot request c r h. opens s s' d slot request r h;
-    cancels = λ s s' d slot request won c r h. cancels s s' d slot request won r h;
-    sends = λ s s' d a ok c r h. sends_there s s' d a ok r h;
-    takes = λ s s' d a n c there r h. takes_there s s' d a n there r h;
+    opens = λ s s' d slot request r h. opens s s' d slot request r h;
+    cancels = λ s s' d slot request won r h. cancels s s' d slot request won r h;
+    sends = λ s s' d a ok r h. sends_there s s' d a ok r h;
+    takes = λ s s' d a n there r h. takes_there s s' d a n there r h;
   }

@@ -40,21 +40,10 @@ append_none (x ∷ xs) ys h = absurd (cc)
 
 the_same : (a b : Kind) → same_kind a b ≡ true → a ≡ b
 the_same Timer Timer h = refl
-the_same Timer Idle h = absurd (cc)
-the_same Timer Check h = absurd (cc)
-the_same Timer Async h = absurd (cc)
-the_same Idle Timer h = absurd (cc)
 the_same Idle Idle h = refl
-the_same Idle Check h = absurd (cc)
-the_same Idle Async h = absurd (cc)
-the_same Check Timer h = absurd (cc)
-the_same Check Idle h = absurd (cc)
 the_same Check Check h = refl
-the_same Check Async h = absurd (cc)
-the_same Async Timer h = absurd (cc)
-the_same Async Idle h = absurd (cc)
-the_same Async Check h = absurd (cc)
 the_same Async Async h = refl
+the_same _ _ h = absurd (cc)
 
 abbrev place_at : Kind → ℕ → Record → ListPlace
 place_at k handle r = record { due = cond (same_kind k Timer) r.due 0; start = r.start; handle = handle }
@@ -194,9 +183,7 @@ some_kind : (k : Kind) (t : Table) → HasActiveOf k t → not (is_empty (kind_l
 some_kind k t h = active_kind k t (any_of k t h) (ap (λ a. same_kind a k) h.2.kind ∙ own k) where
   own : (k : Kind) → same_kind k k ≡ true
   own Timer = refl
-  own Idle = refl
-  own Check = refl
-  own Async = refl
+  own _ = refl
 
 not_true : (b : Bool) → not b ≡ true → b ≡ true → ⊥
 not_true true h e = (cc)

@@ -1,14 +1,12 @@
 -- No call of a guest takes away what a loop has listed.
-use Rattle.std.proofs.Common.{◌≡◌, ℕ, zero, suc, ◌+◌, ◌≤◌, ◌==◌, Bool, true, false, cond, not, ◌&&◌, ◌⊎◌, inl, inr, List, [], ◌∷◌, ◌++◌, length, map, find}
-use Rattle.std.proofs.Common.{Option, Some, None, refl, sym, ap, subst, ◌∙◌, arith, MatchBool, MatchOption, IsSomeAnd, nat_lt, nat_le, codes, slice_get}
+use Rattle.std.proofs.Common.{◌≡◌, ℕ, zero, suc, ◌+◌, ◌≤◌, ◌==◌, Bool, true, false, cond, not, ◌&&◌, List, [], ◌∷◌, ◌++◌, length, map, find}
+use Rattle.std.proofs.Common.{Option, Some, None, refl, sym, ap, subst, ◌∙◌, arith, MatchBool, MatchOption, IsSomeAnd, slice_get}
 use Rattle.std.specs.Option.{option_map_or, option_or}
 use Rattle.std.specs.FinMap as finite
 use Rattle.std.proofs.lemmas.Bool.{eqb-false}
 use Rattle.std.proofs.lemmas.List.{length_push}
 use Rattle.std.proofs.lemmas.List.Folds.{find-append}
-use Rattle.limits.specs.declared.TheConstants.{MAX_BYTES, MAX_HANDLES, MAX_ASYNCS, MAX_REQUESTS, MAX_EMITS}
-use Rattle.syntax.specs.declared.types.Value.{Value}
-use Rattle.syntax.specs.declared.types.Value.TheVariants.{I32, I64}
+use Rattle.limits.specs.declared.TheConstants.{MAX_HANDLES, MAX_ASYNCS}
 use Rattle.handles.specs.declared.handle.Record.{Record}
 use Rattle.handles.specs.declared.handle.Kind.{Kind}
 use Rattle.handles.specs.declared.handle.Kind.TheVariants as kind
@@ -17,23 +15,18 @@ use Rattle.handles.specs.Table.{after_start, after_stop, after_again, after_clos
 use Rattle.reduction.specs.Run.{HostCall}
 use Rattle.reduction.specs.Hosting.{Lawful}
 use Rattle.imports.specs.declared.call.Call.{Call}
-use Rattle.imports.specs.declared.call.Call.TheVariants.{Now, TimerInit, IdleInit, CheckInit, TimerStart, TimerStop, IdleStop, CheckStop, TimerAgain, IdleStart}
-use Rattle.imports.specs.declared.call.Call.TheVariants.{CheckStart, AsyncInit, AsyncSend, IsActive, Close, QueueWork, Cancel, InLen, InCopy, OutSet, Emit}
 use Rattle.order.specs.declared.uv.answers.TheConstants.{INVALID, NONE_LEFT}
 use Rattle.order.specs.Uv.Bytes.{taken_out}
 use Rattle.order.specs.Work.{WorkOrder}
 use Rattle.tallies.proofs.Requests.{either}
-use Rattle.phases.specs.declared.stage.CancelState.{CancelState}
-use Rattle.phases.specs.declared.stage.CancelState.TheVariants.{Unknown, Pending}
-use Rattle.phases.specs.declared.stage.CancelState.TheVariants as cancel_state
-use Rattle.phases.specs.PhaseList.{exports}
 use Rattle.phases.specs.Requests.{Requests, Request, Stage, Open, Cancelled, has_number, in_stage, with_stage, with_work, is_settled}
 use Rattle.phases.specs.Roster.{Roster, in_table, async_handle, is_open, is_open_of, is_callback, with_handles, with_made, with_async, Makes, MakesAsync, stopped_in, started_in, again_in, closed_in}
 use Rattle.phases.specs.State.{Setting, State}
 use Rattle.phases.specs.Calls.{Calls}
 use Rattle.phases.specs.Guests.{GuestCall, GuestSteps}
-use Rattle.phases.specs.Host.{with_roster, with_requests, emitted_in, next_work, CancelsFrom, Cancels, Opens, QueuesWork, Relates, RelatesWork, Does, DoesTo, CallStep, HostStep}
+use Rattle.phases.specs.Host.{with_roster, with_requests, next_work, CallStep, HostStep}
 use Rattle.phases.specs.Ready.{IsSettledIn, Grows}
+use Rattle.phases.proofs.CallMoves.{RosterStep, stays, makes, makes_async, stops, starts, starts_again, closes, CallMoves, leaves_all, opens, cancels_won, call_moves, call_rest}
 use Rattle.phases.proofs.RosterKeeps.{choose, changed, still_closing, closing_there}
 
 -- steps of it
@@ -258,95 +251,41 @@ module _ (r : Roster) where
         closing = close_closing r.handles handle callback;
       }))
 
--- the answers of requests' calls
-module _ {S : Type 0} (calls : Calls S) where
-  won_or_not : (rs us : Requests) (number : ℕ) (won : Bool) → us ≡ (cond won (with_stage rs number Cancelled) rs) → Settles rs us
-  won_or_not rs us number true e = subst (Settles rs) (sym e) (settles_stage rs number Cancelled refl)
-  won_or_not rs us number false e = settles_same rs us e
-
-  cancels_at : (at : CancelState) (old : Requests × S) (number answer : ℕ) (new : Requests × S) → CancelsFrom calls at old number answer new → Settles old.0 new.0
-  cancels_at Unknown old number answer new h = settles_same old.0 new.0 (ap (λ p. p.0) h.1)
-  cancels_at cancel_state.Answered old number answer new h = settles_same old.0 new.0 (ap (λ p. p.0) h.1)
-  cancels_at (Pending slot) old number answer new h = won_or_not old.0 new.0 number h.0 h.3
-
-  pub settles_cancel : (old : Requests × S) (number answer : ℕ) (new : Requests × S) → Cancels calls old number answer new → Settles old.0 new.0
-  settles_cancel old number answer new h = cancels_at _ old number answer new h
-
-  settles_queue : (g : Setting) (memory : List ℕ) (old : Requests × S) (op place count answer : ℕ) (new : Requests × S) → QueuesWork calls g memory old op place count answer new → Settles old.0 new.0
-  settles_queue g memory old op place count answer new =
-      either (not (exports g.loaded.contents (codes "uv_work") && exports g.loaded.contents (codes "uv_after_work"))) _ _ _ same
-      (either (nat_lt MAX_BYTES count) _ _ _ same
-      (either (nat_lt (length memory) (place + count)) _ _ _ same
-      (either (length old.0.outstanding == MAX_REQUESTS) _ _ _ same
-      (either (old.0.last == 2147483647) _ _ _ same
-      opened)))) where
-        same : {P : Type 0} → P × (new ≡ old) → Settles old.0 new.0
-        same h = settles_same old.0 new.0 (ap (λ p. p.0) h.1)
-
-        opened : {P : Type 0} → (P × (new ≡ old)) ⊎ Opens calls g old op (taken_out place count memory) answer new → Settles old.0 new.0
-        opened (inl h) = same h
-        opened (inr h) = subst (Settles old.0) (sym h.kept) (settles_work old.0 (next_work g old.0 h.slot op (taken_out place count memory)))
+pub holds_after : (r u : Roster) → RosterStep r u → Holds r u
+holds_after r u (stays e) = holds_same r u e
+holds_after r u (makes k answer h) = holds_made k r answer u h
+holds_after r u (makes_async callback answer h) = holds_made_async callback r answer u h
+holds_after r u (stops k handle e) = subst (Holds r) (sym e) (holds_stopped r k handle)
+holds_after r u (starts k handle callback due repeat e) = subst (Holds r) (sym e) (holds_started r k handle callback due repeat)
+holds_after r u (starts_again handle now e) = subst (Holds r) (sym e) (holds_again r handle now)
+holds_after r u (closes handle callback e) = subst (Holds r) (sym e) (holds_closed r handle callback)
 
 -- each call of a guest
-module _ {S : Type 0} (calls : Calls S) (g : Setting) (old : State × S) (call : HostCall) (new : State × S) where
-  to_state : (t : State) → new.0 ≡ t → Grows old.0 t → Grows old.0 new.0
-  to_state t e h = subst (Grows old.0) (sym e) h
+module _ {S : Type 0} (calls : Calls S) (g : Setting) where
+  settles_moves : (old new : Requests × S) (c : GuestCall) → CallMoves calls g old c new → Settles old.0 new.0
+  settles_moves old new c (leaves_all asks never e beside) = settles_same old.0 new.0 e
+  settles_moves old new c (opens op place count slot may is args told e at) = subst (Settles old.0) (sym e) (settles_work old.0 (next_work g old.0 slot op (taken_out place count c.call.before)))
+  settles_moves old new c (cancels_won n q is args told found e at) = subst (Settles old.0) (sym e) (settles_stage old.0 n Cancelled refl)
 
-  stays : new.0 ≡ old.0 → Grows old.0 new.0
-  stays e = to_state old.0 e (grows_refl old.0)
+  pub call_grows : (old : State × S) (call : HostCall) (new : State × S) (f : Call) → CallStep calls g old call new f call.args → Grows old.0 new.0
+  call_grows old call new f h =
+      let rest = call_rest calls g old call new f h in
+      let holds = holds_after old.0.roster new.0.roster rest.roster in
+      record {
+        list = rest.list;
+        phase = rest.phase;
+        callbacks = holds.callbacks;
+        settled = settles_moves (old.0.requests, old.1) (new.0.requests, new.1) (record { function = f; call = call }) (call_moves calls g old call new f h);
+        asyncs = holds.asyncs;
+        few = holds.few;
+        closing = holds.closing;
+      }
 
-  does : (done : ℕ × State) → Grows old.0 done.1 → Does calls g old call new done → Grows old.0 new.0
-  does done grows h = to_state done.1 (ap (λ p. p.0) h.1) grows
+  pub trace_grows : (trace : List HostCall) (old new : State × S) → Lawful (HostStep calls g) trace old new → Grows old.0 new.0
+  trace_grows [] old new h = grows_same old.0 new.0 (ap (λ p. p.0.list) h) (ap (λ p. p.0.phase) h) (ap (λ p. p.0.roster) h) (ap (λ p. p.0.requests) h)
+  trace_grows (call ∷ trace) old new h =
+      grows_on old.0 h.0.0 new.0 (call_grows old call h.0 h.1.0 h.1.2) (trace_grows trace h.0 new h.2)
 
-  does_to : (done : ℕ × Roster) → Holds old.0.roster done.1 → DoesTo calls g old call new done → Grows old.0 new.0
-  does_to done holds = does (done.0, with_roster old.0 done.1) (grows_roster old.0 done.1 holds)
-
-  relates : (R : ℕ → Roster → Type 0) → ((answer : ℕ) (u : Roster) → R answer u → Holds old.0.roster u) → Relates calls g old call new R → Grows old.0 new.0
-  relates R holds h = to_state (with_roster old.0 h.1) (ap (λ p. p.0) h.4) (grows_roster old.0 h.1 (holds h.0 h.1 h.2))
-
-  relates_work : (R : ℕ → Requests × S → Type 0) → ((answer : ℕ) (us : Requests) → R answer (us, new.1) → Settles old.0.requests us) → RelatesWork calls g old call new R → Grows old.0 new.0
-  relates_work R settles h = to_state (with_requests old.0 h.1) h.4 (grows_requests old.0 h.1 (settles h.0 h.1 h.2))
-
-  emits : (value : ℕ) → Grows old.0 (emitted_in value old.0).1
-  emits value =
-      choose (λ (p : ℕ × State). Grows old.0 p.1) (nat_le MAX_EMITS (length old.0.emits)) (NONE_LEFT, old.0) (0, record old.0 { emits = old.0.emits ++ value ∷ [] })
-      (λ _. grows_refl old.0)
-      (λ _. grows_same old.0 (record old.0 { emits = old.0.emits ++ value ∷ [] }) refl refl refl refl)
-
-  pub call_grows : (f : Call) (args : List Value) → CallStep calls g old call new f args → Grows old.0 new.0
-  call_grows Now [] h = stays (ap (λ p. p.0) h.2)
-  call_grows TimerInit [] h = relates _ (holds_made kind.Timer old.0.roster) h
-  call_grows IdleInit [] h = relates _ (holds_made kind.Idle old.0.roster) h
-  call_grows CheckInit [] h = relates _ (holds_made kind.Check old.0.roster) h
-  call_grows TimerStart (I32 handle ∷ I32 callback ∷ I64 timeout ∷ I64 repeat ∷ []) h =
-      does_to _ (holds_started old.0.roster kind.Timer handle callback (saturated (old.0.now + timeout)) repeat) h
-  call_grows TimerStop (I32 handle ∷ []) h = does_to _ (holds_stopped old.0.roster kind.Timer handle) h
-  call_grows IdleStop (I32 handle ∷ []) h = does_to _ (holds_stopped old.0.roster kind.Idle handle) h
-  call_grows CheckStop (I32 handle ∷ []) h = does_to _ (holds_stopped old.0.roster kind.Check handle) h
-  call_grows TimerAgain (I32 handle ∷ []) h = does_to _ (holds_again old.0.roster handle old.0.now) h
-  call_grows IdleStart (I32 handle ∷ I32 callback ∷ []) h = does_to _ (holds_started old.0.roster kind.Idle handle callback 0 0) h
-  call_grows CheckStart (I32 handle ∷ I32 callback ∷ []) h = does_to _ (holds_started old.0.roster kind.Check handle callback 0 0) h
-  call_grows AsyncInit (I32 callback ∷ []) h = relates _ (holds_made_async callback old.0.roster) h
-  call_grows AsyncSend (I32 handle ∷ []) h = stays h.3
-  call_grows IsActive (I32 handle ∷ []) h = does _ (grows_refl old.0) h
-  call_grows Close (I32 handle ∷ I32 callback ∷ []) h = does_to _ (holds_closed old.0.roster handle callback) h
-  call_grows QueueWork (I32 op ∷ I32 place ∷ I32 count ∷ []) h =
-      relates_work (QueuesWork calls g call.before (old.0.requests, old.1) op place count) (λ answer us. settles_queue calls g call.before (old.0.requests, old.1) op place count answer (us, new.1)) h
-  call_grows Cancel (I32 number ∷ []) h = relates_work (Cancels calls (old.0.requests, old.1) number) (λ answer us. settles_cancel calls (old.0.requests, old.1) number answer (us, new.1)) h
-  call_grows InLen [] h = does _ (grows_refl old.0) h
-  call_grows InCopy (I32 to ∷ I32 from ∷ I32 count ∷ []) h = stays (ap (λ p. p.0) h.1)
-  call_grows OutSet (I32 place ∷ I32 count ∷ []) h = does _ (grows_refl old.0) h
-  call_grows Emit (I64 value ∷ []) h = does _ (emits value) h
-  call_grows _ _ h = absurd h
-
-  pub host_grows : HostStep calls g old call new → Grows old.0 new.0
-  host_grows h = call_grows h.0 call.args h.2
-
-pub trace_grows : {S : Type 0} (calls : Calls S) (g : Setting) (trace : List HostCall) (old new : State × S) → Lawful (HostStep calls g) trace old new → Grows old.0 new.0
-trace_grows calls g [] old new h = grows_same old.0 new.0 (ap (λ p. p.0.list) h) (ap (λ p. p.0.phase) h) (ap (λ p. p.0.roster) h) (ap (λ p. p.0.requests) h)
-trace_grows calls g (call ∷ trace) old new h =
-    grows_on old.0 h.0.0 new.0 (host_grows calls g old call h.0 h.1) (trace_grows calls g trace h.0 new h.2)
-
-pub guest_grows : {S : Type 0} (calls : Calls S) (g : Setting) (made : List GuestCall) (old new : State × S) → GuestSteps calls g made old new → Grows old.0 new.0
-guest_grows calls g [] old new h = trace_grows calls g [] old new h
-guest_grows calls g (c ∷ made) old new h = grows_on old.0 h.0.0 new.0 (call_grows calls g old c.call h.0 c.function c.call.args h.1.1) (guest_grows calls g made h.0 new h.2)
+  pub guest_grows : (made : List GuestCall) (old new : State × S) → GuestSteps calls g made old new → Grows old.0 new.0
+  guest_grows [] old new h = trace_grows [] old new h
+  guest_grows (c ∷ made) old new h = grows_on old.0 h.0.0 new.0 (call_grows old c.call h.0 c.function h.1.1) (guest_grows made h.0 new h.2)

@@ -21,7 +21,8 @@ use Rattle.phases.specs.State.{Setting, State, Loop}
 use Rattle.phases.specs.Step.{AfterWork, in_state}
 use Rattle.phases.proofs.EventsKeep.{counted, uncounted, Keeps, kept_by, kept_along}
 use Rattle.phases.proofs.CancelFates.{CancelFate, cancelled, stayed, fate_in}
-use Rattle.phases.proofs.StepFates.{Held, WasWon, after_of, Steps, step_holds, fate_holds, nothing_more}
+use Rattle.phases.proofs.StepFates.{Held, WasWon, Steps, step_holds, fate_holds, nothing_more}
+use Rattle.phases.proofs.StepGoes.{after_of}
 use Rattle.phases.proofs.StepsByCalls.{request_fate}
 use Rattle.phases.proofs.RequestByNumber.{Fits, Same, Stages, numbered, Stands, Owned, fits_more, fits_staged, fits_handed, fits_answered, only_found, found_only}
 
@@ -269,12 +270,7 @@ module _ {S : Type 0} (calls : Calls S) (g : Setting) (r : ℕ) where
       → History calls g mid behind l' → WasCancelled r (e ∷ behind) → ⊥
   late_behind before behind (Stepped did emits made) old mid l' was h is rest =
       (run_held (Unit {0}) ⊥ (Stepped did emits made ∷ []) behind mid l' rest (ran_late before did emits made old mid h was is)).late tt
-  late_behind before behind (OrderAsked order) old mid l' was h is rest = absurd (cc)
-  late_behind before behind (EndOffered o end taken) old mid l' was h is rest = absurd (cc)
-  late_behind before behind (CancelAnswered request answer) old mid l' was h is rest = absurd (cc)
-  late_behind before behind (RequestAnswered op bytes answer) old mid l' was h is rest = absurd (cc)
-  late_behind before behind (ClockRaised ms) old mid l' was h is rest = absurd (cc)
-  late_behind before behind MovedBeside old mid l' was h is rest = absurd (cc)
+  late_behind before behind _ old mid l' was h is rest = absurd (cc)
 
   pub last_after : (l l' : Loop S) (before behind : List Event) (e : Event) → IsOpening calls g l → History calls g l (before ++ e ∷ behind) l'
       → is_after_event r e ≡ true → WasCancelled r (e ∷ behind) → ⊥

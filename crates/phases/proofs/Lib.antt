@@ -3,6 +3,7 @@ pub mod Asyncs
 pub mod RequestsRise
 pub mod CallbacksEnd
 pub mod CancelFates
+pub mod CallMoves
 pub mod PhaseListsAreReady
 pub mod Prepared
 pub mod HostExports
@@ -21,6 +22,7 @@ pub mod Lists
 pub mod AliveMeans
 pub mod Lowest
 pub mod Mirroring
+pub mod StepGoes
 pub mod StepsByCalls
 pub mod StepsInSlices
 pub mod StopsOfCallbacks

@@ -23,12 +23,10 @@ known (Some n) h = (n, refl)
 still_ready : (m : Contents) (s t : State) → Grows s t → (e : Entry) → IsReady m s e → IsReady m t e
 still_ready m s t grows entry.Start h = h
 still_ready m s t grows entry.Main h = h
-still_ready m s t grows (entry.Timer handle start) h = tt
-still_ready m s t grows (entry.Idle handle start) h = tt
-still_ready m s t grows (entry.Check handle start) h = tt
 still_ready m s t grows (entry.After number) h = grows.settled number h
 still_ready m s t grows (entry.Async async_no) h = let it = known (async_handle s.roster async_no) h in ap is_some (grows.asyncs async_no it.0 it.1)
 still_ready m s t grows (entry.Close handle) h = grows.closing handle h
+still_ready m s t grows _ h = tt
 
 pub ready_on : (m : Contents) (s t : State) → Grows s t → AreReady m s → AreReady m t
 ready_on m s t grows ready = record {
@@ -39,13 +37,7 @@ ready_on m s t grows ready = record {
 -- an entry is taken off
 relisted : (m : Contents) (s : State) (list : List Entry) (e : Entry) → IsReady m s e → IsReady m (record s { list = list }) e
 relisted m s list entry.Start h = h
-relisted m s list entry.Main h = h
-relisted m s list (entry.Timer handle start) h = h
-relisted m s list (entry.Idle handle start) h = h
-relisted m s list (entry.Check handle start) h = h
-relisted m s list (entry.After number) h = h
-relisted m s list (entry.Async async_no) h = h
-relisted m s list (entry.Close handle) h = h
+relisted m s list _ h = h
 
 module _ (m : Contents) (s : State) (e : Entry) (rest : List Entry) (ready : AreReady m s) (is : s.list ≡ e ∷ rest) where
   all_ready : All (IsReady m s) (e ∷ rest)
@@ -87,14 +79,11 @@ module _ (m : Contents) (s : State) (number : ℕ) where
   after_removal = with_requests s (without_request s.requests number)
 
   spared_request : (e : Entry) → IsReady m s e → Spares (entry.After number) e → IsReady m after_removal e
-  spared_request entry.Start h apart = h
-  spared_request entry.Main h apart = h
   spared_request (entry.Timer handle start) h apart = tt
   spared_request (entry.Idle handle start) h apart = tt
   spared_request (entry.Check handle start) h apart = tt
   spared_request (entry.After n) h apart = subst IsSettledOne (sym (found_without number n apart s.requests.outstanding)) h
-  spared_request (entry.Async async_no) h apart = h
-  spared_request (entry.Close handle) h apart = h
+  spared_request _ h apart = h
 
   pub ready_without_request : AreReady m s → All (Spares (entry.After number)) s.list → AreReady m (with_requests s (without_request s.requests number))
   ready_without_request ready spared = record {
@@ -108,17 +97,15 @@ module _ (m : Contents) (s : State) (handle : ℕ) where
   close_removal = with_roster s (without_handle s.roster handle)
 
   spared_handle : (e : Entry) → IsReady m s e → Spares (entry.Close handle) e → IsReady m close_removal e
-  spared_handle entry.Start h apart = h
-  spared_handle entry.Main h apart = h
   spared_handle (entry.Timer other start) h apart = tt
   spared_handle (entry.Idle other start) h apart = tt
   spared_handle (entry.Check other start) h apart = tt
-  spared_handle (entry.After n) h apart = h
   spared_handle (entry.Async async_no) h apart = absurd apart
   spared_handle (entry.Close other) h apart = elim (gone_or_same s.roster.handles handle other) [
     | inl here ↦ absurd (apart (sym here.0))
     | inr same ↦ subst (λ (o : Option Record). IsSomeAnd o (λ r. r.closing ≡ true)) (sym same.1) h
   ]
+  spared_handle _ h apart = h
 
   pub ready_without_handle : AreReady m s → All (Spares (entry.Close handle)) s.list → AreReady m (with_roster s (without_handle s.roster handle))
   ready_without_handle ready spared = record {

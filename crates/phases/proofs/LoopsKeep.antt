@@ -34,13 +34,13 @@ use Rattle.order.proofs.FunctionTypes.{has_type}
 use Rattle.events.specs.declared.did.StepDid.TheVariants.{Ran}
 use Rattle.events.specs.declared.phase.EntryKind.{EntryKind}
 use Rattle.phases.specs.declared.entry.Status.{Status}
-use Rattle.phases.specs.declared.entry.Status.TheVariants.{Running, Over, Failed}
+use Rattle.phases.specs.declared.entry.Status.TheVariants.{Running, Over}
 use Rattle.phases.specs.Calls.{Calls, IsLawful}
 use Rattle.phases.specs.Outside.{CancelIn, next_in, next_of, next_order_of}
 use Rattle.phases.specs.Requests.{Requests, Request, Completion, completion_of}
 use Rattle.phases.specs.View.{AreOpenedUpTo}
 use Rattle.phases.specs.Guests.{GuestCall}
-use Rattle.phases.specs.Host.{HostStep, Cancels, cancel_state_of, with_requests}
+use Rattle.phases.specs.Host.{HostStep, Cancels, with_requests}
 use Rattle.phases.specs.Hosting.{Answered}
 use Rattle.phases.specs.Keeping.{KeepsLoop, IsOrderOf, AreOrdersOf}
 use Rattle.events.specs.Phases.{may_end}
@@ -52,7 +52,8 @@ use Rattle.phases.specs.Step.{RunsFrom, begun, finished, turn, handle_function}
 use Rattle.phases.proofs.GuestCallsKeepListed.{grows_on, trace_grows}
 use Rattle.phases.proofs.PhaseListsAreReady.{ready_opening}
 use Rattle.phases.proofs.HostExports.{found_exports}
-use Rattle.phases.proofs.GuestCallsKeep.{served, named, cancels_at_upto}
+use Rattle.phases.proofs.CancelFates.{moves_in, fate_in}
+use Rattle.phases.proofs.GuestCallsKeep.{served, named, moved_upto}
 use Rattle.phases.proofs.OwnerCallsKeepListed.{grows_begun, grows_finished}
 use Rattle.phases.proofs.ListedStaysReady.{ready_on}
 use Rattle.phases.proofs.Runnable.{orders_run, cancelled_orders, handed_order}
@@ -138,11 +139,8 @@ module _ (m : Contents) (f n : ℕ) where
   Fits = TakesArguments m f (I32 n ∷ []) × HasNoResults m f
 
   by_types : (params results : List ValType) → takes_one_number params results ≡ true → (params ≡ valtype.I32 ∷ []) × (results ≡ [])
-  by_types [] results h = absurd (cc)
   by_types (valtype.I32 ∷ []) [] h = (refl, refl)
-  by_types (valtype.I32 ∷ []) (r ∷ results) h = absurd (cc)
-  by_types (valtype.I32 ∷ p ∷ params) results h = absurd (cc)
-  by_types (valtype.I64 ∷ params) results h = absurd (cc)
+  by_types _ _ h = absurd (cc)
 
   typed : (o : Option FuncType) (k : ℕ) → type_of_function m k ≡ o → (cond (option_map_or (λ t. takes_one_number t.params t.results) o false) (Some k) None) ≡ Some f → Fits
   typed None k e h = absurd (cc)
@@ -234,23 +232,13 @@ by_reply P X Y (Err e) a s u pa ps ok err = subst P (sym err.1) ps
 module _ {S : Type 0} (calls : Calls S) (lawful : IsLawful calls) where
   pub cancel_upto : (status : Status) (old new : State × S) (number answer : ℕ) → CancelIn calls status old number answer new
       → AreOpenedUpTo old.0.requests.last (calls.view old.1) → AreOpenedUpTo new.0.requests.last (calls.view new.1)
-  cancel_upto Failed old new number answer h upto = subst (λ (p : State × S). AreOpenedUpTo p.0.requests.last (calls.view p.1)) (sym h.1) upto
-  cancel_upto Running old new number answer h upto =
-      subst (λ (s : State). AreOpenedUpTo s.requests.last (calls.view new.1)) (sym h.2)
-      (cancels_at_upto calls lawful (cancel_state_of old.0.requests number) (old.0.requests, old.1) (h.0, new.1) number answer h.1 upto)
-  cancel_upto Over old new number answer h upto =
-      subst (λ (s : State). AreOpenedUpTo s.requests.last (calls.view new.1)) (sym h.2)
-      (cancels_at_upto calls lawful (cancel_state_of old.0.requests number) (old.0.requests, old.1) (h.0, new.1) number answer h.1 upto)
+  cancel_upto status old new number answer h =
+      moved_upto calls lawful (old.0.requests, old.1) (new.0.requests, new.1) number answer (moves_in calls status old number answer new h)
 
 pub cancel_orders : {S : Type 0} (calls : Calls S) (g : Setting) (status : Status) (old new : State × S) (number answer : ℕ) → CancelIn calls status old number answer new
     → AreOrdersOf g old.0.requests → AreOrdersOf g new.0.requests
-cancel_orders {S} calls g Failed old new number answer h k = subst (λ (p : State × S). AreOrdersOf g p.0.requests) (sym h.1) k
-cancel_orders calls g Running old new number answer h k =
-    subst (λ (s : State). AreOrdersOf g s.requests) (sym h.2)
-    (cancelled_orders g calls (cancel_state_of old.0.requests number) (old.0.requests, old.1) (h.0, new.1) number answer h.1 k)
-cancel_orders calls g Over old new number answer h k =
-    subst (λ (s : State). AreOrdersOf g s.requests) (sym h.2)
-    (cancelled_orders g calls (cancel_state_of old.0.requests number) (old.0.requests, old.1) (h.0, new.1) number answer h.1 k)
+cancel_orders calls g status old new number answer h =
+    cancelled_orders g old.0.requests new.0.requests number answer (fate_in calls status old number answer new h)
 
 -- what is exported is found
 pub not_missing : (d l : Loaded) (g : Setting) → d ≡ l → l ≡ g.loaded → (name : List ℕ) (o : Option ℕ) → MatchOption o (ExportsNothing d.contents name) (ExportsFunction d.contents name)

@@ -17,7 +17,8 @@ use Rattle.phases.specs.Step.{begun, finished}
 use Rattle.phases.specs.Ready.{Grows}
 use Rattle.phases.proofs.RequestsRise.{number_of, found_passes, at_all}
 use Rattle.phases.proofs.PhaseListsAreReady.{found_by_number, IsFoundIn}
-use Rattle.phases.proofs.GuestCallsKeepListed.{IsSettledOne, Settles, picked, settles_stage, settles_cancel, grows_same, grows_refl, grows_requests}
+use Rattle.phases.proofs.CancelFates.{CancelMoves, wins, leaves, moves_of}
+use Rattle.phases.proofs.GuestCallsKeepListed.{IsSettledOne, Settles, picked, settles_stage, settles_same, grows_same, grows_refl, grows_requests}
 
 pub grows_clock : (s : State) (ms : ℕ) → Grows s (after_clock s ms)
 grows_clock s ms = grows_same s (after_clock s ms) refl refl refl refl
@@ -47,9 +48,7 @@ module _ (number : ℕ) (stage : Stage) (n : ℕ) (apart : number ≢ n) where
 
 open_unsettled : (stage : Stage) → is_open_stage stage ≡ true → is_settled stage ≡ true → ⊥
 open_unsettled Open h k = absurd (cc)
-open_unsettled HandedOut h k = absurd (cc)
-open_unsettled (Answered end) h k = absurd (cc)
-open_unsettled Cancelled h k = absurd (cc)
+open_unsettled _ h k = absurd (cc)
 
 module _ (rs : Requests) (kept : AreKept rs) where
   found_here : (r : Request) → lowest_open rs ≡ Some r → IsFoundIn rs.outstanding r
@@ -77,9 +76,14 @@ grows_next s kept = next_grows s.status s kept
 
 -- a request is cancelled
 module _ {S : Type 0} (calls : Calls S) where
+  settles_cancel : (old : Requests × S) (number answer : ℕ) (new : Requests × S) → CancelMoves calls old number answer new → Settles old.0 new.0
+  settles_cancel old number answer new (wins q found won e at) = subst (Settles old.0) (sym e) (settles_stage old.0 number Cancelled refl)
+  settles_cancel old number answer new (leaves refused e beside) = settles_same old.0 new.0 e
+
   cancelled : (old : State × S) (number answer : ℕ) (new : State × S) → CancelIn calls Running old number answer new → Grows old.0 new.0
   cancelled old number answer new h =
-      subst (Grows old.0) (sym h.2) (grows_requests old.0 h.0 (settles_cancel calls (old.0.requests, old.1) number answer (h.0, new.1) h.1))
+      let moves = moves_of calls (old.0.requests, old.1) number answer (h.0, new.1) h.1 in
+      subst (Grows old.0) (sym h.2) (grows_requests old.0 h.0 (settles_cancel (old.0.requests, old.1) number answer (h.0, new.1) moves))
 
   pub grows_cancel : (status : Status) (old : State × S) (number answer : ℕ) (new : State × S) → CancelIn calls status old number answer new → Grows old.0 new.0
   grows_cancel Failed old number answer new h = subst (Grows old.0) (sym (ap (λ p. p.0) h.1)) (grows_refl old.0)

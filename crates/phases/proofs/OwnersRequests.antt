@@ -47,19 +47,19 @@ module _ {S : Type 0} (calls : Calls S) (g : Setting) where
     as_call h = (answer, h.0, h.1, (refl, refl), h.2)
 
     pub request_grows : (status : Status) → RequestIn calls g status old op bytes answer new → Grows old.0 new.0
-    request_grows Running h = call_grows calls g old made.call new QueueWork made.call.args (as_call h)
+    request_grows Running h = call_grows calls g old made.call new QueueWork (as_call h)
     request_grows Over h = subst (Grows old.0) (sym (ap (λ p. p.0) h.1)) (grows_refl old.0)
     request_grows Failed h = subst (Grows old.0) (sym (ap (λ p. p.0) h.1)) (grows_refl old.0)
 
     pub request_upto : IsLawful calls → (status : Status) → RequestIn calls g status old op bytes answer new
         → AreOpenedUpTo old.0.requests.last (calls.view old.1) → AreOpenedUpTo new.0.requests.last (calls.view new.1)
-    request_upto lawful Running h upto = call_upto calls lawful g old made.call new upto QueueWork made.call.args (as_call h)
+    request_upto lawful Running h upto = call_upto calls lawful g old made.call new QueueWork (as_call h) upto
     request_upto lawful Over h upto = subst (λ (p : State × S). AreOpenedUpTo p.0.requests.last (calls.view p.1)) (sym h.1) upto
     request_upto lawful Failed h upto = subst (λ (p : State × S). AreOpenedUpTo p.0.requests.last (calls.view p.1)) (sym h.1) upto
 
     pub request_orders : IsLinked g.loaded.contents → (1 ≤ g.depth) × (g.depth ≤ MAX_DEPTH) → (status : Status) → RequestIn calls g status old op bytes answer new
         → AreOrdersOf g old.0.requests → AreOrdersOf g new.0.requests
-    request_orders linked depth Running h k = call_orders g linked depth calls old made.call new QueueWork made.call.args (as_call h) k
+    request_orders linked depth Running h k = call_orders g linked depth calls old made.call new QueueWork (as_call h) k
     request_orders linked depth Over h k = subst (λ (p : State × S). AreOrdersOf g p.0.requests) (sym h.1) k
     request_orders linked depth Failed h k = subst (λ (p : State × S). AreOrdersOf g p.0.requests) (sym h.1) k
 

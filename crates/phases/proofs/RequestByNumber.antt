@@ -185,9 +185,7 @@ fits_ran r asked won ran early rs given then_early =
 -- the lowest open request is handed out
 is_open : (s : Stage) → is_open_stage s ≡ true → s ≡ Open
 is_open Open h = refl
-is_open HandedOut h = absurd (cc)
-is_open (Answered end) h = absurd (cc)
-is_open Cancelled h = absurd (cc)
+is_open _ h = absurd (cc)
 
 pub fits_handed : (r : ℕ) (asked : WorkOrder → Type 0) (won ran early : Type 0) (rs : Requests) (q : Request) → lowest_open rs ≡ Some q
     → Fits r asked won ran early rs → Fits r asked won ran early (with_stage rs q.order.request HandedOut)

@@ -6,8 +6,8 @@ use Rattle.std.proofs.lemmas.Bool.{eq-eqb, ne_eqb, eqb-true}
 use Rattle.std.proofs.lemmas.List.Elements.{All-filter, All-push, All-set}
 use Rattle.std.proofs.lemmas.Option.{get_or_from_slice_get, slice_get_within}
 use Rattle.limits.specs.declared.TheConstants.{MAX_BYTES, MAX_REQUESTS, MAX_REQUEST_NUMBER}
-use Rattle.order.specs.Work.{WorkOrder, WorkEnd, Done, Trap, Depth, Spent, NoMemory, IsEndOf, IsShortEnd}
-use Rattle.phases.specs.Requests.{Request, Stage, Open, HandedOut, Answered, Cancelled, has_number, in_stage, Completion, cancellation, completion_of, end_completion}
+use Rattle.order.specs.Work.{WorkOrder, WorkEnd, Done, IsEndOf, IsShortEnd}
+use Rattle.phases.specs.Requests.{Request, Stage, Open, Answered, Cancelled, has_number, in_stage, Completion, cancellation, completion_of, end_completion}
 use Rattle.std.proofs.Math.Dec.{eqb-suc-zero}
 use Rattle.phases.specs.PhaseList.{is_empty}
 use Rattle.phases.specs.Fitting.{AreRising, IsRight, IsTrueTo, AreKept}
@@ -223,17 +223,13 @@ removed_there xs last kept p bs at item same h is =
 -- what a callback may read of a request is as short as a reply
 short_end : (end : WorkEnd) → IsShortEnd end → length (end_completion end).bytes ≤ MAX_BYTES
 short_end (Done value bytes) h = h
-short_end (Trap code) h = omega arith
-short_end Depth h = omega arith
-short_end Spent h = omega arith
-short_end NoMemory h = omega arith
+short_end _ h = omega arith
 
 pub short_completion : ((o : WorkOrder) (end : WorkEnd) → ∥ IsEndOf o end ∥₁ → IsShortEnd end) → (o : WorkOrder) (stage : Stage) (t : Completion)
     → IsTrueTo o stage → completion_of stage ≡ Some t → length t.bytes ≤ MAX_BYTES
-short_completion short o Open t right h = absurd (cc)
-short_completion short o HandedOut t right h = absurd (cc)
 short_completion short o (Answered end) t right h = let is : end_completion end ≡ t = cc in subst (λ (u : Completion). length u.bytes ≤ MAX_BYTES) is (short_end end (short o end right))
 short_completion short o Cancelled t right h = let is : cancellation ≡ t = cc in subst (λ (u : Completion). length u.bytes ≤ MAX_BYTES) is (omega arith)
+short_completion short o _ t right h = absurd (cc)
 
 -- where no request has the number, nothing is changed
 pub untouched_all : (stage : Stage) (n : ℕ) (xs : List Request) → find (has_number n) xs ≡ None → map (in_stage n stage) xs ≡ xs

@@ -1,6 +1,6 @@
 -- What a loop has outstanding are orders of the loop, which can be run.
-use Rattle.std.proofs.Common.{◌≡◌, ℕ, suc, ◌+◌, ◌<◌, ◌≤◌, ◌==◌, ◌||◌, ◌&&◌, Bool, true, false, cond, not, ◌⊎◌, inl, inr, List, [], ◌∷◌, length, find, take}
-use Rattle.std.proofs.Common.{drop, All, Option, Some, None, refl, sym, ap, subst, ◌∙◌, MatchBool, MatchOption, nat_lt, codes, slice_get, arith, min}
+use Rattle.std.proofs.Common.{◌≡◌, ℕ, suc, ◌≤◌, ◌||◌, ◌&&◌, Bool, true, false, cond, not, List, [], ◌∷◌, length, find, take}
+use Rattle.std.proofs.Common.{drop, All, Option, Some, None, refl, sym, subst, MatchOption, codes, slice_get, arith, min}
 use Rattle.std.specs.List.{list_any}
 use Rattle.std.specs.Str.{bytes_eq}
 use Rattle.std.proofs.lemmas.Slice.Eq.{bytes_eq-Decides}
@@ -8,23 +8,16 @@ use Rattle.std.proofs.lemmas.Bool.{ltb-false}
 use Rattle.std.proofs.lemmas.List.{length-take}
 use Rattle.std.proofs.lemmas.List.Elements.{All-append, All-map, All-weaker, All-get_or, All-cons, All-head, All-tail, All-filter}
 use Rattle.std.proofs.lemmas.Option.{slice_get_within, get_or_from_slice_get}
-use Rattle.limits.specs.declared.TheConstants.{MAX_DEPTH, MAX_BYTES, MAX_REQUESTS}
-use Rattle.syntax.specs.declared.types.Value.{Value}
-use Rattle.syntax.specs.declared.types.Value.TheVariants.{I32, I64}
+use Rattle.limits.specs.declared.TheConstants.{MAX_DEPTH, MAX_BYTES}
 use Rattle.syntax.specs.declared.contents.Contents.{Contents}
 use Rattle.syntax.specs.declared.contents.ModuleExport.{ModuleExport}
 use Rattle.reduction.specs.Run.{HostCall}
 use Rattle.reduction.specs.Hosting.{Lawful}
 use Rattle.imports.specs.declared.call.Call.{Call}
-use Rattle.imports.specs.declared.call.Call.TheVariants.{Now, TimerInit, IdleInit, CheckInit, TimerStart, TimerStop, IdleStop, CheckStop, TimerAgain, IdleStart}
-use Rattle.imports.specs.declared.call.Call.TheVariants.{CheckStart, AsyncInit, AsyncSend, IsActive, Close, QueueWork, Cancel, InLen, InCopy, OutSet, Emit}
 use Rattle.imports.specs.declared.entry_point.EntryPoint.TheVariants.{Work}
 use Rattle.imports.specs.Linking.{IsLinked, IsCallable, ExportsFunction}
 use Rattle.order.specs.Uv.Bytes.{taken_out}
 use Rattle.order.specs.Work.{WorkOrder}
-use Rattle.phases.specs.declared.stage.CancelState.{CancelState}
-use Rattle.phases.specs.declared.stage.CancelState.TheVariants.{Unknown, Pending}
-use Rattle.phases.specs.declared.stage.CancelState.TheVariants as cancel_state
 use Rattle.phases.specs.PhaseList.{exports}
 use Rattle.phases.specs.Requests.{Requests, Request, Stage, Open, HandedOut, Cancelled, in_stage, has_number, with_stage, with_work, without_request}
 use Rattle.phases.specs.Requests.{lowest_open, is_open_stage, is_settled, request_of}
@@ -33,100 +26,13 @@ use Rattle.phases.specs.Calls.{Calls}
 use Rattle.phases.specs.declared.entry.Status.{Status}
 use Rattle.phases.specs.declared.entry.Status.TheVariants.{Running, Over, Failed}
 use Rattle.phases.specs.Outside.{handing, next_in, next_order_of}
-use Rattle.phases.specs.Host.{next_work, CancelsFrom, Cancels, Opens, QueuesWork, RelatesWork, CallStep, HostStep}
+use Rattle.phases.specs.Host.{next_work, CallStep, HostStep}
 use Rattle.phases.specs.Ready.{IsSettledIn}
 use Rattle.order.specs.Runnable.{CanRun}
 use Rattle.phases.specs.Keeping.{IsOrderOf, AreOrdersOf}
-use Rattle.phases.proofs.GuestCallsKeep.{emitted_requests}
-
-decide : {P Q R : Type 0} (b : Bool) → (b ≡ true → P → R) → (b ≡ false → Q → R) → MatchBool b P Q → R
-decide true f g h = f refl h
-decide false f g h = g refl h
-
--- What each call of a guest makes of the requests: it cancels one, or it opens one of the next order.
-module _ {S : Type 0} (calls : Calls S) (g : Setting) (P : Requests → Type 0)
-    (cancelled : (rs : Requests) (number : ℕ) → P rs → P (with_stage rs number Cancelled))
-    (opened : (rs : Requests) (slot op place count : ℕ) (memory : List ℕ)
-    → (exports g.loaded.contents (codes "uv_work") && exports g.loaded.contents (codes "uv_after_work")) ≡ true → nat_lt MAX_BYTES count ≡ false → slot < MAX_REQUESTS
-    → P rs → P (with_work rs (next_work g rs slot op (taken_out place count memory))))
-  where
-    same : (rs us : Requests) → us ≡ rs → P rs → P us
-    same rs us e h = subst P (sym e) h
-
-    won_or_not : (rs us : Requests) (number : ℕ) (won : Bool) → us ≡ (cond won (with_stage rs number Cancelled) rs) → P rs → P us
-    won_or_not rs us number true e h = subst P (sym e) (cancelled rs number h)
-    won_or_not rs us number false e h = subst P (sym e) h
-
-    cancels_at : (at : CancelState) (old : Requests × S) (number answer : ℕ) (new : Requests × S) → CancelsFrom calls at old number answer new → P old.0 → P new.0
-    cancels_at Unknown old number answer new h = same old.0 new.0 (ap (λ p. p.0) h.1)
-    cancels_at cancel_state.Answered old number answer new h = same old.0 new.0 (ap (λ p. p.0) h.1)
-    cancels_at (Pending slot) old number answer new h = won_or_not old.0 new.0 number h.0 h.3
-
-    after_cancel : (old : Requests × S) (number answer : ℕ) (new : Requests × S) → Cancels calls old number answer new → P old.0 → P new.0
-    after_cancel old number answer new h = cancels_at _ old number answer new h
-
-    after_queue : (memory : List ℕ) (old : Requests × S) (op place count answer : ℕ) (new : Requests × S) → QueuesWork calls g memory old op place count answer new → P old.0 → P new.0
-    after_queue memory old op place count answer new h p =
-        decide (not (exports g.loaded.contents (codes "uv_work") && exports g.loaded.contents (codes "uv_after_work"))) (λ _. unchanged)
-        (λ exported. decide (nat_lt MAX_BYTES count) (λ _. unchanged)
-        (λ few. decide (nat_lt (length memory) (place + count)) (λ _. unchanged)
-        (λ _. decide (length old.0.outstanding == MAX_REQUESTS) (λ _. unchanged)
-        (λ _. decide (old.0.last == 2147483647) (λ _. unchanged)
-        (λ _. done exported few))))) h where
-          unchanged : {Q : Type 0} → Q × (new ≡ old) → P new.0
-          unchanged k = same old.0 new.0 (ap (λ q. q.0) k.1) p
-
-          both : (b : Bool) → not b ≡ false → b ≡ true
-          both true e = refl
-          both false e = absurd (cc)
-
-          done : {Q : Type 0} → not (exports g.loaded.contents (codes "uv_work") && exports g.loaded.contents (codes "uv_after_work")) ≡ false → nat_lt MAX_BYTES count ≡ false
-              → (Q × (new ≡ old)) ⊎ Opens calls g old op (taken_out place count memory) answer new → P new.0
-          done exported few (inl k) = unchanged k
-          done exported few (inr k) = subst P (sym k.kept) (opened old.0 k.slot op place count memory (both _ exported) few k.below p)
-
-    module _ (old : State × S) (call : HostCall) (new : State × S) where
-      to_state : (t : State) → t.requests ≡ old.0.requests → new.0 ≡ t → P old.0.requests → P new.0.requests
-      to_state t kept e h = subst P (sym (ap (λ s. s.requests) e ∙ kept)) h
-
-      of_work : (R : ℕ → Requests × S → Type 0) → ((answer : ℕ) (us : Requests) → R answer (us, new.1) → P old.0.requests → P us)
-          → RelatesWork calls g old call new R → P old.0.requests → P new.0.requests
-      of_work R k h p = subst P (sym (ap (λ s. s.requests) h.4)) (k h.0 h.1 h.2 p)
-
-      of_call : (f : Call) (args : List Value) → CallStep calls g old call new f args → P old.0.requests → P new.0.requests
-      of_call Now [] h = to_state _ refl (ap (λ p. p.0) h.2)
-      of_call TimerInit [] h = to_state _ refl (ap (λ p. p.0) h.4)
-      of_call IdleInit [] h = to_state _ refl (ap (λ p. p.0) h.4)
-      of_call CheckInit [] h = to_state _ refl (ap (λ p. p.0) h.4)
-      of_call TimerStart (I32 handle ∷ I32 callback ∷ I64 timeout ∷ I64 repeat ∷ []) h = to_state _ refl (ap (λ p. p.0) h.1)
-      of_call TimerStop (I32 handle ∷ []) h = to_state _ refl (ap (λ p. p.0) h.1)
-      of_call IdleStop (I32 handle ∷ []) h = to_state _ refl (ap (λ p. p.0) h.1)
-      of_call CheckStop (I32 handle ∷ []) h = to_state _ refl (ap (λ p. p.0) h.1)
-      of_call TimerAgain (I32 handle ∷ []) h = to_state _ refl (ap (λ p. p.0) h.1)
-      of_call IdleStart (I32 handle ∷ I32 callback ∷ []) h = to_state _ refl (ap (λ p. p.0) h.1)
-      of_call CheckStart (I32 handle ∷ I32 callback ∷ []) h = to_state _ refl (ap (λ p. p.0) h.1)
-      of_call AsyncInit (I32 callback ∷ []) h = to_state _ refl (ap (λ p. p.0) h.4)
-      of_call AsyncSend (I32 handle ∷ []) h = to_state _ refl h.3
-      of_call IsActive (I32 handle ∷ []) h = to_state _ refl (ap (λ p. p.0) h.1)
-      of_call Close (I32 handle ∷ I32 callback ∷ []) h = to_state _ refl (ap (λ p. p.0) h.1)
-      of_call QueueWork (I32 op ∷ I32 place ∷ I32 count ∷ []) h =
-          of_work (λ answer after. QueuesWork calls g call.before (old.0.requests, old.1) op place count answer after)
-          (λ answer us. after_queue call.before (old.0.requests, old.1) op place count answer (us, new.1)) h
-      of_call Cancel (I32 number ∷ []) h =
-          of_work (λ answer after. Cancels calls (old.0.requests, old.1) number answer after)
-          (λ answer us. after_cancel (old.0.requests, old.1) number answer (us, new.1)) h
-      of_call InLen [] h = to_state _ refl (ap (λ p. p.0) h.1)
-      of_call InCopy (I32 to ∷ I32 from ∷ I32 count ∷ []) h = to_state _ refl (ap (λ p. p.0) h.1)
-      of_call OutSet (I32 place ∷ I32 count ∷ []) h = to_state _ refl (ap (λ p. p.0) h.1)
-      of_call Emit (I64 value ∷ []) h = to_state _ (emitted_requests value old.0) (ap (λ p. p.0) h.1)
-      of_call _ _ h = absurd h
-
-      pub after_call : HostStep calls g old call new → P old.0.requests → P new.0.requests
-      after_call h = of_call h.0 call.args h.2
-
-    pub after_trace : (trace : List HostCall) (old new : State × S) → Lawful (HostStep calls g) trace old new → P old.0.requests → P new.0.requests
-    after_trace [] old new h p = same old.0.requests new.0.requests (ap (λ q. q.0.requests) h) p
-    after_trace (call ∷ trace) old new h p = after_trace trace h.0 new h.2 (after_call old call h.0 h.1 p)
+use Rattle.phases.specs.Guests.{GuestCall}
+use Rattle.phases.proofs.CallMoves.{CallMoves, leaves_all, opens, cancels_won, MayOpen, call_moves}
+use Rattle.phases.proofs.CancelFates.{CancelFate, cancelled, stayed}
 
 -- what stands among a module's exports under the name of its work function is that function
 at_name : (es : List ModuleExport) (name : List ℕ) → list_any (λ e. bytes_eq e.name name) es ≡ true
@@ -173,15 +79,9 @@ module _ (g : Setting) where
   pub other_orders : (rs : Requests) (number : ℕ) → AreOrdersOf g rs → AreOrdersOf g (without_request rs number)
   other_orders rs number h = All-filter (λ r. not (has_number number r)) (λ (r : Request). IsOrderOf g r.order) rs.outstanding h
 
-  won_orders : (rs us : Requests) (number : ℕ) (won : Bool) → us ≡ (cond won (with_stage rs number Cancelled) rs) → AreOrdersOf g rs → AreOrdersOf g us
-  won_orders rs us number true e h = subst (AreOrdersOf g) (sym e) (staged_orders rs number Cancelled h)
-  won_orders rs us number false e h = subst (AreOrdersOf g) (sym e) h
-
-  pub cancelled_orders : {S : Type 0} (calls : Calls S) (at : CancelState) (old new : Requests × S) (number answer : ℕ)
-      → CancelsFrom calls at old number answer new → AreOrdersOf g old.0 → AreOrdersOf g new.0
-  cancelled_orders calls Unknown old new number answer h k = subst (AreOrdersOf g) (sym (ap (λ p. p.0) h.1)) k
-  cancelled_orders calls cancel_state.Answered old new number answer h k = subst (AreOrdersOf g) (sym (ap (λ p. p.0) h.1)) k
-  cancelled_orders calls (Pending slot) old new number answer h k = won_orders old.0 new.0 number h.0 h.3 k
+  pub cancelled_orders : (rs us : Requests) (number answer : ℕ) → CancelFate rs number answer us → AreOrdersOf g rs → AreOrdersOf g us
+  cancelled_orders rs us number answer (cancelled q found won e) h = subst (AreOrdersOf g) (sym e) (staged_orders rs number Cancelled h)
+  cancelled_orders rs us number answer (stayed refused e) h = subst (AreOrdersOf g) (sym e) h
 
   pub next_orders : (s : State) → AreOrdersOf g s.requests → AreOrdersOf g (next_order_of s).1.requests
   next_orders s h = by_status s.status where
@@ -230,30 +130,36 @@ module _ (g : Setting) (linked : IsLinked g.loaded.contents) (depth : (1 ≤ g.d
   first_of true b e = refl
   first_of false b e = absurd (cc)
 
-  opened_runs : (rs : Requests) (slot op place count : ℕ) (memory : List ℕ)
-      → (exports g.loaded.contents (codes "uv_work") && exports g.loaded.contents (codes "uv_after_work")) ≡ true → nat_lt MAX_BYTES count ≡ false → slot < MAX_REQUESTS
+  opened_runs : (rs : Requests) (slot op place count : ℕ) (memory : List ℕ) → MayOpen g slot count
       → AreOrdersOf g rs → AreOrdersOf g (with_work rs (next_work g rs slot op (taken_out place count memory)))
-  opened_runs rs slot op place count memory exported few below h =
-      let within : count ≤ MAX_BYTES = ltb-false MAX_BYTES count few in
+  opened_runs rs slot op place count memory may h =
+      let within : count ≤ MAX_BYTES = ltb-false MAX_BYTES count may.few in
       let front : length (take count (drop place memory)) ≡ min count (length (drop place memory)) = length-take count (drop place memory) in
       let runs : CanRun (next_work g rs slot op (taken_out place count memory)) = record {
-        work = exports_work g.loaded.contents linked (first_of (exports g.loaded.contents (codes "uv_work")) (exports g.loaded.contents (codes "uv_after_work")) exported);
+        work = exports_work g.loaded.contents linked (first_of (exports g.loaded.contents (codes "uv_work")) (exports g.loaded.contents (codes "uv_after_work")) may.exported);
         bytes = omega arith;
         depth = depth;
       } in
       let one : IsOrderOf g (next_work g rs slot op (taken_out place count memory)) = record {
         loop_no = refl;
-        slot = below;
+        slot = may.below;
         runs = runs;
-        heard = second_of (exports g.loaded.contents (codes "uv_work")) (exports g.loaded.contents (codes "uv_after_work")) exported;
+        heard = second_of (exports g.loaded.contents (codes "uv_work")) (exports g.loaded.contents (codes "uv_after_work")) may.exported;
       } in
       All-append (λ (r : Request). IsOrderOf g r.order) rs.outstanding (record { order = next_work g rs slot op (taken_out place count memory); stage = Open } ∷ []) h
       (All-cons (λ (r : Request). IsOrderOf g r.order) _ [] one (λ i d h. absurd (omega arith)))
 
-  pub orders_run : {S : Type 0} (calls : Calls S) (trace : List HostCall) (old new : State × S) → Lawful (HostStep calls g) trace old new → AreOrdersOf g old.0.requests → AreOrdersOf g new.0.requests
-  orders_run calls trace old new h = after_trace calls g (AreOrdersOf g) (λ rs number. staged_orders g rs number Cancelled) opened_runs trace old new h
+  module _ {S : Type 0} (calls : Calls S) where
+    moved_orders : (old new : Requests × S) (c : GuestCall) → CallMoves calls g old c new → AreOrdersOf g old.0 → AreOrdersOf g new.0
+    moved_orders old new c (leaves_all asks never e beside) h = subst (AreOrdersOf g) (sym e) h
+    moved_orders old new c (opens op place count slot may is args told e at) h =
+        subst (AreOrdersOf g) (sym e) (opened_runs old.0 slot op place count c.call.before may h)
+    moved_orders old new c (cancels_won n q is args told found e at) h = subst (AreOrdersOf g) (sym e) (staged_orders g old.0 n Cancelled h)
 
-  -- the same of one call
-  pub call_orders : {S : Type 0} (calls : Calls S) (old : State × S) (call : HostCall) (new : State × S) (f : Call) (args : List Value)
-      → CallStep calls g old call new f args → AreOrdersOf g old.0.requests → AreOrdersOf g new.0.requests
-  call_orders calls old call new f args h = of_call calls g (AreOrdersOf g) (λ rs number. staged_orders g rs number Cancelled) opened_runs old call new f args h
+    pub call_orders : (old : State × S) (call : HostCall) (new : State × S) (f : Call) → CallStep calls g old call new f call.args → AreOrdersOf g old.0.requests → AreOrdersOf g new.0.requests
+    call_orders old call new f h =
+        moved_orders (old.0.requests, old.1) (new.0.requests, new.1) (record { function = f; call = call }) (call_moves calls g old call new f h)
+
+    pub orders_run : (trace : List HostCall) (old new : State × S) → Lawful (HostStep calls g) trace old new → AreOrdersOf g old.0.requests → AreOrdersOf g new.0.requests
+    orders_run [] old new h p = subst (λ (x : State × S). AreOrdersOf g x.0.requests) (sym h) p
+    orders_run (call ∷ trace) old new h p = orders_run trace h.0 new h.2 (call_orders old call h.0 h.1.0 h.1.2 p)

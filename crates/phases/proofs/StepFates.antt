@@ -1,35 +1,26 @@
 -- What one step of a loop does to the request of one number.
-use Rattle.std.proofs.Common.{◌≡◌, ℕ, ◌≤◌, ◌==◌, Bool, true, false, cond, not, ◌&&◌, inl, inr, ◌⊎◌, List, [], ◌∷◌, ◌++◌, Option, Some, None, refl, sym, ap}
-use Rattle.std.proofs.Common.{subst, ◌∙◌, arith, append_assoc, MatchBool, MatchOption}
+use Rattle.std.proofs.Common.{◌≡◌, ℕ, ◌≤◌, inl, inr, ◌⊎◌, List, [], ◌∷◌, ◌++◌, Option, Some, None, refl, sym, ap}
+use Rattle.std.proofs.Common.{subst, ◌∙◌, arith, append_assoc}
 use Rattle.std.specs.List.{Contains}
 use Rattle.std.proofs.lemmas.List.Elements.{Contains-append_left, Contains-append_cases, Contains-push, Contains-push_cases}
 use Rattle.syntax.specs.declared.types.Value.{Value}
 use Rattle.syntax.specs.declared.types.Value.TheVariants.{I32}
-use Rattle.handles.specs.declared.handle.Kind.TheVariants as handle_kind
-use Rattle.handles.specs.Table.{after_again}
-use Rattle.events.specs.declared.ended.Ended.{Ended}
 use Rattle.order.specs.Work.{WorkOrder}
 use Rattle.order.specs.Uv.Bytes.{taken_out}
 use Rattle.events.specs.declared.did.StepDid.{StepDid}
-use Rattle.events.specs.declared.did.StepDid.TheVariants.{Entered, Ran}
-use Rattle.events.specs.declared.did.StepDid.TheVariants as step
 use Rattle.events.specs.declared.phase.EntryKind.{EntryKind}
 use Rattle.events.specs.declared.phase.EntryKind.TheVariants as kind
 use Rattle.phases.specs.declared.entry.Entry.{Entry}
 use Rattle.phases.specs.declared.entry.Entry.TheVariants as entry
-use Rattle.phases.specs.declared.entry.Status.{Status}
-use Rattle.phases.specs.declared.entry.Status.TheVariants.{Running, Over, Failed}
-use Rattle.phases.specs.Roster.{async_handle, with_handles, without_handle}
 use Rattle.phases.specs.Requests.{Cancelled, Request, Requests, Completion, request_of, without_request, completion_of}
 use Rattle.phases.specs.State.{Setting, State, Loop}
-use Rattle.events.specs.Phases.{may_end, next_phase}
-use Rattle.phases.specs.PhaseList.{is_alive, is_active_handle}
 use Rattle.phases.specs.Calls.{Calls}
-use Rattle.phases.specs.Host.{next_work, with_roster, with_requests}
-use Rattle.phases.specs.Step.{StepsWith, StepIn, ListStep, EntryStep, NextPhase, RunsFrom, CallsBack, CallsHandle, Skips, TakesFirst, AfterWork, in_state}
-use Rattle.phases.specs.Step.{sharing, begun, phase_entered, now_in, is_as_listed, handle_function}
+use Rattle.phases.specs.Host.{next_work, with_requests}
+use Rattle.phases.specs.Step.{StepsWith, RunsFrom, AfterWork, in_state, over}
+use Rattle.phases.specs.Step.{begun}
 use Rattle.phases.specs.Guests.{GuestCall, GuestSteps}
 use Rattle.phases.specs.Laws.{WasAsked, IsCancel}
+use Rattle.phases.proofs.StepGoes.{EntryGoes, skips, runs, works, StepGoes, rests, enters, after_of, same_requests, step_goes}
 use Rattle.phases.proofs.StepsByCalls.{CallFate, changes_nothing, opens_one, cancels_one, call_fate}
 use Rattle.phases.proofs.RequestByNumber.{Fits, Covers, Same, Stages, numbered, fits_more, fits_staged, fits_opened, fits_removed, fits_ran, was_given, only_found}
 
@@ -102,12 +93,7 @@ module _ (g : Setting) (r : ℕ) (L : Type 0) where
     trace_holds ran early made [] old new h f = nothing_more ran early made old.0.requests new.0.requests (ap (λ p. p.0.requests) h) f
     trace_holds ran early made (c ∷ more) old new h f =
         subst (λ cs. Held ran early cs new.0.requests) (append_assoc made (c ∷ []) more)
-        (trace_holds ran early (made ++ c ∷ []) more h.0 new h.2 (fate_holds ran early made c old.0.requests h.0.0.requests (call_fate calls g old c.call h.0 c.function c.call.args refl h.1.1) f))
-
--- what a step tells of an after-work callback
-abbrev pub after_of : StepDid → Option ℕ
-after_of (Ran kind.After number ended) = Some number
-after_of _ = None
+        (trace_holds ran early (made ++ c ∷ []) more h.0 new h.2 (fate_holds ran early made c old.0.requests h.0.0.requests (call_fate calls g old c.call h.0 c.function h.1.1) f))
 
 module _ {S : Type 0} (calls : Calls S) (g : Setting) (r : ℕ) where
   callback_holds : (L ran early : Type 0) (made more : List GuestCall) (old : Loop S) (kind : EntryKind) (number function : ℕ) (args : List Value)
@@ -134,57 +120,11 @@ module _ {S : Type 0} (calls : Calls S) (g : Setting) (r : ℕ) (L : Type 0) whe
     pub held : Held g r L ran early (made ++ more) new.state.requests
     pub after : after_of did ≡ Some r → (e ≡ entry.After r) × WorkedAfter base did more new × Leaves made more new
 
-  module _ (e : Entry) (ran early : Type 0) (made more : List GuestCall) where
-    quiet : (base : Loop S) (did : StepDid) (new : Loop S) → Held g r L ran early (made ++ more) new.state.requests → after_of did ≡ None → Passes e ran early made more base did new
-    quiet base did new held none = record { held = held; after = λ h. absurd (cc) }
-
-    -- a callback that is none of after-work
-    abbrev IsOther : EntryKind → Type 0
-    IsOther kind = (number : ℕ) (ended : Ended) → after_of (Ran kind number ended) ≡ None
-
-    back_passes : (base old : Loop S) (kind : EntryKind) (number : ℕ) (function : Option ℕ) (args : List Value) (did : StepDid) (new : Loop S) → IsOther kind
-        → CallsBack calls g old kind number function args did more new → Held g r L ran early made old.state.requests → Passes e ran early made more base did new
-    back_passes base old kind number None args did new other h f = absurd h
-    back_passes base old kind number (Some k) args did new other h f =
-        quiet base did new (callback_holds calls g r L ran early made more old kind number k args None did new h f) (ap after_of h.told ∙ other number h.ended)
-
-    skips_pass : (base old : Loop S) (kind : EntryKind) (number : ℕ) (did : StepDid) (new : Loop S) → Skips calls g old kind number did more new → Held g r L ran early made old.state.requests
-        → Passes e ran early made more base did new
-    skips_pass base old kind number did new h f =
-        quiet base did new
-        (subst (λ cs. Held g r L ran early (made ++ cs) new.state.requests) (sym h.2) (nothing_more g r L ran early made old.state.requests new.state.requests (ap (λ l. l.state.requests) h.1) f))
-        (ap after_of h.0)
-
-    -- an entry of a handle
-    listed_passes : (base old fired : Loop S) (b : Bool) (kind : EntryKind) (handle : ℕ) (did : StepDid) (new : Loop S) → IsOther kind
-        → Held g r L ran early made old.state.requests → Held g r L ran early made fired.state.requests
-        → MatchBool b (CallsHandle calls g fired old.state.roster kind handle did more new) (Skips calls g old kind handle did more new) → Passes e ran early made more base did new
-    listed_passes base old fired true kind handle did new other f k h = back_passes base fired kind handle (handle_function old.state.roster handle) (I32 handle ∷ []) did new other h k
-    listed_passes base old fired false kind handle did new other f k h = skips_pass base old kind handle did new h f
-
-    counted_passes : (base old : Loop S) (b : Bool) (handle : ℕ) (did : StepDid) (new : Loop S) → Held g r L ran early made old.state.requests
-        → MatchBool b (Skips calls g old kind.Async handle did more new) (CallsHandle calls g old old.state.roster kind.Async handle did more new) → Passes e ran early made more base did new
-    counted_passes base old true handle did new f h = skips_pass base old kind.Async handle did new h f
-    counted_passes base old false handle did new f h = back_passes base old kind.Async handle (handle_function old.state.roster handle) (I32 handle ∷ []) did new (λ number ended. refl) h f
-
-    taking_passes : (old : Loop S) (b : Bool) (async_no handle : ℕ) (did : StepDid) (new : Loop S) → Held g r L ran early made old.state.requests
-        → MatchBool b (TakesFirst calls g old async_no handle did more new) (Skips calls g old kind.Async handle did more new) → Passes e ran early made more old did new
-    taking_passes old true async_no handle did new f h = counted_passes old (sharing old h.1) (h.0 == 0) handle did new f h.3
-    taking_passes old false async_no handle did new f h = skips_pass old old kind.Async handle did new h f
-
-    async_passes : (old : Loop S) (async_no : ℕ) (handle : Option ℕ) (did : StepDid) (new : Loop S) → Held g r L ran early made old.state.requests
-        → MatchOption handle ⊥ (λ handle. MatchBool (is_active_handle old.state.roster.handles (Some handle))
-        (TakesFirst calls g old async_no handle did more new) (Skips calls g old kind.Async handle did more new))
-        → Passes e ran early made more old did new
-    async_passes old async_no None did new f h = absurd h
-    async_passes old async_no (Some handle) did new f h = taking_passes old (is_active_handle old.state.roster.handles (Some handle)) async_no handle did new f h
-
-  work_passes : (ran early : Type 0) (made more : List GuestCall) (old : Loop S) (number : ℕ) (q : Request) (completion : Option Completion) (did : StepDid) (new : Loop S)
-      → request_of old.state.requests number ≡ Some q → completion_of q.stage ≡ completion
-      → AfterWork calls g old number completion did more new → Held g r L ran early made old.state.requests → Passes (entry.After number) ran early made more old did new
-  work_passes ran early made more old number q None did new found told h f = absurd h
-  work_passes ran early made more old number q (Some t) did new found told h f = record {
-    held = runs L ran early made (fits_removed r number (WasAsked g made) (WasWon g r L made) ran early old.state.requests f);
+  work_passes : (ran early : Type 0) (made more : List GuestCall) (old : Loop S) (number : ℕ) (q : Request) (t : Completion) (did : StepDid) (new : Loop S)
+      → request_of old.state.requests number ≡ Some q → completion_of q.stage ≡ Some t
+      → AfterWork calls g old number (Some t) did more new → Held g r L ran early made old.state.requests → Passes (entry.After number) ran early made more old did new
+  work_passes ran early made more old number q t did new found told h f = record {
+    held = runs_on L ran early made (fits_removed r number (WasAsked g made) (WasWon g r L made) ran early old.state.requests f);
     after = λ after.
         let is : number ≡ r = (let it = sym (ap after_of h.2.told) ∙ after in cc) in
         let only = only_found (WasAsked g made) (WasWon g r L made) r old.state.requests q f.owned (ap (request_of old.state.requests) (sym is) ∙ found) in
@@ -192,16 +132,16 @@ module _ {S : Type 0} (calls : Calls S) (g : Setting) (r : ℕ) (L : Type 0) whe
           ap entry.After is,
           record { request = q; only = only; work = rw told (subst (λ k. AfterWork calls g old k (Some t) did more new) is h) },
           record {
-            gone = runs L (Unit {0}) (Unit {0}) made (removed L (Unit {0}) made is given (λ _. tt));
-            late = runs ⊥ (Unit {0}) ⊥ [] (removed ⊥ ⊥ [] is given never);
+            gone = runs_on L (Unit {0}) (Unit {0}) made (removed L (Unit {0}) made is given (λ _. tt));
+            late = runs_on ⊥ (Unit {0}) ⊥ [] (removed ⊥ ⊥ [] is given never);
           },
         );
   } where
     base : Loop S
     base = in_state old (with_requests old.state (without_request old.state.requests number))
 
-    runs : (L ran early : Type 0) (made : List GuestCall) → Held g r L ran early made base.state.requests → Held g r L ran early (made ++ more) new.state.requests
-    runs L ran early made = callback_holds calls g r L ran early made more base kind.After number h.0 (I32 number ∷ I32 t.kind ∷ I32 t.code ∷ []) (Some t.bytes) did new h.2
+    runs_on : (L ran early : Type 0) (made : List GuestCall) → Held g r L ran early made base.state.requests → Held g r L ran early (made ++ more) new.state.requests
+    runs_on L ran early made = callback_holds calls g r L ran early made more base kind.After number h.0 (I32 number ∷ I32 t.kind ∷ I32 t.code ∷ []) (Some t.bytes) did new h.2
 
     removed : (L early : Type 0) (made : List GuestCall) → number ≡ r → r ≤ old.state.requests.last → (WasWon g r L made → early) → Held g r L (Unit {0}) early made base.state.requests
     removed L early made is given then_early =
@@ -212,30 +152,20 @@ module _ {S : Type 0} (calls : Calls S) (g : Setting) (r : ℕ) (L : Type 0) whe
     never (inl h) = h
     never (inr a) = omega (arith, a.1.1)
 
-  after_passes : (ran early : Type 0) (made more : List GuestCall) (old : Loop S) (number : ℕ) (request : Option Request) (did : StepDid) (new : Loop S)
-      → request_of old.state.requests number ≡ request
-      → MatchOption request ⊥ (λ q. AfterWork calls g old number (completion_of q.stage) did more new) → Held g r L ran early made old.state.requests
-      → Passes (entry.After number) ran early made more old did new
-  after_passes ran early made more old number None did new found h f = absurd h
-  after_passes ran early made more old number (Some q) did new found h f = work_passes ran early made more old number q (completion_of q.stage) did new found refl h f
-
-  entry_passes : (ran early : Type 0) (made more : List GuestCall) (old : Loop S) (e : Entry) (did : StepDid) (new : Loop S)
-      → EntryStep calls g old e did more new → Held g r L ran early made old.state.requests
-      → Passes e ran early made more old did new
-  entry_passes ran early made more old entry.Start did new h f = back_passes entry.Start ran early made more old old kind.Start 0 g.loaded.contents.start [] did new (λ number ended. refl) h f
-  entry_passes ran early made more old entry.Main did new h f = back_passes entry.Main ran early made more old old kind.Main 0 (Some h.0) [] did new (λ number ended. refl) h.2 f
-  entry_passes ran early made more old (entry.Timer handle start) did new h f =
-      let fired = in_state old (with_roster old.state (with_handles old.state.roster (after_again old.state.roster.handles handle old.state.now))) in
-      listed_passes (entry.Timer handle start) ran early made more old old fired (is_as_listed handle_kind.Timer old.state.roster handle start) kind.Timer handle did new (λ number ended. refl) f f h
-  entry_passes ran early made more old (entry.Idle handle start) did new h f =
-      listed_passes (entry.Idle handle start) ran early made more old old old (is_as_listed handle_kind.Idle old.state.roster handle start) kind.Idle handle did new (λ number ended. refl) f f h
-  entry_passes ran early made more old (entry.Check handle start) did new h f =
-      listed_passes (entry.Check handle start) ran early made more old old old (is_as_listed handle_kind.Check old.state.roster handle start) kind.Check handle did new (λ number ended. refl) f f h
-  entry_passes ran early made more old (entry.After number) did new h f = after_passes ran early made more old number (request_of old.state.requests number) did new refl h f
-  entry_passes ran early made more old (entry.Async async_no) did new h f = async_passes (entry.Async async_no) ran early made more old async_no (async_handle old.state.roster async_no) did new f h
-  entry_passes ran early made more old (entry.Close handle) did new h f =
-      back_passes (entry.Close handle) ran early made more old (in_state old (with_roster old.state (without_handle old.state.roster handle))) kind.Close
-      handle (handle_function old.state.roster handle) (I32 handle ∷ []) did new (λ number ended. refl) h f
+  entry_passes : (ran early : Type 0) (made more : List GuestCall) (old : Loop S) (e : Entry) (did : StepDid) (new : Loop S) (E : S → S → Type 0)
+      → EntryGoes calls calls g old e did more new E → Held g r L ran early made old.state.requests → Passes e ran early made more old did new
+  entry_passes ran early made more old e did new E (skips taken mid kind number at takes h back) f = record {
+    held = subst (λ cs. Held g r L ran early (made ++ cs) new.state.requests) (sym h.2) (nothing_more g r L ran early made old.state.requests new.state.requests (ap (λ l. l.state.requests) h.1) f);
+    after = λ after. (let none = ap after_of h.0 in absurd (cc));
+  }
+  entry_passes ran early made more old e did new E (runs u taken mid kind number function args prepares other takes h back) f = record {
+    held =
+        callback_holds calls g r L ran early made more (over mid (in_state old u)) kind number function args None did new h
+        (subst (Held g r L ran early made) (sym (same_requests old.state u prepares)) f);
+    after = λ after. (let none = ap after_of h.told ∙ other number h.ended in absurd (cc));
+  }
+  entry_passes ran early made more old e did new E (works number q told is found settled h back) f =
+      subst (λ x. Passes x ran early made more old did new) (sym is) (work_passes ran early made more old number q told did new found settled h f)
 
   -- the same of a whole step, whose entry is taken off the list
   pub record Steps (ran early : Type 0) (made more : List GuestCall) (old : Loop S) (did : StepDid) (new : Loop S) : Type 0 where
@@ -251,34 +181,14 @@ module _ {S : Type 0} (calls : Calls S) (g : Setting) (r : ℕ) (L : Type 0) whe
     after = λ h. absurd (cc);
   }
 
-  abbrev Keeps : Requests → StepDid × State → Type 0
-  Keeps rs p = (after_of p.0 ≡ None) × (p.1.requests ≡ rs)
-
-  turn_steps : (ran early : Type 0) (made more : List GuestCall) (old : Loop S) (did : StepDid) (new : Loop S) → NextPhase calls g old did more new
+  goes_steps : (ran early : Type 0) (made more : List GuestCall) (old : Loop S) (did : StepDid) (new : Loop S) (E : S → S → Type 0) → StepGoes calls calls g old did more new E
       → Held g r L ran early made old.state.requests → Steps ran early made more old did new
-  turn_steps ran early made more old did new h f =
-      let it = turned (may_end old.state.phase && not (is_alive old.state)) in
-      nothing_ran ran early made more old did new (ap (λ l. l.state.requests) h.1 ∙ it.1) h.2 (ap after_of h.0 ∙ it.0) f where
-        turned : (b : Bool) → Keeps old.state.requests (cond b (step.Over, record old.state { status = Over })
-            (Entered (next_phase old.state.phase) (now_in old.state (next_phase old.state.phase)), phase_entered old.state (next_phase old.state.phase)))
-        turned true = (refl, refl)
-        turned false = (refl, refl)
-
-  list_steps : (ran early : Type 0) (made more : List GuestCall) (old : Loop S) (list : List Entry) (did : StepDid) (new : Loop S) → old.state.list ≡ list
-      → ListStep calls g old list did more new → Held g r L ran early made old.state.requests
-      → Steps ran early made more old did new
-  list_steps ran early made more old [] did new is h f = turn_steps ran early made more old did new h f
-  list_steps ran early made more old (e ∷ rest) did new is h f =
-      let it = entry_passes ran early made more (in_state old (record old.state { list = rest })) e did new h f in
+  goes_steps ran early made more old did new E (rests next requests roster none silent e back) f =
+      nothing_ran ran early made more old did new (ap (λ l. l.state.requests) e ∙ requests) silent none f
+  goes_steps ran early made more old did new E (enters e rest is h) f =
+      let it = entry_passes ran early made more (in_state old (record old.state { list = rest })) e did new E h f in
       record { held = it.held; after = λ told. let both = it.after told in (rest, is ∙ ap (λ x. x ∷ rest) both.0, both.1, both.2) }
-
-  status_steps : (ran early : Type 0) (made more : List GuestCall) (status : Status) (old : Loop S) (did : StepDid) (new : Loop S)
-      → StepIn calls g status old did more new → Held g r L ran early made old.state.requests
-      → Steps ran early made more old did new
-  status_steps ran early made more Running old did new h f = list_steps ran early made more old old.state.list did new refl h f
-  status_steps ran early made more Over old did new h f = nothing_ran ran early made more old did new (ap (λ l. l.state.requests) h.1) h.2 (ap after_of h.0) f
-  status_steps ran early made more Failed old did new h f = nothing_ran ran early made more old did new (ap (λ l. l.state.requests) h.1) h.2 (ap after_of h.0) f
 
   pub step_holds : (ran early : Type 0) (made more : List GuestCall) (old : Loop S) (did : StepDid) (new : Loop S) → StepsWith calls g old did more new → Held g r L ran early made old.state.requests
       → Steps ran early made more old did new
-  step_holds ran early made more old did new h f = status_steps ran early made more old.state.status old did new h f
+  step_holds ran early made more old did new h f = goes_steps ran early made more old did new _ (step_goes calls calls g did more new old h) f

@@ -14,7 +14,7 @@ use Rattle.events.specs.declared.ended.Ended.{Ended}
 use Rattle.events.specs.declared.phase.EntryKind.{EntryKind}
 use Rattle.events.specs.Bare.{IsBare}
 use Rattle.events.specs.declared.ended.Ending.{Ending}
-use Rattle.events.specs.declared.ended.Ending.TheVariants.{Return, Trap, Depth, Spent}
+use Rattle.events.specs.declared.ended.Ending.TheVariants.{Return}
 use Rattle.reduction.specs.Invoking.{TakesArguments, HasNoResults, ReturnsTyped}
 use Rattle.reduction.specs.Running.{AreResults}
 use Rattle.syntax.specs.declared.types.ValType.{ValType}
@@ -123,9 +123,7 @@ ended_bare m m' same function args takes bare ending typed =
       bare_of : (end : Ending) (types : List ValType) → AreResults end types → types ≡ [] → IsBare end
       bare_of (Return []) types fit none = refl
       bare_of (Return (value ∷ values)) types fit none = absurd (cc)
-      bare_of (Trap code) types fit none = tt
-      bare_of Depth types fit none = tt
-      bare_of Spent types fit none = tt
+      bare_of _ types fit none = tt
 
 -- a function without results is the module's own
 pub is_defined : (l : Loaded) → IsLinked l.contents → (function : ℕ) (args : List Value) → TakesArguments l.contents function args → HasNoResults l.contents function

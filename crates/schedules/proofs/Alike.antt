@@ -68,22 +68,16 @@ alike_known n ps us qs p u all at at_step =
 pub alike_set : (n : ℕ) (ps : List (Core Desk)) (us : List (Option StepUnderway)) (qs : List (Core Desk)) (p : Core Desk) (u : Option StepUnderway) (q : Core Desk)
     → Alike p u q → AllAlike ps us qs → AllAlike (slice_set ps n p) (slice_set us n u) (slice_set qs n q)
 alike_set n [] [] [] p u q h all = all
-alike_set n [] [] (y ∷ qs) p u q h all = absurd all
-alike_set n [] (v ∷ us) qs p u q h all = absurd all
-alike_set n (x ∷ ps) [] qs p u q h all = absurd all
-alike_set n (x ∷ ps) (v ∷ us) [] p u q h all = absurd all
 alike_set zero (x ∷ ps) (v ∷ us) (y ∷ qs) p u q h all = (h, all.1)
 alike_set (suc n) (x ∷ ps) (v ∷ us) (y ∷ qs) p u q h all = (all.0, alike_set n ps us qs p u q h all.1)
+alike_set n _ _ _ p u q h all = absurd all
 
 -- where no step is under way both are the same
 pub alike_between : (n : ℕ) (ps : List (Core Desk)) (us : List (Option StepUnderway)) (qs : List (Core Desk)) → slice_get us n ≡ Some None → AllAlike ps us qs → slice_get qs n ≡ slice_get ps n
 alike_between n [] [] [] between all = refl
-alike_between n [] [] (y ∷ qs) between all = absurd all
-alike_between n [] (v ∷ us) qs between all = absurd all
-alike_between n (x ∷ ps) [] qs between all = absurd all
-alike_between n (x ∷ ps) (v ∷ us) [] between all = absurd all
 alike_between zero (x ∷ ps) (v ∷ us) (y ∷ qs) between all = let same : v ≡ None = cc in ap Some (subst (λ k. Alike x k y) same all.0)
 alike_between (suc n) (x ∷ ps) (v ∷ us) (y ∷ qs) between all = alike_between n ps us qs between all.1
+alike_between n _ _ _ between all = absurd all
 
 pub alike_open : (settings : List Setting) → AllAlike (map opening_loop settings) (map (λ _. None) settings) (map opening_loop settings)
 alike_open [] = tt

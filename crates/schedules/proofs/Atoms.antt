@@ -50,10 +50,7 @@ silent_as entry told is h l = h l ∙ ap (λ x. log_of l (x ∷ [])) (sym is)
 
 untaken_step : (k n : ℕ) (d : StepDid) (emits : List ℕ) → is_taken_by k (entry_told n d emits) ≡ false
 untaken_step k n (did.Entered phase now) emits = refl
-untaken_step k n (did.Ran kind number ended) emits = refl
-untaken_step k n (did.Skipped kind number) emits = refl
-untaken_step k n did.Over emits = refl
-untaken_step k n did.Failed emits = refl
+untaken_step k n _ emits = refl
 
 module _ (joins : RunsJoin) (all : ℕ) (t : Threads) (ls : List (Core Desk)) (ws : List Worker) (bag : List (Option WorkOrder)) (hand : ℕ → ℕ)
     (alike : AllAlike t.world.loops t.steps ls) (hands : AreHeld all bag hand t.world.workers ws)

@@ -170,9 +170,7 @@ module _ (w w' : World) (s : Stands w) where
             set_workers n Idle (Taken o) at (ap (λ (x : World). x.workers) h.1) (same_given loops)
             (λ k same. (let it : o ≡ k = cc in subst (IsGiven w'.loops) it (same_given loops o given.0)));
       }
-  take n Idle [] entry at is h = only entry (line.Take n None) h
-  take n (Taken o) jobs entry at is h = only entry (line.Take n None) h
-  take n (Started o) jobs entry at is h = only entry (line.Take n None) h
+  take n _ _ entry at is h = only entry (line.Take n None) h
 
   idle : (n : ℕ) (was now : Worker) → slice_get w.workers n ≡ Some was → ((o : WorkOrder) → now ≡ Taken o → ⊥) → w'.loops ≡ w.loops → w'.jobs ≡ w.jobs
       → w'.workers ≡ slice_set w.workers n now → Stands w'

@@ -8,7 +8,8 @@ use Rattle.phases.specs.Requests.{Stage, Request, Requests, has_number, in_stage
 use Rattle.phases.specs.State.{Setting, State, Loop}
 use Rattle.phases.specs.Step.{over}
 use Rattle.phases.proofs.CancelFates.{IsBeside, unmoved, tried, sent, took}
-use Rattle.phases.proofs.StepsByCalls.{CallFate, changes_nothing, opens_one, cancels_one, CallMoves, leaves_all, opens, cancels_won, IsKeptInSteps, IsKeptBy, step_keeps}
+use Rattle.phases.proofs.CallMoves.{CallMoves, leaves_all, opens, cancels_won}
+use Rattle.phases.proofs.StepsByCalls.{CallFate, changes_nothing, opens_one, cancels_one, IsKeptInSteps, IsKeptBy, step_keeps}
 use Rattle.desk.specs.Desk.{Desk}
 use Rattle.schedules.specs.Accesses.{Access, Opens, Cancels, Sends, Takes, listed_calls, StepsBy}
 use Rattle.schedules.proofs.StartsMoveBefore.{OpensOther, OpenOthers}
@@ -109,7 +110,7 @@ module _ (first : ℕ) (all : List Access) where
   call_made : (g : Setting) (made : List GuestCall) (c : GuestCall) (old new : Requests × List Access) → CallMoves listed_calls g old c new
       → Foretold first all old.0 old.1 → Foretold first all new.0 new.1
   call_made g made c old new (leaves_all asks never e beside) h = beside_made old.0 new.0 old.1 new.1 beside (ap (λ rs. rs.last) e) h
-  call_made g made c old new (opens op place count slot is args told e at) h =
+  call_made g made c old new (opens op place count slot may is args told e at) h =
       let more : new.0.last ≡ old.0.last + 1 = ap (λ rs. rs.last) e in
       let low = h.risen in
       made_one old.0 new.0 (Opens slot (old.0.last + 1)) old.1 new.1 at (omega (arith, more)) (λ number le same. omega (arith, low, le, same)) h

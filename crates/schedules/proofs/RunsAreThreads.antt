@@ -20,7 +20,7 @@ use Rattle.world_log.specs.declared.outcome.PostOutcome.TheVariants as post
 use Rattle.world.specs.Guests.{EachRunCalls}
 use Rattle.world.specs.Histories.{IsHistory}
 use Rattle.world.specs.Laws.{RunsJoin}
-use Rattle.world.specs.World.{World, Worker, Idle, Taken, Started, Only, PostsOrder, WorkerTakesJob, StepsLoop, WorldStep, WorldRun, HasLoop, opening_world, with_loop, core}
+use Rattle.world.specs.World.{World, Worker, Idle, Only, PostsOrder, WorkerTakesJob, StepsLoop, WorldStep, WorldRun, HasLoop, opening_world, with_loop, core}
 use Rattle.schedules.specs.Accesses.{Access, AccessMoves, Reach}
 use Rattle.schedules.specs.Laws.{HasThreads, is_full}
 use Rattle.schedules.specs.Schedule.{StepUnderway, Threads, Atom, Begin, Next, End, Whole, MayBe, AtOnce, TakesOne, AtomStep, ThreadsRun, opening_threads}
@@ -124,9 +124,7 @@ module _ (us : List (Option StepUnderway)) (w w' : World) (n : ℕ) (entry : Log
 takes_one : (w w' : World) (n : ℕ) (state : Worker) (jobs : List WorkOrder) (entry : LogEntry) → slice_get w.workers n ≡ Some state → w.jobs ≡ jobs → WorkerTakesJob w n state jobs entry w'
     → TakesOne w n entry w' ⊎ Only w entry (line.Take n None) w'
 takes_one w w' n Idle (o ∷ jobs) entry at is h = inl (record { job = o; before = []; behind = jobs; idle = at; on_way = is; told = h.0; after = h.1 })
-takes_one w w' n Idle [] entry at is h = inr h
-takes_one w w' n (Taken o) jobs entry at is h = inr h
-takes_one w w' n (Started o) jobs entry at is h = inr h
+takes_one w w' n _ _ entry at is h = inr h
 
 not_full : (full : Bool) (entry : LogEntry) (w w' : World) (n : ℕ) (P : Type 0) → is_full entry ≡ false → MatchBool full (Only w entry (line.Post n post.Full) w') P → P
 not_full true entry w w' n P room h = absurd (let it = ap is_full h.0 in cc)

@@ -1,5 +1,5 @@
 -- A send of another thread moves behind the accesses of the loop that take nothing.
-use Rattle.std.proofs.Common.{◌≡◌, ℕ, zero, suc, ◌<◌, Bool, true, false, List, sum, [], ◌∷◌, ◌++◌, refl, sym, ap, subst, ◌∙◌, append_assoc, append-nil}
+use Rattle.std.proofs.Common.{◌≡◌, ℕ, Option, Some, None, zero, suc, ◌<◌, Bool, true, false, List, sum, [], ◌∷◌, ◌++◌, refl, sym, ap, subst, ◌∙◌}
 use Rattle.limits.specs.declared.TheConstants.{MAX_ASYNCS, MAX_SENDS}
 use Rattle.instance.specs.Store.{Store}
 use Rattle.events.specs.declared.did.StepDid.{StepDid}
@@ -10,8 +10,9 @@ use Rattle.tallies.specs.Counts.{raised}
 use Rattle.tallies.specs.Requests.{times}
 use Rattle.desk.specs.Desk.{Desk, is_open_request, opened, cancelled, found_started, started, sent_own, sent_by_another, DeskCancels, DeskSends, DeskGets}
 use Rattle.schedules.specs.Accesses.{Access, Opens, Cancels, Sends, Takes, AccessMoves, listed_calls, StepsBy}
-use Rattle.phases.proofs.Mirroring.{IsMirrored, Anyhow, step_mirrors}
-use Rattle.schedules.proofs.StepsByAccess.{written_calls}
+use Rattle.phases.proofs.CallMoves.{Touch, Stays, ToOpen, ToCancel, ToSend}
+use Rattle.phases.proofs.StepGoes.{TakesOwn}
+use Rattle.phases.proofs.Mirroring.{Chain, step_retraced}
 
 -- others sent to these asyncs, one after another
 abbrev pub Gets : Desk → List ℕ → Desk → Type 0
@@ -37,11 +38,9 @@ IsNoTake (Takes async_no count) = ⊥
 IsNoTake _ = Unit {0}
 
 raise_both : (xs : List ℕ) (a b : ℕ) → raised (raised xs a 1) b 1 ≡ raised (raised xs b 1) a 1
-raise_both [] a b = refl
 raise_both (x ∷ xs) zero zero = refl
-raise_both (x ∷ xs) zero (suc b) = refl
-raise_both (x ∷ xs) (suc a) zero = refl
 raise_both (x ∷ xs) (suc a) (suc b) = ap (λ ys. x ∷ ys) (raise_both xs a b)
+raise_both _ _ _ = refl
 
 -- the access goes first
 abbrev pub First : Desk → ℕ → Access → Desk → Type 0
@@ -94,48 +93,27 @@ abbrev pub TakesFirst : List Access → Type 0
 TakesFirst [] = Unit {0}
 TakesFirst (a ∷ rest) = NoTakes rest
 
-no_takes_push : (done : List Access) (a : Access) → IsNoTake a → NoTakes done → NoTakes (done ++ a ∷ [])
-no_takes_push [] a quiet h = (quiet, tt)
-no_takes_push (x ∷ done) a quiet h = (h.0, no_takes_push done a quiet h.1)
+-- what a guest's calls do takes nothing
+no_takes : (touches : List Touch) (ahead : List Access) → Chain listed_calls touches ahead [] → NoTakes ahead
+no_takes [] ahead h = subst NoTakes h tt
+no_takes (Stays ∷ rest) ahead h = subst NoTakes h.1 (no_takes rest h.0 h.2)
+no_takes (ToOpen slot request ∷ rest) ahead h = subst NoTakes (sym h.1) (tt, no_takes rest h.0 h.2)
+no_takes (ToCancel slot request won ∷ rest) ahead h = subst NoTakes (sym h.1) (tt, no_takes rest h.0 h.2)
+no_takes (ToSend async_no ok ∷ rest) ahead h = subst NoTakes (sym h.1) (tt, no_takes rest h.0 h.2)
 
-takes_push : (done : List Access) (a : Access) → IsNoTake a → TakesFirst done → TakesFirst (done ++ a ∷ [])
-takes_push [] a quiet h = tt
-takes_push (x ∷ done) a quiet h = no_takes_push done a quiet h
+none_first : (accesses : List Access) → NoTakes accesses → TakesFirst accesses
+none_first [] h = tt
+none_first (a ∷ rest) h = h.1
 
-module _ (all : List Access) where
-  abbrev Untouched : (ahead done : List Access) → Type 0
-  Untouched ahead done = (done ≡ []) × (ahead ≡ all)
-
-  abbrev Written : (ahead done : List Access) → Type 0
-  Written ahead done = (done ++ ahead ≡ all) × TakesFirst done
-
-  write : (ahead ahead' done : List Access) (a : Access) → IsNoTake a → Written ahead done → ahead ≡ a ∷ ahead' → (done' : List Access) × (done' ≡ done ++ a ∷ []) × Written ahead' done'
-  write ahead ahead' done a quiet h is = (
-    done ++ a ∷ [],
-    refl,
-    (append_assoc done (a ∷ []) ahead' ∙ ap (λ xs. done ++ xs) (sym is) ∙ h.0, takes_push done a quiet h.1),
-  )
-
-  written : IsMirrored listed_calls written_calls Anyhow Anyhow Untouched Written
-  written = record {
-    begins = λ ahead done h. (ap (λ xs. xs ++ ahead) h.0 ∙ h.1, subst TakesFirst (sym h.0) tt);
-    opens = λ ahead ahead' done slot request c h is. write ahead ahead' done (Opens slot request) tt h is;
-    cancels = λ ahead ahead' done slot request won c h is. write ahead ahead' done (Cancels slot request won) tt h is;
-    sends = λ ahead ahead' done async_no ok c h is. write ahead ahead' done (Sends async_no ok) tt h is;
-    takes = λ ahead ahead' done async_no count c there h is. (
-      Takes async_no count ∷ [],
-      ap (λ xs. xs ++ Takes async_no count ∷ []) (sym h.0),
-      (sym is ∙ h.1, tt),
-    );
-  }
+own_first : (old : Loop (List Access)) (taken : Option (ℕ × ℕ)) (ahead : List Access) → TakesOwn listed_calls old taken ahead → NoTakes ahead → TakesFirst old.shared
+own_first old None ahead same h = none_first old.shared (subst NoTakes same h)
+own_first old (Some taken) ahead is h = subst TakesFirst (sym is.1) h
 
 pub takes_first : (g : Setting) (old : Loop Desk) (accesses : List Access) (did : StepDid) (made : List GuestCall) (state : State) (store : Store)
     → StepsBy g old accesses did made state store → TakesFirst accesses
 takes_first g old accesses did made state store h =
-    let it =
-    step_mirrors listed_calls written_calls g Anyhow Anyhow (Untouched accesses) (Written accesses) (written accesses) (λ made before after k c. tt) (over accesses old) did made
-    (record { state = state; store = store; shared = [] }) [] tt (λ async_no handle is. tt) (refl, refl) h in
-    subst TakesFirst (sym (append-nil it.0) ∙ it.2.0) it.2.1
+    let it = step_retraced listed_calls listed_calls g did made (record { state = state; store = store; shared = [] }) (over accesses old) h in
+    own_first (over accesses old) it.taken it.mid it.takes (no_takes it.touches it.mid it.moved)
 
 -- so one that stands behind others takes nothing
 pub no_take_behind : (a b : Access) (done ahead : List Access) → TakesFirst (b ∷ done ++ a ∷ ahead) → IsNoTake a

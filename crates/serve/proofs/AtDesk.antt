@@ -2,7 +2,7 @@
 use Rattle.std.proofs.Common.{◌≡◌, ℕ, ◌+◌, List, [], ◌∷◌, refl, sym, subst}
 use Rattle.std.specs.Prelude.{slice_index}
 use Rattle.std.proofs.Math.Logic.{∥∥₁_map}
-use Rattle.phases.specs.History.{Event, Stepped, OrderAsked, EndOffered, CancelAnswered, RequestAnswered, ClockRaised, MovedBeside, EventStep}
+use Rattle.phases.specs.History.{Event, CancelAnswered, RequestAnswered, MovedBeside, EventStep}
 use Rattle.phases.specs.State.{Setting, Loop, State}
 use Rattle.phases.specs.Step.{over}
 use Rattle.phases.specs.View.{View}
@@ -32,13 +32,10 @@ module _ (g : Setting) where
 
   -- what a thread does of its own, it does at the desk
   own_goes : (e : Event) (old new : Loop Seats) (d mid : Desk) → IsByThread e old.state → GoesAtDesk g e old new d mid → EventStep busy_calls g e (over d old) (over mid new)
-  own_goes (Stepped did emits made) old new d mid own h = h
-  own_goes (OrderAsked order) old new d mid own h = h
-  own_goes (EndOffered o end taken) old new d mid own h = h
   own_goes (CancelAnswered request answer) old new d mid own h = absurd own
   own_goes (RequestAnswered op bytes answer) old new d mid own h = absurd own
-  own_goes (ClockRaised ms) old new d mid own h = h
   own_goes MovedBeside old new d mid own h = absurd own
+  own_goes _ old new d mid own h = h
 
   goes_on : (events : List Event) (passed : List (Passed Seats)) (old now : Loop Seats) (d e : Desk) → PassesThrough thread_calls g old passed now → AreOwn events old passed
       → PassesAtDesk g old passed d e → ThreadHistory busy_calls g (over d old) events (over e now)
@@ -51,8 +48,6 @@ module _ (g : Setting) where
 
 -- it ends so there
 ends_over : (how : LoopEnding) (now : Loop Seats) (d : Desk) (ran : ℕ) → d.view ≡ thread_calls.view now.shared → EndsBy thread_calls how now ran → EndsBy busy_calls how (over d now) ran
-ends_over ending.Over now d ran known h = h
-ends_over ending.Failed now d ran known h = h
 ends_over ending.Waiting now d ran known h = record {
   phase = h.phase;
   none_due = h.none_due;
@@ -60,7 +55,7 @@ ends_over ending.Waiting now d ran known h = record {
   for_ever = h.for_ever;
   drained = λ a active. subst (λ (v : View). slice_index v.untaken a ≡ 0) (sym known) (h.drained a active);
 }
-ends_over ending.Limit now d ran known h = h
+ends_over _ now d ran known h = h
 
 ends_at_desk : IsAsAtDesk thread_calls → (g : Setting) (how : LoopEnding) (emits : List ℕ) → HasEnded thread_calls g how emits → EndsAtDesk g how emits
 ends_at_desk law g how emits h =

@@ -1,14 +1,13 @@
 -- The after-work callbacks of a loop in one account of all threads.
-use Rattle.std.proofs.Common.{◌≡◌, inl, inr, ℕ, true, List, ◌∷◌, Some, refl, sym, ap, subst, ◌∙◌, arith}
+use Rattle.std.proofs.Common.{◌≡◌, inl, inr, ℕ, true, List, ◌∷◌, Some, refl, sym, ap, subst, ◌∙◌}
 use Rattle.std.specs.Prelude.{slice_get}
 use Rattle.std.specs.List.{Contains}
 use Rattle.std.proofs.lemmas.List.Elements.{Contains-append_left}
 use Rattle.std.proofs.lemmas.Option.{same_Some, slice_get-get_or}
 use Rattle.syntax.specs.Loaded.{Loaded}
 use Rattle.claims.specs.Views.{WorkerView}
-use Rattle.order.specs.Work.{WorkEnd, Done, Trap, Depth, Spent, NoMemory}
+use Rattle.order.specs.Work.{WorkEnd, Done}
 use Rattle.events.specs.declared.did.StepDid.{StepDid}
-use Rattle.phases.specs.declared.completion_kind.TheConstants as kind
 use Rattle.phases.specs.Guests.{GuestCall}
 use Rattle.phases.specs.History.{Event, Stepped, EndOffered, IsOpening}
 use Rattle.phases.specs.Laws.{IsAfterOnce, IsAfterOwn, IsAfterLast, WasCancelled, AreDue}
@@ -25,11 +24,8 @@ use Rattle.serve.proofs.Offered.{offered_end}
 
 -- an end is no cancellation
 ends_apart : (end : WorkEnd) → end_completion end ≡ cancellation → ⊥
-ends_apart (Done value bytes) e = let it : kind.DONE ≡ kind.CANCELLED = ap (λ (c : Completion). c.kind) e in omega (arith, it)
-ends_apart (Trap code) e = let it : kind.TRAP ≡ kind.CANCELLED = ap (λ (c : Completion). c.kind) e in omega (arith, it)
-ends_apart Depth e = let it : kind.DEPTH ≡ kind.CANCELLED = ap (λ (c : Completion). c.kind) e in omega (arith, it)
-ends_apart Spent e = let it : kind.SPENT ≡ kind.CANCELLED = ap (λ (c : Completion). c.kind) e in omega (arith, it)
-ends_apart NoMemory e = let it : kind.NO_MEMORY ≡ kind.CANCELLED = ap (λ (c : Completion). c.kind) e in omega (arith, it)
+ends_apart (Done value bytes) e = let it = ap (λ (c : Completion). c.kind) e in cc
+ends_apart _ e = let it = ap (λ (c : Completion). c.kind) e in cc
 
 -- where a list contains something, it stands somewhere
 place_of : {X : Type 0} (xs : List X) (x : X) → Contains xs x → (i : ℕ) × (slice_get xs i ≡ Some x)

@@ -25,11 +25,9 @@ module _ {A : Type 0} where
   set_here (z ∷ xs) (suc k) x y e = set_here xs k x y e
 
   pub set_there : (xs : List A) (k j : ℕ) (x y : A) → j ≢ k → slice_get (slice_set xs k x) j ≡ Some y → slice_get xs j ≡ Some y
-  set_there [] k j x y other e = e
   set_there (z ∷ xs) zero zero x y other e = absurd (other refl)
-  set_there (z ∷ xs) zero (suc j) x y other e = e
-  set_there (z ∷ xs) (suc k) zero x y other e = e
   set_there (z ∷ xs) (suc k) (suc j) x y other e = set_there xs k j x y (λ s. other (ap suc s)) e
+  set_there _ k j x y other e = e
 
   -- a fact of each place, of a list with one more
   pub each_push : (P : A → Type 0) (xs : List A) (x : A) → ((k : ℕ) (y : A) → slice_get xs k ≡ Some y → P y) → P x

@@ -20,10 +20,8 @@ use Rattle.tallies.proofs.Filtered.{first, find_first, first_passes, filter_kept
 
 -- a stage that a reply has brought
 abbrev WasOffered : List Event → WorkOrder → Stage → Type 0
-WasOffered events o Open = Unit {0}
-WasOffered events o HandedOut = Unit {0}
 WasOffered events o (Answered end) = Contains events (EndOffered o end true)
-WasOffered events o Cancelled = Unit {0}
+WasOffered events o _ = Unit {0}
 
 abbrev FirstOffered : List Event → List Request → Type 0
 FirstOffered events [] = Unit {0}
@@ -33,10 +31,8 @@ abbrev Offered : ℕ → List Event → Requests → Type 0
 Offered r events rs = FirstOffered events (numbered r rs)
 
 stage_more : (events more : List Event) (o : WorkOrder) (s : Stage) → WasOffered events o s → WasOffered (events ++ more) o s
-stage_more events more o Open h = tt
-stage_more events more o HandedOut h = tt
 stage_more events more o (Answered end) h = Contains-append_left events more (EndOffered o end true) h
-stage_more events more o Cancelled h = tt
+stage_more events more o _ h = tt
 
 first_more : (events more : List Event) (qs : List Request) → FirstOffered events qs → FirstOffered (events ++ more) qs
 first_more events more [] h = tt

@@ -26,7 +26,7 @@ use Rattle.phases.specs.declared.loop_core.Accepted.{Accepted}
 use Rattle.phases.specs.declared.loop_core.Accepted.TheVariants as accepted
 use Rattle.phases.specs.Accepting.{Accepts}
 use Rattle.phases.specs.Guests.{GuestCall}
-use Rattle.phases.specs.History.{Event, Stepped, OrderAsked, EndOffered, CancelAnswered, RequestAnswered, ClockRaised, MovedBeside, EventStep, IsOpening, emits_in, emitted}
+use Rattle.phases.specs.History.{Event, Stepped, OrderAsked, EndOffered, ClockRaised, EventStep, IsOpening, emits_in, emitted}
 use Rattle.phases.specs.Outside.{next_order_of, clock_in, after_clock}
 use Rattle.phases.specs.PhaseList.{begin_list, hint_of}
 use Rattle.phases.specs.Roster.{opening_roster}
@@ -63,12 +63,7 @@ callbacks_append events more = sum_by-append (λ x. cond (is_callback_event x) 1
 pub offered_append : (events more : List Event) → offered_in (events ++ more) ≡ offered_in events ++ offered_in more
 offered_append [] more = refl
 offered_append (EndOffered o end taken ∷ events) more = ap (λ xs. (o, end) ∷ xs) (offered_append events more)
-offered_append (Stepped did emits made ∷ events) more = offered_append events more
-offered_append (OrderAsked order ∷ events) more = offered_append events more
-offered_append (CancelAnswered request answer ∷ events) more = offered_append events more
-offered_append (RequestAnswered op bytes answer ∷ events) more = offered_append events more
-offered_append (ClockRaised ms ∷ events) more = offered_append events more
-offered_append (MovedBeside ∷ events) more = offered_append events more
+offered_append (_ ∷ events) more = offered_append events more
 
 -- some moves, and then more
 pub moves_then : (old mid new : LoopRecord) (events more : List Event) → MovesBy old events mid → MovesBy mid more new → MovesBy old (events ++ more) new
@@ -100,10 +95,7 @@ RunsNone d = (kind : EntryKind) (number : ℕ) (ended : Ended) → d ≢ did.Ran
 -- as it is told
 pub tells_other : (d : BareDid) → ((kind : EntryKind) (number : ℕ) (ended : BareEnded) → d ≢ bare.Ran kind number ended) → RunsNone (whole_did d)
 tells_other (bare.Ran of at end) not kind number ended is = absurd (not of at end refl)
-tells_other (bare.Entered phase now) not kind number ended is = absurd (cc)
-tells_other (bare.Skipped of other) not kind number ended is = absurd (cc)
-tells_other bare.Over not kind number ended is = absurd (cc)
-tells_other bare.Failed not kind number ended is = absurd (cc)
+tells_other _ not kind number ended is = absurd (cc)
 
 -- one event
 module _ (old new : LoopRecord) (same : new.core.setting ≡ old.core.setting) where
@@ -146,10 +138,7 @@ module _ (old new : LoopRecord) (same : new.core.setting ≡ old.core.setting) w
         quiet : (d : StepDid) (made : List GuestCall) → RunsNone d
             → (is_callback_event (Stepped d new.core.loop.state.emits made) ≡ false) × (emits_in (Stepped d new.core.loop.state.emits made) ≡ [])
         quiet (did.Ran kind number ended) made none = absurd (none kind number ended refl)
-        quiet (did.Entered phase now) made none = (refl, refl)
-        quiet (did.Skipped kind number) made none = (refl, refl)
-        quiet did.Over made none = (refl, refl)
-        quiet did.Failed made none = (refl, refl)
+        quiet _ made none = (refl, refl)
 
   pub moves_order : (order : Option Order) → option_map order_of order ≡ (next_order_of old.core.loop.state).0 → new.core.loop ≡ record old.core.loop { state = (next_order_of old.core.loop.state).1 }
       → new.ran ≡ old.ran → new.emits.items ≡ old.emits.items → RecordHandsOut old order new

@@ -1,5 +1,5 @@
 -- While nobody else sends, what is taken of an async is the loop's own sends.
-use Rattle.std.proofs.Common.{◌≡◌, ◌≢◌, ◌⊎◌, inl, inr, ℕ, ◌+◌, ◌<◌, ◌≤◌, Bool, true, false, List, [], length, length-set, refl, sym, ap, subst, ◌∙◌, arith}
+use Rattle.std.proofs.Common.{◌≡◌, ◌≢◌, inl, inr, ℕ, ◌+◌, ◌<◌, ◌≤◌, Bool, true, false, List, [], length, length-set, sym, ap, subst, ◌∙◌, arith}
 use Rattle.std.specs.Prelude.{slice_index, slice_set}
 use Rattle.std.proofs.lemmas.Bool.{cases_lt}
 use Rattle.std.proofs.lemmas.List.{get_or-set_same, get_or-set_other, get_or_past}
@@ -115,19 +115,18 @@ nothing_known = record {
 abbrev Stays : Seats → Unit {0} → Type 0
 Stays s t = IsAlone s.taker
 
-kept : IsMirrored thread_calls nothing_known Anyhow Anyhow Stays Stays
+kept : IsMirrored thread_calls nothing_known Anyhow Stays
 kept = record {
-  begins = λ s t r. r;
-  opens = λ s s' t slot request c r h. (tt, tt, subst IsAlone (sym h.1) r);
-  cancels = λ s s' t slot request won c r h. (tt, tt, subst IsAlone (sym h.1) r);
-  sends = λ s s' t a ok c r h. (tt, tt, sends_alone s.taker s'.taker a ok h.0 r);
-  takes = λ s s' t a n c there r h. (tt, tt, takes_alone s.taker s'.taker a n h.0 r);
+  opens = λ s s' t slot request r h. (tt, tt, subst IsAlone (sym h.1) r);
+  cancels = λ s s' t slot request won r h. (tt, tt, subst IsAlone (sym h.1) r);
+  sends = λ s s' t a ok r h. (tt, tt, sends_alone s.taker s'.taker a ok h.0 r);
+  takes = λ s s' t a n there r h. (tt, tt, takes_alone s.taker s'.taker a n h.0 r);
 }
 
 -- so each step of the loop leaves it
 pub step_alone : (g : Setting) (old : Loop Seats) (did : StepDid) (new : Loop Seats) → LoopStep thread_calls g old did new → IsAlone old.shared.taker → IsAlone new.shared.taker
 step_alone g old did new step alone =
-    (step_mirrors thread_calls nothing_known g Anyhow Anyhow Stays Stays kept (λ made before after k c. tt) old did step.0 new tt tt (λ a handle is. tt) alone step.1).2
+    (step_mirrors thread_calls nothing_known g Anyhow Stays kept old did step.0 new tt (λ a handle is. tt) alone step.1).2
 
 -- and it begins so
 pub none_sent : (a : ℕ) → slice_index none_counted a + slice_index none_counted a ≡ slice_index none_counted a

@@ -16,9 +16,9 @@ use Rattle.board.specs.Jobs.{ticket_of}
 use Rattle.board.specs.Views.{HandView, IsWhole}
 use Rattle.board.specs.Boards.{BoardView, PassView, AreHandsOf, AreRepliesWhole}
 use Rattle.board.specs.declared.line.Named.{Named}
-use Rattle.phases.specs.History.{Event, Stepped, OrderAsked, EndOffered, CancelAnswered, RequestAnswered, ClockRaised, MovedBeside}
+use Rattle.phases.specs.History.{Event, EndOffered}
 use Rattle.phases.specs.State.{Setting}
-use Rattle.pool.specs.Turns.{Turn, Dropped, Put, GivenUp, ticket_in, started_by, put_for}
+use Rattle.pool.specs.Turns.{Turn, Put, ticket_in, started_by, put_for}
 use Rattle.serve.specs.declared.served.Served.{Served}
 use Rattle.serve.specs.declared.serving.Serving.{Serving}
 use Rattle.serve.specs.Histories.{HasEnded, thread_calls, setting_at}
@@ -39,10 +39,8 @@ module _ {A B : Type 0} (R : ℕ → A → B → Type 0) where
   -- what is picked of each
   module _ {C : Type 0} (pick : (k : ℕ) (x : A) (y : B) → R k x y → C) where
     abbrev pub picked : (n : ℕ) (xs : List A) (ys : List B) → EachPair R n xs ys → List C
-    picked n [] [] h = []
-    picked n [] (y ∷ ys) h = []
-    picked n (x ∷ xs) [] h = []
     picked n (x ∷ xs) (y ∷ ys) h = pick n x y h.0 ∷ picked (suc n) xs ys h.1
+    picked n _ _ h = []
 
     pub as_many : (n : ℕ) (xs : List A) (ys : List B) (h : EachPair R n xs ys) → length (picked n xs ys h) ≡ length xs
     as_many n [] [] h = refl
@@ -89,24 +87,14 @@ offers_count t (EndOffered o end taken ∷ events) =
     let b = count_cons (λ (x : WorkOrder × WorkEnd). is_ticket t (ticket_for x.0)) (o, end) (offered_in events) in
     let c = offers_count t events in
     omega arith
-offers_count t (Stepped did emits made ∷ events) = let a = count_cons (is_offered t) (Stepped did emits made) events in let c = offers_count t events in omega arith
-offers_count t (OrderAsked order ∷ events) = let a = count_cons (is_offered t) (OrderAsked order) events in let c = offers_count t events in omega arith
-offers_count t (CancelAnswered request answer ∷ events) = let a = count_cons (is_offered t) (CancelAnswered request answer) events in let c = offers_count t events in omega arith
-offers_count t (RequestAnswered op bytes answer ∷ events) = let a = count_cons (is_offered t) (RequestAnswered op bytes answer) events in let c = offers_count t events in omega arith
-offers_count t (ClockRaised ms ∷ events) = let a = count_cons (is_offered t) (ClockRaised ms) events in let c = offers_count t events in omega arith
-offers_count t (MovedBeside ∷ events) = let a = count_cons (is_offered t) MovedBeside events in let c = offers_count t events in omega arith
+offers_count t (e ∷ events) = let a = count_cons (is_offered t) e events in let c = offers_count t events in omega arith
 
 -- the place of an offer among the offers
 offer_place : (events : List Event) (i : ℕ) (o : WorkOrder) (end : WorkEnd) (taken : Bool) → slice_get events i ≡ Some (EndOffered o end taken) → (j : ℕ) × (slice_get (offered_in events) j ≡ Some (o, end))
 offer_place [] i o end taken e = not_there _ e
 offer_place (x ∷ events) zero o end taken e = (0, ap (λ l. slice_get l 0) (ap (λ y. offered_in (y ∷ events)) (same_Some x (EndOffered o end taken) e)))
 offer_place (EndOffered p last was ∷ events) (suc i) o end taken e = let r = offer_place events i o end taken e in (suc r.0, r.1)
-offer_place (Stepped did emits made ∷ events) (suc i) o end taken e = offer_place events i o end taken e
-offer_place (OrderAsked order ∷ events) (suc i) o end taken e = offer_place events i o end taken e
-offer_place (CancelAnswered request answer ∷ events) (suc i) o end taken e = offer_place events i o end taken e
-offer_place (RequestAnswered op bytes answer ∷ events) (suc i) o end taken e = offer_place events i o end taken e
-offer_place (ClockRaised ms ∷ events) (suc i) o end taken e = offer_place events i o end taken e
-offer_place (MovedBeside ∷ events) (suc i) o end taken e = offer_place events i o end taken e
+offer_place (_ ∷ events) (suc i) o end taken e = offer_place events i o end taken e
 
 put_test : (b : Bool) (k : ℕ) (x : Reply) (turns : List Turn) (reply : Reply) → ((i : ℕ) (r : Reply) → slice_get (put_for k turns) i ≡ Some r → (j : ℕ) × (slice_get turns j ≡ Some (Put r)))
     → (i : ℕ) → slice_get (cond b (x ∷ put_for k turns) (put_for k turns)) i ≡ Some reply → (j : ℕ) × (slice_get (Put x ∷ turns) j ≡ Some (Put reply))
@@ -117,9 +105,8 @@ put_test false k x turns reply f i e = let r = f i reply e in (suc r.0, r.1)
 -- the place of a put reply among the turns
 put_place : (k : ℕ) (turns : List Turn) (i : ℕ) (reply : Reply) → slice_get (put_for k turns) i ≡ Some reply → (j : ℕ) × (slice_get turns j ≡ Some (Put reply))
 put_place k [] i reply e = not_there reply e
-put_place k (Dropped t ∷ turns) i reply e = let r = put_place k turns i reply e in (suc r.0, r.1)
-put_place k (GivenUp x ∷ turns) i reply e = let r = put_place k turns i reply e in (suc r.0, r.1)
 put_place k (Put x ∷ turns) i reply e = put_test (x.order.loop_no == k) k x turns reply (put_place k turns) i e
+put_place k (_ ∷ turns) i reply e = let r = put_place k turns i reply e in (suc r.0, r.1)
 
 -- pairs by their place
 pair_at : {A B : Type 0} (R : A → B → Type 0) (xs : List A) (ys : List B) → Pairs R xs ys → (k : ℕ) (x : A) → slice_get xs k ≡ Some x → (y : B) × (slice_get ys k ≡ Some y) × R x y

@@ -1,23 +1,19 @@
 -- What the steps of a turn that runs no callback leave: each active async is taken from, and at its end no own send waits.
-use Rattle.std.proofs.Common.{◌≡◌, ◌≢◌, ◌⊎◌, inl, inr, ℕ, suc, zero, ◌+◌, ◌-◌, ◌<◌, ◌==◌, ◌&&◌, Bool, true, false, cond, not, List, [], ◌∷◌, ◌++◌, map, Option, Some, None}
-use Rattle.std.proofs.Common.{refl, sym, ap, subst, ◌∙◌, arith, slice_get, MatchBool, MatchOption}
+use Rattle.std.proofs.Common.{◌≡◌, ◌≢◌, ◌⊎◌, inl, inr, ℕ, suc, zero, ◌+◌, ◌-◌, ◌<◌, ◌&&◌, Bool, true, false, cond, not, List, [], ◌∷◌, ◌++◌, map, Option, Some, None}
+use Rattle.std.proofs.Common.{refl, sym, ap, subst, ◌∙◌, arith, slice_get}
 use Rattle.std.specs.Prelude.{slice_index, slice_set, filter, nat_le, option_map}
 use Rattle.std.proofs.lemmas.List.{get_or-set_other}
 use native.Mathlib.Decide.{ℕ_discrete}
 use Rattle.limits.specs.declared.TheConstants.{MAX_CALLBACKS}
 use Rattle.syntax.specs.declared.contents.Contents.{Contents}
-use Rattle.syntax.specs.declared.types.Value.{Value}
-use Rattle.syntax.specs.declared.types.Value.TheVariants.{I32}
 use Rattle.handles.specs.declared.handle.Kind.TheVariants as handle_kind
 use Rattle.handles.specs.declared.sorted.ListPlace.{ListPlace}
-use Rattle.handles.specs.Table.{Table, after_again, in_order, due_list, nearest_due, entry as place_entry}
-use Rattle.events.specs.declared.did.Hint.{Hint}
+use Rattle.handles.specs.Table.{Table, in_order, nearest_due, entry as place_entry}
 use Rattle.events.specs.declared.did.Hint.TheVariants.{Now, For, Forever}
 use Rattle.events.specs.declared.did.StepDid.{StepDid}
 use Rattle.events.specs.declared.did.StepDid.TheVariants.{Entered, Ran, Skipped}
 use Rattle.events.specs.declared.did.StepDid.TheVariants as step
 use Rattle.events.specs.declared.ended.Ended.{Ended}
-use Rattle.events.specs.declared.ended.BareEnded.{BareEnded}
 use Rattle.events.specs.declared.phase.EntryKind.{EntryKind}
 use Rattle.events.specs.declared.phase.EntryKind.TheVariants as kind
 use Rattle.events.specs.declared.phase.Phase.{Phase}
@@ -26,14 +22,13 @@ use Rattle.events.specs.Phases.{may_end, next_phase}
 use Rattle.phases.specs.Bare.{whole_did}
 use Rattle.phases.specs.Calls.{Calls, IsLawful}
 use Rattle.phases.specs.Guests.{GuestCall}
-use Rattle.phases.specs.Host.{with_roster, with_requests}
-use Rattle.phases.specs.Outside.{next_in, next_order_of, after_clock}
+use Rattle.phases.specs.Outside.{next_in}
 use Rattle.phases.specs.PhaseList.{is_active_handle, active_from, active_asyncs, poll_list, timers_list, phase_list, handle_entry, until_due, hint_of, is_alive}
-use Rattle.phases.specs.Requests.{Request, Completion, request_of, without_request, completion_of, settled}
-use Rattle.phases.specs.Roster.{Roster, in_table, async_handle, with_handles, without_handle, opening_roster}
+use Rattle.phases.specs.Requests.{settled}
+use Rattle.phases.specs.Roster.{Roster, in_table, async_handle, opening_roster}
 use Rattle.phases.specs.State.{Setting, State, Loop, opening}
-use Rattle.phases.specs.Step.{LoopStep, StepIn, ListStep, EntryStep, NextPhase, CallsBack, CallsHandle, RunsFrom, Skips, TakesFirst, AfterWork}
-use Rattle.phases.specs.Step.{in_state, sharing, in_phase, phase_entered, now_in, turn, is_as_listed, handle_function}
+use Rattle.phases.specs.Step.{LoopStep, StepIn, ListStep}
+use Rattle.phases.specs.Step.{in_state, over, in_phase, phase_entered, now_in, turn}
 use Rattle.phases.specs.View.{View}
 use Rattle.phases.specs.declared.did.BareDid.{BareDid}
 use Rattle.phases.specs.declared.did.BareDid.TheVariants as bare
@@ -41,6 +36,7 @@ use Rattle.phases.specs.declared.entry.Entry.{Entry}
 use Rattle.phases.specs.declared.entry.Entry.TheVariants as entry
 use Rattle.phases.specs.declared.entry.Status.{Status}
 use Rattle.phases.specs.declared.entry.Status.TheVariants.{Running, Over, Failed}
+use Rattle.phases.proofs.StepGoes.{EntryGoes, skips, runs as runs_back, works, SkipsAt, TakesOwn, entry_goes}
 use Rattle.pool.specs.declared.seats.Seats.{Seats}
 use Rattle.pool.specs.SeatsLaw.{seats_lawful}
 use Rattle.serve.specs.Histories.{HasActiveAsync, IsDrained, IsWaiting, thread_calls}
@@ -95,98 +91,34 @@ module _ {S : Type 0} (calls : Calls S) (lawful : IsLawful calls) (g : Setting) 
   abbrev Goes : (old : Loop S) (e : Entry) (did : StepDid) (new : Loop S) → Type 0
   Goes old e did new = ((k : EntryKind) × (number : ℕ) × (ended : Ended) × (did ≡ Ran k number ended)) ⊎ (((k : EntryKind) × (number : ℕ) × (did ≡ Skipped k number)) × IsPassed old e new)
 
-  module _ (did : StepDid) (made : List GuestCall) (new : Loop S) where
-    runs_so : (old at : Loop S) (e : Entry) (k : EntryKind) (number f : ℕ) (args : List Value) (reply : Option (List ℕ)) → RunsFrom calls g at k number f args reply did made new → Goes old e did new
-    runs_so old at e k number f args reply h = inl (k, number, h.ended, h.told)
+  -- what waits at an async is taken
+  passed : (old : Loop S) (e : Entry) (new : Loop S) (taken : Option (ℕ × ℕ)) (mid : S) → SkipsAt old e taken → TakesOwn calls old taken mid → new ≡ over mid old → IsPassed old e new
+  passed old e new None mid idle same is = record {
+    state = ap (λ (l : Loop S). l.state) is;
+    here = λ a at active. (let off = idle a at in absurd (cc));
+    still = λ a none. ap (λ (l : Loop S). untaken l a) is ∙ ap (λ (s : S). slice_index (calls.view s).untaken a) same ∙ none;
+  }
+  passed old e new (Some taken) mid at takes is = record {
+    state = ap (λ (l : Loop S). l.state) is;
+    here = λ a other active. all a ∙ gone a (let same : a ≡ taken.0 = cc in same);
+    still = λ a none. all a ∙ kept a none;
+  } where
+    all : (a : ℕ) → untaken new a ≡ slice_index (slice_set (calls.view old.shared).untaken taken.0 0) a
+    all a = ap (λ (l : Loop S). untaken l a) is ∙ ap (λ (v : View). slice_index v.untaken a) (lawful.takes old.shared mid taken.0 taken.1 takes.1).0
 
-    calls_so : (old at : Loop S) (e : Entry) (k : EntryKind) (number : ℕ) (f : Option ℕ) (args : List Value) → CallsBack calls g at k number f args did made new → Goes old e did new
-    calls_so old at e k number None args h = absurd h
-    calls_so old at e k number (Some f) args h = runs_so old at e k number f args None h
+    gone : (a : ℕ) → a ≡ taken.0 → slice_index (slice_set (calls.view old.shared).untaken taken.0 0) a ≡ 0
+    gone a same = subst (λ m. slice_index (slice_set (calls.view old.shared).untaken taken.0 0) m ≡ 0) (sym same) (emptied (calls.view old.shared).untaken taken.0)
 
-    -- one that is no async's
-    plain : (old : Loop S) (e : Entry) (k : EntryKind) (number : ℕ) → ((a : ℕ) → e ≡ entry.Async a → ⊥) → Skips calls g old k number did made new → Goes old e did new
-    plain old e k number other h = inr (
-      (k, number, h.0),
-      record {
-        state = ap (λ (l : Loop S). l.state) h.1;
-        here = λ a is active. absurd (other a is);
-        still = λ a none. ap (λ (l : Loop S). untaken l a) h.1 ∙ none;
-      },
-    )
+    kept : (a : ℕ) → untaken old a ≡ 0 → slice_index (slice_set (calls.view old.shared).untaken taken.0 0) a ≡ 0
+    kept a none = elim (ℕ_discrete a taken.0) [
+      | yes same ↦ gone a same
+      | no other ↦ get_or-set_other (calls.view old.shared).untaken taken.0 a 0 0 other ∙ none
+    ]
 
-    listed_so : (old fired : Loop S) (r : Roster) (e : Entry) (b : Bool) (k : EntryKind) (handle : ℕ) → ((a : ℕ) → e ≡ entry.Async a → ⊥)
-        → MatchBool b (CallsHandle calls g fired r k handle did made new) (Skips calls g old k handle did made new) → Goes old e did new
-    listed_so old fired r e true k handle other h = calls_so old fired e k handle (handle_function r handle) (I32 handle ∷ []) h
-    listed_so old fired r e false k handle other h = plain old e k handle other h
-
-    -- what waits at an async is taken
-    counted_so : (old : Loop S) (async_no handle count : ℕ) (shared : S) (b : Bool) → calls.takes old.shared async_no count shared
-        → MatchBool b (Skips calls g (sharing old shared) kind.Async handle did made new) (CallsHandle calls g (sharing old shared) old.state.roster kind.Async handle did made new)
-        → Goes old (entry.Async async_no) did new
-    counted_so old async_no handle count shared false took h = calls_so old (sharing old shared) (entry.Async async_no) kind.Async handle (handle_function old.state.roster handle) (I32 handle ∷ []) h
-    counted_so old async_no handle count shared true took h = inr (
-      (kind.Async, handle, h.0),
-      record {
-        state = ap (λ (l : Loop S). l.state) h.1;
-        here = λ a is active. all a ∙ (let same : a ≡ async_no = cc in subst (λ m. slice_index (slice_set (calls.view old.shared).untaken async_no 0) m ≡ 0) (sym same) (emptied (calls.view old.shared).untaken async_no));
-        still = λ a none. all a ∙ kept a none;
-      },
-    ) where
-      all : (a : ℕ) → untaken new a ≡ slice_index (slice_set (calls.view old.shared).untaken async_no 0) a
-      all a = ap (λ (l : Loop S). untaken l a) h.1 ∙ ap (λ (v : View). slice_index v.untaken a) (lawful.takes old.shared shared async_no count took).0
-
-      kept : (a : ℕ) → untaken old a ≡ 0 → slice_index (slice_set (calls.view old.shared).untaken async_no 0) a ≡ 0
-      kept a none = elim (ℕ_discrete a async_no) [
-        | yes same ↦ subst (λ m. slice_index (slice_set (calls.view old.shared).untaken async_no 0) m ≡ 0) (sym same) (emptied (calls.view old.shared).untaken async_no)
-        | no other ↦ get_or-set_other (calls.view old.shared).untaken async_no a 0 0 other ∙ none
-      ]
-
-    taking_so : (old : Loop S) (async_no handle : ℕ) (b : Bool) → async_handle old.state.roster async_no ≡ Some handle → is_active_handle old.state.roster.handles (Some handle) ≡ b
-        → MatchBool b (TakesFirst calls g old async_no handle did made new) (Skips calls g old kind.Async handle did made new) → Goes old (entry.Async async_no) did new
-    taking_so old async_no handle true is active h = counted_so old async_no handle h.0 h.1 (h.0 == 0) h.2 h.3
-    taking_so old async_no handle false is active h = inr (
-      (kind.Async, handle, h.0),
-      record {
-        state = ap (λ (l : Loop S). l.state) h.1;
-        here = λ a same on.
-            let one : a ≡ async_no = cc in
-            let off : is_active_handle old.state.roster.handles (async_handle old.state.roster a) ≡ false = ap (λ m. is_active_handle old.state.roster.handles (async_handle old.state.roster m)) one ∙ ap (is_active_handle old.state.roster.handles) is ∙ active in
-            absurd (cc);
-        still = λ a none. ap (λ (l : Loop S). untaken l a) h.1 ∙ none;
-      },
-    )
-
-    async_so : (old : Loop S) (async_no : ℕ) (handle : Option ℕ) → async_handle old.state.roster async_no ≡ handle
-        → MatchOption handle ⊥ (λ handle. MatchBool (is_active_handle old.state.roster.handles (Some handle)) (TakesFirst calls g old async_no handle did made new)
-        (Skips calls g old kind.Async handle did made new)) → Goes old (entry.Async async_no) did new
-    async_so old async_no None is h = absurd h
-    async_so old async_no (Some handle) is h = taking_so old async_no handle (is_active_handle old.state.roster.handles (Some handle)) is refl h
-
-    work_so : (old : Loop S) (e : Entry) (number : ℕ) (completion : Option Completion) → AfterWork calls g old number completion did made new → Goes old e did new
-    work_so old e number None h = absurd h
-    work_so old e number (Some told) h =
-        runs_so old (in_state old (with_requests old.state (without_request old.state.requests number))) e kind.After number h.0
-        (I32 number ∷ I32 told.kind ∷ I32 told.code ∷ []) (Some told.bytes) h.2
-
-    after_so : (old : Loop S) (e : Entry) (number : ℕ) (request : Option Request) → MatchOption request ⊥ (λ r. AfterWork calls g old number (completion_of r.stage) did made new) → Goes old e did new
-    after_so old e number None h = absurd h
-    after_so old e number (Some r) h = work_so old e number (completion_of r.stage) h
-
-    entry_so : (old : Loop S) (e : Entry) → EntryStep calls g old e did made new → Goes old e did new
-    entry_so old entry.Start h = calls_so old old entry.Start kind.Start 0 g.loaded.contents.start [] h
-    entry_so old entry.Main h = runs_so old old entry.Main kind.Main 0 h.0 [] None h.2
-    entry_so old (entry.Timer handle start) h =
-        listed_so old (in_state old (with_roster old.state (with_handles old.state.roster (after_again old.state.roster.handles handle old.state.now)))) old.state.roster
-        (entry.Timer handle start) (is_as_listed handle_kind.Timer old.state.roster handle start) kind.Timer handle (λ a is. absurd (cc)) h
-    entry_so old (entry.Idle handle start) h =
-        listed_so old old old.state.roster (entry.Idle handle start) (is_as_listed handle_kind.Idle old.state.roster handle start) kind.Idle handle (λ a is. absurd (cc)) h
-    entry_so old (entry.Check handle start) h =
-        listed_so old old old.state.roster (entry.Check handle start) (is_as_listed handle_kind.Check old.state.roster handle start) kind.Check handle (λ a is. absurd (cc)) h
-    entry_so old (entry.After number) h = after_so old (entry.After number) number (request_of old.state.requests number) h
-    entry_so old (entry.Async async_no) h = async_so old async_no (async_handle old.state.roster async_no) refl h
-    entry_so old (entry.Close handle) h =
-        calls_so old (in_state old (with_roster old.state (without_handle old.state.roster handle))) (entry.Close handle) kind.Close handle
-        (handle_function old.state.roster handle) (I32 handle ∷ []) h
+  entry_so : (did : StepDid) (made : List GuestCall) (new old : Loop S) (e : Entry) (E : S → S → Type 0) → EntryGoes calls calls g old e did made new E → Goes old e did new
+  entry_so did made new old e E (skips taken mid kind number at takes h back) = inr ((kind, number, h.0), passed old e new taken mid at takes h.1)
+  entry_so did made new old e E (runs_back u taken mid kind number function args prepares is takes h back) = inl (kind, number, h.ended, h.told)
+  entry_so did made new old e E (works number q told is found settled h back) = inl (kind.After, number, h.2.ended, h.2.told)
 
   -- an entry that is skipped, of this phase and this list
   comes_yet : (old new : Loop S) (e : Entry) (rest : List Entry) (a : ℕ) (p : Phase) → IsPassed (in_state old (record old.state { list = rest })) e new → HasActiveAsync old.state a
@@ -195,9 +127,7 @@ module _ {S : Type 0} (calls : Calls S) (lawful : IsLawful calls) (g : Setting) 
   comes_yet old new e rest a Idle it active h = inl tt
   comes_yet old new e rest a Poll it active (inl is) = inr (it.here a is active)
   comes_yet old new e rest a Poll it active (inr more) = inl more
-  comes_yet old new e rest a Begin it active h = absurd h
-  comes_yet old new e rest a Check it active h = absurd h
-  comes_yet old new e rest a Closing it active h = absurd h
+  comes_yet old new e rest a _ it active h = absurd h
 
   passed_drains : (old new : Loop S) (e : Entry) (rest : List Entry) → old.state.list ≡ e ∷ rest → IsPassed (in_state old (record old.state { list = rest })) e new → Drains calls old → Drains calls new
   passed_drains old new e rest is it drains a active =
@@ -213,14 +143,12 @@ module _ {S : Type 0} (calls : Calls S) (lawful : IsLawful calls) (g : Setting) 
 
   -- a phase whose list is used up
   enters : (s : State) (p : Phase) (a : ℕ) (none : Type 0) → HasActiveAsync s a → IsToCome p [] a ⊎ none → IsToCome (next_phase p) (phase_list (in_phase s (next_phase p)) (next_phase p)) a ⊎ none
-  enters s Begin a none active h = inl tt
-  enters s Closing a none active h = inl tt
-  enters s Timers a none active h = inl tt
   enters s Idle a none active h = inl (polled (in_phase s Poll) a active)
   enters s Poll a none active (inl h) = absurd h
   enters s Poll a none active (inr h) = inr h
   enters s Check a none active (inl h) = absurd h
   enters s Check a none active (inr h) = inr h
+  enters s _ a none active h = inl tt
 
   -- before the timers phase all is taken
   ends_drained : (p : Phase) (a : ℕ) (none : Type 0) → next_phase p ≡ Timers → IsToCome p [] a ⊎ none → none
@@ -228,10 +156,7 @@ module _ {S : Type 0} (calls : Calls S) (lawful : IsLawful calls) (g : Setting) 
   ends_drained Begin a none is (inr h) = h
   ends_drained Closing a none is (inl h) = absurd h
   ends_drained Closing a none is (inr h) = h
-  ends_drained Timers a none is h = absurd (cc)
-  ends_drained Idle a none is h = absurd (cc)
-  ends_drained Poll a none is h = absurd (cc)
-  ends_drained Check a none is h = absurd (cc)
+  ends_drained _ a none is h = absurd (cc)
 
   -- What a quiet step leaves; and where it enters the timers phase, that, with all taken.
   pub record IsQuietStep (old : Loop S) (did : StepDid) (new : Loop S) : Type 0 where
@@ -277,11 +202,14 @@ module _ {S : Type 0} (calls : Calls S) (lawful : IsLawful calls) (g : Setting) 
   list_step : (old : Loop S) (list : List Entry) (did : StepDid) (made : List GuestCall) (new : Loop S) → old.state.list ≡ list → IsQuiet did
       → ListStep calls g old list did made new → IsQuietStep old did new
   list_step old [] did made new is quiet h = turn_step old new is (may_end old.state.phase && not (is_alive old.state)) did (turn old.state) refl h.0 h.1
-  list_step old (e ∷ rest) did made new is quiet h = elim (entry_so did made new (in_state old (record old.state { list = rest })) e h) [
+  list_step old (e ∷ rest) did made new is quiet h = elim (entry_so did made new next e _ (entry_goes calls calls g did made new next e h)) [
     | inl ran ↦ absurd (quiet ran.0 ran.1 ran.2 ran.3)
     | inr passed ↦ skipped passed
   ] where
-    skipped : ((k : EntryKind) × (number : ℕ) × (did ≡ Skipped k number)) × IsPassed (in_state old (record old.state { list = rest })) e new → IsQuietStep old did new
+    next : Loop S
+    next = in_state old (record old.state { list = rest })
+
+    skipped : ((k : EntryKind) × (number : ℕ) × (did ≡ Skipped k number)) × IsPassed next e new → IsQuietStep old did new
     skipped p =
         let told = p.0.2 in
         record {
@@ -301,30 +229,16 @@ module _ {S : Type 0} (calls : Calls S) (lawful : IsLawful calls) (g : Setting) 
 -- the same, as it is told
 pub turn_told : (d : BareDid) → enters_timers d ≡ true → (now : ℕ) × (whole_did d ≡ Entered Timers now)
 turn_told (bare.Entered Timers now) is = (now, refl)
-turn_told (bare.Entered Begin now) is = absurd (cc)
-turn_told (bare.Entered Idle now) is = absurd (cc)
-turn_told (bare.Entered Poll now) is = absurd (cc)
-turn_told (bare.Entered Check now) is = absurd (cc)
-turn_told (bare.Entered Closing now) is = absurd (cc)
-turn_told (bare.Ran of at end) is = absurd (cc)
-turn_told (bare.Skipped of other) is = absurd (cc)
-turn_told bare.Over is = absurd (cc)
-turn_told bare.Failed is = absurd (cc)
+turn_told _ is = absurd (cc)
 
 pub quiet_told : (d : BareDid) → runs d ≡ false → IsQuiet (whole_did d)
 quiet_told (bare.Ran of at end) not kind number ended is = absurd (cc)
-quiet_told (bare.Entered phase now) not kind number ended is = absurd (cc)
-quiet_told (bare.Skipped of other) not kind number ended is = absurd (cc)
-quiet_told bare.Over not kind number ended is = absurd (cc)
-quiet_told bare.Failed not kind number ended is = absurd (cc)
+quiet_told _ not kind number ended is = absurd (cc)
 
 -- a step that enters the timers phase runs nothing
 pub turn_quiet : (d : BareDid) → enters_timers d ≡ true → runs d ≡ false
 turn_quiet (bare.Ran of at end) is = absurd (cc)
-turn_quiet (bare.Entered phase now) is = refl
-turn_quiet (bare.Skipped of other) is = refl
-turn_quiet bare.Over is = refl
-turn_quiet bare.Failed is = refl
+turn_quiet _ is = refl
 
 -- where nothing is to do for ever, no timer is due
 none_near : (due : Option ℕ) (now : ℕ) → until_due due now ≡ Forever → due ≡ None
@@ -356,13 +270,11 @@ goes_still calls l m ran roster phase h = (h.0, λ a active. phase ∙ h.1 a (su
 
 pub handed_roster : (status : Status) (s : State) → (next_in status s).1.roster ≡ s.roster
 handed_roster Failed s = refl
-handed_roster Running s = refl
-handed_roster Over s = refl
+handed_roster _ s = refl
 
 pub handed_phase : (status : Status) (s : State) → (next_in status s).1.phase ≡ s.phase
 handed_phase Failed s = refl
-handed_phase Running s = refl
-handed_phase Over s = refl
+handed_phase _ s = refl
 
 -- a loop that opens goes on
 pub opening_goes : {S : Type 0} (calls : Calls S) (l : Loop S) (m : Contents) (list : List Entry) → l.state ≡ opening (opening_roster m) list → MayGoOn calls l 0

@@ -58,19 +58,15 @@ module _ (j r : ℕ) where
 
   take_silent : (w w' : World) (n : ℕ) (state : Worker) (jobs : List WorkOrder) (entry : LogEntry) → WorkerTakesJob w n state jobs entry w' → Silent entry
   take_silent w w' n Idle (o ∷ jobs) entry h = ap (is_after j r) h.0
-  take_silent w w' n Idle [] entry h = ap (is_after j r) h.0
-  take_silent w w' n (Taken o) jobs entry h = ap (is_after j r) h.0
-  take_silent w w' n (Started o) jobs entry h = ap (is_after j r) h.0
+  take_silent w w' n _ _ entry h = ap (is_after j r) h.0
 
   start_silent : (w w' : World) (n : ℕ) (state : Worker) (entry : LogEntry) → StartsJob w n state entry w' → Silent entry
   start_silent w w' n (Taken o) entry h = either h.3 _ _ (Silent entry) (λ k. ap (is_after j r) k.0) (λ k. ap (is_after j r) k.0) h.6
-  start_silent w w' n Idle entry h = ap (is_after j r) h.0
-  start_silent w w' n (Started o) entry h = ap (is_after j r) h.0
+  start_silent w w' n _ entry h = ap (is_after j r) h.0
 
   finish_silent : (w w' : World) (n : ℕ) (state : Worker) (entry : LogEntry) → FinishesJob w n state entry w' → Silent entry
   finish_silent w w' n (Started o) entry h = ap (is_after j r) h.told
-  finish_silent w w' n Idle entry h = ap (is_after j r) h.0
-  finish_silent w w' n (Taken o) entry h = ap (is_after j r) h.0
+  finish_silent w w' n _ entry h = ap (is_after j r) h.0
 
   collect_silent : (w w' : World) (n : ℕ) (g : Setting) (l : Loop Desk) (replies : List Answer) (entry : LogEntry) → CollectsFrom w n g l replies entry w' → Silent entry
   collect_silent w w' n g l [] entry h = ap (is_after j r) h.0

@@ -24,7 +24,8 @@ use Rattle.phases.specs.State.{Setting, State, Loop, Core}
 use Rattle.phases.specs.Step.{in_state}
 use Rattle.phases.proofs.CancelFates.{CancelMoves, wins, leaves, moves_in}
 use Rattle.phases.proofs.OrdersHandedOnce.{IsLowest, handed_is}
-use Rattle.phases.proofs.StepsByCalls.{CallMoves, leaves_all, opens, cancels_won, IsKeptInSteps, step_keeps}
+use Rattle.phases.proofs.CallMoves.{CallMoves, leaves_all, opens, cancels_won}
+use Rattle.phases.proofs.StepsByCalls.{IsKeptInSteps, step_keeps}
 use Rattle.desk.specs.Desk.{Desk, desk_calls, DeskStarts}
 use Rattle.world_log.specs.declared.step.Step.{Step}
 use Rattle.world_log.specs.declared.step.Step.TheVariants as step
@@ -108,7 +109,7 @@ module _ (l r : ℕ) where
         subst (λ rs. Kept (made ++ c ∷ []) rs new.1) (sym e)
         (apart_still r out (Won log (made ++ c ∷ [])) (Begun log) old.0 old.1 new.1 (beside_still old.1 new.1 beside)
         (apart_less r out (Won log made) (Won log (made ++ c ∷ [])) (Begun log) (Begun log) old.0 old.1 (won_call log made c (never r)) (λ b. b) h))
-    call_keeps made c old new (opens op place count slot is args told e at) h =
+    call_keeps made c old new (opens op place count slot may is args told e at) h =
         subst (λ rs. Kept (made ++ c ∷ []) rs new.1) (sym e)
         (apart_opened r out (Won log (made ++ c ∷ [])) (Begun log) old.0 new.1 (next_work g old.0 slot op (taken_out place count c.call.before)) refl
         (apart_still r out (Won log (made ++ c ∷ [])) (Begun log) old.0 old.1 new.1 (record { cancelled = ap (λ x. x.view.cancelled) at; started = ap (λ x. x.started) at })
@@ -218,10 +219,7 @@ module _ (l r : ℕ) where
 
     step_quiet : (n : ℕ) (told : StepDid) (emits : List ℕ) → (is_begun l r (entry_told n told emits) ≡ false) × (is_cancel_line (entry_told n told emits) ≡ false)
     step_quiet n (did.Entered phase now) emits = (refl, refl)
-    step_quiet n (did.Ran kind number ended) emits = (refl, refl)
-    step_quiet n (did.Skipped kind number) emits = (refl, refl)
-    step_quiet n did.Over emits = (refl, refl)
-    step_quiet n did.Failed emits = (refl, refl)
+    step_quiet n _ emits = (refl, refl)
 
     loop_next : (n : ℕ) (h : StepsLoop w n entry w') → Next (cond (n == l) h.made [])
     loop_next n h = record {
@@ -334,9 +332,7 @@ module _ (l r : ℕ) where
           loops = same_loops (ap (λ (x : World). x.loops) h.1) q;
           there = same_there (ap (λ (x : World). x.loops) h.1) q;
         }
-    take_next n Idle [] is h = only (line.Take n None) refl refl h
-    take_next n (Taken o) jobs is h = only (line.Take n None) refl refl h
-    take_next n (Started o) jobs is h = only (line.Take n None) refl refl h
+    take_next n _ _ is h = only (line.Take n None) refl refl h
 
     -- a worker that has nothing more
     idle : (n : ℕ) → IsQuiet entry → w'.loops ≡ w.loops → w'.jobs ≡ w.jobs → w'.workers ≡ slice_set w.workers n Idle → Next []

@@ -6,7 +6,7 @@ use Rattle.std.specs.List.{Contains, filter}
 use Rattle.std.proofs.lemmas.Bool.{eqb-true}
 use Rattle.std.proofs.lemmas.List.Elements.{Contains-append_left, Contains-push}
 use Rattle.limits.specs.declared.TheConstants.{MAX_JOBS}
-use Rattle.order.specs.Work.{WorkOrder, WorkEnd, Done, Trap, Depth, Spent, NoMemory}
+use Rattle.order.specs.Work.{WorkOrder, WorkEnd, Done}
 use Rattle.tallies.proofs.Requests.{either}
 use Rattle.phases.specs.declared.entry.Status.{Status}
 use Rattle.phases.specs.declared.entry.Status.TheVariants.{Running, Over, Failed}
@@ -181,9 +181,7 @@ module _ (w w' : World) (log : List LogEntry) (entry : LogEntry) (all : AreFinis
 
   take_next : (n : ℕ) (state : Worker) (jobs : List WorkOrder) → WorkerTakesJob w n state jobs entry w' → Next
   take_next n Idle (o ∷ jobs) h = stays (ap (λ (x : World). x.loops) h.1) (ap (λ (x : World). x.replies) h.1)
-  take_next n Idle [] h = only (line.Take n None) h
-  take_next n (Taken o) jobs h = only (line.Take n None) h
-  take_next n (Started o) jobs h = only (line.Take n None) h
+  take_next n _ _ h = only (line.Take n None) h
 
   -- another thread moves what a loop shares
   beside_next : (n : ℕ) (g : Setting) (l m : Loop Desk) → slice_get w.loops n ≡ Some (core g l) → m.state ≡ l.state → w'.loops ≡ slice_set w.loops n (core g m) → w'.replies ≡ w.replies → Next
@@ -196,8 +194,7 @@ module _ (w w' : World) (log : List LogEntry) (entry : LogEntry) (all : AreFinis
   start_next n (Taken o) h =
       either h.3 _ _ Next (λ k. beside_next o.loop_no h.0 h.1 h.2 h.4 h.5.1 (ap (λ (x : World). x.loops) k.1) (ap (λ (x : World). x.replies) k.1))
       (λ k. stays (ap (λ (x : World). x.loops) k.1) (ap (λ (x : World). x.replies) k.1)) h.6
-  start_next n Idle h = only (line.Start n start.Nothing) h
-  start_next n (Started o) h = only (line.Start n start.Nothing) h
+  start_next n _ h = only (line.Start n start.Nothing) h
 
   finish_next : (n : ℕ) (state : Worker) → FinishesJob w n state entry w' → Next
   finish_next n (Started o) h = record {
@@ -207,8 +204,7 @@ module _ (w w' : World) (log : List LogEntry) (entry : LogEntry) (all : AreFinis
         (n, h.ending, h.tells, subst (Contains Log) h.told (Contains-push log entry))
         (replies_later log entry o.loop_no h.replies (all.replies o.loop_no h.replies h.waiting)));
   }
-  finish_next n Idle h = only (line.Finish n finish.Nothing) h
-  finish_next n (Taken o) h = only (line.Finish n finish.Nothing) h
+  finish_next n _ h = only (line.Finish n finish.Nothing) h
 
   collect_next : (n : ℕ) (g : Setting) (l : Loop Desk) (replies : List Answer) → slice_get w.loops n ≡ Some (core g l) → AreReplies Log n replies → CollectsFrom w n g l replies entry w' → Next
   collect_next n g l [] at told h = only (line.Collect n collect.Nothing) h
@@ -274,10 +270,7 @@ finished_after settings workers steps log w run =
 -- no end is given as a cancellation
 no_end : (end : WorkEnd) → cancellation ≡ end_completion end → ⊥
 no_end (Done value bytes) e = (let it = ap (λ (t : Completion). t.kind) e in cc)
-no_end (Trap code) e = (let it = ap (λ (t : Completion). t.kind) e in cc)
-no_end Depth e = (let it = ap (λ (t : Completion). t.kind) e in cc)
-no_end Spent e = (let it = ap (λ (t : Completion). t.kind) e in cc)
-no_end NoMemory e = (let it = ap (λ (t : Completion). t.kind) e in cc)
+no_end _ e = (let it = ap (λ (t : Completion). t.kind) e in cc)
 
 -- what a request is given that was not cancelled
 pub given_end : (log : List LogEntry) (l n : ℕ) (rs : Requests) (q : Request) (t : Completion) (won : Type 0) → AreAnswered log l rs.outstanding

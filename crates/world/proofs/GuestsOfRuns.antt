@@ -20,26 +20,12 @@ guest_calls l w _ _ w' h = []
 
 step_makes : (l : ℕ) (w : World) (s : Step) (entry : LogEntry) (w' : World) (h : WorldStep w s entry w') → StepCalls l w s entry (step_calls l w s entry w' h) w'
 step_makes l w (step.Loop n) entry w' h = (h, refl)
-step_makes l w (step.Post n) entry w' h = (h, refl)
-step_makes l w (step.Take n) entry w' h = (h, refl)
-step_makes l w (step.Start n) entry w' h = (h, refl)
-step_makes l w (step.Finish n) entry w' h = (h, refl)
-step_makes l w (step.Collect n) entry w' h = (h, refl)
-step_makes l w (step.Send n a) entry w' h = (h, refl)
-step_makes l w (step.Cancel n request) entry w' h = (h, refl)
-step_makes l w (step.Clock n ms) entry w' h = (h, refl)
+step_makes l w _ entry w' h = (h, refl)
 
 pub step_of : (l : ℕ) (w : World) (s : Step) (entry : LogEntry) (made : List GuestCall) (w' : World) → StepCalls l w s entry made w'
     → (h : WorldStep w s entry w') × (made ≡ step_calls l w s entry w' h)
 step_of l w (step.Loop n) entry made w' h = (h.0, h.1)
-step_of l w (step.Post n) entry made w' h = (h.0, h.1)
-step_of l w (step.Take n) entry made w' h = (h.0, h.1)
-step_of l w (step.Start n) entry made w' h = (h.0, h.1)
-step_of l w (step.Finish n) entry made w' h = (h.0, h.1)
-step_of l w (step.Collect n) entry made w' h = (h.0, h.1)
-step_of l w (step.Send n a) entry made w' h = (h.0, h.1)
-step_of l w (step.Cancel n request) entry made w' h = (h.0, h.1)
-step_of l w (step.Clock n ms) entry made w' h = (h.0, h.1)
+step_of l w _ entry made w' h = (h.0, h.1)
 
 run_makes : (l : ℕ) (w : World) (steps : List Step) (log : List LogEntry) (w' : World) (run : WorldRun w steps log w') → RunCalls l w steps log (guest_calls l w steps log w' run) w'
 run_makes l w [] [] w' run = (run, refl)

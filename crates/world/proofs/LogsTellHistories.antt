@@ -39,18 +39,8 @@ module _ (j : ℕ) where
 
   -- an after-work callback
   pub step_callback : (r : ℕ) (told : StepDid) (emits : List ℕ) (made : List _) → is_after j r (entry_told j told emits) ≡ is_after_event r (Stepped told emits made)
-  step_callback r (did.Entered phase now) emits made = refl
   step_callback r (did.Ran kind.After number ended) emits made = rw (eq-eqb j j refl) refl
-  step_callback r (did.Ran kind.Start number ended) emits made = refl
-  step_callback r (did.Ran kind.Main number ended) emits made = refl
-  step_callback r (did.Ran kind.Timer number ended) emits made = refl
-  step_callback r (did.Ran kind.Idle number ended) emits made = refl
-  step_callback r (did.Ran kind.Check number ended) emits made = refl
-  step_callback r (did.Ran kind.Async number ended) emits made = refl
-  step_callback r (did.Ran kind.Close number ended) emits made = refl
-  step_callback r (did.Skipped kind number) emits made = refl
-  step_callback r did.Over emits made = refl
-  step_callback r did.Failed emits made = refl
+  step_callback r _ emits made = refl
 
   and_none : (a b : Bool) → a ≡ false → (a && b) ≡ false
   and_none true b h = absurd (cc)
@@ -63,13 +53,11 @@ module _ (j : ℕ) where
   pub tells_callback : (r : ℕ) (entry : LogEntry) (e : Event) → EntryTells j entry e → is_after j r entry ≡ is_after_event r e
   tells_callback r entry (Stepped did emits made) h = ap (is_after j r) h ∙ step_callback r did emits made
   tells_callback r entry (OrderAsked None) h = ap (is_after j r) h
-  tells_callback r entry (OrderAsked (Some o)) h = ap (is_after j r) h
   tells_callback r entry (EndOffered o end true) h = ap (is_after j r) h
-  tells_callback r entry (EndOffered o end false) h = ap (is_after j r) h
-  tells_callback r entry (CancelAnswered request answer) h = ap (is_after j r) h
   tells_callback r entry (RequestAnswered op bytes answer) h = absurd h
   tells_callback r entry (ClockRaised ms) h = ap (is_after j r) h.1
   tells_callback r entry MovedBeside h = others_callback r entry h
+  tells_callback r entry _ h = ap (is_after j r) h
 
   -- a cancel that was answered 0
   abbrev pub IsLine : (r : ℕ) → LogEntry → Type 0
@@ -94,10 +82,7 @@ module _ (j : ℕ) where
 
   step_is_none : (told : StepDid) (emits : List ℕ) → is_cancel_line (entry_told j told emits) ≡ false
   step_is_none (did.Entered phase now) emits = refl
-  step_is_none (did.Ran kind number ended) emits = refl
-  step_is_none (did.Skipped kind number) emits = refl
-  step_is_none did.Over emits = refl
-  step_is_none did.Failed emits = refl
+  step_is_none _ emits = refl
 
   zero_both : (rs rs' : Requests) (n answer : ℕ) → CancelFate rs n answer rs' → cast_signed w32 answer ≡ pos 0 → answer ≡ 0
   zero_both rs rs' n answer (stayed refused e) h = absurd (refused.signed h)

@@ -13,7 +13,7 @@ use Rattle.tallies.proofs.Requests.{either}
 use Rattle.events.specs.declared.did.StepDid.{StepDid}
 use Rattle.events.specs.declared.did.StepDid.TheVariants as did
 use Rattle.phases.specs.Guests.{GuestCall}
-use Rattle.phases.specs.History.{Event, Stepped, OrderAsked, EndOffered, CancelAnswered, RequestAnswered, ClockRaised, MovedBeside, IsOpening}
+use Rattle.phases.specs.History.{Event, Stepped, OrderAsked, EndOffered, RequestAnswered, ClockRaised, MovedBeside, IsOpening}
 use Rattle.phases.specs.Laws.{hands_out}
 use Rattle.phases.specs.Laws.{IsHandedOnce as LoopHandedOnce, IsHandedOwn as LoopHandedOwn}
 use Rattle.phases.specs.Outside.{is_failed, next_order_of}
@@ -151,10 +151,7 @@ module _ (l r : ℕ) where
 
   step_quiet : (n : ℕ) (told : StepDid) (emits : List ℕ) → IsQuiet (entry_told n told emits)
   step_quiet n (did.Entered phase now) emits = record { posted = refl; taken = refl; begun = refl; dropped = refl; finished = refl; collected = refl }
-  step_quiet n (did.Ran kind number ended) emits = record { posted = refl; taken = refl; begun = refl; dropped = refl; finished = refl; collected = refl }
-  step_quiet n (did.Skipped kind number) emits = record { posted = refl; taken = refl; begun = refl; dropped = refl; finished = refl; collected = refl }
-  step_quiet n did.Over emits = record { posted = refl; taken = refl; begun = refl; dropped = refl; finished = refl; collected = refl }
-  step_quiet n did.Failed emits = record { posted = refl; taken = refl; begun = refl; dropped = refl; finished = refl; collected = refl }
+  step_quiet n _ emits = record { posted = refl; taken = refl; begun = refl; dropped = refl; finished = refl; collected = refl }
 
   module _ (w w' : World) where
     unless_goes : (n : ℕ) (m : Loop Desk) (entry : LogEntry) (P : Type 0) → (P → Goes w w' entry) → UnlessFailed w n m entry w' P → Goes w w' entry
@@ -207,9 +204,7 @@ module _ (l r : ℕ) where
       };
       there = inl refl;
     })
-    take_goes n Idle [] entry is at h = only w w' entry (line.Take n None) (record { posted = refl; taken = refl; begun = refl; dropped = refl; finished = refl; collected = refl }) h
-    take_goes n (Taken o) jobs entry is at h = only w w' entry (line.Take n None) (record { posted = refl; taken = refl; begun = refl; dropped = refl; finished = refl; collected = refl }) h
-    take_goes n (Started o) jobs entry is at h = only w w' entry (line.Take n None) (record { posted = refl; taken = refl; begun = refl; dropped = refl; finished = refl; collected = refl }) h
+    take_goes n _ _ entry is at h = only w w' entry (line.Take n None) (record { posted = refl; taken = refl; begun = refl; dropped = refl; finished = refl; collected = refl }) h
 
     start_goes : (n : ℕ) (state : Worker) (entry : LogEntry) → slice_get w.workers n ≡ Some state → StartsJob w n state entry w' → Goes w w' entry
     start_goes n (Taken o) entry at h =
@@ -233,8 +228,7 @@ module _ (l r : ℕ) where
           there = inl refl;
         }))
         h.6
-    start_goes n Idle entry at h = only w w' entry (line.Start n start.Nothing) (record { posted = refl; taken = refl; begun = refl; dropped = refl; finished = refl; collected = refl }) h
-    start_goes n (Started o) entry at h = only w w' entry (line.Start n start.Nothing) (record { posted = refl; taken = refl; begun = refl; dropped = refl; finished = refl; collected = refl }) h
+    start_goes n _ entry at h = only w w' entry (line.Start n start.Nothing) (record { posted = refl; taken = refl; begun = refl; dropped = refl; finished = refl; collected = refl }) h
 
     -- one loop's replies
     replies_set : (n : ℕ) (old new : List Answer) → slice_get w.replies n ≡ Some old → w'.replies ≡ slice_set w.replies n new
@@ -346,10 +340,7 @@ module _ (l r : ℕ) where
 module _ (l r : ℕ) where
   step_posted : (told : StepDid) (emits : List ℕ) → is_post_of l r (entry_told l told emits) ≡ false
   step_posted (did.Entered phase now) emits = refl
-  step_posted (did.Ran kind number ended) emits = refl
-  step_posted (did.Skipped kind number) emits = refl
-  step_posted did.Over emits = refl
-  step_posted did.Failed emits = refl
+  step_posted _ emits = refl
 
   others_posted : (entry : LogEntry) → is_of_owner l entry ≡ false → is_post_of l r entry ≡ false
   others_posted (line.Post n (post.Request request)) h = ap (λ b. b && (request == r)) h
@@ -357,14 +348,12 @@ module _ (l r : ℕ) where
 
   tells_posted : (entry : LogEntry) (e : Event) → EntryTells l entry e → is_post_of l r entry ≡ hands_out r e
   tells_posted entry (Stepped did emits made) h = ap (is_post_of l r) h ∙ step_posted did emits
-  tells_posted entry (OrderAsked None) h = ap (is_post_of l r) h
   tells_posted entry (OrderAsked (Some o)) h = ap (is_post_of l r) h ∙ ap (λ b. b && (o.request == r)) (eq-eqb l l refl)
   tells_posted entry (EndOffered o end true) h = ap (is_post_of l r) h
-  tells_posted entry (EndOffered o end false) h = ap (is_post_of l r) h
-  tells_posted entry (CancelAnswered request answer) h = ap (is_post_of l r) h
   tells_posted entry (RequestAnswered op bytes answer) h = absurd h
   tells_posted entry (ClockRaised ms) h = ap (is_post_of l r) h.1
   tells_posted entry MovedBeside h = others_posted entry h
+  tells_posted entry _ h = ap (is_post_of l r) h
 
   told_posted : (log : List LogEntry) (events : List Event) → AreTold l log events → count_by (is_post_of l r) log ≡ count_by (hands_out r) events
   told_posted [] [] h = refl

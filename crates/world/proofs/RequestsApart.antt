@@ -31,9 +31,7 @@ not_cancelled : (d : Desk) (c : ℕ × ℕ) → true ≡ is_open_request d c →
 not_cancelled d c h = pending (is_pending d.view.opened d.view.cancelled c) (times c d.started == 0) refl h where
   pending_is : (a b e : Bool) → (times c d.view.cancelled == 0) ≡ e → (a && (b && e)) ≡ true → times c d.view.cancelled ≡ 0
   pending_is true true true is k = eqb-true (times c d.view.cancelled) 0 is
-  pending_is true true false is k = absurd (cc)
-  pending_is true false e is k = absurd (cc)
-  pending_is false b e is k = absurd (cc)
+  pending_is _ _ _ is k = absurd (cc)
 
   pending : (a b : Bool) → is_pending d.view.opened d.view.cancelled c ≡ a → true ≡ (a && b) → times c d.view.cancelled ≡ 0
   pending true b is e = pending_is _ _ (times c d.view.cancelled == 0) refl is

@@ -39,11 +39,9 @@ use Rattle.world.specs.Laws.{is_after}
 use Rattle.world.proofs.LogsTellHistories.{history_push, told_push, tells_callback, tells_cancel, contains_push, count_push}
 
 pub set_there : {X : Type 0} (xs : List X) (n k : ℕ) (v : X) → is_some (slice_get (slice_set xs n v) k) ≡ is_some (slice_get xs k)
-set_there [] n k v = refl
 set_there (y ∷ ys) zero zero v = refl
-set_there (y ∷ ys) zero (suc k) v = refl
-set_there (y ∷ ys) (suc n) zero v = refl
 set_there (y ∷ ys) (suc n) (suc k) v = set_there ys n k v
+set_there _ _ _ v = refl
 
 set_all : {X : Type 0} (P : X → Type 0) (xs : List X) (k : ℕ) (v : X) → P v → ((n : ℕ) (x : X) → slice_get xs n ≡ Some x → P x)
     → (n : ℕ) (x : X) → slice_get (slice_set xs k v) n ≡ Some x → P x
@@ -228,9 +226,7 @@ module _ (Begins : Setting → Loop Desk → Type 0) (there : Bool) (j : ℕ) wh
 
     take_next : (w' : World) (n : ℕ) (state : Worker) (jobs : List WorkOrder) (entry : LogEntry) → WorkerTakesJob w n state jobs entry w' → Next w' entry []
     take_next w' n Idle (o ∷ jobs) entry h = kept w' entry (ap (is_of_owner j) h.0) (ap (λ x. x.loops) h.1) (same_replies w' (ap (λ x. x.replies) h.1))
-    take_next w' n Idle [] entry h = only w' entry _ refl h
-    take_next w' n (Taken o) jobs entry h = only w' entry _ refl h
-    take_next w' n (Started o) jobs entry h = only w' entry _ refl h
+    take_next w' n _ _ entry h = only w' entry _ refl h
 
     -- a worker's start, and another's send
     beside : (g : Setting) (l m : Loop Desk) (entry told : LogEntry) → entry ≡ told → is_of_owner j told ≡ false
@@ -244,15 +240,13 @@ module _ (Begins : Setting → Loop Desk → Type 0) (there : Bool) (j : ℕ) wh
         (λ same. beside h.0 h.1 h.2 entry _ k.0 refl (desk_beside.starts h.1.shared h.2.shared o.slot o.request h.3 h.5.0) h.5.1 h.5.2))
         (λ k. kept w' entry (ap (is_of_owner j) k.0) (ap (λ x. x.loops) k.1) (same_replies w' (ap (λ x. x.replies) k.1)))
         h.6
-    start_next w' n Idle entry h = only w' entry _ refl h
-    start_next w' n (Started o) entry h = only w' entry _ refl h
+    start_next w' n _ entry h = only w' entry _ refl h
 
     finish_next : (w' : World) (n : ℕ) (state : Worker) (entry : LogEntry) → FinishesJob w n state entry w' → Next w' entry []
     finish_next w' n (Started o) entry h =
         kept w' entry (ap (is_of_owner j) h.told) (ap (λ x. x.loops) h.after)
         (set_replies w' o.loop_no _ (ap (λ x. x.replies) h.after) (ends_more h.replies (record { order = o; end = h.end }) h.right (keeps.replies o.loop_no h.replies h.waiting)))
-    finish_next w' n Idle entry h = only w' entry _ refl h
-    finish_next w' n (Taken o) entry h = only w' entry _ refl h
+    finish_next w' n _ entry h = only w' entry _ refl h
 
     collect_next : (w' : World) (n : ℕ) (g : Setting) (l : Loop Desk) (replies : List Answer) (entry : LogEntry) → slice_get w.loops n ≡ Some (core g l) → AllEnds replies
         → CollectsFrom w n g l replies entry w' → Next w' entry []
@@ -267,11 +261,8 @@ module _ (Begins : Setting → Loop Desk → Type 0) (there : Bool) (j : ℕ) wh
 
     -- a step of a loop
     told_elsewhere : (n : ℕ) (told : StepDid) (emits : List ℕ) → n ≢ j → is_of_owner j (entry_told n told emits) ≡ false
-    told_elsewhere n (did.Entered phase now) emits other = ne_eqb n j other
-    told_elsewhere n (did.Ran kind number ended) emits other = ne_eqb n j other
-    told_elsewhere n (did.Skipped kind number) emits other = ne_eqb n j other
-    told_elsewhere n did.Over emits other = ne_eqb n j other
     told_elsewhere n did.Failed emits other = refl
+    told_elsewhere n _ emits other = ne_eqb n j other
 
     loop_next : (w' : World) (n : ℕ) (entry : LogEntry) (h : StepsLoop w n entry w') → Next w' entry (cond (n == j) h.made [])
     loop_next w' n entry h =

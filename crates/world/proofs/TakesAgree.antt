@@ -11,7 +11,7 @@ use Rattle.phases.specs.State.{Core}
 use Rattle.desk.specs.Desk.{Desk}
 use Rattle.world_log.specs.declared.entry.LogEntry.TheVariants as line
 use Rattle.world_log.specs.declared.outcome.JobId.{JobId}
-use Rattle.world.specs.World.{World, Worker, Answer, Idle, Taken, Started, WithWorker, WorkerTakesJob, job_of, with_worker_at}
+use Rattle.world.specs.World.{World, Worker, Answer, Idle, Taken, WithWorker, WorkerTakesJob, job_of, with_worker_at}
 use Rattle.world.specs.declared.worker.Worker.{Worker as CodeWorker}
 use Rattle.world.specs.declared.worker.Worker.TheVariants as code
 use Rattle.world.specs.Making.{worker_of, IsJob, FitsLoops, WorldIsKept}
@@ -21,11 +21,9 @@ taken_none : (w : World) (n : ℕ) (state : Worker) (w' : World) → slice_get w
     → WithWorker w n (λ h. WorkerTakesJob w n h w.jobs (line.Take n None) w')
 taken_none w n state w' at same why = (state, at, by state w.jobs why) where
   by : (state : Worker) (jobs : List WorkOrder) → (state ≢ Idle) ⊎ (jobs ≡ []) → WorkerTakesJob w n state jobs (line.Take n None) w'
-  by Idle [] why = (refl, same)
   by Idle (o ∷ jobs) (inl no_worker) = absurd (no_worker refl)
   by Idle (o ∷ jobs) (inr none) = absurd (cc)
-  by (Taken o) jobs why = (refl, same)
-  by (Started o) jobs why = (refl, same)
+  by _ _ why = (refl, same)
 
 taken_one : (w : World) (n : ℕ) (o : WorkOrder) (rest : List WorkOrder) (w' : World) → slice_get w.workers n ≡ Some Idle → w.jobs ≡ o ∷ rest → w' ≡ record (with_worker_at w n (Taken o)) { jobs = rest }
     → WithWorker w n (λ h. WorkerTakesJob w n h w.jobs (line.Take n (Some (job_of o))) w')

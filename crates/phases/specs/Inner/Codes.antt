@@ -24,10 +24,7 @@ end_from (suc (suc (suc (suc n)))) value bytes = NoMemory
 
 pub end_from-end_parts : (end : WorkEnd) → end_from (end_parts end).0 (end_parts end).1.0 (end_parts end).1.1 ≡ end
 end_from-end_parts (Done value bytes) = refl
-end_from-end_parts (Trap code) = refl
-end_from-end_parts Depth = refl
-end_from-end_parts Spent = refl
-end_from-end_parts NoMemory = refl
+end_from-end_parts _ = refl
 
 abbrev pub end_code : Coded WorkEnd
 end_code =
@@ -49,9 +46,7 @@ stage_from (suc (suc n)) (Some end) = Answered end
 
 pub stage_from-stage_parts : (stage : Stage) → stage_from (stage_parts stage).0 (stage_parts stage).1 ≡ stage
 stage_from-stage_parts Open = refl
-stage_from-stage_parts HandedOut = refl
-stage_from-stage_parts Cancelled = refl
-stage_from-stage_parts (Answered end) = refl
+stage_from-stage_parts _ = refl
 
 abbrev pub stage_code : Coded Stage
 stage_code = code_by (ℕ × Option WorkEnd) (coded× coded_ℕ (coded_option end_code)) stage_parts

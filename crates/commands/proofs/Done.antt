@@ -9,10 +9,7 @@ use Rattle.commands.specs.Inner.Statuses.{number_of_status, status_of_io, status
 
 pub done_of : (s : ExitStatus) → number_of_status s ≡ 0 → s ≡ status.Done
 done_of status.Done h = refl
-done_of status.Failed h = cc
-done_of status.Usage h = cc
-done_of status.Refused h = cc
-done_of status.Ended h = cc
+done_of _ h = cc
 
 pub at_ok : {E : Type 0} (r : Result ExitStatus E) (P : ExitStatus → Type 0) (s : ExitStatus) → IfOk r P → r ≡ Ok s → P s
 at_ok (Ok t) P s h is =
@@ -23,10 +20,7 @@ at_ok (Err e) P s h is = cc
 -- what stands in the way refuses no module
 pub refuses_none : (f : IoFault) → status_of_io f ≡ status.Refused → ⊥
 refuses_none fault.Memory is = cc
-refuses_none (fault.Unread _ _) is = cc
-refuses_none (fault.TooLong _ _) is = cc
-refuses_none (fault.Unwritten _ _) is = cc
-refuses_none (fault.Output _) is = cc
+refuses_none _ is = cc
 
 -- two facts of what is Ok
 pub both : {E : Type 0} (r : Result ExitStatus E) (A B : Type 0) → OnOk r A → OnOk r B → IfOk r (λ (s : ExitStatus). s ≡ status.Done → A × B)
@@ -34,18 +28,12 @@ both (Ok s) A B a b = λ _. (a, b)
 both (Err e) A B a b = tt
 
 pub refused_of : (s : ExitStatus) → number_of_status s ≡ 3 → s ≡ status.Refused
-refused_of status.Done h = cc
-refused_of status.Failed h = cc
-refused_of status.Usage h = cc
 refused_of status.Refused h = refl
-refused_of status.Ended h = cc
+refused_of _ h = cc
 
 pub ended_of : (s : ExitStatus) → number_of_status s ≡ 4 → s ≡ status.Ended
-ended_of status.Done h = cc
-ended_of status.Failed h = cc
-ended_of status.Usage h = cc
-ended_of status.Refused h = cc
 ended_of status.Ended h = refl
+ended_of _ h = cc
 
 -- what is done unless it fails is refused by its failure
 pub at_refused : (r : Result ExitStatus Failure) (A : Type 0) → IfOk r (λ (s : ExitStatus). s ≡ status.Done)

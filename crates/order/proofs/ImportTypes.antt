@@ -76,31 +76,21 @@ import_known m linked function within =
 
 -- arguments by their places
 pub one_of : (t : ValType) (args : List Value) (a : Value) → map type_of args ≡ t ∷ [] → slice_get args 0 ≡ Some a → args ≡ a ∷ []
-one_of t [] a h k = absurd (cc)
 one_of t (x ∷ []) a h k = let same : x ≡ a = cc in ap (λ y. y ∷ []) same
-one_of t (x ∷ y ∷ rest) a h k = absurd (cc)
+one_of t _ a h k = absurd (cc)
 
 pub two_of : (t u : ValType) (args : List Value) (a b : Value) → map type_of args ≡ t ∷ u ∷ [] → slice_get args 0 ≡ Some a → slice_get args 1 ≡ Some b → args ≡ a ∷ b ∷ []
-two_of t u [] a b h k l = absurd (cc)
-two_of t u (x ∷ []) a b h k l = absurd (cc)
 two_of t u (x ∷ y ∷ []) a b h k l = let first : x ≡ a = cc in let second : y ≡ b = cc in λ i. first i ∷ second i ∷ []
-two_of t u (x ∷ y ∷ z ∷ rest) a b h k l = absurd (cc)
+two_of t u _ a b h k l = absurd (cc)
 
 pub three_of : (t u v : ValType) (args : List Value) (a b c : Value) → map type_of args ≡ t ∷ u ∷ v ∷ [] → slice_get args 0 ≡ Some a → slice_get args 1 ≡ Some b → slice_get args 2 ≡ Some c
     → args ≡ a ∷ b ∷ c ∷ []
-three_of t u v [] a b c h k l m = absurd (cc)
-three_of t u v (x ∷ []) a b c h k l m = absurd (cc)
-three_of t u v (x ∷ y ∷ []) a b c h k l m = absurd (cc)
 three_of t u v (x ∷ y ∷ z ∷ []) a b c h k l m = let first : x ≡ a = cc in let second : y ≡ b = cc in let third : z ≡ c = cc in λ i. first i ∷ second i ∷ third i ∷ []
-three_of t u v (x ∷ y ∷ z ∷ w ∷ rest) a b c h k l m = absurd (cc)
+three_of t u v _ a b c h k l m = absurd (cc)
 
 pub two_and_two_of : (t u v w : ValType) (args : List Value) (a b c d : Value) → map type_of args ≡ t ∷ u ∷ v ∷ w ∷ [] → slice_get args 0 ≡ Some a
     → slice_get args 1 ≡ Some b → slice_get args 2 ≡ Some c → slice_get args 3 ≡ Some d
     → args ≡ a ∷ b ∷ c ∷ d ∷ []
-two_and_two_of t u v w [] a b c d h k l m n = absurd (cc)
-two_and_two_of t u v w (x ∷ []) a b c d h k l m n = absurd (cc)
-two_and_two_of t u v w (x ∷ y ∷ []) a b c d h k l m n = absurd (cc)
-two_and_two_of t u v w (x ∷ y ∷ z ∷ []) a b c d h k l m n = absurd (cc)
 two_and_two_of t u v w (x ∷ y ∷ z ∷ q ∷ []) a b c d h k l m n =
     let first : x ≡ a = cc in let second : y ≡ b = cc in let third : z ≡ c = cc in let fourth : q ≡ d = cc in λ i. first i ∷ second i ∷ third i ∷ fourth i ∷ []
-two_and_two_of t u v w (x ∷ y ∷ z ∷ q ∷ r ∷ rest) a b c d h k l m n = absurd (cc)
+two_and_two_of t u v w _ a b c d h k l m n = absurd (cc)

@@ -16,16 +16,13 @@ use Rattle.reduction.specs.Running.{end_of_run}
 use Rattle.events.specs.declared.ended.Ended.{Ended}
 use Rattle.events.specs.declared.ended.Ending.{Ending}
 use Rattle.events.specs.declared.ended.Ending.TheVariants.{Return}
-use Rattle.events.specs.declared.ended.Ending.TheVariants as ending
 use Rattle.reduction.specs.Running.{AreResults}
 use Rattle.syntax.specs.declared.types.ValType.{ValType}
 use Rattle.imports.specs.Linking.{IsLinked, ExportsFunction}
 use Rattle.imports.specs.Uv.{type_of_call, type_of_entry}
 use Rattle.imports.specs.declared.entry_point.EntryPoint.TheVariants.{Work}
 use Rattle.imports.specs.declared.call.Call.{Call}
-use Rattle.imports.specs.declared.call.Call.TheVariants.{Now, TimerInit, IdleInit, CheckInit, TimerStart, TimerStop, IdleStop, CheckStop}
-use Rattle.imports.specs.declared.call.Call.TheVariants.{TimerAgain, IdleStart, CheckStart, AsyncInit, AsyncSend, IsActive, Close}
-use Rattle.imports.specs.declared.call.Call.TheVariants.{QueueWork, Cancel, InLen, InCopy, OutSet, Emit}
+use Rattle.imports.specs.declared.call.Call.TheVariants.{Now}
 use Rattle.interp.specs.Slices.{RunIsOver}
 use Rattle.order.specs.Slices.{OrderGoesOn}
 use Rattle.order.specs.declared.running.OrderGoing.{OrderGoing}
@@ -120,26 +117,7 @@ asks_for_nothing m depth fuel s _ function args _ _ _ within (imported call is n
 -- each function of the host has a result, so none is a start function
 one_result : (c : Call) → length (type_of_call c).results ≡ 1
 one_result Now = refl
-one_result TimerInit = refl
-one_result IdleInit = refl
-one_result CheckInit = refl
-one_result TimerStart = refl
-one_result TimerStop = refl
-one_result IdleStop = refl
-one_result CheckStop = refl
-one_result TimerAgain = refl
-one_result IdleStart = refl
-one_result CheckStart = refl
-one_result AsyncInit = refl
-one_result AsyncSend = refl
-one_result IsActive = refl
-one_result Close = refl
-one_result QueueWork = refl
-one_result Cancel = refl
-one_result InLen = refl
-one_result InCopy = refl
-one_result OutSet = refl
-one_result Emit = refl
+one_result _ = refl
 
 import_has_result : (m : Contents) → IsLinked m → (function : ℕ) → function < length m.imports → (type : FuncType) → HasFunctionType m function type → length type.results ≡ 1
 import_has_result m linked function within type has =
@@ -171,9 +149,7 @@ start_takes m valid function is = record { type = record { params = []; results 
 -- what doesn't return has results of any types
 pub no_results : (how : Ending) → ((values : List Value) → how ≡ Return values → ⊥) → (types : List ValType) → AreResults how types
 no_results (Return values) not types = absurd (not values refl)
-no_results (ending.Trap trap) not types = tt
-no_results ending.Depth not types = tt
-no_results ending.Spent not types = tt
+no_results _ not types = tt
 
 -- a call that is under way has come to its host by a lawful trace
 pub came_to : (o : WorkOrder) → ValidModule o.loaded.contents → (tables : List SideTable) → AreTables o.loaded.contents tables → (s t : Store) (old new : WorkHost)

@@ -3,14 +3,14 @@ use Rattle.std.proofs.Common.{◌≡◌, ℕ, ◌+◌, ◌-◌, List, [], ◌∷
 use Rattle.std.specs.Prelude.{codes}
 use Rattle.std.specs.List.{slice_get}
 use Rattle.syntax.specs.declared.types.Value.{Value}
-use Rattle.syntax.specs.declared.types.Value.TheVariants.{I32, I64}
+use Rattle.syntax.specs.declared.types.Value.TheVariants.{I32}
 use Rattle.syntax.specs.declared.contents.Contents.{Contents}
 use Rattle.syntax.specs.declared.contents.Import.{Import}
 use Rattle.syntax.specs.declared.contents.ModuleExport.{ModuleExport}
 use Rattle.validate.specs.Valid.{ValidModule, DistinctNames}
 use Rattle.instance.specs.Store.{Store}
 use Rattle.instance.specs.Fresh.{IsFresh}
-use Rattle.reduction.specs.Run.{HostCall, RunEnd, Returned, Trapped, TooDeep, OutOfFuel}
+use Rattle.reduction.specs.Run.{HostCall, RunEnd, Returned}
 use Rattle.reduction.specs.Hosting.{IsDetermined}
 use Rattle.reduction.proofs.OneCall.{one_call}
 use Rattle.imports.specs.declared.call.Call.{Call}
@@ -61,13 +61,9 @@ answers_one bytes old call call' new new' _ args same g g' = gives_one call call
 
 -- an ending reads as one end
 reads_one : (outcome : RunEnd) (reply : List ℕ) (e e' : WorkEnd) → EndsAs outcome reply e → EndsAs outcome reply e' → e ≡ e'
-reads_one (Returned []) reply e e' h k = absurd h
 reads_one (Returned (I32 value ∷ [])) reply e e' h k = h ∙ sym k
-reads_one (Returned (I32 value ∷ more ∷ rest)) reply e e' h k = absurd h
-reads_one (Returned (I64 value ∷ rest)) reply e e' h k = absurd h
-reads_one (Trapped code) reply e e' h k = h ∙ sym k
-reads_one TooDeep reply e e' h k = h ∙ sym k
-reads_one OutOfFuel reply e e' h k = h ∙ sym k
+reads_one (Returned _) reply e e' h k = absurd h
+reads_one _ reply e e' h k = h ∙ sym k
 
 ends_one : (outcome outcome' : RunEnd) (reply reply' : List ℕ) (e e' : WorkEnd) → outcome ≡ outcome' → reply ≡ reply'
     → EndsAs outcome reply e → EndsAs outcome' reply' e' → e ≡ e'

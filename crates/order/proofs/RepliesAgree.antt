@@ -4,14 +4,11 @@ use Rattle.std.proofs.Math.Logic.{∥∥₁_elim}
 use Rattle.std.proofs.Math.Nat.{ℕ_set}
 use mathlib.Core.List.{is_set}
 use mathlib.Core.Sum.{⊎_set}
-use Rattle.order.specs.Work.{WorkOrder, WorkEnd, Done, Trap, Depth, Spent, NoMemory, IsTheEnd, IsEndOf}
+use Rattle.order.specs.Work.{WorkOrder, WorkEnd, NoMemory, IsTheEnd, IsEndOf}
 
 is_the_end : (o : WorkOrder) (e : WorkEnd) → IsEndOf o e → e ≢ NoMemory → IsTheEnd o e
-is_the_end o (Done value bytes) h not = h
-is_the_end o (Trap code) h not = h
-is_the_end o Depth h not = h
-is_the_end o Spent h not = h
 is_the_end o NoMemory h not = absurd (not refl)
+is_the_end o _ h not = h
 
 ends_are_a_set : IsSet WorkEnd
 ends_are_a_set = hlevel (ℕ_set, is_set, ⊎_set)

@@ -7,15 +7,15 @@ use Rattle.std.proofs.lemmas.Bool.{ltb-false}
 use Rattle.std.proofs.lemmas.List.{length-take}
 use Rattle.limits.specs.declared.TheConstants.{MAX_BYTES}
 use Rattle.syntax.specs.declared.types.Value.{Value}
-use Rattle.syntax.specs.declared.types.Value.TheVariants.{I32, I64}
+use Rattle.syntax.specs.declared.types.Value.TheVariants.{I32}
 use Rattle.instance.specs.Store.{Store}
-use Rattle.reduction.specs.Run.{HostCall, RunEnd, Returned, Trapped, TooDeep, OutOfFuel}
+use Rattle.reduction.specs.Run.{HostCall, RunEnd, Returned}
 use Rattle.reduction.specs.Hosting.{Lawful}
 use Rattle.imports.specs.declared.call.Call.{Call}
-use Rattle.imports.specs.declared.call.Call.TheVariants.{Now, InLen, InCopy, OutSet}
+use Rattle.imports.specs.declared.call.Call.TheVariants.{InLen, InCopy, OutSet}
 use Rattle.order.specs.declared.uv.answers.TheConstants.{INVALID, OUTSIDE_MEMORY}
 use Rattle.order.specs.Uv.Bytes.{set_out, taken_out}
-use Rattle.order.specs.Work.{WorkOrder, WorkEnd, Done, Trap, Depth, Spent, NoMemory, EndsAs, WorkAnswers, WorkCall, StartRun, Computes, stops, works, IsEndOf, IsShortEnd}
+use Rattle.order.specs.Work.{WorkOrder, WorkEnd, Done, EndsAs, WorkAnswers, WorkCall, StartRun, Computes, stops, works, IsEndOf, IsShortEnd}
 
 abbrev IsShort : List ℕ → Type 0
 IsShort bytes = length bytes ≤ MAX_BYTES
@@ -41,7 +41,6 @@ call_short : (bytes reply : List ℕ) (call : HostCall) (reply' : List ℕ) (f :
 call_short bytes reply call reply' InLen [] h short = rw h.2 short
 call_short bytes reply call reply' InCopy (I32 to ∷ I32 from ∷ I32 count ∷ []) h short = rw h.2 short
 call_short bytes reply call reply' OutSet (I32 place ∷ I32 count ∷ []) h short = rw h.2 (set_short place count call.before reply short)
-call_short bytes reply call reply' Now args h short = rw h.2 short
 call_short bytes reply call reply' _ args h short = rw h.2 short
 
 trace_short : (o : WorkOrder) (trace : List HostCall) (reply reply' : List ℕ) → Lawful (WorkCall o) trace reply reply' → IsShort reply → IsShort reply'
@@ -54,13 +53,9 @@ start_short o None s t outcome used reply h = rw h.3 (omega arith)
 start_short o (Some function) s t outcome used reply h = trace_short o h.trace [] reply h.answers (omega arith)
 
 end_short : (outcome : RunEnd) (reply : List ℕ) (e : WorkEnd) → EndsAs outcome reply e → IsShort reply → IsShortEnd e
-end_short (Returned []) reply e h short = absurd h
 end_short (Returned (I32 value ∷ [])) reply e h short = rw h short
-end_short (Returned (I32 value ∷ more ∷ rest)) reply e h short = absurd h
-end_short (Returned (I64 value ∷ rest)) reply e h short = absurd h
-end_short (Trapped code) reply e h short = rw h tt
-end_short TooDeep reply e h short = rw h tt
-end_short OutOfFuel reply e h short = rw h tt
+end_short (Returned _) reply e h short = absurd h
+end_short _ reply e h short = rw h tt
 
 computes_short : (o : WorkOrder) (e : WorkEnd) (u : ℕ) → Computes o e u → IsShortEnd e
 computes_short o e u (stops s t outcome reply fresh run not as_end) = end_short outcome reply e as_end (start_short o o.loaded.contents.start s t outcome u reply run)
@@ -69,7 +64,4 @@ computes_short o e u (works s t v results outcome first second reply reply' func
 
 pub short : (o : WorkOrder) (e : WorkEnd) → ∥ IsEndOf o e ∥₁ → IsShortEnd e
 short o (Done value bytes) h = ∥∥₁_elim h le_prop (λ it. computes_short o (Done value bytes) it.computed.0 it.computed.1)
-short o (Trap code) h = tt
-short o Depth h = tt
-short o Spent h = tt
-short o NoMemory h = tt
+short o _ h = tt

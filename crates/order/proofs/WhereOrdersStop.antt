@@ -14,7 +14,7 @@ use Rattle.events.specs.declared.ended.Ending.TheVariants.{Return}
 use Rattle.imports.specs.Linking.{ExportsFunction}
 use Rattle.order.specs.Stopping.{WorkStop, ComputesTo, LeavesTrail, StoppedIsComputed, stops, works}
 use Rattle.order.specs.Trails.{Innermost, innermost_sites}
-use Rattle.order.specs.Work.{WorkOrder, WorkEnd, Done, Trap, Depth, Spent, NoMemory, StartRun, Computes, EndsAs}
+use Rattle.order.specs.Work.{WorkOrder, WorkEnd, NoMemory, StartRun, Computes, EndsAs}
 use Rattle.order.specs.Work as work
 use Rattle.order.proofs.WorkHostAnswers.{not_returned}
 
@@ -50,8 +50,5 @@ is_computed o end used stop (works s t u results ended first reply reply' functi
 -- the trail is what is kept of that
 pub leaves : (o : WorkOrder) (e : WorkEnd) (used : ℕ) (stop : Option Halt) (trail : Option Innermost) → e ≢ NoMemory → ComputesTo o e used stop → trail ≡ option_map innermost_sites stop
     → LeavesTrail o e used trail
-leaves o (Done value bytes) used stop trail told h is = (stop, h, is)
-leaves o (Trap code) used stop trail told h is = (stop, h, is)
-leaves o Depth used stop trail told h is = (stop, h, is)
-leaves o Spent used stop trail told h is = (stop, h, is)
 leaves o NoMemory used stop trail told h is = absurd (told refl)
+leaves o _ used stop trail told h is = (stop, h, is)

@@ -24,7 +24,6 @@ use Rattle.reduction.specs.Run.{Returned}
 use Rattle.events.specs.declared.ended.Ended.{Ended}
 use Rattle.events.specs.declared.ended.Ending.{Ending}
 use Rattle.events.specs.declared.ended.Ending.TheVariants.{Return}
-use Rattle.events.specs.declared.ended.Ending.TheVariants as ending
 use Rattle.imports.specs.Linking.{IsLinked, ExportsFunction}
 use Rattle.imports.specs.Uv.{AreNamedApart}
 use Rattle.order.specs.ImportTypes.{import_types}
@@ -87,9 +86,7 @@ module _ (o : WorkOrder) (fuel : ℕ) (v : Loaded) (is : v ≡ o.loaded) (s t : 
 
 pub not_returned : (how : Ending) → ((values : List Value) → how ≡ Return values → ⊥) → (results : List Value) → end_of_run how ≢ Returned results
 not_returned (Return values) h results e = h values refl
-not_returned (ending.Trap trap) h results e = absurd (cc)
-not_returned ending.Depth h results e = absurd (cc)
-not_returned ending.Spent h results e = absurd (cc)
+not_returned _ h results e = absurd (cc)
 
 -- the start function does not return
 pub stops_end : (o : WorkOrder) (s t : Store) (how : Ending) (used : ℕ) (reply : List ℕ) (e : WorkEnd) → IsFresh o.loaded.contents s
@@ -109,8 +106,5 @@ works_end o s t u started ended values reply reply' e fresh returned run work en
 
 -- what is computed is what is used for it
 pub uses : (o : WorkOrder) (e : WorkEnd) (used : ℕ) → e ≢ NoMemory → Computes o e used → Uses o e used
-uses o (Done value bytes) used told h = h
-uses o (Trap code) used told h = h
-uses o Depth used told h = h
-uses o Spent used told h = h
 uses o NoMemory used told h = absurd (told refl)
+uses o _ used told h = h

@@ -1,9 +1,8 @@
 -- The contexts of a run stand in their bodies where its marks say, and so each caller at its call.
 use Rattle.reduction.proofs.Words.{◌≡◌, ℕ, zero, suc, ◌+◌, ◌-◌, List, [], ◌∷◌, ◌++◌, length, map, take, drop, Some, refl, sym, ap, ◌∙◌, subst, arith}
-use Rattle.reduction.proofs.Words.{Bool, true, false, ◌==◌, slice_get, if◌then◌else◌, Value, Instr, Br, BrIf, BrTable, Token, Contents, FuncType, Func, Code, Done}
+use Rattle.reduction.proofs.Words.{Bool, true, false, ◌==◌, slice_get, if◌then◌else◌, Value, Instr, Br, Token, Contents, FuncType, Func, Code, Done}
 use Rattle.reduction.proofs.Words.{Plain, Block, Loop, If, Context, Label, Frame, with_locals, receiving, continuing, Move, Goes, Calls, Stuck, next, StaysInBlock}
 use Rattle.reduction.proofs.Words.{Store, value_of, entered, IsDefined, as_operands}
-use Rattle.syntax.specs.declared.instruction.Instr.TheVariants.{Return}
 use Rattle.syntax.specs.declared.instruction.Token.TheVariants as op
 use Rattle.syntax.specs.Code.{operations, operations_to}
 use Rattle.validate.specs.Targets.{size}
@@ -90,11 +89,8 @@ After m marks _ = Unit {0}
 
 -- an instruction that neither branches nor calls leads to the next operation
 pub behind-plain : (i : Instr) (values : List Value) (at : ℕ) (marks : List Mark) → StaysInBlock i → behind_instruction i values at marks ≡ moved (at + 1) marks
-behind-plain (Br label) values at marks still = absurd still
-behind-plain (BrIf label) values at marks still = absurd still
-behind-plain (BrTable labels default) values at marks still = absurd still
-behind-plain Return values at marks still = absurd still
-behind-plain i values at marks still = refl
+behind-plain (Br label) values at marks still = search
+behind-plain _ values at marks still = search
 
 backs_locals : (ops : List Token) (back : ℕ) (to : Code) (contexts : List Context) (locals : List Value)
     → Backs ops back to contexts → Backs ops back to (with_locals locals contexts)
@@ -186,9 +182,7 @@ module _ (m : Contents) where
     by_rule (rule.calls c typed) own l = waiting c (spelled_call c) l
     by_rule {s} (rule.enters o few) own l = opened s o l
     by_rule (rule.closes {values}) own l = (f, function, is, received values k)
-    by_rule (rule.fails still t) own l = tt
-    by_rule (rule.no_callee trap) own l = tt
-    by_rule rule.stuck own l = tt
+    by_rule _ own l = tt
 
   -- a call that has nothing more to do is left
   leaves : {f : Func} {function arity : ℕ} {locals values : List Value} {code : Code} {below : List Context} {marks : List Mark} (s : Store)

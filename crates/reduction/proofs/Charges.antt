@@ -20,10 +20,8 @@ Begins _ = Unit {0}
 
 costs_by : {m : Contents} {s : Store} {contexts : List Context} {values : List Value} {code : Code} {move : Move}
     → StepRule m s contexts values code move → Begins code → OrStuck move
-costs_by rule.closes begins = absurd begins
-costs_by rule.answers begins = absurd begins
-costs_by rule.ends begins = absurd begins
-costs_by _ begins = tt
+costs_by rule.closes begins = search
+costs_by _ begins = search
 
 pub costs_to_begin : (m : Contents) (s : Store) (contexts : List Context) → Begins (code_left contexts) → OrStuck (next m s contexts)
 costs_to_begin m s contexts begins = costs_by (next_rule m s contexts) begins

@@ -1,12 +1,11 @@
 -- Each step leads the calls to the places that the operations and the side tables tell.
 use Rattle.reduction.proofs.Contexts.{with_locals-height, with_locals-code}
 use Rattle.reduction.proofs.Words.{◌≡◌, ℕ, zero, suc, ◌+◌, List, [], ◌∷◌, ◌++◌, length, take, drop, Option, Some, None, refl, sym, ap, ◌∙◌, subst, true}
-use Rattle.reduction.proofs.Words.{false, Bool, arith, length-append, ◌==◌, slice_get, if◌then◌else◌, Value, Instr, Br, BrIf, BrTable, Token}
+use Rattle.reduction.proofs.Words.{false, Bool, arith, length-append, ◌==◌, slice_get, if◌then◌else◌, Value, Instr, Br, Token}
 use Rattle.reduction.proofs.Words.{Contents, FuncType, Code, Done, Target, Context, Label, Frame, with_locals, going_on, receiving, continuing}
 use Rattle.reduction.proofs.Words.{slice_get_past, Move, Goes, Stuck, next, code_left, operands_of, height_of, Body, Place, Over, IsPlaced, StaysInBlock}
 use Rattle.std.proofs.Common.{min, length-drop}
 use Rattle.std.proofs.lemmas.List.{length-take-le}
-use Rattle.syntax.specs.declared.instruction.Instr.TheVariants.{Return}
 use Rattle.syntax.specs.declared.instruction.Token.TheVariants as op
 use Rattle.validate.specs.Targets.{pc_of, size, Lists, Tells}
 use Rattle.instance.specs.Store.{Store as Memory_and_globals}
@@ -26,11 +25,8 @@ listed chosen labels (l ∷ ls) start default (suc n) h =
 
 -- an instruction that neither branches nor calls leads to the next operation
 pub jumped-plain : (b : Body) (pc : ℕ) (i : Instr) (values : List Value) → StaysInBlock i → jumped b pc (op.Plain i) values ≡ pc + 1
-jumped-plain b pc (Br label) values still = absurd still
-jumped-plain b pc (BrIf label) values still = absurd still
-jumped-plain b pc (BrTable labels default) values still = absurd still
-jumped-plain b pc Return values still = absurd still
-jumped-plain b pc i values still = refl
+jumped-plain b pc (Br label) values still = search
+jumped-plain b pc _ values still = search
 
 module _ (m : Contents) where
   -- a sequence at a place, by equal numbers
@@ -263,9 +259,7 @@ module _ (m : Contents) (body : ℕ → Body) (function : ℕ) (callers : List P
           code = reguided m (body function) _ (height_of below + q.lower) _ n _ (length type.results) _ q.end inside q.within (omega (arith, low)) (omega (arith, length-take-le n left few));
         })
     lead_by {s} (rule.closes {values}) at (closes, e) = closing s at values (slice_get (body function).operations at) closes e
-    lead_by (rule.fails still t) at k = tt
-    lead_by (rule.no_callee trap) at k = tt
-    lead_by rule.stuck at k = tt
+    lead_by _ at k = tt
 
 module _ (m : Contents) (body : ℕ → Body) where
   -- a call that has nothing more to do

@@ -1,7 +1,7 @@
 -- An instruction that neither branches nor calls keeps the types, and finds its operands.
 use Rattle.reduction.proofs.Words.{◌≡◌, ℕ, ◌+◌, List, [], ◌∷◌, Option, Some, None, sym, ap, ◌∙◌, subst, true, false, Bool, slice_get, slice_set}
-use Rattle.reduction.proofs.Words.{if◌then◌else◌, ValType, Value, I32, I64, Instr, Br, BrIf, BrTable, Contents, type_of, value_of, PlainStep, Leaves, Fails}
-use Rattle.reduction.proofs.Words.{Lacks, types_of}
+use Rattle.reduction.proofs.Words.{if◌then◌else◌, ValType, Value, I32, I64, Instr, Contents, type_of, value_of, PlainStep, Leaves, Fails}
+use Rattle.reduction.proofs.Words.{Lacks, types_of, StaysInBlock}
 use Rattle.std.specs.Option.{option_map}
 use Rattle.std.specs.Prelude.{is_some, IsSome, ◌==◌}
 use Rattle.std.proofs.lemmas.Option.{slice_get-map}
@@ -9,7 +9,7 @@ use Rattle.syntax.specs.declared.operator.Extension.{Extension}
 use Rattle.syntax.specs.declared.operator.Extension.TheVariants.{Unsigned}
 use Rattle.syntax.specs.declared.operator.Conversion.{Conversion}
 use Rattle.syntax.specs.declared.operator.Conversion.TheVariants.{I32WrapI64, I64ExtendI32S, I64ExtendI32U}
-use Rattle.syntax.specs.declared.instruction.Instr.TheVariants.{Unreachable, Nop, Return, Call, CallIndirect, Drop, Select, LocalGet, LocalSet, LocalTee}
+use Rattle.syntax.specs.declared.instruction.Instr.TheVariants.{Unreachable, Nop, Drop, Select, LocalGet, LocalSet, LocalTee}
 use Rattle.syntax.specs.declared.instruction.Instr.TheVariants.{GlobalGet, GlobalSet, Load, LoadNarrow, Store, StoreNarrow, MemorySize, MemoryGrow, Const, Eqz}
 use Rattle.syntax.specs.declared.instruction.Instr.TheVariants.{Unary, Binary, Compare, Convert}
 use Rattle.syntax.specs.declared.contents.Global.{Global}
@@ -27,13 +27,7 @@ PlainStepTyped m locals after (Fails trap) = Unit {0}
 PlainStepTyped m locals after Lacks = ⊥
 
 abbrev pub NoJump : Instr → Type 0
-NoJump (Br label) = ⊥
-NoJump (BrIf label) = ⊥
-NoJump (BrTable labels default) = ⊥
-NoJump Return = ⊥
-NoJump (Call f) = ⊥
-NoJump (CallIndirect t) = ⊥
-NoJump _ = Unit {0}
+NoJump i = StaysInBlock i
 
 -- what a typed instruction needs of the module is there
 pub there : {X : Type 0} (o p : Option X) → o ≡ p → IsSome o → is_some p ≡ true
@@ -75,15 +69,10 @@ module _ (m : Contents) (s : Memory_and_globals) (fit : HaveGlobalTypes m s.glob
 
   convert_typed : (op : Conversion) (before after : List ValType) (values : List Value) → ConversionTurns op before after → types_of values ≡ before
       → PlainStepTyped m ls after (plain_step m s locals (Convert op) values)
-  convert_typed I32WrapI64 before after [] (rest, a, b) e = absurd (cc)
-  convert_typed I32WrapI64 before after (I32 n ∷ values) (rest, a, b) e = absurd (cc)
   convert_typed I32WrapI64 before after (I64 n ∷ values) (rest, a, b) e = (fit, ok, cc)
-  convert_typed I64ExtendI32S before after [] (rest, a, b) e = absurd (cc)
   convert_typed I64ExtendI32S before after (I32 n ∷ values) (rest, a, b) e = (fit, ok, cc)
-  convert_typed I64ExtendI32S before after (I64 n ∷ values) (rest, a, b) e = absurd (cc)
-  convert_typed I64ExtendI32U before after [] (rest, a, b) e = absurd (cc)
   convert_typed I64ExtendI32U before after (I32 n ∷ values) (rest, a, b) e = (fit, ok, cc)
-  convert_typed I64ExtendI32U before after (I64 n ∷ values) (rest, a, b) e = absurd (cc)
+  convert_typed _ before after _ h e = absurd (let a = h.1 in let b = h.2 in cc)
 
   replaced : (v : Value) (x : ℕ) (t : ValType) (values : List Value) → slice_get (types_of values) x ≡ Some t → type_of v ≡ t → replaces v (slice_get values x) ≡ true
   replaced v x t values at ev =
@@ -104,12 +93,9 @@ module _ (m : Contents) (s : Memory_and_globals) (fit : HaveGlobalTypes m s.glob
   plain_step_typed c Nop before after values em el n (rest, a, b) e = (fit, ok, cc)
   plain_step_typed c Drop before after [] em el n (t, (rest, a, b)) e = absurd (cc)
   plain_step_typed c Drop before after (v ∷ values) em el n (t, (rest, a, b)) e = (fit, ok, cc)
-  plain_step_typed c Select before after [] em el n (t, (rest, a, b)) e = absurd (cc)
-  plain_step_typed c Select before after (I64 k ∷ values) em el n (t, (rest, a, b)) e = absurd (cc)
-  plain_step_typed c Select before after (I32 k ∷ []) em el n (t, (rest, a, b)) e = absurd (cc)
-  plain_step_typed c Select before after (I32 k ∷ second ∷ []) em el n (t, (rest, a, b)) e = absurd (cc)
   plain_step_typed c Select before after (I32 k ∷ second ∷ first ∷ values) em el n (t, (rest, a, b)) e =
       rw b (select_typed t k second first values rest (cc) (cc) (cc))
+  plain_step_typed c Select before after _ em el n (t, (rest, a, b)) e = absurd (cc)
   plain_step_typed c (LocalGet x) before after values em el n (t, at, (rest, a, b)) e =
       let f = local_get x t (ap (λ (ts : List ValType). slice_get ts x) (sym el) ∙ at) in
       rw b (some_typed (slice_get locals x) f.0 t values rest f.1 f.2 (cc))
@@ -132,30 +118,23 @@ module _ (m : Contents) (s : Memory_and_globals) (fit : HaveGlobalTypes m s.glob
       let found = global_at x g (ap (λ (k : Contents). slice_get k.globals x) (sym em) ∙ at) in
       let k = replaced v x g.value_type s.globals found ev in
       rw k (set_typed s.globals x v (found ∙ ap Some (sym ev)) ∙ fit, ok, cc)
-  plain_step_typed c (Load t at) before after [] em el n (access, (rest, a, b)) e = absurd (cc)
-  plain_step_typed c (Load t at) before after (I64 k ∷ values) em el n (access, (rest, a, b)) e = absurd (cc)
   plain_step_typed c (Load t at) before after (I32 k ∷ values) em el n (access, (rest, a, b)) e =
       rw b (loaded_typed t (bytes_of_type t) Unsigned (bytes_at (k + at.offset) (bytes_of_type t) s.memory) values rest (cc))
-  plain_step_typed c (LoadNarrow t w x at) before after [] em el n (access, (rest, a, b)) e = absurd (cc)
-  plain_step_typed c (LoadNarrow t w x at) before after (I64 k ∷ values) em el n (access, (rest, a, b)) e = absurd (cc)
+  plain_step_typed c (Load t at) before after _ em el n (access, (rest, a, b)) e = absurd (cc)
   plain_step_typed c (LoadNarrow t w x at) before after (I32 k ∷ values) em el n (access, (rest, a, b)) e =
       rw b (loaded_typed t (bytes_of_width w) x (bytes_at (k + at.offset) (bytes_of_width w) s.memory) values rest (cc))
-  plain_step_typed c (Store t at) before after [] em el n (access, (rest, a, b)) e = absurd (cc)
-  plain_step_typed c (Store t at) before after (v ∷ []) em el n (access, (rest, a, b)) e = absurd (cc)
-  plain_step_typed c (Store t at) before after (v ∷ I64 k ∷ values) em el n (access, (rest, a, b)) e = absurd (cc)
+  plain_step_typed c (LoadNarrow t w x at) before after _ em el n (access, (rest, a, b)) e = absurd (cc)
   plain_step_typed c (Store t at) before after (v ∷ I32 k ∷ values) em el n (access, (rest, a, b)) e =
       let f = is_of-typed t v (cc) in rw (f, b) (stored_typed _ values rest (cc))
-  plain_step_typed c (StoreNarrow t w at) before after [] em el n (access, (rest, a, b)) e = absurd (cc)
-  plain_step_typed c (StoreNarrow t w at) before after (v ∷ []) em el n (access, (rest, a, b)) e = absurd (cc)
-  plain_step_typed c (StoreNarrow t w at) before after (v ∷ I64 k ∷ values) em el n (access, (rest, a, b)) e = absurd (cc)
+  plain_step_typed c (Store t at) before after _ em el n (access, (rest, a, b)) e = absurd (cc)
   plain_step_typed c (StoreNarrow t w at) before after (v ∷ I32 k ∷ values) em el n (access, (rest, a, b)) e =
       let f = is_of-typed t v (cc) in rw (f, b) (stored_typed _ values rest (cc))
+  plain_step_typed c (StoreNarrow t w at) before after _ em el n (access, (rest, a, b)) e = absurd (cc)
   plain_step_typed c MemorySize before after values em el n (access, (rest, a, b)) e =
       rw (there c.module_contents.memory m.memory (ap (λ (k : Contents). k.memory) em) access) (fit, ok, cc)
-  plain_step_typed c MemoryGrow before after [] em el n (access, (rest, a, b)) e = absurd (cc)
-  plain_step_typed c MemoryGrow before after (I64 k ∷ values) em el n (access, (rest, a, b)) e = absurd (cc)
   plain_step_typed c MemoryGrow before after (I32 k ∷ values) em el n (access, (rest, a, b)) e =
       rw (there c.module_contents.memory m.memory (ap (λ (k : Contents). k.memory) em) access) (fit, ok, cc)
+  plain_step_typed c MemoryGrow before after _ em el n (access, (rest, a, b)) e = absurd (cc)
   plain_step_typed c (Const v) before after values em el n (rest, a, b) e = (fit, ok, cc)
   plain_step_typed c (Eqz t) before after [] em el n (rest, a, b) e = absurd (cc)
   plain_step_typed c (Eqz t) before after (v ∷ values) em el n (rest, a, b) e =
@@ -163,18 +142,11 @@ module _ (m : Contents) (s : Memory_and_globals) (fit : HaveGlobalTypes m s.glob
   plain_step_typed c (Unary t op) before after [] em el n (rest, a, b) e = absurd (cc)
   plain_step_typed c (Unary t op) before after (v ∷ values) em el n (rest, a, b) e =
       let f = is_of-typed t v (cc) in rw (f, b) (value_typed t _ values rest (cc))
-  plain_step_typed c (Binary t op) before after [] em el n (rest, a, b) e = absurd (cc)
-  plain_step_typed c (Binary t op) before after (w ∷ []) em el n (rest, a, b) e = absurd (cc)
   plain_step_typed c (Binary t op) before after (w ∷ v ∷ values) em el n (rest, a, b) e =
       let f = is_of-typed t v (cc) in let g = is_of-typed t w (cc) in rw (f, g, b) (computed_typed t _ values rest (cc))
-  plain_step_typed c (Compare t op) before after [] em el n (rest, a, b) e = absurd (cc)
-  plain_step_typed c (Compare t op) before after (w ∷ []) em el n (rest, a, b) e = absurd (cc)
+  plain_step_typed c (Binary t op) before after _ em el n (rest, a, b) e = absurd (cc)
   plain_step_typed c (Compare t op) before after (w ∷ v ∷ values) em el n (rest, a, b) e =
       let f = is_of-typed t v (cc) in let g = is_of-typed t w (cc) in rw (f, g) (fit, ok, cc)
+  plain_step_typed c (Compare t op) before after _ em el n (rest, a, b) e = absurd (cc)
   plain_step_typed c (Convert op) before after values em el n t e = convert_typed op before after values t e
-  plain_step_typed c (Br label) before after values em el n t e = absurd n
-  plain_step_typed c (BrIf label) before after values em el n t e = absurd n
-  plain_step_typed c (BrTable labels default) before after values em el n t e = absurd n
-  plain_step_typed c Return before after values em el n t e = absurd n
-  plain_step_typed c (Call f) before after values em el n t e = absurd n
-  plain_step_typed c (CallIndirect f) before after values em el n t e = absurd n
+  plain_step_typed c _ before after values em el n t e = absurd n

@@ -241,17 +241,7 @@ LeavesStore s _ = Unit {0}
 
 store_by : {m : Contents} {s : Store} {contexts : List Context} {values : List Value} {code : Code} {move : Move} → StepRule m s contexts values code move → LeavesStore s move
 store_by (leaves still h) = h.store_left
-store_by passes = same_store
-store_by (branches j at few) = same_store
-store_by (returns at few) = same_store
-store_by (calls c typed) = tt
-store_by (enters o few) = same_store
-store_by closes = same_store
-store_by answers = same_store
-store_by ends = tt
-store_by (fails still t) = tt
-store_by (no_callee trap) = tt
-store_by stuck = tt
+store_by _ = search same_store
 
 pub store_after : (m : Contents) (s : Store) (contexts : List Context) → LeavesStore s (next m s contexts)
 store_after m s contexts = store_by (next_rule m s contexts)

@@ -217,8 +217,6 @@ module _ (m : Contents) (answers : List ValType) where
       → Sound m answers (plain m s i values rest contexts)
   plain_sound c ends contexts s (Br label) values rest mid fit u (types, (at, below, e)) k =
       jump_sound s _ fit (branches label values types below u at e)
-  plain_sound c ends contexts s (BrIf label) [] rest mid fit u (types, at, (below, e, a)) k = absurd (let f = e ∙ pushed-last types type.I32 below in cc)
-  plain_sound c ends contexts s (BrIf label) (I64 n ∷ values) rest mid fit u (types, at, (below, e, a)) k = absurd (let f = e ∙ pushed-last types type.I32 below in cc)
   plain_sound c ends contexts s (BrIf label) (I32 zero ∷ values) rest mid fit u (types, at, (below, e, a)) k =
       let f = e ∙ pushed-last types type.I32 below in
       let g : types_of values ≡ mid = let h : types_of values ≡ pushed types below = cc in h ∙ sym a in
@@ -227,26 +225,25 @@ module _ (m : Contents) (answers : List ValType) where
       let f = e ∙ pushed-last types type.I32 below in
       let h : types_of values ≡ pushed types below = cc in
       jump_sound s _ fit (branches label values types below u at h)
-  plain_sound c ends contexts s (BrTable labels default) [] rest mid fit u (types, each, at, below, e) k = absurd (let f = e ∙ pushed-last types type.I32 below in cc)
-  plain_sound c ends contexts s (BrTable labels default) (I64 n ∷ values) rest mid fit u (types, each, at, below, e) k = absurd (let f = e ∙ pushed-last types type.I32 below in cc)
+  plain_sound c ends contexts s (BrIf label) _ rest mid fit u (types, at, (below, e, a)) k = absurd (let f = e ∙ pushed-last types type.I32 below in cc)
   plain_sound c ends contexts s (BrTable labels default) (I32 n ∷ values) rest mid fit u (types, each, at, below, e) k =
       let f = e ∙ pushed-last types type.I32 below in
       let h : types_of values ≡ pushed types below = cc in
       jump_sound s _ fit (branches (label_for (slice_get labels n) default) values types below u
       (label_holds (λ (l : ℕ). slice_get c.labels l ≡ Some types) labels n default each at (slice_get labels n) refl) h)
+  plain_sound c ends contexts s (BrTable labels default) _ rest mid fit u (types, each, at, below, e) k = absurd (let f = e ∙ pushed-last types type.I32 below in cc)
   plain_sound c ends contexts s Return values rest mid fit u (below, e) k = jump_sound s _ fit (returns values below u e)
   plain_sound c ends contexts s (Call f) values rest mid fit u (ft, h, (below, e, a)) k =
       let h' : HasFunctionType m f ft = rw (module_of u) at h in
       let q = type_of_function-is f ft h' in
       rw q (call_sound c ends contexts s f ft values rest below u h' e (rw a at k))
-  plain_sound c ends contexts s (CallIndirect t) [] rest mid fit u (table, ft, at, (below, e, a)) k = absurd (let f = e ∙ pushed-last ft.params type.I32 below in cc)
-  plain_sound c ends contexts s (CallIndirect t) (I64 n ∷ values) rest mid fit u (table, ft, at, (below, e, a)) k = absurd (let f = e ∙ pushed-last ft.params type.I32 below in cc)
   plain_sound c ends contexts s (CallIndirect t) (I32 n ∷ values) rest mid fit u (table, ft, at, (below, e, a)) k =
       let f = e ∙ pushed-last ft.params type.I32 below in
       let h : types_of values ≡ pushed ft.params below = cc in
       let at' = ap (λ (n : Contents). slice_get n.types t) (sym (module_of u)) ∙ at in
       rw (there c.module_contents.table m.table (ap (λ (k : Contents). k.table) (module_of u)) table)
       (element_sound c ends contexts s t ft values rest below (slice_get s.table n) u at' h (rw a at k))
+  plain_sound c ends contexts s (CallIndirect t) _ rest mid fit u (table, ft, at, (below, e, a)) k = absurd (let f = e ∙ pushed-last ft.params type.I32 below in cc)
   plain_sound c ends contexts s i values rest mid fit u t k =
       turned_sound c ends contexts s (plain_step m s (locals_of contexts) i values) rest mid u
       (plain_step_typed m s fit (locals_of contexts) c.locals (locals_typed u) c i (types_of values) mid values (module_of u) refl tt t refl) k

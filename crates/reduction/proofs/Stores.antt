@@ -84,9 +84,7 @@ module _ (m : Contents) where
   is_safe answers s (Goes charge t contexts) rest left ok =
       let k = rest_left left rest in (record { globals = ok.0; table = k.table; elements = k.elements; limit = k.limit; memory = k.memory }, ok.1)
   is_safe answers s (Traps trap) rest left ok = tt
-  is_safe answers s (Calls f args below) rest left ok = ok
-  is_safe answers s (Ends results) rest left ok = ok
-  is_safe answers s Stuck rest left ok = ok
+  is_safe answers s _ rest left ok = ok
 
   pub safe : (answers : List ValType) (s : Stored) (contexts : List Context) → IsStoreOf m s → Bounded m 128 answers contexts → Safe answers (next m s contexts)
   safe answers s contexts fit typed = is_safe answers s (next m s contexts) (rest_of m s fit) (store_after m s contexts) (sound_within m 128 answers s contexts fit.globals typed)

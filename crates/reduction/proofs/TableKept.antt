@@ -2,29 +2,24 @@
 use Rattle.reduction.proofs.Words.{◌≡◌, ℕ, List, refl, ◌∙◌, Value, Contents, Context, Goes, next}
 use Rattle.instance.specs.Store.{Store as Memory_and_globals}
 use Rattle.reduction.specs.Invoking.{Invokes, defined, imported}
-use Rattle.reduction.specs.Run.{HostCall, RunEnd, Run, RunsWithin, ends, traps, spent, too_deep, goes, calls, asks}
-use Rattle.reduction.proofs.PlainStepView.{StoreLeft, same_store, global_set, written, enlarged}
+use Rattle.reduction.specs.Run.{HostCall, RunEnd, Run, RunsWithin, goes, calls, asks}
+use Rattle.reduction.proofs.PlainStepView.{StoreLeft, same_store}
 use Rattle.reduction.proofs.Rules.{store_after}
 
 -- an instruction leaves the table
 table_left : {s t : Memory_and_globals} → StoreLeft s t → t.table ≡ s.table
 table_left same_store = refl
-table_left (global_set x v) = refl
-table_left (written address bytes memory e) = refl
-table_left (enlarged delta) = refl
+table_left _ = refl
 
 step_keeps : (m : Contents) (s : Memory_and_globals) (contexts there : List Context) (charge : ℕ) (s' : Memory_and_globals) → next m s contexts ≡ Goes charge s' there → s'.table ≡ s.table
 step_keeps m s contexts there charge s' e = table_left (rw e at (store_after m s contexts))
 
 module _ (m : Contents) (depth : ℕ) where
   run_keeps : {s : Memory_and_globals} {contexts : List Context} {trace : List HostCall} {o : RunEnd} {u : ℕ} {t : Memory_and_globals} → Run m depth s contexts trace o u t → t.table ≡ s.table
-  run_keeps (ends results e) = refl
-  run_keeps (traps trap e) = refl
-  run_keeps (spent charged) = refl
-  run_keeps (too_deep function args below type f e there deep) = refl
   run_keeps {s} {contexts} (goes {s'} {contexts'} charge e run) = run_keeps run ∙ step_keeps m s contexts contexts' charge s' e
   run_keeps (calls function args below type f e there room run) = run_keeps run
   run_keeps (asks call below e there before run) = run_keeps run
+  run_keeps _ = refl
 
 pub table_stays : (m : Contents) (depth fuel : ℕ) (s : Memory_and_globals) (contexts : List Context) (trace : List HostCall) (outcome : RunEnd) (used : ℕ) (t : Memory_and_globals)
     → RunsWithin m depth fuel s contexts trace outcome used t → t.table ≡ s.table

@@ -1,7 +1,7 @@
 use Rattle.interp.proofs.Words.{◌≡◌, List, [], ◌∷◌, refl, ValType}
 use Rattle.events.specs.Bare.{IsBare}
 use Rattle.events.specs.declared.ended.Ending.{Ending}
-use Rattle.events.specs.declared.ended.Ending.TheVariants.{Return, Trap, Depth, Spent}
+use Rattle.events.specs.declared.ended.Ending.TheVariants.{Return}
 use Rattle.reduction.specs.Running.{AreResults}
 use Rattle.interp.proofs.invoke.invoke_bare.Goals as goal
 
@@ -9,9 +9,7 @@ use Rattle.interp.proofs.invoke.invoke_bare.Goals as goal
 bare_of : (end : Ending) (types : List ValType) → AreResults end types → types ≡ [] → IsBare end
 bare_of (Return []) types fit none = refl
 bare_of (Return (value ∷ values)) types fit none = absurd (cc)
-bare_of (Trap code) types fit none = tt
-bare_of Depth types fit none = tt
-bare_of Spent types fit none = tt
+bare_of _ types fit none = tt
 
 pub of-requires : goal.of-requires
 of-requires g c =

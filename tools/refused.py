@@ -27,7 +27,8 @@ WORDS = re.compile(r"\bAllocError\b|\b(?:\w+Fault|Refusal|Refused|Outcome|JobEnd
 GIVEN_BACK = re.compile(r"\bErr\((?:self|same|core)\)")
 PASSED_ON = re.compile(WORDS.pattern + r"|\bOutOfMemory\b|\bis_memory\(\)")
 ELSE = re.compile(r"\s*[)}\]]*\s*else \{$")
-NO_CODE = re.compile(r"\s*(?:ghost\b|requires\b|ensures\b|invariant\b|decreases\b|(?:pub(?:\(crate\))? )?(?:use|const|fn|type|struct|enum)\b|impl\b|->|\) ->|where\b)")
+NO_CODE = re.compile(r"\s*(?:ghost\b|requires\b|ensures\b|invariant\b|decreases\b|(?:pub(?:\(crate\))? )?(?:use|const|fn|type|struct|enum)\b"
+                     r"|impl\b|->|\) ->|where\b)")
 
 
 class Sources(Texts):

@@ -2,11 +2,15 @@
 """Runs requests of real libraries by this library and by other engines, side by side.
 
     bench/libraries/run.py LIBRARY PEERS [NAME..]
+    bench/libraries/run.py LIBRARY PEERS --load [NAME..]
 
 LIBRARY is libwasmloop.a or a folder with it. PEERS is the folder that ../peers/fetch.sh makes. The guests and the requests are those of
 examples/libraries, NAMEs of its ports or all. A line a request: the milliseconds of this library, and by how much each other engine is
 slower: below 1 it is faster. A request is a fresh instance, `uv_work`, and the instance dropped; the module is loaded (and by wasmi translated)
 before. The engines take turns on one processor under a real-time class, and the fastest of all calls counts. Results and replies are compared.
+
+With --load, a line a module: its bytes, the milliseconds in which this library reads and checks it, by how much each other engine is slower
+to load it (and translate it), and how many bytes each keeps resident for a byte of the module.
 """
 import contextlib
 import math
@@ -23,6 +27,7 @@ import ports  # noqa: E402
 import run as libraries  # noqa: E402
 
 TURNS, CALLS = 5, "3"
+LOADS = "10"
 # A shorter request measures the making of an instance, and is left out of the table.
 LEAST_MS = 0.2
 
@@ -42,33 +47,49 @@ def requests(names):
         yield from ((label, module, operation, request) for label, operation, request in of_name[name])
 
 
-def measure(engines, module, operation, request):
-    """The fastest call of each engine in milliseconds, and whether all gave one answer."""
-    least, answers = dict.fromkeys(engines, math.inf), set()
+def measure(engines, *words):
+    """The fastest call of each engine in milliseconds, and what each printed before its time, turn by turn."""
+    least, told = dict.fromkeys(engines, math.inf), {name: [] for name in engines}
     for turn in range(TURNS):
         os.sched_setaffinity(0, {turn % os.cpu_count()})
         for name, engine in engines.items():
-            *answer, took = engine("work", module, str(operation), request, CALLS)
+            *answer, took = engine(*words)
+            told[name].append(tuple(answer))
             least[name] = min(least[name], int(took) / 1e6)
-            answers.add(tuple(answer))
-    return least, len(answers) == 1
+    return least, told
 
 
 def mean(numbers):
     return math.exp(sum(map(math.log, numbers)) / len(numbers))
 
 
-def main(library, folder, names):
-    peers.before_all_others()
-    engines = peers.engines(library, pathlib.Path(folder))
+def load_modules(engines, names):
+    """The table of loads. A module's bytes are its first request's."""
+    others = [name for name in engines if name != "ours"]
+    print("| module | bytes | ms | " + " | ".join(others) + " | " + " | ".join(f"resident, {name}" for name in engines) + " |")
+    print("|---" * (3 + len(others) + len(engines)) + "|")
+    modules, ratios = {label.partition(":")[0]: module for label, module, _, _ in requests(names)}, []
+    for name, module in modules.items():
+        size = module.stat().st_size
+        ms, told = measure(engines, "load", module, LOADS)
+        row = [ms[it] / ms["ours"] for it in others] + [min(int(resident) for resident, in told[it]) / size for it in engines]
+        ratios.append(row)
+        print(f"| {name} | {size:,} | {ms['ours']:.2f} | " + " | ".join(f"{it:.2f}" for it in row) + " |", flush=True)
+    print("| geometric mean | | | " + " | ".join(f"{mean(column):.2f}" for column in zip(*ratios)) + " |")
+    return 0
+
+
+def run_requests(engines, names):
+    """The table of requests. The status is 1 where results or replies differ."""
     others = [name for name in engines if name != "ours"]
     print("| request | ms | " + " | ".join(others) + " |")
     print("|---" * (len(engines) + 1) + "|")
     ratios, is_right = [], True
     with tempfile.NamedTemporaryFile() as file:
-        for label, module, operation, request in requests(names or list(ports.PORTS)):
+        for label, module, operation, request in requests(names):
             pathlib.Path(file.name).write_bytes(request)
-            ms, is_one = measure(engines, module, operation, file.name)
+            ms, told = measure(engines, "work", module, str(operation), file.name, CALLS)
+            is_one = len(set().union(*told.values())) == 1
             is_right &= is_one
             if ms["ours"] < LEAST_MS and is_one:
                 continue
@@ -77,6 +98,13 @@ def main(library, folder, names):
             print(f"| {label} | {ms['ours']:.2f} | " + " | ".join(f"{it:.2f}" for it in row) + " |" + ("" if is_one else " RESULTS DIFFER"), flush=True)
     print("| geometric mean | | " + " | ".join(f"{mean(column):.2f}" for column in zip(*ratios)) + " |")
     return 0 if is_right else 1
+
+
+def main(library, folder, words):
+    peers.before_all_others()
+    engines = peers.engines(library, pathlib.Path(folder))
+    names = [word for word in words if word != "--load"] or list(ports.PORTS)
+    return load_modules(engines, names) if "--load" in words else run_requests(engines, names)
 
 
 if __name__ == "__main__":

@@ -17,6 +17,7 @@ import sys
 
 import sums
 from audit import TOP, Tree, read
+from sources import finish
 
 FACT = re.compile(r"- ((?:`[a-z_]+::[\w:]+`|`\w+`|the same)[^:]*(?:::[^:]+)*?):(?: |$)")
 PROOFS = TOP / 'docs' / 'PROOFS.md'
@@ -164,10 +165,7 @@ def main():
         sums.renew({fact.key: fact.sums for fact in found} | prose(), ['fact', 'prose'])
     faults = [f"docs/PROOFS.md:{fact.number}: {text}" for fact in found for text in fact.wrong]
     faults += [*changed(found), *(f"docs/AUDIT.sums: {line}" for line in sums.differences(prose(), ['prose'])), *broken_links()]
-    for text in faults:
-        print(text, file=sys.stderr)
-    print(f"{len(found)} facts, {len(faults)} faults")
-    sys.exit(1 if faults else 0)
+    finish(faults, f"{len(found)} facts")
 
 
 if __name__ == '__main__':

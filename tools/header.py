@@ -16,7 +16,7 @@ import re
 import sys
 from pathlib import Path
 
-from sources import Sources as Texts, plant
+from sources import Sources as Texts, finish, plant
 
 TOP = Path(__file__).resolve().parent.parent
 HEADER, CALLS, NAMES, PYTHON, RUST = "capi/include/wasmloop.h", "capi/wasmloop.c", "capi/names.c", "capi/python/wasmloop/__init__.py", "capi/rust/src/lib.rs"
@@ -397,11 +397,8 @@ def main():
         sys.exit(1 if plant(PLANTED, Sources(), faults) else 0)
     sources = Sources()
     found = faults(sources)
-    for fault in found:
-        print(fault, file=sys.stderr)
-    print(f"{len(dict(c_structs(sources)))} structs, {len(c_numbers(sources))} numbers, {len(public_calls(sources))} calls, "
-          f"version {version_of(sources)}, {len(found)} faults")
-    sys.exit(1 if found else 0)
+    finish(found, f"{len(dict(c_structs(sources)))} structs, {len(c_numbers(sources))} numbers, {len(public_calls(sources))} calls, "
+           f"version {version_of(sources)}")
 
 
 if __name__ == "__main__":

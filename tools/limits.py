@@ -14,7 +14,7 @@ import re
 import sys
 from pathlib import Path
 
-from sources import Sources as Texts, plant
+from sources import Sources as Texts, finish, plant
 
 TOP = Path(__file__).resolve().parent.parent
 PAGE, LIMITS, HELPS, LIST = "docs/LIMITS.md", "crates/limits/src/lib.rt", "crates/words/src/grammar.rt", "tools/limits.txt"
@@ -133,12 +133,9 @@ def main():
         sys.exit(1 if plant(PLANTED, Sources(), faults) else 0)
     sources = Sources()
     found = faults(sources)
-    for fault in found:
-        print(fault, file=sys.stderr)
     sentences = sum(len(SENTENCE.findall(string)) for _, string in sources.strings())
-    print(f"{len(constants(sources))} limits, {len(list(rows(sources)))} rows, {sentences} numbers in sentences, "
-          f"{sum(unnamed(sources).values())} in digits in proofs, {len(found)} faults")
-    sys.exit(1 if found else 0)
+    finish(found, f"{len(constants(sources))} limits, {len(list(rows(sources)))} rows, {sentences} numbers in sentences, "
+           f"{sum(unnamed(sources).values())} in digits in proofs")
 
 
 if __name__ == "__main__":

@@ -9,7 +9,7 @@ import re
 import sys
 
 from rows import ByOpcode, Listed, Place, Row, Types
-from sources import Sources, plant
+from sources import Sources, finish, plant
 
 TABLE = "tools/operations.txt"
 SORTS = {"Unary": "IntUnary", "Binary": "IntBinary", "Compare": "IntCompare", "Convert": "Conversion"}
@@ -261,11 +261,7 @@ def main():
         name = words[words.index("--rows") + 1]
         print("\n".join(told for place in ALL for told in place.told(sources, rows, name)) or f"{TABLE} has no row for {name}")
         return
-    found = list(faults(sources))
-    for fault in found:
-        print(fault, file=sys.stderr)
-    print(f"{len(rows)} operations, {len(ALL)} places, {len(found)} faults")
-    sys.exit(1 if found else 0)
+    finish(list(faults(sources)), f"{len(rows)} operations, {len(ALL)} places")
 
 
 if __name__ == "__main__":

@@ -14,6 +14,8 @@ import re
 import sys
 from pathlib import Path
 
+from sources import finish
+
 TOP = Path(__file__).resolve().parent.parent
 CRATE = r"[a-z_]+"
 
@@ -115,11 +117,8 @@ def main():
         return print_rows()
     if '--mermaid' in sys.argv[1:]:
         return print_mermaid()
-    faults = list(wrong((TOP / 'docs' / 'ARCHITECTURE.md').read_text()))
-    for fault in faults:
-        print(f"docs/ARCHITECTURE.md: {fault}", file=sys.stderr)
-    print(f"{len(stands_on())} crates, {len(faults)} faults")
-    sys.exit(1 if faults else 0)
+    faults = wrong((TOP / 'docs' / 'ARCHITECTURE.md').read_text())
+    finish([f"docs/ARCHITECTURE.md: {fault}" for fault in faults], f"{len(stands_on())} crates")
 
 
 if __name__ == '__main__':

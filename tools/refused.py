@@ -19,7 +19,7 @@ import re
 import sys
 from pathlib import Path
 
-from sources import Sources as Texts, plant
+from sources import Sources as Texts, finish, plant
 
 TOP = Path(__file__).resolve().parent.parent
 LIST = "tools/refused.txt"
@@ -119,11 +119,7 @@ def main():
     if "--list" in sys.argv[1:]:
         print(*lines_of(told), sep="\n")
         return
-    found = faults(sources, told)
-    for fault in found:
-        print(fault, file=sys.stderr)
-    print(f"{len(lines_of(told))} conditions under which memory is said to be refused, {len(found)} faults")
-    sys.exit(1 if found else 0)
+    finish(faults(sources, told), f"{len(lines_of(told))} conditions under which memory is said to be refused")
 
 
 if __name__ == "__main__":

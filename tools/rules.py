@@ -13,7 +13,7 @@ import re
 import sys
 from pathlib import Path
 
-from sources import Sources as Texts, plant
+from sources import Sources as Texts, finish, plant
 
 TOP = Path(__file__).resolve().parent.parent
 LIST = "tools/rules.txt"
@@ -118,11 +118,7 @@ def main():
     if "--list" in sys.argv[1:]:
         for rule, why in stated:
             print(f"{rule}: {why or ', '.join(where.get(rule, ['nowhere']))}")
-    for fault in found:
-        print(fault, file=sys.stderr)
-    print(f"{sum(not why for _, why in stated)} rules of WebAssembly Core are to be named, {sum(bool(why) for _, why in stated)} have a reason why not, "
-          f"{len(found)} faults")
-    sys.exit(1 if found else 0)
+    finish(found, f"{sum(not why for _, why in stated)} rules of WebAssembly Core are to be named, {sum(bool(why) for _, why in stated)} have a reason why not")
 
 
 if __name__ == "__main__":

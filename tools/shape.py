@@ -16,6 +16,8 @@ import re
 import sys
 from pathlib import Path
 
+from sources import finish
+
 TOP = Path(__file__).resolve().parent.parent
 LIST = TOP / "tools" / "shape.txt"
 MOST = {"arguments": 7, "lines": 40, "levels": 3, "columns": 200, "crates": 1}
@@ -263,10 +265,7 @@ def main():
         return renew()
     texts, exceptions = sources(), listed()
     found = list(faults(texts | sources("specs/**/*.antt"), exceptions))
-    for fault in found:
-        print(fault, file=sys.stderr)
-    print(f"{sum(len(list(functions(text))) for text in texts.values())} functions, {len(exceptions)} exceptions, {len(found)} faults")
-    sys.exit(1 if found else 0)
+    finish(found, f"{sum(len(list(functions(text))) for text in texts.values())} functions, {len(exceptions)} exceptions")
 
 
 if __name__ == "__main__":

@@ -1,6 +1,7 @@
 """The texts of the tree, for the tools that compare them, and the faults that these plant in them as their tests."""
 
 import re
+import sys
 from pathlib import Path
 
 TOP = Path(__file__).resolve().parent.parent
@@ -27,3 +28,11 @@ def plant(planted, whole, faults):
         missed += not found
     print(f"{len(planted)} faults planted, {missed} missed")
     return missed
+
+
+def finish(found, told):
+    """Prints each fault that was found, then what was looked at and how many faults there are. Ends with status 1 where there is one."""
+    for fault in found:
+        print(fault, file=sys.stderr)
+    print(f"{told}, {len(found)} faults")
+    sys.exit(1 if found else 0)

@@ -11,7 +11,7 @@ import sys
 from pathlib import Path
 
 from rows import Place, Row
-from sources import Sources, plant
+from sources import Sources, finish, plant
 
 TOP = Path(__file__).resolve().parent.parent
 HEADER, RUST, PAGE = "examples/uv.h", "examples/uv.rs", "docs/UV.md"
@@ -248,12 +248,8 @@ def main():
         return
     if "--write" in sys.argv[1:]:
         (TOP / PAGE).write_text(page_of(sources.text(HEADER)))
-    found = list(faults(sources))
-    for fault in found:
-        print(fault, file=sys.stderr)
     header = Header(sources.text(HEADER))
-    print(f"{len(header.types())} calls, {len(header.numbers)} numbers, {len(found)} faults")
-    sys.exit(1 if found else 0)
+    finish(list(faults(sources)), f"{len(header.types())} calls, {len(header.numbers)} numbers")
 
 
 if __name__ == "__main__":

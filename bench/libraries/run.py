@@ -64,7 +64,7 @@ def mean(numbers):
 
 
 def load_modules(engines, names):
-    """The table of loads. A module's bytes are its first request's."""
+    """The table of loads, a row for each library."""
     others = [name for name in engines if name != "ours"]
     print("| module | bytes | ms | " + " | ".join(others) + " | " + " | ".join(f"resident, {name}" for name in engines) + " |")
     print("|---" * (3 + len(others) + len(engines)) + "|")

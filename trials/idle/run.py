@@ -3,20 +3,21 @@
 
     trials/idle/run.py PROGRAM
 
-A guest asks for one piece of work, a loop that counts down; all loops together spend 300,000,000 units of fuel so. The processor
-time of `serve` is divided by that of `work` on the same pieces, one after another. The status is 1 if a ratio is above 1.4: where one
-thread of those that wait takes turns instead, it is 2 or more.
+A guest asks for one piece of work, a loop that counts down; all loops together spend 300,000,000 units of fuel so. As many threads of
+`serve` as there are pieces and workers for them have something to do. The status is 1 if the others take more than a twentieth of the
+processor time of all: a single one that spins takes a tenth or more, those that wait half a hundredth. All times are of one run, so that
+a machine that is busy or slow changes nothing.
 """
 import os
-import resource
 import subprocess
 import sys
 import tempfile
+import time
 
 # turns of all loops together, each of 6 units
 TURNS = 50_000_000
 
-MOST = 1.4
+MOST = 0.05
 
 # uv_work counts its operation down, and uv_after_work emits its kind.
 WORK = bytes.fromhex("000340200041016b22000d000b41000b")
@@ -38,13 +39,28 @@ def guest(turns):
     return HEAD + bytes([0x0A, len(code)]) + code
 
 
-def spent(words):
-    """The processor time of a command, in seconds, and what it prints."""
-    before = resource.getrusage(resource.RUSAGE_CHILDREN)
-    ran = subprocess.run(words, capture_output=True, text=True)
-    after = resource.getrusage(resource.RUSAGE_CHILDREN)
-    took = after.ru_utime + after.ru_stime - before.ru_utime - before.ru_stime
-    return took, ran.stdout
+def times_of(process):
+    """The processor time in seconds that each thread of a process has taken so far, by its number."""
+    times = {}
+    folder = f"/proc/{process}/task"
+    try:
+        for thread in os.listdir(folder):
+            with open(f"{folder}/{thread}/schedstat") as stat:
+                times[thread] = int(stat.read().split()[0]) / 1e9
+    except OSError:
+        # the process, or a thread of it, has ended
+        pass
+    return times
+
+
+def spent(words, out):
+    """The processor time of each thread of a command, as last seen, from the longest on."""
+    times = {}
+    with subprocess.Popen(words, stdout=out) as ran:
+        while ran.poll() is None:
+            times.update(times_of(ran.pid))
+            time.sleep(0.002)
+    return sorted(times.values(), reverse=True)
 
 
 def main(words):
@@ -60,15 +76,21 @@ def main(words):
             with open(file, "wb") as out:
                 out.write(guest(turns))
             fuel = str(6 * turns + 10)
-            alone = sum(spent([program, "work", file, str(turns), "", "--fuel", fuel])[0] for _ in range(loops))
             shape = ["--loops", str(loops), "--workers", str(workers), "--work-fuel", fuel]
-            took, told = spent([program, "serve", file, *shape])
+            with tempfile.TemporaryFile("w+") as out:
+                times = spent([program, "serve", file, *shape], out)
+                out.seek(0)
+                told = out.read()
             if told != "".join(f"loop {loop} over emits 0\n" for loop in range(loops)):
                 print(f"serve prints {told!r}")
                 return 1
-            ratio = took / alone
-            print(f"{loops} loops, {workers} workers: {took:.2f} s, {ratio:.2f} times the jobs' own {alone:.2f} s")
-            if ratio > MOST:
+            busy = min(loops, workers)
+            if len(times) <= busy:
+                print(f"the times of {len(times)} threads were seen, of {loops} loops and {workers} workers")
+                return 1
+            waiting = sum(times[busy:]) / sum(times)
+            print(f"{loops} loops, {workers} workers: {sum(times):.2f} s in {len(times)} threads, of which {100 * waiting:.1f} percent in those that wait")
+            if waiting > MOST:
                 status = 1
     return status
 

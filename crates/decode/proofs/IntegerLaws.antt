@@ -1,5 +1,5 @@
 -- Where no integer is read, at its last byte.
-use Rattle.std.proofs.Common.{◌≡◌, ℕ, ◌+◌, ◌-◌, ◌*◌, ◌<◌, ◌≤◌, List, [], ◌∷◌, ◌++◌, length, refl, ap, sym, subst, ◌∙◌, append_assoc, length-append, arith, inl, inr, ℤ}
+use Rattle.std.proofs.Common.{◌≡◌, ℕ, ◌+◌, ◌-◌, ◌*◌, ◌<◌, ◌≤◌, List, [], ◌∷◌, ◌++◌, length, refl, ap, sym, ◌∙◌, append_assoc, length-append, arith, inl, inr, ℤ}
 use Rattle.std.specs.Prelude.{◌≢◌}
 use Rattle.leb.specs.Spelling.{SpellsUnsigned, SpellsSigned, NoneStandsAt, greatest_length}
 use Rattle.leb.specs.LebFault.{RunsOn, IsOutOfRange}
@@ -33,7 +33,7 @@ at_longest {V} Spells N {longest} {bytes} {e} short some none room left = record
   within = λ is. (omega (arith, left, room), omega (arith, left, some));
   holds = λ other so.
       elim so [
-        | inl same ↦ subst (λ (t : List ℕ). NoneStandsAt Spells N t 0) same none
+        | inl same ↦ rw same at none
         | inr k ↦ λ front behind v split s.
             let a = k.1 in
             let place = a.place in

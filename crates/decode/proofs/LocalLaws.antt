@@ -1,7 +1,8 @@
 -- Groups of locals that are read one behind the other.
-use Rattle.std.proofs.Common.{◌≡◌, ◌≤◌, ◌<◌, ◌+◌, ◌-◌, List, [], ◌∷◌, ◌++◌, ℕ, Result, Ok, Err, length, take, replicate, refl, ap, sym, subst, ◌∙◌, append_assoc, append-nil, length-append, arith}
+use Rattle.std.proofs.Common.{◌≡◌, ◌≤◌, ◌<◌, ◌+◌, ◌-◌, List, [], ◌∷◌, ◌++◌, ℕ, Result, Ok, Err, length, take, replicate, refl, ap, sym, ◌∙◌, append_assoc, append-nil, length-append, arith}
 use Rattle.std.proofs.lemmas.List.{take_all, length-replicate}
 use Rattle.std.specs.Borrow.{Bor}
+use Rattle.limits.specs.declared.TheConstants.{MAX_LOCALS}
 use Rattle.syntax.specs.declared.types.ValType.{ValType}
 use Rattle.syntax.specs.Language.{Language, items, u32, Leaves, IsPrefixFree}
 use Rattle.syntax.specs.Binary.{Locals, group, ungrouped}
@@ -35,10 +36,10 @@ pub record Grouped (count : ℕ) (types : List ValType) (bytes rest : List ℕ) 
   pub as_many : length groups ≡ count
   pub spelled : Leaves (items group groups) bytes rest
   pub all : types ≡ ungrouped groups
-  pub few : length types ≤ 256
+  pub few : length types ≤ MAX_LOCALS
 
 pub group_more : {count : ℕ} {types more : List ValType} {bytes mid rest : List ℕ} (g : ℕ × ValType) → Grouped count types bytes mid
-    → Leaves (group g) mid rest → more ≡ types ++ replicate g.0 g.1 → g.0 + length types ≤ 256 → Grouped (count + 1) more bytes rest
+    → Leaves (group g) mid rest → more ≡ types ++ replicate g.0 g.1 → g.0 + length types ≤ MAX_LOCALS → Grouped (count + 1) more bytes rest
 group_more {count} {types} {more} {bytes} {mid} {rest} g h k e few =
     let old = h.as_many in
     record {
@@ -69,19 +70,19 @@ record Begins {V : Type 0} (G : V → Language) (vs ws : List V) (mid rest : Lis
 
 items_begin : {V : Type 0} {G : V → Language} → IsPrefixFree G → (vs ws : List V) (bytes mid rest : List ℕ) → length vs ≤ length ws
     → Leaves (items G vs) bytes mid → Leaves (items G ws) bytes rest → Begins G vs ws mid rest
-items_begin {V} {G} g [] ws bytes mid rest l h k = record { more = ws; whole = refl; behind = subst (λ t. Leaves (items G ws) t rest) (items_none h) k }
+items_begin {V} {G} g [] ws bytes mid rest l h k = record { more = ws; whole = refl; behind = rw (items_none h) at k }
 items_begin g (v ∷ vs) [] bytes mid rest l h k = absurd (omega arith)
 items_begin {V} {G} g (v ∷ vs) (w ∷ ws) bytes mid rest l h k =
     let a = apart h in
     let b = apart k in
     let here = g.one v w bytes a.mid b.mid a.first b.first in
     let fewer : length vs ≤ length ws = omega arith in
-    let r = items_begin g vs ws b.mid mid rest fewer (subst (λ m. Leaves (items G vs) m mid) here.1 a.second) b.second in
+    let r = items_begin g vs ws b.mid mid rest fewer (rw here.1 at a.second) b.second in
     record { more = r.more; whole = ap (λ u. u ∷ ws) (sym here.0) ∙ ap (λ us. v ∷ us) r.whole; behind = r.behind }
 
 -- where the locals of one group more are too many
 pub too_many : {count read : ℕ} {types : List ValType} {bytes mid behind : List ℕ} (g : ℕ × ValType) → read < count → Grouped read types bytes mid
-    → Leaves (group g) mid behind → 256 < g.0 + length types → NoneLeaves (LocalsOf count) bytes
+    → Leaves (group g) mid behind → MAX_LOCALS < g.0 + length types → NoneLeaves (LocalsOf count) bytes
 too_many {count} {read} {types} {bytes} {mid} {behind} g l h k long all rest w =
     let s = w.spelled in
     let many = s.as_many in
@@ -100,7 +101,7 @@ pub locals_counted : {count : ℕ} {bytes mid : List ℕ} → Leaves (u32 count)
     → ReadsText (LocalsOf count) mid result → ReadsText Locals bytes result
 locals_counted {count} {bytes} {mid} h (Ok r) k =
     let s = k.spelled in
-    let all = joined (subst (λ n. Leaves (u32 n) bytes mid) (sym s.as_many) h) (record { front = k.front; spelled = s.spelled; split = k.split }) in
+    let all = joined (rw s.as_many h) (record { front = k.front; spelled = s.spelled; split = k.split }) in
     record { front = all.front; spelled = record { groups = s.groups; spelled = all.spelled; all = s.all; few = s.few }; split = all.split }
 locals_counted h (Err e) k = λ ok. after h (k ok) (λ t m l none types rest v.
     let a = leaves_locals v in

@@ -50,7 +50,7 @@ after {L} {N} {P} {bytes} {mid} {e} l r goes = record {
       (w.0, omega (arith, few, all));
   holds = λ other so.
       elim so [
-        | inl same ↦ goes other mid (subst (λ t. Leaves L t mid) same l) (r.holds mid (inl refl))
+        | inl same ↦ goes other mid (rw same at l) (r.holds mid (inl refl))
         | inr k ↦
             let w = r.within k.0 in
             let few = w.1 in
@@ -96,7 +96,7 @@ pub with_first : {N : List ℕ → Type 0} {b : ℕ} {bytes rest : List ℕ} {e 
 with_first {N} {b} {bytes} {rest} {e} l r = record {
   within = r.within;
   holds = λ other so. elim so [
-    | inl same ↦ (rest, subst (λ t. Leaves (byte b) t rest) same l, r.holds other (inl same))
+    | inl same ↦ (rest, rw same at l, r.holds other (inl same))
     | inr k ↦
         let w = r.within k.0 in
         let few = w.1 in
@@ -124,7 +124,7 @@ stops {L} {P} {bytes} {rest} {e} l some within few goes = record {
   within = λ is. (some, within);
   holds = λ other so.
       elim so [
-        | inl same ↦ goes other rest (subst (λ t. Leaves L t rest) same l) (omega (arith, some))
+        | inl same ↦ goes other rest (rw same at l) (omega (arith, some))
         | inr k ↦
             let a = k.1 in
             let place = a.place in
@@ -172,7 +172,7 @@ in_contents {P} {contents} {mid} {rest} {e} ok short l s = record {
   holds = λ other so.
       elim so [
         | inl same ↦ λ v r n k.
-            let e = exactly_same contents v mid rest r n l (subst (λ t. Leaves (exactly v) t r) (sym same) k) in
+            let e = exactly_same contents v mid rest r n l (rw same k) in
             subst P e.0 (inner.holds contents (inl refl))
         | inr j ↦ λ v r n k.
             let is = subst IsOfAByte s.told j.0 in
@@ -220,4 +220,4 @@ inside {P} {contents} {bytes} {rest} {e} ok short l s =
     after a.first (in_contents ok short a.second s) (λ text mid k none v r h.
     let b = apart h in
     let same = free_u32.one (length contents) (length v) text mid b.mid k b.first in
-    none v r same.0 (subst (λ m. Leaves (exactly v) m r) (sym same.1) b.second))
+    none v r same.0 (rw same.1 b.second))

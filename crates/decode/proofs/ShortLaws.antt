@@ -1,6 +1,7 @@
 -- What is read of a module's bytes, and what is left of them, is no longer than they are.
 use Rattle.std.proofs.Common.{◌≡◌, ℕ, ◌≤◌, List, [], ◌∷◌, ◌++◌, Bool, true, false, Option, Some, None, IfSome, if◌then◌else◌, length, ap, length-append, nat_eq, arith}
 use Rattle.std.specs.Prelude.{unwrap_or}
+use Rattle.limits.specs.declared.TheConstants.{MAX_MODULE_BYTES}
 use Rattle.syntax.specs.Language.{Language, Leaves, items, counted}
 use Rattle.syntax.specs.Binary.{Section, section, section_of, contents_of}
 use Rattle.decode.specs.Inner.Reading.{FitsModule}
@@ -47,4 +48,4 @@ or_none None h = omega arith
 or_none (Some c) h = h
 
 pub sections_short : (ss : List Section) (bytes : List ℕ) → FitsModule bytes → items section ss bytes → (id : ℕ) → FitsModule (contents_of id ss)
-sections_short ss bytes short h id = or_none (section_of id ss) (longer (section_of id ss) (length bytes) 1048576 short (section_among id ss bytes h))
+sections_short ss bytes short h id = or_none (section_of id ss) (longer (section_of id ss) (length bytes) MAX_MODULE_BYTES short (section_among id ss bytes h))

@@ -1,6 +1,6 @@
 // The results of a call.
 
-ghost use Rattle.std.specs.Prelude.{◌≡◌, ◌≤◌, ◌<◌, ◌++◌, [], ◌∷◌, length, slice_get};
+ghost use Rattle.std.specs.Prelude.{◌≡◌, ◌≤◌, [], length, slice_get};
 
 use limits::MAX_RESULTS;
 use std::marker::Model;
@@ -45,22 +45,6 @@ impl Values {
             items: [Value::I32(0); MAX_RESULTS],
             count: 0,
         }
-    }
-
-    /// Takes all values away.
-    pub fn clear(&mut self)
-        ensures { self.new ≡ [] }
-    {
-        self.count = 0;
-    }
-
-    /// Adds a value behind them.
-    pub fn push(&mut self, value: Value)
-        requires { length self.old < MAX_RESULTS }
-        ensures { self.new ≡ self.old ++ (value ∷ []) }
-    {
-        self.items[self.count] = value;
-        self.count += 1;
     }
 
     /// The values, the first first.

@@ -36,10 +36,10 @@ same_with_zeros total more front longer is fits =
 -- a page has a whole number of steps, of both sizes
 rounded_by : (fine : Bool) (end count : ℕ) → end ≤ count * PAGE_SIZE → next_multiple_of end (if fine then FINE_STEP else STEP) ≤ count * PAGE_SIZE
 rounded_by true end count within =
-    let r : end + (256 - end % 256) % 256 ≤ count * 65536 = omega arith in
+    let r : end + (FINE_STEP - end % FINE_STEP) % FINE_STEP ≤ count * PAGE_SIZE = omega arith in
     r
 rounded_by false end count within =
-    let r : end + (1024 - end % 1024) % 1024 ≤ count * 65536 = omega arith in
+    let r : end + (STEP - end % STEP) % STEP ≤ count * PAGE_SIZE = omega arith in
     r
 
 pub rounded_within : (end count : ℕ) → end ≤ count * PAGE_SIZE → rounded end ≤ count * PAGE_SIZE

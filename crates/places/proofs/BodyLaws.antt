@@ -1,5 +1,5 @@
 -- A byte lies in one body only.
-use Rattle.std.proofs.Common.{◌≡◌, ℕ, ◌+◌, ◌*◌, ◌<◌, ◌≤◌, List, [], ◌∷◌, ◌++◌, length, drop, Bool, true, false, rules, Option, Some, None, IfSome, refl, ap, sym, subst, ◌∙◌, append-nil, arith, ◌⊎◌, inl, inr, ◌↔◌, nat_lt}
+use Rattle.std.proofs.Common.{◌≡◌, ℕ, ◌+◌, ◌*◌, ◌<◌, ◌≤◌, List, [], ◌∷◌, ◌++◌, length, drop, Bool, true, false, rules, Option, Some, None, IfSome, refl, ap, sym, ◌∙◌, append-nil, arith, ◌⊎◌, inl, inr, ◌↔◌, nat_lt}
 use Rattle.std.specs.Prelude.{slice_range, IsTrue}
 use Rattle.std.proofs.lemmas.List.{length-drop, length-append}
 use Rattle.std.proofs.lemmas.Bool.{ltb_from_iff}
@@ -41,7 +41,7 @@ first_same {bytes} {held} x y =
 
 bodies_of : {bytes : List ℕ} {held n m a f t b g u : ℕ} (x : BodyAt bytes held n a f t) (y : BodyAt bytes held m b g u)
     → Leaves (items counted y.before) (drop x.first bytes) (drop b bytes)
-bodies_of {bytes} {held} {b = b} x y = subst (λ (p : ℕ). Leaves (items counted y.before) (drop p bytes) (drop b bytes)) (sym (first_same x y).1) y.in_front.spelled
+bodies_of {bytes} {held} {b = b} x y = rw (first_same x y).1 y.in_front.spelled
 
 -- the bodies up to the end of one
 through : {bytes : List ℕ} {held n a f t : ℕ} (x : BodyAt bytes held n a f t) → Leaves (items counted (x.before ++ slice_range bytes f t ∷ [])) (drop x.first bytes) (drop t bytes)
@@ -68,7 +68,7 @@ body_same {bytes} {held} {n} {a} {f} {t} {b} {g} {u} x y =
     let none : length o.more ≡ 0 = omega (arith, k, l, many, length-append x.before o.more) in
     let here : drop a bytes ≡ drop b bytes = empty o.more none o.between in
     let s = free_counted.one (slice_range bytes f t) (slice_range bytes g u) (drop b bytes) (drop t bytes) (drop u bytes)
-    (subst (λ (s : List ℕ). Leaves (counted (slice_range bytes f t)) s (drop t bytes)) here x.here.spelled) y.here.spelled in
+    (rw here at x.here.spelled) y.here.spelled in
     let long : length (slice_range bytes f t) ≡ length (slice_range bytes g u) = ap length s.0 in
     let i : t ≤ length bytes = x.here.within in
     let j : u ≤ length bytes = y.here.within in
@@ -93,7 +93,7 @@ body_one at {bytes} {held} {n} {m} {a} {f} {t} {b} {g} {u} x i j y k l = go (eit
     either_way n m = search rules
 
     go : (n ≡ m) ⊎ ((n < m) ⊎ (m < n)) → (f ≡ g) × (t ≡ u)
-    go (inl e) = let s = body_same (subst (λ (c : ℕ). BodyAt bytes held c a f t) e x) y in (s.1, s.2)
+    go (inl e) = let s = body_same (rw e at x) y in (s.1, s.2)
     go (inr (inl less)) = let o : t ≤ b = later_body x y less in absurd (omega arith)
     go (inr (inr less)) = let o : u ≤ a = later_body y x less in absurd (omega arith)
 
@@ -119,8 +119,8 @@ missed_more number at {bytes} {held} {b} {f} {t} missed x not n c g u less y i j
 
     go : (n ≡ number) ⊎ ((n < number) ⊎ (number < n)) → ⊥
     go (inl e) =
-        let s = body_same (subst (λ (m : ℕ). BodyAt bytes held m c g u) e y) x in
-        not (subst (λ (p : ℕ). p ≤ at) s.0 i, subst (λ (p : ℕ). at < p) s.2 j)
+        let s = body_same (rw e at y) x in
+        not (rw s.0 at i, rw s.2 at j)
     go (inr (inl fewer)) = missed n c g u fewer y i j
     go (inr (inr more)) = omega (arith, less, more)
 
@@ -139,11 +139,11 @@ no_body_behind at {bytes} {held} {count} {first} {number} {here} s p none missed
         let l : length x.before ≡ n = x.as_many in
         let e = free_u32.one x.count count (drop held bytes) (drop x.first bytes) (drop first bytes) x.counted_first.spelled s.spelled in
         let o = on free_counted p.before x.before (drop x.first bytes) (drop here bytes) (drop b bytes) (omega (arith, k, l, more))
-        (subst (λ (r : List ℕ). Leaves (items counted p.before) r (drop here bytes)) (sym e.1) p.stand) x.in_front.spelled in
+        (rw (← e.1) at p.stand) x.in_front.spelled in
         stuck o.more o.between
       where
         stuck : (more : List (List ℕ)) → Leaves (items counted more) (drop here bytes) (drop b bytes) → ⊥
-        stuck [] l = none (slice_range bytes f t) (drop t bytes) (subst (λ (r : List ℕ). Leaves (counted (slice_range bytes f t)) r (drop t bytes)) (sym (items_none l)) x.here.spelled)
+        stuck [] l = none (slice_range bytes f t) (drop t bytes) (rw (items_none l) x.here.spelled)
         stuck (v ∷ more) l = let a = apart l in none v a.mid a.first
 
 -- All bodies are walked past.
@@ -180,27 +180,26 @@ locals_one {held} {x} {y} h k =
     let b = apart k.1 in
     let u = free_u32.one h.0 k.0 held a.mid b.mid a.first b.first in
     repeated_one integer_one (k.0 * 2) b.mid x y
-    (subst (λ (n : ℕ). Leaves (repeated (n * 2) integer) b.mid x) u.0 (subst (λ (r : List ℕ). Leaves (repeated (h.0 * 2) integer) r x) u.1 a.second)) b.second
+    (rw (u.1, u.0) at a.second) b.second
 
 pub no_code : {bytes : List ℕ} {at : ℕ} → ((s : Section) (rest : List ℕ) → FirstSection bytes 10 s rest → ⊥) → (told : Bool) → IsInLocals bytes at told → ⊥
 no_code none told h = none _ _ (first_section h.body.3)
 
 pub no_body_with : {bytes : List ℕ} {at code held end : ℕ} → FirstSectionAt bytes 10 code held end → NoBody bytes held at → (told : Bool) → IsInLocals bytes at told → ⊥
 no_body_with {bytes} {at} {code} {held} {end} s none told h =
-    none h.number h.begin h.from h.to (subst (λ (p : ℕ). BodyAt bytes p h.number h.begin h.from h.to) (section_same h.body.3 s) h.body.4) h.after h.before
+    none h.number h.begin h.from h.to (rw (section_same h.body.3 s) at h.body.4) h.after h.before
 
 -- what is told is of the body that was found
 its_body : {bytes : List ℕ} {at code held end n b f t : ℕ} → FirstSectionAt bytes 10 code held end → BodyAt bytes held n b f t → b ≤ at → at < t
     → {told : Bool} (h : IsInLocals bytes at told) → (h.from ≡ f) × (h.to ≡ t)
 its_body {bytes} {at} {code} {held} {end} {n} {b} {f} {t} s x i j {told} h =
-    body_one at (subst (λ (p : ℕ). BodyAt bytes p h.number h.begin h.from h.to) (section_same h.body.3 s) h.body.4) h.after h.before x i j
+    body_one at (rw (section_same h.body.3 s) at h.body.4) h.after h.before x i j
 
 pub no_locals : {bytes : List ℕ} {at code held end n b f t : ℕ} → FirstSectionAt bytes 10 code held end → BodyAt bytes held n b f t → b ≤ at → at < t
     → ((groups : ℕ) → LeavesNone (u32 groups ⨾ repeated (groups * 2) integer) (slice_range bytes f t)) → (told : Bool) → IsInLocals bytes at told → ⊥
 no_locals {bytes} {at} {code} {held} {end} {n} {b} {f} {t} s x i j none told h =
     let e = its_body s x i j h in
-    none h.groups h.behind (subst (λ (p : ℕ). Leaves (u32 h.groups ⨾ repeated (h.groups * 2) integer) (slice_range bytes p t) h.behind) e.0
-    (subst (λ (q : ℕ). Leaves (u32 h.groups ⨾ repeated (h.groups * 2) integer) (slice_range bytes h.from q) h.behind) e.1 h.locals))
+    none h.groups h.behind (rw (e.1, e.0) at h.locals)
 
 pub locals_there : (first : ℕ) {bytes : List ℕ} {at code held end n b f t : ℕ} → FirstSectionAt bytes 10 code held end → BodyAt bytes held n b f t → b ≤ at → at < t
     → (groups : ℕ) × Leaves (u32 groups ⨾ repeated (groups * 2) integer) (slice_range bytes f t) (drop first (slice_range bytes f t)) → first ≤ length (slice_range bytes f t)
@@ -238,8 +237,7 @@ locals_there first {bytes} {at} {code} {held} {end} {n} {b} {f} {t} s x i j l sh
     same told h =
         let e = its_body s x i j h in
         let locals : Leaves (u32 h.groups ⨾ repeated (h.groups * 2) integer) (slice_range bytes f t) h.behind =
-        subst (λ (p : ℕ). Leaves (u32 h.groups ⨾ repeated (h.groups * 2) integer) (slice_range bytes p t) h.behind) e.0
-        (subst (λ (q : ℕ). Leaves (u32 h.groups ⨾ repeated (h.groups * 2) integer) (slice_range bytes h.from q) h.behind) e.1 h.locals) in
+        rw (e.1, e.0) at h.locals in
         let rest : length h.behind ≡ length behind = ap length (locals_one (h.groups, locals) l) in
         let to : h.to ≡ t = e.1 in
         ltb_from_iff (λ y. let r : at + length h.behind < h.to = h.same.0 y in omega (arith, r, rest, to, ends), λ y. h.same.1 (omega (arith, y, rest, to, ends)))
@@ -265,4 +263,4 @@ pub no_types : (held : List ℕ) (groups first : ℕ) → Leaves (u32 groups) he
 no_types held groups first one none g rest h =
     let a = apart h in
     let u = free_u32.one g groups held a.mid (drop first held) a.first one in
-    none rest (subst (λ (n : ℕ). Leaves (repeated (n * 2) integer) (drop first held) rest) u.0 (subst (λ (t : List ℕ). Leaves (repeated (g * 2) integer) t rest) u.1 a.second))
+    none rest (rw (u.1, u.0) at a.second)

@@ -69,8 +69,8 @@ front_of bytes at b found =
 pub runs_more : {bytes : List ℕ} {at next b : ℕ} → Runs bytes at next → slice_get bytes next ≡ Some b → 2 ^ 7 ≤ b → Runs bytes at (next + 1)
 runs_more {bytes} {at} {next} {b} r found top = record {
   order = (let o : at ≤ next = r.order in omega arith);
-  forth = λ rest h. integer_shorter top (subst (λ (t : List ℕ). Leaves integer t rest) (front_of bytes next b found) (r.forth rest h));
-  back = λ rest h. r.back rest (subst (λ (t : List ℕ). Leaves integer t rest) (sym (front_of bytes next b found)) (integer_longer top h));
+  forth = λ rest h. integer_shorter top (rw (front_of bytes next b found) at (r.forth rest h));
+  back = λ rest h. r.back rest (rw (front_of bytes next b found) (integer_longer top h));
 }
 
 pub integer_ends : {bytes : List ℕ} {at next b : ℕ} → Runs bytes at next → slice_get bytes next ≡ Some b → b < 2 ^ 7 → Leaves integer (drop at bytes) (drop (next + 1) bytes)
@@ -85,7 +85,7 @@ pub repeated_none : (L : Language) (bytes : List ℕ) → Leaves (repeated 0 L) 
 repeated_none L bytes = record { front = []; spelled = refl; split = refl }
 
 pub repeated_more : {L : Language} (n : ℕ) {bytes mid rest : List ℕ} → Leaves (repeated n L) bytes mid → Leaves L mid rest → Leaves (repeated (suc n) L) bytes rest
-repeated_more {L} zero {bytes} {mid} {rest} h k = joined (subst (λ (t : List ℕ). Leaves L t rest) (sym (items_none h)) k) (repeated_none L rest)
+repeated_more {L} zero {bytes} {mid} {rest} h k = joined (rw (items_none h) k) (repeated_none L rest)
 repeated_more {L} (suc n) {bytes} {mid} {rest} h k = let a = apart h in joined a.first (repeated_more n a.second k)
 
 pub repeated_one : {L : Language} → LeavesOne L → (n : ℕ) → LeavesOne (repeated n L)
@@ -93,7 +93,7 @@ repeated_one {L} one zero bytes x y h k = sym (items_none h) ∙ items_none k
 repeated_one {L} one (suc n) bytes x y h k =
     let a = apart h in
     let b = apart k in
-    repeated_one one n b.mid x y (subst (λ (t : List ℕ). Leaves (repeated n L) t x) (one bytes a.mid b.mid a.first b.first) a.second) b.second
+    repeated_one one n b.mid x y (rw (one bytes a.mid b.mid a.first b.first) at a.second) b.second
 
 -- Where fewer stand and no other behind them, so many don't stand.
 pub repeated_ends : {L : Language} → LeavesOne L → (n count : ℕ) → n < count → {bytes mid : List ℕ} → Leaves (repeated n L) bytes mid → LeavesNone L mid
@@ -118,14 +118,14 @@ operation_kinds : {b : ℕ} {bytes rest : List ℕ} → Leaves (operation b) byt
 operation_kinds {b} {bytes} {rest} h = go h.spelled
   where
     go : operation b h.front → ((b ≡ 0x0e) × Table bytes rest) ⊎ ((b ≡ 0x0e → ⊥) × Plain b bytes rest)
-    go (inl t) = inl (t.0, (t.1, record { front = h.front; spelled = subst (λ (c : ℕ). (byte c ⨾ u32 t.1 ⨾ repeated (t.1 + 1) integer) h.front) t.0 t.2; split = h.split }))
+    go (inl t) = inl (t.0, (t.1, record { front = h.front; spelled = rw t.0 at t.2; split = h.split }))
     go (inr t) = inr (t.0, record { front = h.front; spelled = t.1; split = h.split })
 
 pub opcode_of : {b : ℕ} {bytes rest : List ℕ} → Leaves (operation b) bytes rest → (mid : List ℕ) × Leaves (byte b) bytes mid
 opcode_of {b} {bytes} {rest} h = go (operation_kinds h)
   where
     go : ((b ≡ 0x0e) × Table bytes rest) ⊎ ((b ≡ 0x0e → ⊥) × Plain b bytes rest) → (mid : List ℕ) × Leaves (byte b) bytes mid
-    go (inl t) = let a = apart t.1.1 in (a.mid, subst (λ (c : ℕ). Leaves (byte c) bytes a.mid) (sym t.0) a.first)
+    go (inl t) = let a = apart t.1.1 in (a.mid, rw t.0 a.first)
     go (inr t) = let a = apart t.1 in (a.mid, a.first)
 
 table_one : (bytes x y : List ℕ) → Table bytes x → Table bytes y → x ≡ y
@@ -144,7 +144,7 @@ plain_one b bytes x y h k =
     let a = apart h in
     let c = apart k in
     let opcode = free_byte.one b b bytes a.mid c.mid a.first c.first in
-    repeated_one integer_one (immediates_of b) c.mid x y (subst (λ (t : List ℕ). Leaves (repeated (immediates_of b) integer) t x) opcode.1 a.second) c.second
+    repeated_one integer_one (immediates_of b) c.mid x y (rw opcode.1 at a.second) c.second
 
 operation_same : (b : ℕ) (bytes x y : List ℕ) → ((b ≡ 0x0e) × Table bytes x) ⊎ ((b ≡ 0x0e → ⊥) × Plain b bytes x)
     → ((b ≡ 0x0e) × Table bytes y) ⊎ ((b ≡ 0x0e → ⊥) × Plain b bytes y) → x ≡ y
@@ -159,14 +159,14 @@ free_operation = record {
       let o = opcode_of h in
       let p = opcode_of k in
       let e = (free_byte.one b c bytes o.0 p.0 o.1 p.1).0 in
-      (e, operation_same c bytes x y (operation_kinds (subst (λ (o : ℕ). Leaves (operation o) bytes x) e h)) (operation_kinds k));
+      (e, operation_same c bytes x y (operation_kinds (rw e at h)) (operation_kinds k));
   filled = λ b rest h. let o = opcode_of h in free_byte.filled b o.0 o.1;
 }
 
 table_text : {bytes rest : List ℕ} {b : ℕ} → b ≡ 0x0e → Table bytes rest → Leaves (operation b) bytes rest
 table_text {bytes} {rest} {b} e t = record {
   front = t.1.front;
-  spelled = inl (e, t.0, subst (λ (c : ℕ). (byte c ⨾ u32 t.0 ⨾ repeated (t.0 + 1) integer) t.1.front) (sym e) t.1.spelled);
+  spelled = inl (e, t.0, rw e t.1.spelled);
   split = t.1.split;
 }
 
@@ -178,7 +178,7 @@ pub table_some : (bytes : List ℕ) (at b labels first : ℕ) → slice_get byte
     → IfSome o (λ (next : ℕ). (c : ℕ) × (slice_get bytes at ≡ Some c) × Leaves (operation c) (drop at bytes) (drop next bytes))
 table_some bytes at b labels first found e one None two = tt
 table_some bytes at b labels first found e one (Some next) two =
-    let opcode = subst (λ (c : ℕ). Leaves (byte c) (drop at bytes) (drop (at + 1) bytes)) e (byte_stands {bytes = bytes} {at = at} found).spelled in
+    let opcode = rw e at (byte_stands {bytes = bytes} {at = at} found).spelled in
     (b, found, table_text e (labels, joined opcode (joined one two)))
 
 pub plain_some : (bytes : List ℕ) (at b count : ℕ) → slice_get bytes at ≡ Some b → (b ≡ 0x0e → ⊥) → count ≡ immediates_of b
@@ -187,7 +187,7 @@ pub plain_some : (bytes : List ℕ) (at b count : ℕ) → slice_get bytes at �
 plain_some bytes at b count found e same None two = tt
 plain_some bytes at b count found e same (Some next) two =
     let numbers : Leaves (repeated (immediates_of b) integer) (drop (at + 1) bytes) (drop next bytes) =
-    subst (λ (n : ℕ). Leaves (repeated n integer) (drop (at + 1) bytes) (drop next bytes)) same two in
+    rw same at two in
     (b, found, plain_text e (joined (byte_stands {bytes = bytes} {at = at} found).spelled numbers))
 
 pub numbers_some : (bytes : List ℕ) (id at count first : ℕ) → (id ≡ 11 → ⊥) → Leaves (u32 count) (drop at bytes) (drop first bytes)
@@ -233,8 +233,7 @@ no_plain bytes at b found other none c rest h = go (operation_kinds h)
     go (inl t) = other (sym (opcode_here bytes at b c found h) ∙ t.0)
     go (inr t) =
         let a = apart t.1 in
-        none rest (subst (λ (n : ℕ). Leaves (repeated (immediates_of n) integer) (drop (at + 1) bytes) rest) (opcode_here bytes at b c found h)
-        (subst (λ (s : List ℕ). Leaves (repeated (immediates_of c) integer) s rest) (byte_behind bytes at c a.mid a.first) a.second))
+        none rest (rw (byte_behind bytes at c a.mid a.first, opcode_here bytes at b c found h) at a.second)
 
 -- ---- segments
 
@@ -269,7 +268,7 @@ no_held_numbers {id} {count} {bytes} {mid} other one none rest h = go (held_kind
     go (inr t) =
         let a = apart t.2 in
         let u = free_u32.one t.1 count bytes a.mid mid a.first one in
-        none rest (subst (λ (n : ℕ). Leaves (repeated n integer) mid rest) u.0 (subst (λ (s : List ℕ). Leaves (repeated t.1 integer) s rest) u.1 a.second))
+        none rest (rw (u.1, u.0) at a.second)
 
 held_one : (id : ℕ) → LeavesOne (held_behind id)
 held_one id bytes x y h k = go (held_kinds h) (held_kinds k)
@@ -284,7 +283,7 @@ held_one id bytes x y h k = go (held_kinds h) (held_kinds k)
         let b = apart t.2 in
         let u = free_u32.one s.1 t.1 bytes a.mid b.mid a.first b.first in
         repeated_one integer_one t.1 b.mid x y
-        (subst (λ (n : ℕ). Leaves (repeated n integer) b.mid x) u.0 (subst (λ (r : List ℕ). Leaves (repeated s.1 integer) r x) u.1 a.second)) b.second
+        (rw (u.1, u.0) at a.second) b.second
 
 abbrev Ends : List ℕ → List ℕ → Type 0
 Ends bytes rest = FirstOf operation (λ (b : ℕ). b ≡ 0x0b) bytes 0x0b rest
@@ -292,28 +291,28 @@ Ends bytes rest = FirstOf operation (λ (b : ℕ). b ≡ 0x0b) bytes 0x0b rest
 segment_one : (id : ℕ) (bytes x y : List ℕ) → BeginsWithSegment id bytes x → BeginsWithSegment id bytes y → x ≡ y
 segment_one id bytes x y h k =
     let z = free_u32.one 0 0 bytes h.offset k.offset h.zero_first k.zero_first in
-    let e = first_one free_operation k.offset 0x0b 0x0b h.contents k.contents (subst (λ (t : List ℕ). Ends t h.contents) z.1 h.ended) k.ended in
-    held_one id k.contents x y (subst (λ (t : List ℕ). Leaves (held_behind id) t x) e.1 h.held) k.held
+    let e = first_one free_operation k.offset 0x0b 0x0b h.contents k.contents (rw z.1 at h.ended) k.ended in
+    held_one id k.contents x y (rw e.1 at h.held) k.held
 
 pub no_end : {id number : ℕ} {bytes mid : List ℕ} → Leaves (u32 number) bytes mid → number ≡ 0 → ((b : ℕ) (rest : List ℕ) → FirstOf operation (λ (b : ℕ). b ≡ 0x0b) mid b rest → ⊥)
     → (rest : List ℕ) → BeginsWithSegment id bytes rest → ⊥
 no_end {id} {number} {bytes} {mid} one e none rest h =
     let z = free_u32.one 0 number bytes h.offset mid h.zero_first one in
-    none 0x0b h.contents (subst (λ (t : List ℕ). Ends t h.contents) z.1 h.ended)
+    none 0x0b h.contents (rw z.1 at h.ended)
 
 pub no_held : {id number : ℕ} {bytes mid there : List ℕ} → Leaves (u32 number) bytes mid → number ≡ 0 → Ends mid there → LeavesNone (held_behind id) there
     → (rest : List ℕ) → BeginsWithSegment id bytes rest → ⊥
 no_held {id} {number} {bytes} {mid} {there} one nil ended none rest h =
     let z = free_u32.one 0 number bytes h.offset mid h.zero_first one in
-    let e = first_one free_operation mid 0x0b 0x0b h.contents there (subst (λ (t : List ℕ). Ends t h.contents) z.1 h.ended) ended in
-    none rest (subst (λ (t : List ℕ). Leaves (held_behind id) t rest) e.1 h.held)
+    let e = first_one free_operation mid 0x0b 0x0b h.contents there (rw z.1 at h.ended) ended in
+    none rest (rw e.1 at h.held)
 
 pub segment_there : {id number : ℕ} {bytes mid there rest : List ℕ} → Leaves (u32 number) bytes mid → number ≡ 0 → Ends mid there → Leaves (held_behind id) there rest
     → BeginsWithSegment id bytes rest
 segment_there {id} {number} {bytes} {mid} {there} {rest} one nil ended held = record {
   offset = mid;
   contents = there;
-  zero_first = subst (λ (n : ℕ). Leaves (u32 n) bytes mid) nil one;
+  zero_first = rw nil at one;
   ended = ended;
   held = held;
 }
@@ -321,17 +320,17 @@ segment_there {id} {number} {bytes} {mid} {there} {rest} one nil ended held = re
 -- ---- steps
 
 pub steps_more : {id : ℕ} (n : ℕ) (a : List ℕ) {b c : List ℕ} → ChainOf (BeginsWithSegment id) n a b → BeginsWithSegment id b c → ChainOf (BeginsWithSegment id) (suc n) a c
-steps_more {id} zero a {b} {c} e s = (c, subst (λ (t : List ℕ). BeginsWithSegment id t c) (sym e) s, refl)
+steps_more {id} zero a {b} {c} e s = (c, rw e s, refl)
 steps_more {id} (suc n) a {b} {c} h s = (h.0, h.1, steps_more n h.0 h.2 s)
 
 -- Fewer steps end where another one follows.
 steps_compare : (id n m : ℕ) (a x y : List ℕ) → ChainOf (BeginsWithSegment id) n a x → ChainOf (BeginsWithSegment id) m a y
     → ((n ≡ m) × (x ≡ y)) ⊎ (((n < m) × ((rest : List ℕ) × BeginsWithSegment id x rest)) ⊎ ((m < n) × ((rest : List ℕ) × BeginsWithSegment id y rest)))
 steps_compare id zero zero a x y h k = inl (refl, sym h ∙ k)
-steps_compare id zero (suc m) a x y h k = inr (inl (omega arith, (k.0, subst (λ (t : List ℕ). BeginsWithSegment id t k.0) h k.1)))
-steps_compare id (suc n) zero a x y h k = inr (inr (omega arith, (h.0, subst (λ (t : List ℕ). BeginsWithSegment id t h.0) k h.1)))
+steps_compare id zero (suc m) a x y h k = inr (inl (omega arith, (k.0, rw h at k.1)))
+steps_compare id (suc n) zero a x y h k = inr (inr (omega arith, (h.0, rw k at h.1)))
 steps_compare id (suc n) (suc m) a x y h k =
-    up (steps_compare id n m k.0 x y (subst (λ (t : List ℕ). ChainOf (BeginsWithSegment id) n t x) (segment_one id a h.0 k.0 h.1 k.1) h.2) k.2)
+    up (steps_compare id n m k.0 x y (rw (segment_one id a h.0 k.0 h.1 k.1) at h.2) k.2)
   where
     up : ((n ≡ m) × (x ≡ y)) ⊎ (((n < m) × ((rest : List ℕ) × BeginsWithSegment id x rest)) ⊎ ((m < n) × ((rest : List ℕ) × BeginsWithSegment id y rest)))
         → ((suc n ≡ suc m) × (x ≡ y)) ⊎ (((suc n < suc m) × ((rest : List ℕ) × BeginsWithSegment id x rest)) ⊎ ((suc m < suc n) × ((rest : List ℕ) × BeginsWithSegment id y rest)))
@@ -374,10 +373,10 @@ same_walk : {bytes there : List ℕ} {id count number : ℕ} (told : ℕ × ℕ)
     ⊎ ((told.0 < number) × ((rest : List ℕ) × BeginsWithSegment id h.there rest))))
 same_walk {bytes} {there} {id} {count} {number} told w h =
     let s = first_one free_section (drop 8 bytes) w.held h.held w.rest h.rest w.found h.found in
-    let u = free_u32.one count h.count h.held.contents w.segments h.segments (subst (λ (t : Section). Leaves (u32 count) t.contents w.segments) s.0 w.counted_first) h.counted_first in
+    let u = free_u32.one count h.count h.held.contents w.segments h.segments (rw s.0 at w.counted_first) h.counted_first in
     let few : told.0 < h.count = h.few in
     let same : count ≡ h.count = u.0 in
-    (omega arith, steps_compare id number told.0 h.segments there h.there (subst (λ (t : List ℕ). ChainOf (BeginsWithSegment id) number t there) u.1 w.older) h.older)
+    (omega arith, steps_compare id number told.0 h.segments there h.there (rw u.1 at w.older) h.older)
 
 -- The walk ends here, and no newer one is here.
 pub walk_ends : {bytes there : List ℕ} {id count number : ℕ} → Walked bytes id count number there → ((rest : List ℕ) → BeginsWithSegment id there rest → ⊥)
@@ -386,7 +385,7 @@ walk_ends {bytes} {there} {id} {count} {number} w none zeros told h = go (same_w
   where
     go : ((number ≡ told.0) × (there ≡ h.there)) ⊎ (((number < told.0) × ((rest : List ℕ) × BeginsWithSegment id there rest))
         ⊎ ((told.0 < number) × ((rest : List ℕ) × BeginsWithSegment id h.there rest))) → ⊥
-    go (inl e) = h.newer (zeros told.1 h.behind (subst (λ (t : List ℕ). Leaves (u32 told.1) t h.behind) (sym e.1) h.first))
+    go (inl e) = h.newer (zeros told.1 h.behind (rw e.1 h.first))
     go (inr (inl e)) = none e.1.0 e.1.1
     go (inr (inr e)) = h.newer (old_zero e.1.1 h.first)
 
@@ -433,7 +432,7 @@ newer_there {bytes} {there} {behind} {id} {count} {number} {first} w few one new
         go : ((number ≡ told.0) × (there ≡ h.there)) ⊎ (((number < told.0) × ((rest : List ℕ) × BeginsWithSegment id there rest))
             ⊎ ((told.0 < number) × ((rest : List ℕ) × BeginsWithSegment id h.there rest))) → told ≡ (number, first)
         go (inl e) =
-            let u = free_u32.one told.1 first there h.behind behind (subst (λ (t : List ℕ). Leaves (u32 told.1) t h.behind) (sym e.1) h.first) one in
+            let u = free_u32.one told.1 first there h.behind behind (rw e.1 h.first) one in
             ap (λ (n : ℕ). (n, told.1)) (sym e.0) ∙ ap (λ (f : ℕ). (number, f)) u.0
         go (inr (inl e)) = absurd (newer (old_zero e.1.1 one))
         go (inr (inr e)) = absurd (h.newer (old_zero e.1.1 h.first))

@@ -65,7 +65,7 @@ no_limits_past bytes at past first most rest h =
 pub no_limits_first : (bytes : List ℕ) (at : ℕ) → NoneBegins u32 (drop (at + 1) bytes) → NoLimits (drop at bytes)
 no_limits_first bytes at none first most rest h =
     let f = flagged first most (drop at bytes) rest h in
-    none first f.2 (subst (λ (t : List ℕ). Leaves (u32 first) t f.2) (byte_behind bytes at f.0 f.1 f.3) f.4)
+    none first f.2 (rw (byte_behind bytes at f.0 f.1 f.3) at f.4)
 
 pub no_limits_most : (bytes : List ℕ) (at n behind : ℕ) → slice_get bytes at ≡ Some 1 → Leaves (u32 n) (drop (at + 1) bytes) (drop behind bytes)
     → NoneBegins u32 (drop behind bytes) → NoLimits (drop at bytes)
@@ -114,7 +114,7 @@ table_one f g m n bytes x y h k =
     let a = apart h.1 in
     let b = apart k.1 in
     let kind = free_byte.one h.0 k.0 bytes a.mid b.mid a.first b.first in
-    limits_one f g m n b.mid x y (subst (λ (t : List ℕ). Leaves (told_limits f m) t x) kind.1 a.second) b.second
+    limits_one f g m n b.mid x y (rw kind.1 at a.second) b.second
 
 pub type_one : (id f g : ℕ) (m n : Option ℕ) (bytes x y : List ℕ) → Leaves (told_type id f m) bytes x → Leaves (told_type id g n) bytes y → (f ≡ g) × (m ≡ n)
 type_one id f g m n bytes x y h k = go h.spelled
@@ -127,7 +127,7 @@ pub no_table : (bytes : List ℕ) (id at : ℕ) → id ≡ 4 → NoLimits (drop 
 no_table bytes id at table none first most rest h =
     let k = kinded id first most table h in
     let a = apart k.1 in
-    none first most rest (subst (λ (t : List ℕ). Leaves (told_limits first most) t rest) (byte_behind bytes at k.0 a.mid a.first) a.second)
+    none first most rest (rw (byte_behind bytes at k.0 a.mid a.first) at a.second)
 
 pub no_memory : (bytes : List ℕ) (id at : ℕ) → (id ≡ 4 → ⊥) → NoLimits (drop at bytes) → NoType id (drop at bytes)
 no_memory bytes id at other none first most rest h = none first most rest (unkinded id first most other h)
@@ -169,7 +169,7 @@ pub no_sizes_type : {bytes held rest : List ℕ} {id : ℕ} (count from : ℕ) �
 no_sizes_type {bytes} {held} {rest} {id} count from f spelled none sizes h =
     let a = apart (same_held f sizes h) in
     let u = free_u32.one sizes.count count held a.mid (drop from held) a.first spelled in
-    none sizes.first sizes.most h.behind (subst (λ (t : List ℕ). Leaves (told_type id sizes.first sizes.most) t h.behind) u.1 a.second)
+    none sizes.first sizes.most h.behind (rw u.1 at a.second)
 
 abbrev pub sized_so : ℕ → ℕ → Option ℕ → Sizes
 sized_so count first most = record { count = count; first = first; most = most }
@@ -177,11 +177,11 @@ sized_so count first most = record { count = count; first = first; most = most }
 one_sizes : {bytes : List ℕ} {id : ℕ} (c d : Sizes) → HasSizes bytes id c → HasSizes bytes id d → c ≡ d
 one_sizes {bytes} {id} c d h k =
     let e = first_one free_section (drop 8 bytes) h.held k.held h.rest k.rest h.found k.found in
-    let a = apart (subst (λ (s : Section). Leaves (u32 c.count ⨾ told_type id c.first c.most) s.contents h.behind) e.0 h.spelled) in
+    let a = apart (rw e.0 at h.spelled) in
     let b = apart k.spelled in
     let u = free_u32.one c.count d.count k.held.contents a.mid b.mid a.first b.first in
     let t = type_one id c.first d.first c.most d.most b.mid h.behind k.behind
-    (subst (λ (t : List ℕ). Leaves (told_type id c.first c.most) t h.behind) u.1 a.second) b.second in
+    (rw u.1 at a.second) b.second in
     ap (λ (x : ℕ). sized_so x c.first c.most) u.0 ∙ ap (λ (x : ℕ). sized_so d.count x c.most) t.0 ∙ ap (λ (x : Option ℕ). sized_so d.count d.first x) t.1
 
 pub sizes_there : {bytes held rest : List ℕ} {id : ℕ} (count first from : ℕ) (most : Option ℕ) → FirstSection bytes id (record { id = id; contents = held }) rest

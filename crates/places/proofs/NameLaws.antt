@@ -29,19 +29,19 @@ pub listed_one : (list : List ℕ) (function : ℕ) (n m : List ℕ) → ListsNa
 listed_one list function n m h k =
     let c = free_u32.one h.count k.count list h.entries k.entries h.counted_first k.counted_first in
     let e = first_one free_naming k.entries (function, n) (function, m) h.last k.last
-    (subst (λ (t : List ℕ). FirstOf naming (λ (v : ℕ × List ℕ). v.0 ≡ function) t (function, n) h.last) c.1 h.entry) k.entry in
+    (rw c.1 at h.entry) k.entry in
     ap (λ (v : ℕ × List ℕ). v.1) e.0
 
 pub named_one : (parts : List ℕ) (function : ℕ) (n m : List ℕ) → IsNamedIn parts function n → IsNamedIn parts function m → n ≡ m
 named_one parts function n m h k =
     let e = first_one free_section parts h.part k.part h.last k.last h.found k.found in
-    listed_one k.part.contents function n m (subst (λ (s : Section). ListsName s.contents function n) e.0 h.listed) k.listed
+    listed_one k.part.contents function n m (rw e.0 at h.listed) k.listed
 
 pub names_one : (bytes : List ℕ) (function : ℕ) (n m : List ℕ) → FunctionIsNamed bytes function n → FunctionIsNamed bytes function m → n ≡ m
 names_one bytes function n m h k =
     let e = first_one free_section (drop 8 bytes) h.names k.names h.last k.last h.found k.found in
-    let p = parts_one k.names h.parts k.parts (subst (λ (s : Section). HasParts s h.parts) e.0 h.has) k.has in
-    named_one k.parts function n m (subst (λ (t : List ℕ). IsNamedIn t function n) p h.named) k.named
+    let p = parts_one k.names h.parts k.parts (rw e.0 at h.has) k.has in
+    named_one k.parts function n m (rw p at h.named) k.named
 
 -- ---- in a list
 
@@ -67,7 +67,7 @@ listed_there {list} {entries} {here} {mid} {rest} {name} {function} {count} {num
   entries = entries;
   last = rest;
   counted_first = counted_first;
-  entry = unmet_first (function, name) p.unmet (joined (subst (λ (n : ℕ). Leaves (u32 n) here mid) same one) two) refl;
+  entry = unmet_first (function, name) p.unmet (joined (rw same at one) two) refl;
   few = (let e : length p.unmet.before ≡ number = p.as_many in omega (arith, e, few));
   text = text;
 }
@@ -94,7 +94,7 @@ pub no_named : {here mid : List ℕ} {number : ℕ} → Leaves (u32 number) here
 no_named {here} {mid} {number} one none n rest h =
     let a = apart h in
     let u = free_u32.one n.0 number here a.mid mid a.first one in
-    none n.1 rest (subst (λ (t : List ℕ). Leaves (counted n.1) t rest) u.1 a.second)
+    none n.1 rest (rw u.1 at a.second)
 
 -- the first one's name is no text
 pub no_text : {list entries here mid rest held : List ℕ} {function count number other : ℕ} → Leaves (u32 count) list entries
@@ -102,7 +102,7 @@ pub no_text : {list entries here mid rest held : List ℕ} {function count numbe
     → (IsUtf8 held → ⊥) → (name : List ℕ) → ListsName list function name → ⊥
 no_text {list} {entries} {here} {mid} {rest} {held} {function} {count} {number} {other} first p one two same broken name l =
     let e = entry_of first l in
-    let f = unmet_first (function, held) p.unmet (joined (subst (λ (n : ℕ). Leaves (u32 n) here mid) same one) two) refl in
+    let f = unmet_first (function, held) p.unmet (joined (rw same at one) two) refl in
     let s = first_one free_naming entries (function, name) (function, held) l.last rest e.0 f in
     broken (subst IsUtf8 (ap (λ (v : ℕ × List ℕ). v.1) s.0) l.text)
 
@@ -143,7 +143,7 @@ pub not_named : {parts here rest held : List ℕ} {function : ℕ} → Unmet sec
     → (name : List ℕ) → IsNamedIn parts function name → ⊥
 not_named {parts} {here} {rest} {held} {function} u h none name n =
     let e = first_one free_section parts n.part (record { id = 1; contents = held }) n.last rest n.found (unmet_first _ u h refl) in
-    none name (subst (λ (s : Section). ListsName s.contents function name) e.0 n.listed)
+    none name (rw e.0 at n.listed)
 
 pub no_part : {parts here : List ℕ} {function : ℕ} → Unmet section (λ (p : Section). p.id ≡ 1) parts here → NoneBegins section here
     → (name : List ℕ) → IsNamedIn parts function name → ⊥
@@ -163,8 +163,8 @@ pub names_none : {bytes here rest parts : List ℕ} {s : Section} {function : �
     → (name : List ℕ) → FunctionIsNamed bytes function name → ⊥
 names_none {bytes} {here} {rest} {parts} {s} {function} u h has none name n =
     let e = first_one free_section (drop 8 bytes) n.names s n.last rest n.found (unmet_first s u h (parts, has)) in
-    let p = parts_one s n.parts parts (subst (λ (t : Section). HasParts t n.parts) e.0 n.has) has in
-    none name (subst (λ (t : List ℕ). IsNamedIn t function name) p n.named)
+    let p = parts_one s n.parts parts (rw e.0 at n.has) has in
+    none name (rw p at n.named)
 
 pub no_names : {bytes here : List ℕ} {function : ℕ} → Unmet section IsNameSection (drop 8 bytes) here → NoneBegins section here
     → (name : List ℕ) → FunctionIsNamed bytes function name → ⊥

@@ -1,5 +1,5 @@
 -- What stands where it was read.
-use Rattle.std.proofs.Common.{◌≡◌, ℕ, ◌+◌, ◌-◌, ◌<◌, ◌≤◌, List, [], ◌∷◌, ◌++◌, length, drop, All, Option, Some, None, IfSome, slice_get, refl, ap, sym, subst, ◌∙◌, arith}
+use Rattle.std.proofs.Common.{◌≡◌, ℕ, ◌+◌, ◌-◌, ◌<◌, ◌≤◌, List, [], ◌∷◌, ◌++◌, length, drop, All, Option, Some, None, IfSome, slice_get, refl, ap, ◌∙◌, arith}
 use Rattle.std.specs.Prelude.{slice_range}
 use Rattle.std.proofs.lemmas.List.{drop_more, length-drop, length-take-le, length-append}
 use Rattle.std.proofs.lemmas.List.Elements.{All-push}
@@ -40,7 +40,7 @@ pub counted_stands : {bytes : List ℕ} {at size from to : ℕ} → StandsAt Spe
 counted_stands {bytes} {at} {size} {from} {to} s ends within =
     let order : from ≤ to = omega arith in
     let many : size ≡ length (slice_range bytes from to) = omega (arith, length_between bytes from to order within) in
-    stands_joined (subst (λ (n : ℕ). StandsBetween (u32 n) bytes at from) many (u32_stands s)) (text_stands bytes from to order within)
+    stands_joined (rw many at (u32_stands s)) (text_stands bytes from to order within)
 
 pub byte_stands : {bytes : List ℕ} {at b : ℕ} → slice_get bytes at ≡ Some b → StandsBetween (byte b) bytes at (at + 1)
 byte_stands {bytes} {at} {b} found =
@@ -60,7 +60,7 @@ pub section_stands : {bytes text : List ℕ} {at id to : ℕ} → slice_get byte
 section_stands found c = stands_joined (byte_stands found) c
 
 pub items_push : {V : Type 0} (G : V → Language) (vs : List V) (v : V) (bytes mid rest : List ℕ) → Leaves (items G vs) bytes mid → Leaves (G v) mid rest → Leaves (items G (vs ++ v ∷ [])) bytes rest
-items_push G [] v bytes mid rest h k = joined (subst (λ (t : List ℕ). Leaves (G v) t rest) (sym (items_none h)) k) (no_items G rest)
+items_push G [] v bytes mid rest h k = joined (rw (items_none h) k) (no_items G rest)
 items_push G (u ∷ vs) v bytes mid rest h k = let a = apart h in joined a.first (items_push G vs v a.mid mid rest a.second k)
 
 -- ---- one behind the other

@@ -40,13 +40,13 @@ one_none (Some a) e none = cc
 
 pub either : {V : Type 0} {G : V → Language} → IsPrefixFree G → (vs ws : List V) (bytes x y : List ℕ)
     → Leaves (items G vs) bytes x → Leaves (items G ws) bytes y → GoesOn G vs ws x y ⊎ GoesOn G ws vs y x
-either {V} {G} g [] ws bytes x y h k = inl (record { more = ws; longer = refl; between = subst (λ (t : List ℕ). Leaves (items G ws) t y) (items_none h) k })
-either {V} {G} g (v ∷ vs) [] bytes x y h k = inr (record { more = v ∷ vs; longer = refl; between = subst (λ (t : List ℕ). Leaves (items G (v ∷ vs)) t x) (items_none k) h })
+either {V} {G} g [] ws bytes x y h k = inl (record { more = ws; longer = refl; between = rw (items_none h) at k })
+either {V} {G} g (v ∷ vs) [] bytes x y h k = inr (record { more = v ∷ vs; longer = refl; between = rw (items_none k) at h })
 either {V} {G} g (v ∷ vs) (w ∷ ws) bytes x y h k =
     let a = apart h in
     let b = apart k in
     let here = g.one v w bytes a.mid b.mid a.first b.first in
-    behind here.0 (either g vs ws b.mid x y (subst (λ (t : List ℕ). Leaves (items G vs) t x) here.1 a.second) b.second)
+    behind here.0 (either g vs ws b.mid x y (rw here.1 at a.second) b.second)
   where
     behind : v ≡ w → GoesOn G vs ws x y ⊎ GoesOn G ws vs y x → GoesOn G (v ∷ vs) (w ∷ ws) x y ⊎ GoesOn G (w ∷ ws) (v ∷ vs) y x
     behind e (inl m) = inl (record { more = m.more; longer = ap (λ (u : V). u ∷ ws) (sym e) ∙ ap (λ (us : List V). v ∷ us) m.longer; between = m.between })
@@ -83,7 +83,7 @@ met_first {V} {G} P g vs ws v x y rest m here others sought = go m.more m.longer
     go (u ∷ more) longer between =
         let a = apart between in
         let same = g.one v u x rest a.mid here a.first in
-        absurd (unmet P vs v more (subst (λ (us : List V). All (λ (u : V). P u → ⊥) us) (longer ∙ ap (λ (t : V). vs ++ t ∷ more) (sym same.0)) others) sought)
+        absurd (unmet P vs v more (rw (longer ∙ ap (λ (t : V). vs ++ t ∷ more) (sym same.0)) at others) sought)
 
 pub first_one : {V : Type 0} {G : V → Language} {P : V → Type 0} → IsPrefixFree G → (bytes : List ℕ) (v w : V) (x y : List ℕ)
     → FirstOf G P bytes v x → FirstOf G P bytes w y → (v ≡ w) × (x ≡ y)
@@ -96,7 +96,7 @@ first_one {V} {G} {P} g bytes v w x y h k = by (either g h.before k.before bytes
     b = apart k.walked
 
     at_same : a.mid ≡ b.mid → (v ≡ w) × (x ≡ y)
-    at_same e = g.one v w b.mid x y (subst (λ (t : List ℕ). Leaves (G v) t x) e a.second) b.second
+    at_same e = g.one v w b.mid x y (rw e at a.second) b.second
 
     by : GoesOn G h.before k.before a.mid b.mid ⊎ GoesOn G k.before h.before b.mid a.mid → (v ≡ w) × (x ≡ y)
     by (inl m) = at_same (met_first P g h.before k.before v a.mid b.mid x m a.second k.others h.sought).1
@@ -111,10 +111,10 @@ first_none {V} {G} {P} g bytes vs x h others none v rest f = by (either g vs f.b
     a = apart f.walked
 
     by : GoesOn G vs f.before x a.mid ⊎ GoesOn G f.before vs a.mid x → ⊥
-    by (inl m) = none v rest (subst (λ (t : List ℕ). Leaves (G v) t rest) (sym (no_further none m).1) a.second)
+    by (inl m) = none v rest (rw (no_further none m).1 a.second)
     by (inr m) =
         let e = (met_first P g f.before vs v a.mid x rest m a.second others f.sought).1 in
-        none v rest (subst (λ (t : List ℕ). Leaves (G v) t rest) e a.second)
+        none v rest (rw e at a.second)
 
 -- ---- walks that have not met what is sought
 
@@ -148,7 +148,7 @@ pub first_section : {bytes : List ℕ} {id at from to : ℕ} → FirstSectionAt 
 first_section h = record { before = h.0; walked = joined h.1.in_front.spelled h.1.here.spelled; others = h.2; sought = refl }
 
 pub none_empty : {V : Type 0} {G : V → Language} → IsPrefixFree G → (bytes : List ℕ) (at : ℕ) → length bytes ≤ at → NoneBegins G (drop at bytes)
-none_empty {V} {G} g bytes at past v rest h = g.filled v rest (subst (λ (t : List ℕ). Leaves (G v) t rest) (drop_all at bytes past) h)
+none_empty {V} {G} g bytes at past v rest h = g.filled v rest (rw (drop_all at bytes past) at h)
 
 pub no_section : {bytes : List ℕ} {id at : ℕ} → PastOthers bytes id at → NoneBegins section (drop at bytes) → (s : Section) (rest : List ℕ) → FirstSection bytes id s rest → ⊥
 no_section {bytes} {id} {at} p none s rest f = first_none free_section (drop 8 bytes) p.0 (drop at bytes) p.1.stand p.2 none s rest f
@@ -170,7 +170,7 @@ byte_behind (c ∷ bytes) (suc at) b rest h =
 
 pub no_size : (bytes : List ℕ) (at : ℕ) → NoneBegins counted (drop (at + 1) bytes) → NoneBegins section (drop at bytes)
 no_size bytes at none s rest h =
-    let a = apart h in none s.contents rest (subst (λ (t : List ℕ). Leaves (counted s.contents) t rest) (byte_behind bytes at s.id a.mid a.first) a.second)
+    let a = apart h in none s.contents rest (rw (byte_behind bytes at s.id a.mid a.first) at a.second)
 
 pub past_all : (bytes : List ℕ) (at : ℕ) → length bytes ≤ at → NoneBegins section (drop at bytes)
 past_all bytes at past = none_empty free_section bytes at past
@@ -207,7 +207,7 @@ count_found {bytes} {held} {id} {count} from next f within spelled short = recor
 pub count_one : {bytes : List ℕ} {id c d m n : ℕ} → BeginsWithCount bytes id c m → BeginsWithCount bytes id d n → (c ≡ d) × (m ≡ n)
 count_one {bytes} {id} {c} {d} {m} {n} b e =
     let s = first_one free_section (drop 8 bytes) b.held e.held b.rest e.rest b.found e.found in
-    let u = free_u32.one c d e.held.contents b.behind e.behind (subst (λ (s : Section). Leaves (u32 c) s.contents b.behind) s.0 b.spelled) e.spelled in
+    let u = free_u32.one c d e.held.contents b.behind e.behind (rw s.0 at b.spelled) e.spelled in
     let x : m + length b.behind + length b.rest ≡ length bytes = b.ends in
     let y : n + length e.behind + length e.rest ≡ length bytes = e.ends in
     let k : length b.behind ≡ length e.behind = ap length u.1 in
@@ -238,13 +238,13 @@ no_cut_past bytes at past = no_cut (none_empty (free_pair free_byte free_u32) by
 
 pub no_cut_size : (bytes : List ℕ) (at : ℕ) → NoneBegins u32 (drop (at + 1) bytes) → (cut : CutShort) → CutsShort (drop at bytes) cut → ⊥
 no_cut_size bytes at none cut c =
-    let a = apart c.spelled in none cut.said c.rest (subst (λ (t : List ℕ). Leaves (u32 cut.said) t c.rest) (byte_behind bytes at cut.section a.mid a.first) a.second)
+    let a = apart c.spelled in none cut.said c.rest (rw (byte_behind bytes at cut.section a.mid a.first) at a.second)
 
 pub cut_fits : (bytes : List ℕ) (at said from : ℕ) → Leaves (u32 said) (drop (at + 1) bytes) (drop from bytes) → said ≤ length bytes - from
     → (cut : CutShort) → CutsShort (drop at bytes) cut → ⊥
 cut_fits bytes at said from spelled fits cut c =
     let a = apart c.spelled in
-    let u = free_u32.one cut.said said (drop (at + 1) bytes) c.rest (drop from bytes) (subst (λ (t : List ℕ). Leaves (u32 cut.said) t c.rest) (byte_behind bytes at cut.section a.mid a.first) a.second) spelled in
+    let u = free_u32.one cut.said said (drop (at + 1) bytes) c.rest (drop from bytes) (rw (byte_behind bytes at cut.section a.mid a.first) at a.second) spelled in
     let said_same : cut.said ≡ said = u.0 in
     let left : length c.rest ≡ length (drop from bytes) = ap length u.1 in
     let few : cut.left ≡ length c.rest = c.few in
@@ -259,7 +259,7 @@ one_cut {there} c d h k =
     let a = apart h.spelled in
     let b = apart k.spelled in
     let id = free_byte.one c.section d.section there a.mid b.mid a.first b.first in
-    let said = free_u32.one c.said d.said b.mid h.rest k.rest (subst (λ (t : List ℕ). Leaves (u32 c.said) t h.rest) id.1 a.second) b.second in
+    let said = free_u32.one c.said d.said b.mid h.rest k.rest (rw id.1 at a.second) b.second in
     let left : c.left ≡ d.left = h.few ∙ ap length said.1 ∙ sym k.few in
     ap (λ (x : ℕ). made x c.said c.left) id.0 ∙ ap (λ (x : ℕ). made d.section x c.left) said.0 ∙ ap (λ (x : ℕ). made d.section d.said x) left
 
@@ -292,7 +292,7 @@ cut_behind {bytes} {at} o p none = go o
     there : (cut : CutShort) → IsCutShort bytes cut → CutsShort (drop at bytes) cut
     there cut h =
         let e = ends_same free_section h.before p.0 (drop 8 bytes) h.there (drop at bytes) h.walked (no_section_cut cut h.cuts) p.1.stand none in
-        subst (λ (t : List ℕ). CutsShort t cut) e.1 h.cuts
+        rw e.1 at h.cuts
 
     go : (o : Option CutShort) → IsTheOne (CutsShort (drop at bytes)) o → IsTheOne (IsCutShort bytes) o
     go None h = λ cut i. h cut (there cut i)

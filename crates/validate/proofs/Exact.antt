@@ -11,10 +11,10 @@ use Rattle.syntax.specs.declared.contents.Func.{Func}
 use Rattle.syntax.specs.declared.contents.Import.{Import}
 use Rattle.syntax.specs.declared.contents.Global.{Global}
 use Rattle.syntax.specs.declared.contents.Mutability.TheVariants.{Var}
-use Rattle.syntax.specs.Code.{Code, Done, Plain, Block, Loop, If}
+use Rattle.syntax.specs.Code.{Code, Done, Plain, Structured, If}
 use Rattle.validate.specs.declared.fault.ValidFault.{ValidFault}
 use Rattle.validate.specs.declared.fault.ValidFault.TheVariants as fault
-use Rattle.validate.specs.Typing.{Context, InstrTyped, Typed, inside, type_of_block, HasFunctionType, type_of_function}
+use Rattle.validate.specs.Typing.{Context, InstrTyped, Typed, inside, label_types, type_of_block, HasFunctionType, type_of_function}
 use Rattle.validate.specs.Height.{shape_of, type_or_none, greatest_height}
 use Rattle.validate.specs.Rules.{Rule, Indexes, Labels, Alignments, Mutabilities, NamesAll, NamesLabels, IsAligned, SetsVariables, Keeps, KeepsType, Kept}
 use Rattle.validate.specs.Valid.{ValidFunc, ValidImport, ValidModule, body_context}
@@ -25,6 +25,7 @@ use Rattle.validate.specs.declared.site.InvalidAt.{InvalidAt}
 use Rattle.validate.proofs.Refused.{refutes_at}
 use Rattle.std.specs.Prelude.{Result, Ok, Err, OnOk, IfErr, MatchOption}
 use Rattle.std.specs.Result.{result_err}
+use Rattle.limits.specs.declared.TheConstants.{MAX_HEIGHT, MAX_LOCALS}
 use Rattle.validate.proofs.Items.{same_some}
 
 names_all : (c : Context) (i : Instr) (before after : List ValType) → InstrTyped c i before after → NamesAll c i
@@ -80,14 +81,9 @@ shape_is c b t e = sym (ap type_or_none e)
 kept : (r : Rule) (c : Context) (code : Code) (before after : List ValType) → Typed c code before after → Kept r c code
 kept r c Done before after t = tt
 kept r c (Plain i rest) before after t = (keeps r c i before t.0 t.1, kept r c rest t.0 after t.2)
-kept r c (Block b body rest) before after t = (
+kept r c (Structured kind b body rest) before after t = (
   keeps_type r c b t.0 t.1,
-  subst (λ (s : FuncType). Kept r (inside s.results c) body) (shape_is c b t.0 t.1) (kept r (inside t.0.results c) body _ _ t.4),
-  kept r c rest _ after t.5,
-)
-kept r c (Loop b body rest) before after t = (
-  keeps_type r c b t.0 t.1,
-  subst (λ (s : FuncType). Kept r (inside s.params c) body) (shape_is c b t.0 t.1) (kept r (inside t.0.params c) body _ _ t.4),
+  subst (λ (s : FuncType). Kept r (inside (label_types kind s) c) body) (shape_is c b t.0 t.1) (kept r (inside (label_types kind t.0) c) body _ _ t.4),
   kept r c rest _ after t.5,
 )
 kept r c (If b first second rest) before after t = (
@@ -105,7 +101,7 @@ kept_in r m f v type e =
 is_low : (m : Contents) (f : Func) → ValidFunc m f → IsLow m f
 is_low m f v type e =
     let same : v.type ≡ type = same_some v.type type (slice_get m.types f.type_index) v.known e in
-    subst (λ (t : FuncType). (length t.params + length f.locals ≤ 256) × (greatest_height (body_context m t f) 0 0 f.body ≤ 256)) same (v.few_locals, v.height)
+    subst (λ (t : FuncType). (length t.params + length f.locals ≤ MAX_LOCALS) × (greatest_height (body_context m t f) 0 0 f.body ≤ MAX_HEIGHT)) same (v.few_locals, v.height)
 
 is_typed : (m : Contents) (f : Func) → ValidFunc m f → IsTyped m f
 is_typed m f v type e =

@@ -1,24 +1,25 @@
 -- What a block keeps, its parts keep.
-use Rattle.std.proofs.Common.{◌≡◌, ℕ, ◌+◌, ◌-◌, ◌≤◌, max, List, [], ◌∷◌, ◌++◌, length, map, true, false, Option, Some, None, suc, refl, sym, ap, subst, ◌∙◌, arith}
+use Rattle.std.proofs.Common.{◌≡◌, ℕ, ◌+◌, ◌-◌, ◌≤◌, max, List, [], ◌∷◌, ◌++◌, length, map, false, Option, Some, None, suc, refl, sym, ap, subst, ◌∙◌, arith}
 use Rattle.std.proofs.lemmas.List.{length-append, length-map, length_push}
+use Rattle.limits.specs.declared.TheConstants.{MAX_HEIGHT, MAX_NESTING}
 use Rattle.syntax.specs.declared.types.ValType.{ValType}
 use Rattle.syntax.specs.declared.types.ValType.TheVariants.{I32}
 use Rattle.syntax.specs.declared.types.BlockType.{BlockType}
 use Rattle.syntax.specs.declared.instruction.Instr.{Instr}
 use Rattle.syntax.specs.declared.contents.FuncType.{FuncType}
-use Rattle.syntax.specs.Code.{Code, Done, Plain, Block, Loop, If}
+use Rattle.syntax.specs.Code.{Code, BlockKind, AsBlock, Done, Plain, Structured, If}
 use Rattle.validate.specs.declared.operands.Operand.{Operand}
 use Rattle.validate.specs.declared.operands.Operand.TheVariants.{Known}
 use Rattle.validate.specs.declared.frames.ControlFrame.{ControlFrame}
 use Rattle.validate.specs.declared.scope.Scope.{Scope}
-use Rattle.validate.specs.Typing.{Context, inside, type_of_block}
+use Rattle.validate.specs.Typing.{Context, inside, label_types, type_of_block}
 use Rattle.validate.specs.Height.{greatest_height, nesting, shape_of, type_or_none, effect_of, after_effect}
 use Rattle.validate.specs.Rules.{Rule, Kept}
 use Rattle.validate.specs.Inner.Frames.{label_of}
 use Rattle.validate.specs.Inner.Operands.{Held, held_of, held_around, with_left}
 use Rattle.validate.specs.Inner.Checking.{Checks, context_in, height_in_all}
 use Rattle.validate.proofs.OperandTypes.{length-pushed}
-use Rattle.validate.proofs.Opens.{Open, open_of, shape_in, returned}
+use Rattle.validate.proofs.Opens.{Open, open_of, loops, label_is, shape_in, returned}
 use Rattle.validate.proofs.Remains.{IfKept, IfLow, IfNested, LowOpens}
 use Rattle.validate.proofs.Blocks.{Begun, begun, height-begun, around-begun, block_height, if_height}
 
@@ -28,37 +29,22 @@ pub record KeptParts (r : Rule) (scope : Scope) (f g : ControlFrame) (fs : List 
   pub rest : Kept r (context_in scope (f ∷ fs)) code
 
 pub record LowParts (scope : Scope) (f g : ControlFrame) (fs : List ControlFrame) (type : FuncType) (h mid : Held) (block code : Code) (other : Option Code) : Type 0 where
-  pub body : greatest_height (context_in scope (g ∷ f ∷ fs)) (length mid.own + length mid.below) (length mid.own + length mid.below + length type.params) block ≤ 256
+  pub body : greatest_height (context_in scope (g ∷ f ∷ fs)) (length mid.own + length mid.below) (length mid.own + length mid.below + length type.params) block ≤ MAX_HEIGHT
   pub first : IfLow (context_in scope (g ∷ f ∷ fs)) type (length mid.own + length mid.below) other
-  pub rest : greatest_height (context_in scope (f ∷ fs)) (length h.below) (length mid.own + length mid.below + length type.results) code ≤ 256
+  pub rest : greatest_height (context_in scope (f ∷ fs)) (length h.below) (length mid.own + length mid.below + length type.results) code ≤ MAX_HEIGHT
 
 pub record NestedParts (fs : List ControlFrame) (block code : Code) (other : Option Code) : Type 0 where
-  pub body : nesting block + suc (length fs) ≤ 256
+  pub body : nesting block + suc (length fs) ≤ MAX_NESTING
   pub first : IfNested (suc (length fs)) other
-  pub rest : nesting code + length fs ≤ 256
+  pub rest : nesting code + length fs ≤ MAX_NESTING
 
 -- ---- the rules of what is named
 
-pub label_results : (scope : Scope) (g : ControlFrame) (type : BlockType) → g.is_loop ≡ false → g.block_type ≡ type → label_of scope.contents.now g ≡ (shape_of scope.contents.now type).results
-label_results scope g type plain e = rw (plain, e) refl
-
-pub label_params : (scope : Scope) (g : ControlFrame) (type : BlockType) → g.is_loop ≡ true → g.block_type ≡ type → label_of scope.contents.now g ≡ (shape_of scope.contents.now type).params
-label_params scope g type loops e = rw (loops, e) refl
-
-pub kept_block : (r : Rule) (scope : Scope) (f g : ControlFrame) (fs : List ControlFrame) (type : BlockType) (body code : Code)
-    → g.is_loop ≡ false → g.block_type ≡ type → Kept r (context_in scope (f ∷ fs)) (Block type body code)
+pub kept_structured : (kind : BlockKind) (r : Rule) (scope : Scope) (f g : ControlFrame) (fs : List ControlFrame) (type : BlockType) (body code : Code)
+    → g.is_loop ≡ loops kind → g.block_type ≡ type → Kept r (context_in scope (f ∷ fs)) (Structured kind type body code)
     → KeptParts r scope f g fs body code None
-kept_block r scope f g fs type body code plain e k = record {
-  body = subst (λ (l : List ValType). Kept r (inside l (context_in scope (f ∷ fs))) body) (sym (label_results scope g type plain e)) k.1;
-  first = tt;
-  rest = k.2;
-}
-
-pub kept_loop : (r : Rule) (scope : Scope) (f g : ControlFrame) (fs : List ControlFrame) (type : BlockType) (body code : Code)
-    → g.is_loop ≡ true → g.block_type ≡ type → Kept r (context_in scope (f ∷ fs)) (Loop type body code)
-    → KeptParts r scope f g fs body code None
-kept_loop r scope f g fs type body code loops e k = record {
-  body = subst (λ (l : List ValType). Kept r (inside l (context_in scope (f ∷ fs))) body) (sym (label_params scope g type loops e)) k.1;
+kept_structured kind r scope f g fs type body code is e k = record {
+  body = subst (λ (l : List ValType). Kept r (inside l (context_in scope (f ∷ fs))) body) (sym (label_is scope g kind type is e)) k.1;
   first = tt;
   rest = k.2;
 }
@@ -67,31 +53,29 @@ pub kept_if : (r : Rule) (scope : Scope) (f g : ControlFrame) (fs : List Control
     → g.is_loop ≡ false → g.block_type ≡ type → Kept r (context_in scope (f ∷ fs)) (If type first second code)
     → KeptParts r scope f g fs first code (Some second)
 kept_if r scope f g fs type first second code plain e k = record {
-  body = subst (λ (l : List ValType). Kept r (inside l (context_in scope (f ∷ fs))) first) (sym (label_results scope g type plain e)) k.1;
-  first = subst (λ (l : List ValType). Kept r (inside l (context_in scope (f ∷ fs))) second) (sym (label_results scope g type plain e)) k.2;
+  body = subst (λ (l : List ValType). Kept r (inside l (context_in scope (f ∷ fs))) first) (sym (label_is scope g AsBlock type plain e)) k.1;
+  first = subst (λ (l : List ValType). Kept r (inside l (context_in scope (f ∷ fs))) second) (sym (label_is scope g AsBlock type plain e)) k.2;
   rest = k.3;
 }
 
 -- ---- the nesting
 
-pub nested_block : (type : BlockType) (fs : List ControlFrame) (body code : Code) → nesting (Block type body code) + length fs ≤ 256 → NestedParts fs body code None
-nested_block type fs body code n = record { body = omega arith; first = tt; rest = omega arith }
+pub nested_structured : (kind : BlockKind) (type : BlockType) (fs : List ControlFrame) (body code : Code)
+    → nesting (Structured kind type body code) + length fs ≤ MAX_NESTING → NestedParts fs body code None
+nested_structured kind type fs body code n = record { body = omega arith; first = tt; rest = omega arith }
 
-pub nested_loop : (type : BlockType) (fs : List ControlFrame) (body code : Code) → nesting (Loop type body code) + length fs ≤ 256 → NestedParts fs body code None
-nested_loop type fs body code n = record { body = omega arith; first = tt; rest = omega arith }
-
-pub nested_if : (type : BlockType) (fs : List ControlFrame) (first second code : Code) → nesting (If type first second code) + length fs ≤ 256 → NestedParts fs first code (Some second)
+pub nested_if : (type : BlockType) (fs : List ControlFrame) (first second code : Code) → nesting (If type first second code) + length fs ≤ MAX_NESTING → NestedParts fs first code (Some second)
 nested_if type fs first second code n = record { body = omega arith; first = omega arith; rest = omega arith }
 
 -- ---- the height
 
-max_second : (m n : ℕ) → max m n ≤ 256 → n ≤ 256
+max_second : (m n : ℕ) → max m n ≤ MAX_HEIGHT → n ≤ MAX_HEIGHT
 max_second m n l = omega arith
 
-second_of_three : (a b c : ℕ) → max a (max b c) ≤ 256 → b ≤ 256
+second_of_three : (a b c : ℕ) → max a (max b c) ≤ MAX_HEIGHT → b ≤ MAX_HEIGHT
 second_of_three a b c l = omega arith
 
-third_of_three : (a b c : ℕ) → max a (max b c) ≤ 256 → c ≤ 256
+third_of_three : (a b c : ℕ) → max a (max b c) ≤ MAX_HEIGHT → c ≤ MAX_HEIGHT
 third_of_three a b c l = omega arith
 
 pub low_plain : (scope : Scope) (f : ControlFrame) (fs : List ControlFrame) (h j : Held) (i : Instr) (code : Code) (other : Option Code) (os : List Open)
@@ -101,10 +85,10 @@ pub low_plain : (scope : Scope) (f : ControlFrame) (fs : List ControlFrame) (h j
 low_plain scope f fs h j i code other os k l =
     let c = context_in scope (f ∷ fs) in
     let base : length h.below ≡ length j.below = ap (λ (os : List Operand). length os) (sym k.below) in
-    let next : greatest_height c (length h.below) (after_effect (length h.below) (height_in_all h) (effect_of c i)) code ≤ 256 =
+    let next : greatest_height c (length h.below) (after_effect (length h.below) (height_in_all h) (effect_of c i)) code ≤ MAX_HEIGHT =
     max_second (height_in_all h) (greatest_height c (length h.below) (after_effect (length h.below) (height_in_all h) (effect_of c i)) code) l.0 in (
-      subst (λ (x : ℕ). greatest_height c x (height_in_all j) code ≤ 256) base
-          (subst (λ (x : ℕ). greatest_height c (length h.below) x code ≤ 256) (sym k.height) next),
+      subst (λ (x : ℕ). greatest_height c x (height_in_all j) code ≤ MAX_HEIGHT) base
+          (subst (λ (x : ℕ). greatest_height c (length h.below) x code ≤ MAX_HEIGHT) (sym k.height) next),
       subst (λ (x : ℕ). IfLow c (shape_in scope f) x other) base l.1,
       subst (λ (b : List Operand). LowOpens scope fs (returned scope f b) os) (sym k.below) l.2,
     )
@@ -112,7 +96,7 @@ low_plain scope f fs h j i code other os k l =
 -- the second branch of an `if` begins
 pub low_other : (scope : Scope) (f : ControlFrame) (fs : List ControlFrame) (type : FuncType) (h mid : Held) (second : Code) (os : List Open)
     → shape_in scope f ≡ type → mid.below ≡ h.below
-    → (greatest_height (context_in scope (f ∷ fs)) (length h.below) (height_in_all h) Done ≤ 256)
+    → (greatest_height (context_in scope (f ∷ fs)) (length h.below) (height_in_all h) Done ≤ MAX_HEIGHT)
     × IfLow (context_in scope (f ∷ fs)) (shape_in scope f) (length h.below) (Some second)
     × LowOpens scope fs (returned scope f h.below) os
     → LowOpens scope (f ∷ fs) (with_left type.params (held_of [] mid.below false)) (open_of second None ∷ os)
@@ -120,11 +104,11 @@ low_other scope f fs type h mid second os shape e l =
     let c = context_in scope (f ∷ fs) in
     let start = with_left type.params (held_of [] mid.below false) in
     let high : length type.params + length mid.below ≡ height_in_all start = omega (arith, length-pushed (map Known type.params) [], length-map type.params Known) in
-    let first : greatest_height c (length h.below) (length type.params + length h.below) second ≤ 256 =
-    subst (λ (t : FuncType). greatest_height c (length h.below) (length t.params + length h.below) second ≤ 256) shape l.1 in
-    let there : greatest_height c (length mid.below) (length type.params + length mid.below) second ≤ 256 =
-    subst (λ (os : List Operand). greatest_height c (length os) (length type.params + length os) second ≤ 256) (sym e) first in (
-      subst (λ (x : ℕ). greatest_height c (length mid.below) x second ≤ 256) high there,
+    let first : greatest_height c (length h.below) (length type.params + length h.below) second ≤ MAX_HEIGHT =
+    subst (λ (t : FuncType). greatest_height c (length h.below) (length t.params + length h.below) second ≤ MAX_HEIGHT) shape l.1 in
+    let there : greatest_height c (length mid.below) (length type.params + length mid.below) second ≤ MAX_HEIGHT =
+    subst (λ (os : List Operand). greatest_height c (length os) (length type.params + length os) second ≤ MAX_HEIGHT) (sym e) first in (
+      subst (λ (x : ℕ). greatest_height c (length mid.below) x second ≤ MAX_HEIGHT) high there,
       tt,
       subst (λ (b : List Operand). LowOpens scope fs (returned scope f b) os) (sym e) l.2,
     )
@@ -147,16 +131,16 @@ low_begun scope f g fs type taken h mid body code first other os b p l =
     let high : length mid.own + length mid.below + length type.params ≡ height_in_all (begun type mid) = omega (arith, height-begun type mid) in
     let left : length mid.own + length mid.below + length type.results ≡ height_in_all (with_left type.results mid) =
     omega (arith, length-pushed (map Known type.results) mid.own, length-map type.results Known) in
-    let body_low : greatest_height d (length mid.own + length mid.below) (height_in_all (begun type mid)) body ≤ 256 =
-    subst (λ (x : ℕ). greatest_height d (length mid.own + length mid.below) x body ≤ 256) high p.body in
-    let rest_low : greatest_height c (length h.below) (height_in_all (with_left type.results mid)) code ≤ 256 =
-    subst (λ (x : ℕ). greatest_height c (length h.below) x code ≤ 256) left p.rest in
+    let body_low : greatest_height d (length mid.own + length mid.below) (height_in_all (begun type mid)) body ≤ MAX_HEIGHT =
+    subst (λ (x : ℕ). greatest_height d (length mid.own + length mid.below) x body ≤ MAX_HEIGHT) high p.body in
+    let rest_low : greatest_height c (length h.below) (height_in_all (with_left type.results mid)) code ≤ MAX_HEIGHT =
+    subst (λ (x : ℕ). greatest_height c (length h.below) x code ≤ MAX_HEIGHT) left p.rest in
     let behind : LowOpens scope (f ∷ fs) (with_left type.results mid) (open_of code other ∷ os) = (
-      subst (λ (os : List Operand). greatest_height c (length os) (height_in_all (with_left type.results mid)) code ≤ 256) (sym below) rest_low,
+      subst (λ (os : List Operand). greatest_height c (length os) (height_in_all (with_left type.results mid)) code ≤ MAX_HEIGHT) (sym below) rest_low,
       subst (λ (os : List Operand). IfLow c (shape_in scope f) (length os) other) (sym below) l.0,
       subst (λ (bs : List Operand). LowOpens scope fs (returned scope f bs) os) (sym below) l.1,
     ) in (
-      subst (λ (x : ℕ). greatest_height d x (height_in_all (begun type mid)) body ≤ 256) base body_low,
+      subst (λ (x : ℕ). greatest_height d x (height_in_all (begun type mid)) body ≤ MAX_HEIGHT) base body_low,
       subst (λ (x : ℕ). IfLow d (shape_in scope g) x first) base (subst (λ (t : FuncType). IfLow d t (length mid.own + length mid.below) first) (sym shape) p.first),
       subst (λ (k : Held). LowOpens scope (f ∷ fs) k (open_of code other ∷ os)) (sym back) behind,
     )
@@ -164,7 +148,7 @@ low_begun scope f g fs type taken h mid body code first other os b p l =
 -- the height in a block or a loop whose label takes these types, by what it takes and leaves
 low_inside : (scope : Scope) (f g : ControlFrame) (fs : List ControlFrame) (type : FuncType) (labels : List ValType) (h mid : Held) (body code : Code)
     → labels ≡ label_of scope.contents.now g → Begun scope f g fs type type.params h mid
-    → block_height (context_in scope (f ∷ fs)) labels type (length h.below) (height_in_all h) body code ≤ 256
+    → block_height (context_in scope (f ∷ fs)) labels type (length h.below) (height_in_all h) body code ≤ MAX_HEIGHT
     → LowParts scope f g fs type h mid body code None
 low_inside scope f g fs type labels h mid body code label b known =
     let c = context_in scope (f ∷ fs) in
@@ -172,13 +156,13 @@ low_inside scope f g fs type labels h mid body code label b known =
     let inner : max (length h.below) (height_in_all h - length type.params) ≡ at = omega (arith, b.takes.height, ap (λ (os : List Operand). length os) b.takes.below) in
     let within = greatest_height (inside labels c) at (at + length type.params) body in
     let behind = greatest_height c (length h.below) (at + length type.results) code in
-    let all : max (height_in_all h) (max within behind) ≤ 256 =
+    let all : max (height_in_all h) (max within behind) ≤ MAX_HEIGHT =
     subst (λ (n : ℕ). max (height_in_all h)
     (max (greatest_height (inside labels c) n (n + length type.params) body) (greatest_height c (length h.below) (n + length type.results) code))
-    ≤ 256) inner known in
+    ≤ MAX_HEIGHT) inner known in
     record {
       body =
-          subst (λ (ls : List ValType). greatest_height (inside ls c) at (at + length type.params) body ≤ 256) label
+          subst (λ (ls : List ValType). greatest_height (inside ls c) at (at + length type.params) body ≤ MAX_HEIGHT) label
           (second_of_three (height_in_all h) within behind all);
       first = tt;
       rest = third_of_three (height_in_all h) within behind all;
@@ -188,25 +172,15 @@ named_shape : (scope : Scope) (g : ControlFrame) (type : FuncType) (named : Bloc
     → shape_of scope.contents.now named ≡ type
 named_shape scope g type named e known = subst (λ (t : BlockType). shape_of scope.contents.now t ≡ type) e (ap type_or_none known)
 
-pub low_block : (scope : Scope) (f g : ControlFrame) (fs : List ControlFrame) (type : FuncType) (named : BlockType) (h mid : Held) (body code : Code)
-    → g.is_loop ≡ false → g.block_type ≡ named → Begun scope f g fs type type.params h mid
-    → greatest_height (context_in scope (f ∷ fs)) (length h.below) (height_in_all h) (Block named body code) ≤ 256
+pub low_structured : (kind : BlockKind) (scope : Scope) (f g : ControlFrame) (fs : List ControlFrame) (type : FuncType) (named : BlockType) (h mid : Held) (body code : Code)
+    → g.is_loop ≡ loops kind → g.block_type ≡ named → Begun scope f g fs type type.params h mid
+    → greatest_height (context_in scope (f ∷ fs)) (length h.below) (height_in_all h) (Structured kind named body code) ≤ MAX_HEIGHT
     → LowParts scope f g fs type h mid body code None
-low_block scope f g fs type named h mid body code plain e b l =
+low_structured kind scope f g fs type named h mid body code is e b l =
     let shape = named_shape scope g type named e b.known in
-    let label : type.results ≡ label_of scope.contents.now g = ap (λ (t : FuncType). t.results) (sym shape) ∙ sym (label_results scope g named plain e) in
-    low_inside scope f g fs type type.results h mid body code label b
-    (subst (λ (t : FuncType). block_height (context_in scope (f ∷ fs)) t.results t (length h.below) (height_in_all h) body code ≤ 256) shape l)
-
-pub low_loop : (scope : Scope) (f g : ControlFrame) (fs : List ControlFrame) (type : FuncType) (named : BlockType) (h mid : Held) (body code : Code)
-    → g.is_loop ≡ true → g.block_type ≡ named → Begun scope f g fs type type.params h mid
-    → greatest_height (context_in scope (f ∷ fs)) (length h.below) (height_in_all h) (Loop named body code) ≤ 256
-    → LowParts scope f g fs type h mid body code None
-low_loop scope f g fs type named h mid body code loops e b l =
-    let shape = named_shape scope g type named e b.known in
-    let label : type.params ≡ label_of scope.contents.now g = ap (λ (t : FuncType). t.params) (sym shape) ∙ sym (label_params scope g named loops e) in
-    low_inside scope f g fs type type.params h mid body code label b
-    (subst (λ (t : FuncType). block_height (context_in scope (f ∷ fs)) t.params t (length h.below) (height_in_all h) body code ≤ 256) shape l)
+    let label : label_types kind type ≡ label_of scope.contents.now g = ap (label_types kind) (sym shape) ∙ sym (label_is scope g kind named is e) in
+    low_inside scope f g fs type (label_types kind type) h mid body code label b
+    (subst (λ (t : FuncType). block_height (context_in scope (f ∷ fs)) (label_types kind t) t (length h.below) (height_in_all h) body code ≤ MAX_HEIGHT) shape l)
 
 -- the parts of the height of an `if` whose branches begin over this many operands
 abbrev if_over : Context → FuncType → ℕ → ℕ → ℕ → Code → Code → Code → ℕ
@@ -216,21 +190,21 @@ if_over c type base height inner first second code =
     (greatest_height c base (inner + length type.results) code)))
 
 record LowIf (c : Context) (type : FuncType) (base inner : ℕ) (block branch code : Code) : Type 0 where
-  pub first : greatest_height (inside type.results c) inner (inner + length type.params) block ≤ 256
-  pub second : greatest_height (inside type.results c) inner (inner + length type.params) branch ≤ 256
-  pub rest : greatest_height c base (inner + length type.results) code ≤ 256
+  pub first : greatest_height (inside type.results c) inner (inner + length type.params) block ≤ MAX_HEIGHT
+  pub second : greatest_height (inside type.results c) inner (inner + length type.params) branch ≤ MAX_HEIGHT
+  pub rest : greatest_height c base (inner + length type.results) code ≤ MAX_HEIGHT
 
-second_of_four : (a b c d : ℕ) → max a (max b (max c d)) ≤ 256 → b ≤ 256
+second_of_four : (a b c d : ℕ) → max a (max b (max c d)) ≤ MAX_HEIGHT → b ≤ MAX_HEIGHT
 second_of_four a b c d l = omega arith
 
-third_of_four : (a b c d : ℕ) → max a (max b (max c d)) ≤ 256 → c ≤ 256
+third_of_four : (a b c d : ℕ) → max a (max b (max c d)) ≤ MAX_HEIGHT → c ≤ MAX_HEIGHT
 third_of_four a b c d l = omega arith
 
-fourth_of_four : (a b c d : ℕ) → max a (max b (max c d)) ≤ 256 → d ≤ 256
+fourth_of_four : (a b c d : ℕ) → max a (max b (max c d)) ≤ MAX_HEIGHT → d ≤ MAX_HEIGHT
 fourth_of_four a b c d l = omega arith
 
 parts_of_if : (c : Context) (type : FuncType) (base height inner : ℕ) (first second code : Code)
-    → if_over c type base height inner first second code ≤ 256 → LowIf c type base inner first second code
+    → if_over c type base height inner first second code ≤ MAX_HEIGHT → LowIf c type base inner first second code
 parts_of_if c type base height inner first second code l = record {
   first =
       second_of_four height (greatest_height (inside type.results c) inner (inner + length type.params) first)
@@ -245,27 +219,27 @@ parts_of_if c type base height inner first second code l = record {
 
 pub low_if : (scope : Scope) (f g : ControlFrame) (fs : List ControlFrame) (type : FuncType) (named : BlockType) (h mid : Held) (first second code : Code)
     → g.is_loop ≡ false → g.block_type ≡ named → Begun scope f g fs type (type.params ++ I32 ∷ []) h mid
-    → greatest_height (context_in scope (f ∷ fs)) (length h.below) (height_in_all h) (If named first second code) ≤ 256
+    → greatest_height (context_in scope (f ∷ fs)) (length h.below) (height_in_all h) (If named first second code) ≤ MAX_HEIGHT
     → LowParts scope f g fs type h mid first code (Some second)
 low_if scope f g fs type named h mid first second code plain e b l =
     let c = context_in scope (f ∷ fs) in
     let base = length h.below in
     let over = length mid.own + length mid.below in
     let shape = named_shape scope g type named e b.known in
-    let label : type.results ≡ label_of scope.contents.now g = ap (λ (t : FuncType). t.results) (sym shape) ∙ sym (label_results scope g named plain e) in
+    let label : type.results ≡ label_of scope.contents.now g = ap (λ (t : FuncType). t.results) (sym shape) ∙ sym (label_is scope g AsBlock named plain e) in
     let inner : max (length h.below) (height_in_all h - (length type.params + 1)) ≡ length mid.own + length mid.below =
     omega (arith, b.takes.height, length_push type.params I32, ap (λ (os : List Operand). length os) b.takes.below) in
-    let known : if_height c type base (height_in_all h) first second code ≤ 256 =
-    subst (λ (t : FuncType). if_height c t base (height_in_all h) first second code ≤ 256) shape l in
+    let known : if_height c type base (height_in_all h) first second code ≤ MAX_HEIGHT =
+    subst (λ (t : FuncType). if_height c t base (height_in_all h) first second code ≤ MAX_HEIGHT) shape l in
     let p : LowIf c type base over first second code =
     parts_of_if c type base (height_in_all h) over first second code
-    (subst (λ (n : ℕ). if_over c type base (height_in_all h) n first second code ≤ 256) inner known) in
-    let other : greatest_height (inside (label_of scope.contents.now g) c) over (over + length type.params) second ≤ 256 =
-    subst (λ (ls : List ValType). greatest_height (inside ls c) over (over + length type.params) second ≤ 256) label p.second in
+    (subst (λ (n : ℕ). if_over c type base (height_in_all h) n first second code ≤ MAX_HEIGHT) inner known) in
+    let other : greatest_height (inside (label_of scope.contents.now g) c) over (over + length type.params) second ≤ MAX_HEIGHT =
+    subst (λ (ls : List ValType). greatest_height (inside ls c) over (over + length type.params) second ≤ MAX_HEIGHT) label p.second in
     record {
-      body = subst (λ (ls : List ValType). greatest_height (inside ls c) over (over + length type.params) first ≤ 256) label p.first;
+      body = subst (λ (ls : List ValType). greatest_height (inside ls c) over (over + length type.params) first ≤ MAX_HEIGHT) label p.first;
       first =
-          subst (λ (n : ℕ). greatest_height (inside (label_of scope.contents.now g) c) over n second ≤ 256)
+          subst (λ (n : ℕ). greatest_height (inside (label_of scope.contents.now g) c) over n second ≤ MAX_HEIGHT)
           (let swap : over + length type.params ≡ length type.params + over = omega arith in swap) other;
       rest = p.rest;
     }

@@ -1,14 +1,16 @@
 -- What the rest of a body keeps where the whole does: the rules of what is named, the height and the nesting.
 use Rattle.std.proofs.Common.{◌≡◌, ℕ, ◌+◌, ◌≤◌, ◌<◌, List, [], ◌∷◌, length, Option, Some, None, subst, arith}
+use Rattle.limits.specs.declared.TheConstants.{MAX_HEIGHT, MAX_NESTING}
+use Rattle.syntax.specs.declared.types.BlockType.{BlockType}
 use Rattle.syntax.specs.declared.instruction.Token.{Token}
 use Rattle.syntax.specs.declared.instruction.Token.TheVariants as op
 use Rattle.syntax.specs.declared.contents.FuncType.{FuncType}
-use Rattle.syntax.specs.Code.{Code, Done, Plain, Block, Loop, If}
+use Rattle.syntax.specs.Code.{Code, BlockKind, AsBlock, AsLoop, Done, Plain, Structured, If, opening_bracket}
 use Rattle.validate.specs.declared.frames.ControlFrame.{ControlFrame}
 use Rattle.validate.specs.declared.scope.Scope.{Scope}
 use Rattle.validate.specs.Typing.{Context}
 use Rattle.validate.specs.Height.{greatest_height, nesting}
-use Rattle.validate.specs.Rules.{Rule, Kept}
+use Rattle.validate.specs.Rules.{Rule, KeepsType, Kept}
 use Rattle.validate.specs.Inner.Operands.{Held}
 use Rattle.validate.specs.Inner.Checking.{context_in, height_in_all}
 use Rattle.validate.specs.Inner.Rejecting.{Obeys, BeginsBlock}
@@ -30,13 +32,13 @@ KeptOpens r scope (f ∷ fs) (o ∷ os) =
 
 abbrev pub IfLow : Context → FuncType → ℕ → Option Code → Type 0
 IfLow c type base None = Unit {0}
-IfLow c type base (Some code) = greatest_height c base (length type.params + base) code ≤ 256
+IfLow c type base (Some code) = greatest_height c base (length type.params + base) code ≤ MAX_HEIGHT
 
 abbrev pub LowOpens : Scope → List ControlFrame → Held → List Open → Type 0
-LowOpens scope [] h os = height_in_all h ≤ 256
-LowOpens scope (f ∷ fs) h [] = height_in_all h ≤ 256
+LowOpens scope [] h os = height_in_all h ≤ MAX_HEIGHT
+LowOpens scope (f ∷ fs) h [] = height_in_all h ≤ MAX_HEIGHT
 LowOpens scope (f ∷ fs) h (o ∷ os) =
-    (greatest_height (context_in scope (f ∷ fs)) (length h.below) (height_in_all h) o.code ≤ 256)
+    (greatest_height (context_in scope (f ∷ fs)) (length h.below) (height_in_all h) o.code ≤ MAX_HEIGHT)
     × IfLow (context_in scope (f ∷ fs)) (shape_in scope f) (length h.below) o.other
     × LowOpens scope fs (returned scope f h.below) os
 
@@ -44,38 +46,39 @@ LowOpens scope (f ∷ fs) h (o ∷ os) =
 
 abbrev pub IfNested : ℕ → Option Code → Type 0
 IfNested depth None = Unit {0}
-IfNested depth (Some code) = nesting code + depth ≤ 256
+IfNested depth (Some code) = nesting code + depth ≤ MAX_NESTING
 
 abbrev pub NestedOpens : List ControlFrame → List Open → Type 0
 NestedOpens [] os = Unit {0}
 NestedOpens (f ∷ fs) [] = Unit {0}
-NestedOpens (f ∷ fs) (o ∷ os) = (nesting o.code + length fs ≤ 256) × IfNested (length fs) o.other × NestedOpens fs os
+NestedOpens (f ∷ fs) (o ∷ os) = (nesting o.code + length fs ≤ MAX_NESTING) × IfNested (length fs) o.other × NestedOpens fs os
 
 -- ---- what follows for the next operation
 
 -- a sequence's height is at least that at its begin
 reaches : (c : Context) (base height : ℕ) (code : Code) → height ≤ greatest_height c base height code
 reaches c base height Done = omega arith
-reaches c base height (Plain i rest) = omega arith
-reaches c base height (Block type body rest) = omega arith
-reaches c base height (Loop type body rest) = omega arith
-reaches c base height (If type first second rest) = omega arith
+reaches c base height _ = omega arith
 
-pub now_low : (scope : Scope) (frames : List ControlFrame) (h : Held) (os : List Open) → LowOpens scope frames h os → height_in_all h ≤ 256
+pub now_low : (scope : Scope) (frames : List ControlFrame) (h : Held) (os : List Open) → LowOpens scope frames h os → height_in_all h ≤ MAX_HEIGHT
 now_low scope [] h os low = low
 now_low scope (f ∷ fs) h [] low = low
 now_low scope (f ∷ fs) h (o ∷ os) low =
     let r : height_in_all h ≤ greatest_height (context_in scope (f ∷ fs)) (length h.below) (height_in_all h) o.code = reaches _ _ _ o.code in
-    let l : greatest_height (context_in scope (f ∷ fs)) (length h.below) (height_in_all h) o.code ≤ 256 = low.0 in
+    let l : greatest_height (context_in scope (f ∷ fs)) (length h.below) (height_in_all h) o.code ≤ MAX_HEIGHT = low.0 in
     omega arith
+
+obeys : (r : Rule) (c : Context) (kind : BlockKind) (type : BlockType) → KeepsType r c type → Obeys r c (opening_bracket kind type)
+obeys r c AsBlock type k = k
+obeys r c AsLoop type k = k
 
 obeyed_first : (r : Rule) (c : Context) (o : Token) (rest : List Token) (code : Code) (other : Option Code) (os : List Open)
     → o ∷ rest ≡ flat_of (open_of code other ∷ os) → Kept r c code → Obeys r c o
 obeyed_first r c o rest Done None os flat k = let e : op.End ≡ o = cc in subst (λ (x : Token). Obeys r c x) e tt
 obeyed_first r c o rest Done (Some second) os flat k = let e : op.Else ≡ o = cc in subst (λ (x : Token). Obeys r c x) e tt
 obeyed_first r c o rest (Plain i code) other os flat k = let e : op.Plain i ≡ o = cc in subst (λ (x : Token). Obeys r c x) e k.0
-obeyed_first r c o rest (Block type body code) other os flat k = let e : op.Block type ≡ o = cc in subst (λ (x : Token). Obeys r c x) e k.0
-obeyed_first r c o rest (Loop type body code) other os flat k = let e : op.Loop type ≡ o = cc in subst (λ (x : Token). Obeys r c x) e k.0
+obeyed_first r c o rest (Structured kind type body code) other os flat k =
+    let e : opening_bracket kind type ≡ o = cc in subst (λ (x : Token). Obeys r c x) e (obeys r c kind type k.0)
 obeyed_first r c o rest (If type first second code) other os flat k = let e : op.If type ≡ o = cc in subst (λ (x : Token). Obeys r c x) e k.0
 
 pub obeyed : (r : Rule) (scope : Scope) (frames : List ControlFrame) (o : Token) (rest : List Token) (opens : List Open)
@@ -85,17 +88,16 @@ obeyed r scope [] o rest (x ∷ os) flat same k = absurd (omega arith)
 obeyed r scope (f ∷ fs) o rest (x ∷ os) flat same k = obeyed_first r (context_in scope (f ∷ fs)) o rest x.code x.other os flat k.0
 
 shallow_first : (depth : ℕ) (o : Token) (rest : List Token) (code : Code) (other : Option Code) (os : List Open)
-    → o ∷ rest ≡ flat_of (open_of code other ∷ os) → BeginsBlock o → nesting code + depth ≤ 256 → depth < 256
+    → o ∷ rest ≡ flat_of (open_of code other ∷ os) → BeginsBlock o → nesting code + depth ≤ MAX_NESTING → depth < MAX_NESTING
 shallow_first depth o rest Done None os flat opening n = let e : o ≡ op.End = cc in absurd (subst BeginsBlock e opening)
 shallow_first depth o rest Done (Some second) os flat opening n = let e : o ≡ op.Else = cc in absurd (subst BeginsBlock e opening)
 shallow_first depth o rest (Plain i code) other os flat opening n = let e : o ≡ op.Plain i = cc in absurd (subst BeginsBlock e opening)
-shallow_first depth o rest (Block type body code) other os flat opening n = omega arith
-shallow_first depth o rest (Loop type body code) other os flat opening n = omega arith
+shallow_first depth o rest (Structured kind type body code) other os flat opening n = omega arith
 shallow_first depth o rest (If type first second code) other os flat opening n = omega arith
 
 pub shallow_now : (frames : List ControlFrame) (o : Token) (rest : List Token) (opens : List Open)
-    → o ∷ rest ≡ flat_of opens → length frames ≡ length opens → BeginsBlock o → NestedOpens frames opens → length frames ≤ 256
+    → o ∷ rest ≡ flat_of opens → length frames ≡ length opens → BeginsBlock o → NestedOpens frames opens → length frames ≤ MAX_NESTING
 shallow_now frames o rest [] flat same opening n = absurd cc
 shallow_now [] o rest (x ∷ os) flat same opening n = omega arith
 shallow_now (f ∷ fs) o rest (x ∷ os) flat same opening n =
-    let d : length fs < 256 = shallow_first (length fs) o rest x.code x.other os flat opening n.0 in omega arith
+    let d : length fs < MAX_NESTING = shallow_first (length fs) o rest x.code x.other os flat opening n.0 in omega arith

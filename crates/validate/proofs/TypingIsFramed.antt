@@ -8,7 +8,7 @@ use Rattle.syntax.specs.declared.instruction.Instr.{Instr}
 use Rattle.syntax.specs.declared.instruction.Instr.TheVariants.{Unreachable, Nop, Br, BrIf, BrTable, Return, Call, CallIndirect, Drop, Select, LocalGet}
 use Rattle.syntax.specs.declared.instruction.Instr.TheVariants.{LocalSet, LocalTee, GlobalGet, GlobalSet, Load, LoadNarrow, Store, StoreNarrow, MemorySize}
 use Rattle.syntax.specs.declared.instruction.Instr.TheVariants.{MemoryGrow, Const, Eqz, Unary, Binary, Compare, Convert}
-use Rattle.syntax.specs.Code.{Code, Done, Plain, Block, Loop, If}
+use Rattle.syntax.specs.Code.{Code, Done, Plain, Structured, If}
 use Rattle.validate.specs.Stack.{pushed}
 use Rattle.validate.specs.Typing.{Context, TakesLeaves, ConversionTurns, InstrTyped, Typed, type_of}
 use Rattle.validate.specs.Sequences.{joined}
@@ -65,9 +65,7 @@ behind c rest results below after more k = subst (λ (ts : List ValType). Typed 
 pub sequence : (c : Context) (code : Code) (before after more : List ValType) → Typed c code before after → Typed c code (before ++ more) (after ++ more)
 sequence c Done before after more e = ap (λ (ts : List ValType). ts ++ more) e
 sequence c (Plain i rest) before after more k = (k.0 ++ more, instruction c i before k.0 more k.1, sequence c rest k.0 after more k.2)
-sequence c (Block type body rest) before after more k =
-    (k.0, k.1, k.2 ++ more, over k.0.params k.2 before more k.3, k.4, behind c rest k.0.results k.2 after more (sequence c rest (pushed k.0.results k.2) after more k.5))
-sequence c (Loop type body rest) before after more k =
+sequence c (Structured kind type body rest) before after more k =
     (k.0, k.1, k.2 ++ more, over k.0.params k.2 before more k.3, k.4, behind c rest k.0.results k.2 after more (sequence c rest (pushed k.0.results k.2) after more k.5))
 sequence c (If type first second rest) before after more k = (
   k.0,
@@ -83,13 +81,11 @@ pub joins : (c : Context) (first last : Code) (from topmost to beneath : List Va
     → Typed c (joined first last) from (to ++ beneath)
 joins c Done last from topmost to beneath e k = subst (λ (ts : List ValType). Typed c last ts (to ++ beneath)) (sym e) (sequence c last topmost to beneath k)
 joins c (Plain i rest) last from topmost to beneath h k = (h.0, h.1, joins c rest last h.0 topmost to beneath h.2 k)
-joins c (Block type body rest) last from topmost to beneath h k = (h.0, h.1, h.2, h.3, h.4, joins c rest last (pushed h.0.results h.2) topmost to beneath h.5 k)
-joins c (Loop type body rest) last from topmost to beneath h k = (h.0, h.1, h.2, h.3, h.4, joins c rest last (pushed h.0.results h.2) topmost to beneath h.5 k)
+joins c (Structured kind type body rest) last from topmost to beneath h k = (h.0, h.1, h.2, h.3, h.4, joins c rest last (pushed h.0.results h.2) topmost to beneath h.5 k)
 joins c (If type one other rest) last from topmost to beneath h k = (h.0, h.1, h.2, h.3, h.4, h.5, joins c rest last (pushed h.0.results h.2) topmost to beneath h.6 k)
 
 pub parts : (c : Context) (first last : Code) (from to : List ValType) → Typed c (joined first last) from to → (mid : List ValType) × Typed c first from mid × Typed c last mid to
 parts c Done last from to h = (from, refl, h)
 parts c (Plain i rest) last from to h = let p = parts c rest last h.0 to h.2 in (p.0, (h.0, h.1, p.1), p.2)
-parts c (Block type body rest) last from to h = let p = parts c rest last (pushed h.0.results h.2) to h.5 in (p.0, (h.0, h.1, h.2, h.3, h.4, p.1), p.2)
-parts c (Loop type body rest) last from to h = let p = parts c rest last (pushed h.0.results h.2) to h.5 in (p.0, (h.0, h.1, h.2, h.3, h.4, p.1), p.2)
+parts c (Structured kind type body rest) last from to h = let p = parts c rest last (pushed h.0.results h.2) to h.5 in (p.0, (h.0, h.1, h.2, h.3, h.4, p.1), p.2)
 parts c (If type one other rest) last from to h = let p = parts c rest last (pushed h.0.results h.2) to h.6 in (p.0, (h.0, h.1, h.2, h.3, h.4, h.5, p.1), p.2)

@@ -1,5 +1,5 @@
 -- What is left of a body whose whole is typed: each open block is typed from something that its operands stand for.
-use Rattle.std.proofs.Common.{◌≡◌, ◌++◌, List, [], ◌∷◌, length, true, false, Option, Some, None, refl, sym, ap, subst, ◌∙◌, arith}
+use Rattle.std.proofs.Common.{◌≡◌, ◌++◌, List, [], ◌∷◌, length, false, Option, Some, None, refl, sym, ap, subst, ◌∙◌, arith}
 use Rattle.syntax.specs.declared.types.ValType.{ValType}
 use Rattle.syntax.specs.declared.types.ValType.TheVariants.{I32}
 use Rattle.syntax.specs.declared.types.BlockType.{BlockType}
@@ -7,22 +7,22 @@ use Rattle.syntax.specs.declared.instruction.Instr.{Instr}
 use Rattle.syntax.specs.declared.instruction.Token.{Token}
 use Rattle.syntax.specs.declared.instruction.Token.TheVariants as op
 use Rattle.syntax.specs.declared.contents.FuncType.{FuncType}
-use Rattle.syntax.specs.Code.{Code, Done, Plain, Block, Loop, If}
+use Rattle.syntax.specs.Code.{Code, BlockKind, AsBlock, AsLoop, Done, Plain, Structured, If, opening_bracket}
 use Rattle.validate.specs.declared.operands.Operand.{Operand}
 use Rattle.validate.specs.declared.frames.ControlFrame.{ControlFrame}
 use Rattle.validate.specs.declared.scope.Scope.{Scope}
+use Rattle.validate.specs.declared.checker.Checker.{Checker}
 use Rattle.validate.specs.Stack.{pushed}
-use Rattle.validate.specs.Typing.{Context, Typed, inside, type_of_block}
+use Rattle.validate.specs.Typing.{Context, Typed, inside, label_types, type_of_block}
 use Rattle.validate.specs.Height.{type_or_none}
 use Rattle.validate.specs.Inner.Frames.{label_of}
 use Rattle.validate.specs.Inner.Operands.{Held, held_of, held_around, with_left, Fits}
 use Rattle.validate.specs.Inner.Checking.{Checks, context_in}
-use Rattle.validate.specs.Inner.Rejecting.{MayFollow}
+use Rattle.validate.specs.Inner.Rejecting.{MayBegin, MayFollow}
 use Rattle.validate.proofs.Items.{same_some}
 use Rattle.validate.proofs.OperandTypes.{fits_more, pushed-push}
-use Rattle.validate.proofs.Opens.{Open, open_of, flat_of, shape_in, returned}
+use Rattle.validate.proofs.Opens.{Open, open_of, flat_of, loops, label_is, shape_in, returned}
 use Rattle.validate.proofs.Blocks.{Begun, begun, around-begun}
-use Rattle.validate.proofs.PartsAreKept.{label_results, label_params}
 
 -- the sequence leaves these results, from something that the operands stand for
 pub record TypedFrom (c : Context) (results : List ValType) (h : Held) (code : Code) : Type 0 where
@@ -53,6 +53,10 @@ pub record Follows (scope : Scope) (frames : List ControlFrame) (h : Held) (o : 
 follows_at : (scope : Scope) (frames : List ControlFrame) (h : Held) (o p : Token) → p ≡ o → Follows scope frames h p → Follows scope frames h o
 follows_at scope frames h o p e n = subst (λ (x : Token). Follows scope frames h x) e n
 
+may_follow : (kind : BlockKind) (type : BlockType) (c : Checker) (from : List ValType) → MayBegin type c from → MayFollow (opening_bracket kind type) c from
+may_follow AsBlock type c from m = m
+may_follow AsLoop type c from m = m
+
 follows_first : (scope : Scope) (f : ControlFrame) (fs : List ControlFrame) (h : Held) (o : Token) (rest : List Token) (code : Code) (other : Option Code) (os : List Open)
     → o ∷ rest ≡ flat_of (open_of code other ∷ os)
     → TypedFrom (context_in scope (f ∷ fs)) (shape_in scope f).results h code
@@ -67,14 +71,11 @@ follows_first scope f fs h o rest (Plain i code) other os flat p =
     let e : op.Plain i ≡ o = cc in
     let t = p.typed in
     follows_at scope (f ∷ fs) h o (op.Plain i) e (record { from = p.from; fits = p.fits; rule = (t.0, t.1) })
-follows_first scope f fs h o rest (Block type body code) other os flat p =
-    let e : op.Block type ≡ o = cc in
+follows_first scope f fs h o rest (Structured kind type body code) other os flat p =
+    let e : opening_bracket kind type ≡ o = cc in
     let t = p.typed in
-    follows_at scope (f ∷ fs) h o (op.Block type) e (record { from = p.from; fits = p.fits; rule = (t.0, t.1, t.2, t.3) })
-follows_first scope f fs h o rest (Loop type body code) other os flat p =
-    let e : op.Loop type ≡ o = cc in
-    let t = p.typed in
-    follows_at scope (f ∷ fs) h o (op.Loop type) e (record { from = p.from; fits = p.fits; rule = (t.0, t.1, t.2, t.3) })
+    let begins : MayBegin type (record { scope = scope; frames = f ∷ fs; operands = h }) p.from = (t.0, t.1, t.2, t.3) in
+    follows_at scope (f ∷ fs) h o (opening_bracket kind type) e (record { from = p.from; fits = p.fits; rule = may_follow kind type _ p.from begins })
 follows_first scope f fs h o rest (If type first second code) other os flat p =
     let e : op.If type ≡ o = cc in
     let t = p.typed in
@@ -172,25 +173,14 @@ typed_inside scope f g fs type named h mid body code from below same b fits is i
       rest = subst (λ (s : FuncType). Typed (context_in scope (f ∷ fs)) code (pushed s.results below) (pushed (shape_in scope f).results [])) same rest;
     }
 
-pub typed_block : (scope : Scope) (f g : ControlFrame) (fs : List ControlFrame) (type : FuncType) (named : BlockType) (h mid : Held) (body code : Code)
-    → g.is_loop ≡ false → g.block_type ≡ named → Begun scope f g fs type type.params h mid
-    → TypedFrom (context_in scope (f ∷ fs)) (shape_in scope f).results h (Block named body code)
+pub typed_structured : (kind : BlockKind) (scope : Scope) (f g : ControlFrame) (fs : List ControlFrame) (type : FuncType) (named : BlockType) (h mid : Held) (body code : Code)
+    → g.is_loop ≡ loops kind → g.block_type ≡ named → Begun scope f g fs type type.params h mid
+    → TypedFrom (context_in scope (f ∷ fs)) (shape_in scope f).results h (Structured kind named body code)
     → TypedParts scope f g fs type mid body code None
-typed_block scope f g fs type named h mid body code plain e b p =
+typed_structured kind scope f g fs type named h mid body code is e b p =
     let t = p.typed in
-    let label : t.0.results ≡ label_of scope.contents.now g =
-    ap (λ (s : FuncType). s.results) (sym (ap type_or_none t.1)) ∙ sym (label_results scope g named plain e) in
-    typed_inside scope f g fs type t.0 h mid body code p.from t.2 (named_type scope g named t.0 type e t.1 b.known) b p.fits t.3
-    (subst (λ (l : List ValType). Typed (inside l (context_in scope (f ∷ fs))) body (pushed t.0.params []) (pushed t.0.results [])) label t.4) t.5
-
-pub typed_loop : (scope : Scope) (f g : ControlFrame) (fs : List ControlFrame) (type : FuncType) (named : BlockType) (h mid : Held) (body code : Code)
-    → g.is_loop ≡ true → g.block_type ≡ named → Begun scope f g fs type type.params h mid
-    → TypedFrom (context_in scope (f ∷ fs)) (shape_in scope f).results h (Loop named body code)
-    → TypedParts scope f g fs type mid body code None
-typed_loop scope f g fs type named h mid body code loops e b p =
-    let t = p.typed in
-    let label : t.0.params ≡ label_of scope.contents.now g =
-    ap (λ (s : FuncType). s.params) (sym (ap type_or_none t.1)) ∙ sym (label_params scope g named loops e) in
+    let label : label_types kind t.0 ≡ label_of scope.contents.now g =
+    ap (label_types kind) (sym (ap type_or_none t.1)) ∙ sym (label_is scope g kind named is e) in
     typed_inside scope f g fs type t.0 h mid body code p.from t.2 (named_type scope g named t.0 type e t.1 b.known) b p.fits t.3
     (subst (λ (l : List ValType). Typed (inside l (context_in scope (f ∷ fs))) body (pushed t.0.params []) (pushed t.0.results [])) label t.4) t.5
 
@@ -203,7 +193,7 @@ typed_if scope f g fs type named h mid first second code plain e b p =
     let t = p.typed in
     let same : t.0 ≡ type = named_type scope g named t.0 type e t.1 b.known in
     let label : t.0.results ≡ label_of scope.contents.now g =
-    ap (λ (s : FuncType). s.results) (sym (ap type_or_none t.1)) ∙ sym (label_results scope g named plain e) in
+    ap (λ (s : FuncType). s.results) (sym (ap type_or_none t.1)) ∙ sym (label_is scope g AsBlock named plain e) in
     let over : p.from ≡ pushed (type.params ++ I32 ∷ []) t.2 =
     t.3 ∙ ap (λ (s : FuncType). I32 ∷ pushed s.params t.2) same ∙ sym (pushed-push type.params I32 t.2) in
     record {

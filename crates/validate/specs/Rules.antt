@@ -7,8 +7,8 @@ use Rattle.syntax.specs.declared.instruction.Instr.TheVariants.{GlobalGet, Globa
 use Rattle.syntax.specs.declared.instruction.Instr.TheVariants.{MemoryGrow}
 use Rattle.syntax.specs.declared.contents.Global.{Global}
 use Rattle.syntax.specs.declared.contents.Mutability.TheVariants.{Var}
-use Rattle.syntax.specs.Code.{Code, Done, Plain, Block, Loop, If}
-use Rattle.validate.specs.Typing.{Context, inside, type_of_block, bytes_of_type, bytes_of_width, type_of_function}
+use Rattle.syntax.specs.Code.{Code, Done, Plain, Structured, If}
+use Rattle.validate.specs.Typing.{Context, inside, label_types, type_of_block, bytes_of_type, bytes_of_width, type_of_function}
 use Rattle.validate.specs.Height.{shape_of}
 
 -- each index of a type, function, table, memory, global or local names something
@@ -72,10 +72,8 @@ KeepsType Mutabilities c type = Unit {0}
 abbrev pub Kept : Rule → Context → Code → Type 0
 Kept r c Done = Unit {0}
 Kept r c (Plain i rest) = Keeps r c i × Kept r c rest
-Kept r c (Block type body rest) =
-    KeepsType r c type × Kept r (inside (shape_of c.module_contents type).results c) body × Kept r c rest
-Kept r c (Loop type body rest) =
-    KeepsType r c type × Kept r (inside (shape_of c.module_contents type).params c) body × Kept r c rest
+Kept r c (Structured kind type body rest) =
+    KeepsType r c type × Kept r (inside (label_types kind (shape_of c.module_contents type)) c) body × Kept r c rest
 Kept r c (If type first second rest) =
     KeepsType r c type
     × Kept r (inside (shape_of c.module_contents type).results c) first

@@ -35,13 +35,8 @@ BreaksSection m Constant id =
     ((id ≡ 6) × (All (λ g. IsConstant g.value_type g.init) m.globals → ⊥))
     ⊎ ((id ≡ 9) × (All (λ e. IsConstant I32 e.offset) m.elements → ⊥))
     ⊎ ((id ≡ 11) × (All (λ d. IsConstant I32 d.offset) m.«data» → ⊥))
-BreaksSection m BadType id = ⊥
-BreaksSection m Label id = ⊥
-BreaksSection m Align id = ⊥
-BreaksSection m Mutability id = ⊥
-BreaksSection m Height id = ⊥
-BreaksSection m Nesting id = ⊥
 BreaksSection m Memory id = Unit {0}
+BreaksSection m _ id = ⊥
 
 -- the function has no type, or too many parameters and locals
 abbrev pub BreaksHead : Contents → Func → BodyFault → Type 0

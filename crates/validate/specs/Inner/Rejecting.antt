@@ -21,14 +21,9 @@ use Rattle.validate.specs.Inner.Steps.{Steps}
 
 -- there is no memory, or the access asks for an alignment above its width
 abbrev pub RefusesAccess : Context → ℕ → ℕ → BodyFault → Type 0
-RefusesAccess c align bytes fault.BadType = ⊥
 RefusesAccess c align bytes fault.Index = c.module_contents.memory ≡ None
-RefusesAccess c align bytes fault.Label = ⊥
 RefusesAccess c align bytes fault.Align = bytes < 2 ^ align
-RefusesAccess c align bytes fault.Mutability = ⊥
-RefusesAccess c align bytes fault.Height = ⊥
-RefusesAccess c align bytes fault.Nesting = ⊥
-RefusesAccess c align bytes fault.Memory = ⊥
+RefusesAccess c align bytes _ = ⊥
 
 -- the operation keeps the rule
 abbrev pub Obeys : Rule → Context → Token → Type 0
@@ -51,13 +46,9 @@ BeginsBlock op.End = ⊥
 -- a block that takes these can't begin here
 abbrev pub RefusesEntry : List ValType → Checker → BodyFault → Type 0
 RefusesEntry params c fault.BadType = Lacks params c.operands
-RefusesEntry params c fault.Index = ⊥
-RefusesEntry params c fault.Label = ⊥
-RefusesEntry params c fault.Align = ⊥
-RefusesEntry params c fault.Mutability = ⊥
-RefusesEntry params c fault.Height = ⊥
 RefusesEntry params c fault.Nesting = MAX_NESTING < length c.frames
 RefusesEntry params c fault.Memory = Unit {0}
+RefusesEntry params c _ = ⊥
 
 -- the stack has the parameters of a block of this type on top
 abbrev pub MayBegin : BlockType → Checker → List ValType → Type 0

@@ -1,10 +1,8 @@
-use Rattle.std.proofs.Common.{List, ℕ, [], refl, subst}
-use Rattle.syntax.specs.Language.{vec_upto}
-use Rattle.decode.specs.Inner.Reading.{Refuses, NoneIs}
+use Rattle.std.proofs.Common.{[], refl}
 use Rattle.decode.proofs.AssemblyLaws.{stops_in, no_items_upto}
 use Rattle.decode.proofs.assembly.upto.Goals as goal
 
 pub returns-in-Err : goal.returns-in-Err
 returns-in-Err g c ok =
     stops_in c.args.id [] c.args.sections.now c.in-Err.stop c.stop_in.result _ (no_items_upto c.args.limit g.T.Spelled.spells) refl c.stop_in.ensures.told c.stop_in.ensures.left ok (λ more.
-    subst (λ (t : List ℕ). Refuses (NoneIs (vec_upto c.args.limit g.T.Spelled.spells)) t c.in-Err.stop) c.contents_of.ensures (c.in-Err.ensures more))
+    rw c.contents_of.ensures at (c.in-Err.ensures more))

@@ -1,4 +1,5 @@
 use Rattle.std.proofs.Common.{◌≡◌, ◌<◌, ◌+◌, length, arith, ◌∙◌}
+use Rattle.limits.specs.declared.TheConstants.{MAX_LOCALS}
 use Rattle.syntax.proofs.Joins.{shorter}
 use Rattle.syntax.proofs.ModuleLaws.{free_group}
 use Rattle.decode.specs.Inner.Locals.{as_pair}
@@ -14,7 +15,7 @@ returns-in_err-next c = exit _ _ c.from_residual.ensures.1 (λ ok. after c.loop.
 pub returns-then-next-len : goal.returns-then-next-len
 returns-then-next-len c ok =
     let few = c.loop.invariant.few in
-    let long : 256 < c.in_ok-next.next.count + length c.loop.all.items = omega arith in
+    let long : MAX_LOCALS < c.in_ok-next.next.count + length c.loop.all.items = omega arith in
     let less = shorter free_group (as_pair c.in_ok-next.next) _ _ c.in_ok-next.ensures in
     after c.loop.invariant.spelled (stops_there c.in_ok-next.ensures less c.behind.ensures.left) (λ text mid l k.
     too_many (as_pair c.in_ok-next.next) c.loop-test.true (in_others c.loop.invariant l) k.1 long)

@@ -1,7 +1,6 @@
-use Rattle.std.proofs.Common.{◌≡◌, List, ℕ, true, false, drop, subst}
+use Rattle.std.proofs.Common.{◌≡◌, true, false}
 use Rattle.std.proofs.lemmas.Bool.Decides.{Decides-eqb}
 use Rattle.std.proofs.lemmas.Slice.Eq.{slice_eq-Decides}
-use Rattle.syntax.specs.Language.{Leaves, counted}
 use Rattle.places.proofs.WalkLaws.{if_none}
 use Rattle.places.proofs.NameLaws.{no_name, other_name}
 use Rattle.places.proofs.names.behind_name.Goals as goal
@@ -11,8 +10,7 @@ returns-in_err-name-clause-none c = if_none _ (no_name c.args.wanted.now c.in_er
 
 pub returns-then-eq-clause-found : goal.returns-then-eq-clause-found
 returns-then-eq-clause-found c =
-    subst (λ (n : List ℕ). Leaves (counted n) c.args.held.now (drop c.in_ok-name.behind c.args.held.now))
-    ((slice_eq-Decides Decides-eqb c.in_ok-name.name.now c.args.wanted.now c.eq.result c.eq.ensures).0 c.if-eq.true) c.in_ok-name.ensures.found
+    rw ((slice_eq-Decides Decides-eqb c.in_ok-name.name.now c.args.wanted.now c.eq.result c.eq.ensures).0 c.if-eq.true) at c.in_ok-name.ensures.found
 
 pub returns-else-eq-clause-none : goal.returns-else-eq-clause-none
 returns-else-eq-clause-none c =

@@ -1,5 +1,3 @@
-use Rattle.std.proofs.Common.{List, ℕ, sym, subst}
-use Rattle.places.specs.Names.{ListsName}
 use Rattle.places.proofs.SpanLaws.{if_some}
 use Rattle.places.proofs.WalkLaws.{if_none, none_then}
 use Rattle.places.proofs.NameLaws.{namings_none, namings_more, listed_there, no_list, no_naming, no_number, no_named, no_text, none_listed}
@@ -24,7 +22,7 @@ returns-in_err-name-clause-none c =
 
 pub returns-then-number-function-clause-found : goal.returns-then-number-function-clause-found
 returns-then-number-function-clause-found c =
-    if_some _ _ c.text_of.result c.text_of.ensures.found (λ t e. subst (λ (n : List ℕ). ListsName c.args.list.now c.args.function n) (sym e.0)
+    if_some _ _ c.text_of.result c.text_of.ensures.found (λ t e. rw e.0
     (listed_there c.in_ok-count.ensures.here c.loop-test.true c.loop.invariant c.in_ok-number.ensures.here c.in_ok-name.ensures.found c.if-number-function.true e.1))
 
 pub returns-then-number-function-clause-none : goal.returns-then-number-function-clause-none

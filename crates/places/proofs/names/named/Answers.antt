@@ -1,4 +1,4 @@
-use Rattle.std.proofs.Common.{◌≡◌, ℕ, drop, refl, subst, arith}
+use Rattle.std.proofs.Common.{◌≡◌, drop, refl, arith}
 use Rattle.std.specs.Prelude.{slice_range}
 use Rattle.syntax.specs.Language.{Leaves}
 use Rattle.syntax.specs.Binary.{Section, section}
@@ -24,16 +24,14 @@ pub returns-then-id-eq-FUNCTION_NAMES-clause-found : goal.returns-then-id-eq-FUN
 returns-then-id-eq-FUNCTION_NAMES-clause-found c =
     let held = slice_range c.args.parts.now c.in_ok-id.part.from c.in_ok-id.part.to in
     let here : Leaves (section (record { id = 1; contents = held })) (drop c.loop.at c.args.parts.now) (drop c.in_ok-id.part.to c.args.parts.now) =
-    subst (λ (i : ℕ). Leaves (section (record { id = i; contents = held })) (drop c.loop.at c.args.parts.now) (drop c.in_ok-id.part.to c.args.parts.now))
-    c.if-id-eq-FUNCTION_NAMES.true c.in_ok-id.ensures.here.spelled in
+    rw c.if-id-eq-FUNCTION_NAMES.true at c.in_ok-id.ensures.here.spelled in
     if_some _ _ c.listed.result c.listed.ensures.found (λ name l. named_there c.loop.invariant.0 here l)
 
 pub returns-then-id-eq-FUNCTION_NAMES-clause-none : goal.returns-then-id-eq-FUNCTION_NAMES-clause-none
 returns-then-id-eq-FUNCTION_NAMES-clause-none c =
     let held = slice_range c.args.parts.now c.in_ok-id.part.from c.in_ok-id.part.to in
     let here : Leaves (section (record { id = 1; contents = held })) (drop c.loop.at c.args.parts.now) (drop c.in_ok-id.part.to c.args.parts.now) =
-    subst (λ (i : ℕ). Leaves (section (record { id = i; contents = held })) (drop c.loop.at c.args.parts.now) (drop c.in_ok-id.part.to c.args.parts.now))
-    c.if-id-eq-FUNCTION_NAMES.true c.in_ok-id.ensures.here.spelled in
+    rw c.if-id-eq-FUNCTION_NAMES.true at c.in_ok-id.ensures.here.spelled in
     none_then c.listed.result c.listed.ensures.none (λ none. not_named c.loop.invariant.0 here none)
 
 pub returns-clause-none : goal.returns-clause-none

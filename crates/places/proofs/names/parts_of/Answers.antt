@@ -1,6 +1,5 @@
-use Rattle.std.proofs.Common.{List, [], ◌∷◌, ℕ, sym, subst}
+use Rattle.std.proofs.Common.{[]}
 use Rattle.std.proofs.lemmas.List.{take_rest}
-use Rattle.syntax.specs.Language.{Leaves, counted}
 use Rattle.places.proofs.WalkLaws.{if_none}
 use Rattle.places.proofs.NameLaws.{no_parts}
 use Rattle.places.proofs.names.parts_of.Goals as goal
@@ -11,6 +10,5 @@ returns-in_err-behind-clause-none c = if_none _ (no_parts (record { id = c.args.
 pub returns-clause-found : goal.returns-clause-found
 returns-clause-found c = (
   c.if-id-ne-CUSTOM.false,
-  subst (λ (t : List ℕ). Leaves (counted (0x6e ∷ 0x61 ∷ 0x6d ∷ 0x65 ∷ [])) c.args.held.now t)
-      (sym (take_rest c.args.held.now c.in_ok-behind.behind)) c.in_ok-behind.ensures.found,
+  rw (take_rest c.args.held.now c.in_ok-behind.behind) c.in_ok-behind.ensures.found,
 )

@@ -32,4 +32,4 @@ returns-clause-found c =
     let done = c.loop-test.false in
     let few = c.loop.invariant.2 in
     let same : c.loop.counter ≡ c.args.count = omega (arith, done, few) in
-    subst (λ (n : ℕ). Leaves (repeated n integer) (drop c.args.at c.args.bytes.now) (drop c.loop.next c.args.bytes.now)) same c.loop.invariant.0
+    rw same at c.loop.invariant.0

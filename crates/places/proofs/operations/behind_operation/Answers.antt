@@ -1,7 +1,6 @@
-use Rattle.std.proofs.Common.{rules, get_or, ◌≡◌, ◌+◌, ℕ, drop, subst}
+use Rattle.std.proofs.Common.{rules, get_or, ◌≡◌}
 use Rattle.std.proofs.lemmas.Option.{slice_get-get_or}
-use Rattle.places.specs.Lengths.{integer, immediates_of}
-use Rattle.places.specs.Walks.{repeated, LeavesNone}
+use Rattle.places.specs.Lengths.{immediates_of}
 use Rattle.places.proofs.WalkLaws.{if_none, none_then, none_empty}
 use Rattle.places.proofs.LengthLaws.{free_operation, table_some, plain_some, no_table_labels, no_table_integers, no_plain}
 use Rattle.places.proofs.operations.behind_operation.Goals as goal
@@ -35,4 +34,4 @@ returns-clause-none c =
     let same : c.immediates.result ≡ immediates_of (get_or c.args.bytes.now c.args.at 0) = search rules in
     none_then c.behind_integers-2.result c.behind_integers-2.ensures.none (λ none.
     no_plain c.args.bytes.now c.args.at (get_or c.args.bytes.now c.args.at 0) (slice_get-get_or c.args.bytes.now c.args.at 0 (search rules)) (search rules)
-    (subst (λ (n : ℕ). LeavesNone (repeated n integer) (drop (c.args.at + 1) c.args.bytes.now)) same none))
+    (rw same at none))

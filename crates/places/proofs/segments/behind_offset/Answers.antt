@@ -1,6 +1,5 @@
-use Rattle.std.proofs.Common.{◌≡◌, ℕ, drop, refl, sym, subst, ◌∙◌, arith, get_or}
+use Rattle.std.proofs.Common.{◌≡◌, ℕ, refl, sym, ◌∙◌, arith, get_or}
 use Rattle.std.proofs.lemmas.Option.{get_or_from_slice_get}
-use Rattle.syntax.specs.Language.{Leaves}
 use Rattle.places.specs.Lengths.{operation}
 use Rattle.places.proofs.WalkLaws.{if_none, unmet_none, unmet_more, unmet_first, unmet_end, none_empty}
 use Rattle.places.proofs.LengthLaws.{free_operation}
@@ -25,7 +24,7 @@ returns-then-bytes-next-eq-END-clause-found c =
     let found = c.in_ok-behind.ensures.found in
     let byte : get_or c.args.bytes.now c.loop.next 0 ≡ found.0 = get_or_from_slice_get c.args.bytes.now c.loop.next found.0 0 found.1 in
     let e : found.0 ≡ 0x0b = sym byte ∙ c.if-bytes-next-eq-END.true in
-    unmet_first 0x0b c.loop.invariant.0 (subst (λ (b : ℕ). Leaves (operation b) (drop c.loop.next c.args.bytes.now) (drop c.in_ok-behind.behind c.args.bytes.now)) e found.2) refl
+    unmet_first 0x0b c.loop.invariant.0 (rw e at found.2) refl
 
 pub returns-clause-none : goal.returns-clause-none
 returns-clause-none c =

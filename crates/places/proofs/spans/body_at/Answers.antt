@@ -1,4 +1,3 @@
-use Rattle.std.proofs.Common.{ℕ, sym, subst}
 use Rattle.std.specs.Prelude.{slice_range}
 use Rattle.places.specs.Spans.{BodyAt}
 use Rattle.places.proofs.SpanLaws.{u32_stands, bodies_more, body_there}
@@ -13,5 +12,4 @@ returns-then-index-number c =
     let s = c.in_ok-span.span in
     let there : BodyAt bytes c.args.code.from c.loop-index.index c.loop-index.at s.from s.to =
     body_there (u32_stands c.in-Ok.ensures.found) c.loop-index-test.true c.loop-index.invariant c.in_ok-span.ensures.here c.in_ok-span.ensures.holds in
-    subst (λ (n : ℕ). BodyAt bytes c.args.code.from n s.at s.from s.to) c.if-index-number.true
-    (subst (λ (a : ℕ). BodyAt bytes c.args.code.from c.loop-index.index a s.from s.to) (sym c.in_ok-span.ensures.at) there)
+    rw (← c.in_ok-span.ensures.at, c.if-index-number.true) at there

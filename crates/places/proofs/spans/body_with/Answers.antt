@@ -1,4 +1,4 @@
-use Rattle.std.proofs.Common.{◌≤◌, ℕ, sym, subst, rules}
+use Rattle.std.proofs.Common.{rules}
 use Rattle.std.specs.Prelude.{slice_range}
 use Rattle.places.specs.Spans.{BodyAt}
 use Rattle.places.proofs.SpanLaws.{number_stands, bodies_more, body_there}
@@ -22,7 +22,7 @@ loop-number-preserved c =
     let missed = not_so c.is_within.ensures c.if-is_within.false in (
       bodies_more (slice_range bytes s.from s.to) c.loop-number.invariant.0 c.in_ok-span.ensures.here,
       missed_more c.loop-number.number c.args.byte c.loop-number.invariant.1 there
-          (λ h. missed (subst (λ (a : ℕ). a ≤ c.args.byte) (sym c.in_ok-span.ensures.at) h.0, h.1)),
+          (λ h. missed (rw c.in_ok-span.ensures.at h.0, h.1)),
     )
 
 pub returns-in_err-span-clause-none : goal.returns-in_err-span-clause-none
@@ -37,7 +37,7 @@ returns-then-is_within-clause-body c =
     let stands = number_stands bytes c.args.code.from c.in_ok-count.count c.in_ok-count.at c.in_ok-count.ensures.here c.in_ok-count.ensures.order.0 c.in_ok-count.ensures.order.1 in
     let there : BodyAt bytes c.args.code.from c.loop-number.number c.loop-number.at s.from s.to =
     body_there stands c.loop-number-test.true c.loop-number.invariant.0 c.in_ok-span.ensures.here c.in_ok-span.ensures.holds in
-    subst (λ (a : ℕ). BodyAt bytes c.args.code.from c.loop-number.number a s.from s.to) (sym c.in_ok-span.ensures.at) there
+    rw c.in_ok-span.ensures.at there
 
 pub returns-clause-none : goal.returns-clause-none
 returns-clause-none c =

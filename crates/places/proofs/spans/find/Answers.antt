@@ -1,4 +1,4 @@
-use Rattle.std.proofs.Common.{ℕ, sym, subst, refl, arith}
+use Rattle.std.proofs.Common.{refl, arith}
 use Rattle.std.specs.Prelude.{slice_range}
 use Rattle.syntax.specs.Binary.{section}
 use Rattle.places.specs.Spans.{StandsBetween, FirstSectionAt}
@@ -24,10 +24,10 @@ returns-then-found-id-clause-found c =
     let bytes = c.args.bytes.now in
     let s = c.in_ok-found.section in
     let here : StandsBetween (section (record { id = c.args.id; contents = slice_range bytes s.from s.to })) bytes c.loop.at s.to =
-    subst (λ (i : ℕ). StandsBetween (section (record { id = i; contents = slice_range bytes s.from s.to })) bytes c.loop.at s.to) c.if-found-id.true c.in_ok-found.ensures.here in
+    rw c.if-found-id.true at c.in_ok-found.ensures.here in
     let there : FirstSectionAt bytes c.args.id c.loop.at s.from s.to =
     (c.loop.invariant.0.0, section_there c.loop.invariant.0.1 here c.in_ok-found.ensures.holds, c.loop.invariant.0.2) in
-    subst (λ (a : ℕ). FirstSectionAt bytes c.args.id a s.from s.to) (sym c.in_ok-found.ensures.at) there
+    rw c.in_ok-found.ensures.at there
 
 pub returns-in_err-found-clause-none : goal.returns-in_err-found-clause-none
 returns-in_err-found-clause-none c = if_none _ (no_section c.loop.invariant.0 c.in_err-found.ensures.none)

@@ -4,7 +4,7 @@ use Rattle.handles.specs.declared.handle.Kind.TheVariants.{Timer, Idle, Check}
 use Rattle.handles.specs.declared.sorted.ListPlace.{ListPlace}
 use Rattle.handles.specs.Place.{with}
 use Rattle.handles.specs.Table.{place_of}
-use Rattle.handles.specs.Inner.Lists.{ActiveLists, list, with_list, how_many_listed}
+use Rattle.handles.specs.Inner.Lists.{with_list, how_many_listed}
 use Rattle.handles.proofs.Sets.{no_shorter}
 use Rattle.handles.proofs.sorted.Lists.add.Goals as goal
 
@@ -21,5 +21,5 @@ put_in-requires-2-clause-room c =
     let check = no_shorter (place_of Check c.args.handle c.args.new.now) l.check in
     let timers : Option ListPlace = place_of Timer c.args.handle c.args.new.now in
     let both = subst (λ (o : Option ListPlace). how_many_listed (with_list Idle (with o l.idle) (with_list Timer (with timers l.timers) l)) ≤ MAX_HANDLES) (sym c.place-2.ensures) (omega (arith, c.requires, check)) in
-    let first = subst (λ (o : Option ListPlace). how_many_listed (with_list Idle (with c.place-2.result l.idle) (with_list Timer (with o l.timers) l)) ≤ MAX_HANDLES) (sym c.place.ensures) both in
-    subst (λ (m : ActiveLists). how_many_listed (with_list Idle (with c.place-2.result (list Idle m)) m) ≤ MAX_HANDLES) (sym c.put_in.ensures) first
+    let first = rw (← c.place.ensures) at both in
+    rw c.put_in.ensures first

@@ -1,9 +1,8 @@
-use Rattle.std.proofs.Common.{◌≡◌, ◌≤◌, ap, sym, ◌∙◌, subst, arith}
+use Rattle.std.proofs.Common.{◌≡◌, ap, sym, ◌∙◌, subst, arith}
 use Rattle.std.specs.FinMap as set
-use Rattle.limits.specs.declared.TheConstants.{MAX_HANDLES}
 use Rattle.handles.specs.Place.{PlaceSet, set_of_sorted}
 use Rattle.handles.specs.Inner.Parts.{part}
-use Rattle.handles.specs.Inner.Lists.{ActiveLists, lists_of, PartsRise, list, with_list, how_many_listed}
+use Rattle.handles.specs.Inner.Lists.{ActiveLists, lists_of, PartsRise, list, with_list}
 use Rattle.handles.proofs.RisingLists.{found, gap_found, rises-insert, set-insert, set-insert_present}
 use Rattle.handles.proofs.Places.{places_total, same_place}
 use Rattle.handles.proofs.Sets.{list_of_part, part_rises, parts_rise, lists_of-with_part, with_own_list, one_more}
@@ -15,7 +14,7 @@ insert-requires-clause-room c =
     let p = c.self.inside.places in
     let rises = part_rises kind p c.self.invariant in
     let gap = gap_found places_total _ _ c.args.place c.in-Err.at c.part.ensures.value rises c.in-Err.ensures.bound c.in-Err.ensures.position in
-    let room = subst (λ (l : ActiveLists). how_many_listed (with_list kind (set.insert (list kind l) c.args.place tt) l) ≤ MAX_HANDLES) (sym c.self.view_is) c.requires.room in
+    let room = rw (← c.self.view_is) at c.requires.room in
     omega (arith, room, one_more kind p c.args.place c.in-Err.at c.requires.listed c.self.invariant gap)
 
 pub invariant_of-self : goal.invariant_of-self

@@ -8,9 +8,7 @@ use Rattle.instance.proofs.memory.Memory.load_behind.Goals as goal
 
 few_bytes : (size : AccessSize) → byte_count size ≤ 8
 few_bytes One = omega arith
-few_bytes Two = omega arith
-few_bytes Four = omega arith
-few_bytes Eight = omega arith
+few_bytes _ = omega arith
 
 pub returns-clause-value : goal.returns-clause-value
 returns-clause-value c =

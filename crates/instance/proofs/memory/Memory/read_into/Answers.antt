@@ -1,4 +1,4 @@
-use Rattle.std.proofs.Common.{◌≡◌, ◌+◌, ◌*◌, ◌≤◌, ℕ, length, replicate, ap, ◌∙◌, arith}
+use Rattle.std.proofs.Common.{◌≡◌, ◌+◌, ◌*◌, ◌≤◌, ℕ, length, ap, arith}
 use Rattle.limits.specs.declared.TheConstants.{PAGE_SIZE}
 use Rattle.instance.specs.Store.{MemoryInstance}
 use Rattle.instance.proofs.Fronts.{copied_behind, length_is}

@@ -1,5 +1,5 @@
 -- A call that is under way on a machine.
-use Rattle.std.proofs.Common.{◌≡◌, ℕ, List, ◌++◌, length, take, subst}
+use Rattle.std.proofs.Common.{◌≡◌, ℕ, List, ◌++◌, length, take}
 use Rattle.std.proofs.Math.Seq.{take-append_seam}
 use Rattle.syntax.specs.declared.types.Value.{Value}
 use Rattle.syntax.specs.declared.contents.Contents.{Contents}
@@ -15,10 +15,8 @@ module _ {H : Type 0} (moves : H → HostCall → H → Type 0) (m m' : Contents
   pub paused_in : (s t : Store) (before after : H) (args : List Value) (fuel : ℕ) (paused : Paused) (slots : List ℕ)
       → RunIsPaused m ts moves s before args fuel paused slots fs t after → RunIsPaused m' ts' moves s before args fuel paused slots fs' t after
   paused_in s t before after args fuel paused slots k =
-      subst (λ (x : Contents). RunIsPaused x ts' moves s before args fuel paused slots fs' t after) em
-      (subst (λ (x : List SideTable). RunIsPaused m x moves s before args fuel paused slots fs' t after) et
-      (subst (λ (x : List Caller). RunIsPaused m ts moves s before args fuel paused slots x t after) ef k))
+      rw (ef, et, em) at k
 
 -- the front of a list of two parts
 pub take_seam : {A : Type 0} (n : ℕ) (xs ys : List A) → length xs ≡ n → take n (xs ++ ys) ≡ xs
-take_seam n xs ys e = subst (λ (k : ℕ). take k (xs ++ ys) ≡ xs) e (take-append_seam xs ys)
+take_seam n xs ys e = rw e at (take-append_seam xs ys)

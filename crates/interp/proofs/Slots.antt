@@ -31,3 +31,4 @@ pub mod Hosted
 pub mod Sliced
 pub mod CallsBegin
 pub mod Slicing
+pub mod OtherHosts

@@ -1,4 +1,5 @@
 pub mod Inner
+pub mod Lent
 pub mod Machines
 pub mod Slots
 pub mod Slices

@@ -1,64 +1,93 @@
 // Calls of functions from outside (WebAssembly Core 1.0, 4.5.5).
 
-ghost use Rattle.std.specs.Prelude.{◌≡◌, ◌≤◌, ◌<◌, [], length, None, IfSome};
+ghost use Rattle.std.specs.Prelude.{◌≡◌, ◌≤◌, ◌<◌, length, take, None, IfSome};
+ghost use Rattle.reduction.specs.Run.{as_operands};
 ghost use Rattle.events.specs.Bare.{whole};
 ghost use Rattle.validate.specs.Valid.{ValidModule};
 ghost use Rattle.validate.specs.Targets.{AreTables};
 ghost use Rattle.instance.specs.Storing.{IsStoreOf};
-ghost use Rattle.reduction.specs.Run.{as_operands};
 ghost use Rattle.reduction.specs.Hosting.{Names};
 ghost use Rattle.reduction.specs.Invoking.{TakesArguments, HasNoResults, ReturnsTyped};
 ghost use Rattle.reduction.specs.Leading.{Leads, calling, scene};
 ghost use Rattle.instance.specs.Stops.{stop_of};
 ghost use Rattle.interp.specs.Inner.Calling.{CanCall, CallDoes};
+ghost use Rattle.interp.specs.Lent.{result_count, ended_in, ended_with};
 
 use crate::call::{FunctionCall, ModuleCode};
 use crate::host::{Args, Host};
 use crate::opening::open;
-use crate::over_host::{Outermost, run_within};
+use crate::over_host::{EndedRun, Outermost, read_results, run_within};
 use engine::{Flow, Program, Stopped};
 use events::ended::{BareEnded, BareEnding, Ended, Ending};
 use events::values::Values;
-use instance::stack::{CallStack, Caller, Last, Slots};
+use instance::stack::{CallStack, Caller, Slots};
 use instance::state::{Instance, State};
-use limits::MAX_DEPTH;
+use limits::{MAX_DEPTH, MAX_RESULTS};
 use syntax::contents::Contents;
 use syntax::types::Value;
 use validate::{Valid, type_of_function};
 
-/// The results that an answer of the host makes.
-fn answered(answer: Option<Value>) -> Values
-    ensures { result ≡ as_operands answer }
+/// How many results a function has.
+fn result_count(contents: &Contents, function: u32) -> usize
+    ensures { result ≡ result_count contents.now function }
 {
-    match answer {
-        Some(value) => Values::from_slice(&[value]),
-        None => Values::empty(),
+    match type_of_function(contents, function) {
+        Some(func_type) => func_type.results.len(),
+        None => 0,
     }
 }
 
-/// Asks the host for an import. In its own place, since the room for an answer is filled with zeros.
+/// The ending of a call with these results, where it returned.
+pub fn ended_with(ended: BareEnded, results: &[Value]) -> Ended
+    requires { length results.now ≤ MAX_RESULTS }
+    ensures { result ≡ ended_with ended results.now }
+{
+    let ending = match ended.ending {
+        BareEnding::Return => Ending::Return(Values::from_slice(results)),
+        other => other.whole(),
+    };
+    Ended {
+        ending,
+        used: ended.used,
+    }
+}
+
+/// Writes an answer of the host, where there is one, to the first place.
+fn place_answer(answer: Option<Value>, places: &mut [Value])
+    requires { length (as_operands answer) ≤ length places.old }
+    ensures { take (length (as_operands answer)) places.new ≡ as_operands answer }
+{
+    if let Some(value) = answer {
+        places[0] = value;
+    }
+}
+
+/// Asks the host for an import, and writes its answer, where there is one, to the first place.
 #[inline(never)]
 fn invoke_import<H: Host>(
     contents: &Contents,
     state: &mut State,
     host: &mut H,
-    ended: &mut Ended,
+    places: &mut [Value],
     call: &FunctionCall,
-)
+) -> BareEnded
     requires can { CanCall contents.now state.old (H.types host.old) call.now.function call.now.args.now }
     requires imported { call.now.function < length contents.now.imports }
-    ensures does { CallDoes contents.now call.now.depth call.now.fuel H.moves state.old host.old call.now.function call.now.args.now ended.new state.new host.new None }
+    requires room { result_count contents.now call.now.function ≤ length places.old }
+    ensures does { CallDoes contents.now call.now.depth call.now.fuel H.moves state.old host.old call.now.function call.now.args.now
+        (ended_in contents.now call.now.function result places.new) state.new host.new None }
     ensures types { H.types host.new ≡ H.types host.old }
 {
     let answer = host.call(call.function, &Args::new(call.args), state.memory_mut());
-    *ended = Ended {
-        ending: Ending::Return(answered(answer)),
+    place_answer(answer, places);
+    BareEnded {
+        ending: BareEnding::Return,
         used: 0,
-    };
+    }
 }
 
-/// Calls a defined function, whose callers may take the first `depth` - 1 places of `frames`, and returns where the call stopped, unless
-/// it returned.
+/// Calls a defined function, whose callers may take the first `depth` - 1 places of `frames`, reads its results into the first places, and
+/// returns how and where the call ended.
 #[inline(always)]
 fn invoke_defined<H: Host>(
     code: &ModuleCode,
@@ -66,19 +95,20 @@ fn invoke_defined<H: Host>(
     host: &mut H,
     slots: &mut Slots,
     frames: &mut [Caller],
-    ended: &mut Ended,
+    places: &mut [Value],
     call: &FunctionCall,
-) -> Option<Last>
+) -> EndedRun
     requires valid { ValidModule code.now.contents.now }
     requires agree { AreTables code.now.contents.now code.now.tables.now }
     requires can { CanCall code.now.contents.now state.old (H.types host.old) call.now.function call.now.args.now }
     requires defined { length code.now.contents.now.imports ≤ call.now.function }
     requires depth { (1 ≤ call.now.depth) × (call.now.depth ≤ MAX_DEPTH) }
     requires room { MAX_DEPTH ≤ length frames.old }
+    requires places { result_count code.now.contents.now call.now.function ≤ length places.old }
     ensures does { CallDoes code.now.contents.now call.now.depth call.now.fuel H.moves state.old host.old call.now.function call.now.args.now
-        ended.new state.new host.new (stop_of result frames.new) }
+        (ended_in code.now.contents.now call.now.function result.ended places.new) state.new host.new (stop_of result.last frames.new) }
     ensures types { H.types host.new ≡ H.types host.old }
-    ensures callers { IfSome result (λ l. l.depth ≤ MAX_DEPTH) }
+    ensures callers { IfSome result.last (λ l. l.depth ≤ MAX_DEPTH) }
 {
     let Some(func_type) = type_of_function(code.contents, call.function) else {
         unreachable!()
@@ -96,7 +126,15 @@ fn invoke_defined<H: Host>(
         at,
         fuel: call.fuel,
     };
-    run_within(&outermost, slots, frames, state, host, &mut place, ended)
+    let run = run_within(&outermost, slots, frames, state, host, &mut place);
+    read_results(
+        run.ended.ending,
+        outermost.types,
+        slots,
+        place.at.sp,
+        places,
+    );
+    run
 }
 
 /// Calls a function of a module on one of its instances, with these arguments and so much fuel. At most `depth`, 1 to `MAX_DEPTH`,
@@ -151,42 +189,18 @@ pub fn invoke_on<H: Host>(
     ensures kept { IsStoreOf valid.now.contents state.new }
     ensures types { H.types host.new ≡ H.types host.old }
 {
-    let mut ended = unwritten();
-    invoke_into(valid, state, stack, host, &mut ended, call);
-    ended
+    let mut places = [Value::I32(0); MAX_RESULTS];
+    let count = result_count(valid.contents(), call.function);
+    let ended = invoke_lent(valid, state, stack, host, &mut places, call);
+    ended_with(ended, &places[..count])
 }
 
-/// Does what `invoke_on` does, and writes how it ended to a place that is lent, so that no room for results is copied.
-pub fn invoke_lent<H: Host>(
-    valid: &Valid,
-    state: &mut State,
-    stack: &mut CallStack,
-    host: &mut H,
-    ended: &mut Ended,
-    call: &FunctionCall,
-)
-    requires store { IsStoreOf valid.now.contents state.old }
-    requires names { Names valid.now.contents (H.types host.old) }
-    requires typed { TakesArguments valid.now.contents call.now.function call.now.args.now }
-    requires depth { (1 ≤ call.now.depth) × (call.now.depth ≤ MAX_DEPTH) }
-    ensures runs { Leads H.moves (calling valid.now.contents call.now.function call.now.args.now call.now.fuel call.now.depth) (scene state.old host.old)
-        ended.new stack.new (scene state.new host.new) }
-    ensures within { ended.new.used ≤ call.now.fuel }
-    ensures results { ReturnsTyped valid.now.contents call.now.function ended.new.ending }
-    ensures kept { IsStoreOf valid.now.contents state.new }
-    ensures types { H.types host.new ≡ H.types host.old }
-{
-    invoke_into(valid, state, stack, host, ended, call);
-}
-
-/// Calls a function that has no results, as `invoke_on` does. Its ending needs no room for any: that is lent, and nothing is
-/// promised of what is in it afterwards, so that none is filled with zeros at each call.
+/// Calls a function that has no results, as `invoke_on` does.
 pub fn invoke_bare<H: Host>(
     valid: &Valid,
     state: &mut State,
     stack: &mut CallStack,
     host: &mut H,
-    place: &mut Ended,
     call: &FunctionCall,
 ) -> BareEnded
     requires store { IsStoreOf valid.now.contents state.old }
@@ -200,36 +214,29 @@ pub fn invoke_bare<H: Host>(
     ensures kept { IsStoreOf valid.now.contents state.new }
     ensures types { H.types host.new ≡ H.types host.old }
 {
-    invoke_into(valid, state, stack, host, place, call);
-    BareEnded {
-        ending: BareEnding::of(&place.ending),
-        used: place.used,
-    }
+    invoke_lent(valid, state, stack, host, &mut [], call)
 }
 
-/// What is there before an ending is written.
-pub fn unwritten() -> Ended
-    ensures { result ≡ record { ending = Ending.Return []; used = 0 } }
-{
-    Ended {
-        ending: Ending::Return(Values::empty()),
-        used: 0,
-    }
-}
-
-/// Does what `invoke_on` does, and writes the ending to a place.
+/// Calls a function as `invoke_on` does, and writes its results to the first of the places that are lent, at least as many as it has.
 #[inline(always)]
-fn invoke_into<H: Host>(
+pub fn invoke_lent<H: Host>(
     valid: &Valid,
     state: &mut State,
     stack: &mut CallStack,
     host: &mut H,
-    ended: &mut Ended,
+    places: &mut [Value],
     call: &FunctionCall,
-)
-    requires can { CanCall valid.now.contents state.old (H.types host.old) call.now.function call.now.args.now }
+) -> BareEnded
+    requires store { IsStoreOf valid.now.contents state.old }
+    requires names { Names valid.now.contents (H.types host.old) }
+    requires typed { TakesArguments valid.now.contents call.now.function call.now.args.now }
+    requires room { result_count valid.now.contents call.now.function ≤ length places.old }
     requires depth { (1 ≤ call.now.depth) × (call.now.depth ≤ MAX_DEPTH) }
-    ensures does { CallDoes valid.now.contents call.now.depth call.now.fuel H.moves state.old host.old call.now.function call.now.args.now ended.new state.new host.new stack.new }
+    ensures runs { Leads H.moves (calling valid.now.contents call.now.function call.now.args.now call.now.fuel call.now.depth) (scene state.old host.old)
+        (ended_in valid.now.contents call.now.function result places.new) stack.new (scene state.new host.new) }
+    ensures within { result.used ≤ call.now.fuel }
+    ensures results { ReturnsTyped valid.now.contents call.now.function (ended_in valid.now.contents call.now.function result places.new).ending }
+    ensures kept { IsStoreOf valid.now.contents state.new }
     ensures types { H.types host.new ≡ H.types host.old }
 {
     let contents = valid.contents();
@@ -240,13 +247,14 @@ fn invoke_into<H: Host>(
     } = stack;
     if (call.function as usize) < contents.imports.len() {
         *last = None;
-        invoke_import(contents, state, host, ended, call);
-        return;
+        return invoke_import(contents, state, host, places, call);
     }
     let code = ModuleCode {
         contents,
         tables: valid.tables(),
     };
     let callers = frames.as_mut_slice();
-    *last = invoke_defined(&code, state, host, slots, callers, ended, call);
+    let run = invoke_defined(&code, state, host, slots, callers, places, call);
+    *last = run.last;
+    run.ended
 }

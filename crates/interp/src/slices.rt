@@ -4,7 +4,7 @@ ghost use Rattle.std.specs.Prelude.{◌≡◌, ℕ, List, ◌+◌, ◌<◌, ◌�
 ghost use Rattle.syntax.specs.declared.types.Value.{Value as Argument};
 ghost use Rattle.validate.specs.Valid.{ValidModule};
 ghost use Rattle.validate.specs.Targets.{AreTables};
-ghost use Rattle.events.specs.declared.ended.Ending.TheVariants as ending;
+ghost use Rattle.events.specs.declared.ended.BareEnding.TheVariants as bare;
 ghost use Rattle.instance.specs.Store.{Store};
 ghost use Rattle.instance.specs.Storing.{IsStoreOf};
 ghost use Rattle.instance.specs.Stops.{stop_of};
@@ -14,15 +14,16 @@ ghost use Rattle.interp.specs.Slices.{RunIsPaused, IsSomePaused, RunIsOver, IsMo
 
 use crate::call::{FunctionCall, ModuleCode};
 use crate::host::Host;
-use crate::invoke::unwritten;
+use crate::invoke::ended_with;
 use crate::opening::open;
-use crate::over_host::{Outermost, run_within};
+use crate::over_host::{Outermost, read_results, run_within};
 pub use crate::paused::{Paused, UNIT_BYTES};
 use engine::{Flow, Program, Stopped};
-use events::ended::{Ended, Ending};
+use events::ended::{BareEnded, BareEnding, Ended};
 use instance::stack::{Caller, Last, Slots};
 use instance::state::State;
-use limits::MAX_DEPTH;
+use limits::{MAX_DEPTH, MAX_RESULTS};
+use syntax::types::Value;
 use validate::type_of_function;
 
 /// A call that is under way, and how many units of fuel it may use until it is paused again.
@@ -66,10 +67,10 @@ pub(crate) fn begin<H: Host>(
 }
 
 /// Whether a run that ended so is paused: it spent what it was granted, and more is left.
-fn is_paused(ended: &Ended, left: u64) -> bool
-    ensures { IsTrue result ↔ ((ended.now.ending ≡ ending.Spent) × (ended.now.used < left)) }
+fn is_paused(ended: BareEnded, left: u64) -> bool
+    ensures { IsTrue result ↔ ((ended.ending ≡ bare.Spent) × (ended.used < left)) }
 {
-    ended.used < left && matches!(ended.ending, Ending::Spent)
+    ended.used < left && matches!(ended.ending, BareEnding::Spent)
 }
 
 /// How many bytes a host may have copied until a slice of so many units ends, which had copied so many before it.
@@ -129,22 +130,25 @@ pub(crate) fn go_on<H: Host>(
         at: paused.at,
         fuel: units.min(paused.left),
     };
-    let mut ended = unwritten();
-    let last = run_within(
-        &outermost, slots, frames, state, host, &mut place, &mut ended,
-    );
-    if is_paused(&ended, paused.left) {
+    let run = run_within(&outermost, slots, frames, state, host, &mut place);
+    let ended = run.ended;
+    if is_paused(ended, paused.left) {
         slice.paused = Paused {
             function: paused.function,
             depth: paused.depth,
             at: place.at,
             used: paused.used + ended.used,
             left: paused.left - ended.used,
-            last,
+            last: run.last,
         };
         return None;
     }
-    ended.used += paused.used;
-    *ended_at = last;
-    Some(ended)
+    *ended_at = run.last;
+    let types = outermost.types;
+    let height = place.at.sp;
+    let mut places = [Value::I32(0); MAX_RESULTS];
+    read_results(ended.ending, types, slots, height, &mut places);
+    let mut whole = ended_with(ended, &places[..types.len()]);
+    whole.used += paused.used;
+    Some(whole)
 }

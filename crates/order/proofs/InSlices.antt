@@ -32,16 +32,13 @@ use Rattle.validate.specs.Targets.{AreTables}
 use Rattle.validate.specs.declared.side_table.SideTable.{SideTable}
 use Rattle.instance.specs.declared.stack.Caller.{Caller}
 use Rattle.interp.specs.declared.paused.Paused.{Paused}
-use Rattle.engine.specs.Programs.{program_of}
-use Rattle.engine.specs.Stepping.{standing}
-use Rattle.interp.specs.Slots.Hosted.{IsUnderWay}
 use Rattle.interp.specs.Slices.{RunIsPaused}
-use Rattle.interp.proofs.Slots.CallsBegin.{under_way}
+use Rattle.interp.proofs.Slots.OtherHosts.{came_by}
 use Rattle.order.specs.declared.host.WorkHost.{WorkHost}
 use Rattle.order.specs.Inner.Serving.{Serves}
 use Rattle.order.specs.Inner.WorkHosting.{WorkAnswered}
 use Rattle.order.specs.Stopping.{WorkStop, ComputesTo}
-use Rattle.order.specs.Work.{WorkOrder, WorkEnd, Computes, WorkRun, StartRun, EndsAs}
+use Rattle.order.specs.Work.{WorkOrder, WorkEnd, Computes, StartRun, EndsAs}
 use Rattle.order.specs.Work as work
 use Rattle.order.specs.Stopping as stopping
 use Rattle.order.specs.Inner.Going.{StartIsOver}
@@ -58,28 +55,27 @@ module _ (o : WorkOrder) (fuel : ℕ) (s t : Store) (old new : WorkHost) (serves
   pub over_serves : Serves new o
   over_serves = work_serves o fuel o.loaded refl s t old new serves function args ended stop over.leads
 
--- the start function, in slices, is over
+-- the start function is over
 module _ (o : WorkOrder) (s t : Store) (old reply : List ℕ) (function : ℕ) (ended : Ended) (stop : Option Halt)
-    (fresh : IsFresh o.loaded.contents s) (is_start : o.loaded.contents.start ≡ Some function) (empty : old ≡ [])
-    (ran : WorkStop o o.fuel s old function [] ended t reply stop) where
-  start_stops : WorkStop o o.fuel s [] function [] ended t reply stop
+    (is_start : o.loaded.contents.start ≡ Some function) (empty : old ≡ []) (ran : WorkStop o o.fuel s old function [] ended t reply stop) where
+  pub start_stops : WorkStop o o.fuel s [] function [] ended t reply stop
   start_stops = subst (λ (bytes : List ℕ). WorkStop o o.fuel s bytes function [] ended t reply stop) empty ran
 
   -- it has run as the start function does
-  start_ran : StartRun o o.loaded.contents.start s (end_of_run ended.ending) ended.used t reply
+  pub start_ran : StartRun o o.loaded.contents.start s (end_of_run ended.ending) ended.used t reply
   start_ran = subst (λ (f : Option ℕ). StartRun o f s (end_of_run ended.ending) ended.used t reply) (sym is_start) start_stops.run
 
   -- it doesn't return: so the order is computed
-  pub start_computes : (e : WorkEnd) → ((values : List Value) → ended.ending ≡ Return values → ⊥) → EndsAs (end_of_run ended.ending) reply e
+  pub start_computes : IsFresh o.loaded.contents s → (e : WorkEnd) → ((values : List Value) → ended.ending ≡ Return values → ⊥) → EndsAs (end_of_run ended.ending) reply e
       → Computes o e ended.used × ComputesTo o e ended.used stop
-  start_computes e not end = (
+  start_computes fresh e not end = (
     work.stops s t (end_of_run ended.ending) reply fresh start_ran (not_returned ended.ending not) end,
     stopping.stops s t ended reply function fresh is_start start_stops (not_returned ended.ending not) refl end,
   )
 
   -- it returns
-  pub start_returns : (values : List Value) → ended.ending ≡ Return values → ended.used ≤ o.fuel → StartIsOver o ended.used t reply
-  start_returns values returned within = record {
+  pub start_returns : IsFresh o.loaded.contents s → (values : List Value) → ended.ending ≡ Return values → ended.used ≤ o.fuel → StartIsOver o ended.used t reply
+  start_returns fresh values returned within = record {
     s = s;
     results = reverse values;
     fresh = fresh;
@@ -156,15 +152,8 @@ pub came_to : (o : WorkOrder) → ValidModule o.loaded.contents → (tables : Li
     (args : List Value) (fuel : ℕ) (paused : Paused) (slots : List ℕ) (frames : List Caller) → Serves old o
     → RunIsPaused o.loaded.contents tables WorkAnswered s old args fuel paused slots frames t new → Serves new o
 came_to o valid tables agree s t old new args fuel paused slots frames serves c =
-    let m = o.loaded.contents in
-    let p = program_of m tables in
-    let types = c.takes.type.results in
-    let first = standing c.start c.first_slots c.first_frames s fuel in
-    let u : IsUnderWay m p paused.depth types first =
-    subst (λ (k : ℕ). IsUnderWay m p k types first) c.deep
-    (under_way m paused.function args c.takes valid c.defined tables agree p refl c.start c.first_slots c.opened c.small c.first_frames s fuel c.fit types refl) in
-    let come = c.comes u.body u.contexts u.places u.bodies u.program u.represents in
-    (served o come.trace old new serves come.lawful).serves
+    let it = came_by o.loaded.contents valid tables agree WorkAnswered s t old new args fuel paused slots frames c in
+    (served o it.0 old new serves it.1).serves
 
 -- an order that went on with what was left of a slice went on for the whole slice
 module _ (o : WorkOrder) (used now copied copied' units rest : ℕ) (later : used ≤ now) (within : now ≤ used + units) (is : rest ≡ units - (now - used))

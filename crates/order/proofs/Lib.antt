@@ -6,5 +6,6 @@ pub mod WhereOrdersStop
 pub mod Short
 pub mod OneEnd
 pub mod RepliesAgree
+pub mod Results
 pub mod InSlices
 pub mod Standing

@@ -1,13 +1,19 @@
 // What an order under way runs on.
 
-ghost use Rattle.std.specs.Prelude.{◌≡◌, ◌<◌, ◌≤◌, ℕ, List, length, None, IsSome, IfSome};
+ghost use Rattle.std.specs.Prelude.{◌≡◌, ◌<◌, ◌≤◌, ℕ, List, [], ◌∷◌, length, Some, None, IsSome, IfSome};
 ghost use Rattle.std.specs.Arc.{arc_value};
 ghost use Rattle.limits.specs.declared.TheConstants.{MAX_DEPTH};
+ghost use Rattle.syntax.specs.declared.types.ValType.TheVariants as valtype;
 ghost use Rattle.syntax.specs.declared.types.Value.{Value as Argument};
+ghost use Rattle.syntax.specs.declared.types.Value.TheVariants as value;
+ghost use Rattle.validate.specs.Typing.{type_of_function};
+ghost use Rattle.imports.specs.Uv.{type_of_entry};
+ghost use Rattle.imports.specs.declared.entry_point.EntryPoint.TheVariants.{Work};
 ghost use Rattle.instance.specs.Store.{Store};
 ghost use Rattle.instance.specs.Storing.{IsStoreOf};
 ghost use Rattle.instance.specs.Stops.{stop_of};
 ghost use Rattle.reduction.specs.Invoking.{TakesArguments, ReturnsTyped};
+ghost use Rattle.reduction.specs.Running.{AreResults};
 ghost use Rattle.interp.specs.Machines.{MachineFits};
 ghost use Rattle.interp.specs.Slices.{UsesAll, UsesSome};
 ghost use Rattle.order.specs.declared.host.WorkHost.{WorkHost as Answering};
@@ -25,6 +31,7 @@ use events::ended::Ended;
 use instance::stack::CallStack;
 use instance::state::State;
 use interp::call::FunctionCall;
+use interp::invoke::ended_with;
 use interp::machine::Machine;
 use interp::slices::{Paused, Slice};
 use syntax::types::Value;
@@ -155,22 +162,16 @@ impl WorkMachine {
         (machine.into_stack(), host)
     }
 
-    /// Calls an imported function, which uses no fuel.
-    pub(crate) fn ask(
-        self,
-        order: &Order,
-        function: u32,
-        args: &[Value],
-        fuel: u64,
-    ) -> (Ended, CallStack, WorkHost)
+    /// Calls `uv_work`, which is this imported function and uses no fuel.
+    pub(crate) fn ask(self, order: &Order, function: u32, fuel: u64) -> (Ended, CallStack, WorkHost)
         requires runs { RunsOrder (order_of order.now) self }
         requires store { IsStoreOf (arc_value order.now.module).contents self.state }
         requires serves { Serves self.host (order_of order.now) }
-        requires typed { TakesArguments (arc_value order.now.module).contents function args.now }
+        requires typed { type_of_function (arc_value order.now.module).contents function ≡ Some (type_of_entry Work) }
         requires imported { function < length (arc_value order.now.module).contents.imports }
-        ensures ran { (t : Store) × WorkStop (order_of order.now) fuel self.state self.host.reply.items function args.now result.0 t result.2.reply.items result.1 }
+        ensures ran { (t : Store) × WorkStop (order_of order.now) fuel self.state self.host.reply.items function (value.I32 order.now.op ∷ []) result.0 t result.2.reply.items result.1 }
         ensures free { result.0.used ≡ 0 }
-        ensures results { ReturnsTyped (arc_value order.now.module).contents function result.0.ending }
+        ensures results { AreResults result.0.ending (valtype.I32 ∷ []) }
     {
         let WorkMachine {
             state,
@@ -179,7 +180,7 @@ impl WorkMachine {
         } = self;
         let (mut state, mut host) = (state, host);
         let mut stack = machine.into_stack();
-        let ended = order.call(&mut state, &mut stack, &mut host, function, args, fuel);
-        (ended, stack, host)
+        let (ended, value) = order.call_work(&mut state, &mut stack, &mut host, function, fuel);
+        (ended_with(ended, &[value]), stack, host)
     }
 }

@@ -6,9 +6,14 @@ ghost use Rattle.limits.specs.declared.TheConstants.{MAX_BYTES, MAX_DEPTH};
 ghost use Rattle.syntax.specs.declared.types.ValType.TheVariants as valtype;
 ghost use Rattle.instance.specs.Fresh.{IsFresh};
 ghost use Rattle.instance.specs.Storing.{IsStoreOf};
+ghost use Rattle.validate.specs.Typing.{type_of_function};
+ghost use Rattle.events.specs.Bare.{whole, whole_ending};
 ghost use Rattle.reduction.specs.Invoking.{TakesArguments, ReturnsTyped};
 ghost use Rattle.reduction.specs.Running.{end_of_run, AreResults};
 ghost use Rattle.imports.specs.Linking.{ExportsFunction};
+ghost use Rattle.imports.specs.Uv.{type_of_entry};
+ghost use Rattle.imports.specs.declared.entry_point.EntryPoint.TheVariants.{Work};
+ghost use Rattle.interp.specs.Lent.{result_count, ending_with, ended_with, ended_in};
 ghost use Rattle.order.specs.Orders.{order_of, end_of};
 ghost use Rattle.order.specs.Inner.Ready.{IsReadyToRun};
 ghost use Rattle.order.specs.Inner.Serving.{Serves};
@@ -21,19 +26,35 @@ use crate::order::{Order, Outcome};
 use crate::reply::Reply;
 use crate::reserving::{RefusedMemory, Reserved, reserve};
 use crate::trail::Trail;
-use events::ended::{Ended, Ending};
-use events::values::Values;
+use events::ended::{BareEnded, BareEnding, Ending};
 use imports::EntryPoint;
 use imports::laws::names_are_apart;
 use instance::room::Room;
 use instance::stack::CallStack;
 use instance::state::State;
 use interp::call::FunctionCall;
-use interp::invoke::invoke_on;
+use interp::invoke::invoke_lent;
 use std::alloc::Global;
 use syntax::types::Value;
 
-/// How `uv_work`, or the start function where that did not return, reads as an outcome.
+/// How `uv_work`, or the start function where that did not return, reads as an outcome: this is its result, where it returned.
+fn outcome_of(ending: BareEnding, value: Value, reply: Vec<u8>) -> Outcome
+    requires { AreResults (ending_with ending (value ∷ [])) (valtype.I32 ∷ []) }
+    ensures end { EndsAs (end_of_run (ending_with ending (value ∷ []))) reply.items (end_of result) }
+    ensures told { end_of result ≢ NoMemory }
+{
+    match ending {
+        BareEnding::Return => match value {
+            Value::I32(value) => Outcome::Done(value, reply),
+            Value::I64(_) => unreachable!(),
+        },
+        BareEnding::Trap(trap) => Outcome::Trap(trap),
+        BareEnding::Depth => Outcome::Depth,
+        BareEnding::Spent => Outcome::Spent,
+    }
+}
+
+/// The outcome of a run in slices, which answers its results.
 pub(crate) fn outcome_from(ending: Ending, reply: Vec<u8>) -> Outcome
     requires { AreResults ending (valtype.I32 ∷ []) }
     ensures end { EndsAs (end_of_run ending) reply.items (end_of result) }
@@ -172,111 +193,148 @@ impl Order {
             reply,
             copied: 0,
         };
-        let ended = self.start_and_work(&mut state, &mut stack, &mut host);
+        let (ended, value) = self.start_and_work(&mut state, &mut stack, &mut host);
         let trail = Trail::of_last(&stack);
         room.keep(state, stack);
         Computed {
-            outcome: outcome_from(ended.ending, host.into_reply()),
+            outcome: outcome_of(ended.ending, value, host.into_reply()),
             used: ended.used,
             trail,
         }
     }
 
-    /// The start function and, where it returns, `uv_work`.
-    fn start_and_work(&self, state: &mut State, stack: &mut CallStack, host: &mut WorkHost) -> Ended
+    /// The start function and, where it returns, `uv_work`, with its result, where that returns too.
+    fn start_and_work(
+        &self,
+        state: &mut State,
+        stack: &mut CallStack,
+        host: &mut WorkHost,
+    ) -> (BareEnded, Value)
         requires runs { CanRun (order_of self.now) }
         requires fresh { IsFresh (arc_value self.now.module).contents state.old }
         requires store { IsStoreOf (arc_value self.now.module).contents state.old }
         requires serves { Serves host.old (order_of self.now) }
         requires empty { host.old.reply.items ≡ [] }
-        ensures computes { (end : WorkEnd) → EndsAs (end_of_run result.ending) host.new.reply.items end → Computes (order_of self.now) end result.used }
-        ensures stops { (end : WorkEnd) → EndsAs (end_of_run result.ending) host.new.reply.items end → ComputesTo (order_of self.now) end result.used stack.new }
-        ensures within { result.used ≤ self.now.fuel }
-        ensures results { AreResults result.ending (valtype.I32 ∷ []) }
+        ensures computes { (end : WorkEnd) → EndsAs (end_of_run (ending_with result.0.ending (result.1 ∷ []))) host.new.reply.items end
+            → Computes (order_of self.now) end result.0.used }
+        ensures stops { (end : WorkEnd) → EndsAs (end_of_run (ending_with result.0.ending (result.1 ∷ []))) host.new.reply.items end
+            → ComputesTo (order_of self.now) end result.0.used stack.new }
+        ensures within { result.0.used ≤ self.now.fuel }
+        ensures results { AreResults (ending_with result.0.ending (result.1 ∷ [])) (valtype.I32 ∷ []) }
     {
         let started = self.start(state, stack, host);
-        let Ending::Return(_) = started.ending else {
-            return started;
+        let BareEnding::Return = started.ending else {
+            return (started, Value::I32(0));
         };
-        let ended = self.work(state, stack, host, self.fuel - started.used);
-        Ended {
+        let (ended, value) = self.work(state, stack, host, self.fuel - started.used);
+        let whole = BareEnded {
             ending: ended.ending,
             used: started.used + ended.used,
-        }
+        };
+        (whole, value)
     }
 
     /// The start function, where there is one.
-    fn start(&self, state: &mut State, stack: &mut CallStack, host: &mut WorkHost) -> Ended
+    fn start(&self, state: &mut State, stack: &mut CallStack, host: &mut WorkHost) -> BareEnded
         requires store { IsStoreOf (arc_value self.now.module).contents state.old }
         requires serves { Serves host.old (order_of self.now) }
         requires empty { host.old.reply.items ≡ [] }
         requires runs { CanRun (order_of self.now) }
-        ensures run { StartRun (order_of self.now) (arc_value self.now.module).contents.start state.old (end_of_run result.ending) result.used state.new host.new.reply.items }
+        ensures run { StartRun (order_of self.now) (arc_value self.now.module).contents.start state.old (end_of_run (whole_ending result.ending)) result.used state.new host.new.reply.items }
         ensures stops { (f : ℕ) → (arc_value self.now.module).contents.start ≡ Some f
-            → WorkStop (order_of self.now) self.now.fuel state.old [] f [] result state.new host.new.reply.items stack.new }
+            → WorkStop (order_of self.now) self.now.fuel state.old [] f [] (whole result) state.new host.new.reply.items stack.new }
         ensures within { result.used ≤ self.now.fuel }
-        ensures results { AreResults result.ending [] }
         ensures store { IsStoreOf (arc_value self.now.module).contents state.new }
         ensures serves { Serves host.new (order_of self.now) }
     {
-        match self.module.valid().contents().start {
-            Some(function) => self.call(state, stack, host, function, &[], self.fuel),
-            None => Ended {
-                ending: Ending::Return(Values::from_slice(&[])),
+        let Some(function) = self.module.valid().contents().start else {
+            return BareEnded {
+                ending: BareEnding::Return,
                 used: 0,
-            },
-        }
+            };
+        };
+        let call = FunctionCall {
+            function,
+            args: &[],
+            fuel: self.fuel,
+            depth: self.depth,
+        };
+        self.call(state, stack, host, &mut [], &call)
     }
 
-    /// `uv_work`, with the fuel that is left.
+    /// `uv_work`, with the fuel that is left, and its result, where it returns.
     fn work(
         &self,
         state: &mut State,
         stack: &mut CallStack,
         host: &mut WorkHost,
         fuel: u64,
-    ) -> Ended
+    ) -> (BareEnded, Value)
         requires runs { CanRun (order_of self.now) }
         requires store { IsStoreOf (arc_value self.now.module).contents state.old }
         requires serves { Serves host.old (order_of self.now) }
         ensures run { (f : ℕ) × ExportsFunction (arc_value self.now.module).contents (codes "uv_work") f
-            × WorkStop (order_of self.now) fuel state.old host.old.reply.items f (Value.I32 self.now.op ∷ []) result state.new host.new.reply.items stack.new }
-        ensures within { result.used ≤ fuel }
-        ensures results { AreResults result.ending (valtype.I32 ∷ []) }
+            × WorkStop (order_of self.now) fuel state.old host.old.reply.items f (Value.I32 self.now.op ∷ []) (ended_with result.0 (result.1 ∷ [])) state.new host.new.reply.items stack.new }
+        ensures within { result.0.used ≤ fuel }
+        ensures results { AreResults (ending_with result.0.ending (result.1 ∷ [])) (valtype.I32 ∷ []) }
     {
         let Some(function) = self.module.entry(EntryPoint::Work) else {
             unreachable!();
         };
-        self.call(state, stack, host, function, &[Value::I32(self.op)], fuel)
+        self.call_work(state, stack, host, function, fuel)
     }
 
-    /// A function of the order's module.
-    pub(crate) fn call(
+    /// `uv_work`, which is this function, and its result, where it returns.
+    pub(crate) fn call_work(
         &self,
         state: &mut State,
         stack: &mut CallStack,
         host: &mut WorkHost,
         function: u32,
-        args: &[Value],
         fuel: u64,
-    ) -> Ended
-        requires takes { TakesArguments (arc_value self.now.module).contents function args.now }
+    ) -> (BareEnded, Value)
+        requires runs { CanRun (order_of self.now) }
         requires store { IsStoreOf (arc_value self.now.module).contents state.old }
         requires serves { Serves host.old (order_of self.now) }
-        requires runs { CanRun (order_of self.now) }
-        ensures run { WorkStop (order_of self.now) fuel state.old host.old.reply.items function args.now result state.new host.new.reply.items stack.new }
-        ensures within { result.used ≤ fuel }
-        ensures results { ReturnsTyped (arc_value self.now.module).contents function result.ending }
-        ensures store { IsStoreOf (arc_value self.now.module).contents state.new }
-        ensures serves { Serves host.new (order_of self.now) }
+        requires typed { type_of_function (arc_value self.now.module).contents function ≡ Some (type_of_entry Work) }
+        ensures run { WorkStop (order_of self.now) fuel state.old host.old.reply.items function (Value.I32 self.now.op ∷ [])
+            (ended_with result.0 (result.1 ∷ [])) state.new host.new.reply.items stack.new }
+        ensures within { result.0.used ≤ fuel }
+        ensures results { AreResults (ending_with result.0.ending (result.1 ∷ [])) (valtype.I32 ∷ []) }
     {
-        let valid = self.module.valid();
+        let mut places = [Value::I32(0)];
         let call = FunctionCall {
             function,
-            args,
+            args: &[Value::I32(self.op)],
             fuel,
             depth: self.depth,
         };
-        invoke_on(valid, state, stack, host, &call)
+        let ended = self.call(state, stack, host, &mut places, &call);
+        (ended, places[0])
+    }
+
+    /// A function of the order's module, whose results go to the first of these places.
+    fn call(
+        &self,
+        state: &mut State,
+        stack: &mut CallStack,
+        host: &mut WorkHost,
+        places: &mut [Value],
+        call: &FunctionCall,
+    ) -> BareEnded
+        requires takes { TakesArguments (arc_value self.now.module).contents call.now.function call.now.args.now }
+        requires room { result_count (arc_value self.now.module).contents call.now.function ≤ length places.old }
+        requires depth { call.now.depth ≡ self.now.depth }
+        requires store { IsStoreOf (arc_value self.now.module).contents state.old }
+        requires serves { Serves host.old (order_of self.now) }
+        requires runs { CanRun (order_of self.now) }
+        ensures run { WorkStop (order_of self.now) call.now.fuel state.old host.old.reply.items call.now.function call.now.args.now
+            (ended_in (arc_value self.now.module).contents call.now.function result places.new) state.new host.new.reply.items stack.new }
+        ensures within { result.used ≤ call.now.fuel }
+        ensures results { ReturnsTyped (arc_value self.now.module).contents call.now.function (ended_in (arc_value self.now.module).contents call.now.function result places.new).ending }
+        ensures store { IsStoreOf (arc_value self.now.module).contents state.new }
+        ensures serves { Serves host.new (order_of self.now) }
+    {
+        invoke_lent(self.module.valid(), state, stack, host, places, call)
     }
 }

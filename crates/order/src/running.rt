@@ -320,7 +320,6 @@ fn ask(order: Order, machine: WorkMachine, function: u32, first: u64) -> Told
     ensures leaves { LeavesTrail (order_of order) (end_of result.reply.outcome) result.used result.trail }
     ensures used { result.used ≡ first }
 {
-    let args = [Value::I32(order.op)];
-    let (ended, stack, host) = machine.ask(&order, function, &args, order.fuel - first);
+    let (ended, stack, host) = machine.ask(&order, function, order.fuel - first);
     tell(order, host, stack, ended.ending, first)
 }

@@ -1,7 +1,7 @@
 -- The contexts of a run stand in their bodies where its marks say, and so each caller at its call.
 use Rattle.reduction.proofs.Words.{◌≡◌, ℕ, zero, suc, ◌+◌, ◌-◌, List, [], ◌∷◌, ◌++◌, length, map, take, drop, Some, refl, sym, ap, ◌∙◌, subst, arith}
 use Rattle.reduction.proofs.Words.{Bool, true, false, ◌==◌, slice_get, if◌then◌else◌, Value, Instr, Br, Token, Contents, FuncType, Func, Code, Done}
-use Rattle.reduction.proofs.Words.{Plain, Block, Loop, If, Context, Label, Frame, with_locals, receiving, continuing, Move, Goes, Calls, Stuck, next, StaysInBlock}
+use Rattle.reduction.proofs.Words.{AsBlock, AsLoop, Plain, Structured, If, opening_bracket, Context, Label, Frame, with_locals, receiving, continuing, Move, Goes, Calls, Stuck, next, StaysInBlock}
 use Rattle.reduction.proofs.Words.{Store, value_of, entered, IsDefined, as_operands}
 use Rattle.syntax.specs.declared.instruction.Token.TheVariants as op
 use Rattle.syntax.specs.Code.{operations, operations_to}
@@ -23,8 +23,7 @@ use Rattle.reduction.proofs.Rules as rule
 abbrev pub Lies : List Token → (at : ℕ) → Code → Type 0
 Lies ops at Done = Unit {0}
 Lies ops at (Plain i rest) = (slice_get ops at ≡ Some (op.Plain i)) × Lies ops (at + 1) rest
-Lies ops at (Block type body rest) = Lies ops (at + 1) body × Lies ops (at + 1 + size body) rest
-Lies ops at (Loop type body rest) = Lies ops (at + 1) body × Lies ops (at + 1 + size body) rest
+Lies ops at (Structured kind type body rest) = Lies ops (at + 1) body × Lies ops (at + 1 + size body) rest
 Lies ops at (If type first second rest) =
     Lies ops (at + 1) first × Lies ops (at + 1 + size first) second × Lies ops (at + 1 + size first + size second) rest
 
@@ -32,13 +31,9 @@ lies : (ops : List Token) (at : ℕ) (close : Token) (tail : List Token) (code :
 lies ops at close tail Done s = tt
 lies ops at close tail (Plain i rest) s =
     let here = first_at ops at (op.Plain i) (operations_to close rest tail) s in (here.0, lies ops (at + 1) close tail rest here.1)
-lies ops at close tail (Block type body rest) s =
+lies ops at close tail (Structured kind type body rest) s =
     let after_body = operations_to close rest tail in
-    let here = first_at ops at (op.Block type) (operations_to op.End body after_body) s in
-    (lies ops (at + 1) op.End after_body body here.1, lies ops (at + 1 + size body) close tail rest (behind_code ops op.End body (at + 1) after_body here.1))
-lies ops at close tail (Loop type body rest) s =
-    let after_body = operations_to close rest tail in
-    let here = first_at ops at (op.Loop type) (operations_to op.End body after_body) s in
+    let here = first_at ops at (opening_bracket kind type) (operations_to op.End body after_body) s in
     (lies ops (at + 1) op.End after_body body here.1, lies ops (at + 1 + size body) close tail rest (behind_code ops op.End body (at + 1) after_body here.1))
 lies ops at close tail (If type first second rest) s =
     let after_second = operations_to close rest tail in
@@ -160,8 +155,8 @@ module _ (m : Contents) where
     opened : (s : Store) {code next inner rest : Code} {values left : List Value} {type : FuncType} {count : ℕ} → Opening m code values type count next inner rest left
         → Lies (operations f.body) from code
         → After m (behind_first code values from all) (Goes 1 s (Label count next (take (length type.params) left) inner ∷ Label arity back (drop (length type.params) left) rest ∷ below))
-    opened s (rule.a_block found) l = (f, function, is, inside l.0 l.1 (inside l.1 n k))
-    opened s (rule.a_loop found) l = (f, function, is, inside l.0 l (inside l.1 n k))
+    opened s (rule.a_structured {kind = AsBlock} found) l = (f, function, is, inside l.0 l.1 (inside l.1 n k))
+    opened s (rule.a_structured {kind = AsLoop} found) l = (f, function, is, inside l.0 l (inside l.1 n k))
     opened s (rule.an_if {n = zero} found) l = (f, function, is, inside l.1 l.2 (inside l.2 n k))
     opened s (rule.an_if {n = suc other} found) l = (f, function, is, inside l.0 l.2 (inside l.2 n k))
 

@@ -1,6 +1,6 @@
 -- What an operation at a place tells of the contexts that stand there.
 use Rattle.reduction.proofs.Words.{◌≡◌, ℕ, List, ◌∷◌, Option, Some, None, [], arith, slice_get, slice_get_past, Value, Instr, Contents, Code, Done, Plain}
-use Rattle.reduction.proofs.Words.{Block, Loop, If, Context, Label, Frame, Body, Place, IsPlaced, Token}
+use Rattle.reduction.proofs.Words.{AsBlock, AsLoop, Structured, If, Context, Label, Frame, Body, Place, IsPlaced, Token}
 use Rattle.syntax.specs.declared.instruction.Token.TheVariants as op
 use Rattle.syntax.specs.declared.types.BlockType.{BlockType}
 use Rattle.reduction.specs.Places.{ClosesTo}
@@ -10,9 +10,9 @@ pub data Begins : Option Token → List Context → Type 0 where
   a_plain : {i : Instr} {arity : ℕ} {back rest : Code} {values : List Value} {below : List Context}
       → Begins (Some (op.Plain i)) (Label arity back values (Plain i rest) ∷ below)
   a_block : {type : BlockType} {arity : ℕ} {back inside rest : Code} {values : List Value} {below : List Context}
-      → Begins (Some (op.Block type)) (Label arity back values (Block type inside rest) ∷ below)
+      → Begins (Some (op.Block type)) (Label arity back values (Structured AsBlock type inside rest) ∷ below)
   a_loop : {type : BlockType} {arity : ℕ} {back inside rest : Code} {values : List Value} {below : List Context}
-      → Begins (Some (op.Loop type)) (Label arity back values (Loop type inside rest) ∷ below)
+      → Begins (Some (op.Loop type)) (Label arity back values (Structured AsLoop type inside rest) ∷ below)
   an_if : {type : BlockType} {arity : ℕ} {back first second rest : Code} {values : List Value} {below : List Context}
       → Begins (Some (op.If type)) (Label arity back values (If type first second rest) ∷ below)
   an_else : {arity : ℕ} {back : Code} {values : List Value} {below : List Context} → Begins (Some op.Else) (Label arity back values Done ∷ below)
@@ -24,8 +24,8 @@ module _ (m : Contents) (body : ℕ → Body) (place : Place) (callers : List Pl
   begins more [] w = absurd w.over
   begins more (Frame locals arity values code ∷ below) w = rw (slice_get_past (body place.function).operations place.pc (omega (arith, w.code.1))) behind
   begins more (Label arity back values (Plain i rest) ∷ below) w = rw w.code.0 a_plain
-  begins more (Label arity back values (Block type inside rest) ∷ below) w = rw w.code.0 a_block
-  begins more (Label arity back values (Loop type inside rest) ∷ below) w = rw w.code.0 a_loop
+  begins more (Label arity back values (Structured AsBlock type inside rest) ∷ below) w = rw w.code.0 a_block
+  begins more (Label arity back values (Structured AsLoop type inside rest) ∷ below) w = rw w.code.0 a_loop
   begins more (Label arity back values (If type first second rest) ∷ below) w = rw w.code.0 an_if
   begins more (Label arity back values Done ∷ below) w = closing _ _ _ _ (slice_get (body place.function).operations place.pc) w.code.0 where
     closing : (base after at end : ℕ) (o : Option Token) → ClosesTo (body place.function) base after at end o → Begins o (Label arity back values Done ∷ below)

@@ -1,12 +1,12 @@
 -- A typed sequence within the limits of height and nesting takes so many operands to so many.
 use Rattle.reduction.proofs.Words.{◌≡◌, ℕ, ◌+◌, ◌-◌, ◌≤◌, List, [], ◌∷◌, ◌++◌, length, map, Some, refl, ap, ◌∙◌, arith, length-append, slice_get}
-use Rattle.reduction.proofs.Words.{length-map, ValType, Instr, Br, BrIf, BrTable, Contents, FuncType, Code, Done, Plain, Block, Loop, If, pushed}
+use Rattle.reduction.proofs.Words.{length-map, ValType, Instr, Br, BrIf, BrTable, Contents, FuncType, Code, Done, Plain, Structured, If, pushed, label_types}
 use Rattle.reduction.proofs.Words.{type_of, HasFunctionType, type_of_function}
 use Rattle.std.proofs.Common.{max}
 use Rattle.std.specs.Option.{option_map}
 use Rattle.std.proofs.lemmas.Option.{slice_get-map}
 use Rattle.std.proofs.Math.Nat.{le-max_left, le-max_right}
-use Rattle.limits.specs.declared.TheConstants.{MAX_HEIGHT, MAX_NESTING, MAX_PARAMS}
+use Rattle.limits.specs.declared.TheConstants.{MAX_HEIGHT, MAX_NESTING}
 use Rattle.syntax.specs.declared.types.ValType.TheVariants as type
 use Rattle.syntax.specs.declared.operator.Conversion.{Conversion}
 use Rattle.syntax.specs.declared.operator.Conversion.TheVariants.{I32WrapI64, I64ExtendI32S, I64ExtendI32U}
@@ -173,7 +173,7 @@ module _ (base taken : ℕ) (before below : List ValType) (e : length before ≡
   both_counted c d params results body rest after go_in go_on h =
       let first = greatest_height d inner (inner + length params) body in
       let last = greatest_height c base (inner + length results) rest in (
-        body_counted d params results body go_in (left_within first last MAX_PARAMS h),
+        body_counted d params results body go_in (left_within first last MAX_HEIGHT h),
         rest_counted c results rest after go_on (right_within first last MAX_HEIGHT h),
       )
 
@@ -188,24 +188,9 @@ counted c base (Plain i rest) before after (mid, ti, tr) h n =
       follows c base i before mid rest (length after) (effect_of c i) (agrees c i before mid ti) (right_within height next MAX_HEIGHT h)
           (λ (k : greatest_height c base (base + length mid) rest ≤ MAX_HEIGHT). counted c base rest mid after tr k n),
     )
-counted c base (Block type body rest) before after (t, at, below, e, tb, tr) h n =
+counted c base (Structured kind type body rest) before after (t, at, below, e, tb, tr) h n =
     let size : length before ≡ length t.params + length below = ap (λ (ts : List ValType). length ts) e ∙ length-pushed t.params below in
-    let d = inside t.results c in
-    let k = rw at at h in
-    let start = inner base (length t.params) before below size in
-    let parts = max (greatest_height d start (start + length t.params) body) (greatest_height c base (start + length t.results) rest) in
-    let low : base + length before ≤ MAX_HEIGHT = left_within (base + length before) parts MAX_HEIGHT k in
-    let nb : nesting body + length d.labels ≤ MAX_NESTING + 1 = omega (arith, n) in
-    let nr : nesting rest + length c.labels ≤ MAX_NESTING + 1 = omega (arith, n) in
-    let both = both_counted base (length t.params) before below size c d t.params t.results body rest (length after)
-    (λ (q : greatest_height d (base + length below) (base + length below + length (pushed t.params [])) body ≤ MAX_HEIGHT). counted d (base + length below) body
-    (pushed t.params []) (pushed t.results []) tb q nb)
-    (λ (q : greatest_height c base (base + length (pushed t.results below)) rest ≤ MAX_HEIGHT). counted c base rest (pushed t.results below) after tr q nr)
-    (right_within (base + length before) parts MAX_HEIGHT k) in
-    (fits c base before rest low nr, t, at, length below, size, both.0, both.1)
-counted c base (Loop type body rest) before after (t, at, below, e, tb, tr) h n =
-    let size : length before ≡ length t.params + length below = ap (λ (ts : List ValType). length ts) e ∙ length-pushed t.params below in
-    let d = inside t.params c in
+    let d = inside (label_types kind t) c in
     let k = rw at at h in
     let start = inner base (length t.params) before below size in
     let parts = max (greatest_height d start (start + length t.params) body) (greatest_height c base (start + length t.results) rest) in

@@ -2,7 +2,7 @@
 use Rattle.reduction.proofs.Contexts.{with_locals-labels, with_locals-base, with_locals-operands, with_locals-code, receiving-is, continuing-is}
 use Rattle.reduction.proofs.Words.{◌≡◌, ℕ, zero, suc, ◌+◌, ◌≤◌, List, [], ◌∷◌, ◌++◌, length, take, drop, reverse, Option, Some, None, refl, sym, ap}
 use Rattle.reduction.proofs.Words.{◌∙◌, subst, arith, length-append, slice_get, length-map, type_of, type_of_function, ValType, Value, Instr}
-use Rattle.reduction.proofs.Words.{Contents, FuncType, Code, Done, Loop, Context, Label, Frame, locals_of, with_locals, going_on, receiving}
+use Rattle.reduction.proofs.Words.{Contents, FuncType, Code, AsBlock, AsLoop, Done, Structured, Context, Label, Frame, locals_of, with_locals, going_on, receiving}
 use Rattle.reduction.proofs.Words.{Move, Goes, Calls, next, code_left, operands_of}
 use Rattle.std.proofs.Common.{length-drop}
 use Rattle.std.proofs.lemmas.List.{length-take-le}
@@ -126,10 +126,10 @@ module _ (m : Contents) where
       → (labels : List ℕ) (base after : ℕ) → Counted m labels base (length values) after code
       → (lower : ℕ) × (length left ≡ length t.params + lower) × Counted m (arity ∷ labels) (base + lower) (length t.params) (length t.results) inside
       × Counted m labels base (arity + lower) after next × Counted m labels base (length t.results + lower) after rest
-  opened {t} (rule.a_block at) labels base after (fits, u, named_so, lower, e, kb, kr) = let same : t ≡ u = cc in rw same (lower, e, kb, kr, kr)
-  opened {t} (rule.a_loop {type} {body} {rest} at) labels base after (fits, u, named_so, lower, e, kb, kr) =
+  opened {t} (rule.a_structured {kind = AsBlock} at) labels base after (fits, u, named_so, lower, e, kb, kr) = let same : t ≡ u = cc in rw same (lower, e, kb, kr, kr)
+  opened {t} (rule.a_structured {kind = AsLoop} {type} {body} {rest} at) labels base after (fits, u, named_so, lower, e, kb, kr) =
       let same : t ≡ u = cc in
-      let again : Counted m labels base (length u.params + lower) after (Loop type body rest) = (rw e at fits, u, named_so, lower, refl, kb, kr) in
+      let again : Counted m labels base (length u.params + lower) after (Structured AsLoop type body rest) = (rw e at fits, u, named_so, lower, refl, kb, kr) in
       rw same (lower, e, kb, again, kr)
   opened {t} (rule.an_if {n = zero} at) labels base after (fits, u, named_so, lower, e, kf, ks, kr) = let same : t ≡ u = cc in rw same (lower, omega (arith, e), ks, kr, kr)
   opened {t} (rule.an_if {n = suc n} at) labels base after (fits, u, named_so, lower, e, kf, ks, kr) = let same : t ≡ u = cc in rw same (lower, omega (arith, e), kf, kr, kr)

@@ -1,6 +1,6 @@
 -- A typed body with which its side table agrees stands in its operations as the table tells.
 use Rattle.reduction.proofs.Words.{◌≡◌, ℕ, zero, suc, ◌+◌, ◌-◌, List, [], ◌∷◌, length, drop, Some, sym, ap, ◌∙◌, subst, arith, slice_get, ValType}
-use Rattle.reduction.proofs.Words.{Token, Code, Done, Plain, Block, Loop, If, pushed, Target, Body}
+use Rattle.reduction.proofs.Words.{Token, Code, Done, Plain, Structured, If, opening_bracket, led_by, label_types, pushed, Target, Body}
 use Rattle.std.proofs.Common.{max}
 use Rattle.syntax.specs.declared.instruction.Token.TheVariants as op
 use Rattle.syntax.specs.Code.{operations_to}
@@ -29,13 +29,9 @@ behind_code ops close Done at after e = (first_at ops at close after e).1
 behind_code ops close (Plain i rest) at after e =
     let r = behind_code ops close rest (at + 1) after (first_at ops at (op.Plain i) (operations_to close rest after) e).1 in
     subst (λ (k : ℕ). drop k ops ≡ after) (omega arith) r
-behind_code ops close (Block t body rest) at after e =
+behind_code ops close (Structured kind t body rest) at after e =
     let after_body = operations_to close rest after in
-    let b = behind_code ops op.End body (at + 1) after_body (first_at ops at (op.Block t) (operations_to op.End body after_body) e).1 in
-    subst (λ (k : ℕ). drop k ops ≡ after) (omega arith) (behind_code ops close rest (at + 1 + size body) after b)
-behind_code ops close (Loop t body rest) at after e =
-    let after_body = operations_to close rest after in
-    let b = behind_code ops op.End body (at + 1) after_body (first_at ops at (op.Loop t) (operations_to op.End body after_body) e).1 in
+    let b = behind_code ops op.End body (at + 1) after_body (first_at ops at (opening_bracket kind t) (operations_to op.End body after_body) e).1 in
     subst (λ (k : ℕ). drop k ops ≡ after) (omega arith) (behind_code ops close rest (at + 1 + size body) after b)
 behind_code ops close (If t first second rest) at after e =
     let after_second = operations_to close rest after in
@@ -92,50 +88,28 @@ module _ (b : Body) where
             (λ (q : Agrees c b.table labels (at + 1) base (base + length mid) rest).
             guided c labels base (at + 1) end behind close tail rest mid after same tr q here.1 (omega (arith, e)) closes)),
       )
-  guided c labels base at end behind close tail (Block type body rest) before after same (t, found, below, e, tb, tr) a s es closes =
+  guided c labels base at end behind close tail (Structured kind type body rest) before after same (t, found, below, e, tb, tr) a s es closes =
       let size_of : length before ≡ length t.params + length below = ap (λ (ts : List ValType). length ts) e ∙ length-pushed t.params below in
       let is : max base (base + length before - length t.params) ≡ base + length below = omega (arith, size_of) in
       let k = rw found at a in
-      let d = inside t.results c in
+      let own = label_types kind t in
+      let d = inside own c in
       let to = at + 1 + size body in
+      let back = led_by kind at to in
       let after_body = operations_to close rest tail in
-      let here = first_at b.operations at (op.Block type) (operations_to op.End body after_body) s in
+      let here = first_at b.operations at (opening_bracket kind type) (operations_to op.End body after_body) s in
       let there : drop to b.operations ≡ after_body = behind_code b.operations op.End body (at + 1) after_body here.1 in
-      let ab = subst (λ (n : ℕ). Agrees d b.table (target to (length t.results) n ∷ labels) (at + 1) n (n + length t.params) body) is k.0 in
+      let ab = subst (λ (n : ℕ). Agrees d b.table (target back (length own) n ∷ labels) (at + 1) n (n + length t.params) body) is k.0 in
       let ar = subst (λ (n : ℕ). Agrees c b.table labels to base (n + length t.results) rest) is k.1 in (
         here.0,
         t,
         found,
         length below,
         size_of,
-        alone d (target to (length t.results) (base + length below) ∷ labels) (base + length below) (at + 1) to body t.params t.results ab
-            (λ (q : Agrees d b.table (target to (length t.results) (base + length below) ∷ labels) (at + 1) (base + length below) (base + length below + length (pushed t.params [])) body).
-            guided d (target to (length t.results) (base + length below) ∷ labels) (base + length below) (at + 1) (at + size body) to op.End after_body body (pushed t.params []) (pushed t.results [])
-            (ap (λ (ls : List ℕ). length t.results ∷ ls) same) tb q here.1 (omega arith) (omega arith)),
-        rest_guided c labels base (length after) to behind rest t.results below ar
-            (λ (q : Agrees c b.table labels to base (base + length (pushed t.results below)) rest).
-            guided c labels base to end behind close tail rest (pushed t.results below) after same tr q there (omega (arith, es)) closes),
-      )
-  guided c labels base at end behind close tail (Loop type body rest) before after same (t, found, below, e, tb, tr) a s es closes =
-      let size_of : length before ≡ length t.params + length below = ap (λ (ts : List ValType). length ts) e ∙ length-pushed t.params below in
-      let is : max base (base + length before - length t.params) ≡ base + length below = omega (arith, size_of) in
-      let k = rw found at a in
-      let d = inside t.params c in
-      let to = at + 1 + size body in
-      let after_body = operations_to close rest tail in
-      let here = first_at b.operations at (op.Loop type) (operations_to op.End body after_body) s in
-      let there : drop to b.operations ≡ after_body = behind_code b.operations op.End body (at + 1) after_body here.1 in
-      let ab = subst (λ (n : ℕ). Agrees d b.table (target at (length t.params) n ∷ labels) (at + 1) n (n + length t.params) body) is k.0 in
-      let ar = subst (λ (n : ℕ). Agrees c b.table labels to base (n + length t.results) rest) is k.1 in (
-        here.0,
-        t,
-        found,
-        length below,
-        size_of,
-        alone d (target at (length t.params) (base + length below) ∷ labels) (base + length below) (at + 1) to body t.params t.results ab
-            (λ (q : Agrees d b.table (target at (length t.params) (base + length below) ∷ labels) (at + 1) (base + length below) (base + length below + length (pushed t.params [])) body).
-            guided d (target at (length t.params) (base + length below) ∷ labels) (base + length below) (at + 1) (at + size body) to op.End after_body body (pushed t.params []) (pushed t.results [])
-            (ap (λ (ls : List ℕ). length t.params ∷ ls) same) tb q here.1 (omega arith) (omega arith)),
+        alone d (target back (length own) (base + length below) ∷ labels) (base + length below) (at + 1) to body t.params t.results ab
+            (λ (q : Agrees d b.table (target back (length own) (base + length below) ∷ labels) (at + 1) (base + length below) (base + length below + length (pushed t.params [])) body).
+            guided d (target back (length own) (base + length below) ∷ labels) (base + length below) (at + 1) (at + size body) to op.End after_body body (pushed t.params []) (pushed t.results [])
+            (ap (λ (ls : List ℕ). length own ∷ ls) same) tb q here.1 (omega arith) (omega arith)),
         rest_guided c labels base (length after) to behind rest t.results below ar
             (λ (q : Agrees c b.table labels to base (base + length (pushed t.results below)) rest).
             guided c labels base to end behind close tail rest (pushed t.results below) after same tr q there (omega (arith, es)) closes),

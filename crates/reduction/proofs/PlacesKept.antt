@@ -2,7 +2,7 @@
 use Rattle.reduction.proofs.Contexts.{with_locals-height, with_locals-code}
 use Rattle.reduction.proofs.Words.{◌≡◌, ℕ, zero, suc, ◌+◌, List, [], ◌∷◌, ◌++◌, length, take, drop, Option, Some, None, refl, sym, ap, ◌∙◌, subst, true}
 use Rattle.reduction.proofs.Words.{false, Bool, arith, length-append, ◌==◌, slice_get, if◌then◌else◌, Value, Instr, Br, Token}
-use Rattle.reduction.proofs.Words.{Contents, FuncType, Code, Done, Target, Context, Label, Frame, with_locals, going_on, receiving, continuing}
+use Rattle.reduction.proofs.Words.{Contents, FuncType, Code, AsBlock, AsLoop, Done, Target, Context, Label, Frame, with_locals, going_on, receiving, continuing}
 use Rattle.reduction.proofs.Words.{slice_get_past, Move, Goes, Stuck, next, code_left, operands_of, height_of, Body, Place, Over, IsPlaced, StaysInBlock}
 use Rattle.std.proofs.Common.{min, length-drop}
 use Rattle.std.proofs.lemmas.List.{length-take-le}
@@ -160,11 +160,11 @@ module _ (m : Contents) (body : ℕ → Body) (function : ℕ) (callers : List P
   opened : {code next inside rest : Code} {values left : List Value} {t : FuncType} {arity : ℕ} → Opening m code values t arity next inside rest left
       → (labels : List Target) (base after at behind : ℕ) → Guided m (body function) labels base (length values) after at behind code
       → Opened labels base after at behind values t arity next inside rest left
-  opened {t} (rule.a_block {type} {body = inside} found) labels base after at behind (o, u, same_so, lower, e, kb, kr) =
+  opened {t} (rule.a_structured {kind = AsBlock} {type} {body = inside} found) labels base after at behind (o, u, same_so, lower, e, kb, kr) =
       let same : t ≡ u = cc in
       let end = at + 1 + size inside in
       rw same (record { operation = op.Block type; stands = o; pc = end; end = end; lower = lower; size = e; within = kb; again = kr; further = kr })
-  opened {t} (rule.a_loop {type} {body = inside} found) labels base after at behind (o, u, same_so, lower, e, kb, kr) =
+  opened {t} (rule.a_structured {kind = AsLoop} {type} {body = inside} found) labels base after at behind (o, u, same_so, lower, e, kb, kr) =
       let same : t ≡ u = cc in
       rw same (record { operation = op.Loop type; stands = o; pc = at; end = at + 1 + size inside; lower = lower; size = e; within = kb; again = (o, u, same_so, lower, refl, kb, kr); further = kr })
   opened {t} (rule.an_if {type} {n = zero} {first} {second} found) labels base after at behind (o, u, same_so, lower, e, other, kf, ks, kr) =

@@ -1,6 +1,6 @@
 -- The calls of a run stand at places that the side tables tell.
 use Rattle.reduction.proofs.Words.{◌≡◌, ℕ, ◌+◌, List, [], ◌∷◌, ◌++◌, length, map, Some, refl, ap, subst, arith, slice_get, length-map, Value}
-use Rattle.reduction.proofs.Words.{Token, Contents, FuncType, Func, Code, Done, Plain, Block, Loop, If, pushed, type_of, ValidModule, Target, Store}
+use Rattle.reduction.proofs.Words.{Token, Contents, FuncType, Func, Code, Done, Plain, Structured, If, pushed, type_of, ValidModule, Target, Store}
 use Rattle.reduction.proofs.Words.{value_of, Context, Frame, entered, receiving, types_of, Move, Calls, next, as_operands, IsDefined, operands_of, Body}
 use Rattle.reduction.proofs.Words.{Place, Over, IsPlaced, AreBodies}
 use Rattle.syntax.specs.declared.instruction.Token.TheVariants as op
@@ -18,8 +18,7 @@ use Rattle.reduction.proofs.PlacesGuided.{guided}
 pub some_size : (c : Code) → (n : ℕ) × (size c ≡ n + 1)
 some_size Done = (0, refl)
 some_size (Plain i rest) = (size rest, omega arith)
-some_size (Block t body rest) = (size body + size rest, omega arith)
-some_size (Loop t body rest) = (size body + size rest, omega arith)
+some_size (Structured kind t body rest) = (size body + size rest, omega arith)
 some_size (If t first second rest) = (size first + size second + size rest, omega arith)
 
 module _ (m : Contents) (body : ℕ → Body) (valid : ValidModule m) (bodies : AreBodies m body) where

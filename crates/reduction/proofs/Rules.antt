@@ -1,7 +1,7 @@
 -- The rules of a step by their shape: the one walk over what comes next.
 use Rattle.reduction.proofs.Words.{◌≡◌, ℕ, zero, suc, ◌≤◌, List, [], ◌∷◌, length, take, drop, reverse, Option, Some, None, refl, ◌∙◌, true, false, Bool}
-use Rattle.reduction.proofs.Words.{nat_le, slice_get, if◌then◌else◌, Value, I32, Instr, Br, BrIf, BrTable, Contents, FuncType, Code, Done, Plain, Block}
-use Rattle.reduction.proofs.Words.{Loop, If, type_of_function, Store, Context, Label, Frame, types_of, locals_of, with_locals, going_on, receiving}
+use Rattle.reduction.proofs.Words.{nat_le, slice_get, if◌then◌else◌, Value, I32, Instr, Br, BrIf, BrTable, Contents, FuncType, Code, BlockKind, AsBlock, Done, Plain}
+use Rattle.reduction.proofs.Words.{Structured, If, led_by, label_types, type_of_function, Store, Context, Label, Frame, types_of, locals_of, with_locals, going_on, receiving}
 use Rattle.reduction.proofs.Words.{continuing, Move, Goes, Traps, Calls, Stuck, PlainStep, Leaves, Fails, Lacks, next, StaysInBlock, code_left, operands_of}
 use Rattle.std.proofs.Common.{◌&&◌}
 use Rattle.std.specs.Prelude.{is_some, ◌==◌}
@@ -13,7 +13,7 @@ use Rattle.validate.specs.Typing.{type_of_block}
 use Rattle.validate.proofs.SameTypes.{same_valtypes-is}
 use Rattle.reduction.specs.Configuration.{branched, returned}
 use Rattle.reduction.specs.Step.{Ends, plain_step, turned, plain, at_code}
-use Rattle.reduction.specs.Step.{on_contexts, label_for, takes_topmost, call_typed, call_element, entering, block, loop, chosen}
+use Rattle.reduction.specs.Step.{on_contexts, label_for, takes_topmost, call_typed, call_element, entering, structured, chosen}
 use Rattle.reduction.proofs.Lists.{at_least}
 use Rattle.reduction.proofs.PlainStepView.{StoreLeft, same_store, PlainStepLeaves, PlainStepFails, PlainStepView, plain_step_view}
 
@@ -49,10 +49,8 @@ pub data Calling (m : Contents) : Instr → (values : List Value) → (function 
 -- inside it is `inside`, behind it `rest`
 pub data Opening (m : Contents) : Code → (values : List Value) → (type : FuncType) → (arity : ℕ) → (next inside rest : Code) → (left : List Value)
     → Type 0 where
-  a_block : {type : BlockType} {t : FuncType} {body rest : Code} {values : List Value} → type_of_block m type ≡ Some t
-      → Opening m (Block type body rest) values t (length t.results) rest body rest values
-  a_loop : {type : BlockType} {t : FuncType} {body rest : Code} {values : List Value} → type_of_block m type ≡ Some t
-      → Opening m (Loop type body rest) values t (length t.params) (Loop type body rest) body rest values
+  a_structured : {kind : BlockKind} {type : BlockType} {t : FuncType} {body rest : Code} {values : List Value} → type_of_block m type ≡ Some t
+      → Opening m (Structured kind type body rest) values t (length (label_types kind t)) (led_by kind (Structured kind type body rest) rest) body rest values
   an_if : {type : BlockType} {t : FuncType} {n : ℕ} {first second rest : Code} {values : List Value} → type_of_block m type ≡ Some t
       → Opening m (If type first second rest) (I32 n ∷ values) t (length t.results) rest (chosen n first second) rest values
 
@@ -204,17 +202,12 @@ module _ (m : Contents) (s : Store) where
   enter_rule code next inside rest values left t arity contexts o =
       if_holds contexts values code (nat_le (length t.params) (length left)) _ (λ e. enters o (at_least (length t.params) (length left) e))
 
-  block_rule : (code inside rest : Code) (values left : List Value) (contexts : List Context) (o : Option FuncType)
-      → ((t : FuncType) → o ≡ Some t → Opening m code values t (length t.results) rest inside rest left)
-      → StepRule m s contexts values code (block s o inside left rest contexts)
-  block_rule code inside rest values left contexts None k = stuck
-  block_rule code inside rest values left contexts (Some t) k = enter_rule code rest inside rest values left t (length t.results) contexts (k t refl)
-
-  loop_rule : (type : BlockType) (body rest : Code) (values : List Value) (contexts : List Context) (o : Option FuncType) → type_of_block m type ≡ o
-      → StepRule m s contexts values (Loop type body rest) (loop s o (Loop type body rest) body values rest contexts)
-  loop_rule type body rest values contexts None e = stuck
-  loop_rule type body rest values contexts (Some t) e =
-      enter_rule (Loop type body rest) (Loop type body rest) body rest values values t (length t.params) contexts (a_loop e)
+  structured_rule : (kind : BlockKind) (code next inside rest : Code) (values left : List Value) (contexts : List Context) (o : Option FuncType)
+      → ((t : FuncType) → o ≡ Some t → Opening m code values t (length (label_types kind t)) next inside rest left)
+      → StepRule m s contexts values code (structured s kind o next inside left rest contexts)
+  structured_rule kind code next inside rest values left contexts None k = stuck
+  structured_rule kind code next inside rest values left contexts (Some t) k =
+      enter_rule code next inside rest values left t (length (label_types kind t)) contexts (k t refl)
 
   pub rule : (code : Code) (values : List Value) (contexts : List Context) → StepRule m s contexts values code (at_code m s values code contexts)
   rule Done values (Label arity next own code ∷ below) = closes
@@ -222,10 +215,11 @@ module _ (m : Contents) (s : Store) where
   rule Done values (Frame locals arity own code ∷ top ∷ below) = if_holds _ _ _ (length values == arity) _ (λ e. answers)
   rule Done values [] = stuck
   rule (Plain i rest) values contexts = plain_rule i values rest contexts
-  rule (Block type body rest) values contexts = block_rule (Block type body rest) body rest values values contexts (type_of_block m type) (λ t e. a_block e)
-  rule (Loop type body rest) values contexts = loop_rule type body rest values contexts (type_of_block m type) refl
+  rule (Structured kind type body rest) values contexts =
+      let code = Structured kind type body rest in
+      structured_rule kind code (led_by kind code rest) body rest values values contexts (type_of_block m type) (λ t e. a_structured e)
   rule (If type first second rest) (I32 n ∷ values) contexts =
-      block_rule (If type first second rest) (chosen n first second) rest (I32 n ∷ values) values contexts (type_of_block m type) (λ t e. an_if e)
+      structured_rule AsBlock (If type first second rest) rest (chosen n first second) rest (I32 n ∷ values) values contexts (type_of_block m type) (λ t e. an_if e)
   rule (If type first second rest) values contexts = stuck
 
   pub next_rule : (contexts : List Context) → StepRule m s contexts (operands_of contexts) (code_left contexts) (next m s contexts)

@@ -2,7 +2,7 @@
 use Rattle.reduction.proofs.Contexts.{with_locals-operands, with_locals-code}
 use Rattle.reduction.proofs.Words.{◌≡◌, ℕ, zero, suc, List, [], ◌∷◌, ◌++◌, length, reverse, ◌==◌, arith, take, drop, Option, Some, None, refl, sym, ap}
 use Rattle.reduction.proofs.Words.{◌∙◌, subst, true, false, Bool, nat_le, slice_get, if◌then◌else◌, ValType, Value, I32, I64, Instr, Br, BrIf, BrTable}
-use Rattle.reduction.proofs.Words.{Contents, FuncType, Code, Done, Plain, Block, Loop, If, pushed, HasFunctionType, type_of_function, Context, Label}
+use Rattle.reduction.proofs.Words.{Contents, FuncType, Code, AsBlock, AsLoop, Done, Plain, Structured, If, pushed, HasFunctionType, type_of_function, Context, Label}
 use Rattle.reduction.proofs.Words.{Frame, locals_of, with_locals, going_on, receiving, continuing, types_of, Traps, PlainStep, Leaves, Fails, Lacks, next}
 use Rattle.reduction.proofs.Words.{code_left, operands_of, length-map, type_of}
 use Rattle.std.proofs.Common.{option_and_then, eq-eqb, ◌&&◌}
@@ -283,12 +283,12 @@ module _ (m : Contents) (answers : List ValType) where
   code_sound c ends contexts s Done values types fit u e t = ends_sound s values fit u (e ∙ t)
   code_sound c ends contexts s (Plain i rest) values types fit u e (mid, t, k) =
       plain_sound c ends contexts s i values rest mid fit u (rw e t) k
-  code_sound c ends contexts s (Block type body rest) values types fit u e (t, at, below, a, tb, tr) =
+  code_sound c ends contexts s (Structured AsBlock type body rest) values types fit u e (t, at, below, a, tb, tr) =
       let at' : type_of_block m type ≡ Some t = ap (λ (n : Contents). type_of_block n type) (sym (module_of u)) ∙ at in
       rw at' (enters c ends contexts s t.params t.results t.results rest body values rest below fit u (e ∙ a) tb tr tr)
-  code_sound c ends contexts s (Loop type body rest) values types fit u e (t, at, below, a, tb, tr) =
+  code_sound c ends contexts s (Structured AsLoop type body rest) values types fit u e (t, at, below, a, tb, tr) =
       let at' : type_of_block m type ≡ Some t = ap (λ (n : Contents). type_of_block n type) (sym (module_of u)) ∙ at in
-      rw at' (enters c ends contexts s t.params t.results t.params (Loop type body rest) body values rest below fit u (e ∙ a) tb (t, at, below, refl, tb, tr) tr)
+      rw at' (enters c ends contexts s t.params t.results t.params (Structured AsLoop type body rest) body values rest below fit u (e ∙ a) tb (t, at, below, refl, tb, tr) tr)
   code_sound c ends contexts s (If type first second rest) [] types fit u e (t, at, below, a, tb, tc, tr) = absurd (cc)
   code_sound c ends contexts s (If type first second rest) (I64 n ∷ values) types fit u e (t, at, below, a, tb, tc, tr) = absurd (cc)
   code_sound c ends contexts s (If type first second rest) (I32 n ∷ values) types fit u e (t, at, below, a, tb, tc, tr) =

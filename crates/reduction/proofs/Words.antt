@@ -4,7 +4,7 @@ pub use Rattle.std.proofs.Common.{take, true, length-append, false, drop, Bool, 
 pub use Rattle.syntax.specs.declared.types.ValType.{ValType}
 pub use Rattle.syntax.specs.declared.types.Value.{Value}
 pub use Rattle.syntax.specs.declared.contents.Contents.{Contents}
-pub use Rattle.syntax.specs.Code.{Code, Done, Loop, Plain, Block, If}
+pub use Rattle.syntax.specs.Code.{Code, BlockKind, AsBlock, AsLoop, Done, Plain, Structured, If, opening_bracket, led_by}
 pub use Rattle.instance.specs.Store.{Store, value_of}
 pub use Rattle.reduction.specs.Configuration.{Context, Frame, Label, receiving, types_of, locals_of, entered, with_locals, going_on, continuing}
 pub use Rattle.reduction.specs.Step.{next, Move, Calls, Goes, Stuck, Traps, Leaves, Lacks, PlainStep, Fails}
@@ -16,7 +16,7 @@ pub use Rattle.std.proofs.lemmas.Option.{slice_get_within, slice_get_past}
 pub use Rattle.syntax.specs.declared.contents.FuncType.{FuncType}
 pub use Rattle.syntax.specs.declared.contents.Func.{Func}
 pub use Rattle.validate.specs.Stack.{pushed}
-pub use Rattle.validate.specs.Typing.{type_of, type_of_function, HasFunctionType}
+pub use Rattle.validate.specs.Typing.{label_types, type_of, type_of_function, HasFunctionType}
 pub use Rattle.validate.specs.Valid.{ValidModule}
 pub use Rattle.reduction.specs.Places.{Body, Place, AreBodies, IsPlaced, Over}
 pub use Rattle.std.proofs.lemmas.List.{length-map, append_assoc}

@@ -8,8 +8,8 @@ use Rattle.syntax.specs.declared.instruction.Instr.TheVariants.{Br, BrIf, BrTabl
 use Rattle.syntax.specs.declared.instruction.Instr.TheVariants.{Load, LoadNarrow, Store, StoreNarrow, MemorySize, MemoryGrow}
 use Rattle.syntax.specs.declared.contents.Contents.{Contents}
 use Rattle.syntax.specs.declared.contents.FuncType.{FuncType}
-use Rattle.syntax.specs.Code.{Code, Done, Plain, Block, Loop, If}
-use Rattle.validate.specs.Typing.{Context as Typing, type_of_block}
+use Rattle.syntax.specs.Code.{Code, Done, Plain, Structured, If}
+use Rattle.validate.specs.Typing.{Context as Typing, label_types, type_of_block}
 use Rattle.validate.specs.Height.{Effect, Changes, Ends, named, calls, effect_of}
 use Rattle.reduction.specs.Configuration.{Context, Label, Frame}
 use Rattle.reduction.specs.Typed.{code_left, operands_of}
@@ -59,13 +59,9 @@ abbrev pub Counted : Contents → (labels : List ℕ) → (base before after : �
 Counted m labels base before after Done = FitsHeights labels base before × (before ≡ after)
 Counted m labels base before after (Plain i rest) =
     FitsHeights labels base before × Follows (counts m labels i) before (λ mid. Counted m labels base mid after rest)
-Counted m labels base before after (Block type body rest) =
+Counted m labels base before after (Structured kind type body rest) =
     FitsHeights labels base before × (t : FuncType) × (type_of_block m type ≡ Some t) × (left : ℕ) × (before ≡ length t.params + left)
-    × Counted m (length t.results ∷ labels) (base + left) (length t.params) (length t.results) body
-    × Counted m labels base (length t.results + left) after rest
-Counted m labels base before after (Loop type body rest) =
-    FitsHeights labels base before × (t : FuncType) × (type_of_block m type ≡ Some t) × (left : ℕ) × (before ≡ length t.params + left)
-    × Counted m (length t.params ∷ labels) (base + left) (length t.params) (length t.results) body
+    × Counted m (length (label_types kind t) ∷ labels) (base + left) (length t.params) (length t.results) body
     × Counted m labels base (length t.results + left) after rest
 Counted m labels base before after (If type first second rest) =
     FitsHeights labels base before × (t : FuncType) × (type_of_block m type ≡ Some t) × (left : ℕ) × (before ≡ length t.params + 1 + left)

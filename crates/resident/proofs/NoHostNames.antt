@@ -1,5 +1,5 @@
 -- The host that refuses every import names the types of a valid module's imports.
-use Rattle.std.proofs.Common.{◌≡◌, ℕ, zero, suc, List, [], ◌∷◌, ◌++◌, map, Option, Some, sym, ap, ◌∙◌, subst}
+use Rattle.std.proofs.Common.{◌≡◌, ℕ, zero, suc, List, [], ◌∷◌, ◌++◌, map, Option, Some, sym, ap, ◌∙◌}
 use Rattle.std.specs.Prelude.{slice_get, unwrap_or, option_and_then}
 use Rattle.std.specs.Option.{option_map}
 use Rattle.std.proofs.lemmas.Option.{slice_get-map, slice_get_within, slice_get-get_or, get_or_from_slice_get}
@@ -27,7 +27,7 @@ module _ (m : Contents) (v : ValidModule m) where
 
   known : (function : ℕ) (i : Import) → slice_get m.imports function ≡ Some i → slice_get (types_of_imports m) function ≡ type_of_function m function
   known function i at =
-      let valid : ValidImport m i = subst (λ (j : Import). ValidImport m j) (get_or_from_slice_get m.imports function i i at) (v.imports function i (slice_get_within m.imports function i at)) in
+      let valid : ValidImport m i = rw (← get_or_from_slice_get m.imports function i i at) (v.imports function i (slice_get_within m.imports function i at)) in
       let index : slice_get indexes function ≡ Some i.type_index = slice_get-map (λ (j : Import). j.type_index) m.imports function ∙ ap (option_map (λ (j : Import). j.type_index)) at in
       let front : slice_get (function_types m) function ≡ Some i.type_index = in_front indexes own_indexes function i.type_index index in
       let left : slice_get (types_of_imports m) function ≡ Some (type_of_import m i) = slice_get-map (type_of_import m) m.imports function ∙ ap (option_map (type_of_import m)) at in

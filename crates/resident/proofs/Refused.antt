@@ -13,7 +13,7 @@ use Rattle.reduction.specs.Run.{HostCall}
 use Rattle.reduction.specs.Hosting.{Lawful}
 use Rattle.reduction.specs.Invoking.{TakesArguments}
 use Rattle.resident.specs.NoHost.{AnswersMinusOne}
-use Rattle.resident.specs.Calls.{AllRefused, KeptInstance, CallsInstance, Runs}
+use Rattle.resident.specs.Calls.{AllRefused, KeptInstance, CallsInstance}
 
 pub start_takes_nothing : (m : Contents) (function : ℕ) → ValidModule m → m.start ≡ Some function → TakesArguments m function []
 start_takes_nothing m function valid is = record {

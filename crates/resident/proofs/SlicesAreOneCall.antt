@@ -1,5 +1,5 @@
 -- A call of an instance in slices is a call of it.
-use Rattle.std.proofs.Common.{◌≡◌, ℕ, ◌<◌, ◌≤◌, List, length, Option, Some, None, refl, sym, ap, ◌∙◌, subst, arith}
+use Rattle.std.proofs.Common.{◌≡◌, ℕ, ◌<◌, ◌≤◌, List, length, Option, Some, None, refl, ap, ◌∙◌, arith}
 use Rattle.std.specs.Prelude.{slice_get, IfSome}
 use Rattle.limits.specs.declared.TheConstants.{MAX_DEPTH}
 use Rattle.syntax.specs.Loaded.{Loaded}
@@ -36,9 +36,7 @@ module _ (loaded : Loaded) (function depth : ℕ) (ended : Ended) (b : KeptInsta
   pub as_told : (a : KeptInstance) (d f : ℕ) → loaded ≡ a.loaded → function ≡ f → depth ≡ d
       → CallsInstance (record { loaded = loaded; store = a.store; stop = a.stop }) depth fuel function args ended b → CallsInstance a d fuel f args ended b
   as_told a d f same named deep calls =
-      subst (λ (l : Loaded). CallsInstance (record { loaded = l; store = a.store; stop = a.stop }) d fuel f args ended b) same
-      (subst (λ (n : ℕ). CallsInstance (record { loaded = loaded; store = a.store; stop = a.stop }) n fuel f args ended b) deep
-      (subst (λ (n : ℕ). CallsInstance (record { loaded = loaded; store = a.store; stop = a.stop }) depth fuel n args ended b) named calls))
+      rw (← same, ← deep, ← named) calls
 
 -- A call over a host of whatever state, at a place.
 module _ (loaded : Loaded) (tables : List SideTable) (slots : List ℕ) (frames : List Caller) (store : Store) (paused : Paused) where
@@ -149,12 +147,12 @@ module _ (c : CallUnderway) (none : c.place ≡ None) (v : Loaded) (same : v ≡
 
   import_calls : (a : KeptInstance) (d fuel f : ℕ) (args : List Value) → HasCome a d fuel f args c → CallsInstance a d fuel f args answered left
   import_calls a d fuel f args come =
-      let at_first : ComesTo c None a.store fuel args = subst (λ (p : Option Paused). ComesTo c p a.store fuel args) none come.comes in
+      let at_first : ComesTo c None a.store fuel args = rw none at come.comes in
       let m = c.loaded.contents in
       let types = types_of_imports m in
-      let named : Names m types = subst (λ (l : Loaded). Names l.contents (types_of_imports l.contents)) same names in
+      let named : Names m types = rw (← same) names in
       let fits : Answers (slice_get types c.function) answer =
-      subst (λ (n : ℕ). Answers (slice_get types n) answer) is (subst (λ (l : Loaded). Answers (slice_get (types_of_imports l.contents) number) answer) same typed) in
+      rw (← is, ← same) typed in
       let own : KeptInstance = record { loaded = c.loaded; store = c.store; stop = a.stop } in
       let calls : CallsInstance own c.depth fuel c.function args answered left =
       called own c.depth fuel c.function args tt tt answered left refl
@@ -162,10 +160,10 @@ module _ (c : CallUnderway) (none : c.place ≡ None) (v : Loaded) (same : v ≡
       refl refl ((minus, refl), refl))
       (omega arith) (answer_returns m c.function args at_first.0 types named at_first.1 answer fits (as_operands answer) refl) in
       as_told c.loaded c.function c.depth answered left fuel args a d f come.same come.named come.deep
-      (subst (λ (s : Store). CallsInstance (record { loaded = c.loaded; store = s; stop = a.stop }) c.depth fuel c.function args answered left) at_first.2 calls)
+      (rw (← at_first.2) calls)
 
   pub import_over : (ended : Ended) (b : KeptInstance) → ended ≡ answered → b ≡ left → (units : ℕ) → IsOverCall c units b ended
   import_over ended b e eb units =
       let unused : used_by c ≡ 0 = ap (λ (p : Option Paused). used_at p) none in
       let over : IsOverCall c units left answered = record { calls = import_calls; since = omega (arith, unused); slice = omega (arith, unused) } in
-      subst (λ (x : KeptInstance). IsOverCall c units x ended) (sym eb) (subst (λ (x : Ended). IsOverCall c units left x) (sym e) over)
+      rw (eb, e) over

@@ -1,12 +1,12 @@
 -- A write into a store's memory leaves a store of the module.
-use Rattle.std.proofs.Common.{◌≡◌, ℕ, ◌+◌, ◌≤◌, Bool, true, false, List, [], ◌∷◌, ◌++◌, length, take, drop, Option, Some, None, refl, sym, ◌∙◌, subst, arith, length-append, length-drop}
+use Rattle.std.proofs.Common.{◌≡◌, ℕ, ◌+◌, ◌≤◌, Bool, true, false, List, ◌++◌, length, take, drop, Some, None, refl, ◌∙◌, arith, length-append, length-drop}
 use Rattle.std.specs.Prelude.{nat_le, if◌then◌else◌}
 use Rattle.std.proofs.lemmas.Grind.{common_steps}
 use Rattle.std.proofs.lemmas.List.{length-take-le}
 use Rattle.syntax.specs.declared.contents.Contents.{Contents}
 use Rattle.validate.specs.Segments.{minimum}
 use Rattle.instance.specs.Store.{Store, MemoryInstance, memory_of, with_memory_instance}
-use Rattle.instance.specs.Reads.{Wrote, WritesAt, with_bytes}
+use Rattle.instance.specs.Reads.{Wrote, WritesAt}
 use Rattle.instance.specs.Storing.{IsStoreOf, HasPages}
 
 over_length : (at : ℕ) (xs old : List ℕ) → at + length xs ≤ length old → length (take at old ++ (xs ++ drop (at + length xs) old)) ≡ length old
@@ -28,7 +28,7 @@ module _ (m : Contents) (s : Store) (at : ℕ) (bytes : List ℕ) where
       → Wrote (if fits then Some after else None) answer (memory_of s) b → IsStoreOf m s → IsStoreOf m (with_memory_instance b s)
   by_test true answer b h w k =
       let room : at + length bytes ≤ length s.memory = at_least (at + length bytes) (length s.memory) h in
-      subst (λ (x : MemoryInstance). IsStoreOf m (with_memory_instance x s)) (sym w.1)
+      rw w.1
       (record {
         globals = k.globals;
         table = k.table;
@@ -36,7 +36,7 @@ module _ (m : Contents) (s : Store) (at : ℕ) (bytes : List ℕ) where
         limit = k.limit;
         memory = same_pages s.limit (minimum m.memory) s.memory after (over_length at bytes s.memory room) k.memory;
       })
-  by_test false answer b h w k = subst (λ (x : MemoryInstance). IsStoreOf m (with_memory_instance x s)) (sym w.1) k
+  by_test false answer b h w k = rw w.1 k
 
   pub written_keeps : (answer : Bool) (b : MemoryInstance) → WritesAt at bytes answer (memory_of s) b → IsStoreOf m s → IsStoreOf m (with_memory_instance b s)
   written_keeps answer b w k = by_test (nat_le (at + length bytes) (length s.memory)) answer b refl w k

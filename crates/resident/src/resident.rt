@@ -9,13 +9,14 @@ ghost use Rattle.instance.specs.Reads.{WritesAt};
 ghost use Rattle.instance.specs.Fresh.{IsFresh};
 ghost use Rattle.instance.specs.Storing.{IsStoreOf};
 ghost use Rattle.reduction.specs.Invoking.{TakesArguments};
+ghost use Rattle.interp.specs.Lent.{result_count, ended_in};
 ghost use Rattle.interp.specs.Machines.{MachineFits};
 ghost use Rattle.resident.specs.Numbered.{HasNoType, ExportsAt, ExportsNoFunctionAt};
 ghost use Rattle.resident.specs.Calls.{CallsInstance, IsNew, StartsInstance, ExportsFirst, ExportsNoFunction, ExportsGlobal, ExportsNoGlobal};
 
 use crate::exported::{exported_function, exported_global, function_at, type_of};
 use crate::no_host::NoHost;
-use events::ended::{Ended, Ending};
+use events::ended::{BareEnded, Ended, Ending};
 use events::values::Values;
 use imports::Linked;
 use instance::fault::InstFault;
@@ -23,7 +24,7 @@ use instance::stack::{CallStack, Stop};
 use instance::state::{Instance, State};
 use interp::call::FunctionCall;
 use interp::conditions::takes_arguments;
-use interp::invoke::{invoke_lent, unwritten};
+use interp::invoke::{invoke_lent, invoke_on};
 use interp::machine::Machine;
 use std::alloc::{AllocError, Global};
 use std::marker::Model;
@@ -160,24 +161,32 @@ impl Resident {
         requires depth { (1 ≤ depth) × (depth ≤ MAX_DEPTH) }
         ensures { CallsInstance self.old depth fuel function args.now result self.new }
     {
-        let mut ended = unwritten();
-        self.call_lent(function, args, fuel, depth, &mut ended);
-        ended
+        let valid = self.linked.valid();
+        let mut host = NoHost::new(valid);
+        let call = FunctionCall {
+            function,
+            args,
+            fuel,
+            depth,
+        };
+        invoke_on(valid, &mut self.state, &mut self.stack, &mut host, &call)
     }
 
-    /// Does what `call` does, and writes how it ended to a place that is lent.
+    /// Does what `call` does, and writes the results to the first of the places that are lent, at least as many as the function has. So no
+    /// room for more results is filled with zeros and copied.
     #[inline(always)]
-    pub fn call_lent(
+    pub fn call_into(
         &mut self,
         function: u32,
         args: &[Value],
         fuel: u64,
         depth: u32,
-        ended: &mut Ended,
-    )
+        results: &mut [Value],
+    ) -> BareEnded
         requires typed { TakesArguments self.old.loaded.contents function args.now }
+        requires room { result_count self.old.loaded.contents function ≤ length results.old }
         requires depth { (1 ≤ depth) × (depth ≤ MAX_DEPTH) }
-        ensures { CallsInstance self.old depth fuel function args.now ended.new self.new }
+        ensures { CallsInstance self.old depth fuel function args.now (ended_in self.old.loaded.contents function result results.new) self.new }
     {
         let valid = self.linked.valid();
         let mut host = NoHost::new(valid);
@@ -187,14 +196,8 @@ impl Resident {
             fuel,
             depth,
         };
-        invoke_lent(
-            valid,
-            &mut self.state,
-            &mut self.stack,
-            &mut host,
-            ended,
-            &call,
-        );
+        let (state, stack) = (&mut self.state, &mut self.stack);
+        invoke_lent(valid, state, stack, &mut host, results, &call)
     }
 
     /// Runs the start function, where there is one.

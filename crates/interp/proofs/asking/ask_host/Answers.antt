@@ -1,9 +1,8 @@
-use Rattle.interp.proofs.Words.{◌≡◌, ℕ, ◌+◌, ◌-◌, ◌≤◌, Option, Some, List, length, map, take, drop, sym, ap, ◌∙◌, subst, arith, slice_get, ValType}
+use Rattle.interp.proofs.Words.{◌≡◌, ℕ, ◌+◌, ◌-◌, ◌≤◌, Some, List, length, map, take, drop, sym, ap, ◌∙◌, arith, slice_get, ValType}
 use Rattle.interp.proofs.Words.{Value, FuncType, type_of, as_operands}
 use Rattle.std.proofs.Common.{length-drop}
 use Rattle.std.proofs.lemmas.List.{length-take}
 use Rattle.instance.specs.Store.{MemoryInstance}
-use Rattle.reduction.specs.Hosting.{TakesParams, Answers}
 use Rattle.interp.specs.Slots.Resuming.{laid}
 use Rattle.interp.specs.Inner.Slots.ValuesRead.{typed_values}
 use Rattle.interp.specs.Inner.Slots.HostAsked.{arguments}
@@ -28,7 +27,7 @@ call-answer-requires g c =
     omega (arith, length-take (c.args.height - place) (drop place c.args.slots.now), length-drop place c.args.slots.now, count, there, within) in
     let typed : map type_of c.laid.result ≡ params = ap (λ (vs : List Value). map type_of vs) c.laid.ensures ∙ typed_types params slots enough in
     let named : slice_get (g.H.Host.types c.args.host.now) c.args.import ≡ Some can.type = c.requires.names c.args.import can.imported ∙ known in
-    subst (λ (o : Option FuncType). TakesParams o c.laid.result) (sym named) (typed ∙ is)
+    rw named (typed ∙ is)
 
 pub returns-clause-asked : goal.returns-clause-asked
 returns-clause-asked g c = λ type known.
@@ -43,7 +42,7 @@ returns-clause-asked g c = λ type known.
     let params = c.as_slice-params.result.now in
     let is : params ≡ type.params = c.as_slice-params.ensures ∙ ap (λ (t : FuncType). t.params) same in
     let count : length params ≡ length type.params = ap (λ (ts : List ValType). length ts) is in
-    let there : length type.params ≤ height = subst (λ (t : FuncType). length t.params ≤ height) one can.there in
+    let there : length type.params ≤ height = rw one at can.there in
     let named : slice_get (g.H.Host.types c.args.host.now) c.args.import ≡ Some type = c.requires.names c.args.import can.imported ∙ known in
     let read : c.laid.result ≡ arguments type height slots =
     c.laid.ensures
@@ -56,16 +55,10 @@ returns-clause-asked g c = λ type known.
     record {
       answer = answer;
       memory = c.call-answer.new.memory.bytes;
-      typed = subst (λ (o : Option FuncType). Answers o answer) named c.call-answer.ensures.typed;
+      typed = rw named at c.call-answer.ensures.typed;
       small = c.lay_answer-results.ensures.small;
       same = c.call-answer.ensures.kept ∙ ap (λ (xs : List ℕ). length xs) before;
-      moved = subst
-          (λ (vs : List Value). g.H.Host.moves c.args.host.now
-          (record { function = c.args.import; args = vs; before = c.args.state.now.memory; answer = answer; after = c.call-answer.new.memory.bytes }) c.call-answer.new.self) read
-          (subst
-          (λ (xs : List ℕ). g.H.Host.moves c.args.host.now
-          (record { function = c.args.import; args = c.laid.result; before = xs; answer = answer; after = c.call-answer.new.memory.bytes }) c.call-answer.new.self)
-          before c.call-answer.ensures.moved);
+      moved = rw (before, read) at c.call-answer.ensures.moved;
       at_is = λ i. record { function = c.args.at.now.function; pc = c.args.at.now.pc + 1; sp = sp i; base = c.args.at.now.base; depth = c.args.at.now.depth };
       slots_are = c.lay_answer-results.ensures.laid ∙ ap (λ (n : ℕ). laid answer (height - n) slots) count;
       store_is = λ i. record { globals = c.args.state.now.globals; table = c.args.state.now.table; memory = c.call-answer.new.memory.bytes; limit = limit i };

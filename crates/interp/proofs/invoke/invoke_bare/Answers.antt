@@ -1,18 +1,26 @@
-use Rattle.interp.proofs.Words.{◌≡◌, List, [], ◌∷◌, refl, ValType}
-use Rattle.events.specs.Bare.{IsBare}
-use Rattle.events.specs.declared.ended.Ending.{Ending}
-use Rattle.events.specs.declared.ended.Ending.TheVariants.{Return}
-use Rattle.reduction.specs.Running.{AreResults}
+use Rattle.interp.proofs.Words.{◌≡◌, ℕ, List, length, take, ap, ◌∙◌, arith}
+use Rattle.syntax.specs.declared.types.ValType.{ValType}
+use Rattle.events.specs.Bare.{whole_ending}
+use Rattle.interp.specs.Lent.{result_count, ending_with}
+use Rattle.interp.proofs.CountsOfResults.{count_is, without_results}
 use Rattle.interp.proofs.invoke.invoke_bare.Goals as goal
 
--- results of no types are none
-bare_of : (end : Ending) (types : List ValType) → AreResults end types → types ≡ [] → IsBare end
-bare_of (Return []) types fit none = refl
-bare_of (Return (value ∷ values)) types fit none = absurd (cc)
-bare_of _ types fit none = tt
-
-pub of-requires : goal.of-requires
-of-requires g c =
+pub invoke_lent-requires-clause-room : goal.invoke_lent-requires-clause-room
+invoke_lent-requires-clause-room g c =
     let type = c.requires.typed.type in
     let known = c.requires.typed.known in
-    bare_of c.invoke_into.new.ended.ending type.results (c.invoke_into.ensures.does.results type known) (c.requires.bare.none type known)
+    let all = count_is c.args.valid.now.contents c.args.call.now.function type known in
+    let none = ap (λ (ts : List ValType). length ts) (c.requires.bare.none type known) in
+    omega (arith, all, none)
+
+pub returns-clause-runs : goal.returns-clause-runs
+returns-clause-runs g c =
+    let m = c.args.valid.now.contents in
+    let call = c.args.call.now in
+    let n = c.invoke_lent.new in
+    let type = c.requires.typed.type in
+    let known = c.requires.typed.known in
+    let none : result_count m call.function ≡ 0 = count_is m call.function type known ∙ ap (λ (ts : List ValType). length ts) (c.requires.bare.none type known) in
+    let bare : ending_with c.invoke_lent.result.ending (take (result_count m call.function) n.places) ≡ whole_ending c.invoke_lent.result.ending =
+    ap (λ (k : ℕ). ending_with c.invoke_lent.result.ending (take k n.places)) none ∙ without_results c.invoke_lent.result.ending in
+    rw (← bare) c.invoke_lent.ensures.runs

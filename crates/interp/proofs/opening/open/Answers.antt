@@ -1,3 +1,4 @@
+use Rattle.limits.specs.declared.TheConstants.{MAX_HEIGHT}
 use Rattle.interp.proofs.Words.{◌≡◌, ℕ, ◌+◌, ◌-◌, ◌≤◌, ◌++◌, Some, List, length, drop, replicate, ap, ◌∙◌, arith, length-append, slice_get, FuncType}
 use Rattle.interp.proofs.Words.{Func, erased}
 use Rattle.std.proofs.lemmas.List.{length-replicate}
@@ -19,8 +20,8 @@ returns-clause-opened c = λ type f defined.
     let height : length c.args.args.now + c.len-zeros.result ≡ length type.params + length f.locals = omega (arith, zeros, count) in
     let before = c.if-len-room.slots in
     let rest = drop (length c.args.args.now + c.len-zeros.result) before in
-    let needs : length c.args.args.now + c.len-zeros.result + 256 ≤ c.max-room.result = let is = c.max-room.ensures in omega (arith, is) in
-    let wide : length c.args.args.now + c.len-zeros.result + 256 ≤ length before =
+    let needs : length c.args.args.now + c.len-zeros.result + MAX_HEIGHT ≤ c.max-room.result = let is = c.max-room.ensures in omega (arith, is) in
+    let wide : length c.args.args.now + c.len-zeros.result + MAX_HEIGHT ≤ length before =
     elim c.if-len-room.branch [
       | then-len-room w ↦
           let added = c.max-room.result - length c.args.slots.now in

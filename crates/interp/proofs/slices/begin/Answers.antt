@@ -18,15 +18,17 @@ returns-clause-paused g c =
     let call = c.args.call.now in
     let callers : List Caller = take (call.depth - 1) c.args.frames.now in
     record {
-      takes = c.requires.typed;
-      defined = c.requires.defined;
-      fit = c.requires.store;
-      start = c.open-at.result;
-      first_slots = c.open-at.new.slots;
-      first_frames = callers;
-      opened = c.open-at.ensures.opened;
-      small = c.open-at.ensures.small;
-      deep = deep call.depth c.requires.depth c.args.frames.now c.requires.room;
+      begun = record {
+        takes = c.requires.typed;
+        defined = c.requires.defined;
+        fit = c.requires.store;
+        start = c.open-at.result;
+        slots = c.open-at.new.slots;
+        frames = callers;
+        opened = c.open-at.ensures.opened;
+        small = c.open-at.ensures.small;
+        deep = deep call.depth c.requires.depth c.args.frames.now c.requires.room;
+      };
       paid = omega arith;
       comes = comes_nowhere m (program_of m c.args.code.now.tables.now) call.depth g.H.Host.moves c.requires.typed.type.results
           (standing c.open-at.result c.open-at.new.slots callers c.args.state.now call.fuel) c.args.host.now;

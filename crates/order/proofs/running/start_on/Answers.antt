@@ -28,7 +28,7 @@ over-requires c =
       runs = c.go_on.ensures.runs;
       computes = λ end reads.
           start_computes (order_of c.args.order) q.s n.self.state q.old.reply.items n.self.host.reply.items c.args.paused.function c.in-Some.ended
-          (stop_of n.self.machine.last n.self.machine.frames.items) q.fresh q.is_start q.empty done.0 end c.in_default-ending.not-Return reads;
+          (stop_of n.self.machine.last n.self.machine.frames.items) q.is_start q.empty done.0 q.fresh end c.in_default-ending.not-Return reads;
       results = no_results c.in-Some.ended.ending c.in_default-ending.not-Return _;
     }
 
@@ -42,7 +42,7 @@ begin_work-requires-clause-started c =
     let n = c.go_on.new in
     let done = c.in-Some.ensures.over q.s q.old [] c.args.order.fuel q.calling in
     start_returns (order_of c.args.order) q.s n.self.state q.old.reply.items n.self.host.reply.items c.args.paused.function c.in-Some.ended
-    (stop_of n.self.machine.last n.self.machine.frames.items) q.fresh q.is_start q.empty done.0 c.in-Return.field-0 c.in-Return.is done.2
+    (stop_of n.self.machine.last n.self.machine.frames.items) q.is_start q.empty done.0 q.fresh c.in-Return.field-0 c.in-Return.is done.2
 
 pub returns : goal.returns
 returns c =

@@ -1,8 +1,8 @@
-use Rattle.std.proofs.Common.{◌≡◌, ◌≤◌, length, refl, sym, ap, subst, ◌∙◌, arith}
+use Rattle.std.proofs.Common.{◌≡◌, ◌≤◌, length, refl, sym, ap, ◌∙◌, arith}
 use Rattle.std.proofs.lemmas.Bool.Decides.{nat_tests}
 use Rattle.std.proofs.lemmas.Option.{slice_get_read}
 use Rattle.interp.specs.declared.host.Held.{Held}
-use Rattle.interp.specs.Inner.ArgumentsHeld.{held_values, HaveSlots}
+use Rattle.interp.specs.Inner.ArgumentsHeld.{held_values}
 use Rattle.interp.specs.Inner.Slots.ValuesRead.{typed_values}
 use Rattle.interp.proofs.Slots.ValuesRead.{none_past, read_at}
 use Rattle.interp.proofs.host.Args.get.Goals as goal
@@ -16,7 +16,7 @@ returns-in_ok-value-in-Lent c =
 pub returns-in_err-value_type-in-Laid : goal.returns-in_err-value_type-in-Laid
 returns-in_err-value_type-in-Laid c =
     let is : c.args.self.now ≡ typed_values c.in-Laid.types.now c.in-Laid.slots.now = sym c.self.view_is ∙ ap (λ (h : Held). held_values h) c.in-Laid.is in
-    let whole : length c.in-Laid.types.now ≤ length c.in-Laid.slots.now = subst (λ (h : Held). HaveSlots h) c.in-Laid.is c.self.invariant in
+    let whole : length c.in-Laid.types.now ≤ length c.in-Laid.slots.now = rw c.in-Laid.is at c.self.invariant in
     let test = c.in_err-value_type-in-Laid.ensures.lookup.0 in
     let past : length c.in-Laid.types.now ≤ c.args.index = grind (arith, nat_tests) in
     rw (c.from_residual-in_err-value_type-in-Laid.ensures, is) (none_past c.in-Laid.types.now c.in-Laid.slots.now c.args.index whole past)

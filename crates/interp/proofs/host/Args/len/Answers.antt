@@ -1,12 +1,12 @@
-use Rattle.std.proofs.Common.{◌≤◌, List, length, sym, ap, subst, ◌∙◌}
+use Rattle.std.proofs.Common.{◌≤◌, List, length, sym, ap, ◌∙◌}
 use Rattle.syntax.specs.declared.types.Value.{Value}
 use Rattle.interp.specs.declared.host.Held.{Held}
-use Rattle.interp.specs.Inner.ArgumentsHeld.{held_values, HaveSlots}
+use Rattle.interp.specs.Inner.ArgumentsHeld.{held_values}
 use Rattle.interp.proofs.Slots.ValuesRead.{count_read}
 use Rattle.interp.proofs.host.Args.len.Goals as goal
 
 pub returns-in-Laid : goal.returns-in-Laid
 returns-in-Laid c =
-    let whole : length c.in-Laid.types.now ≤ length c.in-Laid.field-1.now = subst (λ (h : Held). HaveSlots h) c.in-Laid.is c.self.invariant in
+    let whole : length c.in-Laid.types.now ≤ length c.in-Laid.field-1.now = rw c.in-Laid.is at c.self.invariant in
     sym (ap (λ (vs : List Value). length vs) (sym c.self.view_is ∙ ap (λ (h : Held). held_values h) c.in-Laid.is)
     ∙ count_read c.in-Laid.types.now c.in-Laid.field-1.now whole)

@@ -1,4 +1,4 @@
-use Rattle.std.proofs.Common.{◌≡◌, ◌≤◌, ℕ, List, Some, length, map, slice_get, sym, ap, subst, ◌∙◌}
+use Rattle.std.proofs.Common.{◌≡◌, ◌≤◌, ℕ, List, Some, length, map, slice_get, sym, ap, ◌∙◌}
 use Rattle.std.proofs.lemmas.Option.{get_or_from_slice_get}
 use Rattle.syntax.specs.declared.types.Value.{Value}
 use Rattle.syntax.specs.declared.types.Value.TheVariants as value
@@ -7,7 +7,7 @@ use Rattle.validate.specs.Typing.{type_of}
 use Rattle.instance.specs.Store.{value_of}
 use Rattle.engine.specs.Slots.{number}
 use Rattle.interp.specs.declared.host.Held.{Held}
-use Rattle.interp.specs.Inner.ArgumentsHeld.{held_values, HaveSlots}
+use Rattle.interp.specs.Inner.ArgumentsHeld.{held_values}
 use Rattle.interp.specs.Inner.Slots.ValuesRead.{typed_values}
 use Rattle.interp.proofs.Slots.ValuesRead.{typed_at}
 use Rattle.interp.proofs.host.Args.narrow.Goals as goal
@@ -24,13 +24,13 @@ returns-in-Lent c =
 
 pub item-slot-requires : goal.item-slot-requires
 item-slot-requires c =
-    let whole : length c.in-Laid.field-0.now ≤ length c.in-Laid.slots.now = subst (λ (h : Held). HaveSlots h) c.in-Laid.is c.self.invariant in
+    let whole : length c.in-Laid.field-0.now ≤ length c.in-Laid.slots.now = rw c.in-Laid.is at c.self.invariant in
     let is : c.args.self.now ≡ typed_values c.in-Laid.field-0.now c.in-Laid.slots.now = sym c.self.view_is ∙ ap (λ (h : Held). held_values h) c.in-Laid.is in
     (typed_at c.in-Laid.field-0.now c.in-Laid.slots.now c.args.index valtype.I32 whole (ap (λ (vs : List Value). slice_get (map type_of vs) c.args.index) (sym is) ∙ c.requires)).0
 
 pub returns-in-Laid : goal.returns-in-Laid
 returns-in-Laid c =
-    let whole : length c.in-Laid.field-0.now ≤ length c.in-Laid.slots.now = subst (λ (h : Held). HaveSlots h) c.in-Laid.is c.self.invariant in
+    let whole : length c.in-Laid.field-0.now ≤ length c.in-Laid.slots.now = rw c.in-Laid.is at c.self.invariant in
     let is : c.args.self.now ≡ typed_values c.in-Laid.field-0.now c.in-Laid.slots.now = sym c.self.view_is ∙ ap (λ (h : Held). held_values h) c.in-Laid.is in
     let there = (typed_at c.in-Laid.field-0.now c.in-Laid.slots.now c.args.index valtype.I32 whole (ap (λ (vs : List Value). slice_get (map type_of vs) c.args.index) (sym is) ∙ c.requires)).1 in
     let slot = get_or_from_slice_get c.in-Laid.slots.now c.args.index c.item-slot.result 0 c.item-slot.ensures in

@@ -2,12 +2,9 @@ use Rattle.std.proofs.Common.{◌≡◌, ◌≤◌, List, length, Option, Some, 
 use Rattle.std.specs.Prelude.{IfSome}
 use Rattle.std.proofs.lemmas.Option.{IfSome_then}
 use Rattle.limits.specs.declared.TheConstants.{MAX_DEPTH}
-use Rattle.syntax.specs.declared.contents.Contents.{Contents}
 use Rattle.events.specs.declared.ended.Ended.{Ended}
 use Rattle.instance.specs.declared.stack.Caller.{Caller}
 use Rattle.instance.specs.declared.stack.Last.{Last}
-use Rattle.instance.specs.Stops.{stop_of}
-use Rattle.interp.specs.Slices.{RunIsOver}
 use Rattle.interp.proofs.OnMachines.{paused_in, take_seam}
 use Rattle.interp.proofs.machine.Machine.go_on.Goals as goal
 
@@ -34,9 +31,7 @@ returns-clause-over g c =
     let here =
     paused_in moves _ _ _ _ _ _ (sym c.contents.ensures.same) (sym (c.as_slice.ensures ∙ c.deref.ensures)) (sym c.as_mut_slice-callers.ensures.value)
     s c.args.state.now before c.args.host.now args fuel p m.slots paused in
-    subst (λ (frames : List Caller). RunIsOver c.args.valid.now.contents p.depth moves p.function s before args fuel ended n.state n.host (stop_of n.ended_at frames)) (sym seam)
-    (subst (λ (x : Contents). RunIsOver x p.depth moves p.function s before args fuel ended n.state n.host (stop_of n.ended_at n.frames)) c.contents.ensures.same
-    (over s before args fuel here)))
+    rw (c.contents.ensures.same, ← seam) at (over s before args fuel here))
 
 pub returns-clause-paused : goal.returns-clause-paused
 returns-clause-paused g c none s before args fuel paused =
@@ -53,7 +48,7 @@ returns-clause-paused g c none s before args fuel paused =
 -- where it was over is kept, or what was kept before
 kept_shallow : (r : Option Ended) (old new : Option Last) → IfSome old (λ l. l.depth ≤ MAX_DEPTH) → IfSome r (λ ended. IfSome new (λ l. l.depth ≤ MAX_DEPTH)) → (r ≡ None → new ≡ old)
     → IfSome new (λ l. l.depth ≤ MAX_DEPTH)
-kept_shallow None old new before after same = subst (λ (last : Option Last). IfSome last (λ l. l.depth ≤ MAX_DEPTH)) (sym (same refl)) before
+kept_shallow None old new before after same = rw (same refl) before
 kept_shallow (Some ended) old new before after same = after
 
 pub returns-clause-fits : goal.returns-clause-fits

@@ -1,27 +1,46 @@
+use Rattle.std.proofs.Common.{[], ◌∷◌, ap, subst}
+use Rattle.syntax.specs.declared.types.Value.TheVariants.{I32}
+use Rattle.events.specs.Bare.{whole, whole_ending}
+use Rattle.events.specs.declared.ended.BareEnding.{BareEnding}
+use Rattle.events.specs.declared.ended.Ending.{Ending}
+use Rattle.reduction.specs.Running.{end_of_run}
+use Rattle.interp.specs.Lent.{ended_with}
 use Rattle.order.specs.Orders.{order_of}
+use Rattle.order.specs.Work.{EndsAs}
+use Rattle.order.proofs.Results.{same_whole, not_whole}
 use Rattle.order.proofs.WorkHostAnswers.{stops_end, works_end}
 use Rattle.order.proofs.WhereOrdersStop.{stops_to, works_to}
 use Rattle.order.proofs.order.Order.start_and_work.Goals as goal
 
 pub returns-in_default-clause-computes : goal.returns-in_default-clause-computes
 returns-in_default-clause-computes c = λ end reads.
-    stops_end (order_of c.args.self.now) c.args.state.now c.start-started.new.state c.start-started.result.ending c.start-started.result.used c.start-started.new.host.reply.items end
-    c.requires.fresh c.start-started.ensures.run c.in_default.not-Return reads
+    let started = c.start-started.result in
+    let reply = c.start-started.new.host.reply.items in
+    stops_end (order_of c.args.self.now) c.args.state.now c.start-started.new.state (whole_ending started.ending) started.used reply end
+    c.requires.fresh c.start-started.ensures.run (not_whole started.ending c.in_default.not-Return)
+    (subst (λ (e : Ending). EndsAs (end_of_run e) reply end) (same_whole started.ending (I32 0 ∷ []) (λ e. absurd (c.in_default.not-Return e))) reads)
 
 pub returns-in_default-clause-stops : goal.returns-in_default-clause-stops
 returns-in_default-clause-stops c = λ end reads.
-    stops_to (order_of c.args.self.now) c.args.state.now c.start-started.new.state c.start-started.result c.start-started.new.host.reply.items c.start-started.new.stack end
-    c.requires.fresh c.start-started.ensures.run c.in_default.not-Return c.start-started.ensures.stops reads
+    let started = c.start-started.result in
+    let reply = c.start-started.new.host.reply.items in
+    stops_to (order_of c.args.self.now) c.args.state.now c.start-started.new.state (whole started) reply c.start-started.new.stack end
+    c.requires.fresh c.start-started.ensures.run (not_whole started.ending c.in_default.not-Return) c.start-started.ensures.stops
+    (subst (λ (e : Ending). EndsAs (end_of_run e) reply end) (same_whole started.ending (I32 0 ∷ []) (λ e. absurd (c.in_default.not-Return e))) reads)
 
 pub returns-clause-computes : goal.returns-clause-computes
 returns-clause-computes c = λ end reads.
-    let work = c.work-ended.ensures.run in
-    works_end (order_of c.args.self.now) c.args.state.now c.start-started.new.state c.work-ended.new.state c.start-started.result c.work-ended.result
-    c.in-Return.field-0 c.start-started.new.host.reply.items c.work-ended.new.host.reply.items end
-    c.requires.fresh c.in-Return.is c.start-started.ensures.run (work.0, work.1, work.2.run) reads
+    let started = c.start-started in
+    let work = c.work-value in
+    let run = work.ensures.run in
+    works_end (order_of c.args.self.now) c.args.state.now started.new.state work.new.state (whole started.result) (ended_with work.result.0 (work.result.1 ∷ []))
+    [] started.new.host.reply.items work.new.host.reply.items end
+    c.requires.fresh (ap (λ (e : BareEnding). whole_ending e) c.in-Return.is) started.ensures.run (run.0, run.1, run.2.run) reads
 
 pub returns-clause-stops : goal.returns-clause-stops
 returns-clause-stops c = λ end reads.
-    works_to (order_of c.args.self.now) c.args.state.now c.start-started.new.state c.work-ended.new.state c.start-started.result c.work-ended.result
-    c.in-Return.field-0 c.start-started.new.host.reply.items c.work-ended.new.host.reply.items c.work-ended.new.stack end
-    c.requires.fresh c.in-Return.is c.start-started.ensures.run c.work-ended.ensures.run reads
+    let started = c.start-started in
+    let work = c.work-value in
+    works_to (order_of c.args.self.now) c.args.state.now started.new.state work.new.state (whole started.result) (ended_with work.result.0 (work.result.1 ∷ []))
+    [] started.new.host.reply.items work.new.host.reply.items work.new.stack end
+    c.requires.fresh (ap (λ (e : BareEnding). whole_ending e) c.in-Return.is) started.ensures.run work.ensures.run reads

@@ -1,10 +1,7 @@
-use Rattle.std.proofs.Common.{◌≡◌, sym, ap, ◌∙◌, subst}
+use Rattle.std.proofs.Common.{◌≡◌, ap, ◌∙◌}
 use Rattle.std.specs.Arc.{arc_value}
-use Rattle.syntax.specs.Loaded.{Loaded}
 use Rattle.resident.specs.Underway.{CallUnderway, IsSomeCall}
-use Rattle.interp.specs.Machines.{MachineFits}
-use Rattle.resident.specs.Inner.Going.{call_underway, inside_call}
-use Rattle.resident.specs.declared.calling.CallPlace.{CallPlace}
+use Rattle.resident.specs.Inner.Going.{inside_call}
 use Rattle.resident.specs.declared.calling.CallPlace.TheVariants.{Inside}
 use Rattle.resident.proofs.SlicesAreOneCall.{inside_of}
 use Rattle.resident.proofs.calling.Calling.run.Goals as goal
@@ -13,8 +10,7 @@ pub go_on_call-requires-clause-some : goal.go_on_call-requires-clause-some
 go_on_call-requires-clause-some c =
     let i = c.self.inside in
     let place : i.place ≡ Inside c.args.paused = inside_of i.place c.args.paused (ap (λ (x : CallUnderway). x.place) c.self.view_is ∙ c.requires.place) in
-    subst (λ (p : CallPlace). IsSomeCall (call_underway c.valid.result.now i.state i.machine p)) place
-    (subst (λ (l : Loaded). IsSomeCall (call_underway l i.state i.machine i.place)) (sym (c.valid.ensures.same ∙ c.deref.ensures)) c.self.invariant.some)
+    rw (← c.valid.ensures.same ∙ c.deref.ensures, place) at c.self.invariant.some
 
 pub invariant_of-result : goal.invariant_of-result
 invariant_of-result c =
@@ -22,14 +18,12 @@ invariant_of-result c =
     let n = c.go_on_call.new in
     let loaded : c.valid.result.now ≡ arc_value i.linked = c.valid.ensures.same ∙ c.deref.ensures in
     let place : i.place ≡ Inside c.args.paused = inside_of i.place c.args.paused (ap (λ (x : CallUnderway). x.place) c.self.view_is ∙ c.requires.place) in
-    let q : IsSomeCall (inside_call c.valid.result.now i.state i.machine c.args.paused) =
-    subst (λ (p : CallPlace). IsSomeCall (call_underway c.valid.result.now i.state i.machine p)) place
-    (subst (λ (l : Loaded). IsSomeCall (call_underway l i.state i.machine i.place)) (sym loaded) c.self.invariant.some) in
+    let q : IsSomeCall (inside_call c.valid.result.now i.state i.machine c.args.paused) = rw (← loaded, place) at c.self.invariant.some in
     let again = c.go_on_call.ensures.paused c.in-None.is in
     let some : IsSomeCall (inside_call c.valid.result.now n.state n.machine n.slice.paused) =
     (q.0, q.1, q.2, q.3, q.4, (again.goes_on q.0 q.1 q.2 q.3 q.4 q.5).0) in
     record {
-      runs = subst (λ (l : Loaded). MachineFits l.contents n.machine) loaded c.go_on_call.ensures.runs;
+      runs = rw (← loaded) c.go_on_call.ensures.runs;
       fit = rw (← loaded) c.go_on_call.ensures.store;
-      some = subst (λ (l : Loaded). IsSomeCall (inside_call l n.state n.machine n.slice.paused)) loaded some;
+      some = rw (← loaded) some;
     }

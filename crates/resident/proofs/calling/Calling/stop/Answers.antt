@@ -1,8 +1,8 @@
-use Rattle.std.proofs.Common.{◌≡◌, Option, sym, ap, ◌∙◌, subst}
+use Rattle.std.proofs.Common.{◌≡◌, sym, ap, ◌∙◌}
 use Rattle.std.specs.Arc.{arc_value}
-use Rattle.instance.specs.Stops.{Halt, stop_of}
+use Rattle.instance.specs.Stops.{stop_of}
 use Rattle.resident.specs.Slices.{CallStandsAt}
-use Rattle.resident.specs.Underway.{CallUnderway, IsSomeCall}
+use Rattle.resident.specs.Underway.{IsSomeCall}
 use Rattle.resident.specs.Inner.Going.{call_underway, inside_call}
 use Rattle.resident.specs.declared.calling.CallPlace.{CallPlace}
 use Rattle.resident.proofs.SlicesAreOneCall.{stands_at, stands_within}
@@ -13,7 +13,7 @@ stop-requires c =
     let i = c.self.inside in
     let p = c.in-Inside.paused in
     let some : IsSomeCall (inside_call (arc_value i.linked) i.state i.machine p) =
-    subst (λ (place : CallPlace). IsSomeCall (call_underway (arc_value i.linked) i.state i.machine place)) c.in-Inside.is c.self.invariant.some in
+    rw c.in-Inside.is at c.self.invariant.some in
     stands_within (arc_value i.linked) (arc_value i.machine.tables) i.machine.slots i.machine.frames.items i.state p some c.self.invariant.runs.room
 
 pub returns-in-Inside : goal.returns-in-Inside
@@ -21,10 +21,9 @@ returns-in-Inside c =
     let i = c.self.inside in
     let p = c.in-Inside.paused in
     let some : IsSomeCall (inside_call (arc_value i.linked) i.state i.machine p) =
-    subst (λ (place : CallPlace). IsSomeCall (call_underway (arc_value i.linked) i.state i.machine place)) c.in-Inside.is c.self.invariant.some in
+    rw c.in-Inside.is at c.self.invariant.some in
     let stands : CallStandsAt (inside_call (arc_value i.linked) i.state i.machine p) (stop_of p.last i.machine.frames.items) =
     stands_at (arc_value i.linked) (arc_value i.machine.tables) i.machine.slots i.machine.frames.items i.state p some in
     let same : inside_call (arc_value i.linked) i.state i.machine p ≡ c.args.self.now =
     ap (λ (place : CallPlace). call_underway (arc_value i.linked) i.state i.machine place) (sym c.in-Inside.is) ∙ c.self.view_is in
-    subst (λ (call : CallUnderway). CallStandsAt call c.stop.result) same
-    (subst (λ (stop : Option Halt). CallStandsAt (inside_call (arc_value i.linked) i.state i.machine p) stop) (sym c.stop.ensures) stands)
+    rw (← same, c.stop.ensures) stands

@@ -1,11 +1,11 @@
-use Rattle.std.proofs.Common.{◌≡◌, Option, None, refl, subst}
+use Rattle.std.proofs.Common.{Option, None, refl}
 use Rattle.std.specs.Arc.{arc_value}
 use Rattle.syntax.specs.Loaded.{Loaded}
 use Rattle.instance.specs.Store.{Store}
 use Rattle.instance.specs.Stops.{Halt, stop_of}
 use Rattle.interp.specs.declared.machine.Machine.{Machine}
 use Rattle.resident.specs.Slices.{CallStandsAt}
-use Rattle.resident.specs.Underway.{CallUnderway, IsSomeCall}
+use Rattle.resident.specs.Underway.{IsSomeCall}
 use Rattle.resident.specs.Inner.Going.{call_underway}
 use Rattle.resident.specs.declared.calling.CallPlace.{CallPlace}
 use Rattle.resident.specs.declared.calling.CallPlace.TheVariants.{Import, Inside}
@@ -22,5 +22,5 @@ standing loaded state machine (Inside paused) some =
 pub returns-clause-stands : goal.returns-clause-stands
 returns-clause-stands c =
     let i = c.self.inside in
-    subst (λ (call : CallUnderway). (stop : Option Halt) × CallStandsAt call stop) c.self.view_is
+    rw (← c.self.view_is)
     (standing (arc_value i.linked) i.state i.machine i.place c.self.invariant.some)

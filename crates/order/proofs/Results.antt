@@ -1,0 +1,50 @@
+-- The results of the calls of an order: the start function has none, `uv_work` has one.
+use Rattle.std.proofs.Common.{◌≡◌, ℕ, List, [], ◌∷◌, Some, length, take, get_or, refl, ap, ◌∙◌}
+use Rattle.syntax.specs.declared.types.Value.{Value}
+use Rattle.syntax.specs.declared.contents.Contents.{Contents}
+use Rattle.validate.specs.Typing.{HasFunctionType, type_of_function}
+use Rattle.validate.specs.Valid.{ValidModule}
+use Rattle.events.specs.Bare.{whole, whole_ending}
+use Rattle.events.specs.declared.ended.BareEnded.{BareEnded}
+use Rattle.events.specs.declared.ended.BareEnding.{BareEnding}
+use Rattle.events.specs.declared.ended.BareEnding.TheVariants as bare
+use Rattle.events.specs.declared.ended.Ended.{Ended}
+use Rattle.events.specs.declared.ended.Ending.{Ending}
+use Rattle.events.specs.declared.ended.Ending.TheVariants.{Return}
+use Rattle.imports.specs.declared.entry_point.EntryPoint.TheVariants.{Work}
+use Rattle.imports.specs.Uv.{type_of_entry}
+use Rattle.interp.specs.Lent.{result_count, ending_with, ended_with, ended_in}
+
+-- only what has returned has results
+pub same_whole : (end : BareEnding) (values : List Value) → (end ≡ bare.Return → values ≡ []) → ending_with end values ≡ whole_ending end
+same_whole bare.Return values none = ap (λ (vs : List Value). Return vs) (none refl)
+same_whole (bare.Trap code) values none = refl
+same_whole bare.Depth values none = refl
+same_whole bare.Spent values none = refl
+
+pub not_whole : (end : BareEnding) → (end ≡ bare.Return → ⊥) → (values : List Value) → whole_ending end ≡ Return values → ⊥
+not_whole bare.Return not values is = not refl
+not_whole _ not values is = absurd (cc)
+
+pub work_has_one : (m : Contents) (function : ℕ) → type_of_function m function ≡ Some (type_of_entry Work) → result_count m function ≡ 1
+work_has_one m function typed = rw typed refl
+
+first_alone : (places : List Value) (default : Value) → length places ≡ 1 → take 1 places ≡ get_or places 0 default ∷ []
+first_alone [] default one = absurd (cc)
+first_alone (first ∷ places) default one = refl
+
+pub work_ended : (m : Contents) (function : ℕ) → type_of_function m function ≡ Some (type_of_entry Work) → (ended : BareEnded) (places : List Value) (default : Value)
+    → length places ≡ 1 → ended_in m function ended places ≡ ended_with ended (get_or places 0 default ∷ [])
+work_ended m function typed ended places default one =
+    ap (λ (vs : List Value). ended_with ended vs) (ap (λ (k : ℕ). take k places) (work_has_one m function typed) ∙ first_alone places default one)
+
+pub start_has_none : (m : Contents) → ValidModule m → (function : ℕ) → m.start ≡ Some function → result_count m function ≡ 0
+start_has_none m valid function is = none (rw is at valid.start) where
+  none : HasFunctionType m function (record { params = []; results = [] }) → result_count m function ≡ 0
+  none h = rw (h.1, h.2) refl
+
+pub start_ended : (m : Contents) → ValidModule m → (function : ℕ) → m.start ≡ Some function → (ended : BareEnded) (places : List Value)
+    → ended_in m function ended places ≡ whole ended
+start_ended m valid function is ended places =
+    ap (λ (k : ℕ). ended_with ended (take k places)) (start_has_none m valid function is)
+    ∙ ap {B = Ended} (λ (e : Ending). record { ending = e; used = ended.used }) (same_whole ended.ending [] (λ e. refl))

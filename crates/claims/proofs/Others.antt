@@ -1,5 +1,5 @@
 -- Each step keeps the rule: loops that aren't there open nothing.
-use Rattle.std.proofs.Common.{◌≡◌, ℕ, ◌+◌, ◌*◌, ◌<◌, ◌≤◌, List, [], ◌∷◌, ◌++◌, set, get_or, All, replicate, refl, sym, ap, ◌∙◌, arith}
+use Rattle.std.proofs.Common.{◌≡◌, Bool, cond, ℕ, ◌+◌, ◌*◌, ◌<◌, ◌≤◌, List, [], ◌∷◌, ◌++◌, set, get_or, All, replicate, refl, sym, ap, ◌∙◌, arith}
 use Rattle.std.proofs.Math.Nat.{lt_of_not-le}
 use mathlib.Core.Option.{some}
 use lib.ListN.{get_elem?}
@@ -18,7 +18,7 @@ no_last views l slot none = ap (λ cs. last_in slot cs) none
 pub hit_there : {loops : ℕ} {words : List ℕ} {views : List SeatView} → IsClaimed loops words views → (l slot r : ℕ) → l < MAX_LOOPS → slot < MAX_REQUESTS
     → get_or words (place l slot) 0 ≡ 4 * r + 1 → l < loops
 hit_there {loops} {words} {views} claimed l slot r real low found =
-    let facts = hit claimed.kept l slot r real low found in
+    let facts = hit claimed.kept l slot r 1 real low (omega arith) (omega arith) found in
     let last = facts.last in
     let above = facts.above in
     lt_of_not-le (λ (far : loops ≤ l). let none = no_last views l slot (claimed.others l far) in omega arith)
@@ -28,15 +28,15 @@ module _ {loops : ℕ} {words : List ℕ} {views : List SeatView} (claimed : IsC
   pub still_claimed : {ws : List ℕ} (w : SeatView) → w.opened ≡ v.opened → WordsAreKept MAX_LOOPS ws (set views id w) → IsClaimed loops ws (set views id w)
   still_claimed w same kept = record { kept = kept; others = λ l far. part_set (λ u. u.opened) views id (l + 1) v w (seat_of 0) at same ∙ claimed.others l far }
 
-  pub opens_claimed : (l slot r : ℕ) → v.number ≡ l + 1 → l < loops → l < MAX_LOOPS → slot < MAX_REQUESTS → 0 < r → All (λ c. c.1 < r) v.opened
-      → IsClaimed loops (set words (place l slot) (4 * r + 1)) (set views id (with_opened v (slot, r)))
-  opens_claimed l slot r number there real low above rising =
+  pub opens_claimed : (l slot r : ℕ) (is_posting : Bool) → v.number ≡ l + 1 → l < loops → l < MAX_LOOPS → slot < MAX_REQUESTS → 0 < r → All (λ c. c.1 < r) v.opened
+      → IsClaimed loops (set words (place l slot) (4 * r + cond is_posting 0 1)) (set views id (with_opened is_posting v (slot, r)))
+  opens_claimed l slot r is_posting number there real low above rising =
       record {
-        kept = opens claimed.kept id v at l slot r number real low above rising;
+        kept = opens claimed.kept id v at l slot r is_posting number real low above rising;
         others =
             λ m far.
             let here = own claimed.kept id v at l number in
-            ap (λ (u : SeatView). u.opened) (set_apart views id (m + 1) (with_opened v (slot, r)) (seat_of 0) (λ e. omega arith)) ∙ claimed.others m far;
+            ap (λ (u : SeatView). u.opened) (set_apart views id (m + 1) (with_opened is_posting v (slot, r)) (seat_of 0) (λ e. omega arith)) ∙ claimed.others m far;
       }
 
   pub makes_claimed : 0 < v.made → IsClaimed loops words (set views id (next_making_seat v) ++ next_seat v ∷ [])

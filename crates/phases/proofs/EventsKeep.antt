@@ -1,10 +1,11 @@
 -- What each event of a loop keeps, its histories keep.
-use Rattle.std.proofs.Common.{◌≡◌, ◌+◌, Bool, true, false, cond, List, [], ◌∷◌, ◌++◌, refl, sym, subst, ◌∙◌, arith, append_assoc, append-nil}
+use Rattle.std.proofs.Common.{◌≡◌, ◌+◌, Bool, true, false, cond, List, [], ◌∷◌, ◌++◌, refl, ◌∙◌, arith}
 use Rattle.std.specs.List.{count_by}
 use Rattle.std.proofs.lemmas.List.Sums.{sum_by_push}
 use Rattle.phases.specs.Calls.{Calls}
 use Rattle.phases.specs.History.{Event, EventStep, History}
 use Rattle.phases.specs.State.{Setting, Loop}
+use Rattle.phases.proofs.StepByStep.{steps_keep}
 
 -- how many events of a kind there are with one more
 module _ (counts : Event → Bool) (events : List Event) (e : Event) where
@@ -28,6 +29,4 @@ module _ {S : Type 0} (calls : Calls S) (g : Setting) (Holds : List Event → Lo
 
   -- the same of many events
   pub kept_along : ((e : Event) → Keeps e) → (events more : List Event) (old new : Loop S) → History calls g old more new → Holds events old → Holds (events ++ more) new
-  kept_along keeps events [] old new h was = subst (λ l. Holds (events ++ []) l) (sym h) (subst (λ es. Holds es old) (sym (append-nil events)) was)
-  kept_along keeps events (e ∷ more) old new h was =
-      subst (λ es. Holds es new) (append_assoc events (e ∷ []) more) (kept_along keeps (events ++ e ∷ []) more h.0 new h.2 (keeps e events old h.0 h.1 was))
+  kept_along = steps_keep (λ l e m. EventStep calls g e l m) Holds

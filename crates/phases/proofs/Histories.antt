@@ -22,15 +22,10 @@ use Rattle.phases.specs.Step.{AfterWork, in_state}
 use Rattle.phases.proofs.EventsKeep.{counted, uncounted, Keeps, kept_by, kept_along}
 use Rattle.phases.proofs.CancelFates.{CancelFate, cancelled, stayed, fate_in}
 use Rattle.phases.proofs.StepFates.{Held, WasWon, Steps, step_holds, fate_holds, nothing_more}
+use Rattle.phases.proofs.StepByStep.{steps_split}
 use Rattle.phases.proofs.StepGoes.{after_of}
 use Rattle.phases.proofs.StepsByCalls.{request_fate}
 use Rattle.phases.proofs.RequestByNumber.{Fits, Same, Stages, numbered, Stands, Owned, fits_more, fits_staged, fits_handed, fits_answered, only_found, found_only}
-
--- some events and then others
-history_split : {S : Type 0} (calls : Calls S) (g : Setting) (xs ys : List Event) (old new : Loop S) → History calls g old (xs ++ ys) new
-    → (mid : Loop S) × History calls g old xs mid × History calls g mid ys new
-history_split calls g [] ys old new h = (old, refl, h)
-history_split calls g (x ∷ xs) ys old new h = let it = history_split calls g xs ys h.0 new h.2 in (it.0, (h.0, h.1, it.1), it.2)
 
 pub calls_push : (events : List Event) (e : Event) → guest_calls (events ++ e ∷ []) ≡ guest_calls events ++ calls_in e
 calls_push [] e = append-nil (calls_in e)
@@ -275,5 +270,5 @@ module _ {S : Type 0} (calls : Calls S) (g : Setting) (r : ℕ) where
   pub last_after : (l l' : Loop S) (before behind : List Event) (e : Event) → IsOpening calls g l → History calls g l (before ++ e ∷ behind) l'
       → is_after_event r e ≡ true → WasCancelled r (e ∷ behind) → ⊥
   last_after l l' before behind e o h is =
-      let it = history_split calls g before (e ∷ behind) l l' h in
+      let it = steps_split (λ x y z. EventStep calls g y x z) before (e ∷ behind) l l' h in
       late_behind before behind e it.0 it.2.0 l' (holds_after l it.0 before o it.1) it.2.1 is it.2.2

@@ -43,3 +43,22 @@ lowest_next rs kept o is = by (lowest_open rs) refl o is where
   by (Some q) e (Some x) is =
       let same : order_of x ≡ q.order = cc in
       subst (λ n. IsLowestOpen n rs) (ap (λ w. w.request) (sym same)) (is_lowest rs kept q e)
+
+-- and it is numbered from 1
+found_above : (p : Request → Bool) (low high : ℕ) (xs : List Request) (q : Request) → AreRising low (map number_of xs) high → find p xs ≡ Some q → low < number_of q
+found_above p low high [] q rising found = absurd (cc)
+found_above p low high (x ∷ xs) q rising found =
+    let first = rising.0 in
+    elim (p x) as (λ b. cond b (Some x) (find p xs) ≡ Some q → low < number_of q) [
+      | true ↦ λ k. (let same : x ≡ q = cc in subst (λ y. low < number_of y) same first)
+      | false ↦ λ k. (let rest = found_above p (number_of x) high xs q rising.1 k in omega arith)
+    ] found
+
+pub number_next : (rs : Requests) → AreKept rs → (o : Option Order) → option_map order_of o ≡ (next_of rs).0 → IfSome o (λ x. 0 < x.request)
+number_next rs kept o is = by (lowest_open rs) refl o is where
+  by : (found : Option Request) → lowest_open rs ≡ found → (o : Option Order) → option_map order_of o ≡ (handing rs found).0 → IfSome o (λ x. 0 < x.request)
+  by found e None is = tt
+  by None e (Some x) is = absurd (cc)
+  by (Some q) e (Some x) is =
+      let same : order_of x ≡ q.order = cc in
+      subst (λ n. 0 < n) (ap (λ w. w.request) (sym same)) (found_above (λ r. is_open_stage r.stage) 0 rs.last rs.outstanding q kept.rising e)

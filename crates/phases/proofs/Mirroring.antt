@@ -18,12 +18,13 @@ use Rattle.phases.specs.Outside.{CancelIn, RequestIn}
 use Rattle.phases.proofs.StepGoes.{EntryGoes, skips, runs, works, StepGoes, rests, enters, Takes, TakesOwn, step_goes}
 use Rattle.phases.proofs.CallMoves.{Touch, Stays, ToOpen, ToCancel, ToSend, Touches, Retraces, both, call_made, cancel_retraced, queue_fate}
 use Rattle.phases.specs.Step.{StepsWith, RunsFrom, in_state, over, begun}
+use Rattle.phases.specs.StepByStep.{StepByStep}
+use Rattle.phases.proofs.StepByStep.{steps_simulate}
 
 -- one after another
 module _ {S : Type 0} (calls : Calls S) where
   abbrev pub Chain : List Touch → S → S → Type 0
-  Chain [] s s' = s' ≡ s
-  Chain (touch ∷ rest) s s' = (mid : S) × Touches calls touch s mid × Chain rest mid s'
+  Chain touches s s' = StepByStep (λ x touch y. Touches calls touch x y) touches s s'
 
 -- what the guest's calls do at the object, and what is so of each other at which the same is done
 pub record CallsRetraced {S T : Type 0} (calls : Calls S) (other : Calls T) (s s' : S) (Q : T → T → Type 0) : Type 0 where
@@ -136,13 +137,6 @@ module _ {S T : Type 0} (calls : Calls S) (other : Calls T) (g : Setting) (IsThe
   touch_mirrors (ToCancel slot request won) s s' t r h = mirrored.cancels s s' t slot request won r h
   touch_mirrors (ToSend async_no ok) s s' t r h = mirrored.sends s s' t async_no ok r h
 
-  chain_mirrors : (touches : List Touch) (s s' : S) (t : T) → R s t → Chain calls touches s s' → After (Chain other touches t) s'
-  chain_mirrors [] s s' t r h = (t, refl, still s s' t h r)
-  chain_mirrors (touch ∷ rest) s s' t r h =
-      let one = touch_mirrors touch s h.0 t r h.1 in
-      let more = chain_mirrors rest h.0 s' one.0 one.2 h.2 in
-      (more.0, (one.0, one.1, more.1), more.2)
-
   takes_mirror : (old : Loop S) (taken : Option (ℕ × ℕ)) (s' : S) (t : T) → ((async_no handle : ℕ) → async_handle old.state.roster async_no ≡ Some handle → IsThere async_no)
       → R old.shared t → TakesOwn calls old taken s' → After (Takes other taken t) s'
   takes_mirror old None s' t there r h = (t, refl, still old.shared s' t h r)
@@ -154,7 +148,9 @@ module _ {S T : Type 0} (calls : Calls S) (other : Calls T) (g : Setting) (IsThe
   step_mirrors old did made new t there r h =
       let it = step_retraced calls other g did made new old h in
       let first = takes_mirror old it.taken it.mid t there r it.takes in
-      let rest = chain_mirrors it.touches it.mid new.shared first.0 first.2 it.moved in
+      let rest =
+      steps_simulate (λ x touch y. Touches calls touch x y) (λ x touch y. Touches other touch x y) R (λ touch x y z. touch_mirrors touch x y z)
+      it.touches it.mid new.shared first.0 first.2 it.moved in
       (rest.0, it.again t first.0 rest.0 first.1 rest.1, rest.2)
 
   -- what one touch does

@@ -5,7 +5,7 @@ use Rattle.std.specs.List.{count_by, filter, find}
 use Rattle.std.proofs.lemmas.Bool.{cases_lt, eqb-true, eq-eqb}
 use Rattle.order.specs.Work.{WorkOrder}
 use Rattle.phases.specs.declared.entry.Status.{Status}
-use Rattle.phases.specs.declared.entry.Status.TheVariants.{Running, Over, Failed}
+use Rattle.phases.specs.declared.entry.Status.TheVariants.{Failed}
 use Rattle.phases.specs.Calls.{Calls}
 use Rattle.phases.specs.Guests.{GuestCall}
 use Rattle.phases.specs.History.{Event, OrderAsked, EventStep, History, IsOpening, guest_calls}
@@ -130,19 +130,7 @@ pub record IsLowest (s : State) (o : WorkOrder) : Type 0 where
 
 pub handed_is : (status : Status) (s : State) (o : WorkOrder) → s.status ≡ status → Some o ≡ (next_in status s).0 → IsLowest s o
 handed_is Failed s o is h = absurd (cc)
-handed_is Running s o is h = by (lowest_open s.requests) refl h where
-  by : (x : Option Request) → lowest_open s.requests ≡ x → Some o ≡ (handing s.requests x).0 → IsLowest s o
-  by None e k = absurd (cc)
-  by (Some q) e k =
-      let same : q.order ≡ o = cc in
-      record {
-        request = q;
-        lowest = e;
-        order = same;
-        after = ap (λ t. (next_in t s).1.requests) is ∙ ap (λ x. (handing s.requests x).1) e
-            ∙ ap (λ (y : WorkOrder). with_stage s.requests y.request HandedOut) same;
-      }
-handed_is Over s o is h = by (lowest_open s.requests) refl h where
+handed_is _ s o is h = by (lowest_open s.requests) refl h where
   by : (x : Option Request) → lowest_open s.requests ≡ x → Some o ≡ (handing s.requests x).0 → IsLowest s o
   by None e k = absurd (cc)
   by (Some q) e k =

@@ -1,6 +1,6 @@
 -- What one step of a loop does to the request of one number.
 use Rattle.std.proofs.Common.{◌≡◌, ℕ, ◌≤◌, inl, inr, ◌⊎◌, List, [], ◌∷◌, ◌++◌, Option, Some, None, refl, sym, ap}
-use Rattle.std.proofs.Common.{subst, ◌∙◌, arith, append_assoc}
+use Rattle.std.proofs.Common.{subst, ◌∙◌, arith}
 use Rattle.std.specs.List.{Contains}
 use Rattle.std.proofs.lemmas.List.Elements.{Contains-append_left, Contains-append_cases, Contains-push, Contains-push_cases}
 use Rattle.syntax.specs.declared.types.Value.{Value}
@@ -18,8 +18,9 @@ use Rattle.phases.specs.Calls.{Calls}
 use Rattle.phases.specs.Host.{next_work, with_requests}
 use Rattle.phases.specs.Step.{StepsWith, RunsFrom, AfterWork, in_state, over}
 use Rattle.phases.specs.Step.{begun}
-use Rattle.phases.specs.Guests.{GuestCall, GuestSteps}
+use Rattle.phases.specs.Guests.{GuestCall, GuestStep, GuestSteps}
 use Rattle.phases.specs.Laws.{WasAsked, IsCancel}
+use Rattle.phases.proofs.StepByStep.{steps_keep}
 use Rattle.phases.proofs.StepGoes.{EntryGoes, skips, runs, works, StepGoes, rests, enters, after_of, same_requests, step_goes}
 use Rattle.phases.proofs.StepsByCalls.{CallFate, changes_nothing, opens_one, cancels_one, call_fate}
 use Rattle.phases.proofs.RequestByNumber.{Fits, Covers, Same, Stages, numbered, fits_more, fits_staged, fits_opened, fits_removed, fits_ran, was_given, only_found}
@@ -90,10 +91,8 @@ module _ (g : Setting) (r : ℕ) (L : Type 0) where
   module _ {S : Type 0} (calls : Calls S) where
     trace_holds : (ran early : Type 0) (made more : List GuestCall) (old new : State × S) → GuestSteps calls g more old new
         → Held ran early made old.0.requests → Held ran early (made ++ more) new.0.requests
-    trace_holds ran early made [] old new h f = nothing_more ran early made old.0.requests new.0.requests (ap (λ p. p.0.requests) h) f
-    trace_holds ran early made (c ∷ more) old new h f =
-        subst (λ cs. Held ran early cs new.0.requests) (append_assoc made (c ∷ []) more)
-        (trace_holds ran early (made ++ c ∷ []) more h.0 new h.2 (fate_holds ran early made c old.0.requests h.0.0.requests (call_fate calls g old c.call h.0 c.function h.1.1) f))
+    trace_holds ran early = steps_keep (GuestStep calls g) (λ made x. Held ran early made x.0.requests)
+        (λ c made old new h f. fate_holds ran early made c old.0.requests new.0.requests (call_fate calls g old c.call new c.function h.1) f)
 
 module _ {S : Type 0} (calls : Calls S) (g : Setting) (r : ℕ) where
   callback_holds : (L ran early : Type 0) (made more : List GuestCall) (old : Loop S) (kind : EntryKind) (number function : ℕ) (args : List Value)

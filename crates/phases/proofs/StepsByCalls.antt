@@ -23,11 +23,12 @@ use Rattle.phases.specs.Calls.{Calls}
 use Rattle.phases.specs.Host.{CallStep, next_work, with_requests}
 use Rattle.phases.specs.Step.{StepsWith, RunsFrom, in_state, over}
 use Rattle.phases.specs.Step.{begun}
-use Rattle.phases.specs.Guests.{GuestCall, GuestSteps}
+use Rattle.phases.specs.Guests.{GuestCall, GuestStep, GuestSteps}
 use Rattle.phases.specs.History.{Event, Stepped, OrderAsked, EndOffered, CancelAnswered, RequestAnswered, ClockRaised, MovedBeside, EventStep, Offers, History, owners_call, calls_in, guest_calls}
 use Rattle.phases.specs.Laws.{asks_for, IsCancel}
 use Rattle.phases.specs.Outside.{RequestIn, next_order_of, next_in, handing}
 use Rattle.phases.proofs.CallMoves.{CallMoves, leaves_all, opens, cancels_won, call_moves, other_call}
+use Rattle.phases.proofs.StepByStep.{steps_keep}
 use Rattle.phases.proofs.StepGoes.{EntryGoes, skips, runs, works, StepGoes, rests, enters, TakesOwn, same_requests, step_goes}
 use Rattle.phases.proofs.CancelFates.{IsBeside, took, CancelFate, stayed, cancelled, fate_in}
 
@@ -79,10 +80,8 @@ module _ {S : Type 0} (calls : Calls S) (g : Setting) (P : List GuestCall → Re
   nothing made rs rs' s s' e k p = subst (P (made ++ []) rs') (sym k) (subst (λ x. P (made ++ []) x s) (sym e) (subst (λ cs. P cs rs s) (sym (append-nil made)) p))
 
   trace_keeps : (made more : List GuestCall) (old new : State × S) → GuestSteps calls g more old new → P made old.0.requests old.1 → P (made ++ more) new.0.requests new.1
-  trace_keeps made [] old new h p = nothing made old.0.requests new.0.requests old.1 new.1 (ap (λ x. x.0.requests) h) (ap (λ x. x.1) h) p
-  trace_keeps made (c ∷ more) old new h p =
-      subst (λ cs. P cs new.0.requests new.1) (append_assoc made (c ∷ []) more)
-      (trace_keeps (made ++ c ∷ []) more h.0 new h.2 (keeps.called made c (old.0.requests, old.1) (h.0.0.requests, h.0.1) (call_moves calls g old c.call h.0 c.function h.1.1) p))
+  trace_keeps = steps_keep (GuestStep calls g) (λ made x. P made x.0.requests x.1)
+      (λ c made old new h p. keeps.called made c (old.0.requests, old.1) (new.0.requests, new.1) (call_moves calls g old c.call new c.function h.1) p)
 
   module _ (made more : List GuestCall) where
     abbrev Before : Loop S → Type 0

@@ -1,11 +1,12 @@
 -- The calls of a guest in a callback.
-use Rattle.std.specs.Prelude.{◌≡◌, List, [], ◌∷◌, map}
+use Rattle.std.specs.Prelude.{List, map}
 use Rattle.reduction.specs.Run.{HostCall}
 use Rattle.imports.specs.declared.call.Call.{Call}
 use Rattle.imports.specs.Linking.{Imports}
 use Rattle.phases.specs.State.{Setting, State}
 use Rattle.phases.specs.Calls.{Calls}
 use Rattle.phases.specs.Host.{CallStep}
+use Rattle.phases.specs.StepByStep.{StepByStep}
 
 -- a call of a guest, with the function of "uv" that it names
 pub record GuestCall : Type 0 where
@@ -23,5 +24,4 @@ module _ {S : Type 0} (calls : Calls S) (g : Setting) where
 
   -- the calls, in order, lead from one state to another
   abbrev pub GuestSteps : List GuestCall → (old new : State × S) → Type 0
-  GuestSteps [] old new = new ≡ old
-  GuestSteps (c ∷ made) old new = (mid : State × S) × GuestStep old c mid × GuestSteps made mid new
+  GuestSteps made old new = StepByStep GuestStep made old new

@@ -14,6 +14,7 @@ use Rattle.phases.specs.PhaseList.{begin_list}
 use Rattle.phases.specs.Roster.{opening_roster}
 use Rattle.phases.specs.State.{Setting, Loop, opening}
 use Rattle.phases.specs.Step.{StepsWith, in_state}
+use Rattle.phases.specs.StepByStep.{StepByStep}
 use Rattle.phases.specs.View.{new_view}
 
 -- A step, with what it did, what the last callback emitted, and what the guest called in it; an order that was asked for, if
@@ -93,5 +94,4 @@ module _ {S : Type 0} (calls : Calls S) (g : Setting) where
 
   -- some events, one after another
   abbrev pub History : (old : Loop S) → List Event → (new : Loop S) → Type 0
-  History old [] new = new ≡ old
-  History old (e ∷ events) new = (mid : Loop S) × EventStep e old mid × History mid events new
+  History old events new = StepByStep (λ l e m. EventStep e l m) events old new

@@ -2,7 +2,7 @@
 use Rattle.std.specs.Prelude.{◌≡◌, ℕ, Bool, true, false, max, List, length, Option, Some, None}
 use Rattle.order.specs.declared.uv.answers.TheConstants.{NOT_HERE}
 use Rattle.order.specs.Work.{WorkOrder, WorkEnd}
-use Rattle.phases.specs.Calls.{Calls, OtherCalls}
+use Rattle.phases.specs.Calls.{Calls, OtherCalls, PostCall}
 use Rattle.phases.specs.declared.entry.Status.{Status}
 use Rattle.phases.specs.declared.entry.Status.TheVariants.{Running, Failed}
 use Rattle.phases.specs.Requests.{Requests, Request, HandedOut, Answered, request_of, lowest_open, with_stage, is_settled}
@@ -87,3 +87,8 @@ module _ {S : Type 0} (others : OtherCalls S) where
   abbrev pub SendsBeside : Loop S → (async_no : ℕ) → Bool → Loop S → Type 0
   SendsBeside old async_no answer new =
       others.gets old.shared async_no answer new.shared × (new.state ≡ old.state) × (new.store ≡ old.store)
+
+-- a request is posted: the shared object moves, and all else stays
+abbrev pub PostsLoop : {S : Type 0} → PostCall S → Loop S → (slot request : ℕ) → Bool → Loop S → Type 0
+PostsLoop posts old slot request answer new =
+    posts old.shared slot request answer new.shared × (new.state ≡ old.state) × (new.store ≡ old.store)

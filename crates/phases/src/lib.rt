@@ -9,7 +9,7 @@
 //! `specs/Host.antt` (what each call of a guest answers).
 #![tactic(auto)]
 
-ghost use Rattle.phases.specs.Outside.{CancelIn, StartsBeside, SendsBeside};
+ghost use Rattle.phases.specs.Outside.{CancelIn, StartsBeside, SendsBeside, PostsLoop};
 ghost use Rattle.phases.specs.Step.{LoopStep};
 
 mod callback;
@@ -41,5 +41,5 @@ pub use entry::{Entry, Status};
 pub use events::did::{Hint, StepDid};
 pub use events::phase::{EntryKind, Phase};
 pub use loop_core::{Accepted, LoopCore};
-pub use shared::{Beside, Shared};
+pub use shared::{Beside, Posting, Shared};
 pub use slices::{StepSlice, Stepping};

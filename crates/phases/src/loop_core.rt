@@ -11,7 +11,7 @@ ghost use Rattle.instance.specs.Fresh.{IsFresh};
 ghost use Rattle.order.specs.Orders.{order_of};
 ghost use Rattle.phases.specs.Fitting.{AllRight, IsShort};
 ghost use Rattle.phases.specs.Accepting.{Accepts};
-ghost use Rattle.phases.specs.Outside.{after_clock, is_failed, next_order_of, CancelsLoop, RequestsLoop, StartsBeside, SendsBeside};
+ghost use Rattle.phases.specs.Outside.{after_clock, is_failed, next_order_of, CancelsLoop, RequestsLoop, StartsBeside, SendsBeside, PostsLoop};
 ghost use Rattle.phases.specs.Guests.{GuestCall};
 ghost use Rattle.order.specs.Runnable.{CanRun};
 ghost use Rattle.phases.specs.PhaseList.{begin_list, hint_of, is_alive, IsAlive, IsHint};
@@ -31,7 +31,7 @@ use crate::entry::{Entry, Status};
 use crate::loop_host::LoopHost;
 use crate::opening::opened;
 use crate::setting::Setting;
-use crate::shared::{Beside, Shared};
+use crate::shared::{Beside, Posting, Shared};
 use events::did::{Hint, StepDid};
 use events::ended::Ended;
 use events::phase::EntryKind;
@@ -41,7 +41,7 @@ use imports::{EntryPoint, Linked};
 use instance::stack::{CallStack, Stop};
 use instance::state::State;
 use interp::call::FunctionCall;
-use interp::invoke::{invoke_bare, unwritten};
+use interp::invoke::invoke_bare;
 use order::laws::imports_are_named;
 use order::{Order, Reply};
 use std::alloc::{AllocError, Global};
@@ -66,8 +66,6 @@ pub struct LoopCore<B: Shared + Drop> {
     pub(crate) store: State,
     pub(crate) stack: CallStack,
     pub(crate) host: LoopHost<B>,
-    // Where a callback's ending is written. What stands there is no part of the loop.
-    pub(crate) place: Ended,
     ghost stopped: { IfSome stack (λ sites. ∥ LoopStopsAt B.calls (setting_of host.setting) store sites ∥₁) } by { Prim.hlevel props },
 }
 
@@ -78,7 +76,6 @@ impl<B: Shared + Drop> Drop for LoopCore<B> {
             store: _,
             stack: _,
             host: _,
-            place: _,
         } = self;
     }
 }
@@ -147,7 +144,6 @@ impl<B: Shared + Drop> LoopCore<B> {
             store,
             stack,
             host,
-            place: unwritten(),
         })
     }
 
@@ -363,7 +359,6 @@ impl<B: Shared + Drop> LoopCore<B> {
             &mut self.store,
             &mut self.stack,
             &mut self.host,
-            &mut self.place,
             &call,
         );
         self.host.state.end_callback(ended);
@@ -450,7 +445,6 @@ impl<B: Shared + Drop> LoopCore<B> {
             store: _,
             stack: _,
             host,
-            place: _,
         } = self;
         host.into_shared()
     }
@@ -468,7 +462,6 @@ impl<B: Shared + Drop> LoopCore<B> {
             store,
             stack: _,
             host,
-            place: _,
         } = self;
         (linked, store, host)
     }
@@ -481,6 +474,7 @@ impl<B: Shared + Drop> LoopCore<B> {
         ensures lowest { IfSome result (λ o. IsLowestOpen o.request self.old.loop.state.requests) }
         ensures own { IfSome result (λ o. o.loop_no ≡ self.old.setting.loop_no) }
         ensures slot { IfSome result (λ o. o.slot < MAX_REQUESTS) }
+        ensures number { IfSome result (λ o. 0 < o.request) }
         ensures can_run { IfSome result (λ o. CanRun (order_of o)) }
         ensures setting { self.new.setting ≡ self.old.setting }
     {
@@ -578,5 +572,18 @@ impl<B: Beside + Drop> LoopCore<B> {
         ensures setting { self.new.setting ≡ self.old.setting }
     {
         self.host.shared.sent(async_no)
+    }
+}
+
+impl<B: Posting + Drop> LoopCore<B> {
+    /// Posts a request, whose order was handed out, so that it can be started. Whether it is posted by this call. Slots are
+    /// below `MAX_REQUESTS`, and requests are numbered from 1.
+    pub fn post(&mut self, slot: u32, request: u32) -> bool
+        requires slot { slot < MAX_REQUESTS }
+        requires request { 0 < request }
+        ensures told { PostsLoop B.posts self.old.loop slot request result self.new.loop }
+        ensures setting { self.new.setting ≡ self.old.setting }
+    {
+        self.host.shared.post(slot, request)
     }
 }

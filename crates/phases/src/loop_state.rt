@@ -199,6 +199,7 @@ impl LoopState {
         ensures order { option_map order_of result ≡ (next_order_of self.old).0 }
         ensures state { self.new ≡ (next_order_of self.old).1 }
         ensures lowest { IfSome result (λ o. IsLowestOpen o.request self.old.requests) }
+        ensures number { IfSome result (λ o. 0 < o.request) }
         ensures grows { Grows self.old self.new }
     {
         self.requests.keeps();

@@ -151,7 +151,6 @@ impl<B: Shared + Drop> LoopMachine<B> {
             store,
             stack,
             host,
-            place,
         };
         let did = BareDid::Ran {
             kind,

@@ -2,7 +2,7 @@
 
 ghost use Rattle.std.specs.Prelude.{ℕ, ◌<◌, ◌≤◌};
 ghost use Rattle.limits.specs.declared.TheConstants.{MAX_ASYNCS, MAX_REQUESTS, MAX_REQUEST_NUMBER};
-ghost use Rattle.phases.specs.Calls.{Calls, OtherCalls, IsLawful, AreBeside};
+ghost use Rattle.phases.specs.Calls.{Calls, OtherCalls, PostCall, IsLawful, AreBeside, PostLeaves};
 ghost use Rattle.phases.specs.View.{IsAbove};
 
 /// The claims and the send counts of one loop, as the loop uses them.
@@ -52,4 +52,17 @@ pub trait Beside: Shared {
         ensures { others.gets self.old async_no result self.new };
 
     ghost beside: { AreBeside Self.calls others };
+}
+
+/// An object whose requests can be started only once they are posted.
+pub trait Posting: Shared {
+    ghost posts: { PostCall Self };
+
+    /// Posts a request, whose order was handed out. Whether it is posted by this call. Requests are numbered from 1.
+    fn post(&mut self, slot: u32, request: u32) -> bool
+        requires slot { slot < MAX_REQUESTS }
+        requires request { 0 < request }
+        ensures { posts self.old slot request result self.new };
+
+    ghost leaves: { PostLeaves Self.calls posts };
 }

@@ -62,7 +62,7 @@ pub alike_known : (n : ℕ) (ps : List (Core Desk)) (us : List (Option StepUnder
 alike_known n ps us qs p u all at at_step =
     let it = alike_at n ps us qs p all at in
     let same : it.step ≡ u = (let both = sym it.at_step ∙ at_step in cc) in
-    (it.core, it.at_core, subst (λ x. Alike p x it.core) same it.alike)
+    (it.core, it.at_core, rw (← same) it.alike)
 
 -- one of each is set
 pub alike_set : (n : ℕ) (ps : List (Core Desk)) (us : List (Option StepUnderway)) (qs : List (Core Desk)) (p : Core Desk) (u : Option StepUnderway) (q : Core Desk)

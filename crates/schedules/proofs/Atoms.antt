@@ -69,20 +69,18 @@ module _ (joins : RunsJoin) (all : ℕ) (t : Threads) (ls : List (Core Desk)) (w
 
   -- a step begins
   begins : (n : ℕ) (told : List LogEntry) (t' : Threads) → BeginsStep t n told t' → On told t'
-  begins n told t' h = subst (λ x. On told x) (sym h.after) (subst (λ xs. On xs (record t { steps = slice_set t.steps n (Some h.step) })) (sym h.silent) (record {
+  begins n told t' h = rw (h.after, h.silent) (record {
     loops = ls;
     workers = ws;
     bag = bag;
     hand = hand;
     runs = run_none w used [] (λ l. refl);
     alike =
-        subst (λ ps. AllAlike ps (slice_set t.steps n (Some h.step)) ls) (set_same t.world.loops n p h.at)
-        (subst (λ qs. AllAlike (slice_set t.world.loops n p) (slice_set t.steps n (Some h.step)) qs) (set_same ls n q.0 q.1)
-        (alike_set n t.world.loops t.steps ls p (Some h.step) q.0 (behind_begun h.setting h.old h.step q.0 q.2 h.steps) alike));
+        rw (← (set_same t.world.loops n p h.at), ← (set_same ls n q.0 q.1)) (alike_set n t.world.loops t.steps ls p (Some h.step) q.0 (behind_begun h.setting h.old h.step q.0 q.2 h.steps) alike);
     hands = hands;
     jobs = jobs_are;
     room = more_room [];
-  })) where
+  }) where
     p : Core Desk
     p = core h.setting h.old
 
@@ -143,7 +141,7 @@ module _ (joins : RunsJoin) (all : ℕ) (t : Threads) (ls : List (Core Desk)) (w
         subst (λ xs. Runs w used (entry ∷ []) (beside t.world xs ws) used) (set-set ls n (core g after_step) (core g ended)) both
 
   ends : (n : ℕ) (told : List LogEntry) (t' : Threads) → EndsStep t n told t' → On told t'
-  ends n told t' h = subst (λ x. On told x) (sym h.after) (subst (λ xs. On xs next) (sym h.line) (record {
+  ends n told t' h = rw (h.after, h.line) (record {
     loops = slice_set ls n (core h.setting last);
     workers = ws;
     bag = bag;
@@ -153,7 +151,7 @@ module _ (joins : RunsJoin) (all : ℕ) (t : Threads) (ls : List (Core Desk)) (w
     hands = hands;
     jobs = jobs_are;
     room = more_room (entry_told n h.step.did h.step.state.emits ∷ []);
-  })) where
+  }) where
     last : Loop Desk
     last = record { state = h.step.state; store = h.step.store; shared = h.old.shared }
 
@@ -172,7 +170,7 @@ module _ (joins : RunsJoin) (all : ℕ) (t : Threads) (ls : List (Core Desk)) (w
       workers = ws;
       bag = bag;
       hand = hand;
-      runs = subst (λ x. Runs w used (entry ∷ []) x used) (sym (ap (λ x. beside x ls ws) is ∙ same)) (run_none w used (entry ∷ []) silent);
+      runs = rw (ap (λ x. beside x ls ws) is ∙ same) (run_none w used (entry ∷ []) silent);
       alike = loops;
       hands = workers;
       jobs = jobs ∙ jobs_are;
@@ -181,8 +179,8 @@ module _ (joins : RunsJoin) (all : ℕ) (t : Threads) (ls : List (Core Desk)) (w
 
     only : (told : LogEntry) → Silent told → Only t.world entry told r' → On (entry ∷ []) next
     only told silent h =
-        idle t.world h.1 refl (silent_as entry told h.0 silent) (subst (λ (x : World). AllAlike x.loops t.steps ls) (sym h.1) alike)
-        (subst (λ (x : World). AreHeld all bag hand x.workers ws) (sym h.1) hands) (ap (λ (x : World). x.jobs) h.1)
+        idle t.world h.1 refl (silent_as entry told h.0 silent) (rw h.1 alike)
+        (rw h.1 hands) (ap (λ (x : World). x.jobs) h.1)
 
     -- the owner of a loop
     owned : (n : ℕ) (s : Step) → IsBetween t n → Owned t.world r' n entry ls ws (λ w'. WorldStep w s entry w') → On (entry ∷ []) next
@@ -193,10 +191,8 @@ module _ (joins : RunsJoin) (all : ℕ) (t : Threads) (ls : List (Core Desk)) (w
       hand = hand;
       runs = run_one w (beside r' (slice_set ls n h.now) ws) s entry (entry ∷ []) used used h.moves (λ l. refl) (once_quiet used entry h.quiet);
       alike =
-          subst (λ ps. AllAlike ps t.steps (slice_set ls n h.now)) (sym h.loops)
-          (subst (λ us. AllAlike (slice_set t.world.loops n h.now) us (slice_set ls n h.now)) (set_same t.steps n None between)
-          (alike_set n t.world.loops t.steps ls h.now None h.now refl alike));
-      hands = subst (λ xs. AreHeld all bag hand xs ws) (sym h.workers) hands;
+          rw (h.loops, ← (set_same t.steps n None between)) (alike_set n t.world.loops t.steps ls h.now None h.now refl alike);
+      hands = rw h.workers hands;
       jobs = h.jobs ∙ jobs_are;
       room = more_room (entry ∷ []);
     }
@@ -226,12 +222,10 @@ module _ (joins : RunsJoin) (all : ℕ) (t : Threads) (ls : List (Core Desk)) (w
         workers = Ws;
         bag = bag ++ Some o ∷ [];
         hand = hand;
-        runs = subst (λ k. Runs w used (entry ∷ []) (beside r' Ls Ws) k) (sym long)
-            (run_join joins w posted (beside r' Ls Ws) used used (used + 1) (entry ∷ []) [] one two);
+        runs = rw long (run_join joins w posted (beside r' Ls Ws) used used (used + 1) (entry ∷ []) [] one two);
         alike =
-            subst (λ (x : World). AllAlike x.loops t.steps Ls) (sym after)
-            (subst (λ us. AllAlike (slice_set t.world.loops n now) us Ls) (set_same t.steps n None between) (alike_set n t.world.loops t.steps ls now None now refl alike));
-        hands = subst (λ (x : World). AreHeld all (bag ++ Some o ∷ []) hand x.workers Ws) (sym after) (hand_posts all bag hand t.world.workers ws hands o below);
+            rw (after, ← (set_same t.steps n None between)) (alike_set n t.world.loops t.steps ls now None now refl alike);
+        hands = rw after (hand_posts all bag hand t.world.workers ws hands o below);
         jobs = ap (λ (x : World). x.jobs) after ∙ ap (λ os. os ++ o ∷ []) jobs_are ∙ sym (waiting_push bag o);
         room = omega (arith, long, counts);
       } where
@@ -282,13 +276,10 @@ module _ (joins : RunsJoin) (all : ℕ) (t : Threads) (ls : List (Core Desk)) (w
       bag = slice_set bag it.place None;
       hand = handed hand n it.place;
       runs =
-          subst (λ k. Runs w used (entry ∷ []) (beside r' ls ws) k) (sym long)
-          (subst (λ x. Runs w used (entry ∷ []) x used) (sym (ap (λ x. beside x ls ws) h.after))
-          (run_none w used (entry ∷ []) (silent_as entry (line.Take n (Some (job_of h.job))) h.told (λ l. refl))));
-      alike = subst (λ (x : World). AllAlike x.loops t.steps ls) (sym h.after) alike;
+          rw (long, (ap (λ x. beside x ls ws) h.after)) (run_none w used (entry ∷ []) (silent_as entry (line.Take n (Some (job_of h.job))) h.told (λ l. refl)));
+      alike = rw h.after alike;
       hands =
-          subst (λ (x : World). AreHeld all (slice_set bag it.place None) (handed hand n it.place) x.workers ws) (sym h.after)
-          (hand_takes all bag hand t.world.workers ws hands n it.place h.job h.idle it.there);
+          rw h.after (hand_takes all bag hand t.world.workers ws hands n it.place h.job h.idle it.there);
       jobs = ap (λ (x : World). x.jobs) h.after ∙ sym it.rest;
       room = (let more = more_room (entry ∷ []) in omega (arith, long, more));
     } where
@@ -328,8 +319,8 @@ module _ (joins : RunsJoin) (all : ℕ) (t : Threads) (ls : List (Core Desk)) (w
       )
       begun_at (Some u) q at_q b =
           let given : o.request ≤ q.loop.state.requests.last = stands.workers (hand n) o (hands.held n (Taken o) held refl).1 q at_q in
-          let it = behind_started g l u q b c (subst (λ (x : State). o.request ≤ x.requests.last) b.state given) (sym moves.0) in
-          (it.0, subst (λ x. IsBehind (core g x) u (core q.setting (sharing q.loop (started q.loop.shared c)))) (sym begun_is) it.1)
+          let it = behind_started g l u q b c (rw (← b.state) given) (sym moves.0) in
+          (it.0, rw begun_is it.1)
 
       starts : On (entry ∷ []) next
       starts = record {
@@ -352,10 +343,9 @@ module _ (joins : RunsJoin) (all : ℕ) (t : Threads) (ls : List (Core Desk)) (w
         )
             (λ i. silent_as entry (line.Start n (start.Begun (job_of o))) told (λ j. refl) i) (once_quiet used line' (λ k. refl));
         alike =
-            subst (λ (x : World). AllAlike x.loops t.steps Ls) (sym after)
-            (subst (λ us. AllAlike (slice_set t.world.loops place (core g m)) us Ls) (set_same t.steps place it.step it.at_step)
+            rw after (subst (λ us. AllAlike (slice_set t.world.loops place (core g m)) us Ls) (set_same t.steps place it.step it.at_step)
             (alike_set place t.world.loops t.steps ls (core g m) it.step _ begun.1 alike));
-        hands = subst (λ (x : World). AreHeld all bag hand x.workers Ws) (sym after) (hand_goes all bag hand t.world.workers ws hands n (Taken o) (Started o) held refl);
+        hands = rw after (hand_goes all bag hand t.world.workers ws hands n (Taken o) (Started o) held refl);
         jobs = ap (λ (x : World). x.jobs) after ∙ jobs_are;
         room = more_room (entry ∷ []);
       } where
@@ -381,8 +371,8 @@ module _ (joins : RunsJoin) (all : ℕ) (t : Threads) (ls : List (Core Desk)) (w
     drops : (n : ℕ) (o : WorkOrder) → slice_get t.world.workers n ≡ Some (Taken o) → entry ≡ line.Start n (start.Dropped (job_of o)) → r' ≡ with_worker_at t.world n Idle → On (entry ∷ []) next
     drops n o held told after =
         idle (with_worker_at t.world n Idle) after refl (silent_as entry (line.Start n (start.Dropped (job_of o))) told (λ l. refl))
-        (subst (λ (x : World). AllAlike x.loops t.steps ls) (sym after) alike)
-        (subst (λ (x : World). AreHeld all bag hand x.workers ws) (sym after) (hand_drops all bag hand t.world.workers ws hands n (Taken o) held)) (ap (λ (x : World). x.jobs) after)
+        (rw after alike)
+        (rw after (hand_drops all bag hand t.world.workers ws hands n (Taken o) held)) (ap (λ (x : World). x.jobs) after)
 
     starts_if : (n : ℕ) (o : WorkOrder) (ok : Bool) (g : Setting) (l m : Loop Desk) → slice_get t.world.workers n ≡ Some (Taken o) → slice_get t.world.loops o.loop_no ≡ Some (core g l)
         → DeskStarts l.shared (o.slot, o.request) ok m.shared → m.state ≡ l.state → m.store ≡ l.store
@@ -418,8 +408,8 @@ module _ (joins : RunsJoin) (all : ℕ) (t : Threads) (ls : List (Core Desk)) (w
         },
       )
           (λ l. silent_as entry (line.Finish n (finish.Ended (job_of o) h.ending)) h.told (λ i. refl) l) (once_quiet used told (λ k. refl));
-      alike = subst (λ (x : World). AllAlike x.loops t.steps ls) (sym h.after) alike;
-      hands = subst (λ (x : World). AreHeld all bag hand x.workers Ws) (sym h.after) (hand_goes all bag hand t.world.workers ws hands n (Started o) Idle held refl);
+      alike = rw h.after alike;
+      hands = rw h.after (hand_goes all bag hand t.world.workers ws hands n (Started o) Idle held refl);
       jobs = ap (λ (x : World). x.jobs) h.after ∙ jobs_are;
       room = more_room (entry ∷ []);
     } where
@@ -447,17 +437,15 @@ module _ (joins : RunsJoin) (all : ℕ) (t : Threads) (ls : List (Core Desk)) (w
 
       alike_now : (q : Core Desk) → Alike (core g m) it.step q → AllAlike r'.loops t.steps (slice_set ls n q)
       alike_now q one =
-          subst (λ (x : World). AllAlike x.loops t.steps (slice_set ls n q)) (sym after)
-          (subst (λ us. AllAlike (slice_set t.world.loops n (core g m)) us (slice_set ls n q)) (set_same t.steps n it.step it.at_step)
-          (alike_set n t.world.loops t.steps ls (core g m) it.step q one alike))
+          rw (after, ← (set_same t.steps n it.step it.at_step)) (alike_set n t.world.loops t.steps ls (core g m) it.step q one alike)
 
       workers_now : AreHeld all bag hand r'.workers ws
-      workers_now = subst (λ (x : World). AreHeld all bag hand x.workers ws) (sym after) hands
+      workers_now = rw after hands
 
       -- the world does nothing yet, or never
       later : Alike (core g m) it.step it.core → On (entry ∷ []) next
       later one =
-          idle (with_loop t.world n g m) after refl silent (subst (λ qs. AllAlike r'.loops t.steps qs) (set_same ls n it.core it.at_core) (alike_now it.core one)) workers_now jobs
+          idle (with_loop t.world n g m) after refl silent (rw (← (set_same ls n it.core it.at_core)) (alike_now it.core one)) workers_now jobs
 
       -- or the same
       now_sent : DeskGets it.core.loop.shared a true m.shared → Alike (core g m) it.step (core it.core.setting (sharing it.core.loop m.shared)) → On (entry ∷ []) next
@@ -470,7 +458,7 @@ module _ (joins : RunsJoin) (all : ℕ) (t : Threads) (ls : List (Core Desk)) (w
             bag = bag;
             hand = hand;
             runs =
-                subst (λ x. Runs w used (entry ∷ []) x used) (sym (ap (λ x. beside x (slice_set ls n q) ws) after))
+                rw (ap (λ x. beside x (slice_set ls n q) ws) after)
                 (record { steps = done.steps; lines = done.lines; run = done.run; logs = λ i. done.logs i ∙ silent i; once = done.once });
             alike = alike_now q one;
             hands = workers_now;
@@ -481,13 +469,13 @@ module _ (joins : RunsJoin) (all : ℕ) (t : Threads) (ls : List (Core Desk)) (w
       sends : (ok : Bool) → DeskGets l.shared a ok m.shared → On (entry ∷ []) next
       sends false moves =
           let same : core g m ≡ core g l = ap (core g) (sent_is ∙ ap (sharing l) moves.1) in
-          later (subst (λ x. Alike x it.step it.core) (sym same) it.alike)
+          later (rw same it.alike)
       sends true moves = by it.step it.alike now_sent later where
         by : (u : Option StepUnderway) → Alike (core g l) u it.core
             → (DeskGets it.core.loop.shared a true m.shared → Alike (core g m) u (core it.core.setting (sharing it.core.loop m.shared)) → On (entry ∷ []) next)
             → (Alike (core g m) u it.core → On (entry ∷ []) next) → On (entry ∷ []) next
         by None same now later =
-            now (subst (λ (x : Core Desk). DeskGets x.loop.shared a true m.shared) (sym same) moves)
+            now (rw same moves)
             (ap (λ (x : Core Desk). core x.setting (sharing x.loop m.shared)) same ∙ ap (core g) (sym sent_is))
         by (Some u) b now later = received (behind_sent g l u it.core b a m.shared below moves) where
           received : Received g l u it.core b a m.shared → On (entry ∷ []) next
@@ -513,5 +501,4 @@ module _ (joins : RunsJoin) (all : ℕ) (t : Threads) (ls : List (Core Desk)) (w
   atom_runs (Next n) told t' room h = goes_on n told t' h
   atom_runs (End n) told t' room h = ends n told t' h
   atom_runs (Whole s) told t' room h =
-      subst (λ x. On told x) (sym h.after) (subst (λ xs. On xs (record t { world = h.world })) (sym h.line)
-      (whole h.entry h.world s (subst (λ xs. used + jobs_in xs ≤ all) h.line room) h.may h.step))
+      rw (h.after, h.line) (whole h.entry h.world s (subst (λ xs. used + jobs_in xs ≤ all) h.line room) h.may h.step)

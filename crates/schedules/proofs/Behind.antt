@@ -3,15 +3,16 @@ use Rattle.std.proofs.Common.{◌≡◌, ℕ, ◌<◌, ◌≤◌, true, inl, inr
 use Rattle.limits.specs.declared.TheConstants.{MAX_ASYNCS}
 use Rattle.phases.specs.State.{Setting, Loop, Core}
 use Rattle.phases.specs.Step.{StepsWith, sharing, over}
+use Rattle.phases.proofs.StepByStep.{steps_join}
 use Rattle.desk.specs.Desk.{Desk, desk_calls, is_open_request, started, DeskGets}
 use Rattle.world.specs.World.{core}
 use Rattle.schedules.specs.Accesses.{Access, AccessMoves, Reach, StepsBy}
 use Rattle.schedules.specs.Schedule.{StepUnderway}
 use Rattle.schedules.proofs.Alike.{IsBehind, AreLate}
 use Rattle.schedules.proofs.Numbers.{step_opens, others_front}
-use Rattle.schedules.proofs.SendsMoveBehind.{Gets, gets_more, gets_open, gets_started, moves_first, TakesFirst, takes_first, no_take_behind}
+use Rattle.schedules.proofs.SendsMoveBehind.{Got, Gets, gets_open, gets_started, moves_first, TakesFirst, takes_first, no_take_behind}
 use Rattle.schedules.proofs.StepsByAccess.{step_whole}
-use Rattle.schedules.proofs.StartsMoveBefore.{OpenOthers, StartsAhead, starts_ahead, reach_more}
+use Rattle.schedules.proofs.StartsMoveBefore.{OpenOthers, StartsAhead, starts_ahead}
 
 -- as the step begins
 pub behind_begun : (g : Setting) (l : Loop Desk) (u : StepUnderway) (q : Core Desk) → q ≡ core g l → StepsBy g l u.ahead u.did u.made u.state u.store → IsBehind (core g l) u q
@@ -37,10 +38,10 @@ module _ (g : Setting) (l : Loop Desk) (u : StepUnderway) (q : Core Desk) (b : I
     passes : (done : List Access) (late : List ℕ) (desk : Desk) → AreLate done late → Reach q.loop.shared done desk → Gets desk late l.shared → TakesFirst (done ++ a ∷ ahead) → Passed done
     passes [] late desk came reaches gets quiet =
         let same : l.shared ≡ desk = subst (λ xs. Gets desk xs l.shared) came gets in
-        ([], e, tt, reach_more q.loop.shared desk e [] a reaches (subst (λ x. AccessMoves x a e) same moves), refl)
+        ([], e, tt, steps_join AccessMoves [] (a ∷ []) q.loop.shared desk e reaches (e, subst (λ x. AccessMoves x a e) same moves, refl), refl)
     passes (x ∷ done) late desk came reaches gets quiet =
         let it = moves_first desk l.shared e late a (no_take_behind a x done ahead quiet) gets moves in
-        (late, it.0, tt, reach_more q.loop.shared desk it.0 (x ∷ done) a reaches it.1, it.2)
+        (late, it.0, tt, steps_join AccessMoves (x ∷ done) (a ∷ []) q.loop.shared desk it.0 reaches (it.0, it.1, refl), it.2)
 
     pub behind_next : u.ahead ≡ a ∷ ahead → IsBehind (core g (sharing l e)) (record u { ahead = ahead }) q
     behind_next is =
@@ -96,7 +97,7 @@ module _ (g : Setting) (l : Loop Desk) (u : StepUnderway) (q : Core Desk) (b : I
     by [] late desk came reaches gets steps =
         let same : l.shared ≡ desk = subst (λ xs. Gets desk xs l.shared) came gets in
         inl (
-          subst (λ x. DeskGets x a true e) (same ∙ reaches) moves,
+          rw (← (same ∙ reaches)) moves,
           record {
             setting = b.setting;
             state = b.state;
@@ -119,7 +120,7 @@ module _ (g : Setting) (l : Loop Desk) (u : StepUnderway) (q : Core Desk) (b : I
       came = tt;
       desk = desk;
       reaches = reaches;
-      gets = gets_more desk l.shared e late a gets below moves;
+      gets = steps_join Got late (a ∷ []) desk l.shared e gets (e, (below, moves), refl);
       steps = steps;
     })
 

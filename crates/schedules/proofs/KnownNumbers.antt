@@ -1,5 +1,5 @@
 -- What stands in a world: numbers that its loops gave, and no others.
-use Rattle.std.proofs.Common.{◌≡◌, ◌≢◌, ℕ, zero, suc, ◌+◌, ◌≤◌, ◌==◌, Bool, true, false, inl, inr, ◌⊎◌, List, [], ◌∷◌, ◌++◌, length, map, replicate, Option, Some}
+use Rattle.std.proofs.Common.{◌≡◌, ◌≢◌, ℕ, zero, suc, ◌+◌, ◌≤◌, ◌==◌, Bool, true, false, inl, inr, ◌⊎◌, List, [], ◌∷◌, ◌++◌, length, replicate, Option, Some}
 use Rattle.std.proofs.Common.{None, refl, sym, ap, subst, ◌∙◌, arith, MatchBool}
 use Rattle.std.specs.Prelude.{slice_get, slice_set}
 use Rattle.limits.specs.declared.TheConstants.{MAX_JOBS}
@@ -22,6 +22,7 @@ use Rattle.world_log.specs.declared.outcome.PostOutcome.TheVariants as post
 use Rattle.world.specs.Laws.{AreInPlace}
 use Rattle.world.specs.World.{World, Worker, Idle, Taken, Started, Answer, Only, UnlessFailed, PostsOrder, WorkerTakesJob, StartsJob, FinishesJob, CollectsFrom}
 use Rattle.world.specs.World.{WorldStep, opening_world, opening_loop, with_loop, with_worker_at, core}
+use Rattle.world.proofs.Sets.{made_of}
 use Rattle.schedules.proofs.Hands.{set_cases}
 use Rattle.schedules.proofs.Numbers.{AreOwn, Numbered, Kept, own_found, keeps_numbered, staged}
 
@@ -61,7 +62,7 @@ module _ (ls : List (Core Desk)) (n : ℕ) (g : Setting) (l m : Loop Desk) (at :
         let low = h (core g l) (ap (slice_get ls) it.0 ∙ at) in
         let more = numbered.risen in
         let most : o.request ≤ m.state.requests.last = omega (arith, low, more) in
-        subst (λ (x : Core Desk). o.request ≤ x.loop.state.requests.last) (sym it.1) most
+        rw it.1 most
     by (inr it) = h p it.1
 
   placed_moved : ((k : ℕ) (p : Core Desk) → slice_get ls k ≡ Some p → IsPlaced k p) → (k : ℕ) (p : Core Desk) → slice_get (slice_set ls n (core g m)) k ≡ Some p → IsPlaced k p
@@ -85,7 +86,7 @@ module _ (w w' : World) (s : Stands w) where
     by (inr it) = f o (s.workers k o it.1)
 
   same_given : w'.loops ≡ w.loops → (o : WorkOrder) → IsGiven w.loops o → IsGiven w'.loops o
-  same_given e o h = subst (λ ls. IsGiven ls o) (sym e) h
+  same_given e o h = rw e h
 
   same_loops : w'.loops ≡ w.loops → (n : ℕ) (p : Core Desk) → slice_get w'.loops n ≡ Some p → IsPlaced n p
   same_loops e n p at = s.loops n p (ap (λ ls. slice_get ls n) (sym e) ∙ at)
@@ -107,12 +108,12 @@ module _ (w w' : World) (s : Stands w) where
     start : Kept g l.state.requests.last [] l.state.requests
     start = let it = s.loops n (core g l) at in record {
       risen = omega arith;
-      own = subst (λ i. AreOwn i l.state.requests.last l.state.requests.outstanding) (sym it.place) it.own;
+      own = rw it.place it.own;
     }
 
     module _ (numbered : Numbered g.loop_no l.state.requests.last m.state.requests) where
       now_given : (o : WorkOrder) → IsGiven w.loops o → IsGiven w'.loops o
-      now_given o h = subst (λ ls. IsGiven ls o) (sym loops) (given_moved w.loops n g l m at numbered o h)
+      now_given o h = rw loops (given_moved w.loops n g l m at numbered o h)
 
       now_loops : (k : ℕ) (p : Core Desk) → slice_get w'.loops k ≡ Some p → IsPlaced k p
       now_loops k p at_p = placed_moved w.loops n g l m at numbered s.loops k p (ap (λ ls. slice_get ls k) (sym loops) ∙ at_p)
@@ -148,13 +149,13 @@ module _ (w w' : World) (s : Stands w) where
 
     found : (o.loop_no ≡ n) × (o.request ≤ l.state.requests.last)
     found =
-        subst (λ (y : WorkOrder). (y.loop_no ≡ n) × (y.request ≤ l.state.requests.last)) lowest.order
+        rw (← lowest.order)
         (own_found n l.state.requests.last (λ x. is_open_stage x.stage) l.state.requests.outstanding lowest.request lowest.lowest (s.loops n (core g l) at).own)
 
     before : IsGiven w.loops o
     before p at_p =
         (let same : core g l ≡ p = (let both = sym at ∙ ap (slice_get w.loops) (sym found.0) ∙ at_p in cc) in
-        subst (λ (x : Core Desk). o.request ≤ x.loop.state.requests.last) same found.1)
+        rw (← same) found.1)
 
     given : IsGiven w'.loops o
     given = now_given n g l m at loops numbered o before
@@ -186,7 +187,7 @@ module _ (w w' : World) (s : Stands w) where
       let it = s.loops n (core g l) at in
       subst (Numbered g.loop_no l.state.requests.last) (sym same) (record {
         risen = omega arith;
-        own = subst (λ i. AreOwn i l.state.requests.last l.state.requests.outstanding) (sym it.place) it.own;
+        own = rw it.place it.own;
       })
 
   starts : (n : ℕ) (o : WorkOrder) (ok : Bool) (g : Setting) (l m : Loop Desk) (entry told dropped : LogEntry) → slice_get w.workers n ≡ Some (Taken o)
@@ -260,16 +261,6 @@ module _ (w w' : World) (s : Stands w) where
       (ap (λ (x : World). x.jobs) k.1) (ap (λ (x : World). x.workers) k.1)) h.3
 
 -- as a world opens
-opening_placed : (k : ℕ) (gs : List Setting) → ((n : ℕ) (g : Setting) → slice_get gs n ≡ Some g → g.loop_no ≡ k + n) → (n : ℕ) (p : Core Desk)
-    → slice_get (map opening_loop gs) n ≡ Some p → IsPlaced (k + n) p
-opening_placed k [] placed n p at = absurd (cc)
-opening_placed k (g ∷ gs) placed zero p at = (
-    let same : opening_loop g ≡ p = cc in subst (IsPlaced (k + 0)) same (record { place = placed 0 g refl; own = tt })
-    )
-opening_placed k (g ∷ gs) placed (suc n) p at =
-    let e : k + 1 + n ≡ k + suc n = omega arith in
-    subst (λ i. IsPlaced i p) e (opening_placed (k + 1) gs (λ i x at_x. placed (suc i) x at_x ∙ (let f : k + suc i ≡ k + 1 + i = omega arith in f)) n p at)
-
 none_taken : (k n : ℕ) (o : WorkOrder) → slice_get (replicate k Idle) n ≡ Some (Taken o) → ⊥
 none_taken zero n o at = (cc)
 none_taken (suc k) zero o at = (cc)
@@ -277,7 +268,7 @@ none_taken (suc k) (suc n) o at = none_taken k n o at
 
 pub opening_stands : (settings : List Setting) (workers : ℕ) → AreInPlace settings → Stands (opening_world settings workers)
 opening_stands settings workers placed = record {
-  loops = λ n p at. let e : 0 + n ≡ n = omega arith in subst (λ i. IsPlaced i p) e (opening_placed 0 settings (λ i g at_g. placed i g at_g ∙ (let f : i ≡ 0 + i = omega arith in f)) n p at);
+  loops = λ n p at. let it = made_of opening_loop settings n p at in subst (IsPlaced n) it.2 (record { place = placed n it.0 it.1; own = tt });
   jobs = tt;
   workers = λ k o at. absurd (none_taken workers k o at);
 }

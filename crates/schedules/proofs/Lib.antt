@@ -12,3 +12,12 @@ pub mod KnownNumbers
 pub mod StartsMoveBefore
 pub mod RunsAreThreads
 pub mod Wholes
+pub mod FreeSlots
+pub mod ViewsGrow
+pub mod OwnDesk
+pub mod OwnRequests
+pub mod Along
+pub mod OwnRun
+pub mod OneRun
+pub mod ServedReplies
+pub mod ServedLoops

@@ -41,7 +41,7 @@ pub own_found : (n last : ℕ) (p : Request → Bool) (qs : List Request) (q : R
 own_found n last p [] q found h = absurd (cc)
 own_found n last p (x ∷ qs) q found h = by (p x) (λ is. own_found n last p qs q is h.2) found where
   by : (b : Bool) → (find p qs ≡ Some q → (q.order.loop_no ≡ n) × (q.order.request ≤ last)) → cond b (Some x) (find p qs) ≡ Some q → (q.order.loop_no ≡ n) × (q.order.request ≤ last)
-  by true rest is = (let same : x ≡ q = cc in subst (λ (y : Request). (y.order.loop_no ≡ n) × (y.order.request ≤ last)) same (h.0, h.1))
+  by true rest is = (let same : x ≡ q = cc in rw (← same) (h.0, h.1))
   by false rest is = rest is
 
 -- a loop's requests, once so many numbers were given

@@ -1,5 +1,5 @@
 -- Each run of a world as one of threads, in which nothing comes between the atomic steps of a loop's step.
-use Rattle.std.proofs.Common.{◌≡◌, ℕ, ◌==◌, Bool, true, false, cond, inl, inr, ◌⊎◌, List, [], ◌∷◌, ◌++◌, map, length, Option, Some, None, refl, sym, ap, subst, ◌∙◌}
+use Rattle.std.proofs.Common.{◌≡◌, ℕ, ◌==◌, Bool, true, false, cond, inl, inr, ◌⊎◌, List, [], ◌∷◌, ◌++◌, map, length, Option, Some, None, refl, sym, ap, ◌∙◌}
 use Rattle.std.proofs.Common.{arith, append_assoc, append-nil, MatchBool}
 use Rattle.std.specs.Prelude.{slice_get, slice_set}
 use Rattle.std.specs.List.{count_by}
@@ -28,7 +28,7 @@ use Rattle.schedules.proofs.StepsByAccess.{step_split}
 
 threads_join : (atoms more : List Atom) (log lines : List LogEntry) (t mid t' : Threads) → ThreadsRun t atoms log mid → ThreadsRun mid more lines t' → ThreadsRun t (atoms ++ more) (log ++ lines) t'
 threads_join [] more log lines t mid t' run behind =
-    subst (λ xs. ThreadsRun t more (xs ++ lines) t') (sym run.0) (subst (λ x. ThreadsRun x more lines t') run.1 behind)
+    rw (run.0, ← run.1) behind
 threads_join (a ∷ atoms) more log lines t mid t' run behind = (
   run.0,
   run.1,

@@ -1,5 +1,5 @@
 -- Runs of a world that tell what the threads tell, in which each worker takes one job at most.
-use Rattle.std.proofs.Common.{◌≡◌, ◌≢◌, ℕ, ◌+◌, ◌<◌, ◌≤◌, ◌==◌, Bool, true, false, cond, inl, inr, ◌⊎◌, List, [], ◌∷◌, ◌++◌, Some, refl, sym, ap, subst, ◌∙◌, arith}
+use Rattle.std.proofs.Common.{◌≡◌, ◌≢◌, ℕ, ◌+◌, ◌<◌, ◌≤◌, ◌==◌, Bool, true, false, cond, inl, inr, ◌⊎◌, List, [], ◌∷◌, ◌++◌, Some, refl, sym, ap, ◌∙◌, arith}
 use Rattle.std.specs.Prelude.{slice_get, slice_set}
 use Rattle.std.specs.List.{count_by}
 use Rattle.std.proofs.lemmas.Bool.{cases_lt, ne_eqb}
@@ -115,11 +115,11 @@ module _ (r : World) (ws : List Worker) (n used : ℕ) where
   pub run_sends : RunsJoin → (ls : List (Core Desk)) (p : Core Desk) (e : Desk) (late : List ℕ) → slice_get ls n ≡ Some p → Gets p.loop.shared late e → SentTo ls p e
   run_sends joins ls p e [] at h =
       let same : slice_set ls n (core p.setting (sharing p.loop e)) ≡ ls = ap (λ d. slice_set ls n (core p.setting (sharing p.loop d))) h ∙ set_same ls n p at in
-      subst (λ xs. Runs (beside r ls ws) used [] (beside r xs ws) used) (sym same) (run_none (beside r ls ws) used [] (λ l. refl))
+      rw same (run_none (beside r ls ws) used [] (λ l. refl))
   run_sends joins ls p e (a ∷ late) at h =
       let mid : Core Desk = core p.setting (sharing p.loop h.0) in
-      let one = run_send ls p h.0 a at h.1 h.2 in
-      let rest = run_sends joins (slice_set ls n mid) mid e late (set_here ls n mid p at) h.3 in
+      let one = run_send ls p h.0 a at h.1.0 h.1.1 in
+      let rest = run_sends joins (slice_set ls n mid) mid e late (set_here ls n mid p at) h.2 in
       let last = slice_set (slice_set ls n mid) n (core p.setting (sharing p.loop e)) in
-      subst (λ xs. Runs (beside r ls ws) used [] (beside r xs ws) used) (set-set ls n mid (core p.setting (sharing p.loop e)))
+      rw (← (set-set ls n mid (core p.setting (sharing p.loop e))))
       (run_join joins (beside r ls ws) (beside r (slice_set ls n mid) ws) (beside r last ws) used used used [] [] one rest)

@@ -6,6 +6,8 @@ use Rattle.events.specs.declared.did.StepDid.{StepDid}
 use Rattle.phases.specs.Guests.{GuestCall}
 use Rattle.phases.specs.State.{Setting, State, Loop}
 use Rattle.phases.specs.Step.{over}
+use Rattle.phases.specs.StepByStep.{StepByStep}
+use Rattle.phases.proofs.StepByStep.{steps_keep}
 use Rattle.tallies.specs.Counts.{raised}
 use Rattle.tallies.specs.Requests.{times}
 use Rattle.desk.specs.Desk.{Desk, is_open_request, opened, cancelled, found_started, started, sent_own, sent_by_another, DeskCancels, DeskSends, DeskGets}
@@ -14,23 +16,21 @@ use Rattle.phases.proofs.CallMoves.{Touch, Stays, ToOpen, ToCancel, ToSend}
 use Rattle.phases.proofs.StepGoes.{TakesOwn}
 use Rattle.phases.proofs.Mirroring.{Chain, step_retraced}
 
--- others sent to these asyncs, one after another
-abbrev pub Gets : Desk → List ℕ → Desk → Type 0
-Gets d [] e = e ≡ d
-Gets d (a ∷ late) e = (mid : Desk) × (a < MAX_ASYNCS) × DeskGets d a true mid × Gets mid late e
+-- another thread sent to this async, and others to these, one after another
+abbrev pub Got : Desk → ℕ → Desk → Type 0
+Got d a e = (a < MAX_ASYNCS) × DeskGets d a true e
 
-pub gets_more : (d mid e : Desk) (late : List ℕ) (a : ℕ) → Gets d late mid → a < MAX_ASYNCS → DeskGets mid a true e → Gets d (late ++ a ∷ []) e
-gets_more d mid e [] a h below moves = (e, below, subst (λ x. DeskGets x a true e) h moves, refl)
-gets_more d mid e (b ∷ late) a h below moves = (h.0, h.1, h.2, gets_more h.0 mid e late a h.3 below moves)
+abbrev pub Gets : Desk → List ℕ → Desk → Type 0
+Gets d late e = StepByStep Got late d e
 
 -- what is open stays so, and a start is the same before and behind
 pub gets_open : (c : ℕ × ℕ) (d e : Desk) (late : List ℕ) → Gets d late e → is_open_request e c ≡ is_open_request d c
-gets_open c d e [] h = ap (λ x. is_open_request x c) h
-gets_open c d e (a ∷ late) h = gets_open c h.0 e late h.3 ∙ ap (λ x. is_open_request x c) h.2.1
+gets_open c d e late h =
+    steps_keep Got (λ sent x. is_open_request x c ≡ is_open_request d c) (λ a sent x y got was. ap (λ z. is_open_request z c) got.1.1 ∙ was) [] late d e h refl
 
 pub gets_started : (c : ℕ × ℕ) (d e : Desk) (late : List ℕ) → Gets d late e → Gets (started d c) late (started e c)
 gets_started c d e [] h = ap (λ x. started x c) h
-gets_started c d e (a ∷ late) h = (started h.0 c, h.1, (h.2.0, ap (λ x. started x c) h.2.1), gets_started c h.0 e late h.3)
+gets_started c d e (a ∷ late) h = (started h.0 c, (h.1.0, (h.1.1.0, ap (λ x. started x c) h.1.1.1)), gets_started c h.0 e late h.2)
 
 -- the access takes nothing
 abbrev pub IsNoTake : Access → Type 0
@@ -78,11 +78,11 @@ module _ (d m e : Desk) (b : ℕ) (got : DeskGets d b true m) where
   one_first (Takes a count) quiet h = absurd quiet
 
 pub moves_first : (d m e : Desk) (late : List ℕ) (a : Access) → IsNoTake a → Gets d late m → AccessMoves m a e → (mid : Desk) × AccessMoves d a mid × Gets mid late e
-moves_first d m e [] a quiet h moves = (e, subst (λ x. AccessMoves x a e) h moves, refl)
+moves_first d m e [] a quiet h moves = (e, rw (← h) moves, refl)
 moves_first d m e (b ∷ late) a quiet h moves =
-    let rest = moves_first h.0 m e late a quiet h.3 moves in
-    let one = one_first d h.0 rest.0 b h.2 a quiet rest.1 in
-    (one.0, one.1, (rest.0, h.1, one.2, rest.2))
+    let rest = moves_first h.0 m e late a quiet h.2 moves in
+    let one = one_first d h.0 rest.0 b h.1.1 a quiet rest.1 in
+    (one.0, one.1, (rest.0, (h.1.0, one.2), rest.2))
 
 -- a step takes what waits at an async first, or not at all
 abbrev pub NoTakes : List Access → Type 0

@@ -168,8 +168,3 @@ starts_ahead c d e (a ∷ rest) others stands h =
     let behind = starts_ahead c h.0 e rest others.1 stands h.2 in
     let one = one_ahead c d h.0 behind.open_before a others.0 h.1 in
     record { open_before = one.open_before; reaches = (started h.0 c, one.moves, behind.reaches) }
-
--- one access more
-pub reach_more : (d mid e : Desk) (accesses : List Access) (a : Access) → Reach d accesses mid → AccessMoves mid a e → Reach d (accesses ++ a ∷ []) e
-reach_more d mid e [] a h moves = (e, subst (λ x. AccessMoves x a e) h moves, refl)
-reach_more d mid e (b ∷ rest) a h moves = (h.0, h.1, reach_more h.0 mid e rest a h.2 moves)

@@ -1,5 +1,5 @@
 -- A step of a loop over its desk, as a step by its accesses.
-use Rattle.std.proofs.Common.{◌≡◌, ℕ, List, [], ◌∷◌, Option, Some, None, refl, sym, subst}
+use Rattle.std.proofs.Common.{◌≡◌, ℕ, List, [], ◌∷◌, Option, Some, None, refl, subst}
 use Rattle.instance.specs.Store.{Store}
 use Rattle.events.specs.declared.did.StepDid.{StepDid}
 use Rattle.phases.specs.Guests.{GuestCall}
@@ -35,7 +35,7 @@ step_whole g old accesses did made state store e d steps leads =
     let it =
     step_mirrors listed_calls desk_calls g Anyhow (Leads e) (leading e) (over accesses old) did made
     (record { state = state; store = store; shared = [] }) d (λ async_no handle is. tt) leads steps in
-    subst (λ x. StepsWith desk_calls g (over d old) did made (record { state = state; store = store; shared = x })) (sym it.2) it.1
+    rw it.2 it.1
 
 -- what a guest's calls do, as accesses
 abbrev accesses_of : List Touch → List Access
@@ -65,13 +65,13 @@ listed_first (Some taken) rest = refl
 -- and they lead from desk to desk
 reached : (touches : List Touch) (d e : Desk) → Chain desk_calls touches d e → Reach d (accesses_of touches) e
 reached [] d e h = h
-reached (Stays ∷ rest) d e h = subst (λ x. Reach x (accesses_of rest) e) h.1 (reached rest h.0 e h.2)
+reached (Stays ∷ rest) d e h = rw (← h.1) (reached rest h.0 e h.2)
 reached (ToOpen slot request ∷ rest) d e h = (h.0, h.1, reached rest h.0 e h.2)
 reached (ToCancel slot request won ∷ rest) d e h = (h.0, h.1, reached rest h.0 e h.2)
 reached (ToSend async_no ok ∷ rest) d e h = (h.0, h.1, reached rest h.0 e h.2)
 
 reached_first : (old : Loop Desk) (taken : Option (ℕ × ℕ)) (mid e : Desk) (rest : List Access) → TakesOwn desk_calls old taken mid → Reach mid rest e → Reach old.shared (taken_first taken rest) e
-reached_first old None mid e rest same h = subst (λ x. Reach x rest e) same h
+reached_first old None mid e rest same h = rw (← same) h
 reached_first old (Some taken) mid e rest took h = (mid, took.1, h)
 
 -- a step over the desk is a step by some accesses, which lead from the desk to the next

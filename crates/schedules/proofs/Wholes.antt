@@ -3,10 +3,10 @@ use Rattle.std.proofs.Common.{◌≡◌, ℕ, ◌+◌, ◌≤◌, List, [], ◌�
 use Rattle.order.specs.Work.{WorkOrder}
 use Rattle.phases.specs.State.{Setting, Core}
 use Rattle.desk.specs.Desk.{Desk}
-use Rattle.world_log.specs.declared.step.Step.{Step}
 use Rattle.world_log.specs.declared.entry.LogEntry.{LogEntry}
 use Rattle.world.specs.Laws.{AreInPlace, RunsJoin}
-use Rattle.world.specs.World.{World, Worker, Idle, WorldRun, opening_loop}
+use Rattle.world.specs.World.{Worker, Idle, opening_loop}
+use Rattle.world.proofs.GuestsOfRuns.{kept_in_run}
 use Rattle.schedules.specs.Laws.{HasWorld, jobs_in, is_post_entry}
 use Rattle.schedules.specs.Schedule.{Threads, Atom, ThreadsRun, opening_threads}
 use Rattle.schedules.proofs.Alike.{AllAlike, alike_between, alike_open}
@@ -14,12 +14,6 @@ use Rattle.schedules.proofs.Atoms.{atom_runs}
 use Rattle.schedules.proofs.Hands.{AreHeld, waiting, hands_open}
 use Rattle.schedules.proofs.RunsOfOneJobEach.{beside, Runs, run_none, run_join, count_append}
 use Rattle.schedules.proofs.KnownNumbers.{Stands, step_stands, opening_stands}
-
-run_stands : (steps : List Step) (lines : List LogEntry) (w w' : World) → WorldRun w steps lines w' → Stands w → Stands w'
-run_stands [] [] w w' run s = subst Stands (sym run) s
-run_stands [] (e ∷ lines) w w' run s = absurd run
-run_stands (st ∷ steps) [] w w' run s = absurd run
-run_stands (st ∷ steps) (e ∷ lines) w w' run s = run_stands steps lines run.0 w' run.2 (step_stands w run.0 s st e run.1)
 
 -- the run of a world that stands as the threads do, to where it does so again
 record Ran (all : ℕ) (t : Threads) (ls : List (Core Desk)) (ws : List Worker) (used : ℕ) (log : List LogEntry) (t' : Threads) : Type 0 where
@@ -44,7 +38,9 @@ module _ (joins : RunsJoin) (all : ℕ) where
   ran (a ∷ atoms) t ls ws bag hand log t' alike hands jobs stands room h =
       let split : jobs_in log ≡ jobs_in h.1 + jobs_in h.2 = ap jobs_in h.5 ∙ count_append is_post_entry h.1 h.2 in
       let one = atom_runs joins all t ls ws bag hand alike hands jobs stands a h.1 h.0 (omega (arith, room, split)) h.3 in
-      let next : Stands (beside h.0.world one.loops one.workers) = run_stands one.runs.steps one.runs.lines (beside t.world ls ws) (beside h.0.world one.loops one.workers) one.runs.run stands in
+      let next : Stands (beside h.0.world one.loops one.workers) =
+      kept_in_run 0 (λ w log made. Stands w) (λ w log made s entry w' m was. step_stands w w' was s entry m) (beside t.world ls ws) [] [] one.runs.steps one.runs.lines
+      (beside h.0.world one.loops one.workers) one.runs.run stands in
       let less = one.room in
       let rest = ran atoms h.0 one.loops one.workers one.bag one.hand h.2 t' one.alike one.hands one.jobs next (omega (arith, room, split, less)) h.4 in
       record {

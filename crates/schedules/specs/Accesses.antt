@@ -6,6 +6,7 @@ use Rattle.phases.specs.Calls.{Calls}
 use Rattle.phases.specs.Guests.{GuestCall}
 use Rattle.phases.specs.State.{Setting, Loop, State}
 use Rattle.phases.specs.Step.{StepsWith, over}
+use Rattle.phases.specs.StepByStep.{StepByStep}
 use Rattle.phases.specs.View.{new_view}
 use Rattle.desk.specs.Desk.{Desk, desk_calls}
 
@@ -26,8 +27,7 @@ AccessMoves d (Takes async_no count) e = desk_calls.takes d async_no count e
 
 -- the accesses, one after another, lead from one desk to another
 abbrev pub Reach : Desk → List Access → Desk → Type 0
-Reach d [] e = e ≡ d
-Reach d (a ∷ rest) e = (mid : Desk) × AccessMoves d a mid × Reach mid rest e
+Reach d accesses e = StepByStep AccessMoves accesses d e
 
 -- A list of accesses in the place of a shared object: each call is the front one, with the answer that stands there, and
 -- takes it off the list. What such an object would know is not asked.

@@ -1,3 +1,5 @@
 pub mod Accesses
 pub mod Laws
 pub mod Schedule
+pub mod Served
+pub mod Together

@@ -1,6 +1,11 @@
 //! Laws of what loops and workers do in threads. Their functions do nothing: each contract is the law.
 
 ghost use Rattle.schedules.specs.Laws.{AfterOnceInSchedule, IsAsInWorld, IsOfThreads, IsSplit};
+ghost use Rattle.schedules.specs.Served.{IsInThreads};
+ghost use Rattle.schedules.specs.Together.{AreOneRun};
+
+use phases::Shared;
+use pool::Seats;
 
 /// A step of a loop over its desk is one that makes some accesses, which lead from that desk to the next; and each such
 /// is a step over the desk. So splitting a step into its accesses loses none, and adds none where nothing comes between.
@@ -33,4 +38,22 @@ pub fn of_threads()
 {
     world::laws::after_once();
     world::laws::runs_join();
+}
+
+/// What loops did, each over an object of its own to which nobody else sends, is one run of threads, and so one of a world, in
+/// which the log of each loop is the lines of what that loop did, and which leaves each loop as it stands, where what a loop
+/// has found started, and each reply that it has taken, stands behind the hand-out of its order.
+pub fn one_run<B: Shared>()
+    ensures { AreOneRun B.calls }
+{
+    as_in_world();
+    of_threads();
+    world::laws::runs_join();
+}
+
+/// So where `serve` gives one account of all its threads, its very histories are one run of threads, and so one of a world.
+pub fn of_serve()
+    ensures { IsInThreads }
+{
+    one_run::<Seats<'_>>();
 }

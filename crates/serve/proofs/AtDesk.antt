@@ -1,5 +1,5 @@
 -- The history of a thread's loop at a desk.
-use Rattle.std.proofs.Common.{◌≡◌, ℕ, ◌+◌, List, [], ◌∷◌, refl, sym, subst}
+use Rattle.std.proofs.Common.{◌≡◌, ℕ, ◌+◌, List, [], ◌∷◌, refl, sym, ap, subst}
 use Rattle.std.specs.Prelude.{slice_index}
 use Rattle.std.proofs.Math.Logic.{∥∥₁_map}
 use Rattle.phases.specs.History.{Event, CancelAnswered, RequestAnswered, MovedBeside, EventStep}
@@ -31,17 +31,19 @@ module _ (g : Setting) where
       ((record { event = e; new = h.0 }) ∷ rest.0, (h.1, rest.1), (refl, h.2, rest.2))
 
   -- what a thread does of its own, it does at the desk
-  own_goes : (e : Event) (old new : Loop Seats) (d mid : Desk) → IsByThread e old.state → GoesAtDesk g e old new d mid → EventStep busy_calls g e (over d old) (over mid new)
-  own_goes (CancelAnswered request answer) old new d mid own h = absurd own
-  own_goes (RequestAnswered op bytes answer) old new d mid own h = absurd own
-  own_goes MovedBeside old new d mid own h = absurd own
-  own_goes _ old new d mid own h = h
+  own_goes : (e : Event) (old new : Loop Seats) (d mid : Desk) → IsByThread e old.state → EventStep thread_calls g e old new → GoesAtDesk g e old new d mid
+      → EventStep busy_calls g e (over d old) (over mid new)
+  own_goes (CancelAnswered request answer) old new d mid own step h = absurd own
+  own_goes (RequestAnswered op bytes answer) old new d mid own step h = absurd own
+  own_goes MovedBeside old new d mid own step h = record { view = ap busy_calls.view h; state = step.state; store = step.store }
+  own_goes _ old new d mid own step h = h
 
   goes_on : (events : List Event) (passed : List (Passed Seats)) (old now : Loop Seats) (d e : Desk) → PassesThrough thread_calls g old passed now → AreOwn events old passed
       → PassesAtDesk g old passed d e → ThreadHistory busy_calls g (over d old) events (over e now)
   goes_on [] [] old now d e h own goes = λ i. over (goes i) (h i)
   goes_on (event ∷ events) (p ∷ passed) old now d e h own goes =
-      let one = own_goes event old p.new d goes.0 own.1 (subst (λ x. GoesAtDesk g x old p.new d goes.0) own.0 goes.1) in
+      let step = subst (λ x. EventStep thread_calls g x old p.new) own.0 h.0 in
+      let one = own_goes event old p.new d goes.0 own.1 step (subst (λ x. GoesAtDesk g x old p.new d goes.0) own.0 goes.1) in
       (over goes.0 p.new, one, own.1, goes_on events passed p.new now goes.0 e h.1 own.2 goes.2)
   goes_on [] (p ∷ passed) old now d e h own goes = absurd own
   goes_on (event ∷ events) [] old now d e h own goes = absurd own

@@ -85,7 +85,7 @@ module _ (once : IsAfterOnce thread_calls) (own : IsAfterOwn thread_calls) (last
     g = setting_at loaded serving k
 
     ended : (ended : HasEnded thread_calls g s.ending s.emits.items) × (ended.done.events ≡ events)
-    ended = run.each k s events served_at at
+    ended = let it = run.each k s events served_at at in (it.0, it.1)
 
     ends : EndsAfterOnce g s.ending s.emits.items
     ends = ends_once once own last g s.ending s.emits.items ended.0

@@ -21,6 +21,7 @@ module _ {J : Type 0} (ticket : J → Ticket) (t : LoopThread J) where
   did ending ends tied = record {
     ended = record { now = t.recorded.core.loop; ran = t.recorded.ran; few = t.recorded.few; done = tied.done; ends = ends };
     tied = subst (λ n. IsTied ticket n t.pass [] tied.done.events) (sym t.numbered) (tied_less ticket t.loop_no t.pass (option_to_list t.kept) tied.done.events tied.tied);
+    found = tied.behind.found;
   }
 
   pub loop_ends : (ending : LoopEnding) (served : Served) → served.loop_no ≡ t.loop_no → served.ending ≡ ending → served.emits ≡ t.recorded.emits → EndsBy thread_calls ending t.recorded.core.loop t.recorded.ran → IsTiedSoFar ticket t

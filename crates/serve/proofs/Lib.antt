@@ -10,6 +10,7 @@ pub mod NumberedLists
 pub mod Offered
 pub mod OneEventMore
 pub mod Placing
+pub mod PostsBehind
 pub mod Promised
 pub mod Seats
 pub mod SentAlone

@@ -26,7 +26,7 @@ use Rattle.phases.specs.declared.loop_core.Accepted.{Accepted}
 use Rattle.phases.specs.declared.loop_core.Accepted.TheVariants as accepted
 use Rattle.phases.specs.Accepting.{Accepts}
 use Rattle.phases.specs.Guests.{GuestCall}
-use Rattle.phases.specs.History.{Event, Stepped, OrderAsked, EndOffered, ClockRaised, EventStep, IsOpening, emits_in, emitted}
+use Rattle.phases.specs.History.{Event, Stepped, OrderAsked, EndOffered, ClockRaised, MovedBeside, EventStep, IsOpening, emits_in, emitted}
 use Rattle.phases.specs.Outside.{next_order_of, clock_in, after_clock}
 use Rattle.phases.specs.PhaseList.{begin_list, hint_of}
 use Rattle.phases.specs.Roster.{opening_roster}
@@ -39,6 +39,7 @@ use Rattle.serve.specs.Histories.{HasDone, HasEnded, HasServed, EndsBy, ThreadHi
 use Rattle.serve.specs.declared.record.LoopRecord.{LoopRecord}
 use Rattle.serve.specs.Inner.Alone.{IsAlone}
 use Rattle.serve.specs.Inner.Ends.{offered_in}
+use Rattle.serve.specs.Inner.Posts.{posts_none}
 use Rattle.serve.specs.Inner.Moves.{MovesBy, MovesAlone, RecordHandsOut, IsOffered}
 
 -- to raise the clock to 0 is to read it
@@ -48,9 +49,15 @@ clock_read status.Running n = omega arith
 clock_read status.Over n = omega arith
 
 module _ (g : Setting) where
+  -- events from where a loop stands
+  abbrev pub from_here : (more : List Event) (old mid new : Loop Seats) → mid ≡ old → ThreadHistory thread_calls g mid more new → ThreadHistory thread_calls g old more new
+  from_here [] old mid new same h = h ∙ same
+  from_here (e ∷ more) old mid new same h =
+      (h.0, subst (λ l. EventStep thread_calls g e l h.0) same h.1, subst (λ (l : Loop Seats). IsByThread e l.state) same h.2, h.3)
+
   -- events, and then more events
-  pub then_more : (events more : List Event) (old mid new : Loop Seats) → ThreadHistory thread_calls g old events mid → ThreadHistory thread_calls g mid more new → ThreadHistory thread_calls g old (events ++ more) new
-  then_more [] more old mid new h rest = subst (λ l. ThreadHistory thread_calls g l more new) h rest
+  abbrev pub then_more : (events more : List Event) (old mid new : Loop Seats) → ThreadHistory thread_calls g old events mid → ThreadHistory thread_calls g mid more new → ThreadHistory thread_calls g old (events ++ more) new
+  then_more [] more old mid new h rest = from_here more old mid new h rest
   then_more (e ∷ events) more old mid new h rest = (h.0, h.1, h.2, then_more events more h.0 mid new h.3 rest)
 
 pub emitted_append : (events more : List Event) → emitted (events ++ more) ≡ emitted events ++ emitted more
@@ -64,6 +71,11 @@ pub offered_append : (events more : List Event) → offered_in (events ++ more) 
 offered_append [] more = refl
 offered_append (EndOffered o end taken ∷ events) more = ap (λ xs. (o, end) ∷ xs) (offered_append events more)
 offered_append (_ ∷ events) more = offered_append events more
+
+pub none_append : (events more : List Event) → posts_none events → posts_none more → posts_none (events ++ more)
+none_append [] more h k = k
+none_append (MovedBeside ∷ events) more h k = absurd h
+none_append (_ ∷ events) more h k = none_append events more h k
 
 -- some moves, and then more
 pub moves_then : (old mid new : LoopRecord) (events more : List Event) → MovesBy old events mid → MovesBy mid more new → MovesBy old (events ++ more) new
@@ -79,6 +91,7 @@ alone_then old mid new h rest = record {
   events = h.events ++ rest.events;
   moves = moves_then old mid new h.events rest.events h.moves rest.moves;
   none = offered_append h.events rest.events ∙ ap (λ xs. xs ++ offered_in rest.events) h.none ∙ rest.none;
+  unposted = none_append h.events rest.events h.unposted rest.unposted;
 }
 
 pub no_move : (old new : LoopRecord) → new.core.setting ≡ old.core.setting → new.core.loop ≡ old.core.loop → new.ran ≡ old.ran → new.emits.items ≡ old.emits.items → MovesAlone old new
@@ -86,6 +99,7 @@ no_move old new setting same ran emits = record {
   events = [];
   moves = record { setting = setting; history = same; counted = (omega (arith, ran)); told = emits ∙ sym (append-nil old.emits.items) };
   none = refl;
+  unposted = tt;
 }
 
 -- a step that runs no callback
@@ -124,6 +138,7 @@ module _ (old new : LoopRecord) (same : new.core.setting ≡ old.core.setting) w
         events = Stepped (did.Ran kind number ended) new.core.loop.state.emits ran_it.0 ∷ [];
         moves = moves_one (Stepped (did.Ran kind number ended) new.core.loop.state.emits ran_it.0) (ran_it.1, refl) tt count more;
         none = refl;
+        unposted = tt;
       }
 
   -- a step that runs none
@@ -134,6 +149,7 @@ module _ (old new : LoopRecord) (same : new.core.setting ≡ old.core.setting) w
         events = Stepped told new.core.loop.state.emits step.0 ∷ [];
         moves = moves_quiet (Stepped told new.core.loop.state.emits step.0) it.0 it.1 (step.1, refl) tt count kept;
         none = refl;
+        unposted = tt;
       } where
         quiet : (d : StepDid) (made : List GuestCall) → RunsNone d
             → (is_callback_event (Stepped d new.core.loop.state.emits made) ≡ false) × (emits_in (Stepped d new.core.loop.state.emits made) ≡ [])
@@ -143,6 +159,11 @@ module _ (old new : LoopRecord) (same : new.core.setting ≡ old.core.setting) w
   pub moves_order : (order : Option Order) → option_map order_of order ≡ (next_order_of old.core.loop.state).0 → new.core.loop ≡ record old.core.loop { state = (next_order_of old.core.loop.state).1 }
       → new.ran ≡ old.ran → new.emits.items ≡ old.emits.items → RecordHandsOut old order new
   moves_order order handed is count kept = moves_quiet (OrderAsked (option_map order_of order)) refl refl (handed, is) tt count kept
+
+  -- a request is posted
+  pub moves_beside : thread_calls.view new.core.loop.shared ≡ thread_calls.view old.core.loop.shared → new.core.loop.state ≡ old.core.loop.state → new.core.loop.store ≡ old.core.loop.store
+      → new.ran ≡ old.ran → new.emits.items ≡ old.emits.items → MovesBy old (MovedBeside ∷ []) new
+  moves_beside view state store count kept = moves_quiet MovedBeside refl refl (record { view = view; state = state; store = store }) tt count kept
 
   pub moves_accept : (reply : Reply) (a : Accepted) → Accepts reply old.core.loop a new.core.loop → new.ran ≡ old.ran → new.emits.items ≡ old.emits.items → IsOffered old reply new
   moves_accept reply accepted.Accepted h count kept =
@@ -163,6 +184,7 @@ module _ (old new : LoopRecord) (same : new.core.setting ≡ old.core.setting) w
         events = ClockRaised ms ∷ [];
         moves = moves_quiet (ClockRaised ms) refl refl from_l (none, still, (d, hint, moment)) count kept;
         none = refl;
+        unposted = tt;
       }
 
 -- a reply that is offered leaves what the loop shares, its handles and its phase

@@ -103,7 +103,7 @@ takes_alone t u a n h alone = (
   ]
 
 -- an object of which nothing is known
-abbrev nothing_known : Calls (Unit {0})
+abbrev pub nothing_known : Calls (Unit {0})
 nothing_known = record {
   view = λ s. new_view 0;
   opens = λ s slot request t. Unit {0};

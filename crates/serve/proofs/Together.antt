@@ -21,6 +21,7 @@ use Rattle.phases.specs.State.{Setting}
 use Rattle.pool.specs.Turns.{Turn, Put, ticket_in, started_by, put_for}
 use Rattle.serve.specs.declared.served.Served.{Served}
 use Rattle.serve.specs.declared.serving.Serving.{Serving}
+use Rattle.serve.specs.HandedOut.{FoundBehind, passed_of}
 use Rattle.serve.specs.Histories.{HasEnded, thread_calls, setting_at}
 use Rattle.serve.specs.Inner.Ends.{offer_of, offered_in, IsTied, DidTurns, DidEvents, WorkerEnds, LoopEnds}
 use Rattle.serve.specs.Inner.Places.{EachPair}
@@ -190,11 +191,13 @@ module _ {J : Type 0} (ticket : J → Ticket) (loaded : Loaded) (serving : Servi
 
     each : (k : ℕ) (s : Served) (events : List Event) → slice_get served k ≡ Some s → slice_get loops k ≡ Some events
         → (ended : HasEnded thread_calls (setting_at loaded serving k) s.ending s.emits.items) × (ended.done.events ≡ events)
+        × FoundBehind [] (passed_of (setting_at loaded serving k) ended.done)
     each k s events at e =
         let f = found DidLoop events_of 0 k served lp ls events e in
         let same : f.0.x ≡ s = same_Some f.0.x s (sym f.0.first ∙ at) in
-        let P : ℕ → Served → Type 0 = λ n x. (ended : HasEnded thread_calls (setting_at loaded serving n) x.ending x.emits.items) × (ended.done.events ≡ events) in
-        subst (λ n. P n s) (let p = f.1 in omega arith) (subst (P f.0.place) same (f.0.known.ended, f.0.is))
+        let P : ℕ → Served → Type 0 = λ n x. (ended : HasEnded thread_calls (setting_at loaded serving n) x.ending x.emits.items) × (ended.done.events ≡ events)
+        × FoundBehind [] (passed_of (setting_at loaded serving n) ended.done) in
+        subst (λ n. P n s) (let p = f.1 in omega arith) (subst (P f.0.place) same (f.0.known.ended, f.0.is, f.0.known.found))
 
     offered : (k : ℕ) (events : List Event) → slice_get loops k ≡ Some events → (t : Ticket) → count_by (is_offered t) events ≤ times_in (puts t) workers
     offered k events e t =

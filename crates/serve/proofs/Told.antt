@@ -8,14 +8,16 @@ use Rattle.order.specs.declared.order.Order.{Order}
 use Rattle.order.specs.declared.reply.Reply.{Reply}
 use Rattle.board.specs.Jobs.{ticket_of}
 use Rattle.board.specs.Boards.{BoardView, PassView, IsNewPass, Posts, Collects}
-use Rattle.phases.specs.History.{Event, OrderAsked, EndOffered, emitted}
+use Rattle.phases.specs.History.{Event, OrderAsked, EndOffered, MovedBeside, emitted}
 use Rattle.serve.specs.declared.loop_thread.LoopThread.{LoopThread}
 use Rattle.serve.specs.declared.record.LoopRecord.{LoopRecord}
 use Rattle.serve.specs.Histories.{HasDone, thread_calls, callbacks_in}
-use Rattle.serve.specs.Inner.Ends.{IsTied}
-use Rattle.serve.specs.Inner.Moves.{MovesBy, MovesAlone, RecordHandsOut, IsOffered}
+use Rattle.serve.specs.Inner.Ends.{offered_in, IsTied}
+use Rattle.serve.specs.Inner.Moves.{MovesBy, MovesAlone, RecordHandsOut, RecordPosts, IsOffered}
+use Rattle.serve.specs.Inner.Posts.{handed_out, PostsAmong, IsBehind}
 use Rattle.serve.specs.Inner.Threads.{HasTied, IsTiedSoFar, Stays, KeepsGoing}
 use Rattle.serve.proofs.OneEventMore.{no_move, then_more, emitted_append, callbacks_append}
+use Rattle.serve.proofs.PostsBehind.{GoesBehind, goes_unposted, moves_posted, behind_posted, handed_append, found_then}
 use Rattle.serve.proofs.Tying.{tied_more, tied_less, tied_made, tied_post, tied_collect}
 
 pub when_none : {A P : Type 0} (r : Option A) → ((x : A) → r ≢ Some x) → IfNone r P → P
@@ -31,10 +33,13 @@ when_ok (Ok x) not h = h
 when_ok (Err e) not h = absurd (not e refl)
 
 -- a history, and more events
-pub done_more : (old new : LoopRecord) (events : List Event) → MovesBy old events new → (d : HasDone thread_calls old.core.setting old.core.loop old.ran old.emits.items)
-    → (e : HasDone thread_calls new.core.setting new.core.loop new.ran new.emits.items) × (e.events ≡ d.events ++ events)
-done_more old new events moves d =
-    subst (λ g. (e : HasDone thread_calls g new.core.loop new.ran new.emits.items) × (e.events ≡ d.events ++ events)) (sym moves.setting) (
+pub done_more : (old new : LoopRecord) (events : List Event) → MovesBy old events new → GoesBehind old new events
+    → (d : HasDone thread_calls old.core.setting old.core.loop old.ran old.emits.items) → IsBehind old.core.setting d
+    → (e : HasDone thread_calls new.core.setting new.core.loop new.ran new.emits.items) × (e.events ≡ d.events ++ events) × IsBehind new.core.setting e
+done_more old new events moves goes d behind =
+    let g = old.core.setting in
+    let it = goes (handed_out d.events) behind.posts moves.history in
+    subst (λ x. (e : HasDone thread_calls x new.core.loop new.ran new.emits.items) × (e.events ≡ d.events ++ events) × IsBehind x e) (sym moves.setting) (
       record {
         start = d.start;
         opens = d.opens;
@@ -45,36 +50,50 @@ done_more old new events moves d =
         told = moves.told ∙ ap (λ xs. xs ++ emitted events) d.told ∙ sym (emitted_append d.events events);
       },
       refl,
+      record {
+        posts = subst (λ xs. PostsAmong xs new.core.loop.shared.loop_seat) (sym (handed_append d.events events)) it.0;
+        found = found_then g [] d.events events d.start old.core.loop new.core.loop d.history moves.history behind.found it.1;
+      },
     )
 
 module _ {J : Type 0} (ticket : J → Ticket) (old new : LoopThread J) where
-  pub told_more : (kept kept' : List J) (events : List Event) → MovesBy old.recorded events new.recorded
+  pub told_more : (kept kept' : List J) (events : List Event) → MovesBy old.recorded events new.recorded → GoesBehind old.recorded new.recorded events
       → ((was : List Event) → IsTied ticket old.loop_no old.pass kept was → IsTied ticket new.loop_no new.pass kept' (was ++ events)) → ∥ HasTied ticket old kept ∥₁ → ∥ HasTied ticket new kept' ∥₁
-  told_more kept kept' events moves f h = ∥∥₁_map h one where
+  told_more kept kept' events moves goes f h = ∥∥₁_map h one where
     one : HasTied ticket old kept → HasTied ticket new kept'
-    one t = let e = done_more old.recorded new.recorded events moves t.done in record { done = e.0; tied = subst (IsTied ticket new.loop_no new.pass kept') (sym e.1) (f t.done.events t.tied) }
+    one t =
+        let e = done_more old.recorded new.recorded events moves goes t.done t.behind in
+        record { done = e.0; tied = subst (IsTied ticket new.loop_no new.pass kept') (sym e.1) (f t.done.events t.tied); behind = e.2 }
 
   -- the record stays
   pub told_still : (kept kept' : List J) → new.recorded ≡ old.recorded → ((was : List Event) → IsTied ticket old.loop_no old.pass kept was → IsTied ticket new.loop_no new.pass kept' was)
       → ∥ HasTied ticket old kept ∥₁ → ∥ HasTied ticket new kept' ∥₁
   told_still kept kept' same f h = ∥∥₁_map h one where
     Done : LoopRecord → List Event → Type 0
-    Done r events = (d : HasDone thread_calls r.core.setting r.core.loop r.ran r.emits.items) × (d.events ≡ events)
+    Done r events = (d : HasDone thread_calls r.core.setting r.core.loop r.ran r.emits.items) × (d.events ≡ events) × IsBehind r.core.setting d
 
     one : HasTied ticket old kept → HasTied ticket new kept'
-    one t = let e : Done new.recorded t.done.events = subst (λ r. Done r t.done.events) (sym same) (t.done, refl) in record { done = e.0; tied = subst (IsTied ticket new.loop_no new.pass kept') (sym e.1) (f t.done.events t.tied) }
+    one t =
+        let e : Done new.recorded t.done.events = subst (λ r. Done r t.done.events) (sym same) (t.done, refl, t.behind) in
+        record { done = e.0; tied = subst (IsTied ticket new.loop_no new.pass kept') (sym e.1) (f t.done.events t.tied); behind = e.2 }
+
+  -- no reply is offered
+  stays_quiet : new.board ≡ old.board → new.loop_no ≡ old.loop_no → new.pass ≡ old.pass → new.kept ≡ old.kept
+      → (events : List Event) → offered_in events ≡ [] → MovesBy old.recorded events new.recorded → GoesBehind old.recorded new.recorded events → Stays ticket old new
+  stays_quiet board number pass kept events none moves goes = record {
+    board = board;
+    setting = moves.setting;
+    told = told_more (option_to_list old.kept) (option_to_list new.kept) events moves goes
+        (λ was tied.
+        subst (λ n. IsTied ticket n new.pass (option_to_list new.kept) (was ++ events)) (sym number)
+        (subst (λ p. IsTied ticket old.loop_no p (option_to_list new.kept) (was ++ events)) (sym pass)
+        (subst (λ k. IsTied ticket old.loop_no old.pass (option_to_list k) (was ++ events)) (sym kept) (tied_more ticket old.loop_no old.pass (option_to_list old.kept) was events none tied))));
+  }
 
   -- the loop moves alone
   pub stays_alone : new.board ≡ old.board → new.loop_no ≡ old.loop_no → new.pass ≡ old.pass → new.kept ≡ old.kept → MovesAlone old.recorded new.recorded → Stays ticket old new
-  stays_alone board number pass kept moves = record {
-    board = board;
-    setting = moves.moves.setting;
-    told = told_more (option_to_list old.kept) (option_to_list new.kept) moves.events moves.moves
-        (λ was tied.
-        subst (λ n. IsTied ticket n new.pass (option_to_list new.kept) (was ++ moves.events)) (sym number)
-        (subst (λ p. IsTied ticket old.loop_no p (option_to_list new.kept) (was ++ moves.events)) (sym pass)
-        (subst (λ k. IsTied ticket old.loop_no old.pass (option_to_list k) (was ++ moves.events)) (sym kept) (tied_more ticket old.loop_no old.pass (option_to_list old.kept) was moves.events moves.none tied))));
-  }
+  stays_alone board number pass kept moves =
+      stays_quiet board number pass kept moves.events moves.none moves.moves (goes_unposted old.recorded new.recorded moves.events moves.unposted)
 
   pub stays_same : new.board ≡ old.board → new.loop_no ≡ old.loop_no → new.pass ≡ old.pass → new.kept ≡ old.kept → new.recorded ≡ old.recorded → Stays ticket old new
   stays_same board number pass kept same =
@@ -89,37 +108,50 @@ module _ {J : Type 0} (ticket : J → Ticket) (old new : LoopThread J) where
       record {
         board = board;
         setting = offered.1.setting;
-        told = told_more (option_to_list old.kept) (option_to_list new.kept) e offered.1
+        told = told_more (option_to_list old.kept) (option_to_list new.kept) e offered.1 (goes_unposted old.recorded new.recorded e tt)
             (λ was tied.
             subst (λ n. IsTied ticket n new.pass (option_to_list new.kept) (was ++ e)) (sym number)
             (subst (λ k. IsTied ticket old.loop_no new.pass (option_to_list k) (was ++ e)) (sym kept) (tied_collect ticket old.loop_no old.pass new.pass (option_to_list old.kept) reply offered.0 was of_loop collects tied)));
       }
 
-  -- it hands out an order, of which no job is kept
+  -- it is asked for an order, and has none
   pub stays_asked : (order : Option Order) → new.board ≡ old.board → new.loop_no ≡ old.loop_no → new.pass ≡ old.pass → old.kept ≡ None → new.kept ≡ None → RecordHandsOut old.recorded order new.recorded → Stays ticket old new
   stays_asked order board number pass was_none none handed =
-      stays_alone board number pass (none ∙ sym was_none) (record { events = _; moves = handed; none = refl })
-
-  -- or one whose job was made
-  pub told_made : (order : Order) (job : J) → new.loop_no ≡ old.loop_no → new.pass ≡ old.pass → old.kept ≡ None → RecordHandsOut old.recorded (Some order) new.recorded → ticket job ≡ ticket_of order
-      → IsTiedSoFar ticket old → ∥ HasTied ticket new (job ∷ []) ∥₁
-  told_made order job number pass none handed made h =
-      told_more [] (job ∷ []) (OrderAsked (Some (order_of order)) ∷ []) handed
-      (λ was tied.
-      subst (λ n. IsTied ticket n new.pass (job ∷ []) (was ++ OrderAsked (Some (order_of order)) ∷ [])) (sym number)
-      (subst (λ p. IsTied ticket old.loop_no p (job ∷ []) (was ++ OrderAsked (Some (order_of order)) ∷ [])) (sym pass) (tied_made ticket old.loop_no old.pass order job was made tied)))
-      (subst (λ k. ∥ HasTied ticket old (option_to_list k) ∥₁) none h)
+      stays_alone board number pass (none ∙ sym was_none) (record { events = _; moves = handed; none = refl; unposted = tt })
 
   -- no job is kept
   pub told_none : new.kept ≡ None → IsTiedSoFar ticket new → ∥ HasTied ticket new [] ∥₁
   told_none none h = subst (λ k. ∥ HasTied ticket new (option_to_list k) ∥₁) none h
 
-  -- it hands out an order, whose job was made, unless that has another ticket
-  pub told_maybe : (order : Order) (made : Option J) → new.board ≡ old.board → new.loop_no ≡ old.loop_no → new.pass ≡ old.pass → old.kept ≡ None → new.kept ≡ None
-      → RecordHandsOut old.recorded (Some order) new.recorded → IfSome made (λ job. ticket job ≡ ticket_of order) → IsTiedSoFar ticket old → ∥ HasTied ticket new (option_to_list made) ∥₁
-  told_maybe order (Some job) board number pass was_none none handed made h = told_made order job number pass was_none handed made h
-  told_maybe order None board number pass was_none none handed made h =
-      told_none none ((stays_asked (Some order) board number pass was_none none handed).told h)
+  -- it hands out an order, and posts its request
+  module _ (mid : LoopRecord) (order : Order) (handed : RecordHandsOut old.recorded (Some order) mid) (posts : RecordPosts mid (order.slot, order.request) new.recorded) where
+    abbrev asked : List Event
+    asked = OrderAsked (Some (order_of order)) ∷ MovedBeside ∷ []
+
+    moves : MovesBy old.recorded asked new.recorded
+    moves = moves_posted old.recorded mid new.recorded order handed posts
+
+    goes : GoesBehind old.recorded new.recorded asked
+    goes = behind_posted old.recorded mid new.recorded order handed posts
+
+    -- no job is kept of it
+    pub stays_posted : new.board ≡ old.board → new.loop_no ≡ old.loop_no → new.pass ≡ old.pass → old.kept ≡ None → new.kept ≡ None → Stays ticket old new
+    stays_posted board number pass was_none none = stays_quiet board number pass (none ∙ sym was_none) asked refl moves goes
+
+    -- or its job was made
+    told_made : (job : J) → new.loop_no ≡ old.loop_no → new.pass ≡ old.pass → old.kept ≡ None → ticket job ≡ ticket_of order → IsTiedSoFar ticket old → ∥ HasTied ticket new (job ∷ []) ∥₁
+    told_made job number pass none made h =
+        told_more [] (job ∷ []) asked moves goes
+        (λ was tied.
+        subst (λ n. IsTied ticket n new.pass (job ∷ []) (was ++ asked)) (sym number)
+        (subst (λ p. IsTied ticket old.loop_no p (job ∷ []) (was ++ asked)) (sym pass) (tied_made ticket old.loop_no old.pass order job was made tied)))
+        (subst (λ k. ∥ HasTied ticket old (option_to_list k) ∥₁) none h)
+
+    -- its job was made, unless that has another ticket
+    pub told_maybe : (made : Option J) → new.board ≡ old.board → new.loop_no ≡ old.loop_no → new.pass ≡ old.pass → old.kept ≡ None → new.kept ≡ None
+        → IfSome made (λ job. ticket job ≡ ticket_of order) → IsTiedSoFar ticket old → ∥ HasTied ticket new (option_to_list made) ∥₁
+    told_maybe (Some job) board number pass was_none none made h = told_made job number pass was_none made h
+    told_maybe None board number pass was_none none made h = told_none none ((stays_posted board number pass was_none none).told h)
 
   -- the job that was kept is taken
   pub told_taken : (job : J) → new.loop_no ≡ old.loop_no → new.pass ≡ old.pass → new.recorded ≡ old.recorded → old.kept ≡ Some job → IsTiedSoFar ticket old → ∥ HasTied ticket new (job ∷ []) ∥₁

@@ -15,7 +15,7 @@ use Rattle.order.specs.declared.reply.Reply.{Reply}
 use Rattle.board.specs.Jobs.{ticket_of}
 use Rattle.board.specs.Views.{HandView, Gave, Took}
 use Rattle.board.specs.Boards.{BoardView, PassView, IsNewPass, HasNumber, Posts, Collects}
-use Rattle.phases.specs.History.{Event, OrderAsked, EndOffered}
+use Rattle.phases.specs.History.{Event, OrderAsked, EndOffered, MovedBeside}
 use Rattle.serve.specs.Inner.Ends.{offer_of, offered_in, IsTied}
 use Rattle.serve.specs.Joint.{asks}
 use Rattle.serve.proofs.Lookups.{not_there, is_within, set_here, set_there, each_push}
@@ -59,20 +59,21 @@ module _ {J : Type 0} (ticket : J → Ticket) where
     own = tied.own;
   }
 
-  -- an order is handed out, and a job of its ticket is made
+  -- an order is handed out, its request is posted, and a job of its ticket is made
   pub tied_made : (k : ℕ) (pass : PassView J) (order : Order) (job : J) (events : List Event) → ticket job ≡ ticket_of order
-      → IsTied ticket k pass [] events → IsTied ticket k pass (job ∷ []) (events ++ OrderAsked (Some (order_of order)) ∷ [])
+      → IsTied ticket k pass [] events → IsTied ticket k pass (job ∷ []) (events ++ OrderAsked (Some (order_of order)) ∷ MovedBeside ∷ [])
   tied_made k pass order job events made tied =
-      let more = tied_more k pass [] events (OrderAsked (Some (order_of order)) ∷ []) refl tied in
+      let more = tied_more k pass [] events (OrderAsked (Some (order_of order)) ∷ MovedBeside ∷ []) refl tied in
       record {
         posted = λ t.
             let f : J → Bool = λ j. is_ticket t (ticket j) in
             let a = count_append f pass.jobs.given (job ∷ []) in
             let b : count_by f (pass.jobs.given ++ []) ≡ count_by f pass.jobs.given = ap (count_by f) (append-nil pass.jobs.given) in
             let c = tied.posted t in
-            let d = count_append (asks t) events (OrderAsked (Some (order_of order)) ∷ []) in
+            let d = count_append (asks t) events (OrderAsked (Some (order_of order)) ∷ MovedBeside ∷ []) in
             let e : count_by f (job ∷ []) ≡ cond {A = ℕ} (is_ticket t (ticket job)) 1 0 + 0 = count_cons f job [] in
-            let h : count_by (asks t) (OrderAsked (Some (order_of order)) ∷ []) ≡ cond {A = ℕ} (is_ticket t (ticket_of order)) 1 0 + 0 = count_cons (asks t) (OrderAsked (Some (order_of order))) [] in
+            let h : count_by (asks t) (OrderAsked (Some (order_of order)) ∷ MovedBeside ∷ []) ≡ cond {A = ℕ} (is_ticket t (ticket_of order)) 1 0 + 0 =
+            count_cons (asks t) (OrderAsked (Some (order_of order))) (MovedBeside ∷ []) in
             let i : cond {A = ℕ} (is_ticket t (ticket job)) 1 0 ≡ cond {A = ℕ} (is_ticket t (ticket_of order)) 1 0 = ap (λ u. cond {A = ℕ} (is_ticket t u) 1 0) made in
             omega arith;
         put = more.put;

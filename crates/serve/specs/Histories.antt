@@ -45,7 +45,8 @@ callbacks_in events = count_by is_callback_event events
 abbrev pub WaitsUntil : (ms : ℕ) → State → Type 0
 WaitsUntil ms s = (s.requests.outstanding ≡ []) × (s.clock ≡ s.now) × ((d : ℕ) × (hint_of s ≡ For d) × (ms ≡ saturated (s.now + d)))
 
--- What a thread does of its own with a loop that stands so: it cancels and makes no request, and leaves what the loop shares.
+-- What a thread does of its own with a loop that stands so: it cancels and makes no request. Beside the loop it only posts a request
+-- that it has handed out: EventStep says that the state stays, and what the loop knows of the object that it shares.
 abbrev pub IsByThread : Event → State → Type 0
 IsByThread (Stepped did emits made) s = Unit {0}
 IsByThread (OrderAsked order) s = Unit {0}
@@ -53,7 +54,7 @@ IsByThread (EndOffered o end is_taken) s = Unit {0}
 IsByThread (CancelAnswered request answer) s = ⊥
 IsByThread (RequestAnswered op bytes answer) s = ⊥
 IsByThread (ClockRaised ms) s = WaitsUntil ms s
-IsByThread MovedBeside s = ⊥
+IsByThread MovedBeside s = Unit {0}
 
 module _ {S : Type 0} (calls : Calls S) (g : Setting) where
   -- what a thread does with its loop, one event after another

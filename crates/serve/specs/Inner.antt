@@ -3,6 +3,7 @@ pub mod Alone
 pub mod Ends
 pub mod Moves
 pub mod Places
+pub mod Posts
 pub mod Promises
 pub mod Threads
 pub mod Turns

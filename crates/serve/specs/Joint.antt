@@ -1,5 +1,5 @@
 -- One run of `serve`, of all its loops and all its workers together.
-use Rattle.std.specs.Prelude.{◌≡◌, ℕ, ◌≤◌, Bool, false, List, length, flat_map, count_by, sum_by, Some, slice_get}
+use Rattle.std.specs.Prelude.{◌≡◌, ℕ, ◌≤◌, Bool, false, List, [], length, flat_map, count_by, sum_by, Some, slice_get}
 use Rattle.syntax.specs.Loaded.{Loaded}
 use Rattle.claims.specs.declared.seats.Ticket.{Ticket}
 use Rattle.claims.specs.Views.{WorkerView, EachOnce, is_ticket}
@@ -11,6 +11,7 @@ use Rattle.phases.specs.History.{Event, OrderAsked, EndOffered}
 use Rattle.pool.specs.Turns.{Turn, Put, ticket_in, started_by}
 use Rattle.serve.specs.declared.served.Served.{Served}
 use Rattle.serve.specs.declared.serving.Serving.{Serving}
+use Rattle.serve.specs.HandedOut.{FoundBehind, passed_of}
 use Rattle.serve.specs.Histories.{HasEnded, thread_calls, setting_at}
 
 -- the ticket of a request that was asked for
@@ -44,10 +45,11 @@ IsPut workers o end =
     (w j : ℕ) × (turns : List Turn) × (reply : Reply) × (slice_get workers w ≡ Some turns) × (slice_get turns j ≡ Some (Put reply))
     × (order_of reply.order ≡ o) × (end_of reply.outcome ≡ end)
 
--- There are a history of each loop, which its answer reports, and the turns of each worker, in order, which started just what the
--- crew's seats have started, worker by worker: each ticket once. Of every ticket workers took, all together, at most as many jobs as
--- its order was handed out. Of every ticket a loop was offered at most as many replies as workers
--- put, all together; each is to a request of its own, and in all fields one that a worker put.
+-- There are a history of each loop, which its answer reports, and in which the loop has found started only what it had handed out
+-- before; and the turns of each worker, in order, which started just what the crew's seats have started, worker by worker: each
+-- ticket once. Of every ticket workers took, all together, at most as many jobs as its order was handed out. Of every ticket a loop
+-- was offered at most as many replies as workers put, all together; each is to a request of its own, and in all fields one that a
+-- worker put.
 pub record JointRun (loaded : Loaded) (serving : Serving) (served : List Served) (crew : WorkerView) : Type 0 where
   pub loops : List (List Event)
   pub workers : List (List Turn)
@@ -55,6 +57,7 @@ pub record JointRun (loaded : Loaded) (serving : Serving) (served : List Served)
   pub worker_count : length workers ≡ serving.workers
   pub each : (k : ℕ) (s : Served) (events : List Event) → slice_get served k ≡ Some s → slice_get loops k ≡ Some events
       → (ended : HasEnded thread_calls (setting_at loaded serving k) s.ending s.emits.items) × (ended.done.events ≡ events)
+      × FoundBehind [] (passed_of (setting_at loaded serving k) ended.done)
   pub started : crew.started ≡ flat_map started_by workers
   pub once : EachOnce crew.started
   pub taken : (t : Ticket) → times_in (takes t) workers ≤ times_in (asks t) loops

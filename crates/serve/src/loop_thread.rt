@@ -69,7 +69,7 @@ impl<'a, J: Job> LoopThread<'a, J> {
             seat,
         } = place;
         let loop_no = seat.loop_no();
-        let seats = Seats::new(claims, seat, marks, taker);
+        let seats = Seats::new(claims, seat.posting(), marks, taker);
         let core = LoopCore::new(
             alloc,
             linked,
@@ -238,8 +238,8 @@ impl<'a, J: Job> LoopThread<'a, J> {
         unreachable!()
     }
 
-    /// The job that was kept, or one for the next order, which is reported as posted. None if there is no order, or its job has another
-    /// ticket.
+    /// The job that was kept, or one for the next order, whose request is posted and reported so. None if there is no order, or its job
+    /// has another ticket.
     fn next_job<S: Serves<J>>(&mut self, service: &S) -> Result<Option<J>, AllocError>
         requires ready { S.ready service.now }
         ensures keeps { KeepsGoing J.ticket self.old self.new }
@@ -252,6 +252,7 @@ impl<'a, J: Job> LoopThread<'a, J> {
         let Some(order) = self.recorded.next_order() else {
             return Ok(None);
         };
+        self.recorded.post(order.slot, order.request);
         service
             .watch()
             .post(service.rt(), self.loop_no, order.request);

@@ -76,7 +76,7 @@ impl<'a> LoopRecord<'a> {
     ghost use Rattle.phases.specs.declared.entry.Status.TheVariants as status;
     ghost use Rattle.serve.specs.Histories.{HasDone, EndsBy, IsDrained, thread_calls};
     ghost use Rattle.serve.specs.Inner.Alone.{IsAlone};
-    ghost use Rattle.serve.specs.Inner.Moves.{MovesAlone, RecordHandsOut, IsOffered};
+    ghost use Rattle.serve.specs.Inner.Moves.{MovesAlone, RecordHandsOut, RecordPosts, IsOffered};
     ghost use Rattle.serve.specs.Inner.Turns.{enters_timers, IsAtTurn, Drains, MayGoOn, StepsTo, EndsOrGoesOn};
 
     /// Of a loop that has done nothing.
@@ -84,6 +84,7 @@ impl<'a> LoopRecord<'a> {
         requires opens { IsOpening thread_calls core.setting core.loop }
         requires alone { IsAlone core.loop.shared.taker }
         ensures setting { result.core.setting ≡ core.entry.setting }
+        ensures shared { result.core.loop.shared ≡ core.entry.loop.shared }
         ensures done { (d : HasDone thread_calls result.core.setting result.core.loop result.ran result.emits.items) × (d.events ≡ []) }
         ensures goes { MayGoOn thread_calls result.core.loop result.ran }
     {
@@ -112,10 +113,22 @@ impl<'a> LoopRecord<'a> {
         ensures can_run { IfSome result (λ o. CanRun (order_of o)) }
         ensures own { IfSome result (λ o. o.loop_no ≡ self.old.core.setting.loop_no) }
         ensures slot { IfSome result (λ o. o.slot < MAX_REQUESTS) }
+        ensures number { IfSome result (λ o. 0 < o.request) }
         ensures setting { self.new.core.setting ≡ self.old.core.setting }
         ensures goes { MayGoOn thread_calls self.old.core.loop self.old.ran → MayGoOn thread_calls self.new.core.loop self.new.ran }
     {
         self.core.next_order()
+    }
+
+    /// Posts a request, whose order was handed out, so that a worker can start it.
+    pub fn post(&mut self, slot: u32, request: u32)
+        requires slot { slot < MAX_REQUESTS }
+        requires request { 0 < request }
+        ensures posts { RecordPosts self.old (slot, request) self.new }
+        ensures setting { self.new.core.setting ≡ self.old.core.setting }
+        ensures goes { MayGoOn thread_calls self.old.core.loop self.old.ran → MayGoOn thread_calls self.new.core.loop self.new.ran }
+    {
+        self.core.post(slot, request);
     }
 
     /// The meter to which the loop's tasks report the fuel that they use.

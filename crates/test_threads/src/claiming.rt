@@ -281,3 +281,33 @@ fn a_joined_worker_tells_what_it_started(rt: HostRuntime) -> Result<(), Fail> {
     shows(&rt, told, (true, true));
     Ok(())
 }
+
+/// What a start of request 1 answers before and behind its post, with the post between; and what a cancel of request 2 answers
+/// that isn't posted, and its post behind it.
+fn posts(
+    claims: &Claims,
+    loop_seat: LoopSeat,
+    worker_seat: &mut WorkerSeat,
+) -> ((bool, bool, bool), (bool, bool))
+    requires loops { claims.now.loops ≡ 1 }
+    requires new { loop_seat ≡ new_loop_view claims.now.id 0 }
+    requires own { worker_seat.old.claims ≡ claims.now.id }
+{
+    let mut loop_seat = loop_seat.posting();
+    let first = opened(claims, &mut loop_seat, 1);
+    let early = claims.start(worker_seat, first);
+    let posted = claims.post(&mut loop_seat, first.slot, 1);
+    let started = claims.start(worker_seat, first);
+    let second = opened(claims, &mut loop_seat, 2);
+    let cancelled = claims.cancel(&mut loop_seat, second);
+    let late = claims.post(&mut loop_seat, second.slot, 2);
+    ((early, posted, started), (cancelled, late))
+}
+
+#[test]
+fn a_request_is_started_once_it_is_posted(rt: HostRuntime) -> Result<(), Fail> {
+    let (claims, loop_seat, mut worker_seat) = one_of_each(rt.alloc())?;
+    let seen = posts(&claims, loop_seat, &mut worker_seat);
+    shows(&rt, seen, ((false, true, true), (true, false)));
+    Ok(())
+}

@@ -1,6 +1,6 @@
 -- The law of a loop's histories, as it stands of the runs of a world.
-use Rattle.std.proofs.Common.{◌≡◌, ◌↔◌, ℕ, zero, suc, ◌≤◌, ◌==◌, Bool, true, false, cond, inl, inr, List, [], ◌∷◌, ◌++◌, map, length, Option, Some, None, refl}
-use Rattle.std.proofs.Common.{sym, ap, subst, ◌∙◌, arith, append-nil, append_assoc}
+use Rattle.std.proofs.Common.{◌≡◌, ◌↔◌, ℕ, ◌≤◌, ◌==◌, Bool, true, false, cond, inl, inr, List, [], ◌∷◌, ◌++◌, map, length, Option, Some, None, refl}
+use Rattle.std.proofs.Common.{sym, ap, subst, ◌∙◌, arith}
 use Rattle.std.specs.Prelude.{slice_get}
 use Rattle.std.specs.List.{Contains, count_by}
 use Rattle.std.specs.Option.{is_some}
@@ -14,24 +14,26 @@ use Rattle.events.specs.declared.did.StepDid.{StepDid}
 use Rattle.events.specs.declared.did.StepDid.TheVariants as did
 use Rattle.events.specs.declared.phase.EntryKind.TheVariants as kind
 use Rattle.phases.specs.Guests.{GuestCall}
-use Rattle.phases.specs.History.{Event, History, IsOpening}
+use Rattle.phases.specs.History.{Event, EventStep, History, IsOpening}
 use Rattle.phases.specs.Laws.{WasAsked, AreDue}
 use Rattle.phases.specs.Laws.{IsAfterOnce as LoopOnce, IsAfterOwn as LoopOwn, IsAfterLast as LoopLast, WasCancelled as LoopCancelled}
 use Rattle.phases.specs.Outside.{is_failed, next_order_of}
 use Rattle.phases.specs.Requests.{Completion}
 use Rattle.phases.specs.State.{Setting, State, Loop, Core}
+use Rattle.phases.proofs.StepByStep.{steps_join}
 use Rattle.desk.specs.Desk.{Desk, desk_calls}
 use Rattle.world_log.specs.declared.step.Step.{Step}
 use Rattle.world_log.specs.declared.step.Step.TheVariants as step
 use Rattle.world_log.specs.declared.entry.LogEntry.{LogEntry}
 use Rattle.world.specs.World.{World, Worker, Idle, Taken, Started, Answer, UnlessFailed, PostsOrder, WorkerTakesJob, StartsJob, FinishesJob, CollectsFrom, StepsLoop}
 use Rattle.world.specs.World.{WorldStep, WorldRun, HasLoop, opening_world, opening_loop, entry_told, core}
-use Rattle.world.proofs.GuestsOfRuns.{step_calls, guest_calls}
+use Rattle.world.proofs.GuestsOfRuns.{step_calls, guest_calls, kept_in_run}
+use Rattle.world.proofs.Sets.{made_of}
 use Rattle.world.specs.Histories.{AreTold, HasHistory}
 use Rattle.world.specs.Laws.{is_after, IsCancelledInLog, IsOwnInRun}
 use Rattle.world.proofs.EndsAreLogged.{finished_after, given_end}
 use Rattle.world.proofs.Runs.{Keeps, Told, AllEnds, step_next, run_keeps}
-use Rattle.world.proofs.LogsTellHistories.{history_join, step_callback, tells_callback}
+use Rattle.world.proofs.LogsTellHistories.{step_callback, tells_callback}
 
 pub opening_is : (g : Setting) → IsOpening desk_calls g (opening_loop g).loop
 opening_is g = record { state = refl; store = refl; shared = refl }
@@ -92,17 +94,8 @@ module _ (settings : List Setting) (j : ℕ) where
   abbrev pub Opens : Setting → Loop Desk → Type 0
   Opens g l = (slice_get settings j ≡ Some g) × (l ≡ (opening_loop g).loop)
 
-  opens : (gs : List Setting) (n : ℕ) (p : Core Desk) → slice_get (map opening_loop gs) n ≡ Some p → (slice_get gs n ≡ Some p.setting) × (p.loop ≡ (opening_loop p.setting).loop)
-  opens [] n p h = absurd (cc)
-  opens (g ∷ gs) zero p h =
-      let is : opening_loop g ≡ p = cc in
-      (ap (λ (x : Core Desk). Some x.setting) is, subst (λ (x : Core Desk). x.loop ≡ (opening_loop x.setting).loop) is refl)
-  opens (g ∷ gs) (suc n) p h = opens gs n p h
-
-  no_replies : (gs : List Setting) (n : ℕ) (xs : List Answer) → slice_get (map (λ _. []) gs) n ≡ Some xs → AllEnds xs
-  no_replies [] n xs h = absurd (cc)
-  no_replies (g ∷ gs) zero xs h = let is : [] ≡ xs = cc in subst AllEnds is tt
-  no_replies (g ∷ gs) (suc n) xs h = no_replies gs n xs h
+  opens : (p : Core Desk) → slice_get (map opening_loop settings) j ≡ Some p → Opens p.setting p.loop
+  opens p at = let it = made_of opening_loop settings j p at in subst (λ (x : Core Desk). Opens x.setting x.loop) it.2 (it.1, refl)
 
   none_in : {X : Type 0} (x : X) → Contains [] x → ⊥
   none_in x h = omega (arith, h.1)
@@ -125,8 +118,8 @@ module _ (settings : List Setting) (j : ℕ) where
   pub opening_keeps : (workers : ℕ) → Keeps Opens (IsThere workers) j (opening_world settings workers) [] []
   opening_keeps workers = record {
     stays = refl;
-    loops = λ p h. told_none Opens (IsThere workers) p.setting p.loop (opens settings j p h);
-    replies = no_replies settings;
+    loops = λ p h. told_none Opens (IsThere workers) p.setting p.loop (opens p h);
+    replies = λ n xs h. subst AllEnds (made_of (λ _. []) settings n xs h).2 tt;
   }
 
   module _ (workers : ℕ) (steps : List Step) (log : List LogEntry) (w : World) (run : WorldRun (opening_world settings workers) steps log w) where
@@ -204,7 +197,7 @@ module _ (settings : List Setting) (j : ℕ) where
       late law more [] g start now begins history told cancelled = absurd told
       late law more (e ∷ events) g start now begins history told cancelled =
           law here.setting before.start now before.events events e opening
-          (history_join here.setting before.events (e ∷ events) before.start here.old now before.history
+          (steps_join (λ x e y. EventStep desk_calls here.setting e x y) before.events (e ∷ events) before.start here.old now before.history
           (subst (λ (x : Core Desk). History desk_calls x.setting x.loop (e ∷ events) now) (sym begins) history))
           r (sym (tells_callback j r entry e told.0) ∙ is) cancelled
 
@@ -233,15 +226,9 @@ module _ (settings : List Setting) (j : ℕ) where
           (law here.setting it.start here.new it.events (subst (IsOpening desk_calls here.setting) (sym it.begins.1) (opening_is here.setting)) it.history r)
       by false none = subst (λ n. n ≤ 1) (sym (sum_by_push (λ x. cond (is_after j r x) 1 0) log entry ∙ rw none (omega arith))) few
 
-    once_run : (there : Bool) (steps : List Step) (told : List LogEntry) (w w' : World) (log : List LogEntry) (made : List GuestCall) → Keeps Opens there j w log made → count_by (is_after j r) log ≤ 1
-        → WorldRun w steps told w' → count_by (is_after j r) (log ++ told) ≤ 1
-    once_run there [] [] w w' log made keeps few run = subst (λ xs. count_by (is_after j r) xs ≤ 1) (sym (append-nil log)) few
-    once_run there [] (e ∷ told) w w' log made keeps few run = absurd run
-    once_run there (s ∷ steps) [] w w' log made keeps few run = absurd run
-    once_run there (s ∷ steps) (e ∷ told) w w' log made keeps few run =
-        subst (λ xs. count_by (is_after j r) xs ≤ 1) (append_assoc log (e ∷ []) told)
-        (once_run there steps told run.0 w' (log ++ e ∷ []) (made ++ step_calls j w s e run.0 run.1)
-        (step_next Opens there j w log made keeps s e run.0 run.1) (once_step there w log made keeps s e run.0 run.1 few) run.2)
-
     pub once_after : (workers : ℕ) (steps : List Step) (log : List LogEntry) (w : World) → WorldRun (opening_world settings workers) steps log w → count_by (is_after j r) log ≤ 1
-    once_after workers steps log w run = once_run (IsThere workers) steps log (opening_world settings workers) w [] [] (opening_keeps workers) (omega arith) run
+    once_after workers steps log w run =
+        let there = IsThere workers in
+        (kept_in_run j (λ w log made. Keeps Opens there j w log made × (count_by (is_after j r) log ≤ 1))
+        (λ w log made s entry w' h was. (step_next Opens there j w log made was.0 s entry w' h, once_step there w log made was.0 s entry w' h was.1))
+        (opening_world settings workers) [] [] steps log w run (opening_keeps workers, omega arith)).1

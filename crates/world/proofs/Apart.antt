@@ -1,6 +1,6 @@
 -- A job is never begun of whose request a cancel was answered 0, and never cancelled so once it was begun.
-use Rattle.std.proofs.Common.{◌≡◌, ◌≢◌, ℕ, zero, suc, ◌≤◌, ◌==◌, Bool, true, false, cond, ◌&&◌, inl, inr, ◌⊎◌, List, [], ◌∷◌, ◌++◌, map, length}
-use Rattle.std.proofs.Common.{replicate, Option, is_some, Some, None, refl, sym, ap, subst, ◌∙◌, arith, append_assoc, append-nil, MatchBool}
+use Rattle.std.proofs.Common.{◌≡◌, ◌≢◌, ℕ, zero, suc, ◌≤◌, ◌==◌, Bool, true, false, cond, ◌&&◌, inl, inr, ◌⊎◌, List, [], ◌∷◌, ◌++◌, length}
+use Rattle.std.proofs.Common.{replicate, Option, is_some, Some, None, refl, sym, ap, subst, ◌∙◌, arith, append-nil, MatchBool}
 use Rattle.std.specs.Prelude.{pos, slice_get, slice_set}
 use Rattle.std.specs.Int.{w32, cast_signed}
 use Rattle.std.specs.List.{count_by}
@@ -35,7 +35,8 @@ use Rattle.world_log.specs.declared.outcome.PostOutcome.TheVariants as post
 use Rattle.world_log.specs.declared.outcome.StartOutcome.TheVariants as start
 use Rattle.world_log.specs.declared.outcome.FinishOutcome.TheVariants as finish
 use Rattle.world_log.specs.declared.outcome.CollectOutcome.TheVariants as collect
-use Rattle.world.proofs.GuestsOfRuns.{step_calls, guest_calls}
+use Rattle.world.proofs.GuestsOfRuns.{step_calls, guest_calls, kept_in_run}
+use Rattle.world.proofs.Sets.{made_of}
 use Rattle.world.specs.Laws.{is_of_job, is_begun, is_finished, IsCancelledInLog, AreInPlace}
 use Rattle.world.specs.World.{World, Worker, Idle, Taken, Started, Answer, Only, UnlessFailed, PostsOrder, WorkerTakesJob, StartsJob, FinishesJob, CollectsFrom}
 use Rattle.world.specs.World.{StepsLoop, WorldStep, WorldRun, HasLoop, opening_world, opening_loop, with_loop, with_worker_at, job_of, entry_told, core}
@@ -482,18 +483,14 @@ module _ (l r : ℕ) where
     was_begun = λ b. absurd (no_begun b);
   }
 
-  opening_loops : (gs : List Setting) (n : ℕ) (p : Core Desk) → slice_get (map opening_loop gs) n ≡ Some p → IsApart r None (Won [] []) (Begun []) p.loop.state.requests p.loop.shared
-  opening_loops [] n p h = absurd (cc)
-  opening_loops (g ∷ gs) zero p h =
-      let is : opening_loop g ≡ p = cc in subst (λ (x : Core Desk). IsApart r None (Won [] []) (Begun []) x.loop.state.requests x.loop.shared) is (opening_apart g)
-  opening_loops (g ∷ gs) (suc n) p h = opening_loops gs n p h
-
   opening_stands : (settings : List Setting) (workers : ℕ) → Stands (opening_world settings workers) [] []
   opening_stands settings workers = record {
     out = None;
     jobs = tt;
     workers = opening_workers workers;
-    loops = opening_loops settings l;
+    loops = λ p at.
+        let it = made_of opening_loop settings l p at in
+        subst (λ (x : Core Desk). IsApart r None (Won [] []) (Begun []) x.loop.state.requests x.loop.shared) it.2 (opening_apart it.0);
     there = λ b. absurd (no_begun b);
   }
 
@@ -503,18 +500,15 @@ module _ (l r : ℕ) where
       never_both r s.out (Won log made) (Begun log) at.0.loop.state.requests at.0.loop.shared (s.loops at.0 at.1) won begun
 
 module _ (settings : List Setting) (placed : AreInPlace settings) (workers : ℕ) (l r : ℕ) (once : LoopHandedOnce desk_calls) (own : LoopHandedOwn desk_calls) where
-  run_stands : (steps : List Step) (told : List LogEntry) (w w' : World) (log : List LogEntry) (made : List GuestCall) → IsCounted settings placed workers l r once own w log → Stands l r w log made
-      → (run : WorldRun w steps told w') → Stands l r w' (log ++ told) (made ++ guest_calls l w steps told w' run)
-  run_stands [] [] w w' log made counts s run = subst (λ x. Stands l r x (log ++ []) (made ++ [])) (sym run) (rw (append-nil log, append-nil made) s)
-  run_stands [] (e ∷ told) w w' log made counts s run = absurd run
-  run_stands (st ∷ steps) [] w w' log made counts s run = absurd run
-  run_stands (st ∷ steps) (e ∷ told) w w' log made counts s run =
-      let more = step_calls l w st e run.0 run.1 in
-      let rest = guest_calls l run.0 steps told w' run.2 in
-      let next = step_stands l r w run.0 log made e s st (own_orders settings placed workers l r once own w log counts.told) run.1 in
-      subst (λ x. Stands l r w' x (made ++ (more ++ rest))) (append_assoc log (e ∷ []) told)
-      (subst (Stands l r w' (log ++ e ∷ [] ++ told)) (append_assoc made more rest)
-      (run_stands steps told run.0 w' (log ++ e ∷ []) (made ++ more) (step_counted settings placed workers l r once own w run.0 log st e run.1 counts) next run.2))
+  abbrev Both : World → List LogEntry → List GuestCall → Type 0
+  Both w log made = IsCounted settings placed workers l r once own w log × Stands l r w log made
+
+  step_both : (w : World) (log : List LogEntry) (made : List GuestCall) (s : Step) (entry : LogEntry) (w' : World) (h : WorldStep w s entry w')
+      → Both w log made → Both w' (log ++ entry ∷ []) (made ++ step_calls l w s entry w' h)
+  step_both w log made s entry w' h was = (
+    step_counted settings placed workers l r once own w w' log s entry h was.0,
+    step_stands l r w w' log made entry was.1 s (own_orders settings placed workers l r once own w log was.0.told) h,
+  )
 
   none_of : (b f : ℕ) → (1 ≤ b → ⊥) → f ≤ b → (b ≡ 0) × (f ≡ 0)
   none_of zero f never few = (refl, omega (arith, few))
@@ -524,6 +518,6 @@ module _ (settings : List Setting) (placed : AreInPlace settings) (workers : ℕ
       → IsCancelledInLog l r log (guest_calls l (opening_world settings workers) steps log w run)
       → (count_by (is_begun l r) log ≡ 0) × (count_by (is_finished l r) log ≡ 0)
   apart_after steps log w run won =
-      let s = run_stands steps log (opening_world settings workers) w [] [] (opening_counted settings placed workers l r once own) (opening_stands l r settings workers) run in
+      let s = (kept_in_run l Both step_both (opening_world settings workers) [] [] steps log w run (opening_counted settings placed workers l r once own, opening_stands l r settings workers)).1 in
       none_of (count_by (is_begun l r) log) (count_by (is_finished l r) log) (stands_apart l r w log (guest_calls l (opening_world settings workers) steps log w run) s won)
       (one_way_after settings placed workers l r once own steps log w run).finished

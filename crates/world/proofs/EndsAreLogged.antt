@@ -1,6 +1,6 @@
 -- Whatever a loop has as the end of a job stands in the log, in the line that tells that the job was finished.
 use Rattle.std.proofs.Common.{◌≡◌, ℕ, zero, suc, ◌==◌, Bool, true, false, cond, not, inl, inr, List, [], ◌∷◌, ◌++◌, map, length, find, Option, Some, None, refl}
-use Rattle.std.proofs.Common.{sym, ap, subst, ◌∙◌, append_assoc, append-nil}
+use Rattle.std.proofs.Common.{sym, ap, subst, ◌∙◌}
 use Rattle.std.specs.Prelude.{slice_get, slice_set}
 use Rattle.std.specs.List.{Contains, filter}
 use Rattle.std.proofs.lemmas.Bool.{eqb-true}
@@ -31,6 +31,8 @@ use Rattle.world_log.specs.declared.outcome.CollectOutcome.TheVariants as collec
 use Rattle.world.specs.Laws.{WasFinished}
 use Rattle.world.specs.World.{World, Worker, Idle, Taken, Started, Answer, Only, UnlessFailed, PostsOrder, WorkerTakesJob, StartsJob, FinishesJob, CollectsFrom}
 use Rattle.world.specs.World.{StepsLoop, WorldStep, WorldRun, opening_world, opening_loop, core}
+use Rattle.world.proofs.GuestsOfRuns.{kept_in_run}
+use Rattle.world.proofs.Sets.{made_of}
 
 later : (log : List LogEntry) (entry : LogEntry) (l request : ℕ) (end : WorkEnd) → WasFinished l request end log → WasFinished l request end (log ++ entry ∷ [])
 later log entry l request end h = (h.0, h.1, h.2, Contains-append_left log (entry ∷ []) _ h.3)
@@ -246,26 +248,13 @@ module _ (w w' : World) (log : List LogEntry) (entry : LogEntry) (all : AreFinis
         replies = same_replies (ap (λ (x : World). x.replies) k.1);
       }) h.3
 
-run_finished : (steps : List Step) (told : List LogEntry) (w w' : World) (log : List LogEntry) → AreFinished w log → WorldRun w steps told w' → AreFinished w' (log ++ told)
-run_finished [] [] w w' log all run = subst (λ x. AreFinished x (log ++ [])) (sym run) (subst (AreFinished w) (sym (append-nil log)) all)
-run_finished [] (e ∷ told) w w' log all run = absurd run
-run_finished (s ∷ steps) [] w w' log all run = absurd run
-run_finished (s ∷ steps) (e ∷ told) w w' log all run =
-    subst (AreFinished w') (append_assoc log (e ∷ []) told) (run_finished steps told run.0 w' (log ++ e ∷ []) (step_next w run.0 log e all s run.1) run.2)
-
-opening_loops : (gs : List Setting) (l n : ℕ) (p : Core Desk) → slice_get (map opening_loop gs) n ≡ Some p → AreAnswered [] l p.loop.state.requests.outstanding
-opening_loops [] l n p h = absurd (cc)
-opening_loops (g ∷ gs) l zero p h = let is : opening_loop g ≡ p = cc in subst (λ (x : Core Desk). AreAnswered [] l x.loop.state.requests.outstanding) is tt
-opening_loops (g ∷ gs) l (suc n) p h = opening_loops gs l n p h
-
-opening_replies : (gs : List Setting) (l n : ℕ) (xs : List Answer) → slice_get (map (λ _. []) gs) n ≡ Some xs → AreReplies [] l xs
-opening_replies [] l n xs h = absurd (cc)
-opening_replies (g ∷ gs) l zero xs h = let is : [] ≡ xs = cc in subst (AreReplies [] l) is tt
-opening_replies (g ∷ gs) l (suc n) xs h = opening_replies gs l n xs h
-
 pub finished_after : (settings : List Setting) (workers : ℕ) (steps : List Step) (log : List LogEntry) (w : World) → WorldRun (opening_world settings workers) steps log w → AreFinished w log
 finished_after settings workers steps log w run =
-    run_finished steps log (opening_world settings workers) w [] (record { loops = λ n. opening_loops settings n n; replies = λ n. opening_replies settings n n }) run
+    kept_in_run 0 (λ w log made. AreFinished w log) (λ w log made s entry w' h was. step_next w w' log entry was s h) (opening_world settings workers) [] [] steps log w run
+    (record {
+      loops = λ n p at. subst (λ (x : Core Desk). AreAnswered [] n x.loop.state.requests.outstanding) (made_of opening_loop settings n p at).2 tt;
+      replies = λ n xs at. subst (AreReplies [] n) (made_of (λ _. []) settings n xs at).2 tt;
+    })
 
 -- no end is given as a cancellation
 no_end : (end : WorkEnd) → cancellation ≡ end_completion end → ⊥

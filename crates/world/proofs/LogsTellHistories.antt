@@ -9,7 +9,7 @@ use Rattle.std.proofs.lemmas.List.Sums.{sum_by_push}
 use Rattle.events.specs.declared.did.StepDid.{StepDid}
 use Rattle.events.specs.declared.did.StepDid.TheVariants as did
 use Rattle.events.specs.declared.phase.EntryKind.TheVariants as kind
-use Rattle.phases.specs.History.{Event, Stepped, OrderAsked, EndOffered, CancelAnswered, RequestAnswered, ClockRaised, MovedBeside, EventStep, History}
+use Rattle.phases.specs.History.{Event, Stepped, OrderAsked, EndOffered, CancelAnswered, RequestAnswered, ClockRaised, MovedBeside, EventStep}
 use Rattle.phases.specs.Laws.{is_after_event}
 use Rattle.phases.specs.Requests.{Requests}
 use Rattle.phases.specs.State.{Setting, Loop}
@@ -20,15 +20,6 @@ use Rattle.world_log.specs.declared.entry.LogEntry.TheVariants as line
 use Rattle.world.specs.World.{entry_told}
 use Rattle.world.specs.Histories.{is_of_owner, EntryTells, AreTold}
 use Rattle.world.specs.Laws.{is_after}
-
-pub history_push : (g : Setting) (events : List Event) (e : Event) (start old new : Loop Desk) → History desk_calls g start events old
-    → EventStep desk_calls g e old new → History desk_calls g start (events ++ e ∷ []) new
-history_push g [] e start old new h step = (new, subst (λ l. EventStep desk_calls g e l new) h step, refl)
-history_push g (x ∷ events) e start old new h step = (h.0, h.1, history_push g events e h.0 old new h.2 step)
-
-pub history_join : (g : Setting) (xs ys : List Event) (start mid new : Loop Desk) → History desk_calls g start xs mid → History desk_calls g mid ys new → History desk_calls g start (xs ++ ys) new
-history_join g [] ys start mid new h k = subst (λ l. History desk_calls g l ys new) h k
-history_join g (x ∷ xs) ys start mid new h k = (h.0, h.1, history_join g xs ys h.0 mid new h.2 k)
 
 module _ (j : ℕ) where
   pub told_push : (log : List LogEntry) (events : List Event) (entry : LogEntry) (e : Event) → AreTold j log events → EntryTells j entry e → AreTold j (log ++ entry ∷ []) (events ++ e ∷ [])

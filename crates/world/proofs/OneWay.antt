@@ -1,6 +1,6 @@
 -- One job's way through the log of a world.
 use Rattle.std.proofs.Common.{◌≡◌, ℕ, zero, suc, ◌+◌, ◌≤◌, ◌==◌, Bool, true, false, cond, ◌&&◌, inl, inr, ◌⊎◌, List, [], ◌∷◌, ◌++◌, length, map, replicate}
-use Rattle.std.proofs.Common.{Option, is_some, Some, None, refl, sym, ap, subst, ◌∙◌, arith, append_assoc, append-nil}
+use Rattle.std.proofs.Common.{Option, is_some, Some, None, refl, sym, ap, subst, ◌∙◌, arith}
 use Rattle.std.specs.Prelude.{slice_get, slice_set}
 use Rattle.std.specs.List.{count_by}
 use Rattle.std.proofs.lemmas.Bool.{cases_eq, eq-eqb, ne_eqb}
@@ -28,7 +28,7 @@ use Rattle.world_log.specs.declared.outcome.PostOutcome.TheVariants as post
 use Rattle.world_log.specs.declared.outcome.StartOutcome.TheVariants as start
 use Rattle.world_log.specs.declared.outcome.FinishOutcome.TheVariants as finish
 use Rattle.world_log.specs.declared.outcome.CollectOutcome.TheVariants as collect
-use Rattle.world.proofs.GuestsOfRuns.{step_calls}
+use Rattle.world.proofs.GuestsOfRuns.{step_calls, kept_in_run}
 use Rattle.world.specs.Histories.{EntryTells, AreTold, is_of_owner}
 use Rattle.world.specs.Laws.{is_of_job, is_post_of, is_taken, is_begun, is_dropped, is_finished, is_collected, GoesOnce, AreInPlace}
 use Rattle.world.specs.World.{World, Worker, Idle, Taken, Started, Answer, Only, UnlessFailed, PostsOrder, WorkerTakesJob, StartsJob, FinishesJob, CollectsFrom}
@@ -405,13 +405,6 @@ module _ (settings : List Setting) (placed : AreInPlace settings) (workers : ℕ
         subst (λ n. n ≤ 1) (sym (told_posted l r (log ++ entry ∷ []) it.events it.told))
         (once at.0.setting it.start at.0.loop it.events (opens_so l at.0.setting it.start it.begins) it.history r)
 
-  run_kept : (steps : List Step) (told : List LogEntry) (w w' : World) (log : List LogEntry) → IsCounted w log → WorldRun w steps told w' → IsCounted w' (log ++ told)
-  run_kept [] [] w w' log kept run = subst (λ x. IsCounted x (log ++ [])) (sym run) (subst (IsCounted w) (sym (append-nil log)) kept)
-  run_kept [] (e ∷ told) w w' log kept run = absurd run
-  run_kept (s ∷ steps) [] w w' log kept run = absurd run
-  run_kept (s ∷ steps) (e ∷ told) w w' log kept run =
-      subst (IsCounted w') (append_assoc log (e ∷ []) told) (run_kept steps told run.0 w' (log ++ e ∷ []) (step_counted w run.0 log s e run.1 kept) run.2)
-
   no_workers : (p : Worker → Bool) (k : ℕ) → p Idle ≡ false → count_by p (replicate k Idle) ≡ 0
   no_workers p zero e = refl
   no_workers p (suc k) e =
@@ -439,7 +432,7 @@ module _ (settings : List Setting) (placed : AreInPlace settings) (workers : ℕ
 
   pub one_way_after : (steps : List Step) (log : List LogEntry) (w : World) → WorldRun (opening_world settings workers) steps log w → GoesOnce l r log
   one_way_after steps log w run =
-      let it = run_kept steps log (opening_world settings workers) w [] opening_counted run in
+      let it = kept_in_run l (λ w log made. IsCounted w log) (λ w log made s entry w' h was. step_counted w w' log s entry h was) (opening_world settings workers) [] [] steps log w run opening_counted in
       let posted = it.balanced.posted in
       let taken = it.balanced.taken in
       let begun = it.balanced.begun in

@@ -1,6 +1,6 @@
 -- What the runs of a world are to one of its loops.
 use Rattle.std.proofs.Common.{◌≡◌, ◌≢◌, ◌↔◌, ℕ, zero, suc, ◌==◌, Bool, true, false, cond, inl, inr, ◌⊎◌, List, [], ◌∷◌, ◌++◌, length, Option, Some, None, refl}
-use Rattle.std.proofs.Common.{sym, ap, subst, ◌∙◌, append_assoc, append-nil}
+use Rattle.std.proofs.Common.{sym, ap, subst, ◌∙◌}
 use Rattle.std.specs.Prelude.{pos, slice_get, slice_set}
 use Rattle.std.specs.Int.{w32, cast_signed}
 use Rattle.std.specs.List.{Contains, count_by}
@@ -23,6 +23,7 @@ use Rattle.phases.specs.Requests.{Request, lowest_open}
 use Rattle.phases.specs.State.{Setting, State, Loop, Core}
 use Rattle.phases.specs.Step.{in_state}
 use Rattle.phases.proofs.Histories.{calls_push}
+use Rattle.phases.proofs.StepByStep.{steps_join}
 use Rattle.desk.specs.Desk.{Desk, desk_calls}
 use Rattle.desk.specs.Inner.Law.{desk_beside}
 use Rattle.world_log.specs.declared.step.Step.{Step}
@@ -33,10 +34,10 @@ use Rattle.world_log.specs.declared.outcome.PostOutcome.TheVariants as post
 use Rattle.world_log.specs.declared.outcome.CollectOutcome.TheVariants as collect
 use Rattle.world.specs.World.{World, Worker, Idle, Taken, Started, Answer, Only, UnlessFailed, StepsLoop, PostsJob, PostsOrder, WorkerTakesJob, StartsJob, FinishesJob}
 use Rattle.world.specs.World.{CollectsFrom, WorldStep, WorldRun, entry_told, core}
-use Rattle.world.proofs.GuestsOfRuns.{step_calls, guest_calls}
+use Rattle.world.proofs.GuestsOfRuns.{step_calls, guest_calls, kept_in_run}
 use Rattle.world.specs.Histories.{is_of_owner, EntryTells, AreTold}
 use Rattle.world.specs.Laws.{is_after}
-use Rattle.world.proofs.LogsTellHistories.{history_push, told_push, tells_callback, tells_cancel, contains_push, count_push}
+use Rattle.world.proofs.LogsTellHistories.{told_push, tells_callback, tells_cancel, contains_push, count_push}
 
 pub set_there : {X : Type 0} (xs : List X) (n k : ℕ) (v : X) → is_some (slice_get (slice_set xs n v) k) ≡ is_some (slice_get xs k)
 set_there (y ∷ ys) zero zero v = refl
@@ -93,7 +94,7 @@ module _ (Begins : Setting → Loop Desk → Type 0) (there : Bool) (j : ℕ) wh
     start = was.start;
     begins = was.begins;
     events = was.events ++ e ∷ [];
-    history = history_push g was.events e was.start l m was.history step;
+    history = steps_join (λ x e y. EventStep desk_calls g e x y) was.events (e ∷ []) was.start l m was.history (m, step, refl);
     told = told_push j log was.events entry e was.told tells;
     calls = calls_push was.events e ∙ ap (λ cs. cs ++ calls_in e) was.calls ∙ ap (λ cs. made ++ cs) is;
     callbacks = λ r. count_push j r log was.events entry e (was.callbacks r) (tells_callback j r entry e tells);
@@ -296,14 +297,4 @@ module _ (Begins : Setting → Loop Desk → Type 0) (there : Bool) (j : ℕ) wh
 
   pub run_keeps : (steps : List Step) (told : List LogEntry) (w w' : World) (log : List LogEntry) (made : List GuestCall) → Keeps w log made
       → (run : WorldRun w steps told w') → Keeps w' (log ++ told) (made ++ guest_calls j w steps told w' run)
-  run_keeps [] [] w w' log made keeps run =
-      subst (λ x. Keeps x (log ++ []) (made ++ [])) (sym run) (rw (append-nil log, append-nil made) keeps)
-  run_keeps [] (e ∷ told) w w' log made keeps run = absurd run
-  run_keeps (s ∷ steps) [] w w' log made keeps run = absurd run
-  run_keeps (s ∷ steps) (e ∷ told) w w' log made keeps run =
-      let next = step_next w log made keeps s e run.0 run.1 in
-      let more = step_calls j w s e run.0 run.1 in
-      let rest = guest_calls j run.0 steps told w' run.2 in
-      subst (λ x. Keeps w' x (made ++ (more ++ rest))) (append_assoc log (e ∷ []) told)
-      (subst (Keeps w' (log ++ e ∷ [] ++ told)) (append_assoc made more rest)
-      (run_keeps steps told run.0 w' (log ++ e ∷ []) (made ++ more) next run.2))
+  run_keeps steps told w w' log made keeps run = kept_in_run j Keeps (λ w log made s entry w' h was. step_next w log made was s entry w' h) w log made steps told w' run keeps

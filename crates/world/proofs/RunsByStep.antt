@@ -9,14 +9,6 @@ use Rattle.world.specs.World.{World, WorldStep, WorldRun}
 use Rattle.world.specs.declared.fault.WorldFault.{WorldFault}
 use Rattle.world.specs.Making.{MayFault, Stops}
 
--- one step more at the end
-pub run_more : (steps : List Step) (told : List LogEntry) (w mid w' : World) (s : Step) (entry : LogEntry) → WorldRun w steps told mid
-    → WorldStep mid s entry w' → WorldRun w (steps ++ s ∷ []) (told ++ entry ∷ []) w'
-run_more [] [] w mid w' s entry run h = (w', subst (λ x. WorldStep x s entry w') run h, refl)
-run_more [] (e ∷ told) w mid w' s entry run h = absurd run
-run_more (x ∷ steps) [] w mid w' s entry run h = absurd run
-run_more (x ∷ steps) (e ∷ told) w mid w' s entry run h = (run.0, run.1, run_more steps told run.0 mid w' s entry run.2 h)
-
 -- more steps from where some ended
 pub runs_join : (w mid w' : World) (steps more : List Step) (told lines : List LogEntry) → WorldRun w steps told mid → WorldRun mid more lines w' → WorldRun w (steps ++ more) (told ++ lines) w'
 runs_join w mid w' [] more [] lines run behind = subst (λ x. WorldRun x more lines w') run behind
@@ -36,7 +28,8 @@ pub has_run_more : (w mid w' : World) (steps : List Step) (i : ℕ) (d : Step) (
 has_run_more w mid w' steps i d old new new' below (told, written, run) (entry, more, h) = (
   told ++ entry ∷ [],
   more ∙ ap (λ es. es ++ entry ∷ []) written ∙ append_assoc old told (entry ∷ []),
-  subst (λ xs. WorldRun w xs (told ++ entry ∷ []) w') (sym (take_at_read steps i d below).1) (run_more (take i steps) told w mid w' (slice_index_or steps i d) entry run h),
+  subst (λ xs. WorldRun w xs (told ++ entry ∷ []) w') (sym (take_at_read steps i d below).1)
+      (runs_join w mid w' (take i steps) (slice_index_or steps i d ∷ []) told (entry ∷ []) run (w', h, refl)),
 )
 
 pub has_run_all : (w w' : World) (steps : List Step) (i : ℕ) (old new : List LogEntry) → length steps ≤ i → HasRun w (take i steps) old w' new → HasRun w steps old w' new

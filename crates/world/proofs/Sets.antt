@@ -1,5 +1,5 @@
 -- Lists of a world, and their changes at one place.
-use Rattle.std.proofs.Common.{◌≡◌, ◌≢◌, ℕ, zero, suc, ◌+◌, List, [], ◌∷◌, ◌++◌, length, Some, sym, ap, ◌∙◌, subst, arith}
+use Rattle.std.proofs.Common.{◌≡◌, ◌≢◌, ℕ, zero, suc, ◌+◌, List, [], ◌∷◌, ◌++◌, map, length, Some, refl, sym, ap, ◌∙◌, subst, arith}
 use Rattle.std.specs.Prelude.{slice_get, slice_set, All}
 use Rattle.std.proofs.lemmas.List.{length-set, length_push}
 use Rattle.std.proofs.lemmas.List.Elements.{All-push}
@@ -9,6 +9,12 @@ use Rattle.phases.specs.State.{Core}
 use Rattle.desk.specs.Desk.{Desk}
 use Rattle.world.specs.declared.worker.Worker.{Worker}
 use Rattle.world.specs.Making.{LoopsAreNumbered, IsJob, FitsLoops, WorldIsKept}
+
+-- what stands in a list that was made of another
+pub made_of : {X Y : Type 0} (f : X → Y) (xs : List X) (n : ℕ) (y : Y) → slice_get (map f xs) n ≡ Some y → (x : X) × (slice_get xs n ≡ Some x) × (f x ≡ y)
+made_of f [] n y h = absurd (cc)
+made_of f (x ∷ xs) zero y h = (x, refl, (cc))
+made_of f (x ∷ xs) (suc n) y h = made_of f xs n y h
 
 -- a loop stands otherwise, under the same number
 numbered_set : (k : ℕ) (ls : List (Core Desk)) (n : ℕ) (p q : Core Desk) → slice_get ls n ≡ Some p → q.setting ≡ p.setting → LoopsAreNumbered k ls → LoopsAreNumbered k (slice_set ls n q)

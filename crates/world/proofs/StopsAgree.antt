@@ -1,5 +1,5 @@
 -- Where a loop stopped is where the loop of that number in the world did.
-use Rattle.std.proofs.Common.{◌≡◌, ℕ, List}
+use Rattle.std.proofs.Common.{◌≡◌, ℕ}
 use Rattle.std.specs.Prelude.{Option, Some, None, IfSome, slice_get}
 use Rattle.instance.specs.Stops.{Halt}
 use Rattle.phases.specs.State.{Core}

@@ -12,6 +12,7 @@ use Rattle.phases.specs.State.{Setting}
 use Rattle.pool.specs.Turns.{Turn, ticket_in, started_by, put_for}
 use Rattle.serve.specs.declared.served.LoopEnding.{LoopEnding}
 use Rattle.serve.specs.declared.served.Served.{Served}
+use Rattle.serve.specs.HandedOut.{FoundBehind, passed_of}
 use Rattle.serve.specs.Histories.{HasEnded, thread_calls}
 use Rattle.serve.specs.Inner.Places.{EachPair}
 use Rattle.serve.specs.Joint.{asks}
@@ -50,10 +51,11 @@ module _ {J : Type 0} (ticket : J → Ticket) where
     pub offered : (h : HandView Reply) → slice_get pass.replies loop_no ≡ Some h → offered_in events ≡ map (λ n. offer_of n.item) h.taken
     pub own : (i : ℕ) (offer : WorkOrder × WorkEnd) → slice_get (offered_in events) i ≡ Some offer → offer.0.loop_no ≡ loop_no
 
-  -- a history of a loop that has ended so, which is tied to its pass
+  -- a history of a loop that has ended so, which is tied to its pass, and in which what is found started was handed out before
   pub record DidEvents (g : Setting) (ending : LoopEnding) (emits : List ℕ) (pass : PassView J) : Type 0 where
     pub ended : HasEnded thread_calls g ending emits
     pub tied : IsTied g.loop_no pass [] ended.done.events
+    pub found : FoundBehind [] (passed_of g ended.done)
 
   pub record LoopEnds (board : BoardView) (g : Setting) (served : Served) (pass : PassView J) : Type 0 where
     pub own : IsPassOf board pass

@@ -6,6 +6,7 @@ use Rattle.serve.specs.declared.record.LoopRecord.{LoopRecord}
 use Rattle.serve.specs.declared.served.LoopEnding.{LoopEnding}
 use Rattle.serve.specs.Histories.{HasDone, thread_calls}
 use Rattle.serve.specs.Inner.Ends.{IsTied}
+use Rattle.serve.specs.Inner.Posts.{IsBehind}
 use Rattle.serve.specs.Inner.Turns.{MayGoOn, EndsOrGoesOn}
 
 -- the loop may run callbacks yet, and a turn begins
@@ -13,10 +14,11 @@ abbrev pub CanGoOn : LoopRecord → Type 0
 CanGoOn r = MayGoOn thread_calls r.core.loop r.ran
 
 module _ {J : Type 0} (ticket : J → Ticket) where
-  -- a history of the loop, which is tied to its pass and to these jobs
+  -- a history of the loop, which is tied to its pass and to these jobs, and in which what is found started was handed out before
   pub record HasTied (t : LoopThread J) (kept : List J) : Type 0 where
     pub done : HasDone thread_calls t.recorded.core.setting t.recorded.core.loop t.recorded.ran t.recorded.emits.items
     pub tied : IsTied ticket t.loop_no t.pass kept done.events
+    pub behind : IsBehind t.recorded.core.setting done
 
   -- and to the job that is kept
   abbrev pub IsTiedSoFar : LoopThread J → Type 0

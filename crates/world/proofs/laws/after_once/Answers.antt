@@ -1,4 +1,4 @@
-use Rattle.std.proofs.Common.{◌≡◌, subst, sym, ap, ◌∙◌, ◌∷◌, ◌++◌}
+use Rattle.std.proofs.Common.{subst, sym, ap, ◌∙◌, ◌∷◌, ◌++◌}
 use Rattle.world.proofs.AfterOnce.{history_after, once_after, own_after, last_after}
 use Rattle.world.proofs.GuestsOfRuns.{step_calls, step_of, run_of, each_run_calls}
 use Rattle.world.specs.Histories.{HasHistory}

@@ -1,5 +1,5 @@
-use Rattle.std.proofs.Common.{◌≡◌, ◌<◌, All, sym, ap, ◌∙◌, subst, arith}
-use Rattle.claims.proofs.Allowed.{opens_at}
+use Rattle.std.proofs.Common.{◌≡◌, ◌+◌, ◌*◌, ◌<◌, All, sym, ap, ◌∙◌, subst, arith}
+use Rattle.claims.proofs.Allowed.{opens_at, opened_as, shows_opened}
 use Rattle.claims.proofs.claims.Claims.open.Goals as goal
 
 pub store-requires : goal.store-requires
@@ -15,6 +15,14 @@ store-requires c =
     let place = c.word_index-word.ensures in (
       own,
       omega arith,
-      opens_at _ _ _ i.loop_no c.args.slot c.args.request _ _ place c.word_of-new.ensures known.0 (omega arith) known.2 low c.requires.request.0
+      opens_at _ _ _ i.loop_no c.args.slot c.args.request _ _ i.is_posting place (c.word_of-new.ensures ∙ ap (λ k. 4 * c.args.request + k) c.state_at_open.ensures) known.0 (omega arith) known.2 low c.requires.request.0
           (subst (λ cs. All (λ x. x.1 < c.args.request) cs) (sym (ap (λ u. u.opened) c.seat.view_is)) c.requires.rising),
     )
+
+pub returns-clause-opened : goal.returns-clause-opened
+returns-clause-opened c =
+    let i = c.seat.inside in
+    let e = c.store.ensures in
+    shows_opened i.seat.table_id _ i.loop_no i.is_posting i.seat.me.0 _ _ (c.args.slot, c.args.request) c.seat.view_is e.0
+    (opened_as 0 i.loop_no c.args.slot c.args.request _ _ i.is_posting i.seat.me.0 _ c.word_index-word.ensures (c.word_of-new.ensures ∙ ap (λ k. 4 * c.args.request + k) c.state_at_open.ensures)
+    c.requires.slot e.2)

@@ -4,7 +4,7 @@ use Rattle.phases.specs.Ready.{Grows}
 use Rattle.phases.specs.State.{State}
 use Rattle.phases.specs.contracts.loop_state.LoopState.{the_view}
 use Rattle.phases.proofs.LoopsKeep.{next_unfailed}
-use Rattle.phases.proofs.Lowest.{lowest_next}
+use Rattle.phases.proofs.Lowest.{lowest_next, number_next}
 use Rattle.phases.proofs.OwnerCallsKeepListed.{grows_next}
 use Rattle.phases.proofs.loop_state.LoopState.next_order.Goals as goal
 
@@ -17,5 +17,6 @@ returns-in-Running c =
       order = c.next.ensures.order ∙ sym (ap (λ p. p.0) next);
       state = state;
       lowest = lowest_next s.requests c.keeps.ensures c.next.result c.next.ensures.order;
+      number = number_next s.requests c.keeps.ensures c.next.result c.next.ensures.order;
       grows = subst (Grows s) (sym state) (grows_next s c.keeps.ensures);
     })

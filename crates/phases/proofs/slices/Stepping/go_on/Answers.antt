@@ -54,7 +54,7 @@ over-core-requires-clause-bare g c =
     let i = c.self.inside in
     let v = c.self.invariant in
     let loaded : c.valid.result.now ≡ arc_value i.linked = c.valid.ensures.same ∙ c.deref.ensures in
-    ended_bare (arc_value i.linked).contents c.valid.result.now.contents (ap (λ (l : Loaded). l.contents) loaded) i.paused.function v.args v.callback.under_way.takes v.bare c.in-Some.ended.ending c.in-Some.ensures.results
+    ended_bare (arc_value i.linked).contents c.valid.result.now.contents (ap (λ (l : Loaded). l.contents) loaded) i.paused.function v.args v.callback.under_way.begun.takes v.bare c.in-Some.ended.ending c.in-Some.ensures.results
 
 pub invariant_of-result : goal.invariant_of-result
 invariant_of-result g c =

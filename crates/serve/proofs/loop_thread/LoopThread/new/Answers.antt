@@ -7,13 +7,14 @@ use Rattle.serve.specs.Histories.{thread_calls}
 use Rattle.serve.specs.Inner.Alone.{IsAlone}
 use Rattle.serve.proofs.OneEventMore.{opens_new}
 use Rattle.serve.specs.Inner.Ends.{IsTied}
+use Rattle.serve.proofs.PostsBehind.{posting_view, found_none, new_posts}
 use Rattle.serve.proofs.SentAlone.{none_sent}
 use Rattle.serve.proofs.Tying.{tied_new}
 use Rattle.serve.proofs.loop_thread.LoopThread.new.Goals as goal
 
 pub new-requires-2-clause-opens : goal.new-requires-2-clause-opens
 new-requires-2-clause-opens g c =
-    let seat = c.new-seats.ensures.loop_seat ∙ c.args.place.of_claims in
+    let seat = c.new-seats.ensures.loop_seat ∙ c.posting.ensures ∙ ap posting_view c.args.place.of_claims in
     let taker = c.new-seats.ensures.taker ∙ c.requires in
     let view : thread_calls.view c.new-seats.result ≡ new_view c.args.place.seat.loop_no = (λ i. view_by (seat i) (taker i)) in
     let new = c.in_ok-core in
@@ -29,4 +30,13 @@ pub returns-clause-told : goal.returns-clause-told
 returns-clause-told g c =
     let done = c.new-2.ensures.done in
     let place = c.args.place in
-    ∥∥₁_map place.new (λ new. record { done = done.0; tied = subst (IsTied g.J.Job.ticket c.loop_no-loop_no.result place.pass []) (sym done.1) (tied_new g.J.Job.ticket place.board.now c.loop_no-loop_no.result place.pass new) })
+    let seat = ap (λ (s : Seats). s.loop_seat) (c.new-2.ensures.shared ∙ c.in_ok-core.ensures.shared) ∙ c.new-seats.ensures.loop_seat ∙ c.posting.ensures ∙ ap posting_view place.of_claims in
+    ∥∥₁_map place.new
+    (λ new. record {
+      done = done.0;
+      tied = subst (IsTied g.J.Job.ticket c.loop_no-loop_no.result place.pass []) (sym done.1) (tied_new g.J.Job.ticket place.board.now c.loop_no-loop_no.result place.pass new);
+      behind = record {
+        posts = new_posts place.claims.now place.seat.loop_no _ c.new-2.result.core.loop.shared.loop_seat seat;
+        found = found_none c.new-2.result.core.setting done.0.events done.0.start c.new-2.result.core.loop done.0.history done.1;
+      };
+    })

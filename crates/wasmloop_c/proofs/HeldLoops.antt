@@ -1,11 +1,11 @@
 -- A loop in a step keeps the number that its jobs carry.
-use Rattle.std.proofs.Common.{◌≡◌, ◌⊎◌, ℕ, refl, sym, ap, ◌∙◌, subst, inl, inr}
+use Rattle.std.proofs.Common.{◌≡◌, ℕ, sym, ap, ◌∙◌, subst}
 use Rattle.std.proofs.Math.Logic.{∥∥₁_elim, ∥∥₁_map}
 use Rattle.std.proofs.Math.Nat.{ℕ_set}
 use Rattle.desk.specs.Desk.{Desk, desk_calls}
 use Rattle.phases.specs.Slices.{StepBegins, StepGoesOn}
 use Rattle.phases.specs.State.{Core}
-use Rattle.phases.specs.Underway.{StepInSlices, StepHasCome}
+use Rattle.phases.specs.Underway.{StepInSlices}
 use Rattle.phases.specs.declared.slices.StepSlice.{StepSlice}
 use Rattle.phases.specs.declared.slices.StepSlice.TheVariants as slice
 use Rattle.wasmloop_c.specs.Inner.Held.{IsStepOfLoop}

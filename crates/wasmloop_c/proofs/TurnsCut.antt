@@ -1,10 +1,10 @@
 -- The steps of a turn in slices, one after the other.
-use Rattle.std.proofs.Common.{◌≡◌, ◌≤◌, ◌<◌, ◌+◌, ◌-◌, ◌^◌, ◌==◌, ◌⊎◌, ℕ, Bool, true, false, List, [], ◌∷◌, length, refl, sym, ap, ◌∙◌, subst, inl, inr, arith}
-use Rattle.std.specs.Prelude.{min, Option, Some, None}
+use Rattle.std.proofs.Common.{◌≡◌, ◌≤◌, ◌<◌, ◌+◌, ◌==◌, ◌⊎◌, ℕ, true, false, List, [], ◌∷◌, length, refl, sym, ap, ◌∙◌, subst, inl, inr, arith}
+use Rattle.std.specs.Prelude.{Some}
 use Rattle.desk.specs.Desk.{Desk, desk_calls}
 use Rattle.events.specs.declared.did.StepDid.{StepDid}
 use Rattle.events.specs.declared.did.StepDid.TheVariants as step_did
-use Rattle.phases.specs.Slices.{StepBegins, StepGoesOn, StepIsOver, StepIsPaused}
+use Rattle.phases.specs.Slices.{StepBegins, StepGoesOn}
 use Rattle.phases.specs.State.{Core}
 use Rattle.phases.specs.Step.{RanNone}
 use Rattle.phases.specs.Underway.{StepInSlices, StepHasCome, used_by_step}
@@ -12,13 +12,13 @@ use Rattle.phases.specs.declared.slices.StepSlice.{StepSlice}
 use Rattle.phases.specs.declared.slices.StepSlice.TheVariants as slice
 use Rattle.wasmloop_c.specs.Calls.{StepsNumbered, core_in, one_if}
 use Rattle.wasmloop_c.specs.Numbers.{did_of}
-use Rattle.wasmloop_c.specs.StepSlices.{LeftByStep, GoesOnFrom, RunsStep, step_held}
+use Rattle.wasmloop_c.specs.StepSlices.{LeftByStep, RunsStep, step_held}
 use Rattle.wasmloop_c.specs.TurnSlices.{LoopIsAt, SliceEnds, SliceGoesOn, StepIsTaken, StepIsUnderway, TakesSlices, TurnsStage, WaitsFor, counted_on, fuel_in, last_did, refusal, used_in}
-use Rattle.wasmloop_c.specs.Turning.{ends_turn, ran_in, NoneEnds, TakesSteps, TurnSteps}
+use Rattle.wasmloop_c.specs.Turning.{ends_turn, ran_in, NoneEnds, TakesSteps}
 use Rattle.wasmloop_c.specs.declared.did.Did.{Did}
 use Rattle.wasmloop_c.specs.declared.did.TheConstants.{RAN}
 use Rattle.wasmloop_c.specs.declared.held.HeldLoop.{HeldLoop}
-use Rattle.wasmloop_c.specs.declared.status.TheConstants.{OK, KIND, MEMORY}
+use Rattle.wasmloop_c.specs.declared.status.TheConstants.{OK}
 use Rattle.wasmloop_c.specs.declared.step_slices.SliceEnd.{SliceEnd}
 use Rattle.wasmloop_c.specs.declared.step_slices.SliceEnd.TheVariants as end
 use Rattle.wasmloop_c.specs.declared.thing.LoopStage.{LoopStage}

@@ -1,6 +1,5 @@
 -- What C gets in numbers.
 use Rattle.std.specs.Prelude.{ℕ, length}
-use Rattle.std.specs.Arc.{arc_value}
 use Rattle.decode.specs.Faults.{number_of_decode_fault as decode_number}
 use Rattle.validate.specs.Faults.{number_of_valid_fault as valid_number}
 use Rattle.imports.specs.Linking.{number_of_link_fault as link_number}

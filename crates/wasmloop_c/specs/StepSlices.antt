@@ -1,5 +1,5 @@
 -- What a slice does to the step of the loop that its handle has.
-use Rattle.std.specs.Prelude.{◌≡◌, ◌⊎◌, ℕ, List, length, Option, Some, None}
+use Rattle.std.specs.Prelude.{◌≡◌, ◌⊎◌, ℕ, length, Option, Some, None}
 use Rattle.desk.specs.Desk.{Desk, desk_calls}
 use Rattle.phases.specs.Slices.{StepBegins, StepGoesOn}
 use Rattle.phases.specs.Underway.{StepInSlices}

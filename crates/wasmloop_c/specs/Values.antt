@@ -38,15 +38,18 @@ abbrev pub results_of : Ending → List Value
 results_of (Return values) = values
 results_of _ = []
 
--- how a call ended: its results are followed by zeros
-abbrev pub call_numbers : Ended → CallEnded
-call_numbers e = record {
-  ending = (ending_numbers e.ending).0;
-  trap = (ending_numbers e.ending).1;
-  results = length (results_of e.ending);
-  used = e.used;
-  result = copied (map number_of_value (results_of e.ending)) (replicate MAX_RESULTS 0);
+-- how a call ended, in numbers: its results are followed by zeros
+abbrev pub told_in : ℕ × ℕ → (used : ℕ) → List Value → CallEnded
+told_in numbers used results = record {
+  ending = numbers.0;
+  trap = numbers.1;
+  results = length results;
+  used = used;
+  result = copied (map number_of_value results) (replicate MAX_RESULTS 0);
 }
+
+abbrev pub call_numbers : Ended → CallEnded
+call_numbers e = told_in (ending_numbers e.ending) e.used (results_of e.ending)
 
 -- a value, with the number of its type
 abbrev pub value_numbers : Value → Number

@@ -2,10 +2,11 @@
 
 ghost use Rattle.std.specs.Prelude.{◌≡◌, length, map, slice_get, true, false, Some, None, option_map, IfOk};
 ghost use Rattle.wasmloop_c.specs.Calls.{copied};
-ghost use Rattle.wasmloop_c.specs.Values.{typed, values_of, number_of_value, results_of, call_numbers};
+ghost use Rattle.wasmloop_c.specs.Values.{typed, values_of, number_of_value, results_of, told_in, call_numbers};
+ghost use Rattle.interp.specs.Lent.{ending_with, ended_with};
 
-use crate::did::numbers_of_ending;
-use events::ended::{Ended, Ending};
+use crate::did::{numbers_of_bare, numbers_of_ending};
+use events::ended::{BareEnded, BareEnding, Ended, Ending};
 use limits::MAX_RESULTS;
 use std::alloc::{AllocError, Global};
 use syntax::types::{ValType, Value};
@@ -112,18 +113,43 @@ fn results_of(ending: &Ending) -> &[Value]
     }
 }
 
+/// The results of a call that ended so: those that were written, where it returned.
+fn results_with(ending: BareEnding, written: &[Value]) -> &[Value]
+    ensures { result.now ≡ results_of (ending_with ending written.now) }
+{
+    match ending {
+        BareEnding::Return => written,
+        _ => &[],
+    }
+}
+
 impl CallEnded {
     /// Writes the ended call in numbers.
     pub fn write(&mut self, ended: &Ended)
         ensures { self.new ≡ call_numbers ended.now }
     {
-        let (ending, trap) = numbers_of_ending(&ended.ending);
-        let values = results_of(&ended.ending);
+        let numbers = numbers_of_ending(&ended.ending);
+        self.put(numbers, ended.used, results_of(&ended.ending));
+    }
+
+    /// Writes in numbers a call that ended so, with these results where it returned.
+    pub fn write_with(&mut self, ended: BareEnded, results: &[Value])
+        ensures { self.new ≡ call_numbers (ended_with ended results.now) }
+    {
+        let numbers = numbers_of_bare(ended.ending);
+        self.put(numbers, ended.used, results_with(ended.ending, results));
+    }
+
+    /// Writes an ending and its trap, the fuel that was used, and the results.
+    fn put(&mut self, numbers: (u32, u32), used: u64, results: &[Value])
+        ensures { self.new ≡ told_in numbers used results.now }
+    {
+        let (ending, trap) = numbers;
         self.ending = ending;
         self.trap = trap;
-        self.results = values.len() as u64;
-        self.used = ended.used;
+        self.results = results.len() as u64;
+        self.used = used;
         self.result = [0; MAX_RESULTS];
-        copy_numbers(values, &mut self.result);
+        copy_numbers(results, &mut self.result);
     }
 }

@@ -1,7 +1,6 @@
 // What can be read of an instance: of one that is kept, of a loop's, and of one between two slices of a call.
 
 ghost use Rattle.std.specs.Prelude.{◌≡◌, option_map};
-ghost use Rattle.std.specs.Arc.{arc_value};
 ghost use Rattle.wasmloop_c.specs.Calls.{ReadsHandle};
 ghost use Rattle.wasmloop_c.specs.Inspecting.{store_in, store_of, StandsIn, Stands, ReadsSize, ReadsMemory, CopiesMemory, ReadsGlobal, TellsGlobal};
 ghost use Rattle.wasmloop_c.specs.Values.{value_numbers};

@@ -1,6 +1,6 @@
 // Instances that are kept from call to call.
 
-ghost use Rattle.std.specs.Prelude.{◌≡◌, ◌≤◌, ◌<◌, ◌↔◌, ◌⊎◌, Some, None, IfOk, IfErr, IsSomeAnd};
+ghost use Rattle.std.specs.Prelude.{◌≡◌, ◌≤◌, ◌<◌, ◌↔◌, ◌⊎◌, length, Some, None, IfOk, IfErr, IsSomeAnd};
 ghost use Rattle.std.specs.Arc.{arc_value};
 ghost use Rattle.limits.specs.declared.TheConstants.{MAX_DEPTH};
 ghost use Rattle.syntax.specs.declared.contents.FuncType.{FuncType};
@@ -16,8 +16,7 @@ use crate::ended::{CallEnded, lay, values};
 use crate::handle::{Handle, on};
 use crate::status::{ARGUMENTS, KIND, MEMORY, NONE, NOT_STARTED, OK, RANGE};
 use crate::thing::{InstanceStage, Room, Thing, instance_room};
-use events::ended::{Ended, Ending};
-use events::values::Values;
+use events::ended::Ending;
 use imports::Linked;
 use limits::MAX_DEPTH;
 use resident::Resident;
@@ -135,8 +134,30 @@ pub fn named(
     }
 }
 
-/// Calls a function of an instance with these arguments.
+/// Calls a function of an instance that has so many results, at most one, with these arguments.
+#[inline(always)]
 fn call_with(
+    resident: &mut Resident,
+    function: u32,
+    count: usize,
+    args: &[Value],
+    limits: CallLimits,
+    told: &mut CallEnded,
+)
+    requires typed { TakesArguments resident.old.loaded.contents function args.now }
+    requires counted { (type : FuncType) × HasFunctionType resident.old.loaded.contents function type × (length type.results ≡ count) }
+    requires few { count ≤ 1 }
+    requires depth { (1 ≤ limits.depth) × (limits.depth ≤ MAX_DEPTH) }
+    ensures { (ended : HowEnded) × CallsInstance resident.old limits.depth limits.fuel function args.now ended resident.new × (told.new ≡ call_numbers ended) }
+{
+    let mut one = [Value::I32(0)];
+    let results = &mut one[..count];
+    let ended = resident.call_into(function, args, limits.fuel, limits.depth, results);
+    told.write_with(ended, results);
+}
+
+/// Calls a function of an instance with these arguments, however many results it has.
+fn call_any(
     resident: &mut Resident,
     function: u32,
     args: &[Value],
@@ -147,15 +168,12 @@ fn call_with(
     requires depth { (1 ≤ limits.depth) × (limits.depth ≤ MAX_DEPTH) }
     ensures { (ended : HowEnded) × CallsInstance resident.old limits.depth limits.fuel function args.now ended resident.new × (told.new ≡ call_numbers ended) }
 {
-    let mut ended = Ended {
-        ending: Ending::Return(Values::empty()),
-        used: 0,
-    };
-    resident.call_lent(function, args, limits.fuel, limits.depth, &mut ended);
+    let ended = resident.call(function, args, limits.fuel, limits.depth);
     told.write(&ended);
 }
 
-/// Calls a function of an instance with these numbers.
+/// Calls a function of an instance with these numbers. Where it has few arguments and at most one result, as most have, no memory is taken,
+/// and no room for more results is filled.
 #[tactic(auto, using(crate::proofs::ValuesRead::takes))]
 pub fn call_function(
     alloc: Global,
@@ -173,22 +191,23 @@ pub fn call_function(
         unreachable!()
     };
     let types = func_type.params.as_slice();
-    if types.len() <= FEW && numbers.len() == types.len() {
-        let mut room = [Value::I32(0); FEW];
-        let args = &mut room[..types.len()];
-        if !lay(types, numbers, args) {
+    let count = func_type.results.len();
+    if types.len() > FEW || numbers.len() != types.len() || count > 1 {
+        let Ok(made) = values(alloc, types, numbers) else {
+            return MEMORY;
+        };
+        let Some(args) = made else {
             return ARGUMENTS;
-        }
-        call_with(resident, function, args, limits, told);
+        };
+        call_any(resident, function, args.as_slice(), limits, told);
         return OK;
     }
-    let Ok(made) = values(alloc, types, numbers) else {
-        return MEMORY;
-    };
-    let Some(args) = made else {
+    let mut room = [Value::I32(0); FEW];
+    let args = &mut room[..types.len()];
+    if !lay(types, numbers, args) {
         return ARGUMENTS;
-    };
-    call_with(resident, function, args.as_slice(), limits, told);
+    }
+    call_with(resident, function, count, args, limits, told);
     OK
 }
 

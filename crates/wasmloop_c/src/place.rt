@@ -1,6 +1,6 @@
 // Where a loop's last callback stopped, or a job, or an instance's last call, in words.
 
-ghost use Rattle.std.specs.Prelude.{◌≡◌, option_map};
+ghost use Rattle.std.specs.Prelude.{option_map};
 ghost use Rattle.wasmloop_c.specs.Calls.{ReadsHandle};
 ghost use Rattle.wasmloop_c.specs.Sites.{told_of};
 ghost use Rattle.wasmloop_c.specs.Sentences.{Untold, TellsPlace, TellsPlaceOf};

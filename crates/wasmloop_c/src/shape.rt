@@ -1,10 +1,10 @@
 // What a module has that a host looks for.
 
-ghost use Rattle.std.specs.Prelude.{◌≡◌, length, is_some};
+ghost use Rattle.std.specs.Prelude.{◌≡◌, is_some};
 ghost use Rattle.imports.specs.Uv.{name_of_entry};
 ghost use Rattle.instance.specs.Store.{page_limit};
 ghost use Rattle.validate.specs.Segments.{minimum};
-ghost use Rattle.wasmloop_c.specs.Calls.{ReadsHandle, ReadsModule, IsShapeOf, TellsEntry, one_if};
+ghost use Rattle.wasmloop_c.specs.Calls.{ReadsHandle, ReadsModule, IsShapeOf, TellsEntry};
 
 use crate::handle::{Handle, on};
 use crate::status::{KIND, OK};

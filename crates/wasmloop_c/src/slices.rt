@@ -1,7 +1,6 @@
 // Jobs in slices.
 
 ghost use Rattle.std.specs.Prelude.{◌≡◌, ◌≤◌, ◌<◌};
-ghost use Rattle.order.specs.Slices.{OrderGoesOn};
 ghost use Rattle.wasmloop_c.specs.Calls.{OnHandle};
 ghost use Rattle.wasmloop_c.specs.Slices.{BeginsJob, LeftBy, RunsFor, RunsStageFor};
 

@@ -1,6 +1,6 @@
 // Where a loop's last callback stopped, or a job, or an instance's last call; or where a job or a call stands between two slices.
 
-ghost use Rattle.std.specs.Prelude.{◌≡◌, Option, length, slice_get, option_map};
+ghost use Rattle.std.specs.Prelude.{◌≡◌, Option, slice_get, option_map};
 ghost use Rattle.instance.specs.Stops.{Halt};
 ghost use Rattle.order.specs.Slices.{OrderStandsAt};
 ghost use Rattle.resident.specs.Slices.{CallStandsAt};

@@ -2,9 +2,7 @@
 
 ghost use Rattle.std.specs.Prelude.{◌≡◌, ◌≤◌, ◌<◌};
 ghost use Rattle.wasmloop_c.specs.Calls.{OnLoop, OnResting, OnHeldLoop, StepsNumbered};
-ghost use Rattle.wasmloop_c.specs.Numbers.{hint_number};
 ghost use Rattle.wasmloop_c.specs.Turning.{begun_callbacks, ends_turn, wait_after, TurnSteps, Turns};
-ghost use Rattle.phases.specs.PhaseList.{hint_of};
 
 use crate::did::{Did, ENTERED, RAN, RETURN, SKIPPED, TIMERS};
 use crate::handle::{Handle, on};

@@ -1,6 +1,5 @@
 // What a module lacks to run on a loop, in sentences.
 
-ghost use Rattle.std.specs.Prelude.{◌≡◌};
 ghost use Rattle.wasmloop_c.specs.Calls.{ReadsHandle};
 ghost use Rattle.wasmloop_c.specs.Sentences.{Untold, TellsWarning, TellsWarningOf};
 

@@ -1,4 +1,4 @@
-use Rattle.std.proofs.Common.{◌≡◌, refl, ap, subst, inl, inr}
+use Rattle.std.proofs.Common.{refl, ap, subst, inl, inr}
 use Rattle.desk.specs.Desk.{Desk, desk_calls}
 use Rattle.phases.specs.Slices.{StepBegins}
 use Rattle.phases.specs.declared.slices.StepSlice.{StepSlice}

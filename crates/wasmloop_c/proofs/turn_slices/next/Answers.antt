@@ -1,8 +1,7 @@
-use Rattle.std.proofs.Common.{rules, ◌≡◌, ◌≤◌, ◌<◌, ◌+◌, ◌-◌, ◌==◌, ℕ, true, false, refl, sym, ap, ◌∙◌, subst, inl, inr, arith}
+use Rattle.std.proofs.Common.{rules, ◌≡◌, ◌<◌, ◌+◌, ◌-◌, ◌==◌, ℕ, refl, sym, ap, ◌∙◌, subst, inl, arith}
 use Rattle.wasmloop_c.specs.Calls.{one_if}
 use Rattle.wasmloop_c.specs.StepSlices.{RunsStep}
 use Rattle.wasmloop_c.specs.TurnSlices.{StepIsTaken, used_in}
-use Rattle.wasmloop_c.specs.Turning.{ends_turn}
 use Rattle.wasmloop_c.specs.declared.did.TheConstants.{RAN}
 use Rattle.wasmloop_c.specs.declared.step_slices.SliceEnd.{SliceEnd}
 use Rattle.wasmloop_c.specs.declared.thing.LoopStage.{LoopStage}

@@ -1,4 +1,4 @@
-use Rattle.std.proofs.Common.{◌≡◌, ◌≤◌, ◌<◌, ◌+◌, ◌-◌, ◌^◌, ℕ, refl, sym, ap, ◌∙◌, subst, inl, inr, arith}
+use Rattle.std.proofs.Common.{◌≡◌, ◌-◌, ◌^◌, refl, ap, ◌∙◌, subst, inl, inr, arith}
 use Rattle.wasmloop_c.specs.TurnSlices.{TakesSlice, refusal}
 use Rattle.wasmloop_c.specs.declared.thing.LoopStage.{LoopStage}
 use Rattle.wasmloop_c.specs.declared.turn_slices.Turning.{Turning}

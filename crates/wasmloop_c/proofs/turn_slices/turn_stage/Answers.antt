@@ -1,4 +1,4 @@
-use Rattle.std.proofs.Common.{◌≡◌, ◌≤◌, ◌<◌, ◌+◌, ◌-◌, ◌^◌, ℕ, refl, sym, ap, ◌∙◌, subst, inl, inr, arith}
+use Rattle.std.proofs.Common.{◌≡◌, ◌+◌, ◌-◌, ◌^◌, ℕ, refl, ap, ◌∙◌}
 use Rattle.std.specs.Prelude.{min}
 use Rattle.wasmloop_c.specs.TurnSlices.{counted_on}
 use Rattle.wasmloop_c.specs.declared.did.Did.{Did}

@@ -128,7 +128,8 @@ ALL = [
     Place("crates/syntax/specs/Inner/Tokens.antt", {
         "blocktype": "token (op.{variant} t) = byte {hex} ⨾ block_type t", "else|end": "token op.{variant} = byte {hex}"},
           r"^token \(?op\.(?P<key>(?!Plain)\w+)[^\n]*", "token : "),
-    Place(CODES, {"blocktype": "sequence ({variant} = byte {hex}"}, r"^sequence \((?P<key>Block|Loop|If)[^=]*=\s*(?P<text>byte 0x\w\w)", "sequence : "),
+    Place(CODES, {"block|loop": "structured_opcode As{variant} = {hex}"}, r"^structured_opcode As(?P<key>\w+)[^\n]*", "structured_opcode : "),
+    Place(CODES, {"if": "sequence ({variant} = byte {hex}"}, r"^sequence \((?P<key>If)[^=]*=\s*(?P<text>byte 0x\w\w)", "sequence : "),
     ByOpcode(HEAD, {
         "float": "Head::Float", "none": "Head::Unknown", BRACKET: "Head::Unknown", "labels": "Head::BrTable", "type": "Head::CallIndirect",
         "Const": "Head::{of}Const", "memarg": "Head::WithAccess(Access::{kind}({rust}))", "zero": "Head::Reserved(Op::{variant})",
@@ -205,7 +206,7 @@ PLANTED = [  # what is wrong, and where which text becomes which
     ("where an operator stands", CODES, "binary.ShrU = 12", "binary.ShrU = 13"),
     ("the first opcode of a kind", CODES, r"0x51 \+", "0x50 +"),
     ("what stands behind an opcode", CODES, "(MemoryGrow = byte 0x0)0", r"\g<1>1"),
-    ("the opcode of a block", CODES, r"(sequence \(Loop .*byte 0x0)3", r"\g<1>2"),
+    ("the opcode of a block", CODES, r"(structured_opcode AsLoop = 0x0)3", r"\g<1>2"),
     ("a payload", "crates/syntax/specs/Inner/Payloads.antt", r"\(instr.Br l\) = Index", "(instr.Br l) = Indirect"),
     ("two of a list change places", "crates/syntax/proofs/InstructionLaws.antt", "instr.Drop ∷ instr.Select", "instr.Select ∷ instr.Drop"),
     ("the opcode of a token", "crates/syntax/specs/Inner/Tokens.antt", "op.Else = byte 0x05", "op.Else = byte 0x06"),

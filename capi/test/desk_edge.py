@@ -28,8 +28,9 @@ def free_port():
 
 
 def connection(port):
+    """A connection once the server listens, from another address: a client that asks too early can't be given the server's port, and so connect to itself."""
     for _ in range(100):
-        made = http.client.HTTPConnection("127.0.0.1", port, timeout=SECONDS)
+        made = http.client.HTTPConnection("127.0.0.1", port, timeout=SECONDS, source_address=("127.0.0.2", 0))
         try:
             made.connect()
             return made

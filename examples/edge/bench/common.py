@@ -41,10 +41,11 @@ def free_port():
 
 
 def listening(server, port):
-    """The server, once it listens."""
+    """The server, once it listens. Asks from another address: a client that asks too early could be given the server's port, and so connect to
+    itself."""
     for _ in range(1200):
         with contextlib.suppress(OSError):
-            socket.create_connection(("127.0.0.1", port)).close()
+            socket.create_connection(("127.0.0.1", port), None, ("127.0.0.2", 0)).close()
             return server
         if server.poll() is not None:
             break

@@ -8,7 +8,7 @@ for guest in "$room"/*.wasm; do echo 'deadline 60000' > "${guest%.wasm}.conf"; d
 echo 'type text/plain' >> "$room/hello.conf"
 "$1" -p "$port" -w 3 "$room" > "$room/access" & pid=$!
 trap 'kill $pid; wait $pid; rm -rf "$room"' EXIT
-curl -s --retry 50 --retry-connrefused --retry-delay 1 -o "$room/got" "http://127.0.0.1:$port/-/metrics"
+curl -s --interface 127.0.0.2 --retry 50 --retry-connrefused --retry-delay 1 -o "$room/got" "http://127.0.0.1:$port/-/metrics"
 grep '^    curl ' "$here/README.md" | sed "s/8080/$port/" > "$room/lines"
 while IFS= read -r line; do
     wanted=${line##*# } count=$((count + 1))

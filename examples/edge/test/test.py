@@ -63,7 +63,8 @@ class Server:
         until("the server listens", self.listens, 120)
 
     def listens(self):
-        """Starts it, again if another process has taken its port."""
+        """Starts it, again if another process has taken its port. Asks from another address: a client that asks too early could be given the
+        server's port, and so connect to itself."""
         if not self.process or self.process.poll() is not None:
             with socket.socket() as s:
                 s.bind(("127.0.0.1", 0))
@@ -73,7 +74,7 @@ class Server:
                 edge = ["/usr/bin/python3", HERE.parent / "edge.py", str(self.folder), str(self.port), "3"]
             self.process = subprocess.Popen(edge, stdout=self.log, stderr=subprocess.PIPE, text=True)
         with contextlib.suppress(OSError):
-            self.connect().close()
+            self.connect("127.0.0.2").close()
             return self.process.poll() is None
         return False
 

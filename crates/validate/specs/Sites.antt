@@ -9,8 +9,8 @@ use Rattle.syntax.specs.Code.{Code, operations}
 use Rattle.validate.specs.declared.fault.BodyFault.{BodyFault}
 use Rattle.validate.specs.declared.fault.BodyFault.TheVariants as body
 use Rattle.validate.specs.declared.fault.ValidFault.{ValidFault}
-use Rattle.validate.specs.declared.fault.ValidFault.TheVariants.{BadType, Index, Label, Align, Mutability, Result, Export, Start, Constant}
-use Rattle.validate.specs.declared.fault.ValidFault.TheVariants.{Height, Nesting, Memory}
+use Rattle.validate.specs.declared.fault.ValidFault.TheVariants.{Index, Result, Export, Start, Constant}
+use Rattle.validate.specs.declared.fault.ValidFault.TheVariants.{Memory}
 use Rattle.validate.specs.declared.site.InvalidPart.{InvalidPart}
 use Rattle.validate.specs.declared.site.InvalidPart.TheVariants as site
 use Rattle.validate.specs.Faults.{fault_of}

@@ -7,7 +7,7 @@ ghost use Rattle.validate.specs.Faults.{fault_of};
 ghost use Rattle.validate.specs.Inner.Placing.{site_in};
 
 use crate::fault::{BodyFault, ValidFault};
-use std::alloc::AllocFailed;
+use std::alloc::{AllocError, AllocFailed};
 use syntax::types::ValType;
 
 /// What of the operands doesn't fit an operation.
@@ -93,6 +93,16 @@ impl BodyRefused {
             fault: ValidFault::from(self.fault),
             site,
         }
+    }
+}
+
+impl From<AllocError> for BodyRefused {
+    ghost use Rattle.validate.specs.declared.fault.BodyFault.TheVariants as fault;
+
+    ghost from_gives = { λ _ refused. (refused.fault ≡ fault.Memory) × (refused.operation ≡ None) };
+
+    fn from(e: AllocError) -> BodyRefused {
+        BodyRefused::from(BodyFault::from(e))
     }
 }
 

@@ -1,10 +1,8 @@
 // A stack that is looked into from its top.
 
-ghost use Rattle.std.specs.Prelude.{◌≡◌, [], ◌∷◌, length, slice_get, MatchOption, IfOk, IfErr};
-ghost use Rattle.validate.specs.declared.fault.BodyFault.TheVariants as fault;
+ghost use Rattle.std.specs.Prelude.{◌≡◌, [], ◌∷◌, length, slice_get, MatchOption, IfOk};
 
-use crate::fault::BodyFault;
-use std::alloc::Global;
+use std::alloc::{AllocError, Global};
 use std::marker::Model;
 
 /// A stack. Contracts see its top first.
@@ -49,9 +47,8 @@ impl<T: Copy> Stack<T> {
     }
 
     /// Puts one on top.
-    pub fn push(&mut self, item: T) -> Result<(), BodyFault>
-        ensures pushed { IfOk result (λ _. self.new ≡ item ∷ self.old) }
-        ensures refused { IfErr result (λ e. e ≡ fault.Memory) }
+    pub fn push(&mut self, item: T) -> Result<(), AllocError>
+        ensures { IfOk result (λ _. self.new ≡ item ∷ self.old) }
     {
         self.items.push(item)?;
         Ok(())

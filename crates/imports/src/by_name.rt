@@ -12,7 +12,7 @@ use syntax::contents::Contents;
 pub(crate) const KEPT_CALLS: usize = 24;
 
 /// What is kept of an entry that isn't there. No function has this index.
-const NO_ENTRY: u16 = u16::MAX;
+pub(crate) const NO_ENTRY: u16 = u16::MAX;
 
 /// The function of the host behind an import, found by its name.
 #[cold]
@@ -54,7 +54,7 @@ fn entry_of(contents: &Contents, entry: EntryPoint) -> Option<u32>
 
 /// An entry, or none, in two bytes.
 fn keep_entry(entry: Option<u32>) -> u16
-    requires { IfSome entry (λ index. index < 65535) }
+    requires { IfSome entry (λ index. index < NO_ENTRY) }
     ensures { entry_kept result ≡ entry }
 {
     match entry {

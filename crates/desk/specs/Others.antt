@@ -1,6 +1,7 @@
 -- A desk at which workers and other threads are at work too: between any two calls of the loop they may move.
-use Rattle.std.specs.Prelude.{◌≡◌, ℕ, ◌<◌, true, List, [], ◌∷◌}
+use Rattle.std.specs.Prelude.{◌≡◌, ℕ, ◌<◌, true, List}
 use Rattle.limits.specs.declared.TheConstants.{MAX_ASYNCS}
+use Rattle.reduction.specs.StepByStep.{StepByStep}
 use Rattle.phases.specs.Calls.{Calls}
 use Rattle.desk.specs.Desk.{Desk, is_open_request, started, sent_by_another, desk_calls}
 
@@ -16,8 +17,7 @@ MoveStep (Send async_no) d e = (async_no < MAX_ASYNCS) × (e ≡ sent_by_another
 
 -- some moves, one after another
 abbrev pub MoveSteps : List OthersMove → Desk → Desk → Type 0
-MoveSteps [] d e = e ≡ d
-MoveSteps (m ∷ moves) d e = (mid : Desk) × MoveStep m d mid × MoveSteps moves mid e
+MoveSteps moves d e = StepByStep (λ d m e. MoveStep m d e) moves d e
 
 -- others move, and then the loop calls
 abbrev pub AfterMoves : (Desk → Desk → Type 0) → Desk → Desk → Type 0

@@ -11,6 +11,7 @@ use Rattle.syntax.specs.declared.types.Value.TheVariants.{I32}
 use Rattle.instance.specs.Store.{Store}
 use Rattle.reduction.specs.Run.{HostCall, RunEnd, Returned}
 use Rattle.reduction.specs.Hosting.{Lawful}
+use Rattle.reduction.proofs.StepByStep.{steps_keep}
 use Rattle.imports.specs.declared.call.Call.{Call}
 use Rattle.imports.specs.declared.call.Call.TheVariants.{InLen, InCopy, OutSet}
 use Rattle.order.specs.declared.uv.answers.TheConstants.{INVALID, OUTSIDE_MEMORY}
@@ -44,9 +45,7 @@ call_short bytes reply call reply' OutSet (I32 place ∷ I32 count ∷ []) h sho
 call_short bytes reply call reply' _ args h short = rw h.2 short
 
 trace_short : (o : WorkOrder) (trace : List HostCall) (reply reply' : List ℕ) → Lawful (WorkCall o) trace reply reply' → IsShort reply → IsShort reply'
-trace_short o [] reply reply' h short = rw h short
-trace_short o (call ∷ trace) reply reply' h short =
-    trace_short o trace h.0 reply' h.2 (call_short o.bytes reply call h.0 h.1.0 call.args h.1.2 short)
+trace_short o = steps_keep (WorkCall o) (λ trace. IsShort) (λ call trace reply reply' h. call_short o.bytes reply call reply' h.0 call.args h.2) []
 
 start_short : (o : WorkOrder) (start : Option ℕ) (s t : Store) (outcome : RunEnd) (used : ℕ) (reply : List ℕ) → StartRun o start s outcome used t reply → IsShort reply
 start_short o None s t outcome used reply h = rw h.3 (omega arith)

@@ -4,6 +4,7 @@ use Rattle.syntax.specs.declared.types.Value.{Value}
 use Rattle.syntax.specs.Loaded.{Loaded}
 use Rattle.reduction.specs.Run.{HostCall}
 use Rattle.reduction.specs.Hosting.{Lawful}
+use Rattle.reduction.proofs.StepByStep.{steps_map}
 use Rattle.imports.specs.Linking.{Imports}
 use Rattle.order.specs.declared.host.WorkHost.{WorkHost}
 use Rattle.order.specs.Work.{WorkOrder, WorkEnd, Done, Trap, Depth, Spent, NoMemory, WorkAnswers, WorkCall, Works, IsTheEnd, IsEndOf}
@@ -38,22 +39,19 @@ pub record Served (o : WorkOrder) (trace : List HostCall) (old new : WorkHost) :
   pub serves : Serves new o
 
 pub served : (o : WorkOrder) (trace : List HostCall) (old new : WorkHost) → Serves old o → Lawful WorkAnswered trace old new → Served o trace old new
-served o [] old new serves same = record {
-  answers = ap (λ (h : WorkHost). h.reply.items) same;
-  serves = subst (λ (h : WorkHost). Serves h o) (sym same) serves;
-}
-served o (call ∷ trace) old new serves h =
-    let mid : WorkHost = h.0 in
-    let answered : WorkAnswered old call mid = h.1 in
-    let mid_serves : Serves mid o = record {
-      linked = answered.same_module ∙ serves.linked;
-      bytes = ap (λ v. v.items) answered.same_bytes ∙ serves.bytes;
-    } in
-    let rest = served o trace mid new mid_serves h.2 in
-    let imported : Imports o.loaded.contents call.function answered.asked = subst (λ (l : Loaded). Imports l.contents call.function answered.asked) serves.linked answered.imported in
-    let answers : WorkAnswers o.bytes old.reply.items call mid.reply.items answered.asked call.args =
-    subst (λ (bs : List ℕ). WorkAnswers bs old.reply.items call mid.reply.items answered.asked call.args) serves.bytes answered.answers in
-    record { answers = (mid.reply.items, (answered.asked, imported, answers), rest.answers); serves = rest.serves }
+served o trace old new serves h =
+    let it = steps_map WorkAnswered (WorkCall o) (λ x. x.reply.items) (λ x. Serves x o) one trace old new serves h in
+    record { answers = it.0; serves = it.1 }
+  where
+    one : (call : HostCall) (old new : WorkHost) → Serves old o → WorkAnswered old call new → WorkCall o old.reply.items call new.reply.items × Serves new o
+    one call old new serves answered = (
+      (
+        answered.asked,
+        subst (λ (l : Loaded). Imports l.contents call.function answered.asked) serves.linked answered.imported,
+        subst (λ (bs : List ℕ). WorkAnswers bs old.reply.items call new.reply.items answered.asked call.args) serves.bytes answered.answers,
+      ),
+      record { linked = answered.same_module ∙ serves.linked; bytes = ap (λ v. v.items) answered.same_bytes ∙ serves.bytes },
+    )
 
 the_end : AreNamedApart → (o : WorkOrder) (e : WorkEnd) → ValidModule o.loaded.contents → Works o e → IsTheEnd o e
 the_end apart o e valid h = record { computed = h; only = λ other k. one_end apart o other e valid k h }

@@ -5,7 +5,7 @@ use Rattle.std.proofs.lemmas.List.Sums.{sum_by_push}
 use Rattle.phases.specs.Calls.{Calls}
 use Rattle.phases.specs.History.{Event, EventStep, History}
 use Rattle.phases.specs.State.{Setting, Loop}
-use Rattle.phases.proofs.StepByStep.{steps_keep}
+use Rattle.reduction.proofs.StepByStep.{steps_keep}
 
 -- how many events of a kind there are with one more
 module _ (counts : Event → Bool) (events : List Event) (e : Event) where

@@ -6,6 +6,7 @@ use Rattle.syntax.specs.declared.types.Value.{Value}
 use Rattle.validate.specs.Typing.{type_of}
 use Rattle.reduction.specs.Run.{HostCall}
 use Rattle.reduction.specs.Hosting.{Lawful}
+use Rattle.reduction.proofs.StepByStep.{steps_map}
 use Rattle.imports.specs.declared.call.Call.{Call}
 use Rattle.phases.specs.View.{View, AreOpenedUpTo, Opened, Cancelled, Sent}
 use Rattle.phases.specs.Calls.{Calls, IsLawful}
@@ -24,14 +25,11 @@ pub record Served {G S : Type 0} (calls : Calls S) (setting : G → Setting) (st
 
 pub served : {G S : Type 0} (calls : Calls S) (setting : G → Setting) (standing : G → State × S) (trace : List HostCall) (old new : G)
     → Lawful (Answered calls setting standing) trace old new → Served calls setting standing trace old new
-served calls setting standing [] old new same = record { answers = ap standing same; same = ap setting same }
-served {G} calls setting standing (call ∷ trace) old new h =
-    let mid : G = h.0 in
-    let rest = served calls setting standing trace mid new h.2 in
-    record {
-      answers = (standing mid, h.1.step, subst (λ (g : Setting). Lawful (HostStep calls g) trace (standing mid) (standing new)) h.1.same rest.answers);
-      same = rest.same ∙ h.1.same;
-    }
+served calls setting standing trace old new h =
+    let it =
+    steps_map (Answered calls setting standing) (HostStep calls (setting old)) standing (λ x. setting x ≡ setting old)
+    (λ call x y same one. (subst (λ (g : Setting). HostStep calls g (standing x) call (standing y)) same one.step, one.same ∙ same)) trace old new refl h in
+    record { answers = it.0; same = it.1 }
 
 -- the calls of a trace, each with the function that its step names
 pub named : {S : Type 0} (calls : Calls S) (g : Setting) (trace : List HostCall) (old new : State × S) → Lawful (HostStep calls g) trace old new

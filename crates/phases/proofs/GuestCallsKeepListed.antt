@@ -14,6 +14,7 @@ use Rattle.handles.specs.Table.{Table, record_of, IsClosing, new_record, with_re
 use Rattle.handles.specs.Table.{after_start, after_stop, after_again, after_close}
 use Rattle.reduction.specs.Run.{HostCall}
 use Rattle.reduction.specs.Hosting.{Lawful}
+use Rattle.reduction.proofs.StepByStep.{steps_keep}
 use Rattle.imports.specs.declared.call.Call.{Call}
 use Rattle.order.specs.declared.uv.answers.TheConstants.{INVALID, NONE_LEFT}
 use Rattle.order.specs.Uv.Bytes.{taken_out}
@@ -23,7 +24,7 @@ use Rattle.phases.specs.Requests.{Requests, Request, Stage, Open, Cancelled, has
 use Rattle.phases.specs.Roster.{Roster, in_table, async_handle, is_open, is_open_of, is_callback, with_handles, with_made, with_async, Makes, MakesAsync, stopped_in, started_in, again_in, closed_in}
 use Rattle.phases.specs.State.{Setting, State}
 use Rattle.phases.specs.Calls.{Calls}
-use Rattle.phases.specs.Guests.{GuestCall, GuestSteps}
+use Rattle.phases.specs.Guests.{GuestCall, GuestStep, GuestSteps}
 use Rattle.phases.specs.Host.{with_roster, with_requests, next_work, CallStep, HostStep}
 use Rattle.phases.specs.Ready.{IsSettledIn, Grows}
 use Rattle.phases.proofs.CallMoves.{RosterStep, stays, makes, makes_async, stops, starts, starts_again, closes, CallMoves, leaves_all, opens, cancels_won, call_moves, call_rest}
@@ -282,10 +283,11 @@ module _ {S : Type 0} (calls : Calls S) (g : Setting) where
       }
 
   pub trace_grows : (trace : List HostCall) (old new : State × S) → Lawful (HostStep calls g) trace old new → Grows old.0 new.0
-  trace_grows [] old new h = grows_same old.0 new.0 (ap (λ p. p.0.list) h) (ap (λ p. p.0.phase) h) (ap (λ p. p.0.roster) h) (ap (λ p. p.0.requests) h)
-  trace_grows (call ∷ trace) old new h =
-      grows_on old.0 h.0.0 new.0 (call_grows old call h.0 h.1.0 h.1.2) (trace_grows trace h.0 new h.2)
+  trace_grows trace old new h =
+      steps_keep (HostStep calls g) (λ trace x. Grows old.0 x.0) (λ call trace x y step was. grows_on old.0 x.0 y.0 was (call_grows x call y step.0 step.2))
+      [] trace old new h (grows_refl old.0)
 
   pub guest_grows : (made : List GuestCall) (old new : State × S) → GuestSteps calls g made old new → Grows old.0 new.0
-  guest_grows [] old new h = trace_grows [] old new h
-  guest_grows (c ∷ made) old new h = grows_on old.0 h.0.0 new.0 (call_grows old c.call h.0 c.function h.1.1) (guest_grows made h.0 new h.2)
+  guest_grows made old new h =
+      steps_keep (GuestStep calls g) (λ made x. Grows old.0 x.0) (λ c made x y step was. grows_on old.0 x.0 y.0 was (call_grows x c.call y c.function step.1))
+      [] made old new h (grows_refl old.0)

@@ -22,7 +22,7 @@ use Rattle.phases.specs.Step.{AfterWork, in_state}
 use Rattle.phases.proofs.EventsKeep.{counted, uncounted, Keeps, kept_by, kept_along}
 use Rattle.phases.proofs.CancelFates.{CancelFate, cancelled, stayed, fate_in}
 use Rattle.phases.proofs.StepFates.{Held, WasWon, Steps, step_holds, fate_holds, nothing_more}
-use Rattle.phases.proofs.StepByStep.{steps_split}
+use Rattle.reduction.proofs.StepByStep.{steps_split}
 use Rattle.phases.proofs.StepGoes.{after_of}
 use Rattle.phases.proofs.StepsByCalls.{request_fate}
 use Rattle.phases.proofs.RequestByNumber.{Fits, Same, Stages, numbered, Stands, Owned, fits_more, fits_staged, fits_handed, fits_answered, only_found, found_only}

@@ -22,7 +22,6 @@ pub mod Lists
 pub mod AliveMeans
 pub mod Lowest
 pub mod Mirroring
-pub mod StepByStep
 pub mod StepGoes
 pub mod StepsByCalls
 pub mod StepsInSlices

@@ -18,8 +18,8 @@ use Rattle.phases.specs.Outside.{CancelIn, RequestIn}
 use Rattle.phases.proofs.StepGoes.{EntryGoes, skips, runs, works, StepGoes, rests, enters, Takes, TakesOwn, step_goes}
 use Rattle.phases.proofs.CallMoves.{Touch, Stays, ToOpen, ToCancel, ToSend, Touches, Retraces, both, call_made, cancel_retraced, queue_fate}
 use Rattle.phases.specs.Step.{StepsWith, RunsFrom, in_state, over, begun}
-use Rattle.phases.specs.StepByStep.{StepByStep}
-use Rattle.phases.proofs.StepByStep.{steps_simulate}
+use Rattle.reduction.specs.StepByStep.{StepByStep}
+use Rattle.reduction.proofs.StepByStep.{steps_simulate}
 
 -- one after another
 module _ {S : Type 0} (calls : Calls S) where

@@ -10,6 +10,7 @@ use Rattle.instance.specs.Store.{Store}
 use Rattle.instance.specs.declared.stack.Caller.{Caller}
 use Rattle.reduction.specs.Run.{HostCall}
 use Rattle.reduction.specs.Hosting.{Lawful}
+use Rattle.reduction.proofs.StepByStep.{steps_map}
 use Rattle.interp.specs.declared.paused.Paused.{Paused}
 use Rattle.interp.specs.Slices.{RunIsPaused}
 use Rattle.interp.proofs.Slots.OtherHosts.{came_by, paused_over}
@@ -41,16 +42,13 @@ module _ {S : Type 0} (calls : Calls S) (actual : Host calls) where
 
   moved : (trace : List HostCall) (old new : Host calls) → setting_of old.setting ≡ setting_of actual.setting → Lawful (moves calls) trace old new
       → Lawful (moves calls) trace (placed old) (placed new)
-  moved [] old new same e = ap placed e
-  moved (call ∷ trace) old new same h =
-      let mid : Host calls = h.0 in (
-        placed mid,
-        record {
-          step = subst (λ (g : Setting). HostStep calls g (old.state, old.shared) call (mid.state, mid.shared)) same h.1.step;
-          same = refl;
-        },
-        moved trace mid new (h.1.same ∙ same) h.2,
-      )
+  moved trace old new same h =
+      (steps_map (moves calls) (moves calls) placed (λ x. setting_of x.setting ≡ setting_of actual.setting)
+      (λ call x y same one. (
+        record { step = subst (λ (g : Setting). HostStep calls g (x.state, x.shared) call (y.state, y.shared)) same one.step; same = refl },
+        one.same ∙ same,
+      ))
+      trace old new same h).0
 
   pub paused_at_placed : (before after : Host calls) → setting_of before.setting ≡ setting_of actual.setting
       → (m : Contents) (tables : List SideTable) (s t : Store) (args : List Value) (fuel : ℕ) (paused : Paused) (slots : List ℕ) (frames : List Caller)

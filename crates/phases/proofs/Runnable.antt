@@ -13,6 +13,7 @@ use Rattle.syntax.specs.declared.contents.Contents.{Contents}
 use Rattle.syntax.specs.declared.contents.ModuleExport.{ModuleExport}
 use Rattle.reduction.specs.Run.{HostCall}
 use Rattle.reduction.specs.Hosting.{Lawful}
+use Rattle.reduction.proofs.StepByStep.{steps_keep}
 use Rattle.imports.specs.declared.call.Call.{Call}
 use Rattle.imports.specs.declared.entry_point.EntryPoint.TheVariants.{Work}
 use Rattle.imports.specs.Linking.{IsLinked, IsCallable, ExportsFunction}
@@ -161,5 +162,4 @@ module _ (g : Setting) (linked : IsLinked g.loaded.contents) (depth : (1 ≤ g.d
         moved_orders (old.0.requests, old.1) (new.0.requests, new.1) (record { function = f; call = call }) (call_moves calls g old call new f h)
 
     pub orders_run : (trace : List HostCall) (old new : State × S) → Lawful (HostStep calls g) trace old new → AreOrdersOf g old.0.requests → AreOrdersOf g new.0.requests
-    orders_run [] old new h p = subst (λ (x : State × S). AreOrdersOf g x.0.requests) (sym h) p
-    orders_run (call ∷ trace) old new h p = orders_run trace h.0 new h.2 (call_orders old call h.0 h.1.0 h.1.2 p)
+    orders_run = steps_keep (HostStep calls g) (λ trace x. AreOrdersOf g x.0.requests) (λ call trace old new h. call_orders old call new h.0 h.2) []

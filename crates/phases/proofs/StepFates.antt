@@ -20,7 +20,7 @@ use Rattle.phases.specs.Step.{StepsWith, RunsFrom, AfterWork, in_state, over}
 use Rattle.phases.specs.Step.{begun}
 use Rattle.phases.specs.Guests.{GuestCall, GuestStep, GuestSteps}
 use Rattle.phases.specs.Laws.{WasAsked, IsCancel}
-use Rattle.phases.proofs.StepByStep.{steps_keep}
+use Rattle.reduction.proofs.StepByStep.{steps_keep}
 use Rattle.phases.proofs.StepGoes.{EntryGoes, skips, runs, works, StepGoes, rests, enters, after_of, same_requests, step_goes}
 use Rattle.phases.proofs.StepsByCalls.{CallFate, changes_nothing, opens_one, cancels_one, call_fate}
 use Rattle.phases.proofs.RequestByNumber.{Fits, Covers, Same, Stages, numbered, fits_more, fits_staged, fits_opened, fits_removed, fits_ran, was_given, only_found}

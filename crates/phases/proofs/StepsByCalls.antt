@@ -28,7 +28,7 @@ use Rattle.phases.specs.History.{Event, Stepped, OrderAsked, EndOffered, CancelA
 use Rattle.phases.specs.Laws.{asks_for, IsCancel}
 use Rattle.phases.specs.Outside.{RequestIn, next_order_of, next_in, handing}
 use Rattle.phases.proofs.CallMoves.{CallMoves, leaves_all, opens, cancels_won, call_moves, other_call}
-use Rattle.phases.proofs.StepByStep.{steps_keep}
+use Rattle.reduction.proofs.StepByStep.{steps_keep}
 use Rattle.phases.proofs.StepGoes.{EntryGoes, skips, runs, works, StepGoes, rests, enters, TakesOwn, same_requests, step_goes}
 use Rattle.phases.proofs.CancelFates.{IsBeside, took, CancelFate, stayed, cancelled, fate_in}
 

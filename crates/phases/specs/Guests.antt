@@ -6,7 +6,7 @@ use Rattle.imports.specs.Linking.{Imports}
 use Rattle.phases.specs.State.{Setting, State}
 use Rattle.phases.specs.Calls.{Calls}
 use Rattle.phases.specs.Host.{CallStep}
-use Rattle.phases.specs.StepByStep.{StepByStep}
+use Rattle.reduction.specs.StepByStep.{StepByStep}
 
 -- a call of a guest, with the function of "uv" that it names
 pub record GuestCall : Type 0 where

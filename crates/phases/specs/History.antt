@@ -14,7 +14,7 @@ use Rattle.phases.specs.PhaseList.{begin_list}
 use Rattle.phases.specs.Roster.{opening_roster}
 use Rattle.phases.specs.State.{Setting, Loop, opening}
 use Rattle.phases.specs.Step.{StepsWith, in_state}
-use Rattle.phases.specs.StepByStep.{StepByStep}
+use Rattle.reduction.specs.StepByStep.{StepByStep}
 use Rattle.phases.specs.View.{new_view}
 
 -- A step, with what it did, what the last callback emitted, and what the guest called in it; an order that was asked for, if

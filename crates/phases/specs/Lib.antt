@@ -18,7 +18,6 @@ pub mod Settings
 pub mod State
 pub mod Slices
 pub mod Step
-pub mod StepByStep
 pub mod Stopping
 pub mod Underway
 pub mod View

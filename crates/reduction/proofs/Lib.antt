@@ -1,5 +1,6 @@
 pub mod Words
 pub mod Lists
+pub mod StepByStep
 pub mod PlainStepView
 pub mod Rules
 pub mod Contexts

@@ -1,16 +1,16 @@
 -- Host calls.
-use Rattle.std.specs.Prelude.{◌≡◌, ℕ, List, [], ◌∷◌, map, Option, Some, None, slice_get}
+use Rattle.std.specs.Prelude.{◌≡◌, ℕ, List, [], map, Option, Some, None, slice_get}
 use Rattle.syntax.specs.declared.types.Value.{Value}
 use Rattle.syntax.specs.declared.contents.FuncType.{FuncType}
 use Rattle.syntax.specs.declared.contents.Contents.{Contents}
 use Rattle.validate.specs.Stack.{pushed}
 use Rattle.validate.specs.Typing.{type_of, type_of_function}
 use Rattle.reduction.specs.Run.{HostCall, IsImported, as_operands}
+use Rattle.reduction.specs.StepByStep.{StepByStep}
 
 -- the trace's calls, in order, lead from one state of the host to another
 abbrev pub Lawful : {H : Type 0} → (H → HostCall → H → Type 0) → List HostCall → H → H → Type 0
-Lawful moves [] old new = new ≡ old
-Lawful {H} moves (call ∷ trace) old new = (mid : H) × moves old call mid × Lawful moves trace mid new
+Lawful moves trace old new = StepByStep moves trace old new
 
 -- both calls ask for the same: the function, with the same arguments and over the same memory
 pub record AsksSame (a b : HostCall) : Type 0 where

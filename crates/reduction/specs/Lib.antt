@@ -3,6 +3,7 @@ pub mod Configuration
 pub mod Step
 pub mod Run
 pub mod Running
+pub mod StepByStep
 pub mod Hosting
 pub mod Invoking
 pub mod Stopping

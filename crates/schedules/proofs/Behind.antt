@@ -3,7 +3,7 @@ use Rattle.std.proofs.Common.{◌≡◌, ℕ, ◌<◌, ◌≤◌, true, inl, inr
 use Rattle.limits.specs.declared.TheConstants.{MAX_ASYNCS}
 use Rattle.phases.specs.State.{Setting, Loop, Core}
 use Rattle.phases.specs.Step.{StepsWith, sharing, over}
-use Rattle.phases.proofs.StepByStep.{steps_join}
+use Rattle.reduction.proofs.StepByStep.{steps_join}
 use Rattle.desk.specs.Desk.{Desk, desk_calls, is_open_request, started, DeskGets}
 use Rattle.world.specs.World.{core}
 use Rattle.schedules.specs.Accesses.{Access, AccessMoves, Reach, StepsBy}

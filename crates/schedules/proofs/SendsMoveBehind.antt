@@ -6,8 +6,8 @@ use Rattle.events.specs.declared.did.StepDid.{StepDid}
 use Rattle.phases.specs.Guests.{GuestCall}
 use Rattle.phases.specs.State.{Setting, State, Loop}
 use Rattle.phases.specs.Step.{over}
-use Rattle.phases.specs.StepByStep.{StepByStep}
-use Rattle.phases.proofs.StepByStep.{steps_keep}
+use Rattle.reduction.specs.StepByStep.{StepByStep}
+use Rattle.reduction.proofs.StepByStep.{steps_keep}
 use Rattle.tallies.specs.Counts.{raised}
 use Rattle.tallies.specs.Requests.{times}
 use Rattle.desk.specs.Desk.{Desk, is_open_request, opened, cancelled, found_started, started, sent_own, sent_by_another, DeskCancels, DeskSends, DeskGets}

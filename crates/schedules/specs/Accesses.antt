@@ -6,7 +6,7 @@ use Rattle.phases.specs.Calls.{Calls}
 use Rattle.phases.specs.Guests.{GuestCall}
 use Rattle.phases.specs.State.{Setting, Loop, State}
 use Rattle.phases.specs.Step.{StepsWith, over}
-use Rattle.phases.specs.StepByStep.{StepByStep}
+use Rattle.reduction.specs.StepByStep.{StepByStep}
 use Rattle.phases.specs.View.{new_view}
 use Rattle.desk.specs.Desk.{Desk, desk_calls}
 

@@ -23,7 +23,7 @@ use Rattle.phases.specs.Requests.{Request, lowest_open}
 use Rattle.phases.specs.State.{Setting, State, Loop, Core}
 use Rattle.phases.specs.Step.{in_state}
 use Rattle.phases.proofs.Histories.{calls_push}
-use Rattle.phases.proofs.StepByStep.{steps_join}
+use Rattle.reduction.proofs.StepByStep.{steps_join}
 use Rattle.desk.specs.Desk.{Desk, desk_calls}
 use Rattle.desk.specs.Inner.Law.{desk_beside}
 use Rattle.world_log.specs.declared.step.Step.{Step}

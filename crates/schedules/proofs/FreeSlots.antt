@@ -4,6 +4,7 @@ use Rattle.limits.specs.declared.TheConstants.{MAX_REQUEST_NUMBER}
 use Rattle.syntax.specs.declared.types.Value.{Value}
 use Rattle.syntax.specs.declared.types.Value.TheVariants.{I32}
 use Rattle.reduction.specs.Run.{HostCall}
+use Rattle.reduction.proofs.StepByStep.{steps_keep}
 use Rattle.imports.specs.declared.call.Call.{Call}
 use Rattle.imports.specs.declared.call.Call.TheVariants.{QueueWork, Cancel}
 use Rattle.order.specs.Uv.Bytes.{taken_out}
@@ -15,7 +16,7 @@ use Rattle.phases.specs.declared.entry.Entry.{Entry}
 use Rattle.phases.specs.Requests.{Stage, Open, HandedOut, Answered, Cancelled, Request, Requests, request_of, with_stage, without_request, with_work, is_free_slot, is_settled}
 use Rattle.phases.specs.State.{Setting, State, Loop}
 use Rattle.phases.specs.Calls.{Calls}
-use Rattle.phases.specs.Guests.{GuestCall, GuestSteps}
+use Rattle.phases.specs.Guests.{GuestCall, GuestStep, GuestSteps}
 use Rattle.phases.specs.Host.{CallStep, CancelsFrom, Opens, next_work, with_requests, request_cancel_state, stage_cancel_state}
 use Rattle.phases.specs.Step.{StepsWith, RunsFrom, in_state, over, begun}
 use Rattle.phases.proofs.CancelFates.{IsBeside, unmoved, tried, took}
@@ -92,9 +93,9 @@ module _ {S : Type 0} (calls : Calls S) (g : Setting) (P : Requests → S → Ty
   At l = P l.state.requests l.shared
 
   trace_keeps : (made : List GuestCall) (old new : State × S) → GuestSteps calls g made old new → P old.0.requests old.1 → P new.0.requests new.1
-  trace_keeps [] old new h p = subst (λ (x : State × S). P x.0.requests x.1) (sym h) p
-  trace_keeps (c ∷ made) old new h p =
-      trace_keeps made h.0 new h.2 (kept.called (old.0.requests, old.1) (h.0.0.requests, h.0.1) (call_done calls g old c.call h.0 c.function h.1.1) p)
+  trace_keeps =
+      steps_keep (GuestStep calls g) (λ made x. P x.0.requests x.1)
+      (λ c made old new h. kept.called (old.0.requests, old.1) (new.0.requests, new.1) (call_done calls g old c.call new c.function h.1)) []
 
   module _ (did : StepDid) (made : List GuestCall) (new : Loop S) where
     run_keeps : (old : Loop S) (kind : EntryKind) (number function : ℕ) (args : List Value) (reply : Option (List ℕ))

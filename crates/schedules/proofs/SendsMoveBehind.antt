@@ -7,7 +7,7 @@ use Rattle.phases.specs.Guests.{GuestCall}
 use Rattle.phases.specs.State.{Setting, State, Loop}
 use Rattle.phases.specs.Step.{over}
 use Rattle.reduction.specs.StepByStep.{StepByStep}
-use Rattle.reduction.proofs.StepByStep.{steps_keep}
+use Rattle.reduction.proofs.StepByStep.{steps_keep, steps_map}
 use Rattle.tallies.specs.Counts.{raised}
 use Rattle.tallies.specs.Requests.{times}
 use Rattle.desk.specs.Desk.{Desk, is_open_request, opened, cancelled, found_started, started, sent_own, sent_by_another, DeskCancels, DeskSends, DeskGets}
@@ -29,8 +29,8 @@ gets_open c d e late h =
     steps_keep Got (λ sent x. is_open_request x c ≡ is_open_request d c) (λ a sent x y got was. ap (λ z. is_open_request z c) got.1.1 ∙ was) [] late d e h refl
 
 pub gets_started : (c : ℕ × ℕ) (d e : Desk) (late : List ℕ) → Gets d late e → Gets (started d c) late (started e c)
-gets_started c d e [] h = ap (λ x. started x c) h
-gets_started c d e (a ∷ late) h = (started h.0 c, (h.1.0, (h.1.1.0, ap (λ x. started x c) h.1.1.1)), gets_started c h.0 e late h.2)
+gets_started c d e late h =
+    (steps_map Got Got (λ x. started x c) (λ x. Unit {0}) (λ a x y held got. ((got.0, (got.1.0, ap (λ z. started z c) got.1.1)), tt)) late d e tt h).0
 
 -- the access takes nothing
 abbrev pub IsNoTake : Access → Type 0

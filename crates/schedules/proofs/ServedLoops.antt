@@ -12,9 +12,10 @@ use Rattle.serve.specs.declared.serving.Serving.{Serving}
 use Rattle.serve.specs.HandedOut.{passed_in}
 use Rattle.serve.specs.Histories.{HasEnded, IsByThread, ThreadHistory, thread_calls, setting_at}
 use Rattle.serve.specs.Joint.{JointRun}
+use Rattle.serve.proofs.AtDesk.{passes_through}
 use Rattle.schedules.specs.Served.{loop_did, Reports, GoesInThreads}
 use Rattle.schedules.specs.Together.{IsInThread, AreInThread, LoopDid, StandBehind, DidInThread, AllDidInThread, AreOneRun}
-use Rattle.schedules.proofs.ServedReplies.{passes_through, stand_behind}
+use Rattle.schedules.proofs.ServedReplies.{stand_behind}
 
 own_event : (e : Event) (s : State) → IsByThread e s → IsInThread e
 own_event (Stepped did emits made) s h = tt
@@ -27,7 +28,7 @@ own_event _ s h = absurd h
 module _ (g : Setting) where
   in_thread : (old : Loop Seats) (events : List Event) (now : Loop Seats) (h : ThreadHistory thread_calls g old events now) → AreInThread (passed_in g old events now h)
   in_thread old [] now h = tt
-  in_thread old (e ∷ events) now h = (own_event e old.state h.2, in_thread h.0 events now h.3)
+  in_thread old (e ∷ events) now h = (own_event e old.state h.1.1, in_thread h.0 events now h.2)
 
   did_in_thread : {how : LoopEnding} {emits : List ℕ} (ended : HasEnded thread_calls g how emits) → StandBehind thread_calls [] (loop_did g ended).passed
       → DidInThread thread_calls g (loop_did g ended)

@@ -33,6 +33,7 @@ use Rattle.serve.specs.declared.serving.Serving.{Serving}
 use Rattle.serve.specs.HandedOut.{FoundBehind, handed_in, passed_in}
 use Rattle.serve.specs.Histories.{ThreadHistory, thread_calls, setting_at}
 use Rattle.serve.specs.Joint.{JointRun, ticket_for, asks, is_offered, takes, puts, times_in}
+use Rattle.serve.proofs.AtDesk.{passes_through}
 use Rattle.schedules.specs.Served.{loop_did}
 use Rattle.schedules.specs.Together.{StandBehind}
 use Rattle.schedules.proofs.Numbers.{Numbered, Kept, own_found, keeps_numbered}
@@ -137,21 +138,16 @@ handed_events (e ∷ events) = handed_in e ++ handed_events events
 module _ (g : Setting) where
   handed_same : (old : Loop Seats) (events : List Event) (now : Loop Seats) (h : ThreadHistory thread_calls g old events now) → handed_of (passed_in g old events now h) ≡ handed_events events
   handed_same old [] now h = refl
-  handed_same old (e ∷ events) now h = ap (λ (xs : List (ℕ × ℕ)). handed_in e ++ xs) (handed_same h.0 events now h.3)
+  handed_same old (e ∷ events) now h = ap (λ (xs : List (ℕ × ℕ)). handed_in e ++ xs) (handed_same h.0 events now h.2)
 
   taken_from : (P : WorkOrder → WorkEnd → Type 0) (old : Loop Seats) (events : List Event) (now : Loop Seats) (h : ThreadHistory thread_calls g old events now)
       → ((i : ℕ) (o : WorkOrder) (end : WorkEnd) → slice_get events i ≡ Some (EndOffered o end true) → P o end) → EachTaken P (passed_in g old events now h)
   taken_from P old [] now h each = tt
-  taken_from P old (e ∷ events) now h each = (λ o end same. each 0 o end (ap (λ (x : Event). Some x) same), taken_from P h.0 events now h.3 (λ i o end at. each (suc i) o end at))
+  taken_from P old (e ∷ events) now h each = (λ o end same. each 0 o end (ap (λ (x : Event). Some x) same), taken_from P h.0 events now h.2 (λ i o end at. each (suc i) o end at))
 
   found_same : (handed : List (ℕ × ℕ)) (passed : List (Passed Seats)) → FoundBehind handed passed → EachFound thread_calls handed passed
   found_same handed [] h = tt
   found_same handed (p ∷ passed) h = (h.0, found_same (handed ++ handed_in p.event) passed h.1)
-
-  pub passes_through : (old : Loop Seats) (events : List Event) (now : Loop Seats) (h : ThreadHistory thread_calls g old events now)
-      → PassesThrough thread_calls g old (passed_in g old events now h) now
-  passes_through old [] now h = h
-  passes_through old (e ∷ events) now h = (h.1, passes_through h.0 events now h.3)
 
   -- a loop hands out its own orders alone
   not_asked : (t : Ticket) (e : Event) (old new : Loop Seats) → t.loop_no ≢ g.loop_no → EventStep thread_calls g e old new → Numbered g.loop_no 0 old.state.requests → asks t e ≡ false
@@ -173,9 +169,9 @@ module _ (g : Setting) where
       → count_by (asks t) events ≡ 0
   none_asked t old [] now other h own = refl
   none_asked t old (e ∷ events) now other h own =
-      let kept = event_keeps thread_calls g (Kept g 0) (keeps_numbered g 0) [] e old h.0 h.1 own in
-      let one = ap (λ (b : Bool). cond {A = ℕ} b 1 0) (not_asked t e old h.0 other h.1 own) in
-      let more = none_asked t h.0 events now other h.3 kept in
+      let kept = event_keeps thread_calls g (Kept g 0) (keeps_numbered g 0) [] e old h.0 h.1.0 own in
+      let one = ap (λ (b : Bool). cond {A = ℕ} b 1 0) (not_asked t e old h.0 other h.1.0 own) in
+      let more = none_asked t h.0 events now other h.2 kept in
       sum_by-cons (λ (x : Event). cond {A = ℕ} (asks t x) 1 0) e events ∙ omega (arith, one, more)
 
   opening_numbered : (l : Loop Seats) → IsOpening thread_calls g l → Numbered g.loop_no 0 l.state.requests

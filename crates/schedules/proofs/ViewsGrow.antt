@@ -10,6 +10,7 @@ use Rattle.tallies.proofs.Counts.{raised-at, emptied-at, length-raised}
 use Rattle.tallies.proofs.Requests.{times_grow}
 use Rattle.events.specs.declared.did.StepDid.{StepDid}
 use Rattle.phases.specs.Calls.{Calls, IsLawful}
+use Rattle.reduction.proofs.StepByStep.{steps_keep}
 use Rattle.phases.specs.Guests.{GuestCall}
 use Rattle.phases.specs.State.{Setting, Loop}
 use Rattle.phases.specs.Step.{StepsWith}
@@ -131,10 +132,9 @@ module _ {S : Type 0} (calls : Calls S) (lawful : IsLawful calls) where
   touch_grows (ToSend async_no ok) s s' h wide = sent_grows (calls.view s) (calls.view s') async_no ok (lawful.sends s s' async_no ok h) wide
 
   pub chain_grows : (touches : List Touch) (s s' : S) → Chain calls touches s s' → IsWide (calls.view s) → GrowsTo s s'
-  chain_grows [] s s' h wide = still_grows s s' h wide
-  chain_grows (touch ∷ rest) s s' h wide =
-      let one = touch_grows touch s h.0 h.1 wide in
-      grows_on (calls.view s) (calls.view h.0) (calls.view s') one (chain_grows rest h.0 s' h.2 one.wide)
+  chain_grows touches s s' h wide =
+      steps_keep (λ x touch y. Touches calls touch x y) (λ done x. GrowsTo s x)
+      (λ touch done x y one was. grows_on (calls.view s) (calls.view x) (calls.view y) was (touch_grows touch x y one was.wide)) [] touches s s' h (grows_self (calls.view s) wide)
 
   pub takes_grow : (old : Loop S) (taken : Option (ℕ × ℕ)) (s' : S) → TakesOwn calls old taken s' → IsWide (calls.view old.shared) → GrowsTo old.shared s'
   takes_grow old None s' h wide = still_grows old.shared s' h wide

@@ -1,6 +1,7 @@
 -- The after-work callbacks of a loop that was served.
 use Rattle.std.proofs.Common.{◌≡◌, ℕ, List, [], ◌∷◌, ◌++◌, refl, subst}
 use Rattle.std.proofs.Math.Logic.{∥∥₁_map}
+use Rattle.reduction.proofs.StepByStep.{steps_split, steps_map}
 use Rattle.phases.specs.History.{Event, EventStep, History}
 use Rattle.phases.specs.Laws.{IsAfterOnce, IsAfterOwn, IsAfterLast}
 use Rattle.phases.specs.State.{Setting, Loop}
@@ -9,12 +10,12 @@ use Rattle.serve.specs.declared.served.LoopEnding.{LoopEnding}
 use Rattle.serve.specs.declared.served.Served.{Served}
 use Rattle.serve.specs.AfterOnce.{EndsAfterOnce}
 use Rattle.serve.specs.Answers.{IsServed}
-use Rattle.serve.specs.Histories.{HasEnded, ThreadHistory, thread_calls}
+use Rattle.serve.specs.Histories.{HasEnded, ThreadStep, ThreadHistory, thread_calls}
 
 module _ (g : Setting) where
   pub history_of : (events : List Event) (old now : Loop Seats) → ThreadHistory thread_calls g old events now → History thread_calls g old events now
-  history_of [] old now h = h
-  history_of (e ∷ events) old now h = (h.0, h.1, history_of events h.0 now h.3)
+  history_of events old now h =
+      (steps_map (ThreadStep thread_calls g) (λ l e m. EventStep thread_calls g e l m) (λ l. l) (λ l. Unit {0}) (λ e l m held one. (one.0, tt)) events old now tt h).0
 
   -- a history up to one of its events
   pub record IsLed (start : Loop Seats) (before : List Event) (e : Event) : Type 0 where
@@ -24,10 +25,9 @@ module _ (g : Setting) where
     pub step : EventStep thread_calls g e old new
 
   pub led_to : (before behind : List Event) (e : Event) (start now : Loop Seats) → ThreadHistory thread_calls g start (before ++ e ∷ behind) now → IsLed start before e
-  led_to [] behind e start now h = record { old = start; new = h.0; led = refl; step = h.1 }
-  led_to (x ∷ before) behind e start now h =
-      let rest = led_to before behind e h.0 now h.3 in
-      record { old = rest.old; new = rest.new; led = (h.0, h.1, h.2, rest.led); step = rest.step }
+  led_to before behind e start now h =
+      let it = steps_split (ThreadStep thread_calls g) before (e ∷ behind) start now h in
+      record { old = it.0; new = it.2.0; led = it.1; step = it.2.1.0 }
 
 module _ (once : IsAfterOnce thread_calls) (own : IsAfterOwn thread_calls) (last : IsAfterLast thread_calls) where
   unfoldable pub ends_once : (g : Setting) (how : LoopEnding) (emits : List ℕ) → HasEnded thread_calls g how emits → EndsAfterOnce g how emits

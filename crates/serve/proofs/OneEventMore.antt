@@ -6,6 +6,7 @@ use Rattle.tallies.proofs.Lists.{count_cons}
 use Rattle.std.proofs.Math.Logic.{∥∥₁_map}
 use Rattle.limits.specs.declared.TheConstants.{MAX_CALLBACKS}
 use Rattle.syntax.specs.Loaded.{Loaded}
+use Rattle.reduction.proofs.StepByStep.{steps_join}
 use Rattle.handles.specs.Table.{saturated}
 use Rattle.instance.specs.Fresh.{IsFresh}
 use Rattle.order.specs.declared.order.Order.{Order}
@@ -35,7 +36,7 @@ use Rattle.phases.specs.Step.{LoopStep}
 use Rattle.phases.specs.View.{new_view}
 use Rattle.pool.specs.declared.seats.Seats.{Seats}
 use Rattle.serve.specs.declared.served.LoopEnding.{LoopEnding}
-use Rattle.serve.specs.Histories.{HasDone, HasEnded, HasServed, EndsBy, ThreadHistory, thread_calls, is_callback_event, callbacks_in, IsByThread}
+use Rattle.serve.specs.Histories.{HasDone, HasEnded, HasServed, EndsBy, ThreadStep, ThreadHistory, thread_calls, is_callback_event, callbacks_in, IsByThread}
 use Rattle.serve.specs.declared.record.LoopRecord.{LoopRecord}
 use Rattle.serve.specs.Inner.Alone.{IsAlone}
 use Rattle.serve.specs.Inner.Ends.{offered_in}
@@ -47,18 +48,6 @@ clock_read : (s : Status) (n : ℕ) → clock_in s n 0 ≡ n
 clock_read status.Failed n = refl
 clock_read status.Running n = omega arith
 clock_read status.Over n = omega arith
-
-module _ (g : Setting) where
-  -- events from where a loop stands
-  abbrev pub from_here : (more : List Event) (old mid new : Loop Seats) → mid ≡ old → ThreadHistory thread_calls g mid more new → ThreadHistory thread_calls g old more new
-  from_here [] old mid new same h = h ∙ same
-  from_here (e ∷ more) old mid new same h =
-      (h.0, subst (λ l. EventStep thread_calls g e l h.0) same h.1, subst (λ (l : Loop Seats). IsByThread e l.state) same h.2, h.3)
-
-  -- events, and then more events
-  abbrev pub then_more : (events more : List Event) (old mid new : Loop Seats) → ThreadHistory thread_calls g old events mid → ThreadHistory thread_calls g mid more new → ThreadHistory thread_calls g old (events ++ more) new
-  then_more [] more old mid new h rest = from_here more old mid new h rest
-  then_more (e ∷ events) more old mid new h rest = (h.0, h.1, h.2, then_more events more h.0 mid new h.3 rest)
 
 pub emitted_append : (events more : List Event) → emitted (events ++ more) ≡ emitted events ++ emitted more
 emitted_append [] more = refl
@@ -81,7 +70,7 @@ none_append (_ ∷ events) more h k = none_append events more h k
 pub moves_then : (old mid new : LoopRecord) (events more : List Event) → MovesBy old events mid → MovesBy mid more new → MovesBy old (events ++ more) new
 moves_then old mid new events more h rest = record {
   setting = rest.setting ∙ h.setting;
-  history = then_more old.core.setting events more old.core.loop mid.core.loop new.core.loop h.history (subst (λ g. ThreadHistory thread_calls g mid.core.loop more new.core.loop) h.setting rest.history);
+  history = steps_join (ThreadStep thread_calls old.core.setting) events more old.core.loop mid.core.loop new.core.loop h.history (subst (λ g. ThreadHistory thread_calls g mid.core.loop more new.core.loop) h.setting rest.history);
   counted = (let a = h.counted in let b = rest.counted in let c = callbacks_append events more in omega arith);
   told = rest.told ∙ ap (λ xs. xs ++ emitted more) h.told ∙ append_assoc old.emits.items (emitted events) (emitted more) ∙ ap (λ xs. old.emits.items ++ xs) (sym (emitted_append events more));
 }
@@ -117,7 +106,7 @@ module _ (old new : LoopRecord) (same : new.core.setting ≡ old.core.setting) w
       → new.ran ≡ old.ran + cond (is_callback_event e) 1 0 → new.emits.items ≡ old.emits.items ++ emits_in e → MovesBy old (e ∷ []) new
   moves_one e step own count more = record {
     setting = same;
-    history = (new.core.loop, step, own, refl);
+    history = (new.core.loop, (step, own), refl);
     counted = (let one = count_cons is_callback_event e [] in omega (arith, one, count));
     told = more ∙ ap (λ xs. old.emits.items ++ xs) (sym (append-nil (emits_in e)));
   }

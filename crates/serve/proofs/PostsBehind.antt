@@ -4,6 +4,7 @@ use Rattle.std.proofs.lemmas.List.Concat.{flat_map-append}
 use Rattle.std.proofs.lemmas.List.Sums.{sum_by-append}
 use Rattle.tallies.specs.Requests.{times, is_request, is_pending}
 use Rattle.tallies.proofs.Requests.{is_request_itself, times_grow, times_hit, pushed}
+use Rattle.reduction.proofs.StepByStep.{steps_from, steps_join}
 use Rattle.claims.specs.Views.{ClaimsView, LoopView, OpensSlot, PostsSlot, new_loop_view}
 use Rattle.order.specs.Work.{WorkOrder}
 use Rattle.order.specs.declared.order.Order.{Order}
@@ -19,10 +20,10 @@ use Rattle.pool.specs.declared.seats.Seats.{Seats}
 use Rattle.pool.specs.Share.{TriesToCancel, TriesToPost}
 use Rattle.serve.specs.declared.record.LoopRecord.{LoopRecord}
 use Rattle.serve.specs.HandedOut.{handed_in, passed_in, FoundBehind}
-use Rattle.serve.specs.Histories.{IsByThread, ThreadHistory, thread_calls}
+use Rattle.serve.specs.Histories.{IsByThread, ThreadStep, ThreadHistory, thread_calls}
 use Rattle.serve.specs.Inner.Moves.{MovesBy, RecordHandsOut, RecordPosts}
 use Rattle.serve.specs.Inner.Posts.{posts_none, handed_out, PostsAmong}
-use Rattle.serve.proofs.OneEventMore.{from_here, then_more, moves_then}
+use Rattle.serve.proofs.OneEventMore.{moves_then}
 use Rattle.serve.proofs.SentAlone.{nothing_known}
 
 times_both : (c : ℕ × ℕ) (xs ys : List (ℕ × ℕ)) → times c (xs ++ ys) ≡ times c xs + times c ys
@@ -108,8 +109,8 @@ module _ (posted : List (ℕ × ℕ)) where
     history_posts handed among [] old new none h was = (subst (λ (l : Loop Seats). HasPosted l.shared.loop_seat) (sym h) was, tt)
     history_posts handed among (e ∷ events) old new none h was =
         let none_of = first_none e events none in
-        let one = event_posts e old h.0 none_of.0 h.1 h.2 was in
-        let rest = history_posts (handed ++ handed_in e) (λ c there. times_front c handed (handed_in e) (among c there)) events h.0 new none_of.1 h.3 one in
+        let one = event_posts e old h.0 none_of.0 h.1.0 h.1.1 was in
+        let rest = history_posts (handed ++ handed_in e) (λ c there. times_front c handed (handed_in e) (among c there)) events h.0 new none_of.1 h.2 one in
         (rest.0, (λ c there. among c (one.found c there), rest.1))
 
 -- These events lead from what was handed out, posted and found started to such again.
@@ -160,10 +161,10 @@ goes_posted : (old new : LoopRecord) (o : WorkOrder)
     → PostsSlot old.core.loop.shared.loop_seat new.core.loop.shared.loop_seat (o.slot, o.request) ⊎ (new.core.loop.shared.loop_seat ≡ old.core.loop.shared.loop_seat)
     → GoesBehind old new (OrderAsked (Some o) ∷ MovedBeside ∷ [])
 goes_posted old new o one handed posts h =
-    let asked : h.0.shared ≡ old.core.loop.shared = ap (λ (l : Loop Seats). l.shared) h.1.1 in
+    let asked : h.0.shared ≡ old.core.loop.shared = ap (λ (l : Loop Seats). l.shared) h.1.0.1 in
     let found : (d : ℕ × ℕ) → 0 < times d h.0.shared.loop_seat.found_started → 0 < times d handed =
     λ d there. posts.posted d (posts.found d (subst (λ (s : Seats). 0 < times d s.loop_seat.found_started) asked there)) in
-    let same = ap (λ (v : View). v.found_started) h.3.1.view in (
+    let same = ap (λ (v : View). v.found_started) h.2.1.0.view in (
       posted_one handed old.core.loop.shared.loop_seat new.core.loop.shared.loop_seat (o.slot, o.request) posts one,
       (found, (λ d there. times_front d handed ((o.slot, o.request) ∷ []) (found d (subst (λ xs. 0 < times d xs) same there)), tt)),
     )
@@ -176,25 +177,25 @@ module _ (old mid new : LoopRecord) (order : Order) (handed : RecordHandsOut old
   pub behind_posted : GoesBehind old new (OrderAsked (Some (order_of order)) ∷ MovedBeside ∷ [])
   behind_posted =
       let h = handed.history in
-      let same : mid.core.loop.shared ≡ old.core.loop.shared = ap (λ (l : Loop Seats). l.shared) (h.3 ∙ h.1.1) in
+      let same : mid.core.loop.shared ≡ old.core.loop.shared = ap (λ (l : Loop Seats). l.shared) (h.2 ∙ h.1.0.1) in
       let seat = new.core.loop.shared.loop_seat in
       goes_posted old new (order_of order) (subst (λ (s : Seats). PostsSlot s.loop_seat seat (order.slot, order.request) ⊎ (seat ≡ s.loop_seat)) same posts.posts)
 
 -- a history, and more events
 module _ (g : Setting) where
   found_here : (handed : List (ℕ × ℕ)) (more : List Event) (old mid new : Loop Seats) (same : mid ≡ old) (rest : ThreadHistory thread_calls g mid more new)
-      → FoundBehind handed (passed_in g mid more new rest) → FoundBehind handed (passed_in g old more new (from_here g more old mid new same rest))
+      → FoundBehind handed (passed_in g mid more new rest) → FoundBehind handed (passed_in g old more new (steps_from (ThreadStep thread_calls g) more old mid new same rest))
   found_here handed [] old mid new same rest found = tt
   found_here handed (e ∷ more) old mid new same rest found = found
 
   pub found_then : (handed : List (ℕ × ℕ)) (events more : List Event) (old mid new : Loop Seats) (h : ThreadHistory thread_calls g old events mid) (rest : ThreadHistory thread_calls g mid more new)
       → FoundBehind handed (passed_in g old events mid h) → FoundBehind (handed ++ handed_out events) (passed_in g mid more new rest)
-      → FoundBehind handed (passed_in g old (events ++ more) new (then_more g events more old mid new h rest))
+      → FoundBehind handed (passed_in g old (events ++ more) new (steps_join (ThreadStep thread_calls g) events more old mid new h rest))
   found_then handed [] more old mid new h rest was next =
       found_here handed more old mid new h rest (subst (λ xs. FoundBehind xs (passed_in g mid more new rest)) (append-nil handed) next)
   found_then handed (e ∷ events) more old mid new h rest was next = (
     was.0,
-    found_then (handed ++ handed_in e) events more h.0 mid new h.3 rest was.1
+    found_then (handed ++ handed_in e) events more h.0 mid new h.2 rest was.1
         (subst (λ xs. FoundBehind xs (passed_in g mid more new rest)) (sym (append_assoc handed (handed_in e) (handed_out events))) next),
   )
 

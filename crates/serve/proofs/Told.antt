@@ -11,12 +11,13 @@ use Rattle.board.specs.Boards.{BoardView, PassView, IsNewPass, Posts, Collects}
 use Rattle.phases.specs.History.{Event, OrderAsked, EndOffered, MovedBeside, emitted}
 use Rattle.serve.specs.declared.loop_thread.LoopThread.{LoopThread}
 use Rattle.serve.specs.declared.record.LoopRecord.{LoopRecord}
-use Rattle.serve.specs.Histories.{HasDone, thread_calls, callbacks_in}
+use Rattle.reduction.proofs.StepByStep.{steps_join}
+use Rattle.serve.specs.Histories.{HasDone, ThreadStep, thread_calls, callbacks_in}
 use Rattle.serve.specs.Inner.Ends.{offered_in, IsTied}
 use Rattle.serve.specs.Inner.Moves.{MovesBy, MovesAlone, RecordHandsOut, RecordPosts, IsOffered}
 use Rattle.serve.specs.Inner.Posts.{handed_out, PostsAmong, IsBehind}
 use Rattle.serve.specs.Inner.Threads.{HasTied, IsTiedSoFar, Stays, KeepsGoing}
-use Rattle.serve.proofs.OneEventMore.{no_move, then_more, emitted_append, callbacks_append}
+use Rattle.serve.proofs.OneEventMore.{no_move, emitted_append, callbacks_append}
 use Rattle.serve.proofs.PostsBehind.{GoesBehind, goes_unposted, moves_posted, behind_posted, handed_append, found_then}
 use Rattle.serve.proofs.Tying.{tied_more, tied_less, tied_made, tied_post, tied_collect}
 
@@ -44,7 +45,7 @@ done_more old new events moves goes d behind =
         start = d.start;
         opens = d.opens;
         events = d.events ++ events;
-        history = then_more old.core.setting d.events events d.start old.core.loop new.core.loop d.history moves.history;
+        history = steps_join (ThreadStep thread_calls old.core.setting) d.events events d.start old.core.loop new.core.loop d.history moves.history;
         alone = new.alone.3;
         counted = (let a = d.counted in let b = moves.counted in let c = callbacks_append d.events events in omega arith);
         told = moves.told ∙ ap (λ xs. xs ++ emitted events) d.told ∙ sym (emitted_append d.events events);

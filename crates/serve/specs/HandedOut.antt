@@ -16,7 +16,7 @@ module _ (g : Setting) where
   -- the events of a history, each with the loop as it stands after it
   abbrev pub passed_in : (old : Loop Seats) → (events : List Event) → (now : Loop Seats) → ThreadHistory thread_calls g old events now → List (Passed Seats)
   passed_in old [] now history = []
-  passed_in old (e ∷ events) now history = record { event = e; new = history.0 } ∷ passed_in history.0 events now history.3
+  passed_in old (e ∷ events) now history = record { event = e; new = history.0 } ∷ passed_in history.0 events now history.2
 
   -- those of what a loop has done
   abbrev pub passed_of : {now : Loop Seats} {ran : ℕ} {emits : List ℕ} → HasDone thread_calls g now ran emits → List (Passed Seats)

@@ -1,9 +1,10 @@
 -- What a thread has done with its loop: a history over the loop's seats, and how it ended.
-use Rattle.std.specs.Prelude.{◌≡◌, ℕ, ◌+◌, ◌<◌, ◌≤◌, Bool, true, false, List, [], ◌∷◌, count_by, slice_index}
+use Rattle.std.specs.Prelude.{◌≡◌, ℕ, ◌+◌, ◌<◌, ◌≤◌, Bool, true, false, List, [], count_by, slice_index}
 use Rattle.limits.specs.declared.TheConstants.{MAX_CALLBACKS}
 use Rattle.syntax.specs.Loaded.{Loaded}
 use Rattle.events.specs.declared.did.StepDid.TheVariants.{Ran}
 use Rattle.events.specs.declared.phase.Phase.TheVariants.{Timers}
+use Rattle.reduction.specs.StepByStep.{StepByStep}
 use Rattle.handles.specs.Table.{saturated}
 use Rattle.events.specs.declared.did.Hint.TheVariants.{For, Forever}
 use Rattle.phases.specs.declared.entry.Status.TheVariants as status
@@ -57,11 +58,13 @@ IsByThread (ClockRaised ms) s = WaitsUntil ms s
 IsByThread MovedBeside s = Unit {0}
 
 module _ {S : Type 0} (calls : Calls S) (g : Setting) where
+  -- an event that a thread does
+  abbrev pub ThreadStep : (old : Loop S) → Event → (new : Loop S) → Type 0
+  ThreadStep old e new = EventStep calls g e old new × IsByThread e old.state
+
   -- what a thread does with its loop, one event after another
   abbrev pub ThreadHistory : (old : Loop S) → List Event → (new : Loop S) → Type 0
-  ThreadHistory old [] new = new ≡ old
-  ThreadHistory old (e ∷ events) new =
-      (mid : Loop S) × EventStep calls g e old mid × IsByThread e old.state × ThreadHistory mid events new
+  ThreadHistory old events new = StepByStep ThreadStep events old new
 
   -- Of each async all that was taken is the loop's own sends, but for those that it has not taken yet: nobody else has sent.
   abbrev pub IsSentAlone : (now : Loop S) → Type 0

@@ -1,5 +1,5 @@
 -- A run whose host answers every import with -1 is one whatever else is seen of the host.
-use Rattle.std.proofs.Common.{◌≡◌, ℕ, List, [], ◌∷◌, refl}
+use Rattle.std.proofs.Common.{◌≡◌, ℕ, List, refl}
 use Rattle.syntax.specs.declared.types.Value.{Value}
 use Rattle.syntax.specs.declared.contents.Contents.{Contents}
 use Rattle.validate.specs.declared.side_table.SideTable.{SideTable}
@@ -7,6 +7,7 @@ use Rattle.instance.specs.Store.{Store}
 use Rattle.instance.specs.declared.stack.Caller.{Caller}
 use Rattle.reduction.specs.Run.{HostCall}
 use Rattle.reduction.specs.Hosting.{Lawful}
+use Rattle.reduction.proofs.StepByStep.{steps_map}
 use Rattle.interp.specs.declared.paused.Paused.{Paused}
 use Rattle.interp.specs.Slices.{RunIsPaused}
 use Rattle.interp.proofs.Slots.OtherHosts.{paused_over}
@@ -18,12 +19,10 @@ module _ {H : Type 0} where
   refuses a call b = AnswersMinusOne call × (b ≡ a)
 
   unseen : (trace : List HostCall) (old new : H) → Lawful refuses trace old new → Lawful answers trace tt tt
-  unseen [] old new lawful = refl
-  unseen (call ∷ trace) old new (mid, moved, lawful) = (tt, moved.0, unseen trace mid new lawful)
+  unseen trace old new lawful = (steps_map refuses answers (λ h. tt) (λ h. Unit {0}) (λ call a b held moved. (moved.0, tt)) trace old new tt lawful).0
 
   seen : (trace : List HostCall) (any more : Unit {0}) (h : H) → Lawful answers trace any more → Lawful refuses trace h h
-  seen [] any more h lawful = refl
-  seen (call ∷ trace) any more h (mid, answered, lawful) = (h, (answered, refl), seen trace mid more h lawful)
+  seen trace any more h lawful = (steps_map answers refuses (λ any. h) (λ any. Unit {0}) (λ call a b held answered. ((answered, refl), tt)) trace any more tt lawful).0
 
   module _ (m : Contents) (tables : List SideTable) (s t : Store) (args : List Value) (fuel : ℕ) (paused : Paused) (slots : List ℕ) (frames : List Caller) where
     pub paused_unseen : (old new : H) → RunIsPaused m tables refuses s old args fuel paused slots frames t new → RunIsPaused m tables answers s tt args fuel paused slots frames t tt

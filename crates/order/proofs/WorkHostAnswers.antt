@@ -1,5 +1,5 @@
 -- What the host of a work function answers, over a whole run.
-use Rattle.std.proofs.Common.{◌≡◌, ◌≢◌, ℕ, List, [], ◌∷◌, refl, sym, ap, subst, ◌∙◌}
+use Rattle.std.proofs.Common.{◌≡◌, ◌≢◌, ℕ, List, [], ◌∷◌, refl, ap, subst, ◌∙◌}
 use Rattle.syntax.specs.declared.types.Value.{Value}
 use Rattle.syntax.specs.Loaded.{Loaded}
 use Rattle.reduction.specs.Run.{HostCall}

@@ -12,7 +12,7 @@ compare_exchange-requires c =
     let low = c.requires.there.1 in
     let mine : c.args.ticket.loop_no ≡ i.loop_no = c.requires.there.0 ∙ sym (ap (λ u. u.loop_no) c.seat.view_is) in
     let real : c.args.ticket.loop_no < MAX_LOOPS = subst (λ n. n < MAX_LOOPS) (sym mine) known.2 in
-    let place = c.word_index-word.ensures in (
+    let place = c.requires.word in (
       own,
       omega (arith, size, real, low, place),
       cancels_at _ _ _ c.args.ticket.loop_no c.args.ticket.slot c.args.ticket.request _ _ _ place c.word_of-old.ensures c.word_of-new.ensures (known.0 ∙ ap (λ n. n + 1) (sym mine)) real low,
@@ -22,6 +22,7 @@ pub returns-clause-tried : goal.returns-clause-tried
 returns-clause-tried c =
     let e = c.compare_exchange.ensures in
     let i = c.seat.inside in
+    let after = c.compare_exchange.new.seat.me.0 in
     let ticket = c.args.ticket in
-    shows i.seat.table_id _ i.loop_no i.is_posting i.seat.me.0 _ _ (ticket.slot, ticket.request) _ _ c.seat.view_is e.0
-    (tried 0 ticket.loop_no ticket.slot ticket.request _ _ 0 _ i.seat.me.0 _ c.word_index-word.ensures c.word_of-old.ensures c.requires.there.1 e.2.1)
+    shows i.seat.table_id _ i.loop_no i.is_posting i.seat.me.0 after _ (ticket.slot, ticket.request) _ _ c.seat.view_is e.0
+    (tried 0 ticket.loop_no ticket.slot ticket.request _ _ 0 _ i.seat.me.0 after c.requires.word c.word_of-old.ensures c.requires.there.1 e.2.1)

@@ -14,7 +14,7 @@ store-requires c =
     let low = c.requires.there.1 in
     let mine : ticket.loop_no ≡ i.loop_no = c.requires.there.0 ∙ sym (ap (λ u. u.loop_no) c.seat.view_is) in
     let real : ticket.loop_no < MAX_LOOPS = subst (λ n. n < MAX_LOOPS) (sym mine) known.2 in
-    let place = c.word_index-word.ensures in (
+    let place = c.requires.word in (
       own,
       omega (arith, size, real, low, place),
       withdraws_at _ _ _ ticket.loop_no ticket.slot ticket.request _ _ place c.word_of-new.ensures (known.0 ∙ ap (λ n. n + 1) (sym mine)) real low
@@ -27,4 +27,4 @@ returns-clause-cancelled c =
     let e = c.store.ensures in
     let ticket = c.args.ticket in
     shows_cancelled i.seat.table_id _ i.loop_no i.is_posting i.seat.me.0 _ _ (ticket.slot, ticket.request) c.seat.view_is e.0
-    (withdrawn_as 0 ticket.loop_no ticket.slot ticket.request _ _ i.seat.me.0 _ c.word_index-word.ensures c.word_of-new.ensures c.requires.there.1 e.2).0
+    (withdrawn_as 0 ticket.loop_no ticket.slot ticket.request _ _ i.seat.me.0 _ c.requires.word c.word_of-new.ensures c.requires.there.1 e.2).0

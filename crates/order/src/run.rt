@@ -62,12 +62,10 @@ pub(crate) fn outcome_from(ending: Ending, reply: Vec<u8>) -> Outcome
 {
     match ending {
         Ending::Return(values) => match values.get(0) {
-            Some(Value::I32(value)) => Outcome::Done(value, reply),
-            _ => unreachable!(),
+            Some(value) => outcome_of(BareEnding::Return, value, reply),
+            None => unreachable!(),
         },
-        Ending::Trap(trap) => Outcome::Trap(trap),
-        Ending::Depth => Outcome::Depth,
-        Ending::Spent => Outcome::Spent,
+        other => outcome_of(BareEnding::of(&other), Value::I32(0), reply),
     }
 }
 

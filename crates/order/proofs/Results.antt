@@ -2,7 +2,7 @@
 use Rattle.std.proofs.Common.{◌≡◌, ℕ, List, [], ◌∷◌, Some, length, take, get_or, refl, ap, ◌∙◌}
 use Rattle.syntax.specs.declared.types.Value.{Value}
 use Rattle.syntax.specs.declared.contents.Contents.{Contents}
-use Rattle.validate.specs.Typing.{HasFunctionType, type_of_function}
+use Rattle.validate.specs.Typing.{type_of_function}
 use Rattle.validate.specs.Valid.{ValidModule}
 use Rattle.events.specs.Bare.{whole, whole_ending}
 use Rattle.events.specs.declared.ended.BareEnded.{BareEnded}
@@ -13,14 +13,8 @@ use Rattle.events.specs.declared.ended.Ending.{Ending}
 use Rattle.events.specs.declared.ended.Ending.TheVariants.{Return}
 use Rattle.imports.specs.declared.entry_point.EntryPoint.TheVariants.{Work}
 use Rattle.imports.specs.Uv.{type_of_entry}
-use Rattle.interp.specs.Lent.{result_count, ending_with, ended_with, ended_in}
-
--- only what has returned has results
-pub same_whole : (end : BareEnding) (values : List Value) → (end ≡ bare.Return → values ≡ []) → ending_with end values ≡ whole_ending end
-same_whole bare.Return values none = ap (λ (vs : List Value). Return vs) (none refl)
-same_whole (bare.Trap code) values none = refl
-same_whole bare.Depth values none = refl
-same_whole bare.Spent values none = refl
+use Rattle.interp.specs.Lent.{result_count, ended_with, ended_in}
+use Rattle.interp.proofs.CountsOfResults.{count_is, without_results}
 
 pub not_whole : (end : BareEnding) → (end ≡ bare.Return → ⊥) → (values : List Value) → whole_ending end ≡ Return values → ⊥
 not_whole bare.Return not values is = not refl
@@ -39,12 +33,10 @@ work_ended m function typed ended places default one =
     ap (λ (vs : List Value). ended_with ended vs) (ap (λ (k : ℕ). take k places) (work_has_one m function typed) ∙ first_alone places default one)
 
 pub start_has_none : (m : Contents) → ValidModule m → (function : ℕ) → m.start ≡ Some function → result_count m function ≡ 0
-start_has_none m valid function is = none (rw is at valid.start) where
-  none : HasFunctionType m function (record { params = []; results = [] }) → result_count m function ≡ 0
-  none h = rw (h.1, h.2) refl
+start_has_none m valid function is = count_is m function (record { params = []; results = [] }) (rw is at valid.start)
 
 pub start_ended : (m : Contents) → ValidModule m → (function : ℕ) → m.start ≡ Some function → (ended : BareEnded) (places : List Value)
     → ended_in m function ended places ≡ whole ended
 start_ended m valid function is ended places =
     ap (λ (k : ℕ). ended_with ended (take k places)) (start_has_none m valid function is)
-    ∙ ap {B = Ended} (λ (e : Ending). record { ending = e; used = ended.used }) (same_whole ended.ending [] (λ e. refl))
+    ∙ ap {B = Ended} (λ (e : Ending). record { ending = e; used = ended.used }) (without_results ended.ending)

@@ -1,4 +1,4 @@
-use Rattle.std.proofs.Common.{[], ◌∷◌, ap, subst}
+use Rattle.std.proofs.Common.{[], ◌∷◌, ap, ◌∙◌, subst}
 use Rattle.syntax.specs.declared.types.Value.TheVariants.{I32}
 use Rattle.events.specs.Bare.{whole, whole_ending}
 use Rattle.events.specs.declared.ended.BareEnding.{BareEnding}
@@ -7,7 +7,8 @@ use Rattle.reduction.specs.Running.{end_of_run}
 use Rattle.interp.specs.Lent.{ended_with}
 use Rattle.order.specs.Orders.{order_of}
 use Rattle.order.specs.Work.{EndsAs}
-use Rattle.order.proofs.Results.{same_whole, not_whole}
+use Rattle.interp.proofs.CountsOfResults.{without_results, none_with}
+use Rattle.order.proofs.Results.{not_whole}
 use Rattle.order.proofs.WorkHostAnswers.{stops_end, works_end}
 use Rattle.order.proofs.WhereOrdersStop.{stops_to, works_to}
 use Rattle.order.proofs.order.Order.start_and_work.Goals as goal
@@ -18,7 +19,7 @@ returns-in_default-clause-computes c = λ end reads.
     let reply = c.start-started.new.host.reply.items in
     stops_end (order_of c.args.self.now) c.args.state.now c.start-started.new.state (whole_ending started.ending) started.used reply end
     c.requires.fresh c.start-started.ensures.run (not_whole started.ending c.in_default.not-Return)
-    (subst (λ (e : Ending). EndsAs (end_of_run e) reply end) (same_whole started.ending (I32 0 ∷ []) (λ e. absurd (c.in_default.not-Return e))) reads)
+    (subst (λ (e : Ending). EndsAs (end_of_run e) reply end) (none_with started.ending (I32 0 ∷ []) [] c.in_default.not-Return ∙ without_results started.ending) reads)
 
 pub returns-in_default-clause-stops : goal.returns-in_default-clause-stops
 returns-in_default-clause-stops c = λ end reads.
@@ -26,7 +27,7 @@ returns-in_default-clause-stops c = λ end reads.
     let reply = c.start-started.new.host.reply.items in
     stops_to (order_of c.args.self.now) c.args.state.now c.start-started.new.state (whole started) reply c.start-started.new.stack end
     c.requires.fresh c.start-started.ensures.run (not_whole started.ending c.in_default.not-Return) c.start-started.ensures.stops
-    (subst (λ (e : Ending). EndsAs (end_of_run e) reply end) (same_whole started.ending (I32 0 ∷ []) (λ e. absurd (c.in_default.not-Return e))) reads)
+    (subst (λ (e : Ending). EndsAs (end_of_run e) reply end) (none_with started.ending (I32 0 ∷ []) [] c.in_default.not-Return ∙ without_results started.ending) reads)
 
 pub returns-clause-computes : goal.returns-clause-computes
 returns-clause-computes c = λ end reads.

@@ -10,7 +10,7 @@ ghost use Rattle.reduction.specs.Invoking.{TakesArguments};
 ghost use Rattle.resident.specs.Calls.{CallsInstance, ExportsFirst, ExportsNoFunction, IsNew};
 ghost use Rattle.wasmloop_c.specs.Calls.{AnswersIn, IsDepth, module_of};
 ghost use Rattle.wasmloop_c.specs.Instances.{OnResident, OnStage, OnHeldResident, OpensOver, OpensNone, TakesNumbers, IsNoCall, MakesCall, CallsBy, WritesMemory, resident_of};
-ghost use Rattle.wasmloop_c.specs.Values.{call_numbers};
+ghost use Rattle.wasmloop_c.specs.Values.{values_of, call_numbers};
 
 use crate::ended::{CallEnded, lay, values};
 use crate::handle::{Handle, on};
@@ -22,7 +22,7 @@ use limits::MAX_DEPTH;
 use resident::Resident;
 use std::alloc::{AllocError, Global};
 use std::sync::Arc;
-use syntax::types::Value;
+use syntax::types::{ValType, Value};
 
 /// How many arguments are few: those need no memory.
 const FEW: usize = 8;
@@ -110,6 +110,20 @@ pub extern "C" fn wasmloop_rt_instance(
     on!(module, alloc, held => open(alloc, &held, limits, handle, told))
 }
 
+/// The values of these types that the numbers are, or the status that says why there are none.
+fn arguments(alloc: Global, types: &[ValType], numbers: &[u64]) -> Result<Vec<Value>, u32>
+    ensures given { IfOk result (λ args. values_of types.now numbers.now ≡ Some args.items) }
+    ensures refused { IfErr result (λ status. (status ≡ MEMORY) ⊎ ((status ≡ ARGUMENTS) × (values_of types.now numbers.now ≡ None))) }
+{
+    let Ok(made) = values(alloc, types, numbers) else {
+        return Err(MEMORY);
+    };
+    match made {
+        Some(args) => Ok(args),
+        None => Err(ARGUMENTS),
+    }
+}
+
 /// The function of this name with these arguments, or the status that says why there is no such call.
 #[tactic(auto, using(crate::proofs::ValuesRead::takes))]
 pub fn named(
@@ -125,12 +139,9 @@ pub fn named(
     let Some((function, func_type)) = resident.function(name) else {
         return Err(NONE);
     };
-    let Ok(made) = values(alloc, func_type.params.as_slice(), numbers) else {
-        return Err(MEMORY);
-    };
-    match made {
-        Some(args) => Ok((function, args)),
-        None => Err(ARGUMENTS),
+    match arguments(alloc, func_type.params.as_slice(), numbers) {
+        Ok(args) => Ok((function, args)),
+        Err(status) => Err(status),
     }
 }
 
@@ -193,11 +204,9 @@ pub fn call_function(
     let types = func_type.params.as_slice();
     let count = func_type.results.len();
     if types.len() > FEW || numbers.len() != types.len() || count > 1 {
-        let Ok(made) = values(alloc, types, numbers) else {
-            return MEMORY;
-        };
-        let Some(args) = made else {
-            return ARGUMENTS;
+        let args = match arguments(alloc, types, numbers) {
+            Ok(args) => args,
+            Err(status) => return status,
         };
         call_any(resident, function, args.as_slice(), limits, told);
         return OK;

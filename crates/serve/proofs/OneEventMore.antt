@@ -40,7 +40,7 @@ use Rattle.serve.specs.Histories.{HasDone, HasEnded, HasServed, EndsBy, ThreadSt
 use Rattle.serve.specs.declared.record.LoopRecord.{LoopRecord}
 use Rattle.serve.specs.Inner.Alone.{IsAlone}
 use Rattle.serve.specs.Inner.Ends.{offered_in}
-use Rattle.serve.specs.Inner.Posts.{posts_none}
+use Rattle.serve.specs.Inner.Posts.{PostsNone}
 use Rattle.serve.specs.Inner.Moves.{MovesBy, MovesAlone, RecordHandsOut, IsOffered}
 
 -- to raise the clock to 0 is to read it
@@ -61,7 +61,7 @@ offered_append [] more = refl
 offered_append (EndOffered o end taken ∷ events) more = ap (λ xs. (o, end) ∷ xs) (offered_append events more)
 offered_append (_ ∷ events) more = offered_append events more
 
-pub none_append : (events more : List Event) → posts_none events → posts_none more → posts_none (events ++ more)
+pub none_append : (events more : List Event) → PostsNone events → PostsNone more → PostsNone (events ++ more)
 none_append [] more h k = k
 none_append (MovedBeside ∷ events) more h k = absurd h
 none_append (_ ∷ events) more h k = none_append events more h k

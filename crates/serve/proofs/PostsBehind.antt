@@ -22,7 +22,7 @@ use Rattle.serve.specs.declared.record.LoopRecord.{LoopRecord}
 use Rattle.serve.specs.HandedOut.{handed_in, passed_in, FoundBehind}
 use Rattle.serve.specs.Histories.{IsByThread, ThreadStep, ThreadHistory, thread_calls}
 use Rattle.serve.specs.Inner.Moves.{MovesBy, RecordHandsOut, RecordPosts}
-use Rattle.serve.specs.Inner.Posts.{posts_none, handed_out, PostsAmong}
+use Rattle.serve.specs.Inner.Posts.{PostsNone, handed_out, PostsAmong}
 use Rattle.serve.proofs.OneEventMore.{moves_then}
 use Rattle.serve.proofs.SentAlone.{nothing_known}
 
@@ -38,7 +38,7 @@ times_last c xs = let hit = times_hit c c xs (is_request_itself c) in omega arit
 pub handed_append : (events more : List Event) → handed_out (events ++ more) ≡ handed_out events ++ handed_out more
 handed_append events more = flat_map-append handed_in events more
 
-first_none : (e : Event) (events : List Event) → posts_none (e ∷ events) → posts_none (e ∷ []) × posts_none events
+first_none : (e : Event) (events : List Event) → PostsNone (e ∷ events) → PostsNone (e ∷ []) × PostsNone events
 first_none MovedBeside events h = absurd h
 first_none _ events h = (tt, h)
 
@@ -93,7 +93,7 @@ module _ (posted : List (ℕ × ℕ)) where
         → HasPosted old.shared.loop_seat → HasPosted new.shared.loop_seat
     step_posts old new did made step was = (step_mirrors thread_calls nothing_known g Anyhow Stays kept old did made new tt (λ a handle is. tt) was step).2
 
-    event_posts : (e : Event) (old new : Loop Seats) → posts_none (e ∷ []) → EventStep thread_calls g e old new → IsByThread e old.state
+    event_posts : (e : Event) (old new : Loop Seats) → PostsNone (e ∷ []) → EventStep thread_calls g e old new → IsByThread e old.state
         → HasPosted old.shared.loop_seat → HasPosted new.shared.loop_seat
     event_posts (Stepped did emits made) old new none step own was = step_posts old new did made step.0 was
     event_posts (OrderAsked order) old new none step own was = still old new (ap (λ (l : Loop Seats). l.shared) step.1) was
@@ -104,7 +104,7 @@ module _ (posted : List (ℕ × ℕ)) where
     event_posts (ClockRaised ms) old new none step own was = still old new (ap (λ (l : Loop Seats). l.shared) step) was
     event_posts MovedBeside old new none step own was = absurd none
 
-    history_posts : (handed : List (ℕ × ℕ)) → ((c : ℕ × ℕ) → 0 < times c posted → 0 < times c handed) → (events : List Event) (old new : Loop Seats) → posts_none events
+    history_posts : (handed : List (ℕ × ℕ)) → ((c : ℕ × ℕ) → 0 < times c posted → 0 < times c handed) → (events : List Event) (old new : Loop Seats) → PostsNone events
         → (h : ThreadHistory thread_calls g old events new) → HasPosted old.shared.loop_seat → HasPosted new.shared.loop_seat × FoundBehind handed (passed_in g old events new h)
     history_posts handed among [] old new none h was = (subst (λ (l : Loop Seats). HasPosted l.shared.loop_seat) (sym h) was, tt)
     history_posts handed among (e ∷ events) old new none h was =
@@ -121,7 +121,7 @@ GoesBehind old new events =
     → PostsAmong (handed ++ handed_out events) new.core.loop.shared.loop_seat
     × FoundBehind handed (passed_in old.core.setting old.core.loop events new.core.loop h)
 
-pub goes_unposted : (old new : LoopRecord) (events : List Event) → posts_none events → GoesBehind old new events
+pub goes_unposted : (old new : LoopRecord) (events : List Event) → PostsNone events → GoesBehind old new events
 goes_unposted old new events none handed posts h =
     let seat = old.core.loop.shared.loop_seat in
     let was : HasPosted seat.posted seat = record { posting = posts.posting; same = refl; found = posts.found } in

@@ -115,7 +115,7 @@ module _ {J : Type 0} (ticket : J → Ticket) (old new : LoopThread J) where
             (subst (λ k. IsTied ticket old.loop_no new.pass (option_to_list k) (was ++ e)) (sym kept) (tied_collect ticket old.loop_no old.pass new.pass (option_to_list old.kept) reply offered.0 was of_loop collects tied)));
       }
 
-  -- it is asked for an order, and has none
+  -- it is asked for an order, and posts none that it has
   pub stays_asked : (order : Option Order) → new.board ≡ old.board → new.loop_no ≡ old.loop_no → new.pass ≡ old.pass → old.kept ≡ None → new.kept ≡ None → RecordHandsOut old.recorded order new.recorded → Stays ticket old new
   stays_asked order board number pass was_none none handed =
       stays_alone board number pass (none ∙ sym was_none) (record { events = _; moves = handed; none = refl; unposted = tt })

@@ -8,7 +8,7 @@ use Rattle.phases.specs.History.{Event, OrderAsked, EndOffered, MovedBeside, emi
 use Rattle.serve.specs.declared.record.LoopRecord.{LoopRecord}
 use Rattle.serve.specs.Histories.{ThreadHistory, thread_calls, callbacks_in}
 use Rattle.serve.specs.Inner.Ends.{offered_in}
-use Rattle.serve.specs.Inner.Posts.{posts_none}
+use Rattle.serve.specs.Inner.Posts.{PostsNone}
 
 -- by these events, with what their callbacks emitted
 pub record MovesBy (old : LoopRecord) (events : List Event) (new : LoopRecord) : Type 0 where
@@ -22,7 +22,7 @@ pub record MovesAlone (old new : LoopRecord) : Type 0 where
   pub events : List Event
   pub moves : MovesBy old events new
   pub none : offered_in events ≡ []
-  pub unposted : posts_none events
+  pub unposted : PostsNone events
 
 -- it hands out this order, if there is one
 abbrev pub RecordHandsOut : LoopRecord → Option Order → LoopRecord → Type 0

@@ -9,10 +9,10 @@ use Rattle.serve.specs.HandedOut.{handed_in, passed_of, FoundBehind}
 use Rattle.serve.specs.Histories.{HasDone, thread_calls}
 
 -- nothing is posted in these events
-abbrev pub posts_none : List Event → Type 0
-posts_none [] = Unit {0}
-posts_none (MovedBeside ∷ events) = ⊥
-posts_none (_ ∷ events) = posts_none events
+abbrev pub PostsNone : List Event → Type 0
+PostsNone [] = Unit {0}
+PostsNone (MovedBeside ∷ events) = ⊥
+PostsNone (_ ∷ events) = PostsNone events
 
 -- the requests whose orders were handed out in some events, in order
 abbrev pub handed_out : List Event → List (ℕ × ℕ)

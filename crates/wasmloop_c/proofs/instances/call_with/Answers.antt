@@ -6,11 +6,9 @@ use Rattle.syntax.specs.declared.types.Value.{Value}
 use Rattle.syntax.specs.declared.types.Value.TheVariants.{I32}
 use Rattle.validate.specs.Typing.{HasFunctionType}
 use Rattle.interp.specs.Lent.{ended_in, ended_with, result_count}
+use Rattle.interp.proofs.CountsOfResults.{count_is}
 use Rattle.wasmloop_c.specs.Values.{call_numbers}
 use Rattle.wasmloop_c.proofs.instances.call_with.Goals as goal
-
-count_is : (m : Contents) (function : ℕ) (type : FuncType) → HasFunctionType m function type → result_count m function ≡ length type.results
-count_is m function type h = rw (h.1, h.2) refl
 
 as_many : (m : Contents) (function count : ℕ) (type : FuncType) → HasFunctionType m function type → length type.results ≡ count → count ≤ 1
     → result_count m function ≡ length (take count (I32 0 ∷ []))

@@ -5,12 +5,12 @@ ghost use Rattle.limits.specs.declared.TheConstants.{MAX_DEPTH};
 ghost use Rattle.wasmloop_c.specs.CallSlices.{BeginsCall, BeginsHeldCall, BeginsStage, LeftByCall, RunsCall, RunsHeldCall, RunsStage};
 ghost use Rattle.wasmloop_c.specs.declared.thing.InstanceStage.TheVariants as stage;
 
+use crate::checked::CheckedLimits;
 use crate::ended::CallEnded;
 use crate::handle::{Handle, on};
 use crate::instances::{CallLimits, named};
 use crate::status::{KIND, MEMORY, OK, RANGE};
 use crate::thing::{InstanceStage, Thing};
-use limits::MAX_DEPTH;
 use resident::{Going, Resident};
 use std::alloc::Global;
 use std::mem::replace;
@@ -20,16 +20,21 @@ fn begin_on(
     resident: Resident,
     name: &[u8],
     numbers: &[u64],
-    limits: CallLimits,
+    limits: CheckedLimits,
 ) -> (InstanceStage, u32)
-    requires { (1 ≤ limits.depth) × (limits.depth ≤ MAX_DEPTH) }
     ensures { BeginsStage (stage.Resident resident) result.0 name.now numbers.now limits result.1 }
 {
     let (function, args) = match named(alloc, &resident, name, numbers) {
         Ok(found) => found,
         Err(status) => return (InstanceStage::Resident(resident), status),
     };
-    match resident.begin(alloc, function, args.as_slice(), limits.fuel, limits.depth) {
+    match resident.begin(
+        alloc,
+        function,
+        args.as_slice(),
+        limits.fuel(),
+        limits.depth(),
+    ) {
         Ok(call) => (InstanceStage::Calling(call), OK),
         Err(same) => (InstanceStage::Resident(same), MEMORY),
     }
@@ -40,9 +45,8 @@ fn begin_stage(
     stage: InstanceStage,
     name: &[u8],
     numbers: &[u64],
-    limits: CallLimits,
+    limits: CheckedLimits,
 ) -> (InstanceStage, u32)
-    requires { (1 ≤ limits.depth) × (limits.depth ≤ MAX_DEPTH) }
     ensures { BeginsStage stage result.0 name.now numbers.now limits result.1 }
 {
     match stage {
@@ -51,8 +55,13 @@ fn begin_stage(
     }
 }
 
-fn begin(alloc: Global, thing: &mut Thing, name: &[u8], numbers: &[u64], limits: CallLimits) -> u32
-    requires { (1 ≤ limits.depth) × (limits.depth ≤ MAX_DEPTH) }
+fn begin(
+    alloc: Global,
+    thing: &mut Thing,
+    name: &[u8],
+    numbers: &[u64],
+    limits: CheckedLimits,
+) -> u32
     ensures { BeginsCall thing.old thing.new name.now numbers.now limits result }
 {
     let Thing::Instance(stage) = thing else {
@@ -76,10 +85,9 @@ pub extern "C" fn wasmloop_rt_call_begin(
     ensures begins { (1 ≤ limits.now.depth) × (limits.now.depth ≤ MAX_DEPTH) → BeginsHeldCall handle.old.raw.value handle.new.raw.value name.now numbers.now limits.now result }
     ensures range { (limits.now.depth < 1) ⊎ (MAX_DEPTH < limits.now.depth) → (result ≡ RANGE) × (handle.new ≡ handle.old) }
 {
-    let limits = *limits;
-    if limits.depth < 1 || limits.depth > MAX_DEPTH {
+    let Some(limits) = CheckedLimits::of(limits) else {
         return RANGE;
-    }
+    };
     on!(handle, alloc, held => begin(alloc, &mut held, name, numbers, limits))
 }
 

@@ -12,13 +12,13 @@ ghost use Rattle.wasmloop_c.specs.Calls.{AnswersIn, IsDepth, module_of};
 ghost use Rattle.wasmloop_c.specs.Instances.{OnResident, OnStage, OnHeldResident, OpensOver, OpensNone, TakesNumbers, IsNoCall, MakesCall, CallsBy, WritesMemory, resident_of};
 ghost use Rattle.wasmloop_c.specs.Values.{values_of, call_numbers};
 
+use crate::checked::CheckedLimits;
 use crate::ended::{CallEnded, lay, values};
 use crate::handle::{Handle, on};
 use crate::status::{ARGUMENTS, KIND, MEMORY, NONE, NOT_STARTED, OK, RANGE};
 use crate::thing::{InstanceStage, Room, Thing, instance_room};
 use events::ended::Ending;
 use imports::Linked;
-use limits::MAX_DEPTH;
 use resident::Resident;
 use std::alloc::{AllocError, Global};
 use std::sync::Arc;
@@ -54,11 +54,10 @@ fn opened(
 fn open(
     alloc: Global,
     module: &Thing,
-    limits: CallLimits,
+    limits: CheckedLimits,
     handle: &mut Handle,
     told: &mut CallEnded,
 ) -> u32
-    requires depth { (1 ≤ limits.depth) × (limits.depth ≤ MAX_DEPTH) }
     requires empty { handle.old.raw.value ≡ None }
     ensures opens { result ≡ OK → IsSomeAnd (module_of module.now) (λ m. IsSomeAnd handle.new.raw.value (λ t. IsSomeAnd (resident_of t) (OpensOver m limits told.new))) }
     ensures unstarted { result ≡ NOT_STARTED → IsSomeAnd (module_of module.now) (λ m. OpensNone m limits told.new) }
@@ -73,7 +72,7 @@ fn open(
     let Ok(((mut whole, mut stage), mut resident)) = opened(alloc, linked) else {
         return MEMORY;
     };
-    let ended = resident.start(limits.fuel, limits.depth);
+    let ended = resident.start(limits.fuel(), limits.depth());
     told.write(&ended);
     let Ending::Return(_) = ended.ending else {
         return NOT_STARTED;
@@ -103,10 +102,9 @@ pub extern "C" fn wasmloop_rt_instance(
     if handle.is_full() {
         return KIND;
     }
-    let limits = *limits;
-    if limits.depth < 1 || limits.depth > MAX_DEPTH {
+    let Some(limits) = CheckedLimits::of(limits) else {
         return RANGE;
-    }
+    };
     on!(module, alloc, held => open(alloc, &held, limits, handle, told))
 }
 
@@ -152,18 +150,17 @@ fn call_with(
     function: u32,
     count: usize,
     args: &[Value],
-    limits: CallLimits,
+    limits: CheckedLimits,
     told: &mut CallEnded,
 )
     requires typed { TakesArguments resident.old.loaded.contents function args.now }
     requires counted { (type : FuncType) × HasFunctionType resident.old.loaded.contents function type × (length type.results ≡ count) }
     requires few { count ≤ 1 }
-    requires depth { (1 ≤ limits.depth) × (limits.depth ≤ MAX_DEPTH) }
     ensures { (ended : HowEnded) × CallsInstance resident.old limits.depth limits.fuel function args.now ended resident.new × (told.new ≡ call_numbers ended) }
 {
     let mut one = [Value::I32(0)];
     let results = &mut one[..count];
-    let ended = resident.call_into(function, args, limits.fuel, limits.depth, results);
+    let ended = resident.call_into(function, args, limits.fuel(), limits.depth(), results);
     told.write_with(ended, results);
 }
 
@@ -172,14 +169,13 @@ fn call_any(
     resident: &mut Resident,
     function: u32,
     args: &[Value],
-    limits: CallLimits,
+    limits: CheckedLimits,
     told: &mut CallEnded,
 )
     requires typed { TakesArguments resident.old.loaded.contents function args.now }
-    requires depth { (1 ≤ limits.depth) × (limits.depth ≤ MAX_DEPTH) }
     ensures { (ended : HowEnded) × CallsInstance resident.old limits.depth limits.fuel function args.now ended resident.new × (told.new ≡ call_numbers ended) }
 {
-    let ended = resident.call(function, args, limits.fuel, limits.depth);
+    let ended = resident.call(function, args, limits.fuel(), limits.depth());
     told.write(&ended);
 }
 
@@ -191,11 +187,10 @@ pub fn call_function(
     resident: &mut Resident,
     function: u32,
     numbers: &[u64],
-    limits: CallLimits,
+    limits: CheckedLimits,
     told: &mut CallEnded,
 ) -> u32
     requires typed { (type : FuncType) × HasFunctionType resident.old.loaded.contents function type }
-    requires depth { (1 ≤ limits.depth) × (limits.depth ≤ MAX_DEPTH) }
     ensures { MakesCall resident.old ⊥ (λ f. f ≡ function) numbers.now limits told.old told.new result resident.new }
 {
     let Some(func_type) = resident.type_of(function) else {
@@ -226,10 +221,9 @@ fn call_on(
     resident: &mut Resident,
     name: &[u8],
     numbers: &[u64],
-    limits: CallLimits,
+    limits: CheckedLimits,
     told: &mut CallEnded,
 ) -> u32
-    requires { (1 ≤ limits.depth) × (limits.depth ≤ MAX_DEPTH) }
     ensures { CallsBy resident.old name.now numbers.now limits told.old told.new result resident.new }
 {
     let Some((function, _)) = resident.function(name) else {
@@ -243,10 +237,9 @@ fn call_stage(
     stage: &mut InstanceStage,
     name: &[u8],
     numbers: &[u64],
-    limits: CallLimits,
+    limits: CheckedLimits,
     told: &mut CallEnded,
 ) -> u32
-    requires { (1 ≤ limits.depth) × (limits.depth ≤ MAX_DEPTH) }
     ensures { OnStage stage.old stage.new result (told.new ≡ told.old) (λ a b. CallsBy a name.now numbers.now limits told.old told.new result b) }
 {
     let InstanceStage::Resident(resident) = stage else {
@@ -260,10 +253,9 @@ fn call(
     thing: &mut Thing,
     name: &[u8],
     numbers: &[u64],
-    limits: CallLimits,
+    limits: CheckedLimits,
     told: &mut CallEnded,
 ) -> u32
-    requires { (1 ≤ limits.depth) × (limits.depth ≤ MAX_DEPTH) }
     ensures { OnResident thing.old thing.new result (told.new ≡ told.old) (λ a b. CallsBy a name.now numbers.now limits told.old told.new result b) }
 {
     let Thing::Instance(stage) = thing else {
@@ -285,10 +277,9 @@ pub extern "C" fn wasmloop_rt_call(
     ensures calls { (1 ≤ limits.now.depth) × (limits.now.depth ≤ MAX_DEPTH) → OnHeldResident handle.old.raw.value handle.new.raw.value result (told.new ≡ told.old) (λ a b. CallsBy a name.now numbers.now limits.now told.old told.new result b) }
     ensures range { (limits.now.depth < 1) ⊎ (MAX_DEPTH < limits.now.depth) → (result ≡ RANGE) × (handle.new ≡ handle.old) × (told.new ≡ told.old) }
 {
-    let limits = *limits;
-    if limits.depth < 1 || limits.depth > MAX_DEPTH {
+    let Some(limits) = CheckedLimits::of(limits) else {
         return RANGE;
-    }
+    };
     on!(handle, alloc, held => call(alloc, &mut held, name, numbers, limits, told))
 }
 

@@ -9,6 +9,7 @@
 #![tactic(auto)]
 
 mod call_slices;
+mod checked;
 mod contents;
 mod copying;
 mod did;

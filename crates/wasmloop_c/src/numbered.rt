@@ -5,13 +5,13 @@ ghost use Rattle.limits.specs.declared.TheConstants.{MAX_DEPTH};
 ghost use Rattle.wasmloop_c.specs.Calls.{ReadsHandle};
 ghost use Rattle.wasmloop_c.specs.Instances.{CallsAt, CallsHeldAt, OnResident, OnStage, TellsExport, TellsNumber};
 
+use crate::checked::CheckedLimits;
 use crate::ended::CallEnded;
 use crate::handle::{Handle, on};
 use crate::instances::{CallLimits, call_function};
 use crate::status::{KIND, NONE, OK, RANGE};
 use crate::thing::{InstanceStage, Thing};
 use imports::Linked;
-use limits::MAX_DEPTH;
 use resident::{Resident, export_number};
 use std::alloc::Global;
 
@@ -53,10 +53,9 @@ fn call_on(
     resident: &mut Resident,
     number: u64,
     numbers: &[u64],
-    limits: CallLimits,
+    limits: CheckedLimits,
     told: &mut CallEnded,
 ) -> u32
-    requires { (1 ≤ limits.depth) × (limits.depth ≤ MAX_DEPTH) }
     ensures { CallsAt resident.old number numbers.now limits told.old told.new result resident.new }
 {
     let Some((function, _)) = resident.function_at(number as usize) else {
@@ -70,10 +69,9 @@ fn call_stage(
     stage: &mut InstanceStage,
     number: u64,
     numbers: &[u64],
-    limits: CallLimits,
+    limits: CheckedLimits,
     told: &mut CallEnded,
 ) -> u32
-    requires { (1 ≤ limits.depth) × (limits.depth ≤ MAX_DEPTH) }
     ensures { OnStage stage.old stage.new result (told.new ≡ told.old) (λ a b. CallsAt a number numbers.now limits told.old told.new result b) }
 {
     let InstanceStage::Resident(resident) = stage else {
@@ -87,10 +85,9 @@ fn call(
     thing: &mut Thing,
     number: u64,
     numbers: &[u64],
-    limits: CallLimits,
+    limits: CheckedLimits,
     told: &mut CallEnded,
 ) -> u32
-    requires { (1 ≤ limits.depth) × (limits.depth ≤ MAX_DEPTH) }
     ensures { OnResident thing.old thing.new result (told.new ≡ told.old) (λ a b. CallsAt a number numbers.now limits told.old told.new result b) }
 {
     let Thing::Instance(stage) = thing else {
@@ -112,9 +109,8 @@ pub extern "C" fn wasmloop_rt_call_at(
     ensures calls { (1 ≤ limits.now.depth) × (limits.now.depth ≤ MAX_DEPTH) → CallsHeldAt handle.old.raw.value handle.new.raw.value number numbers.now limits.now told.old told.new result }
     ensures range { (limits.now.depth < 1) ⊎ (MAX_DEPTH < limits.now.depth) → (result ≡ RANGE) × (handle.new ≡ handle.old) × (told.new ≡ told.old) }
 {
-    let limits = *limits;
-    if limits.depth < 1 || limits.depth > MAX_DEPTH {
+    let Some(limits) = CheckedLimits::of(limits) else {
         return RANGE;
-    }
+    };
     on!(handle, alloc, held => call(alloc, &mut held, number, numbers, limits, told))
 }

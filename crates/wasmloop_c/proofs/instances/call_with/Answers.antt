@@ -32,6 +32,6 @@ returns c =
     let same : length results ≡ result_count m c.args.function = c.call_into-ended.auto.results ∙ sym (as_many m c.args.function c.args.count q.0 q.1 q.2 c.requires.few) in
     let all : take (result_count m c.args.function) results ≡ results = take_all (result_count m c.args.function) results (omega (arith, same)) in (
       ended_in m c.args.function ended results,
-      c.call_into-ended.ensures,
+      rw (c.depth.ensures.value, c.fuel.ensures) at c.call_into-ended.ensures,
       c.write_with.ensures ∙ ap (λ (values : List Value). call_numbers (ended_with ended values)) (sym all),
     )

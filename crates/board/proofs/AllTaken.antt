@@ -67,8 +67,8 @@ module _ {J : Type 0} where
           };
       left_own = subst (All (IsPassOf board)) same own;
       jobs = new.0;
-      next = λ k m e. (new_maker (n + 1) 0 board.replies k m (subst (λ l. slice_get l k ≡ Some m) new.1 e)).0;
-      replies = λ k m e. sym (ap (map (λ h. Some h)) (new_maker (n + 1) 0 board.replies k m (subst (λ l. slice_get l k ≡ Some m) new.1 e)).1);
+      next = λ k m e. (new_maker (n + 1) 0 board.replies k m (rw new.1 at e)).0;
+      replies = λ k m e. sym (ap (map (λ h. Some h)) (new_maker (n + 1) 0 board.replies k m (rw new.1 at e)).1);
     },
   )
 
@@ -131,8 +131,8 @@ module _ {J : Type 0} where
               count = omega arith;
               numbered =
                   λ k h e.
-                  let at = map_back (λ (p : PassView J). p.jobs) taken k h (by_index (map (λ (p : PassView J). p.jobs) taken) k h (subst (λ l. get_elem? l k ≡ some h) jobs e)) in
-                  ap (λ (x : HandView J). x.number) (sym at.2) ∙ (numbered k at.0 (subst (λ l. slice_get l k ≡ Some at.0) (sym same) at.1)).jobs;
+                  let at = map_back (λ (p : PassView J). p.jobs) taken k h (by_index (map (λ (p : PassView J). p.jobs) taken) k h (rw jobs at e)) in
+                  ap (λ (x : HandView J). x.number) (sym at.2) ∙ (numbered k at.0 (rw same at.1)).jobs;
             };
         replies =
             λ i m e.
@@ -145,9 +145,9 @@ module _ {J : Type 0} where
               count = omega arith;
               numbered =
                   λ k h e.
-                  let some_h = subst (λ l. slice_get l k ≡ Some (Some h)) (sym hands) (map_some (λ (x : HandView Reply). Some x) m.hands k h (by_index m.hands k h e)) in
+                  let some_h = rw (sym hands) at (map_some (λ (x : HandView Reply). Some x) m.hands k h (by_index m.hands k h e)) in
                   let at = map_back (λ (p : PassView J). slice_get p.replies i) taken k (Some h) some_h in
-                  of_all at.0.replies i h (k + 1) at.2 (numbered k at.0 (subst (λ l. slice_get l k ≡ Some at.0) (sym same) at.1)).replies;
+                  of_all at.0.replies i h (k + 1) at.2 (numbered k at.0 (rw same at.1)).replies;
             };
       }
     where
@@ -166,4 +166,4 @@ module _ {J : Type 0} where
   whole_replies board n passes left all S none whole k less =
       let size = makers_size board all S.1.own in
       let m = at_some all.replies k (omega arith) in
-      (m.0.hands, subst (λ l. AreHandsOf l k m.0.hands) (sym (all_of S.0 left passes none S.1.split)) (S.1.replies k m.0 m.1), whole k m.0 m.1)
+      (m.0.hands, rw (all_of S.0 left passes none S.1.split) (S.1.replies k m.0 m.1), whole k m.0 m.1)

@@ -17,7 +17,7 @@ module _ {T : Type 0} where
   -- a pass that was joined is no live one
   apart : (passes : List (PassKnowledge T)) (views : List (LineKnowledge T)) (k : ℕ) (v : LineKnowledge T) (u : PassKnowledge T) → get_elem? views k ≡ some v → IsLive v
       → IsJoined passes views u → u.number ≢ k
-  apart passes views k v u at live j same = let none = j.spent_there v (subst (λ n. get_elem? views n ≡ some v) (sym same) at) in omega arith
+  apart passes views k v u at live j same = let none = j.spent_there v (rw same at) in omega arith
 
   -- one knows more, and it is done
   pub known_set : (passes : List (PassKnowledge T)) (views : List (LineKnowledge T)) → AreKnown passes views → (k : ℕ) (v w : LineKnowledge T) → get_elem? views k ≡ some v → IsLive v
@@ -37,12 +37,12 @@ module _ {T : Type 0} where
         own =
             λ i u e l.
             ⊎_elim
-            (λ (h : (i ≡ k) × (w ≡ u)). subst (λ n. get_elem? (set passes k w.own) n ≡ some u.own) (sym h.0) (set_here passes k w.own (omega arith) ∙ ap (λ (x : LineKnowledge T). some x.own) h.1))
+            (λ (h : (i ≡ k) × (w ≡ u)). rw h.0 (set_here passes k w.own (omega arith) ∙ ap (λ (x : LineKnowledge T). some x.own) h.1))
             (λ (h : (i ≢ k) × (get_elem? views i ≡ some u)). set_else passes k i w.own h.0 ∙ K.own i u h.1 l)
             (at_set views k i w u e);
         joined =
             each_set (λ _ u. (i : ℕ) (x : PassKnowledge T) → get_elem? u.joined i ≡ some x → IsJoined (set passes k w.own) (set views k w) x) views k w
-            (λ i x e. still x (K.joined k v at i x (subst (λ l. get_elem? l i ≡ some x) same e)))
+            (λ i x e. still x (K.joined k v at i x (rw same at e)))
             (λ n u there i x e. still x (K.joined n u there i x e));
       }
 
@@ -114,7 +114,7 @@ module _ {T : Type 0} where
       } in
       let new : IsJoined passes V w.own =
       record {
-        done = subst (λ n. get_elem? passes n ≡ some w.own) (sym number) done;
+        done = rw (sym number) at done;
         spent_there = at_place IsSpent w.own.number refl (λ same. absurd (ne (sym number ∙ same))) (λ z other e. absurd (other number));
       } in
       let known : LineKnowledge T → Type 0 = λ u. (i : ℕ) (x : PassKnowledge T) → get_elem? u.joined i ≡ some x → IsJoined passes V x in
@@ -122,7 +122,7 @@ module _ {T : Type 0} where
         size = length-set (set views k both) j (knows spent) ∙ length-set views k both ∙ K.size;
         own =
             λ n.
-            at_place (λ u. IsLive u → get_elem? passes n ≡ some u.own) n (λ l. absurd (omega arith)) (λ same l. subst (λ i. get_elem? passes i ≡ some v.own) (sym same) (K.own k v at live))
+            at_place (λ u. IsLive u → get_elem? passes n ≡ some u.own) n (λ l. absurd (omega arith)) (λ same l. rw same (K.own k v at live))
             (λ z _ e l. K.own n z e l);
         joined =
             λ n.

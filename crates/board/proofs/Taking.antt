@@ -1,5 +1,5 @@
 -- Hands that are taken in, the last line's first.
-use Rattle.std.proofs.Common.{◌≡◌, ◌≢◌, ⊎_elim, ℕ, zero, suc, ◌+◌, ◌<◌, ◌≤◌, List, [], ◌∷◌, ◌++◌, length, set, map, Some, None, slice_get, refl, sym, ap, ◌∙◌, subst, length-append, arith}
+use Rattle.std.proofs.Common.{◌≡◌, ◌≢◌, ⊎_elim, ℕ, zero, suc, ◌+◌, ◌<◌, ◌≤◌, List, [], ◌∷◌, ◌++◌, length, set, map, Some, None, slice_get, refl, sym, ap, ◌∙◌, length-append, arith}
 use Rattle.std.proofs.lemmas.Option.{same_Some}
 use Rattle.std.proofs.lemmas.Bool.{cases_eq}
 use Rattle.order.specs.declared.reply.Reply.{Reply}
@@ -50,7 +50,7 @@ pub record IsUnder (old : List (MakerView Reply)) (hands rest : List (HandView R
 pub begun : (old : List (MakerView Reply)) (hands rest : List (HandView Reply)) → hands ≡ rest → IsUnder old hands rest old
 begun old hands rest same =
     record {
-      left = λ k h e. subst (λ l. slice_get l k ≡ Some h) (sym same) e;
+      left = λ k h e. rw same e;
       before = λ k m less e. e;
       after = λ k m h least e at. let b = below hands k h at in let s = ap length same in absurd (omega arith);
     }
@@ -58,7 +58,7 @@ begun old hands rest same =
 -- the hand that comes next
 pub next_hand : (old : List (MakerView Reply)) (hands rest : List (HandView Reply)) (now : List (MakerView Reply)) (more : List (HandView Reply)) (x : HandView Reply)
     → IsUnder old hands rest now → rest ≡ more ++ x ∷ [] → slice_get hands (length more) ≡ Some x
-next_hand old hands rest now more x U split = U.left (length more) x (subst (λ l. slice_get l (length more) ≡ Some x) (sym split) (last_at more x))
+next_hand old hands rest now more x U split = U.left (length more) x (rw split (last_at more x))
 
 -- a hand more
 pub one_less : (old : List (MakerView Reply)) (hands rest : List (HandView Reply)) (now : List (MakerView Reply)) (more : List (HandView Reply)) (x : HandView Reply)
@@ -68,17 +68,16 @@ one_less old hands rest now more x U split m at w is =
     let size : length rest ≡ length more + 1 = ap length split ∙ length-append more (x ∷ []) in
     let here : slice_get hands (length more) ≡ Some x = next_hand old hands rest now more x U split in
     record {
-      left = λ k h e. U.left k h (subst (λ l. slice_get l k ≡ Some h) (sym split) (longer more x k h e));
+      left = λ k h e. U.left k h (rw split (longer more x k h e));
       before = λ k n less e. set_beside now (length more) k w (λ same. absurd (omega arith)) ∙ U.before k n (omega arith) e;
       after =
           λ k n h least e there.
           ⊎_elim
           (λ (same : k ≡ length more).
-          let was : slice_get now (length more) ≡ Some n = subst (λ i. slice_get now i ≡ Some n) same (U.before k n (omega arith) e) in
+          let was : slice_get now (length more) ≡ Some n = rw same at (U.before k n (omega arith) e) in
           let maker : m ≡ n = same_Some m n (sym at ∙ was) in
-          let hand : x ≡ h = same_Some x h (sym here ∙ subst (λ i. slice_get hands i ≡ Some h) same there) in
-          subst (λ i. slice_get (set now (length more) w) i ≡ Some (with_hand n h)) (sym same)
-          (set_there now (length more) m w at ∙ ap (λ v. Some v) (is ∙ ap (λ u. with_hand u x) maker ∙ ap (with_hand n) hand)))
+          let hand : x ≡ h = same_Some x h (sym here ∙ rw same at there) in
+          rw same (set_there now (length more) m w at ∙ ap (λ v. Some v) (is ∙ ap (λ u. with_hand u x) maker ∙ ap (with_hand n) hand)))
           (λ (ne : k ≢ length more). set_beside now (length more) k w ne ∙ U.after k n h (omega arith) e there)
           (cases_eq k (length more));
     }

@@ -56,7 +56,7 @@ module _ {T : Type 0} where
 
   giver : (m : PassKnowledge T) (us : List (PassKnowledge T)) → m.given ≡ [] → (p o : ℕ) (x : T) → get_elem? (given_by (m ∷ us) p) o ≡ some x
       → (g : PassKnowledge T) × (j : ℕ) × (p ≡ j + 1) × (get_elem? us j ≡ some g) × (get_elem? g.given o ≡ some x)
-  giver m us none zero o x e = absurd (some-ne-none x (sym (subst (λ l. get_elem? l o ≡ some x) none e)))
+  giver m us none zero o x e = absurd (some-ne-none x (sym (rw none at e)))
   giver m us none (suc p) o x e = let t = there us p o x e in (t.0, p, omega arith, t.1, t.2)
 
   -- of all passes but the maker
@@ -67,7 +67,7 @@ module _ {T : Type 0} where
         given =
             λ k i h n at taken.
             let u = map_at (hand_with line) us k h at in
-            let mine : get_elem? u.0.taken i ≡ some n = subst (λ (g : HandView T). get_elem? g.taken i ≡ some n) (sym u.2) taken in
+            let mine : get_elem? u.0.taken i ≡ some n = rw (sym u.2) at taken in
             let is = one_given (m ∷ us) u.0.taken i n (K.taken_given (suc k) u.0 u.1) mine in
             let g = giver m us nothing n.pass n.ordinal n.item is in
             (hand_with line g.0, g.1, g.2, at_map (hand_with line) us g.1 g.0 g.3, g.4);
@@ -102,7 +102,7 @@ all_counted line key next us g is all =
     let size : length us ≡ length g.hands = sym (length-map us (hand_with line)) ∙ ap length hands in
     let count = all.count in (
       omega arith,
-      λ i u e. all.numbered i (hand_with line u) (subst (λ l. get_elem? l i ≡ some (hand_with line u)) hands (at_map (hand_with line) us i u e)),
+      λ i u e. all.numbered i (hand_with line u) (rw hands at (at_map (hand_with line) us i u e)),
     )
 
 -- the pass that made all others and took them in
@@ -114,14 +114,14 @@ module _ {T : Type 0} (fits : ℕ → T → Type 0) where
       let here = place fits items views K id v at live in
       let own = done fits items views K id v at live in
       let first : here.0 ≡ 0 = sym (K.in_order.numbered here.0 v.own own) ∙ ap (λ (u : PassKnowledge T). u.number) is in
-      let maker : get_elem? K.passes 0 ≡ some v.own = subst (λ k. get_elem? K.passes k ≡ some v.own) first own in
+      let maker : get_elem? K.passes 0 ≡ some v.own = rw first at own in
       let made : v.own.made ≡ length K.passes = ap (λ (u : PassKnowledge T). u.made) (sym (get_or_here K.passes 0 v.own (pass_of 0) maker)) ∙ K.in_order.made in
       let each : (i : ℕ) (u : PassKnowledge T) → get_elem? (v.own ∷ v.joined) i ≡ some u → get_elem? K.passes i ≡ some u =
       each_of K.passes v.own v.joined maker
       (λ i u e. subst (λ n. get_elem? K.passes n ≡ some u) (let n = numbered i u e in omega arith) (K.is_known.joined here.0 v here.1 i u e).done) in
       let all : K.passes ≡ v.own ∷ v.joined = same_list K.passes (v.own ∷ v.joined) (omega arith) each in
       whole K.queued items v.own v.joined (ap (λ (u : PassKnowledge T). u.given) is) (ap (λ (u : PassKnowledge T). u.taken) is) (subst (IsInOrder K.queued) all K.in_order)
-      (λ f. subst (λ l. taken_count f l + count_by f items ≡ given_count f l) all (K.balanced f)) line
+      (λ f. rw all at (K.balanced f)) line
     where
       each_of : (passes : List (PassKnowledge T)) (m : PassKnowledge T) (us : List (PassKnowledge T)) → get_elem? passes 0 ≡ some m
           → ((i : ℕ) (u : PassKnowledge T) → get_elem? us i ≡ some u → get_elem? passes (suc i) ≡ some u) → (i : ℕ) (u : PassKnowledge T) → get_elem? (m ∷ us) i ≡ some u

@@ -19,7 +19,7 @@ module _ {S : Type 0} (calls : Calls S) (lawful : IsLawful calls) (g : Setting) 
 
   -- the object stays
   kept : (old new : Loop S) (d : Desk) → new.shared ≡ old.shared → Stands calls lawful old.shared d → Stands calls lawful new.shared d
-  kept old new d same r = subst (λ s. Stands calls lawful s d) (sym same) r
+  kept old new d same r = rw same r
 
   follows : (e : Event) (old new : Loop S) (d : Desk) → Few old.state → Stands calls lawful old.shared d → EventStep calls g e old new → Follows e old new d
   follows MovedBeside old new d few r h = (d, refl, stands_moved calls lawful old.shared new.shared d h.view r)
@@ -45,7 +45,7 @@ module _ {S : Type 0} (calls : Calls S) (lawful : IsLawful calls) (g : Setting) 
 
   goes : (passed : List (Passed S)) (old now : Loop S) (d : Desk) → Few old.state → Stands calls lawful old.shared d → PassesThrough calls g old passed now
       → (e : Desk) × PassesAtDesk g old passed d e × Stands calls lawful now.shared e
-  goes [] old now d few r h = (d, refl, subst (λ (l : Loop S). Stands calls lawful l.shared d) (sym h) r)
+  goes [] old now d few r h = (d, refl, rw h r)
   goes (p ∷ passed) old now d few r h =
       let one = follows p.event old p.new d few r h.0 in
       let rest = goes passed p.new now one.0 (event_few calls g p.event old p.new h.0 few) one.2 h.1 in

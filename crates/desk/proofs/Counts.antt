@@ -1,5 +1,5 @@
 -- The asyncs' words after each step, and the sums of sends.
-use Rattle.std.proofs.Common.{◌≡◌, ℕ, ◌+◌, ◌<◌, ◌≤◌, List, length, set, length-set, refl, sym, ap, ◌∙◌, subst, arith}
+use Rattle.std.proofs.Common.{◌≡◌, ℕ, ◌+◌, ◌<◌, ◌≤◌, List, length, set, length-set, refl, sym, ap, ◌∙◌, arith}
 use Rattle.std.specs.Prelude.{slice_index, slice_set}
 use Rattle.std.proofs.lemmas.List.{get_or-set_same, get_or-set_other}
 use native.Mathlib.Decide.{ℕ_discrete}
@@ -61,8 +61,7 @@ module _ (words : List ℕ) (d : Desk) (a : ℕ) (size : length words ≡ MAX_RE
   -- the words agree, after one of them and what waits there changed alike
   alike : (n k b : ℕ) → n ≡ k → b < MAX_ASYNCS → slice_index (set words i n) (waiting_place b) ≡ slice_index (slice_set d.waiting a k) b
   alike n k b same low = elim (ℕ_discrete b a) [
-    | yes e ↦ subst (λ (j : ℕ). slice_index (set words i n) (waiting_place j) ≡ slice_index (slice_set d.waiting a k) j) (sym e)
-        (let w = sized.waiting in written n ∙ same ∙ sym (get_or-set_same d.waiting a k 0 (omega arith)))
+    | yes e ↦ rw e (let w = sized.waiting in written n ∙ same ∙ sym (get_or-set_same d.waiting a k 0 (omega arith)))
     | no ne ↦ get_or-set_other words i (waiting_place b) n 0 (λ k. ne (omega arith)) ∙ is.word b low ∙ sym (get_or-set_other d.waiting a b k 0 ne)
   ]
 
@@ -75,8 +74,7 @@ module _ (words : List ℕ) (d : Desk) (a : ℕ) (size : length words ≡ MAX_RE
     where
       untaken : (b : ℕ) → b < MAX_ASYNCS → slice_index (raised d.view.untaken a 1) b ≤ slice_index (raised d.waiting a 1) b
       untaken b low = elim (ℕ_discrete b a) [
-        | yes e ↦ subst (λ (j : ℕ). slice_index (raised d.view.untaken a 1) j ≤ slice_index (raised d.waiting a 1) j) (sym e)
-            (let size = sized.untaken in
+        | yes e ↦ rw e (let size = sized.untaken in
             let waits = sized.waiting in
             let u = raised-there d.view.untaken a 1 (omega arith) in
             let w = raised-there d.waiting a 1 (omega arith) in
@@ -87,7 +85,7 @@ module _ (words : List ℕ) (d : Desk) (a : ℕ) (size : length words ≡ MAX_RE
 
       sends : (b : ℕ) → b < MAX_ASYNCS → slice_index (raised d.view.own a 1) b + slice_index d.sent b ≡ slice_index d.view.taken b + slice_index (raised d.waiting a 1) b
       sends b low = elim (ℕ_discrete b a) [
-        | yes e ↦ subst (λ (j : ℕ). slice_index (raised d.view.own a 1) j + slice_index d.sent j ≡ slice_index d.view.taken j + slice_index (raised d.waiting a 1) j) (sym e) here
+        | yes e ↦ rw e here
         | no ne ↦ (let o = raised-elsewhere d.view.own a 1 b ne in let w = raised-elsewhere d.waiting a 1 b ne in let was = is.sends b low in omega arith)
       ]
         where
@@ -105,14 +103,13 @@ module _ (words : List ℕ) (d : Desk) (a : ℕ) (size : length words ≡ MAX_RE
     where
       untaken : (b : ℕ) → b < MAX_ASYNCS → slice_index d.view.untaken b ≤ slice_index (raised d.waiting a 1) b
       untaken b low = elim (ℕ_discrete b a) [
-        | yes e ↦ subst (λ (j : ℕ). slice_index d.view.untaken j ≤ slice_index (raised d.waiting a 1) j) (sym e)
-            (let waits = sized.waiting in let w = raised-there d.waiting a 1 (omega arith) in let was = is.untaken a there in omega arith)
+        | yes e ↦ rw e (let waits = sized.waiting in let w = raised-there d.waiting a 1 (omega arith) in let was = is.untaken a there in omega arith)
         | no ne ↦ (let w = raised-elsewhere d.waiting a 1 b ne in let was = is.untaken b low in omega arith)
       ]
 
       sends : (b : ℕ) → b < MAX_ASYNCS → slice_index d.view.own b + slice_index (raised d.sent a 1) b ≡ slice_index d.view.taken b + slice_index (raised d.waiting a 1) b
       sends b low = elim (ℕ_discrete b a) [
-        | yes e ↦ subst (λ (j : ℕ). slice_index d.view.own j + slice_index (raised d.sent a 1) j ≡ slice_index d.view.taken j + slice_index (raised d.waiting a 1) j) (sym e) here
+        | yes e ↦ rw e here
         | no ne ↦ (let o = raised-elsewhere d.sent a 1 b ne in let w = raised-elsewhere d.waiting a 1 b ne in let was = is.sends b low in omega arith)
       ]
         where
@@ -152,8 +149,7 @@ module _ (words : List ℕ) (d : Desk) (a : ℕ) (size : length words ≡ MAX_RE
     where
       untaken : (b : ℕ) → b < MAX_ASYNCS → slice_index (slice_set d.view.untaken a 0) b ≤ slice_index (slice_set d.waiting a 0) b
       untaken b low = elim (ℕ_discrete b a) [
-        | yes e ↦ subst (λ (j : ℕ). slice_index (slice_set d.view.untaken a 0) j ≤ slice_index (slice_set d.waiting a 0) j) (sym e)
-            (let size = sized.untaken in let u : slice_index (slice_set d.view.untaken a 0) a ≡ 0 = get_or-set_same d.view.untaken a 0 0 (omega arith) in omega arith)
+        | yes e ↦ rw e (let size = sized.untaken in let u : slice_index (slice_set d.view.untaken a 0) a ≡ 0 = get_or-set_same d.view.untaken a 0 0 (omega arith) in omega arith)
         | no ne ↦ (
             let u : slice_index (slice_set d.view.untaken a 0) b ≡ slice_index d.view.untaken b = get_or-set_other d.view.untaken a b 0 0 ne in
             let w : slice_index (slice_set d.waiting a 0) b ≡ slice_index d.waiting b = get_or-set_other d.waiting a b 0 0 ne in
@@ -163,7 +159,7 @@ module _ (words : List ℕ) (d : Desk) (a : ℕ) (size : length words ≡ MAX_RE
 
       sends : (b : ℕ) → b < MAX_ASYNCS → slice_index d.view.own b + slice_index d.sent b ≡ slice_index (taken d a).view.taken b + slice_index (slice_set d.waiting a 0) b
       sends b low = elim (ℕ_discrete b a) [
-        | yes e ↦ subst (λ (j : ℕ). slice_index d.view.own j + slice_index d.sent j ≡ slice_index (taken d a).view.taken j + slice_index (slice_set d.waiting a 0) j) (sym e) here
+        | yes e ↦ rw e here
         | no ne ↦ (let t = raised-elsewhere d.view.taken a (slice_index d.waiting a) b ne in
             let w : slice_index (slice_set d.waiting a 0) b ≡ slice_index d.waiting b = get_or-set_other d.waiting a b 0 0 ne in
             let was = is.sends b low in

@@ -49,7 +49,7 @@ module _ (words : List ℕ) (d : Desk) (slot r : ℕ) (size : length words ≡ M
 
     opened-word : (s q : ℕ) → s < MAX_REQUESTS → 0 < q → (slice_index (set words slot r) s == q) ≡ is_open_request (opened d (slot, r)) (s, q)
     opened-word s q low some_number = elim (ℕ_discrete s slot) [
-      | yes e ↦ subst (λ (k : ℕ). (slice_index (set words slot r) k == q) ≡ is_open_request (opened d (slot, r)) (k, q)) (sym e) here
+      | yes e ↦ rw e here
       | no ne ↦ ap (λ n. n == q) (elsewhere r s ne) ∙ is.word s q low some_number
           ∙ ap (λ n. tests q n (times (s, q) d.view.cancelled) (times (s, q) d.started)) (sym (last_in-push_other s d.view.opened (slot, r) (λ k. ne (sym k))))
     ]
@@ -58,8 +58,8 @@ module _ (words : List ℕ) (d : Desk) (slot r : ℕ) (size : length words ≡ M
         here = elim (ℕ_discrete r q) [
           | yes e ↦ ap (λ n. n == q) (written r) ∙ eq-eqb r q e
               ∙ sym (holds q _ _ _ some_number (last_in-push_same slot r d.view.opened ∙ e)
-              (let none = fresh in subst (λ k. times (slot, k) d.view.cancelled ≡ 0) e (omega arith))
-              (let none = fresh in subst (λ k. times (slot, k) d.started ≡ 0) e (omega arith)))
+              (let none = fresh in rw (sym e) (omega arith))
+              (let none = fresh in rw (sym e) (omega arith)))
           | no ne ↦ ap (λ n. n == q) (written r) ∙ ne_eqb r q ne ∙ sym (fails q _ _ _ (λ last _ _. ne (sym (last_in-push_same slot r d.view.opened) ∙ last)))
         ]
 
@@ -79,17 +79,17 @@ module _ (words : List ℕ) (d : Desk) (slot r : ℕ) (size : length words ≡ M
     shut : (e : Desk) → ((q : ℕ) → 0 < q → is_open_request e (slot, q) ≡ false) → ((s q : ℕ) → s ≢ slot → is_open_request e (s, q) ≡ is_open_request d (s, q))
         → (s q : ℕ) → s < MAX_REQUESTS → 0 < q → (slice_index (set words slot 0) s == q) ≡ is_open_request e (s, q)
     shut e none same s q low some_number = elim (ℕ_discrete s slot) [
-      | yes k ↦ subst (λ (i : ℕ). (slice_index (set words slot 0) i == q) ≡ is_open_request e (i, q)) (sym k) (ap (λ n. n == q) (written 0) ∙ ne_eqb 0 q (λ z. omega arith) ∙ sym (none q some_number))
+      | yes k ↦ rw k (ap (λ n. n == q) (written 0) ∙ ne_eqb 0 q (λ z. omega arith) ∙ sym (none q some_number))
       | no ne ↦ ap (λ n. n == q) (elsewhere 0 s ne) ∙ is.word s q low some_number ∙ sym (same s q ne)
     ]
 
     was_opened : 0 < times (slot, r) d.view.opened
-    was_opened = let last = at.0 in ⊎_elim (λ z. absurd (omega arith)) (λ t. subst (λ k. 0 < times (slot, k) d.view.opened) last t) (last_counts slot 0 d.view.opened)
+    was_opened = let last = at.0 in ⊎_elim (λ z. absurd (omega arith)) (λ t. rw last at t) (last_counts slot 0 d.view.opened)
 
     pub cancelled-slots : AreSlots (set words slot 0) (cancelled d (slot, r))
     cancelled-slots = record {
       word = shut (cancelled d (slot, r)) none (λ s q ne. ap (λ n. tests q (last_in s d.view.opened) n (times (s, q) d.started)) (times_elsewhere (s, q) (slot, r) d.view.cancelled ne));
-      opened = λ c h. ⊎_elim (λ was. is.opened c was) (λ same. subst (λ x. 0 < times x d.view.opened) (sym same) was_opened) (either_pushed c h);
+      opened = λ c h. ⊎_elim (λ was. is.opened c was) (λ same. rw same was_opened) (either_pushed c h);
       found = is.found;
     }
       where
@@ -105,7 +105,7 @@ module _ (words : List ℕ) (d : Desk) (slot r : ℕ) (size : length words ≡ M
     pub started-slots : AreSlots (set words slot 0) (started d (slot, r))
     started-slots = record {
       word = shut (started d (slot, r)) none (λ s q ne. ap (λ n. tests q (last_in s d.view.opened) (times (s, q) d.view.cancelled) n) (times_elsewhere (s, q) (slot, r) d.started ne));
-      opened = λ c h. ⊎_elim (λ was. is.opened c was) (λ same. subst (λ x. 0 < times x d.view.opened) (sym same) was_opened) (either_pushed c h);
+      opened = λ c h. ⊎_elim (λ was. is.opened c was) (λ same. rw same was_opened) (either_pushed c h);
       found = λ c h. times_grow c (slot, r) d.started (is.found c h);
     }
       where
@@ -136,6 +136,6 @@ module _ (words : List ℕ) (d : Desk) (slot r : ℕ) (size : length words ≡ M
         by_pending true p = rw p (record {
           word = is.word;
           opened = is.opened;
-          found = λ c h. ⊎_elim (λ was. is.found c was) (λ same. subst (λ x. 0 < times x d.started) (sym same) (was_started p)) (pushed c (slot, r) d.view.found_started h);
+          found = λ c h. ⊎_elim (λ was. is.found c was) (λ same. rw same (was_started p)) (pushed c (slot, r) d.view.found_started h);
         })
         by_pending false p = rw p (record { word = is.word; opened = is.opened; found = is.found })

@@ -1,6 +1,6 @@
 -- What a loop does over any lawful object, it does at a desk at which others are at work: each lost cancel comes behind a
 -- start there, and what is taken beyond the loop's own sends was sent just before.
-use Rattle.std.proofs.Common.{◌≡◌, ℕ, zero, suc, ◌+◌, ◌-◌, ◌<◌, ◌≤◌, ◌==◌, ◌&&◌, Bool, true, false, cond, inl, inr, List, [], ◌∷◌, ◌++◌, length, length-set, refl, sym, ap, subst, ◌∙◌, arith}
+use Rattle.std.proofs.Common.{◌≡◌, ℕ, zero, suc, ◌+◌, ◌-◌, ◌<◌, ◌≤◌, ◌==◌, ◌&&◌, Bool, true, false, cond, inl, inr, List, [], ◌∷◌, ◌++◌, length, length-set, refl, sym, ap, ◌∙◌, arith}
 use Rattle.std.specs.Prelude.{slice_index, slice_set}
 use Rattle.std.proofs.lemmas.Bool.{cases_lt, eq-eqb, ne_eqb}
 use Rattle.std.proofs.lemmas.List.{set-set}
@@ -144,7 +144,7 @@ module _ {S : Type 0} (calls : Calls S) (lawful : IsLawful calls) where
       found : (x : ℕ × ℕ) → 0 < times x (d.started ++ c ∷ []) → 0 < times x (found_started (started d c) c).view.found_started
       found x k = elim (pushed x c d.started k) [
         | inl was ↦ found_still (pending d c) d.view c x (r.found x was)
-        | inr same ↦ subst (λ y. 0 < times y (found_started (started d c) c).view.found_started) (sym same) (found_now (pending d c) d.view c is)
+        | inr same ↦ rw same (found_now (pending d c) d.view c is)
       ]
 
     lost_there : Cancelled d.view (calls.view s') c false → Tried false
@@ -160,7 +160,7 @@ module _ {S : Type 0} (calls : Calls S) (lawful : IsLawful calls) where
 
   cancels : (s s' : S) (d : Desk) (slot request : ℕ) (won : Bool) → Stands s d → calls.cancels s slot request won s' → (e : Desk) × busy_calls.cancels d slot request won e × Stands s' e
   cancels s s' d slot request won r h =
-      tried s s' d slot request r won (subst (λ (v : View). Cancelled v (calls.view s') (slot, request) won) (sym r.known) (lawful.cancels s s' slot request won h))
+      tried s s' d slot request r won (rw r.known (lawful.cancels s s' slot request won h))
 
   -- a send
   sent : (s s' : S) (d : Desk) (a : ℕ) (ok : Bool) → Stands s d → Sent d.view (calls.view s') a ok → (e : Desk) × busy_calls.sends d a ok e × Stands s' e
@@ -172,13 +172,13 @@ module _ {S : Type 0} (calls : Calls S) (lawful : IsLawful calls) where
   sent s s' d a false r h = (d, ([], d, refl, (h.1, refl)), record { known = sym h.0; waits = r.waits; wide = r.wide; found = r.found })
 
   sends_there : (s s' : S) (d : Desk) (a : ℕ) (ok : Bool) → Stands s d → calls.sends s a ok s' → (e : Desk) × busy_calls.sends d a ok e × Stands s' e
-  sends_there s s' d a ok r h = sent s s' d a ok r (subst (λ (v : View). Sent v (calls.view s') a ok) (sym r.known) (lawful.sends s s' a ok h))
+  sends_there s s' d a ok r h = sent s s' d a ok r (rw r.known (lawful.sends s s' a ok h))
 
   -- others send what is taken beyond the loop's own
   taken_there : (s s' : S) (d : Desk) (a n : ℕ) → a < MAX_ASYNCS → Stands s d → Taken d.view (calls.view s') a n → (e : Desk) × busy_calls.takes d a n e × Stands s' e
   taken_there s s' d a n there r h = (
     taken mid a,
-    (sends a k, mid, sends_come a k d there, (sym waiting, refl, subst (λ (v : View). slice_index d.view.own a ≤ slice_index v.taken a) known h.1, h.2)),
+    (sends a k, mid, sends_come a k d there, (sym waiting, refl, rw known at h.1, h.2)),
     record {
       known = sym known;
       waits = raised_away a k d.waiting ∙ ap (λ xs. slice_set xs a 0) r.waits;
@@ -194,7 +194,7 @@ module _ {S : Type 0} (calls : Calls S) (lawful : IsLawful calls) where
 
     waiting : slice_index mid.waiting a ≡ n
     waiting =
-        let size : a < length d.waiting = subst (λ (xs : List ℕ). a < length xs) (sym r.waits) (let wide = r.wide in omega (arith, wide, there)) in
+        let size : a < length d.waiting = rw r.waits (let wide = r.wide in omega (arith, wide, there)) in
         let all = raised_counts a k d.waiting size in
         let own : slice_index d.waiting a ≡ slice_index d.view.untaken a = ap (λ xs. slice_index xs a) r.waits in
         let few = h.2 in
@@ -205,7 +205,7 @@ module _ {S : Type 0} (calls : Calls S) (lawful : IsLawful calls) where
     known = h.0 ∙ ap (λ (m : ℕ). record d.view { takes = raised d.view.takes a 1; taken = raised d.view.taken a m; untaken = slice_set d.view.untaken a 0 }) (sym waiting)
 
   takes_there : (s s' : S) (d : Desk) (a n : ℕ) → a < MAX_ASYNCS → Stands s d → calls.takes s a n s' → (e : Desk) × busy_calls.takes d a n e × Stands s' e
-  takes_there s s' d a n there r h = taken_there s s' d a n there r (subst (λ (v : View). Taken v (calls.view s') a n) (sym r.known) (lawful.takes s s' a n h))
+  takes_there s s' d a n there r h = taken_there s s' d a n there r (rw r.known (lawful.takes s s' a n h))
 
   pub standing : IsMirrored calls busy_calls (λ a. a < MAX_ASYNCS) Stands
   standing = record {

@@ -28,8 +28,8 @@ Moves i d f told = (words : List ℕ) → WordsAgree words d → (e : Desk) × W
 moved : {S : Type 0} (slots i : ℕ) (v : History) (held : List (ℕ × S)) (f : ℕ → ℕ) (told : ℕ → Desk → Type 0)
     → Moves i (desk_of v) f told → Allows Kept slots 0 (v, held) i f (λ found after. told found (desk_of after.0))
 moved slots i v held f told moves s kept homes at fits =
-    let same : kept.0 ≡ v = some-injective kept.0 v (subst (λ vs. get_elem? vs 0 ≡ some v) kept.1 at) in
-    let given = moves s.words (subst (λ h. WordsAgree s.words (desk_of h)) same kept.2) in
+    let same : kept.0 ≡ v = some-injective kept.0 v (rw kept.1 at at) in
+    let given = moves s.words (rw same at kept.2) in
     let h = history_of given.0 in
     (h, keeps, tt, (h, ap (λ vs. set vs 0 h) kept.1, given.1), given.2)
 
@@ -114,13 +114,13 @@ module _ (slot r : ℕ) (d : Desk) (words : List ℕ) (is : WordsAgree words d) 
   cancel_goes = elim (ℕ_discrete found r) [
     | yes e ↦ subst (Goes (DeskCancels d (slot, r))) (sym (eq-eqb found r e)) (cancelled d (slot, r), cancelled_agrees e, (sym (hit e), (none_found e, refl)))
     | no ne ↦ subst (Goes (DeskCancels d (slot, r))) (sym (ne_eqb found r ne))
-        (found_started d (slot, r), subst (λ ws. WordsAgree ws (found_started d (slot, r))) (sym same) (found_agrees ne), (sym (not_open words d slot r is.size is.slots there above ne), refl))
+        (found_started d (slot, r), rw same (found_agrees ne), (sym (not_open words d slot r is.size is.slots there above ne), refl))
   ]
 
   start_goes : Goes (DeskStarts d (slot, r)) (found == r)
   start_goes = elim (ℕ_discrete found r) [
     | yes e ↦ subst (Goes (DeskStarts d (slot, r))) (sym (eq-eqb found r e)) (started d (slot, r), started_agrees e, (sym (hit e), refl))
-    | no ne ↦ subst (Goes (DeskStarts d (slot, r))) (sym (ne_eqb found r ne)) (d, subst (λ ws. WordsAgree ws d) (sym same) is, (sym (not_open words d slot r is.size is.slots there above ne), refl))
+    | no ne ↦ subst (Goes (DeskStarts d (slot, r))) (sym (ne_eqb found r ne)) (d, rw same is, (sym (not_open words d slot r is.size is.slots there above ne), refl))
   ]
 
 pub cancels_allowed : {S : Type 0} (slots slot r : ℕ) (v : History) (held : List (ℕ × S)) → slot < MAX_REQUESTS → 0 < r
@@ -149,8 +149,7 @@ module _ {S : Type 0} (slots a i : ℕ) (v : History) (held : List (ℕ × S)) (
       → Allows Kept slots 0 (v, held) i (λ k. (k + 1) % 2 ^ 64) (λ _ after. (b : ℕ) → i ≡ waiting_place b → desk_of after.0 ≡ sent_own d b)
   sends_allowed n m counted = moved slots i v held (λ k. (k + 1) % 2 ^ 64) (λ _ e. (b : ℕ) → i ≡ waiting_place b → e ≡ sent_own d b) (λ words is. (
     sent_own d a,
-    subst (λ j. WordsAgree (set words j ((slice_index words j + 1) % 2 ^ 64)) (sent_own d a)) (sym place)
-        (subst (λ k. WordsAgree (set words (waiting_place a) k) (sent_own d a)) (sym (one_more n m counted words is)) (agrees words is)),
+    rw (place, one_more n m counted words is) (agrees words is),
     told_there (sent_own d) (sent_own d a) refl,
   ))
     where
@@ -165,8 +164,7 @@ module _ {S : Type 0} (slots a i : ℕ) (v : History) (held : List (ℕ × S)) (
       → Allows Kept slots 0 (v, held) i (λ k. (k + 1) % 2 ^ 64) (λ _ after. (b : ℕ) → i ≡ waiting_place b → desk_of after.0 ≡ sent_by_another d b)
   gets_allowed n m counted = moved slots i v held (λ k. (k + 1) % 2 ^ 64) (λ _ e. (b : ℕ) → i ≡ waiting_place b → e ≡ sent_by_another d b) (λ words is. (
     sent_by_another d a,
-    subst (λ j. WordsAgree (set words j ((slice_index words j + 1) % 2 ^ 64)) (sent_by_another d a)) (sym place)
-        (subst (λ k. WordsAgree (set words (waiting_place a) k) (sent_by_another d a)) (sym (one_more n m counted words is)) (agrees words is)),
+    rw (place, one_more n m counted words is) (agrees words is),
     told_there (sent_by_another d) (sent_by_another d a) refl,
   ))
     where
@@ -180,7 +178,7 @@ module _ {S : Type 0} (slots a i : ℕ) (v : History) (held : List (ℕ × S)) (
   pub takes_allowed : Allows Kept slots 0 (v, held) i (λ _. 0) (λ found after. (b : ℕ) → i ≡ waiting_place b → DeskTakes d b found (desk_of after.0))
   takes_allowed = moved slots i v held (λ _. 0) (λ found e. (b : ℕ) → i ≡ waiting_place b → DeskTakes d b found e) (λ words is. (
     taken d a,
-    subst (λ j. WordsAgree (set words j 0) (taken d a)) (sym place) (agrees words is),
+    rw place (agrees words is),
     told words is,
   ))
     where
@@ -195,7 +193,7 @@ module _ {S : Type 0} (slots a i : ℕ) (v : History) (held : List (ℕ × S)) (
       told words is b other =
           let same : a ≡ b = omega arith in
           let is_found : slice_index words i ≡ slice_index d.waiting a = ap (slice_index words) place ∙ is.counts.word a there in
-          subst (λ k. DeskTakes d k (slice_index words i) (taken d a)) same (is_found, refl, own-taken words d a is.size is.counts sized there, (let waits = is.counts.untaken a there in omega arith))
+          rw (sym same) (is_found, refl, own-taken words d a is.size is.counts sized there, (let waits = is.counts.untaken a there in omega arith))
 
 -- a table on which nothing was done
 pub begins : (loop_no : ℕ) → DeskIsKept (replicate (MAX_REQUESTS + MAX_ASYNCS) 0) (history_of (new_desk loop_no) ∷ [])

@@ -1,5 +1,5 @@
 -- The functions behind the imports, as they are found one by one.
-use Rattle.std.proofs.Common.{◌≡◌, ◌⊎◌, inl, inr, ℕ, zero, suc, ◌+◌, ◌<◌, ◌≤◌, List, [], ◌∷◌, length, Option, Some, None, MatchOption, unwrap_or, refl, sym, ◌∙◌, subst, arith}
+use Rattle.std.proofs.Common.{◌≡◌, ◌⊎◌, inl, inr, ℕ, zero, suc, ◌+◌, ◌<◌, ◌≤◌, List, [], ◌∷◌, length, Option, Some, None, MatchOption, unwrap_or, refl, ◌∙◌, arith}
 use Rattle.std.specs.Prelude.{slice_get, slice_set}
 use Rattle.std.proofs.lemmas.Bool.{cases_lt}
 use Rattle.syntax.specs.declared.contents.Contents.{Contents}
@@ -29,7 +29,7 @@ module _ (m : Contents) (at : ℕ) (calls : List Call) (c : Call) (room : at < l
     by (inl before) = let f = all k before within in (f.0, put_elsewhere calls at k c before ∙ f.1, f.2)
     by (inr past) =
         let e : k ≡ at = omega (arith, less, past) in
-        subst (λ (n : ℕ). (d : Call) × (slice_get (slice_set calls at c) n ≡ Some d) × Imports m n d) (sym e) (c, put_there calls at c room, is)
+        rw e (c, put_there calls at c room, is)
 
 pub or_now : (m : Contents) (at : ℕ) (r : Option Call) → MatchOption r (length m.imports ≤ at) (Imports m at) → at < length m.imports → Imports m at (unwrap_or r Now)
 or_now m at None k h = absurd (omega arith)

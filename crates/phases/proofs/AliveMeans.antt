@@ -62,7 +62,7 @@ of_place k t handle place is = by (record_of t handle) refl is where
       (r, record { there = there; active = both.0; kind = the_same r.kind k both.1 }, it.1)
 
 first_placed : (k : Kind) (t : Table) (p : ListPlace) (ps : List ListPlace) → in_order k t ≡ p ∷ ps → Placed k t p.handle p
-first_placed k t p ps e = of_place k t p.handle p (in_order-place k t p (subst (λ xs. Contains xs p) (sym e) (0, omega arith, refl)))
+first_placed k t p ps e = of_place k t p.handle p (in_order-place k t p (rw e (0, omega arith, refl)))
 
 listed_of : (k : Kind) (t : Table) → in_order k t ≢ [] → HasActiveOf k t
 listed_of k t some = by (in_order k t) refl where
@@ -86,7 +86,7 @@ is_listed k t handle r there active same =
 
 active_listed : (k : Kind) (t : Table) (handle : ℕ) (r : Record) → record_of t handle ≡ Some r → r.active ≡ true → same_kind r.kind k ≡ true → in_order k t ≢ []
 active_listed k t handle r there active same none =
-    let here = subst (λ xs. Contains xs (place_at k handle r)) none (is_listed k t handle r there active same) in
+    let here = rw none at (is_listed k t handle r there active same) in
     omega (arith, here.1)
 
 kind_active : (k : Kind) (t : Table) → not (is_empty (kind_list k t)) ≡ true → HasActive t
@@ -128,7 +128,7 @@ module _ (t : Table) (handle : ℕ) (r : Record) (there : record_of t handle ≡
   active_async : (n : ℕ) (hs : List (Option ℕ)) → list_any (is_handle handle) hs ≡ true → active_from t n hs ≢ []
   active_async n [] h none = absurd (cc)
   active_async n (o ∷ hs) h none = elim (or_cases (is_handle handle o) (list_any (is_handle handle) hs) h) [
-    | inl here ↦ (let k : n ∷ active_from t (n + 1) hs ≡ [] = subst (λ b. cond b (n ∷ []) [] ++ active_from t (n + 1) hs ≡ []) (on_of o here) none in cc)
+    | inl here ↦ (let k : n ∷ active_from t (n + 1) hs ≡ [] = rw (on_of o here) at none in cc)
     | inr later ↦ active_async (n + 1) hs later (append_none (cond (is_active_handle t o) (n ∷ []) []) (active_from t (n + 1) hs) none)
   ]
 
@@ -196,7 +196,7 @@ is_false false h = refl
 -- no active timer is earlier than the first of the list
 no_earlier : (t : Table) (due : ℕ) → nearest_due t ≡ Some due → (other : ℕ) (r : Record) → IsActive t Timer other r → due ≤ r.due
 no_earlier t due is other r timer =
-    let least : All (λ (p : ListPlace). due ≤ p.due) (in_order Timer t) = subst (λ o. IfSome o (λ d. All (λ (p : ListPlace). d ≤ p.due) (in_order Timer t))) is (first_is_least (listed Timer t.records)) in
+    let least : All (λ (p : ListPlace). due ≤ p.due) (in_order Timer t) = rw is at (first_is_least (listed Timer t.records)) in
     All-contains (λ (p : ListPlace). due ≤ p.due) (in_order Timer t) (place_at Timer other r) least
     (is_listed Timer t other r timer.there timer.active (ap (λ a. same_kind a Timer) timer.kind))
 

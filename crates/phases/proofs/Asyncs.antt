@@ -39,7 +39,7 @@ async_below s async_no handle few h = let below = found_below s.roster.asyncs as
 
 -- where the roster stays
 stays_few : (s t : State) → t.roster ≡ s.roster → Few s → Few t
-stays_few s t same few = subst (λ (r : Roster). length r.asyncs ≤ MAX_ASYNCS) (sym same) few
+stays_few s t same few = rw same few
 
 module _ {S : Type 0} (calls : Calls S) (g : Setting) where
   module _ (did : StepDid) (made : List GuestCall) (new : Loop S) where
@@ -52,7 +52,7 @@ module _ {S : Type 0} (calls : Calls S) (g : Setting) where
     prepared_few : (s u : State) → Prepares s u → Few s → Few u
     prepared_few s u (as_it_is e) few = stays_few s u (ap (λ (x : State). x.roster) e) few
     prepared_few s u (starts_timer handle e) few = subst Few (sym e) few
-    prepared_few s u (removes_handle handle e) few = subst Few (sym e) (subst (λ n. n ≤ MAX_ASYNCS) (sym (length-map s.roster.asyncs (unless_handle handle))) few)
+    prepared_few s u (removes_handle handle e) few = subst Few (sym e) (rw (length-map s.roster.asyncs (unless_handle handle)) few)
 
     entry_few : (old : Loop S) (e : Entry) (E : S → S → Type 0) → EntryGoes calls calls g old e did made new E → Few old.state → Few new.state
     entry_few old e E (skips taken mid kind number at takes h back) few = stays_few old.state new.state (ap (λ (l : Loop S). l.state.roster) h.1) few

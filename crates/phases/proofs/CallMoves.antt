@@ -114,13 +114,13 @@ module _ {S T : Type 0} (calls : Calls S) (other : Calls T) where
 
     unless : (b : Bool) (code : ℕ) (P : Type 0) (Q : T → T → Type 0) → MAX_REQUEST_NUMBER < code → (b ≡ false → P → Fate Q) → MatchBool b ((answer ≡ code) × (new ≡ old)) P
         → Fate (λ t t'. MatchBool b ((answer ≡ code) × (◌≡◌ {A = Requests × T} (new.0, t') (old.0, t))) (Q t t'))
-    unless true code P Q big f h = (inl (subst (λ n. MAX_REQUEST_NUMBER < n) (sym h.0) big, h.1), refused old new h)
+    unless true code P Q big f h = (inl (rw h.0 big, h.1), refused old new h)
     unless false code P Q big f h = f refl h
 
     if_room : (exports g.loaded.contents (codes "uv_work") && exports g.loaded.contents (codes "uv_after_work")) ≡ true → nat_lt MAX_BYTES count ≡ false
         → OpensIfRoom calls g old op (taken_out place count memory) answer new → Fate (λ t t'. OpensIfRoom other g (old.0, t) op (taken_out place count memory) answer (new.0, t'))
     if_room exported few (inl h) =
-        (inl (subst (λ n. MAX_REQUEST_NUMBER < n) (sym h.0) (let big : MAX_REQUEST_NUMBER < NO_MEMORY = omega arith in big), h.1), onward (λ t t' k. inl k) (refused old new h))
+        (inl (rw h.0 (let big : MAX_REQUEST_NUMBER < NO_MEMORY = omega arith in big), h.1), onward (λ t t' k. inl k) (refused old new h))
     if_room exported few (inr o) = (
       inr (o, record { exported = exported; few = few; below = o.below }),
       record {

@@ -1,5 +1,5 @@
 -- A callback in slices is over.
-use Rattle.std.proofs.Common.{◌≡◌, ℕ, List, Option, IfSome, refl, sym, ap, subst}
+use Rattle.std.proofs.Common.{◌≡◌, ℕ, List, Option, IfSome, refl, ap}
 use Rattle.syntax.specs.Loaded.{Loaded}
 use Rattle.syntax.specs.declared.types.Value.{Value}
 use Rattle.instance.specs.Store.{Store}
@@ -47,8 +47,7 @@ module _ {S : Type 0} (calls : Calls S) (loaded : Loaded) (g : Setting) (mid : L
   module _ (last : State) (e : last ≡ finished after.state ended) where
     pub over_keeps : IsLinked loaded.contents → IsStoreOf loaded.contents store → KeepsLoop loaded (setting_of after.setting) last store
     over_keeps linked fits =
-        subst (λ (x : Setting). KeepsLoop loaded x last store) (sym over_setting)
-        (kept_after calls set stands loaded loaded refl g mid keeps before after made reply begins store function args ended stop leads linked fits last e)
+        rw over_setting (kept_after calls set stands loaded loaded refl g mid keeps before after made reply begins store function args ended stop leads linked fits last e)
 
     pub over_runs : (kind : EntryKind) (number : ℕ)
         → (calls_made : List GuestCall) × RunsFrom calls g mid kind number function args reply (Ran kind number ended) calls_made

@@ -1,5 +1,5 @@
 -- How a cancel of a request goes, a guest's or the owner's.
-use Rattle.std.proofs.Common.{◌≡◌, ◌≢◌, ℕ, ◌==◌, Bool, true, false, cond, Option, Some, None, refl, sym, ap, subst, ◌∙◌, ℤ, negsuc}
+use Rattle.std.proofs.Common.{◌≡◌, ◌≢◌, ℕ, ◌==◌, Bool, true, false, cond, Option, Some, None, refl, sym, ap, ◌∙◌, ℤ, negsuc}
 use Rattle.std.specs.Prelude.{pos}
 use Rattle.std.specs.Int.{w32, cast_signed}
 use Rattle.order.specs.declared.uv.answers.TheConstants.{NOT_HERE, BUSY, INVALID}
@@ -62,7 +62,7 @@ module _ {S : Type 0} (calls : Calls S) where
     there (Some q) e = (q, e, in_slot q slot q.stage (sym (ap request_cancel_state e) ∙ is))
 
     won : (b : Bool) → calls.cancels old.1 slot n b new.1 → answer ≡ cond b 0 BUSY → new.0 ≡ cond b (with_stage old.0 n Cancelled) old.0 → CancelMoves calls old n answer new
-    won true at a e = let it = there (request_of old.0 n) refl in wins it.0 it.1 a e (subst (λ k. calls.cancels old.1 k n true new.1) it.2 at)
+    won true at a e = let it = there (request_of old.0 n) refl in wins it.0 it.1 a e (rw it.2 at at)
     won false at a e = leaves (refusal answer BUSY a refl refl) e (tried slot n at)
 
   pub moves_of : (old : Requests × S) (n answer : ℕ) (new : Requests × S) → Cancels calls old n answer new → CancelMoves calls old n answer new
@@ -71,7 +71,7 @@ module _ {S : Type 0} (calls : Calls S) where
   -- of requests by another name
   renamed : (old : Requests × S) (n answer : ℕ) (requests requests' : Requests) (s : S) → requests' ≡ requests
       → CancelMoves calls old n answer (requests, s) → CancelMoves calls old n answer (requests', s)
-  renamed old n answer requests requests' s e h = subst (λ x. CancelMoves calls old n answer (x, s)) (sym e) h
+  renamed old n answer requests requests' s e h = rw e h
 
   -- the owner's
   pub moves_in : (status : Status) (old : State × S) (n answer : ℕ) (new : State × S) → CancelIn calls status old n answer new

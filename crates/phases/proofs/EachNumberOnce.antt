@@ -1,5 +1,5 @@
 -- A guest is answered each number of a request once.
-use Rattle.std.proofs.Common.{◌≡◌, ◌≢◌, ℕ, ◌+◌, ◌<◌, ◌≤◌, ◌==◌, false, cond, ◌&&◌, inl, inr, ◌⊎◌, List, [], ◌∷◌, ◌++◌, refl, sym, ap, subst, ◌∙◌, arith}
+use Rattle.std.proofs.Common.{◌≡◌, ◌≢◌, ℕ, ◌+◌, ◌<◌, ◌≤◌, ◌==◌, false, cond, ◌&&◌, inl, inr, ◌⊎◌, List, [], ◌∷◌, ◌++◌, refl, ap, ◌∙◌, arith}
 use Rattle.std.specs.List.{count_by}
 use Rattle.std.proofs.lemmas.Bool.{cases_eq, eq-eqb, ne_eqb}
 use Rattle.std.proofs.lemmas.List.Sums.{sum_by_push}
@@ -28,19 +28,18 @@ uncounted r made c none = counted r made c ∙ rw none (omega arith)
 
 more : (r last last' : ℕ) (made : List GuestCall) (c : GuestCall) → asks_for r c ≡ false → last ≤ last' → IsAsked made last r → IsAsked (made ++ c ∷ []) last' r
 more r last last' made c none le h = record {
-  once = subst (λ n. n ≤ 1) (sym (uncounted r made c none)) h.once;
+  once = rw (uncounted r made c none) h.once;
   later = λ low. uncounted r made c none ∙ h.later (omega (arith, low, le));
 }
 
 module _ (g : Setting) where
   call_keeps : (made : List GuestCall) (c : GuestCall) (rs rs' : Requests) → CallFate g rs c rs' → AreAsked made rs → AreAsked (made ++ c ∷ []) rs'
   call_keeps made c rs rs' (changes_nothing asks never e) h r few =
-      subst (λ (x : Requests). IsAsked (made ++ c ∷ []) x.last r) (sym e) (more r rs.last rs.last made c (asks r few) (omega arith) (h r few))
+      rw e (more r rs.last rs.last made c (asks r few) (omega arith) (h r few))
   call_keeps made c rs rs' (cancels_one n q is args told found e) h r few =
-      subst (λ (x : Requests). IsAsked (made ++ c ∷ []) x.last r) (sym e)
-      (more r rs.last rs.last made c (ap (λ f. is_queue_work f && is_number r c.call.answer) is) (omega arith) (h r few))
+      rw e (more r rs.last rs.last made c (ap (λ f. is_queue_work f && is_number r c.call.answer) is) (omega arith) (h r few))
   call_keeps made c rs rs' (opens_one op place count slot is args told e) h r few =
-      subst (λ (x : Requests). IsAsked (made ++ c ∷ []) x.last r) (sym e) (by (cases_eq (rs.last + 1) r)) where
+      rw e (by (cases_eq (rs.last + 1) r)) where
         names : asks_for r c ≡ (rs.last + 1 == r)
         names = ap (λ f. is_queue_work f && is_number r c.call.answer) is ∙ ap (is_number r) told
 
@@ -63,4 +62,4 @@ module _ (g : Setting) where
   pub asked_after : {S : Type 0} (calls : Calls S) (l l' : Loop S) (events : List Event) → IsOpening calls g l → History calls g l events l'
       → (r : ℕ) → r ≤ MAX_REQUEST_NUMBER → count_by (asks_for r) (guest_calls events) ≤ 1
   asked_after calls l l' events opens run r few =
-      (history_keeps calls g AreAsked keeps [] events l l' run (subst (λ (s : State). AreAsked [] s.requests) (sym opens.state) none_asked) r few).once
+      (history_keeps calls g AreAsked keeps [] events l l' run (rw opens.state none_asked) r few).once

@@ -1,5 +1,5 @@
 -- What an entry of a list comes to before its callback runs.
-use Rattle.std.proofs.Common.{◌≡◌, ℕ, true, false, MatchBool, MatchOption, List, [], ◌∷◌, Option, Some, None, codes, refl, sym, subst}
+use Rattle.std.proofs.Common.{◌≡◌, ℕ, true, false, MatchBool, MatchOption, List, [], ◌∷◌, Option, Some, None, codes, refl}
 use Rattle.syntax.specs.declared.types.Value.TheVariants.{I32}
 use Rattle.handles.specs.declared.handle.Kind.{Kind}
 use Rattle.handles.specs.declared.handle.Kind.TheVariants as handle_kind
@@ -34,7 +34,7 @@ module _ {S : Type 0} (calls : Calls S) (g : Setting) (old : Loop S) where
       → (did : StepDid) (made : List GuestCall) (new : Loop S) → Of did made new (in_state mid u) k handle f → CallsHandle calls g mid r k handle did made new
   handle_runs r k handle f mid u is e did made new run =
       called (handle_function r handle) f (λ n. Of did made new mid k handle n) is
-      (subst (λ (v : State). Of did made new (in_state mid v) k handle f) e run)
+      (rw e at run)
 
   pub start_step : (f : ℕ) (p : Prepared) → g.loaded.contents.start ≡ Some f → p ≡ unread kind.Start 0 f [] → Prepares calls g (EntryStep calls g old entry.Start) p old
   start_step f p is e =
@@ -61,8 +61,7 @@ module _ {S : Type 0} (calls : Calls S) (g : Setting) (old : Loop S) where
     pub timer_skipped : (p : Prepared) (u : State) → is_as_listed handle_kind.Timer old.state.roster handle start ≡ false → u ≡ old.state
         → p ≡ Did (Skipped kind.Timer handle) → Prepares calls g (EntryStep calls g old (entry.Timer handle start)) p (in_state old u)
     timer_skipped p u listed e ep =
-        subst (λ (v : State). Prepares calls g (EntryStep calls g old (entry.Timer handle start)) p (in_state old v)) (sym e)
-        (prepares_did (Skipped kind.Timer handle) p ep calls g (EntryStep calls g old (entry.Timer handle start)) old
+        rw e (prepares_did (Skipped kind.Timer handle) p ep calls g (EntryStep calls g old (entry.Timer handle start)) old
         (unless (is_as_listed handle_kind.Timer old.state.roster handle start)
         (CallsHandle calls g (in_state old fired) old.state.roster kind.Timer handle (step.Skipped kind.Timer handle) [] old)
         (Skips calls g old kind.Timer handle (step.Skipped kind.Timer handle) [] old) listed (refl, refl, refl)))
@@ -106,8 +105,7 @@ module _ {S : Type 0} (calls : Calls S) (g : Setting) (old : Loop S) where
         told_of (request_of old.state.requests number) t (λ x. AfterWork calls g old number x did made new) told (
           f,
           exported,
-          subst (λ (v : State).
-              RunsFrom calls g (in_state old v) kind.After number f (I32 number ∷ I32 t.kind ∷ I32 t.code ∷ []) (Some t.bytes) did made new) e run,
+          rw e at run,
         )
 
   module _ (async_no handle : ℕ) (is : async_handle old.state.roster async_no ≡ Some handle) where
@@ -159,4 +157,4 @@ module _ {S : Type 0} (calls : Calls S) (g : Setting) (old : Loop S) where
               let same : n ≡ handle = cc in
               unless (is_active_handle old.state.roster.handles (Some n)) (TakesFirst calls g old async_no n (step.Skipped kind.Async handle) [] old)
               (Skips calls g old kind.Async n (step.Skipped kind.Async handle) [] old) h
-              (subst (λ (k : ℕ). Skips calls g old kind.Async k (step.Skipped kind.Async handle) [] old) (sym same) (refl, refl, refl))
+              (rw same (refl, refl, refl))

@@ -1,5 +1,5 @@
 -- A cancel of a request that was found, by whether it can be cancelled.
-use Rattle.std.proofs.Common.{◌≡◌, ℕ, Some, sym, ap, subst, ◌∙◌}
+use Rattle.std.proofs.Common.{◌≡◌, ℕ, Some, ap, ◌∙◌}
 use Rattle.phases.specs.declared.stage.CancelState.{CancelState}
 use Rattle.phases.specs.declared.stage.CancelState.TheVariants.{Pending}
 use Rattle.phases.specs.Requests.{Stage, Open, HandedOut, Answered, Cancelled, Request, Requests, request_of}
@@ -18,4 +18,4 @@ pub cancels_found : {S : Type 0} (calls : Calls S) (old : Requests × S) (number
     → request_of old.0 number ≡ Some q → stage_cancel_state q.order.slot q.stage ≡ state → CancelsFrom calls state old number answer new
     → Cancels calls old number answer new
 cancels_found calls old number answer new q state there is h =
-    subst (λ s. CancelsFrom calls s old number answer new) (sym (ap request_cancel_state there ∙ is)) h
+    rw (ap request_cancel_state there ∙ is) h

@@ -36,10 +36,10 @@ grows_same s t list phase roster requests = record {
   list = list;
   phase = phase;
   callbacks = ap (λ r. r.callbacks) roster;
-  settled = λ number h. subst (λ (rs : Requests). IsSettledIn rs number) (sym requests) h;
+  settled = λ number h. rw requests h;
   asyncs = λ async_no handle h. ap (λ r. async_handle r async_no) roster ∙ h;
-  few = λ h. subst (λ (r : Roster). length r.asyncs ≤ MAX_ASYNCS) (sym roster) h;
-  closing = λ handle h. subst (λ (r : Roster). IsClosing r.handles handle) (sym roster) h;
+  few = λ h. rw roster h;
+  closing = λ handle h. rw roster h;
 }
 
 pub grows_refl : (s : State) → Grows s s
@@ -104,7 +104,7 @@ settles_work rs o n h =
     subst IsSettledOne (sym (find-append (has_number n) rs.outstanding new)) (settled_or (find (has_number n) rs.outstanding) (find (has_number n) new) h)
 
 pub settles_same : (rs us : Requests) → us ≡ rs → Settles rs us
-settles_same rs us e n h = subst (λ (vs : Requests). IsSettledIn vs n) (sym e) h
+settles_same rs us e n h = rw e h
 
 -- the handles
 abbrev pub StayClosing : Table → Table → Type 0
@@ -118,7 +118,7 @@ module _ (t : Table) (handle : ℕ) where
   in_place : (r new : Record) (n : ℕ) → record_of t handle ≡ Some r → (r.closing ≡ true → new.closing ≡ true) → StayClosing t (changed t handle new n)
   in_place r new n is keeps =
       still_closing t handle new n
-      (λ other was here. keeps (let it : IsSomeAnd (Some r) (λ s. s.closing ≡ true) = subst (λ (o : Option Record). IsSomeAnd o (λ s. s.closing ≡ true)) (ap (record_of t) here ∙ is) was in it))
+      (λ other was here. keeps (let it : IsSomeAnd (Some r) (λ s. s.closing ≡ true) = rw (ap (record_of t) here ∙ is) at was in it))
 
   pub stop_closing : StayClosing t (after_stop t handle)
   stop_closing =
@@ -176,8 +176,8 @@ pub holds_same : (r u : Roster) → u ≡ r → Holds r u
 holds_same r u e = record {
   callbacks = ap (λ v. v.callbacks) e;
   asyncs = λ async_no handle h. ap (λ v. async_handle v async_no) e ∙ h;
-  few = λ h. subst (λ (v : Roster). length v.asyncs ≤ MAX_ASYNCS) (sym e) h;
-  closing = λ handle h. subst (λ (v : Roster). IsClosing v.handles handle) (sym e) h;
+  few = λ h. rw e h;
+  closing = λ handle h. rw e h;
 }
 
 pub holds_handles : (r : Roster) (t : Table) → StayClosing r.handles t → Holds r (with_handles r t)

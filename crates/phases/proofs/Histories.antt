@@ -69,13 +69,12 @@ module _ {S : Type 0} (calls : Calls S) (g : Setting) (r : ℕ) where
     -- what the guest called in an event that is no cancel
     told : (e : Event) (rs : Requests) → e ≢ CancelAnswered r 0 → Held g r (ByOwner events) ran early (guest_calls events ++ calls_in e) rs → Good ran early (events ++ e ∷ []) rs
     told e rs other f =
-        subst (λ cs. Held g r (ByOwner (events ++ e ∷ [])) ran early cs rs) (sym (calls_push events e))
-        (owned_by g r (ByOwner events) (ByOwner (events ++ e ∷ [])) ran early (guest_calls events ++ calls_in e) rs (same_owner events e other) f)
+        rw (calls_push events e) (owned_by g r (ByOwner events) (ByOwner (events ++ e ∷ [])) ran early (guest_calls events ++ calls_in e) rs (same_owner events e other) f)
 
     -- an event in which the guest calls nothing
     silent : (e : Event) (rs rs' : Requests) → calls_in e ≡ [] → e ≢ CancelAnswered r 0 → rs' ≡ rs → Good ran early events rs → Good ran early (events ++ e ∷ []) rs'
     silent e rs rs' none other same f =
-        told e rs' other (subst (λ cs. Held g r (ByOwner events) ran early (guest_calls events ++ cs) rs') (sym none) (nothing_more g r (ByOwner events) ran early (guest_calls events) rs rs' same f))
+        told e rs' other (rw none (nothing_more g r (ByOwner events) ran early (guest_calls events) rs rs' same f))
 
     step_held : (did : StepDid) (emits : List ℕ) (made : List GuestCall) (old new : Loop S) (h : EventStep calls g (Stepped did emits made) old new) → Good ran early events old.state.requests
         → Steps calls g r (ByOwner events) ran early (guest_calls events) made old did new
@@ -111,8 +110,7 @@ module _ {S : Type 0} (calls : Calls S) (g : Setting) (r : ℕ) where
 
       won_good : (q : Request) → request_of rs n ≡ Some q → answer ≡ 0 → Good ran early events rs → Good ran early (events ++ e ∷ []) (with_stage rs n Cancelled)
       won_good q found zeroed f =
-          subst (λ cs. Held g r (ByOwner (events ++ e ∷ [])) ran early cs (with_stage rs n Cancelled)) (sym (calls_push events e))
-          (nothing_more g r (ByOwner (events ++ e ∷ [])) ran early (guest_calls events) (with_stage rs n Cancelled) (with_stage rs n Cancelled) refl
+          rw (calls_push events e) (nothing_more g r (ByOwner (events ++ e ∷ [])) ran early (guest_calls events) (with_stage rs n Cancelled) (with_stage rs n Cancelled) refl
           (fits_staged r n Cancelled (WasAsked g (guest_calls events)) (WasAsked g (guest_calls events)) (WasWon g r (ByOwner events) (guest_calls events))
           (WasWon g r (ByOwner (events ++ e ∷ [])) (guest_calls events)) ran early rs stages f)) where
             is_event : r ≡ n → e ≡ CancelAnswered r 0
@@ -170,8 +168,8 @@ module _ {S : Type 0} (calls : Calls S) (g : Setting) (r : ℕ) where
     good =
         less_ran r (WasAsked g (guest_calls (events ++ e ∷ []))) (WasWon g r (ByOwner (events ++ e ∷ [])) (guest_calls (events ++ e ∷ []))) (HasRun events)
         (HasRun (events ++ e ∷ [])) (Unit {0}) new.state.requests
-        (λ k. subst (λ n. 1 ≤ n) (uncounted (is_after_event r) events e none) k) (event_held (HasRun events) (Unit {0}) events e old new h was.good);
-    once = subst (λ n. n ≤ 1) (sym (uncounted (is_after_event r) events e none)) was.once;
+        (λ k. rw (uncounted (is_after_event r) events e none) at k) (event_held (HasRun events) (Unit {0}) events e old new h was.good);
+    once = rw (uncounted (is_after_event r) events e none) was.once;
   }
 
   -- an after-work callback of the request
@@ -198,7 +196,7 @@ module _ {S : Type 0} (calls : Calls S) (g : Setting) (r : ℕ) where
     ran_late : Good (Unit {0}) ⊥ (Stepped did emits made ∷ []) new.state.requests
     ran_late =
         owned_by g r ⊥ (ByOwner (Stepped did emits made ∷ [])) (Unit {0}) ⊥ (made ++ []) new.state.requests (λ k. absurd k, never)
-        (subst (λ cs. Held g r ⊥ (Unit {0}) ⊥ cs new.state.requests) (sym (append-nil made)) (stepped.after (after_told did emits made is)).3.late) where
+        (rw (append-nil made) (stepped.after (after_told did emits made is)).3.late) where
           never : ByOwner (Stepped did emits made ∷ []) → ⊥
           never k = elim (Contains-push_cases [] (Stepped did emits made) (CancelAnswered r 0) k) [ inl none ↦ omega (arith, none.1) | inr e ↦ no_cancel (Stepped did emits made) refl e ]
 
@@ -232,7 +230,7 @@ module _ {S : Type 0} (calls : Calls S) (g : Setting) (r : ℕ) where
                   listed = listed ∙ ap (λ k. entry.After k ∷ rest) (sym found.1);
                   stood = ap (request_of old.state.requests) found.1 ∙ found.0;
                   given = told;
-                  runs = subst (λ k. AfterWork calls g (in_state old (record old.state { list = rest })) k (Some t) did made new) (sym found.1) work;
+                  runs = rw found.1 work;
                 };
                 due = stage_due q.order (WasWon g r (ByOwner events) (guest_calls events)) q.stage mine.1 t told;
               }
@@ -243,7 +241,7 @@ module _ {S : Type 0} (calls : Calls S) (g : Setting) (r : ℕ) where
 
   opening_holds : (l : Loop S) → IsOpening calls g l → Holds [] l
   opening_holds l h = record {
-    good = subst (λ s. Good (HasRun []) (Unit {0}) [] s.requests) (sym h.state) fresh;
+    good = rw h.state fresh;
     once = omega arith;
   } where
     never : WasWon g r (ByOwner []) [] → ⊥

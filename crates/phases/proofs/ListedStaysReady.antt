@@ -103,7 +103,7 @@ module _ (m : Contents) (s : State) (handle : ℕ) where
   spared_handle (entry.Async async_no) h apart = absurd apart
   spared_handle (entry.Close other) h apart = elim (gone_or_same s.roster.handles handle other) [
     | inl here ↦ absurd (apart (sym here.0))
-    | inr same ↦ subst (λ (o : Option Record). IsSomeAnd o (λ r. r.closing ≡ true)) (sym same.1) h
+    | inr same ↦ rw same.1 h
   ]
   spared_handle _ h apart = h
 

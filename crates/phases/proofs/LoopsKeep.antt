@@ -72,7 +72,7 @@ kept_on l g s u t keeps grows orders = record {
 -- requests that stay fit what is shared as before
 pub still_upto : {S : Type 0} (calls : Calls S) (shared : S) (old new : State) → new ≡ old → AreOpenedUpTo old.requests.last (calls.view shared)
     → AreOpenedUpTo new.requests.last (calls.view shared)
-still_upto calls shared old new same upto = subst (λ (s : State). AreOpenedUpTo s.requests.last (calls.view shared)) (sym same) upto
+still_upto calls shared old new same upto = rw same upto
 
 -- with another list
 pub kept_with : (l : Loaded) (g : Setting) (s u : State) (t : Store) → KeepsLoop l g s t → u.roster.callbacks ≡ s.roster.callbacks → AreReady g.loaded.contents u → AreOrdersOf g u.requests → KeepsLoop l g u t
@@ -104,7 +104,7 @@ no_front (y ∷ ys) h = absurd (cc)
 -- the types of a module's imports
 pub names_of : (v d l h : Loaded) → v ≡ d → d ≡ l → l ≡ h → Names d.contents (import_types d.contents) → Names v.contents (import_types h.contents)
 names_of v d l h a b e n =
-    subst (λ (x : Loaded). Names x.contents (import_types h.contents)) (sym a) (subst (λ (x : Loaded). Names d.contents (import_types x.contents)) (b ∙ e) n)
+    rw (a, sym (b ∙ e)) n
 
 -- a function of this type takes these arguments
 pub takes : (m : Contents) (f : ℕ) (type : FuncType) (args : List Value) → type_of_function m f ≡ Some type → map type_of args ≡ type.params → TakesArguments m f args
@@ -131,7 +131,7 @@ start_bare m f is valid = of_start m.start is valid.start where
   of_start None e h = absurd (cc)
   of_start (Some g) e h =
       let same : g ≡ f = cc in
-      bare_of m f (record { params = []; results = [] }) (subst (λ k. HasFunctionType m k (record { params = []; results = [] })) same h) refl
+      bare_of m f (record { params = []; results = [] }) (rw same at h) refl
 
 -- a callback takes the number of its handle, and has no results
 module _ (m : Contents) (f n : ℕ) where
@@ -149,7 +149,7 @@ module _ (m : Contents) (f n : ℕ) where
     chosen false is found = absurd (cc)
     chosen true is found =
         let same : k ≡ f = cc in
-        let known = subst (λ i. type_of_function m i ≡ Some t) same e in
+        let known = rw same at e in
         let types = by_types t.params t.results is in
         (takes m f t (I32 n ∷ []) known (sym types.0), gives_nothing m f t known types.1)
 
@@ -162,13 +162,13 @@ module _ (m : Contents) (f n : ℕ) where
   of_found (Some element) h = of_element element h
 
   of_callback : (at : ℕ) → callback_function (callbacks_of m) at ≡ Some f → Fits
-  of_callback at h = of_found (slice_get (fresh_store m).table at) (subst (λ o. in_table o ≡ Some f) (slice_get-map (callback_in m) (fresh_store m).table at) h)
+  of_callback at h = of_found (slice_get (fresh_store m).table at) (rw (slice_get-map (callback_in m) (fresh_store m).table at) at h)
 
   handle_fits : (r : Roster) (handle : ℕ) → r.callbacks ≡ callbacks_of m → handle_function r handle ≡ Some f → Fits
   handle_fits r handle same h = of_record (record_of r.handles handle) h where
     of_record : (o : Option Record) → option_and_then (λ it. callback_function r.callbacks it.callback) o ≡ Some f → Fits
     of_record None k = absurd (cc)
-    of_record (Some it) k = of_callback it.callback (subst (λ cs. callback_function cs it.callback ≡ Some f) same k)
+    of_record (Some it) k = of_callback it.callback (rw same at k)
 
   pub handle_takes : (r : Roster) (handle : ℕ) → r.callbacks ≡ callbacks_of m → handle_function r handle ≡ Some f → TakesArguments m f (I32 n ∷ [])
   handle_takes r handle same h = (handle_fits r handle same h).0
@@ -184,8 +184,7 @@ module _ {G S : Type 0} (calls : Calls S) (setting : G → Setting) (standing : 
   answered : Lawful (HostStep calls g) h.asked (begun old.state reply, old.shared) (standing after)
   answered =
       let it = served calls setting standing h.asked before after h.answered in
-      subst (λ (p : State × S). Lawful (HostStep calls g) h.asked p (standing after)) begins
-      (subst (λ (x : Setting). Lawful (HostStep calls x) h.asked (standing before) (standing after)) made it.answers)
+      rw (made, begins) at it.answers
 
   pub same_setting : setting after ≡ g
   same_setting = (served calls setting standing h.asked before after h.answered).same ∙ made
@@ -198,8 +197,7 @@ module _ {G S : Type 0} (calls : Calls S) (setting : G → Setting) (standing : 
         record {
           ended = ended;
           state = (standing after).0;
-          run = subst (λ xs. Invokes g.loaded.contents g.depth g.fuel old.store function args xs (end_of_run ended.ending) ended.used t) (sym it.1)
-              (subst (λ (x : Loaded). Invokes x.contents g.depth g.fuel old.store function args h.asked (end_of_run ended.ending) ended.used t) (is ∙ keeps.same) h.ran);
+          run = rw (it.1, sym (is ∙ keeps.same)) h.ran;
           answers = it.2;
           told = refl;
           finished = e;
@@ -212,12 +210,12 @@ module _ {G S : Type 0} (calls : Calls S) (setting : G → Setting) (standing : 
       let grows : Grows old.state (finished u ended) = grows_on old.state (begun old.state reply) (finished u ended) (grows_begun old.state reply)
       (grows_on (begun old.state reply) u (finished u ended) (trace_grows calls g h.asked (begun old.state reply, old.shared) (standing after) answered) (grows_finished u ended)) in
       let orders : AreOrdersOf g u.requests =
-      orders_run g (subst (λ (x : Loaded). IsLinked x.contents) (is ∙ keeps.same) linked) keeps.depth calls h.asked (begun old.state reply, old.shared) (standing after) answered keeps.orders in
+      orders_run g (rw (is ∙ keeps.same) at linked) keeps.depth calls h.asked (begun old.state reply, old.shared) (standing after) answered keeps.orders in
       let there : KeepsLoop l g (finished u ended) old.store = kept_on l g old.state (finished u ended) old.store keeps grows orders in
-      subst (λ (s : State). KeepsLoop l g s t) (sym e) (record {
+      rw e (record {
         same = there.same;
         depth = there.depth;
-        store = subst (λ (x : Loaded). IsStoreOf x.contents t) (is ∙ keeps.same) fits;
+        store = rw (is ∙ keeps.same) at fits;
         callbacks = there.callbacks;
         ready = there.ready;
         orders = there.orders;
@@ -260,10 +258,10 @@ pub active_step : (o : Option ℕ) (handle : ℕ) (active : ℕ → Bool) (T U :
 active_step None handle active T U is on t = absurd (cc)
 active_step (Some h) handle active T U is on t =
     let same : handle ≡ h = cc in
-    subst (λ n. MatchBool (active n) (T n) (U n)) same (subst (λ b. MatchBool b (T handle) (U handle)) (sym on) t)
+    rw (sym same, on) t
 
 pub none_taken : (count : ℕ) (P Q : Type 0) → count ≡ 0 → P → MatchBool (count == 0) P Q
-none_taken count P Q is p = subst (λ n. MatchBool (n == 0) P Q) (sym is) p
+none_taken count P Q is p = rw is p
 
 -- a loop that has not failed
 pub next_unfailed : (s : State) → (s.status ≡ Running) ⊎ (s.status ≡ Over) → next_order_of s ≡ ((next_of s.requests).0, with_requests s (next_of s.requests).1)
@@ -273,8 +271,8 @@ next_unfailed s (inr e) = ap (λ status. next_in status s) e
 pub cancel_unfailed : {S : Type 0} (calls : Calls S) (status : Status) (old new : State × S) (number answer : ℕ) → (status ≡ Running) ⊎ (status ≡ Over)
     → (requests : Requests) × Cancels calls (old.0.requests, old.1) number answer (requests, new.1) × (new.0 ≡ with_requests old.0 requests)
     → CancelIn calls status old number answer new
-cancel_unfailed calls status old new number answer (inl e) h = subst (λ (x : Status). CancelIn calls x old number answer new) (sym e) h
-cancel_unfailed calls status old new number answer (inr e) h = subst (λ (x : Status). CancelIn calls x old number answer new) (sym e) h
+cancel_unfailed calls status old new number answer (inl e) h = rw e h
+cancel_unfailed calls status old new number answer (inr e) h = rw e h
 
 -- a new loop
 pub new_state : (m : Contents) (s : State) (callbacks : List (Option ℕ)) (start main : Bool)
@@ -287,10 +285,10 @@ pub kept_new : (l : Loaded) (g : Setting) (s : State) (t : Store) → l ≡ g.lo
     → s ≡ opening (opening_roster l.contents) (begin_list l.contents) → KeepsLoop l g s t
 kept_new l g s t same depth fits is =
     let opened : s ≡ opening (opening_roster g.loaded.contents) (begin_list g.loaded.contents) = is ∙ ap (λ (x : Loaded). opening (opening_roster x.contents) (begin_list x.contents)) same in
-    subst (λ (u : State). KeepsLoop l g u t) (sym opened) (record {
+    rw opened (record {
       same = same;
       depth = depth;
-      store = subst (λ (x : Loaded). IsStoreOf x.contents t) same fits;
+      store = rw same at fits;
       callbacks = refl;
       ready = ready_opening g.loaded.contents (opening_roster g.loaded.contents);
       orders = λ i d h. absurd (omega arith);
@@ -303,7 +301,7 @@ some_taken count P Q more q = chosen (count == 0) refl where
   chosen false is = q
 
 pub called : (o : Option ℕ) (f : ℕ) (P : ℕ → Type 0) → o ≡ Some f → P f → MatchOption o ⊥ P
-called o f P is h = subst (λ x. MatchOption x ⊥ P) (sym is) h
+called o f P is h = rw is h
 
 pub same_some : (o : Option ℕ) (a b : ℕ) → o ≡ Some a → o ≡ Some b → a ≡ b
 same_some o a b h k = cc

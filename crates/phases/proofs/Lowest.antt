@@ -1,5 +1,5 @@
 -- The lowest open request, in order of numbers that rise.
-use Rattle.std.proofs.Common.{◌≡◌, ℕ, zero, suc, ◌<◌, ◌≤◌, Bool, true, false, cond, List, [], ◌∷◌, map, Option, Some, None, refl, sym, ap, subst, ◌∙◌, arith, get_or, IfSome}
+use Rattle.std.proofs.Common.{◌≡◌, ℕ, zero, suc, ◌<◌, ◌≤◌, Bool, true, false, cond, List, [], ◌∷◌, map, Option, Some, None, refl, sym, ap, ◌∙◌, arith, get_or, IfSome}
 use Rattle.std.specs.List.{find, slice_get}
 use Rattle.std.specs.Option.{option_map}
 use Rattle.std.proofs.lemmas.Option.{slice_get-get_or}
@@ -18,15 +18,15 @@ module _ (p : Request → Bool) where
   first_is_lowest low high (x ∷ xs) q zero r rising found here holds =
       let same : x ≡ r = cc in
       let passes : p x ≡ true = ap p same ∙ holds in
-      let first : Some x ≡ Some q = subst (λ b. cond b (Some x) (find p xs) ≡ Some q) passes found in
+      let first : Some x ≡ Some q = rw passes at found in
       let is : q ≡ r = cc in
-      subst (λ y. number_of q ≤ number_of y) is (omega arith)
+      rw (sym is) (omega arith)
   first_is_lowest low high (x ∷ xs) q (suc at) r rising found here holds =
       elim (p x) as (λ b. cond b (Some x) (find p xs) ≡ Some q → number_of q ≤ number_of r) [
         | true ↦ λ k. (
             let same : x ≡ q = cc in
             let above : number_of x < number_of r = within (number_of x) high xs at r rising.1 here in
-            subst (λ y. number_of y ≤ number_of r) same (omega arith)
+            rw (sym same) (omega arith)
             )
         | false ↦ λ k. first_is_lowest (number_of x) high xs q at r rising.1 k here holds
       ] found
@@ -42,7 +42,7 @@ lowest_next rs kept o is = by (lowest_open rs) refl o is where
   by None e (Some x) is = absurd (cc)
   by (Some q) e (Some x) is =
       let same : order_of x ≡ q.order = cc in
-      subst (λ n. IsLowestOpen n rs) (ap (λ w. w.request) (sym same)) (is_lowest rs kept q e)
+      rw (ap (λ w. w.request) (sym same)) at (is_lowest rs kept q e)
 
 -- and it is numbered from 1
 found_above : (p : Request → Bool) (low high : ℕ) (xs : List Request) (q : Request) → AreRising low (map number_of xs) high → find p xs ≡ Some q → low < number_of q
@@ -50,7 +50,7 @@ found_above p low high [] q rising found = absurd (cc)
 found_above p low high (x ∷ xs) q rising found =
     let first = rising.0 in
     elim (p x) as (λ b. cond b (Some x) (find p xs) ≡ Some q → low < number_of q) [
-      | true ↦ λ k. (let same : x ≡ q = cc in subst (λ y. low < number_of y) same first)
+      | true ↦ λ k. (let same : x ≡ q = cc in rw same at first)
       | false ↦ λ k. (let rest = found_above p (number_of x) high xs q rising.1 k in omega arith)
     ] found
 
@@ -61,4 +61,4 @@ number_next rs kept o is = by (lowest_open rs) refl o is where
   by None e (Some x) is = absurd (cc)
   by (Some q) e (Some x) is =
       let same : order_of x ≡ q.order = cc in
-      subst (λ n. 0 < n) (ap (λ w. w.request) (sym same)) (found_above (λ r. is_open_stage r.stage) 0 rs.last rs.outstanding q kept.rising e)
+      rw (ap (λ w. w.request) (sym same)) at (found_above (λ r. is_open_stage r.stage) 0 rs.last rs.outstanding q kept.rising e)

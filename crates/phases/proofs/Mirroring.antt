@@ -1,5 +1,5 @@
 -- The steps of a loop over one shared object, as those over another: by what they do at it, one after another.
-use Rattle.std.proofs.Common.{◌≡◌, ℕ, Bool, List, [], ◌∷◌, length, Option, Some, None, refl, sym, ap, subst, ◌∙◌}
+use Rattle.std.proofs.Common.{◌≡◌, ℕ, Bool, List, [], ◌∷◌, length, Option, Some, None, refl, ap, ◌∙◌}
 use Rattle.syntax.specs.declared.types.Value.{Value}
 use Rattle.syntax.specs.declared.types.Value.TheVariants.{I32}
 use Rattle.events.specs.declared.did.StepDid.{StepDid}
@@ -91,7 +91,7 @@ module _ {S T : Type 0} (calls : Calls S) (other : Calls T) (g : Setting) where
           takes = refl;
           touches = it.touches;
           moved = it.moved;
-          again = λ t m t' k c. back t t' (h.0, h.1, it.again t t' (subst (λ x. Chain other it.touches x t') k c));
+          again = λ t m t' k c. back t t' (h.0, h.1, it.again t t' (rw k at c));
         }
 
     goes_retraced : (old : Loop S) (E : T → T → Type 0) → StepGoes calls other g old did made new E → StepRetraced calls other old new.shared E
@@ -129,7 +129,7 @@ module _ {S T : Type 0} (calls : Calls S) (other : Calls T) (g : Setting) (IsThe
 
   -- where it stays
   still : (s s' : S) (t : T) → s' ≡ s → R s t → R s' t
-  still s s' t e r = subst (λ x. R x t) (sym e) r
+  still s s' t e r = rw e r
 
   touch_mirrors : (touch : Touch) (s s' : S) (t : T) → R s t → Touches calls touch s s' → After (Touches other touch t) s'
   touch_mirrors Stays s s' t r h = (t, refl, still s s' t h r)

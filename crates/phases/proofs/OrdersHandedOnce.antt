@@ -78,7 +78,7 @@ pub found_up_to : (last : ℕ) (p : Request → Bool) (qs : List Request) (q : R
 found_up_to last p [] q found h = absurd (cc)
 found_up_to last p (x ∷ qs) q found h = by (p x) (λ is. found_up_to last p qs q is h.1) found where
   by : (b : Bool) → (find p qs ≡ Some q → q.order.request ≤ last) → cond b (Some x) (find p qs) ≡ Some q → q.order.request ≤ last
-  by true rest is = (let same : x ≡ q = cc in subst (λ y. y.order.request ≤ last) same h.0)
+  by true rest is = (let same : x ≡ q = cc in rw same at h.0)
   by false rest is = rest is
 
 pub found_open : (r : ℕ) (qs : List Request) (q : Request) → find (λ x. is_open_stage x.stage) qs ≡ Some q → NoneOpen r qs → q.order.request ≡ r → ⊥
@@ -156,8 +156,8 @@ module _ {S : Type 0} (calls : Calls S) (g : Setting) (r : ℕ) where
       let same = uncounted (hands_out r) events e none in
       let kept = event_keeps calls g (Handed g r (WasHanded events)) (keeps g r (WasHanded events)) [] e old new h was.handed in
       record {
-        once = subst (λ n. n ≤ 1) (sym same) was.once;
-        handed = record { up_to = kept.up_to; shut = λ w. kept.shut (subst (λ n. 1 ≤ n) same w) };
+        once = rw same was.once;
+        handed = record { up_to = kept.up_to; shut = λ w. kept.shut (rw same at w) };
       }
 
   this_event : (e : Event) → hands_out r e ≡ true → Keeps calls g Holds e
@@ -172,7 +172,7 @@ module _ {S : Type 0} (calls : Calls S) (g : Setting) (r : ℕ) where
         once = first rs (cases_lt 0 (count_by (hands_out r) events)) it.request it.lowest mine;
         handed = subst (IsHanded r (WasHanded (events ++ OrderAsked (Some o) ∷ []))) (sym requests) (record {
           up_to = up_to_staged rs.last r HandedOut rs.outstanding was.handed.up_to;
-          shut = λ _. (subst (λ n. n ≤ rs.last) mine given, none_after r HandedOut rs.outstanding refl);
+          shut = λ _. (rw mine at given, none_after r HandedOut rs.outstanding refl);
         });
       } where
         first : (rs : Requests) → (0 < count_by (hands_out r) events) ⊎ (count_by (hands_out r) events ≤ 0) → (q : Request) → lowest_open old.state.requests ≡ Some q → q.order.request ≡ r
@@ -186,7 +186,7 @@ module _ {S : Type 0} (calls : Calls S) (g : Setting) (r : ℕ) where
   opening_holds : (l : Loop S) → IsOpening calls g l → Holds [] l
   opening_holds l opens = record {
     once = omega arith;
-    handed = subst (λ (s : State). IsHanded r (WasHanded []) s.requests) (sym opens.state) (record { up_to = tt; shut = λ w. absurd (omega (arith, w)) });
+    handed = rw opens.state (record { up_to = tt; shut = λ w. absurd (omega (arith, w)) });
   }
 
   pub handed_after : (l l' : Loop S) (events : List Event) → IsOpening calls g l → History calls g l events l' → count_by (hands_out r) events ≤ 1
@@ -195,7 +195,7 @@ module _ {S : Type 0} (calls : Calls S) (g : Setting) (r : ℕ) where
 -- what is handed out was asked for
 owned_member : (asked : WorkOrder → Type 0) (won : Type 0) (qs : List Request) (q : Request) → Owned asked won qs → Member q qs → asked q.order
 owned_member asked won [] q h m = absurd m
-owned_member asked won (x ∷ []) q h (inl same) = subst (λ (y : Request). asked y.order) same h.0
+owned_member asked won (x ∷ []) q h (inl same) = rw same at h.0
 owned_member asked won (x ∷ []) q h (inr m) = absurd m
 owned_member asked won (x ∷ y ∷ ys) q h m = absurd h
 

@@ -54,16 +54,16 @@ module _ {S : Type 0} (calls : Calls S) (g : Setting) where
     pub request_upto : IsLawful calls → (status : Status) → RequestIn calls g status old op bytes answer new
         → AreOpenedUpTo old.0.requests.last (calls.view old.1) → AreOpenedUpTo new.0.requests.last (calls.view new.1)
     request_upto lawful Running h upto = call_upto calls lawful g old made.call new QueueWork (as_call h) upto
-    request_upto lawful Over h upto = subst (λ (p : State × S). AreOpenedUpTo p.0.requests.last (calls.view p.1)) (sym h.1) upto
-    request_upto lawful Failed h upto = subst (λ (p : State × S). AreOpenedUpTo p.0.requests.last (calls.view p.1)) (sym h.1) upto
+    request_upto lawful Over h upto = rw h.1 upto
+    request_upto lawful Failed h upto = rw h.1 upto
 
     pub request_orders : IsLinked g.loaded.contents → (1 ≤ g.depth) × (g.depth ≤ MAX_DEPTH) → (status : Status) → RequestIn calls g status old op bytes answer new
         → AreOrdersOf g old.0.requests → AreOrdersOf g new.0.requests
     request_orders linked depth Running h k = call_orders g linked depth calls old made.call new QueueWork (as_call h) k
-    request_orders linked depth Over h k = subst (λ (p : State × S). AreOrdersOf g p.0.requests) (sym h.1) k
-    request_orders linked depth Failed h k = subst (λ (p : State × S). AreOrdersOf g p.0.requests) (sym h.1) k
+    request_orders linked depth Over h k = rw h.1 k
+    request_orders linked depth Failed h k = rw h.1 k
 
     pub request_running : (status : Status) → status ≡ Running
         → (requests : Requests) × QueuesWork calls g bytes (old.0.requests, old.1) op 0 (length bytes) answer (requests, new.1) × (new.0 ≡ with_requests old.0 requests)
         → RequestIn calls g status old op bytes answer new
-    request_running status is h = subst (λ (x : Status). RequestIn calls g x old op bytes answer new) (sym is) h
+    request_running status is h = rw is h

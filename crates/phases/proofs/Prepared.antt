@@ -28,13 +28,13 @@ module _ (kind : EntryKind) (number function : ℕ) (args : List Value) (p : Pre
   pub prepares : {S : Type 0} (calls : Calls S) (g : Setting) (step : StepDid → List GuestCall → Loop S → Type 0) (mid : Loop S)
       → ((did : StepDid) (made : List GuestCall) (new : Loop S) → RunsFrom calls g mid kind number function args None did made new → step did made new)
       → Prepares calls g step p mid
-  prepares calls g step mid leads = subst (λ (q : Prepared). Prepares calls g step q mid) (sym is) leads
+  prepares calls g step mid leads = rw is leads
 
 -- no callback runs
 module _ (did : BareDid) (p : Prepared) (is : p ≡ Did did) where
   pub prepares_did : {S : Type 0} (calls : Calls S) (g : Setting) (step : StepDid → List GuestCall → Loop S → Type 0) (mid : Loop S)
       → step (whole_did did) [] mid → Prepares calls g step p mid
-  prepares_did calls g step mid h = subst (λ (q : Prepared). Prepares calls g step q mid) (sym is) h
+  prepares_did calls g step mid h = rw is h
 
 -- as a list is used up, no callback runs
 pub turn_ran_none : (s : State) → RanNone (turn s).0
@@ -44,7 +44,7 @@ turn_ran_none s = by_end (may_end s.phase && not (is_alive s)) refl where
   by_end false e = rw e tt
 
 pub when : (b : Bool) (P Q : Type 0) → b ≡ true → P → MatchBool b P Q
-when b P Q is h = subst (λ (x : Bool). MatchBool x P Q) (sym is) h
+when b P Q is h = rw is h
 
 pub unless : (b : Bool) (P Q : Type 0) → b ≡ false → Q → MatchBool b P Q
-unless b P Q is h = subst (λ (x : Bool). MatchBool x P Q) (sym is) h
+unless b P Q is h = rw is h

@@ -1,5 +1,5 @@
 -- A callback that is under way over one host is so over each that stands alike.
-use Rattle.std.proofs.Common.{◌≡◌, ℕ, List, [], ◌∷◌, refl, sym, ap, ◌∙◌, subst}
+use Rattle.std.proofs.Common.{◌≡◌, ℕ, List, refl, ap, ◌∙◌, subst}
 use Rattle.std.proofs.Props.{props}
 use Rattle.syntax.specs.declared.types.Value.{Value}
 use Rattle.syntax.specs.declared.contents.Contents.{Contents}
@@ -34,8 +34,7 @@ module _ {S : Type 0} (calls : Calls S) (actual : Host calls) where
   at_same : (p : State × S) → p ≡ (actual.state, actual.shared) → (o : AreOpenedUpTo p.0.requests.last (calls.view p.1))
       → record actual { state = p.0; shared = p.1; opened = o } ≡ actual
   at_same p e =
-      subst (λ (q : State × S). (o : AreOpenedUpTo q.0.requests.last (calls.view q.1)) → record actual { state = q.0; shared = q.1; opened = o } ≡ actual) (sym e)
-      (λ o. ap (λ (x : AreOpenedUpTo actual.state.requests.last (calls.view actual.shared)). record actual { opened = x }) (opened_prop actual.state.requests.last (calls.view actual.shared) o actual.opened))
+      rw e (λ o. ap (λ (x : AreOpenedUpTo actual.state.requests.last (calls.view actual.shared)). record actual { opened = x }) (opened_prop actual.state.requests.last (calls.view actual.shared) o actual.opened))
 
   pub placed_is : (h : Host calls) → ◌≡◌ {A = State × S} (h.state, h.shared) (actual.state, actual.shared) → placed h ≡ actual
   placed_is h e = at_same (h.state, h.shared) e h.opened

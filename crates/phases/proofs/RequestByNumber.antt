@@ -233,6 +233,6 @@ fits_answered r asked won ran early rs o end one right f = fits_staged r o.reque
     here = λ x here is h.
         let same : x ≡ one.request = (let also = only here in cc) in
         let order_is : o ≡ x.order = sym one.order ∙ ap (λ y. y.order) (sym same) in
-        (subst (λ y. ∥ IsEndOf y end ∥₁) order_is right, unsettled_not x.order won x.stage (ap (λ y. is_settled y.stage) same ∙ one.unsettled) h);
+        (rw order_is at right, unsettled_not x.order won x.stage (ap (λ y. is_settled y.stage) same ∙ one.unsettled) h);
     given = λ here none. (let also = only here in cc);
   }

@@ -227,8 +227,8 @@ short_end _ h = omega arith
 
 pub short_completion : ((o : WorkOrder) (end : WorkEnd) → ∥ IsEndOf o end ∥₁ → IsShortEnd end) → (o : WorkOrder) (stage : Stage) (t : Completion)
     → IsTrueTo o stage → completion_of stage ≡ Some t → length t.bytes ≤ MAX_BYTES
-short_completion short o (Answered end) t right h = let is : end_completion end ≡ t = cc in subst (λ (u : Completion). length u.bytes ≤ MAX_BYTES) is (short_end end (short o end right))
-short_completion short o Cancelled t right h = let is : cancellation ≡ t = cc in subst (λ (u : Completion). length u.bytes ≤ MAX_BYTES) is (omega arith)
+short_completion short o (Answered end) t right h = let is : end_completion end ≡ t = cc in rw is at (short_end end (short o end right))
+short_completion short o Cancelled t right h = let is : cancellation ≡ t = cc in rw (sym is) (omega arith)
 short_completion short o _ t right h = absurd (cc)
 
 -- where no request has the number, nothing is changed

@@ -1,5 +1,5 @@
 -- A list that is rewritten in its place, from the front on.
-use Rattle.std.proofs.Common.{◌≡◌, ℕ, zero, suc, ◌+◌, ◌<◌, ◌++◌, List, [], ◌∷◌, length, map, take, drop, get_or, ap, subst, refl, ◌∙◌, arith}
+use Rattle.std.proofs.Common.{◌≡◌, ℕ, zero, suc, ◌+◌, ◌<◌, ◌++◌, List, [], ◌∷◌, length, map, take, drop, get_or, ap, refl, ◌∙◌, arith}
 use Rattle.std.specs.Prelude.{slice_set}
 
 next_number : (k : ℕ) → suc k ≡ k + 1
@@ -17,4 +17,4 @@ pub one_more : {A : Type 0} (f : A → A) (old now : List A) (k : ℕ) (y d : A)
 one_more f old now k y d h before is =
     let half = map f (take k old) ++ drop k old in
     ap (slice_set now k) is ∙ ap (λ xs. slice_set xs k (f (get_or xs k d))) before
-    ∙ subst (λ n. slice_set half k (f (get_or half k d)) ≡ map f (take n old) ++ drop n old) (next_number k) (one_next f old k d h)
+    ∙ rw (next_number k) at (one_next f old k d h)

@@ -45,8 +45,8 @@ module _ (t : Table) (handle : ℕ) (r' : Record) (n : ℕ) where
 
   pub still_closing : ((other : ℕ) → IsClosing t other → other ≡ handle → r'.closing ≡ true) → (other : ℕ) → IsClosing t other → IsClosing changed other
   still_closing closing other was = elim (here_or_there other) [
-    | inl here ↦ subst (λ (o : Option Record). IsSomeAnd o (λ s. s.closing ≡ true)) (sym here.1) (closing other was here.0)
-    | inr there ↦ subst (λ (o : Option Record). IsSomeAnd o (λ s. s.closing ≡ true)) (sym there.1) was
+    | inl here ↦ rw here.1 (closing other was here.0)
+    | inr there ↦ rw there.1 was
   ]
 
   all_still_closing : ((other : ℕ) → IsClosing t other → other ≡ handle → r'.closing ≡ true) → (others : List ℕ) → AreClosing t others → AreClosing changed others
@@ -70,14 +70,14 @@ module _ (t : Table) (handle : ℕ) (r' : Record) (n : ℕ) where
       callbacks = λ other s got has. elim (here_or_there other) [
         | inl here ↦
             let same : r' ≡ s = cc in
-            subst (λ (x : Record). is_callback old x.callback ≡ true) same (duty (ap has_duty same ∙ has))
+            rw same at (duty (ap has_duty same ∙ has))
         | inr there ↦ kept.callbacks other s (ap (λ u. record_of u other) is ∙ sym there.1 ∙ got) has
       ];
       closing_handles = closing;
       numbered = λ other s got async. elim (here_or_there other) [
         | inl here ↦
             let same : r' ≡ s = cc in
-            subst (λ (m : ℕ). list_any (is_handle m) asyncs ≡ true) (sym here.0) (numbered (ap (λ x. x.kind) same ∙ async))
+            rw here.0 (numbered (ap (λ x. x.kind) same ∙ async))
         | inr there ↦ stays other (kept.numbered other s (ap (λ u. record_of u other) is ∙ sym there.1 ∙ got) async)
       ];
     }
@@ -103,7 +103,7 @@ kept_in_place old handle r r' n kept is same_kind same_closing duty =
     (λ other h. h)
     (λ async. kept.numbered handle r is (sym same_kind ∙ async)) where
       was_closing : (other : ℕ) → IsClosing old.handles other → other ≡ handle → r.closing ≡ true
-      was_closing other was here = subst (λ (o : Option Record). IsSomeAnd o (λ s. s.closing ≡ true)) (ap (record_of old.handles) here ∙ is) was
+      was_closing other was here = rw (ap (record_of old.handles) here ∙ is) at was
 
 -- stops and starts
 pub kept_stop : (old : Roster) (handle : ℕ) → RosterIsKept old → IsOpen old.handles handle → RosterIsKept (with_handles old (after_stop old.handles handle))
@@ -146,7 +146,7 @@ kept_again old handle now kept there =
 -- a handle is made
 pub closing_there : (t : Table) (handle other : ℕ) → record_of t handle ≡ None → IsClosing t other → other ≡ handle → ⊥
 closing_there t handle other none was here =
-    let it : IsSomeAnd None (λ (s : Record). s.closing ≡ true) = subst (λ (o : Option Record). IsSomeAnd o (λ s. s.closing ≡ true)) (ap (record_of t) here ∙ none) was in it
+    let it : IsSomeAnd None (λ (s : Record). s.closing ≡ true) = rw (ap (record_of t) here ∙ none) at was in it
 
 pub kept_made : (old : Roster) (handle : ℕ) (k : Kind) → RosterIsKept old → record_of old.handles handle ≡ None → finite.len old.handles.records ≢ MAX_HANDLES → (k ≡ kind.Async → ⊥)
     → RosterIsKept (with_made k old handle)
@@ -174,7 +174,7 @@ any_last handle asyncs =
 
 -- an async is there before it is started
 pub made_async_open : (t : Table) (handle : ℕ) → IsOpen (with_record t handle (new_record kind.Async)) handle
-made_async_open t handle = subst (λ (o : Option Record). IsSomeAnd o (λ r. r.closing ≡ false)) (sym (here_is t handle (new_record kind.Async) t.last_start)) refl
+made_async_open t handle = rw (here_is t handle (new_record kind.Async) t.last_start) refl
 
 pub kept_async : (old : Roster) (handle callback : ℕ) → RosterIsKept old → record_of old.handles handle ≡ None → finite.len old.handles.records ≢ MAX_HANDLES → is_callback old callback ≡ true
     → RosterIsKept (with_async callback old handle)
@@ -232,7 +232,7 @@ not_among : (t : Table) (handle : ℕ) (r : Record) → record_of t handle ≡ S
 not_among t handle r is open_one [] all = refl
 not_among t handle r is open_one (x ∷ xs) all =
     let apart : x ≢ handle = λ here. (
-    let it : IsSomeAnd (Some r) (λ s. s.closing ≡ true) = subst (λ (o : Option Record). IsSomeAnd o (λ s. s.closing ≡ true)) (ap (record_of t) here ∙ is) all.0 in
+    let it : IsSomeAnd (Some r) (λ s. s.closing ≡ true) = rw (ap (record_of t) here ∙ is) at all.0 in
     let closes : r.closing ≡ true = it in
     cc) in
     rw (ne_eqb x handle apart) (not_among t handle r is open_one xs all.2)
@@ -272,7 +272,7 @@ kept_close old handle callback kept there good =
     (λ _. good)
     (closing_push (record { records = finite.insert t.records handle c; last_start = n }) old.closing handle
     (all_still_closing t handle c n (λ other was here. refl) old.closing kept.closing_handles)
-    (subst (λ (o : Option Record). IsSomeAnd o (λ s. s.closing ≡ true)) (sym (here_is t handle c n)) refl)
+    (rw (here_is t handle c n) refl)
     (not_among t handle r it.1 it.2 old.closing kept.closing_handles))
     (λ other h. h)
     (λ async. kept.numbered handle r it.1 async))
@@ -305,7 +305,7 @@ module _ (t : Table) (handle : ℕ) where
         | inl here ↦ rw (eq-eqb other handle here.0) rest
         | inr same ↦
             rw (ne_eqb other handle same.0)
-            (subst (λ (o : Option Record). IsSomeAnd o (λ s. s.closing ≡ true)) (sym same.1) all.0, left_any other others all.1, rest)
+            (rw same.1 all.0, left_any other others all.1, rest)
       ]
 
 still_numbered : (handle other : ℕ) (asyncs : List (Option ℕ)) → other ≢ handle → list_any (is_handle other) asyncs ≡ true → list_any (is_handle other) (map (unless_handle handle) asyncs) ≡ true

@@ -129,7 +129,7 @@ module _ {S : Type 0} (calls : Calls S) (g : Setting) (r : ℕ) (L : Type 0) whe
         let only = only_found (WasAsked g made) (WasWon g r L made) r old.state.requests q f.owned (ap (request_of old.state.requests) (sym is) ∙ found) in
         let given = was_given r (WasAsked g made) (WasWon g r L made) ran early old.state.requests q only f in (
           ap entry.After is,
-          record { request = q; only = only; work = rw told (subst (λ k. AfterWork calls g old k (Some t) did more new) is h) },
+          record { request = q; only = only; work = rw told (rw is at h) },
           record {
             gone = runs_on L (Unit {0}) (Unit {0}) made (removed L (Unit {0}) made is given (λ _. tt));
             late = runs_on ⊥ (Unit {0}) ⊥ [] (removed ⊥ ⊥ [] is given never);
@@ -144,8 +144,7 @@ module _ {S : Type 0} (calls : Calls S) (g : Setting) (r : ℕ) (L : Type 0) whe
 
     removed : (L early : Type 0) (made : List GuestCall) → number ≡ r → r ≤ old.state.requests.last → (WasWon g r L made → early) → Held g r L (Unit {0}) early made base.state.requests
     removed L early made is given then_early =
-        subst (λ k. Held g r L (Unit {0}) early made (without_request old.state.requests k)) (sym is)
-        (fits_ran r (WasAsked g made) (WasWon g r L made) (Unit {0}) early old.state.requests given then_early)
+        rw is (fits_ran r (WasAsked g made) (WasWon g r L made) (Unit {0}) early old.state.requests given then_early)
 
     never : WasWon g r ⊥ [] → ⊥
     never (inl h) = h
@@ -154,7 +153,7 @@ module _ {S : Type 0} (calls : Calls S) (g : Setting) (r : ℕ) (L : Type 0) whe
   entry_passes : (ran early : Type 0) (made more : List GuestCall) (old : Loop S) (e : Entry) (did : StepDid) (new : Loop S) (E : S → S → Type 0)
       → EntryGoes calls calls g old e did more new E → Held g r L ran early made old.state.requests → Passes e ran early made more old did new
   entry_passes ran early made more old e did new E (skips taken mid kind number at takes h back) f = record {
-    held = subst (λ cs. Held g r L ran early (made ++ cs) new.state.requests) (sym h.2) (nothing_more g r L ran early made old.state.requests new.state.requests (ap (λ l. l.state.requests) h.1) f);
+    held = rw h.2 (nothing_more g r L ran early made old.state.requests new.state.requests (ap (λ l. l.state.requests) h.1) f);
     after = λ after. (let none = ap after_of h.0 in absurd (cc));
   }
   entry_passes ran early made more old e did new E (runs u taken mid kind number function args prepares other takes h back) f = record {
@@ -164,7 +163,7 @@ module _ {S : Type 0} (calls : Calls S) (g : Setting) (r : ℕ) (L : Type 0) whe
     after = λ after. (let none = ap after_of h.told ∙ other number h.ended in absurd (cc));
   }
   entry_passes ran early made more old e did new E (works number q told is found settled h back) f =
-      subst (λ x. Passes x ran early made more old did new) (sym is) (work_passes ran early made more old number q told did new found settled h f)
+      rw is (work_passes ran early made more old number q told did new found settled h f)
 
   -- the same of a whole step, whose entry is taken off the list
   pub record Steps (ran early : Type 0) (made more : List GuestCall) (old : Loop S) (did : StepDid) (new : Loop S) : Type 0 where
@@ -176,7 +175,7 @@ module _ {S : Type 0} (calls : Calls S) (g : Setting) (r : ℕ) (L : Type 0) whe
       → more ≡ [] → after_of did ≡ None → Held g r L ran early made old.state.requests
       → Steps ran early made more old did new
   nothing_ran ran early made more old did new e silent none f = record {
-    held = subst (λ cs. Held g r L ran early (made ++ cs) new.state.requests) (sym silent) (nothing_more g r L ran early made old.state.requests new.state.requests e f);
+    held = rw silent (nothing_more g r L ran early made old.state.requests new.state.requests e f);
     after = λ h. absurd (cc);
   }
 

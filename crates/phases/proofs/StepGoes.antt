@@ -1,5 +1,5 @@
 -- How one step of a loop goes over its object, and what makes it a step over another.
-use Rattle.std.proofs.Common.{◌≡◌, ℕ, ◌==◌, ◌&&◌, Bool, true, false, cond, not, List, [], ◌∷◌, Option, Some, None, refl, ap, subst, ◌∙◌, MatchBool, MatchOption}
+use Rattle.std.proofs.Common.{◌≡◌, ℕ, ◌==◌, ◌&&◌, Bool, true, false, cond, not, List, [], ◌∷◌, Option, Some, None, refl, ap, ◌∙◌, MatchBool, MatchOption}
 use Rattle.syntax.specs.declared.types.Value.{Value}
 use Rattle.syntax.specs.declared.types.Value.TheVariants.{I32}
 use Rattle.handles.specs.declared.handle.Kind.TheVariants as handle_kind
@@ -89,7 +89,7 @@ module _ {S T : Type 0} (calls : Calls S) (other : Calls T) (g : Setting) (did :
 
   -- nothing is taken
   calm : (X E : T → T → Type 0) → ((t t' : T) → X t t' → E t t') → MakesOf None X E
-  calm X E f t m t' same x = f t t' (subst (λ y. X y t') same x)
+  calm X E f t m t' same x = f t t' (rw same at x)
 
   skipped : (old : Loop S) (e : Entry) (E : T → T → Type 0) (kind : EntryKind) (number : ℕ) → SkipsAt old e None → Skips calls g old kind number did made new
       → ((t t' : T) → Skips other g (over t old) kind number did made (over t' new) → E t t') → Goes old e E

@@ -77,7 +77,7 @@ pub record IsKeptInSteps {S : Type 0} (calls : Calls S) (g : Setting) (P : List 
 -- then so do the steps of a loop
 module _ {S : Type 0} (calls : Calls S) (g : Setting) (P : List GuestCall → Requests → S → Type 0) (keeps : IsKeptInSteps calls g P) where
   nothing : (made : List GuestCall) (rs rs' : Requests) (s s' : S) → rs' ≡ rs → s' ≡ s → P made rs s → P (made ++ []) rs' s'
-  nothing made rs rs' s s' e k p = subst (P (made ++ []) rs') (sym k) (subst (λ x. P (made ++ []) x s) (sym e) (subst (λ cs. P cs rs s) (sym (append-nil made)) p))
+  nothing made rs rs' s s' e k p = subst (P (made ++ []) rs') (sym k) (rw (e, append-nil made) p)
 
   trace_keeps : (made more : List GuestCall) (old new : State × S) → GuestSteps calls g more old new → P made old.0.requests old.1 → P (made ++ more) new.0.requests new.1
   trace_keeps = steps_keep (GuestStep calls g) (λ made x. P made x.0.requests x.1)
@@ -93,8 +93,7 @@ module _ {S : Type 0} (calls : Calls S) (g : Setting) (P : List GuestCall → Re
     run_keeps : (old : Loop S) (kind : EntryKind) (number function : ℕ) (args : List Value) (reply : Option (List ℕ)) (did : StepDid) (new : Loop S)
         → RunsFrom calls g old kind number function args reply did more new → Before old → Behind new
     run_keeps old kind number function args reply did new h p =
-        subst (λ rs. P (made ++ more) rs new.shared) (sym (ap (λ s. s.requests) h.finished))
-        (trace_keeps made more (begun old.state reply, old.shared) (h.state, new.shared) h.answers p)
+        rw (ap (λ s. s.requests) h.finished) (trace_keeps made more (begun old.state reply, old.shared) (h.state, new.shared) h.answers p)
 
     taken_keeps : (old : Loop S) (taken : Option (ℕ × ℕ)) (s : S) → TakesOwn calls old taken s → Before old → P made old.state.requests s
     taken_keeps old None s e p = subst (P made old.state.requests) (sym e) p
@@ -102,14 +101,14 @@ module _ {S : Type 0} (calls : Calls S) (g : Setting) (P : List GuestCall → Re
 
     -- a loop whose guest calls nothing
     silent_keeps : (rs : Requests) (s : S) (new : Loop S) → new.state.requests ≡ rs → new.shared ≡ s → more ≡ [] → P made rs s → Behind new
-    silent_keeps rs s new e k none p = subst (λ cs. P (made ++ cs) new.state.requests new.shared) (sym none) (nothing made rs new.state.requests s new.shared e k p)
+    silent_keeps rs s new e k none p = rw none (nothing made rs new.state.requests s new.shared e k p)
 
     entry_keeps : (old : Loop S) (e : Entry) (did : StepDid) (new : Loop S) (E : S → S → Type 0) → EntryGoes calls calls g old e did more new E → Before old → Behind new
     entry_keeps old e did new E (skips taken mid kind number at takes h back) p =
         silent_keeps old.state.requests mid new (ap (λ l. l.state.requests) h.1) (ap (λ l. l.shared) h.1) h.2 (taken_keeps old taken mid takes p)
     entry_keeps old e did new E (runs u taken mid kind number function args prepares is takes h back) p =
         run_keeps (over mid (in_state old u)) kind number function args None did new h
-        (subst (λ rs. P made rs mid) (sym (same_requests old.state u prepares)) (taken_keeps old taken mid takes p))
+        (rw (same_requests old.state u prepares) (taken_keeps old taken mid takes p))
     entry_keeps old e did new E (works number q told is found settled h back) p =
         run_keeps (in_state old (with_requests old.state (without_request old.state.requests number))) kind.After number h.0
         (I32 number ∷ I32 told.kind ∷ I32 told.code ∷ []) (Some told.bytes) did new h.2 (keeps.removed made old.state.requests number old.shared p)
@@ -156,7 +155,7 @@ module _ {S : Type 0} (calls : Calls S) (g : Setting) (P : List GuestCall → Re
     cancel_keeps rs rs' n answer (cancelled q found won e) p = subst (P made) (sym e) (keeps.staged made rs n Cancelled refl p)
 
     silent : (rs rs' : Requests) → rs' ≡ rs → P made rs → P (made ++ []) rs'
-    silent rs rs' e p = subst (P (made ++ [])) (sym e) (subst (λ cs. P cs rs) (sym (append-nil made)) p)
+    silent rs rs' e p = subst (P (made ++ [])) (sym e) (rw (append-nil made) p)
 
     pub event_keeps : (e : Event) (old new : Loop S) → EventStep calls g e old new → P made old.state.requests → P (made ++ calls_in e) new.state.requests
     event_keeps (Stepped did emits more) old new h p = step_keeps calls g (λ made rs s. P made rs) in_steps made more old did new h.0 p
@@ -174,5 +173,4 @@ module _ {S : Type 0} (calls : Calls S) (g : Setting) (P : List GuestCall → Re
   pub history_keeps : (made : List GuestCall) (events : List Event) (old new : Loop S) → History calls g old events new → P made old.state.requests → P (made ++ guest_calls events) new.state.requests
   history_keeps made [] old new h p = silent made old.state.requests new.state.requests (ap (λ l. l.state.requests) h) p
   history_keeps made (e ∷ events) old new h p =
-      subst (λ cs. P cs new.state.requests) (append_assoc made (calls_in e) (guest_calls events))
-      (history_keeps (made ++ calls_in e) events h.0 new h.2 (event_keeps made e old h.0 h.1 p))
+      rw (append_assoc made (calls_in e) (guest_calls events)) at (history_keeps (made ++ calls_in e) events h.0 new h.2 (event_keeps made e old h.0 h.1 p))

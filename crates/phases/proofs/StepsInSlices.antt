@@ -1,5 +1,5 @@
 -- A step that is made in slices.
-use Rattle.std.proofs.Common.{◌≡◌, ℕ, ◌<◌, ◌≤◌, List, [], ◌∷◌, length, Option, refl, sym, ap, ◌∙◌, subst, arith}
+use Rattle.std.proofs.Common.{◌≡◌, ℕ, ◌<◌, ◌≤◌, List, [], ◌∷◌, length, Option, refl, sym, ap, ◌∙◌, arith}
 use Rattle.syntax.specs.Loaded.{Loaded}
 use Rattle.syntax.specs.declared.types.Value.{Value}
 use Rattle.syntax.specs.declared.contents.Contents.{Contents}
@@ -57,17 +57,14 @@ module _ {S : Type 0} (calls : Calls S) (loaded : Loaded) (kind : EntryKind) (nu
     pub here : RunIsPaused loaded.contents tables (moves calls) come.mid.store first come.args a.setting.fuel paused slots callers store actual
     here =
         let it = come.callback in
-        subst (λ (h : Host calls). RunIsPaused loaded.contents tables (moves calls) come.mid.store first come.args a.setting.fuel paused slots callers store h)
-        (placed_is calls actual come.host come.stands)
-        (paused_at_placed calls actual it.before come.host (it.made ∙ sym it.set) loaded.contents tables come.mid.store store come.args a.setting.fuel paused slots callers it.under_way)
+        rw (placed_is calls actual come.host come.stands) at (paused_at_placed calls actual it.before come.host (it.made ∙ sym it.set) loaded.contents tables come.mid.store store come.args a.setting.fuel paused slots callers it.under_way)
 
     -- it is over
     pub leads_over : (ended : Ended) (t : Store) (after : Host calls) (stop : Option Halt)
         → RunIsOver loaded.contents paused.depth (moves calls) paused.function come.mid.store first come.args a.setting.fuel ended t after stop
         → Leads (moves calls) (calling loaded.contents paused.function come.args a.setting.fuel a.setting.depth) (scene come.mid.store first) ended stop (scene t after)
     leads_over ended t after stop over =
-        subst (λ (d : ℕ). Leads (moves calls) (calling loaded.contents paused.function come.args a.setting.fuel d) (scene come.mid.store first) ended stop (scene t after))
-        come.callback.deep over.leads
+        rw come.callback.deep at over.leads
 
 -- it has come further
 module _ {S : Type 0} (calls : Calls S) (loaded : Loaded) (kind : EntryKind) (number : ℕ) (ts ts' : List SideTable) (valid : ValidModule loaded.contents)
@@ -108,8 +105,7 @@ module _ {S : Type 0} (calls : Calls S) (loaded : Loaded) (kind : EntryKind) (nu
             host = after;
             stands = refl;
             callback = further a.setting come.mid come.args come.reply come.host come.callback from come.callback.set come.callback.begins there;
-            leads = subst (λ (f : ℕ). (did : StepDid) (made : List GuestCall) (new : Loop S) → RunsFrom calls a.setting come.mid kind number f come.args come.reply did made new
-                → StepsWith calls a.setting a.loop did made new) (sym call.0) come.leads;
+            leads = rw call.0 come.leads;
           },
           omega (arith, paid, left),
         )
@@ -118,7 +114,7 @@ module _ {S : Type 0} (calls : Calls S) (loaded : Loaded) (kind : EntryKind) (nu
 pub ended_bare : (m m' : Contents) → m' ≡ m → (function : ℕ) (args : List Value) → TakesArguments m function args → HasNoResults m function → (ending : Ending)
     → ReturnsTyped m' function ending → IsBare ending
 ended_bare m m' same function args takes bare ending typed =
-    let here : ReturnsTyped m function ending = subst (λ (x : Contents). ReturnsTyped x function ending) same typed in
+    let here : ReturnsTyped m function ending = rw same at typed in
     bare_of ending takes.type.results (here takes.type takes.known) (bare.none takes.type takes.known) where
       bare_of : (end : Ending) (types : List ValType) → AreResults end types → types ≡ [] → IsBare end
       bare_of (Return []) types fit none = refl
@@ -146,7 +142,5 @@ module _ {S : Type 0} (calls : Calls S) (l : Loaded) (g : Setting) (mid : Loop S
     made = made;
     begins = begins;
     deep = deep ∙ ap (λ (x : Setting). x.depth) made;
-    under_way = subst (λ (s : Store). RunIsPaused l.contents tables (moves calls) s host args g.fuel paused slots callers store host) stored
-        (subst (λ (x : Setting). RunIsPaused l.contents tables (moves calls) store host args x.fuel paused slots callers store host) made
-        (subst (λ (x : Loaded). RunIsPaused x.contents tables (moves calls) store host args (setting_of host.setting).fuel paused slots callers store host) is run));
+    under_way = rw (sym stored, sym made, sym is) run;
   }

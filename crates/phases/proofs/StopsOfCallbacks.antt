@@ -33,7 +33,7 @@ stops_at calls setting standing v g is before after made s t function args ended
       leads = subst (λ (x : Loaded). Leads (HostStep calls g) (calling x.contents function args g.fuel g.depth) (scene s (standing before)) ended (Some sites) (scene t (standing after))) is (record {
         asked = w.asked;
         ran = w.ran;
-        answered = subst (λ (x : Setting). Lawful (HostStep calls x) w.asked (standing before) (standing after)) made it.answers;
+        answered = rw made at it.answers;
         stopped = w.stopped;
       });
     } ∣₁

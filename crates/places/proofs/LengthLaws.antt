@@ -1,5 +1,5 @@
 -- What lengths tell is of one place.
-use Rattle.std.proofs.Common.{◌≡◌, ℕ, zero, suc, ◌+◌, ◌^◌, ◌<◌, ◌≤◌, List, [], ◌∷◌, ◌++◌, length, drop, Option, Some, None, IfSome, refl, ap, sym, subst, ◌∙◌, arith, ◌⊎◌, inl, inr, slice_get}
+use Rattle.std.proofs.Common.{◌≡◌, ℕ, zero, suc, ◌+◌, ◌^◌, ◌<◌, ◌≤◌, List, [], ◌∷◌, ◌++◌, length, drop, Option, Some, None, IfSome, refl, ap, sym, ◌∙◌, arith, ◌⊎◌, inl, inr, slice_get}
 use Rattle.std.proofs.lemmas.List.{drop_more, drop_all}
 use Rattle.std.proofs.lemmas.Option.{slice_get_within, get_or_from_slice_get}
 use Rattle.syntax.specs.Language.{Language, Leaves, IsPrefixFree, byte, u32, counted, ◌⨾◌}
@@ -100,11 +100,11 @@ pub repeated_ends : {L : Language} → LeavesOne L → (n count : ℕ) → n < c
     → LeavesNone (repeated count L) bytes
 repeated_ends {L} one n zero few {bytes} {mid} h none rest k = absurd (omega arith)
 repeated_ends {L} one zero (suc count) few {bytes} {mid} h none rest k =
-    let a = apart k in none a.mid (subst (λ (t : List ℕ). Leaves L t a.mid) (items_none h) a.first)
+    let a = apart k in none a.mid (rw (sym (items_none h)) a.first)
 repeated_ends {L} one (suc n) (suc count) few {bytes} {mid} h none rest k =
     let a = apart h in
     let b = apart k in
-    repeated_ends one n count (omega arith) a.second none rest (subst (λ (t : List ℕ). Leaves (repeated count L) t rest) (one bytes b.mid a.mid b.first a.first) b.second)
+    repeated_ends one n count (omega arith) a.second none rest (rw (one bytes b.mid a.mid b.first a.first) at b.second)
 
 -- ---- operations
 
@@ -135,9 +135,9 @@ table_one bytes x y h k =
     let opcode = free_byte.one 0x0e 0x0e bytes a.mid b.mid a.first b.first in
     let c = apart a.second in
     let d = apart b.second in
-    let u = free_u32.one h.0 k.0 b.mid c.mid d.mid (subst (λ (t : List ℕ). Leaves (u32 h.0) t c.mid) opcode.1 c.first) d.first in
+    let u = free_u32.one h.0 k.0 b.mid c.mid d.mid (rw (sym opcode.1) c.first) d.first in
     repeated_one integer_one (k.0 + 1) d.mid x y
-    (subst (λ (n : ℕ). Leaves (repeated (n + 1) integer) d.mid x) u.0 (subst (λ (t : List ℕ). Leaves (repeated (h.0 + 1) integer) t x) u.1 c.second)) d.second
+    (rw (u.1, u.0) at c.second) d.second
 
 plain_one : (b : ℕ) (bytes x y : List ℕ) → Plain b bytes x → Plain b bytes y → x ≡ y
 plain_one b bytes x y h k =
@@ -208,7 +208,7 @@ no_table_labels bytes at b found e none c rest h = go (operation_kinds h)
     go (inl t) =
         let a = apart t.1.1 in
         let d = apart a.second in
-        none t.1.0 d.mid (subst (λ (s : List ℕ). Leaves (u32 t.1.0) s d.mid) (byte_behind bytes at 0x0e a.mid a.first) d.first)
+        none t.1.0 d.mid (rw (sym (byte_behind bytes at 0x0e a.mid a.first)) d.first)
     go (inr t) = t.0 (opcode_here bytes at b c found h ∙ e)
 
 pub no_table_integers : (bytes : List ℕ) (at b labels first : ℕ) → slice_get bytes at ≡ Some b → b ≡ 0x0e → Leaves (u32 labels) (drop (at + 1) bytes) (drop first bytes)
@@ -220,9 +220,8 @@ no_table_integers bytes at b labels first found e one none c rest h = go (operat
         let a = apart t.1.1 in
         let d = apart a.second in
         let u = free_u32.one t.1.0 labels (drop (at + 1) bytes) d.mid (drop first bytes)
-        (subst (λ (s : List ℕ). Leaves (u32 t.1.0) s d.mid) (byte_behind bytes at 0x0e a.mid a.first) d.first) one in
-        none rest (subst (λ (n : ℕ). Leaves (repeated (n + 1) integer) (drop first bytes) rest) u.0
-        (subst (λ (s : List ℕ). Leaves (repeated (t.1.0 + 1) integer) s rest) u.1 d.second))
+        (rw (sym (byte_behind bytes at 0x0e a.mid a.first)) d.first) one in
+        none rest (rw (u.1, u.0) at d.second)
     go (inr t) = t.0 (opcode_here bytes at b c found h ∙ e)
 
 pub no_plain : (bytes : List ℕ) (at b : ℕ) → slice_get bytes at ≡ Some b → (b ≡ 0x0e → ⊥) → LeavesNone (repeated (immediates_of b) integer) (drop (at + 1) bytes)
@@ -364,7 +363,7 @@ walked_more {bytes} {there} {rest} {id} {count} {number} w s = record {
   found = w.found;
   segments = w.segments;
   counted_first = w.counted_first;
-  older = (let n : suc number ≡ number + 1 = omega arith in subst (λ (m : ℕ). ChainOf (BeginsWithSegment id) m w.segments rest) n (steps_more number w.segments w.older s));
+  older = (let n : suc number ≡ number + 1 = omega arith in rw (sym n) (steps_more number w.segments w.older s));
 }
 
 -- what is told elsewhere is of the same walk
@@ -406,7 +405,7 @@ pub no_newer_count : {bytes held rest : List ℕ} {id : ℕ} → FirstSection by
     → (told : ℕ × ℕ) → HasNewer bytes id told → ⊥
 no_newer_count {bytes} {held} {rest} {id} f none told h =
     let s = first_one free_section (drop 8 bytes) (record { id = id; contents = held }) h.held rest h.rest f h.found in
-    none h.count h.segments (subst (λ (t : Section). Leaves (u32 h.count) t.contents h.segments) (sym s.0) h.counted_first)
+    none h.count h.segments (rw (sym s.0) at h.counted_first)
 
 no_zero : {id : ℕ} {bytes : List ℕ} → NoneBegins u32 bytes → (rest : List ℕ) → BeginsWithSegment id bytes rest → ⊥
 no_zero none rest h = none 0 h.offset h.zero_first

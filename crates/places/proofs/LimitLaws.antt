@@ -1,5 +1,5 @@
 -- What limits are told by.
-use Rattle.std.proofs.Common.{◌≡◌, ℕ, ◌+◌, ◌<◌, ◌≤◌, List, length, drop, Option, Some, None, IfSome, get_or, refl, ap, sym, subst, ◌∙◌, arith, inl, inr, slice_get}
+use Rattle.std.proofs.Common.{◌≡◌, ℕ, ◌+◌, ◌<◌, ◌≤◌, List, length, drop, Option, Some, None, IfSome, get_or, refl, ap, sym, ◌∙◌, arith, inl, inr, slice_get}
 use Rattle.std.proofs.lemmas.Option.{slice_get-get_or}
 use Rattle.syntax.specs.Language.{Leaves, byte, u32, ◌⨾◌}
 use Rattle.syntax.specs.Binary.{Section}
@@ -36,7 +36,7 @@ limits_one f g None None bytes x y h k =
     let a = apart l.2 in
     let b = apart r.2 in
     let flag = free_byte.one l.0 r.0 bytes a.mid b.mid a.first b.first in
-    let first = free_u32.one f g b.mid x y (subst (λ (t : List ℕ). Leaves (u32 f) t x) flag.1 a.second) b.second in
+    let first = free_u32.one f g b.mid x y (rw flag.1 at a.second) b.second in
     (first.0, refl)
 limits_one f g None (Some n) bytes x y h k =
     let l = least h in
@@ -54,8 +54,8 @@ limits_one f g (Some m) (Some n) bytes x y h k =
     let c = apart a.second in
     let d = apart b.second in
     let flag = free_byte.one 1 1 bytes a.mid b.mid a.first b.first in
-    let first = free_u32.one f g b.mid c.mid d.mid (subst (λ (t : List ℕ). Leaves (u32 f) t c.mid) flag.1 c.first) d.first in
-    let most = free_u32.one m n d.mid x y (subst (λ (t : List ℕ). Leaves (u32 m) t x) first.1 c.second) d.second in
+    let first = free_u32.one f g b.mid c.mid d.mid (rw (sym flag.1) c.first) d.first in
+    let most = free_u32.one m n d.mid x y (rw first.1 at c.second) d.second in
     (first.0, ap (λ (v : ℕ). Some v) most.0)
 
 pub no_limits_past : (bytes : List ℕ) (at : ℕ) → length bytes ≤ at → NoLimits (drop at bytes)
@@ -77,8 +77,8 @@ no_limits_most bytes at n behind one spelled none first (Some most) rest h =
     let a = apart h in
     let b = apart a.second in
     let u = free_u32.one first n (drop (at + 1) bytes) b.mid (drop behind bytes)
-    (subst (λ (t : List ℕ). Leaves (u32 first) t b.mid) (byte_behind bytes at 1 a.mid a.first) b.first) spelled in
-    none most rest (subst (λ (t : List ℕ). Leaves (u32 most) t rest) u.1 b.second)
+    (rw (sym (byte_behind bytes at 1 a.mid a.first)) b.first) spelled in
+    none most rest (rw u.1 at b.second)
 
 pub limits_least : (bytes : List ℕ) (at flag first behind : ℕ) → slice_get bytes at ≡ Some flag → (flag ≡ 1 → ⊥)
     → Leaves (u32 first) (drop (at + 1) bytes) (drop behind bytes) → (rest : List ℕ) × Leaves (told_limits first None) (drop at bytes) rest
@@ -158,7 +158,7 @@ same_held : {bytes held rest : List ℕ} {id : ℕ} → FirstSection bytes id (r
     → Leaves (u32 sizes.count ⨾ told_type id sizes.first sizes.most) held h.behind
 same_held {bytes} {held} {rest} {id} f sizes h =
     let e = first_one free_section (drop 8 bytes) (record { id = id; contents = held }) h.held rest h.rest f h.found in
-    subst (λ (s : Section). Leaves (u32 sizes.count ⨾ told_type id sizes.first sizes.most) s.contents h.behind) (sym e.0) h.spelled
+    rw (sym e.0) at h.spelled
 
 pub no_sizes_count : {bytes held rest : List ℕ} {id : ℕ} → FirstSection bytes id (record { id = id; contents = held }) rest → NoneBegins u32 held
     → (sizes : Sizes) → HasSizes bytes id sizes → ⊥

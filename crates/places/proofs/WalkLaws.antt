@@ -1,5 +1,5 @@
 -- A walk comes to one place only.
-use Rattle.std.proofs.Common.{◌≡◌, ℕ, ◌+◌, ◌-◌, ◌<◌, ◌≤◌, List, [], ◌∷◌, ◌++◌, length, drop, All, Option, Some, None, IfNone, refl, ap, sym, subst, ◌∙◌, append-nil, arith, inl, inr, ◌⊎◌, ◌↔◌, Bool, true, false, nat_lt, rules, slice_get}
+use Rattle.std.proofs.Common.{◌≡◌, ℕ, ◌+◌, ◌-◌, ◌<◌, ◌≤◌, List, [], ◌∷◌, ◌++◌, length, drop, All, Option, Some, None, IfNone, refl, ap, sym, ◌∙◌, append-nil, arith, inl, inr, ◌⊎◌, ◌↔◌, Bool, true, false, nat_lt, rules, slice_get}
 use Rattle.std.specs.Prelude.{slice_range, zero, suc, IsTrue}
 use Rattle.std.proofs.lemmas.List.{length-drop, length-append, drop_all}
 use Rattle.std.proofs.lemmas.List.Elements.{All-push}
@@ -166,7 +166,7 @@ byte_behind [] at b rest h = absurd (go (sym (drop_all at nil (omega arith)) ∙
     go e = cc
 byte_behind (c ∷ bytes) zero b rest h = let e : c ∷ bytes ≡ b ∷ rest = h.split ∙ ap (λ (t : List ℕ). t ++ rest) h.spelled in let same : rest ≡ bytes = cc in same
 byte_behind (c ∷ bytes) (suc at) b rest h =
-    let n : suc (at + 1) ≡ suc at + 1 = omega arith in subst (λ (m : ℕ). rest ≡ drop m (c ∷ bytes)) n (byte_behind bytes at b rest h)
+    let n : suc (at + 1) ≡ suc at + 1 = omega arith in rw (sym n) (byte_behind bytes at b rest h)
 
 pub no_size : (bytes : List ℕ) (at : ℕ) → NoneBegins counted (drop (at + 1) bytes) → NoneBegins section (drop at bytes)
 no_size bytes at none s rest h =
@@ -181,7 +181,7 @@ held_first {bytes} {id} {at} {from} {to} h =
     let holds : from ≤ to = h.1.holds in
     let within : to ≤ length bytes = h.1.here.within in
     let ends : to ≡ from + length (slice_range bytes from to) = omega (arith, length_between bytes from to holds within) in
-    subst (λ (e : ℕ). FirstSection bytes id (record { id = id; contents = slice_range bytes from to }) (drop e bytes)) ends (first_section h)
+    rw (sym ends) (first_section h)
 
 -- ---- the number with which a section begins
 
@@ -191,7 +191,7 @@ no_count none count next b = none b.held b.rest b.found
 pub no_count_in : {bytes held rest : List ℕ} {id : ℕ} → FirstSection bytes id (record { id = id; contents = held }) rest → NoneBegins u32 held → NoCount bytes id
 no_count_in {bytes} {held} {rest} {id} f none count next b =
     let e = first_one free_section (drop 8 bytes) (record { id = id; contents = held }) b.held rest b.rest f b.found in
-    none count b.behind (subst (λ (s : Section). Leaves (u32 count) s.contents b.behind) (sym e.0) b.spelled)
+    none count b.behind (rw (sym e.0) at b.spelled)
 
 pub count_found : {bytes held : List ℕ} {id count : ℕ} (from next : ℕ) → FirstSection bytes id (record { id = id; contents = held }) (drop (from + length held) bytes)
     → from + length held ≤ length bytes → Leaves (u32 count) held (drop next held) → next ≤ length held → BeginsWithCount bytes id count (from + next)
@@ -277,7 +277,7 @@ no_section_cut {there} cut h s rest k =
     let b = apart k in
     let d = apart b.second in
     let id = free_byte.one s.id cut.section there b.mid a.mid b.first a.first in
-    let u = free_u32.one (length s.contents) cut.said a.mid d.mid h.rest (subst (λ (t : List ℕ). Leaves (u32 (length s.contents)) t d.mid) id.1 d.first) a.second in
+    let u = free_u32.one (length s.contents) cut.said a.mid d.mid h.rest (rw (sym id.1) d.first) a.second in
     let size : length s.contents ≡ cut.said = u.0 in
     let left : length d.mid ≡ length h.rest = ap length u.1 in
     let held : length d.mid ≡ length (s.contents ++ rest) = ap length (d.second.split ∙ ap (λ (t : List ℕ). t ++ rest) d.second.spelled) in

@@ -1,6 +1,6 @@
 -- Soundness with the limits: a step of typed contexts within them leads to such contexts.
 use Rattle.reduction.proofs.Contexts.{frames-receiving}
-use Rattle.reduction.proofs.Words.{◌≡◌, ℕ, ◌<◌, ◌≤◌, List, [], ◌∷◌, length, Some, sym, ap, ◌∙◌, subst, arith, length-map, ValType, Value, Contents}
+use Rattle.reduction.proofs.Words.{◌≡◌, ℕ, ◌<◌, ◌≤◌, List, [], ◌∷◌, length, Some, sym, ap, ◌∙◌, arith, length-map, ValType, Value, Contents}
 use Rattle.reduction.proofs.Words.{FuncType, Func, pushed, type_of, ValidModule, Store, Context, entered, receiving}
 use Rattle.reduction.proofs.Words.{types_of, Move, Goes, Traps, Calls, Stuck, next, IsDefined, Bounded}
 use Rattle.instance.specs.Storing.{HaveGlobalTypes}
@@ -23,7 +23,7 @@ module _ (m : Contents) (depth : ℕ) (answers : List ValType) where
   together most (Calls f args below) (type, has, typed, awaits) (found, at, size, within) o h =
       let e : Some found ≡ Some type = sym at ∙ type_of_function-is m answers f type has in
       let same : found ≡ type = cc in
-      (type, has, typed, record { awaits = awaits; within = subst (λ (t : FuncType). IsWithin m below (length t.results)) same within; shallow = omega (arith, o, h) })
+      (type, has, typed, record { awaits = awaits; within = rw same at within; shallow = omega (arith, o, h) })
   together most (Ends results) a k o h = a
   together most Stuck a k o h = a
 

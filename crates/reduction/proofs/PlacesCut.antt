@@ -3,7 +3,7 @@
 use Rattle.reduction.proofs.Contexts.{height-parts, call-continuing, call-reached, locals-continuing, locals-reached}
 use Rattle.reduction.proofs.Begins.{Begins, begins_with}
 use Rattle.reduction.proofs.Begins as at_place
-use Rattle.reduction.proofs.Words.{◌≡◌, ℕ, suc, ◌+◌, ◌-◌, ◌≤◌, List, [], ◌∷◌, ◌++◌, length, take, drop, Option, Some, refl, sym, ap, ◌∙◌, subst, arith}
+use Rattle.reduction.proofs.Words.{◌≡◌, ℕ, suc, ◌+◌, ◌-◌, ◌≤◌, List, [], ◌∷◌, ◌++◌, length, take, drop, Option, Some, refl, sym, ap, ◌∙◌, arith}
 use Rattle.reduction.proofs.Words.{slice_get, append_assoc, Value, I32, Instr, Br, BrIf, BrTable, Contents, Code}
 use Rattle.reduction.proofs.Words.{Target, Store, Context, Label, Frame, continuing, Goes, next, operands_of, height_of, Body}
 use Rattle.reduction.proofs.Words.{Place, Over, IsPlaced}
@@ -77,7 +77,7 @@ module _ (m : Contents) (body : ℕ → Body) (place : Place) (callers : List Pl
     by (rule.lands {arity} {next} {below} at few) g =
         let same : continuing (take arity values) next below ≡ there = cc in
         let r = cuts_at at labels after behind h values few in
-        subst (λ (c : List Context). BranchesTo m body place callers told values contexts c) same (record {
+        rw (sym same) (record {
           target = r.0;
           is_told = is ∙ r.1;
           cuts = r.2;

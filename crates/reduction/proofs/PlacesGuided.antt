@@ -21,7 +21,7 @@ first_at (x ∷ ops) zero o rest e = (cc, cc)
 first_at (x ∷ ops) (suc at) o rest e =
     let r = first_at ops at o rest e in
     let same : suc (at + 1) ≡ suc at + 1 = omega arith in
-    (r.0, subst (λ (k : ℕ). drop k (x ∷ ops) ≡ rest) same r.1)
+    (r.0, rw (sym same) r.1)
 
 -- what is behind a sequence
 pub behind_code : (ops : List Token) (close : Token) (c : Code) (at : ℕ) (after : List Token) → drop at ops ≡ operations_to close c after → drop (at + size c) ops ≡ after
@@ -99,8 +99,8 @@ module _ (b : Body) where
       let after_body = operations_to close rest tail in
       let here = first_at b.operations at (opening_bracket kind type) (operations_to op.End body after_body) s in
       let there : drop to b.operations ≡ after_body = behind_code b.operations op.End body (at + 1) after_body here.1 in
-      let ab = subst (λ (n : ℕ). Agrees d b.table (target back (length own) n ∷ labels) (at + 1) n (n + length t.params) body) is k.0 in
-      let ar = subst (λ (n : ℕ). Agrees c b.table labels to base (n + length t.results) rest) is k.1 in (
+      let ab = rw is at k.0 in
+      let ar = rw is at k.1 in (
         here.0,
         t,
         found,
@@ -127,11 +127,11 @@ module _ (b : Body) where
       let here = first_at b.operations at (op.If type) (operations_to op.Else first after_first) s in
       let begins : drop other b.operations ≡ after_first = behind_code b.operations op.Else first (at + 1) after_first here.1 in
       let there : drop to b.operations ≡ after_second = behind_code b.operations op.End second other after_second begins in
-      let at_if = subst (λ (n : ℕ). slice_get b.table.targets at ≡ Some (target other (length t.params) n)) is k.0 in
-      let at_else = subst (λ (n : ℕ). slice_get b.table.targets (at + size first) ≡ Some (target to (length t.results) n)) is k.1 in
-      let af = subst (λ (n : ℕ). Agrees d b.table (target to (length t.results) n ∷ labels) (at + 1) n (n + length t.params) first) is k.2 in
-      let as_ = subst (λ (n : ℕ). Agrees d b.table (target to (length t.results) n ∷ labels) other n (n + length t.params) second) is k.3 in
-      let ar = subst (λ (n : ℕ). Agrees c b.table labels to base (n + length t.results) rest) is k.4 in
+      let at_if = rw is at k.0 in
+      let at_else = rw is at k.1 in
+      let af = rw is at k.2 in
+      let as_ = rw is at k.3 in
+      let ar = rw is at k.4 in
       let inner_labels = target to (length t.results) low ∷ labels in
       let results : length (pushed t.results []) ≡ length t.results = omega (arith, length-pushed t.results []) in
       let same_inside = ap (λ (ls : List ℕ). length t.results ∷ ls) same in (
@@ -145,7 +145,7 @@ module _ (b : Body) where
             (λ (q : Agrees d b.table inner_labels (at + 1) low (low + length (pushed t.params [])) first).
             guided d inner_labels low (at + 1) (at + size first) to op.Else after_first first (pushed t.params []) (pushed t.results [])
             same_inside tf q here.1 (omega arith)
-            (omega arith, subst (λ (n : ℕ). slice_get b.table.targets (at + size first) ≡ Some (target to n low)) (sym results) at_else)),
+            (omega arith, rw results at_else)),
         alone d inner_labels low other to second t.params t.results as_
             (λ (q : Agrees d b.table inner_labels other low (low + length (pushed t.params [])) second).
             guided d inner_labels low other (at + size first + size second) to op.End after_second second (pushed t.params []) (pushed t.results [])

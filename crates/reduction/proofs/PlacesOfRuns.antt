@@ -1,5 +1,5 @@
 -- The calls of a run stand at places that the side tables tell.
-use Rattle.reduction.proofs.Words.{◌≡◌, ℕ, ◌+◌, List, [], ◌∷◌, ◌++◌, length, map, Some, refl, ap, subst, arith, slice_get, length-map, Value}
+use Rattle.reduction.proofs.Words.{◌≡◌, ℕ, ◌+◌, List, [], ◌∷◌, ◌++◌, length, map, Some, refl, ap, arith, slice_get, length-map, Value}
 use Rattle.reduction.proofs.Words.{Token, Contents, FuncType, Func, Code, Done, Plain, Structured, If, pushed, type_of, ValidModule, Target, Store}
 use Rattle.reduction.proofs.Words.{value_of, Context, Frame, entered, receiving, types_of, Move, Calls, next, as_operands, IsDefined, operands_of, Body}
 use Rattle.reduction.proofs.Words.{Place, Over, IsPlaced, AreBodies}
@@ -31,8 +31,7 @@ module _ (m : Contents) (body : ℕ → Body) (valid : ValidModule m) (bodies : 
       let labels : List Target = record { pc = size f.body; keep = length type.results; height = 0 } ∷ [] in
       let last = some_size f.body in
       let e : length (pushed type.results []) ≡ length type.results = omega (arith, length-pushed type.results []) in
-      subst (λ (n : ℕ). Guided m (body index) labels 0 0 n 0 (size f.body) f.body) e
-      (guided (body index) (body_context m type f) labels 0 0 last.0 (size f.body) op.End [] f.body [] (pushed type.results []) refl typed b.1 b.0
+      rw e at (guided (body index) (body_context m type f) labels 0 0 last.0 (size f.body) op.End [] f.body [] (pushed type.results []) refl typed b.1 b.0
       (omega (arith, last.1)) (omega (arith, last.1)))
 
   -- the calls that await so many operands, if there are any

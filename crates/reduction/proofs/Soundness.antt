@@ -1,7 +1,7 @@
 -- Soundness: a typed configuration has a next step, and stays typed (WebAssembly Core 1.0, appendix, soundness).
 use Rattle.reduction.proofs.Contexts.{with_locals-operands, with_locals-code}
 use Rattle.reduction.proofs.Words.{◌≡◌, ℕ, zero, suc, List, [], ◌∷◌, ◌++◌, length, reverse, ◌==◌, arith, take, drop, Option, Some, None, refl, sym, ap}
-use Rattle.reduction.proofs.Words.{◌∙◌, subst, true, false, Bool, nat_le, slice_get, if◌then◌else◌, ValType, Value, I32, I64, Instr, Br, BrIf, BrTable}
+use Rattle.reduction.proofs.Words.{◌∙◌, true, false, Bool, nat_le, slice_get, if◌then◌else◌, ValType, Value, I32, I64, Instr, Br, BrIf, BrTable}
 use Rattle.reduction.proofs.Words.{Contents, FuncType, Code, AsBlock, AsLoop, Done, Plain, Structured, If, pushed, HasFunctionType, type_of_function, Context, Label}
 use Rattle.reduction.proofs.Words.{Frame, locals_of, with_locals, going_on, receiving, continuing, types_of, Traps, PlainStep, Leaves, Fails, Lacks, next}
 use Rattle.reduction.proofs.Words.{code_left, operands_of, length-map, type_of}
@@ -75,9 +75,9 @@ module _ (m : Contents) (answers : List ValType) where
       (rw (with_locals-code locals below, with_locals-operands locals below) t1)
       (rw (with_locals-operands locals below) t2)
   under_locals locals el (in_call {around} {after} {below} results own arity values code e u t) =
-      subst (λ (ls : List ValType). Under m answers (call_typing m ls results) (pushed results []) (Frame locals arity values code ∷ below)) el (in_call results locals arity values code e u t)
+      rw el at (in_call results locals arity values code e u t)
   under_locals locals el (outermost own arity values code e) =
-      subst (λ (ls : List ValType). Under m answers (call_typing m ls answers) (pushed answers []) (Frame locals arity values code ∷ [])) el (outermost locals arity values code e)
+      rw (sym el) (outermost locals arity values code e)
 
   -- a branch to a label that takes the types on top
   branches : {c : Typing} {ends : List ValType} {contexts : List Context} (label : ℕ) (values : List Value) (types rest : List ValType) → Under m answers c ends contexts
@@ -88,7 +88,7 @@ module _ (m : Contents) (answers : List ValType) where
       let r = topmost_types types rest values ev in
       let n : length types ≡ arity = ap length (sym same) ∙ sym e in
       let t : nat_le arity (length values) ≡ true = rw n at r.2 in
-      let kept : types_of (take arity values) ≡ pushed ts [] = subst (λ (k : ℕ). types_of (take k values) ≡ pushed types []) n r.0 ∙ ap (λ (x : List ValType). pushed x []) (sym same) in
+      let kept : types_of (take arity values) ≡ pushed ts [] = (rw n at r.0) ∙ ap (λ (x : List ValType). pushed x []) (sym same) in
       (continuing (take arity values) next below, rw t refl, continues (take arity values) ts next kept u t2)
   branches (suc label) values types rest (in_label ts es arity next own code e u t1 t2) at ev = branches label values types rest u at ev
   branches label values types rest (in_call results locals arity own code e u t) at ev = absurd (cc)

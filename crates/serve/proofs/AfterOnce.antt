@@ -1,5 +1,5 @@
 -- The after-work callbacks of a loop that was served.
-use Rattle.std.proofs.Common.{◌≡◌, ℕ, List, [], ◌∷◌, ◌++◌, refl, subst}
+use Rattle.std.proofs.Common.{ℕ, List, ◌∷◌, ◌++◌, subst}
 use Rattle.std.proofs.Math.Logic.{∥∥₁_map}
 use Rattle.reduction.proofs.StepByStep.{steps_split, steps_map}
 use Rattle.phases.specs.History.{Event, EventStep, History}

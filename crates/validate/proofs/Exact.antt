@@ -1,5 +1,5 @@
 -- A valid module keeps every rule that a refusal may name.
-use Rattle.std.proofs.Common.{◌≡◌, ◌≤◌, ◌+◌, ℕ, List, [], length, Option, Some, None, IsSome, IfSome, slice_get, ◌⊎◌, inl, inr, refl, sym, ap, subst}
+use Rattle.std.proofs.Common.{◌≡◌, ◌≤◌, ◌+◌, ℕ, List, [], length, Option, Some, None, IsSome, IfSome, slice_get, ◌⊎◌, inl, inr, refl, sym, ap}
 use Rattle.syntax.specs.declared.types.ValType.{ValType}
 use Rattle.syntax.specs.declared.types.BlockType.{BlockType}
 use Rattle.syntax.specs.declared.instruction.Instr.{Instr}
@@ -59,7 +59,7 @@ is_aligned c _ before after t = tt
 
 sets_variables : (c : Context) (i : Instr) (before after : List ValType) → InstrTyped c i before after → SetsVariables c i
 sets_variables c (GlobalSet x) before after t =
-    λ g e. subst (λ (k : Global). k.mutability ≡ Var) (same_some t.0 g (slice_get c.module_contents.globals x) t.1 e) t.2
+    λ g e. rw (same_some t.0 g (slice_get c.module_contents.globals x) t.1 e) at t.2
 sets_variables c _ before after t = tt
 
 keeps : (r : Rule) (c : Context) (i : Instr) (before after : List ValType) → InstrTyped c i before after → Keeps r c i
@@ -83,33 +83,33 @@ kept r c Done before after t = tt
 kept r c (Plain i rest) before after t = (keeps r c i before t.0 t.1, kept r c rest t.0 after t.2)
 kept r c (Structured kind b body rest) before after t = (
   keeps_type r c b t.0 t.1,
-  subst (λ (s : FuncType). Kept r (inside (label_types kind s) c) body) (shape_is c b t.0 t.1) (kept r (inside (label_types kind t.0) c) body _ _ t.4),
+  rw (shape_is c b t.0 t.1) at (kept r (inside (label_types kind t.0) c) body _ _ t.4),
   kept r c rest _ after t.5,
 )
 kept r c (If b first second rest) before after t = (
   keeps_type r c b t.0 t.1,
-  subst (λ (s : FuncType). Kept r (inside s.results c) first) (shape_is c b t.0 t.1) (kept r (inside t.0.results c) first _ _ t.4),
-  subst (λ (s : FuncType). Kept r (inside s.results c) second) (shape_is c b t.0 t.1) (kept r (inside t.0.results c) second _ _ t.5),
+  rw (shape_is c b t.0 t.1) at (kept r (inside t.0.results c) first _ _ t.4),
+  rw (shape_is c b t.0 t.1) at (kept r (inside t.0.results c) second _ _ t.5),
   kept r c rest _ after t.6,
 )
 
 kept_in : (r : Rule) (m : Contents) (f : Func) → ValidFunc m f → KeptIn r m f
 kept_in r m f v type e =
     let same : v.type ≡ type = same_some v.type type (slice_get m.types f.type_index) v.known e in
-    subst (λ (t : FuncType). Kept r (body_context m t f) f.body) same (kept r (body_context m v.type f) f.body _ _ v.body)
+    rw same at (kept r (body_context m v.type f) f.body _ _ v.body)
 
 is_low : (m : Contents) (f : Func) → ValidFunc m f → IsLow m f
 is_low m f v type e =
     let same : v.type ≡ type = same_some v.type type (slice_get m.types f.type_index) v.known e in
-    subst (λ (t : FuncType). (length t.params + length f.locals ≤ MAX_LOCALS) × (greatest_height (body_context m t f) 0 0 f.body ≤ MAX_HEIGHT)) same (v.few_locals, v.height)
+    rw (sym same) (v.few_locals, v.height)
 
 is_typed : (m : Contents) (f : Func) → ValidFunc m f → IsTyped m f
 is_typed m f v type e =
     let same : v.type ≡ type = same_some v.type type (slice_get m.types f.type_index) v.known e in
-    subst (λ (t : FuncType). Typed (body_context m t f) f.body [] (pushed t.results [])) same v.body
+    rw same at v.body
 
 has_few : (m : Contents) (i : Import) → ValidImport m i → HasFew m i
-has_few m i v type e = subst (λ (t : FuncType). length t.results ≤ 1) (same_some v.type type (slice_get m.types i.type_index) v.known e) v.few_results
+has_few m i v type e = rw (same_some v.type type (slice_get m.types i.type_index) v.known e) at v.few_results
 
 starts : (m : Contents) (s : Option ℕ) → IfSome s (λ f. HasFunctionType m f (record { params = []; results = [] })) → IfSome s (λ f. IsSome (type_of_function m f))
 starts m None h = tt

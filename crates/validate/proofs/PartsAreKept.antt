@@ -1,5 +1,5 @@
 -- What a block keeps, its parts keep.
-use Rattle.std.proofs.Common.{◌≡◌, ℕ, ◌+◌, ◌-◌, ◌≤◌, max, List, [], ◌∷◌, ◌++◌, length, map, false, Option, Some, None, suc, refl, sym, ap, subst, ◌∙◌, arith}
+use Rattle.std.proofs.Common.{◌≡◌, ℕ, ◌+◌, ◌-◌, ◌≤◌, max, List, [], ◌∷◌, ◌++◌, length, map, false, Option, Some, None, suc, sym, ap, subst, ◌∙◌, arith}
 use Rattle.std.proofs.lemmas.List.{length-append, length-map, length_push}
 use Rattle.limits.specs.declared.TheConstants.{MAX_HEIGHT, MAX_NESTING}
 use Rattle.syntax.specs.declared.types.ValType.{ValType}
@@ -44,7 +44,7 @@ pub kept_structured : (kind : BlockKind) (r : Rule) (scope : Scope) (f g : Contr
     → g.is_loop ≡ loops kind → g.block_type ≡ type → Kept r (context_in scope (f ∷ fs)) (Structured kind type body code)
     → KeptParts r scope f g fs body code None
 kept_structured kind r scope f g fs type body code is e k = record {
-  body = subst (λ (l : List ValType). Kept r (inside l (context_in scope (f ∷ fs))) body) (sym (label_is scope g kind type is e)) k.1;
+  body = rw (label_is scope g kind type is e) k.1;
   first = tt;
   rest = k.2;
 }
@@ -53,8 +53,8 @@ pub kept_if : (r : Rule) (scope : Scope) (f g : ControlFrame) (fs : List Control
     → g.is_loop ≡ false → g.block_type ≡ type → Kept r (context_in scope (f ∷ fs)) (If type first second code)
     → KeptParts r scope f g fs first code (Some second)
 kept_if r scope f g fs type first second code plain e k = record {
-  body = subst (λ (l : List ValType). Kept r (inside l (context_in scope (f ∷ fs))) first) (sym (label_is scope g AsBlock type plain e)) k.1;
-  first = subst (λ (l : List ValType). Kept r (inside l (context_in scope (f ∷ fs))) second) (sym (label_is scope g AsBlock type plain e)) k.2;
+  body = rw (label_is scope g AsBlock type plain e) k.1;
+  first = rw (label_is scope g AsBlock type plain e) k.2;
   rest = k.3;
 }
 
@@ -87,10 +87,9 @@ low_plain scope f fs h j i code other os k l =
     let base : length h.below ≡ length j.below = ap (λ (os : List Operand). length os) (sym k.below) in
     let next : greatest_height c (length h.below) (after_effect (length h.below) (height_in_all h) (effect_of c i)) code ≤ MAX_HEIGHT =
     max_second (height_in_all h) (greatest_height c (length h.below) (after_effect (length h.below) (height_in_all h) (effect_of c i)) code) l.0 in (
-      subst (λ (x : ℕ). greatest_height c x (height_in_all j) code ≤ MAX_HEIGHT) base
-          (subst (λ (x : ℕ). greatest_height c (length h.below) x code ≤ MAX_HEIGHT) (sym k.height) next),
-      subst (λ (x : ℕ). IfLow c (shape_in scope f) x other) base l.1,
-      subst (λ (b : List Operand). LowOpens scope fs (returned scope f b) os) (sym k.below) l.2,
+      rw (sym k.height, base) at next,
+      rw base at l.1,
+      rw k.below l.2,
     )
 
 -- the second branch of an `if` begins
@@ -105,12 +104,12 @@ low_other scope f fs type h mid second os shape e l =
     let start = with_left type.params (held_of [] mid.below false) in
     let high : length type.params + length mid.below ≡ height_in_all start = omega (arith, length-pushed (map Known type.params) [], length-map type.params Known) in
     let first : greatest_height c (length h.below) (length type.params + length h.below) second ≤ MAX_HEIGHT =
-    subst (λ (t : FuncType). greatest_height c (length h.below) (length t.params + length h.below) second ≤ MAX_HEIGHT) shape l.1 in
+    rw (sym shape) l.1 in
     let there : greatest_height c (length mid.below) (length type.params + length mid.below) second ≤ MAX_HEIGHT =
-    subst (λ (os : List Operand). greatest_height c (length os) (length type.params + length os) second ≤ MAX_HEIGHT) (sym e) first in (
-      subst (λ (x : ℕ). greatest_height c (length mid.below) x second ≤ MAX_HEIGHT) high there,
+    rw e first in (
+      rw high at there,
       tt,
-      subst (λ (b : List Operand). LowOpens scope fs (returned scope f b) os) (sym e) l.2,
+      rw e l.2,
     )
 
 -- a block begins
@@ -132,16 +131,16 @@ low_begun scope f g fs type taken h mid body code first other os b p l =
     let left : length mid.own + length mid.below + length type.results ≡ height_in_all (with_left type.results mid) =
     omega (arith, length-pushed (map Known type.results) mid.own, length-map type.results Known) in
     let body_low : greatest_height d (length mid.own + length mid.below) (height_in_all (begun type mid)) body ≤ MAX_HEIGHT =
-    subst (λ (x : ℕ). greatest_height d (length mid.own + length mid.below) x body ≤ MAX_HEIGHT) high p.body in
+    rw high at p.body in
     let rest_low : greatest_height c (length h.below) (height_in_all (with_left type.results mid)) code ≤ MAX_HEIGHT =
-    subst (λ (x : ℕ). greatest_height c (length h.below) x code ≤ MAX_HEIGHT) left p.rest in
+    rw left at p.rest in
     let behind : LowOpens scope (f ∷ fs) (with_left type.results mid) (open_of code other ∷ os) = (
-      subst (λ (os : List Operand). greatest_height c (length os) (height_in_all (with_left type.results mid)) code ≤ MAX_HEIGHT) (sym below) rest_low,
-      subst (λ (os : List Operand). IfLow c (shape_in scope f) (length os) other) (sym below) l.0,
-      subst (λ (bs : List Operand). LowOpens scope fs (returned scope f bs) os) (sym below) l.1,
+      rw (sym below) at rest_low,
+      rw below l.0,
+      rw below l.1,
     ) in (
-      subst (λ (x : ℕ). greatest_height d x (height_in_all (begun type mid)) body ≤ MAX_HEIGHT) base body_low,
-      subst (λ (x : ℕ). IfLow d (shape_in scope g) x first) base (subst (λ (t : FuncType). IfLow d t (length mid.own + length mid.below) first) (sym shape) p.first),
+      rw base at body_low,
+      rw (sym shape, base) at p.first,
       subst (λ (k : Held). LowOpens scope (f ∷ fs) k (open_of code other ∷ os)) (sym back) behind,
     )
 
@@ -157,20 +156,17 @@ low_inside scope f g fs type labels h mid body code label b known =
     let within = greatest_height (inside labels c) at (at + length type.params) body in
     let behind = greatest_height c (length h.below) (at + length type.results) code in
     let all : max (height_in_all h) (max within behind) ≤ MAX_HEIGHT =
-    subst (λ (n : ℕ). max (height_in_all h)
-    (max (greatest_height (inside labels c) n (n + length type.params) body) (greatest_height c (length h.below) (n + length type.results) code))
-    ≤ MAX_HEIGHT) inner known in
+    rw inner at known in
     record {
       body =
-          subst (λ (ls : List ValType). greatest_height (inside ls c) at (at + length type.params) body ≤ MAX_HEIGHT) label
-          (second_of_three (height_in_all h) within behind all);
+          rw label at (second_of_three (height_in_all h) within behind all);
       first = tt;
       rest = third_of_three (height_in_all h) within behind all;
     }
 
 named_shape : (scope : Scope) (g : ControlFrame) (type : FuncType) (named : BlockType) → g.block_type ≡ named → type_of_block scope.contents.now g.block_type ≡ Some type
     → shape_of scope.contents.now named ≡ type
-named_shape scope g type named e known = subst (λ (t : BlockType). shape_of scope.contents.now t ≡ type) e (ap type_or_none known)
+named_shape scope g type named e known = rw e at (ap type_or_none known)
 
 pub low_structured : (kind : BlockKind) (scope : Scope) (f g : ControlFrame) (fs : List ControlFrame) (type : FuncType) (named : BlockType) (h mid : Held) (body code : Code)
     → g.is_loop ≡ loops kind → g.block_type ≡ named → Begun scope f g fs type type.params h mid
@@ -180,7 +176,7 @@ low_structured kind scope f g fs type named h mid body code is e b l =
     let shape = named_shape scope g type named e b.known in
     let label : label_types kind type ≡ label_of scope.contents.now g = ap (label_types kind) (sym shape) ∙ sym (label_is scope g kind named is e) in
     low_inside scope f g fs type (label_types kind type) h mid body code label b
-    (subst (λ (t : FuncType). block_height (context_in scope (f ∷ fs)) (label_types kind t) t (length h.below) (height_in_all h) body code ≤ MAX_HEIGHT) shape l)
+    (rw shape at l)
 
 -- the parts of the height of an `if` whose branches begin over this many operands
 abbrev if_over : Context → FuncType → ℕ → ℕ → ℕ → Code → Code → Code → ℕ
@@ -230,16 +226,15 @@ low_if scope f g fs type named h mid first second code plain e b l =
     let inner : max (length h.below) (height_in_all h - (length type.params + 1)) ≡ length mid.own + length mid.below =
     omega (arith, b.takes.height, length_push type.params I32, ap (λ (os : List Operand). length os) b.takes.below) in
     let known : if_height c type base (height_in_all h) first second code ≤ MAX_HEIGHT =
-    subst (λ (t : FuncType). if_height c t base (height_in_all h) first second code ≤ MAX_HEIGHT) shape l in
+    rw shape at l in
     let p : LowIf c type base over first second code =
     parts_of_if c type base (height_in_all h) over first second code
-    (subst (λ (n : ℕ). if_over c type base (height_in_all h) n first second code ≤ MAX_HEIGHT) inner known) in
+    (rw inner at known) in
     let other : greatest_height (inside (label_of scope.contents.now g) c) over (over + length type.params) second ≤ MAX_HEIGHT =
-    subst (λ (ls : List ValType). greatest_height (inside ls c) over (over + length type.params) second ≤ MAX_HEIGHT) label p.second in
+    rw label at p.second in
     record {
-      body = subst (λ (ls : List ValType). greatest_height (inside ls c) over (over + length type.params) first ≤ MAX_HEIGHT) label p.first;
+      body = rw label at p.first;
       first =
-          subst (λ (n : ℕ). greatest_height (inside (label_of scope.contents.now g) c) over n second ≤ MAX_HEIGHT)
-          (let swap : over + length type.params ≡ length type.params + over = omega arith in swap) other;
+          rw (let swap : over + length type.params ≡ length type.params + over = omega arith in swap) at other;
       rest = p.rest;
     }

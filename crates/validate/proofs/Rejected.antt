@@ -1,5 +1,5 @@
 -- Why an instruction that finds too few operands is refused, or others than it takes.
-use Rattle.std.proofs.Common.{◌≡◌, ℕ, ◌+◌, ◌<◌, List, [], ◌∷◌, ◌++◌, length, take, drop, get_or, Bool, true, false, Some, slice_get, ◌⊎◌, inl, inr, refl, sym, ap, subst, ◌∙◌}
+use Rattle.std.proofs.Common.{◌≡◌, ℕ, ◌+◌, ◌<◌, List, [], ◌∷◌, ◌++◌, length, take, drop, get_or, Bool, true, false, Some, slice_get, ◌⊎◌, inl, inr, refl, sym, ap, ◌∙◌}
 use Rattle.std.proofs.lemmas.List.{drop_more, take-append-drop}
 use Rattle.syntax.specs.declared.types.ValType.{ValType}
 use Rattle.syntax.specs.declared.types.ValType.TheVariants.{I32}
@@ -21,7 +21,7 @@ use Rattle.validate.proofs.Checks.{IsTurn}
 -- what lies behind the operand that isn't there was taken
 pub lacks_one : (front behind : List ValType) (t : ValType) (h k : Held) → Takes behind h k → Lacks (t ∷ []) k → Lacks (front ++ t ∷ behind) h
 lacks_one front behind t h k a n =
-    λ rest f. n (pushed front rest) ((a.fits (t ∷ pushed front rest)).0 (subst (λ (x : List ValType). Fits h x) (pushed-append front (t ∷ behind) rest) f))
+    λ rest f. n (pushed front rest) ((a.fits (t ∷ pushed front rest)).0 (rw (pushed-append front (t ∷ behind) rest) at f))
 
 -- the operand of this index isn't there, and those behind it were taken
 pub lacks_at : (wanted : List ValType) (i next : ℕ) (h k : Held) → next ≡ i + 1 → i < length wanted
@@ -32,7 +32,7 @@ lacks_at wanted i next h k e lt a n =
     ap (λ (j : ℕ). t ∷ drop j wanted) e ∙ sym (drop_more wanted i I32 lt) in
     let parts : take i wanted ++ t ∷ drop next wanted ≡ wanted =
     ap (λ (ts : List ValType). take i wanted ++ ts) behind ∙ take-append-drop i wanted in
-    subst (λ (ts : List ValType). Lacks ts h) parts (lacks_one (take i wanted) (drop next wanted) t h k a n)
+    rw parts at (lacks_one (take i wanted) (drop next wanted) t h k a n)
 
 -- the last operand isn't there
 pub lacks_top : (front : List ValType) (t : ValType) (h : Held) → Lacks (t ∷ []) h → Lacks (front ++ t ∷ []) h
@@ -41,7 +41,7 @@ lacks_top front t h n = lacks_one front [] t h h (takes_none h) n
 -- the last operand was taken, but those before it aren't there
 pub lacks_more : (front : List ValType) (t : ValType) (h k : Held) → Takes (t ∷ []) h k → Lacks front k → Lacks (front ++ t ∷ []) h
 lacks_more front t h k a n =
-    λ rest f. n rest ((a.fits (pushed front rest)).0 (subst (λ (x : List ValType). Fits h x) (pushed-push front t rest) f))
+    λ rest f. n rest ((a.fits (pushed front rest)).0 (rw (pushed-push front t rest) at f))
 
 -- there are no operands where they stand for the empty stack
 pub none_stand : (u : Bool) (own : List Operand) → FitsList u own [] → own ≡ []
@@ -54,8 +54,7 @@ none_stand false (o ∷ own) f = absurd f
 rejects_lacking : (c : Checker) (i : Instr) (taken left : List ValType) (e : BodyFault) → IsTurn (context_at c) i taken left
     → e ≡ fault.BadType → Lacks taken c.operands → Rejects (op.Plain i) c e
 rejects_lacking c i taken left e rule b n =
-    subst (λ (x : BodyFault). Rejects (op.Plain i) c x) (sym b)
-    (λ from f m. let r = rule.turns from m.0 m.1 in n r.0 (subst (λ (x : List ValType). Fits c.operands x) r.1 f))
+    rw b (λ from f m. let r = rule.turns from m.0 m.1 in n r.0 (rw r.1 at f))
 
 -- an instruction takes an i32 that isn't there
 pub rejects_top : (c : Checker) (i : Instr) (taken left : List ValType) (e : BodyFault) → IsTurn (context_at c) i (taken ++ I32 ∷ []) left
@@ -68,15 +67,14 @@ pub rejects_over : (c : Checker) (i : Instr) (taken left : List ValType) (k : He
     → Takes (I32 ∷ []) c.operands k → ((e ≡ fault.BadType) × Lacks taken k) ⊎ (e ≡ fault.Memory) → Rejects (op.Plain i) c e
 rejects_over c i taken left k e rule a (inl n) =
     rejects_lacking c i (taken ++ I32 ∷ []) left e rule n.0 (lacks_more taken I32 c.operands k a n.1)
-rejects_over c i taken left k e rule a (inr m) = subst (λ (x : BodyFault). Rejects (op.Plain i) c x) (sym m) tt
+rejects_over c i taken left k e rule a (inr m) = rw m tt
 
 -- no list of types that all labels take is there under an i32
 pub rejects_br_table : (c : Checker) (labels : List ℕ) (default : ℕ) (types : List ValType) (e : BodyFault)
     → slice_get (context_at c).labels default ≡ Some types
     → e ≡ fault.BadType → Lacks (types ++ I32 ∷ []) c.operands → Rejects (op.Plain (instr.BrTable labels default)) c e
 rejects_br_table c labels default types e known b n =
-    subst (λ (x : BodyFault). Rejects (op.Plain (instr.BrTable labels default)) c x) (sym b)
-    (λ from f m.
+    rw b (λ from f m.
     let i = m.1 in
     let same : i.0 ≡ types = same_some i.0 types (slice_get (context_at c).labels default) i.2 known in
-    n i.3 (subst (λ (x : List ValType). Fits c.operands x) (i.4 ∙ ap (λ (ts : List ValType). pushed (ts ++ I32 ∷ []) i.3) same) f))
+    n i.3 (rw (i.4 ∙ ap (λ (ts : List ValType). pushed (ts ++ I32 ∷ []) i.3) same) at f))

@@ -78,7 +78,7 @@ obeyed_first r c o rest Done None os flat k = let e : op.End ≡ o = cc in subst
 obeyed_first r c o rest Done (Some second) os flat k = let e : op.Else ≡ o = cc in subst (λ (x : Token). Obeys r c x) e tt
 obeyed_first r c o rest (Plain i code) other os flat k = let e : op.Plain i ≡ o = cc in subst (λ (x : Token). Obeys r c x) e k.0
 obeyed_first r c o rest (Structured kind type body code) other os flat k =
-    let e : opening_bracket kind type ≡ o = cc in subst (λ (x : Token). Obeys r c x) e (obeys r c kind type k.0)
+    let e : opening_bracket kind type ≡ o = cc in rw e at (obeys r c kind type k.0)
 obeyed_first r c o rest (If type first second code) other os flat k = let e : op.If type ≡ o = cc in subst (λ (x : Token). Obeys r c x) e k.0
 
 pub obeyed : (r : Rule) (scope : Scope) (frames : List ControlFrame) (o : Token) (rest : List Token) (opens : List Open)

@@ -1,5 +1,5 @@
 -- Equal lists of types.
-use Rattle.std.proofs.Common.{◌≡◌, List, [], ◌∷◌, Bool, true, false, ◌&&◌, Some, refl, sym, ap, ◌∙◌, subst, ◌↔◌, IsTrue}
+use Rattle.std.proofs.Common.{◌≡◌, List, [], ◌∷◌, Bool, true, false, ◌&&◌, Some, refl, sym, ap, ◌∙◌, ◌↔◌, IsTrue}
 use Rattle.std.proofs.lemmas.Bool.{and_parts}
 use Rattle.syntax.specs.declared.types.ValType.{ValType}
 use Rattle.syntax.specs.declared.types.ValType.TheVariants.{I32, I64}
@@ -30,10 +30,10 @@ same_itself (I32 ∷ types) = same_itself types
 same_itself (I64 ∷ types) = same_itself types
 
 pub same_valtypes-of : (ts us : List ValType) → ts ≡ us → same_valtypes ts us ≡ true
-same_valtypes-of ts us e = subst (λ (x : List ValType). same_valtypes ts x ≡ true) e (same_itself ts)
+same_valtypes-of ts us e = rw (sym e) (same_itself ts)
 
 pub same_when : (types others : List ValType) (answer : Bool) → IsTrue answer ↔ (types ≡ others) → answer ≡ same_valtypes types others
-same_when types others true k = let e : types ≡ others = k.0 refl in subst (λ (ts : List ValType). true ≡ same_valtypes types ts) e (sym (same_itself types))
+same_when types others true k = let e : types ≡ others = k.0 refl in rw (sym e) (sym (same_itself types))
 same_when types others false k = by_answer (same_valtypes types others) refl where
   by_answer : (b : Bool) → same_valtypes types others ≡ b → false ≡ b
   by_answer false e = refl

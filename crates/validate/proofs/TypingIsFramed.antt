@@ -1,5 +1,5 @@
 -- What typing keeps: types beneath both stacks, and one sequence behind another.
-use Rattle.std.proofs.Common.{◌≡◌, List, [], ◌∷◌, ◌++◌, refl, sym, ap, ◌∙◌, subst}
+use Rattle.std.proofs.Common.{◌≡◌, List, [], ◌∷◌, ◌++◌, refl, sym, ap, ◌∙◌}
 use Rattle.syntax.specs.declared.types.ValType.{ValType}
 use Rattle.syntax.specs.declared.types.ValType.TheVariants.{I32, I64}
 use Rattle.syntax.specs.declared.operator.Conversion.{Conversion}
@@ -60,7 +60,7 @@ instruction c (Convert op) before after more k = conversion op before after more
 -- what follows a block, whose results lie over what was beneath its parameters
 behind : (c : Context) (rest : Code) (results below after more : List ValType) → Typed c rest (pushed results below ++ more) (after ++ more)
     → Typed c rest (pushed results (below ++ more)) (after ++ more)
-behind c rest results below after more k = subst (λ (ts : List ValType). Typed c rest ts (after ++ more)) (sym (pushed-over results below more)) k
+behind c rest results below after more k = rw (pushed-over results below more) k
 
 pub sequence : (c : Context) (code : Code) (before after more : List ValType) → Typed c code before after → Typed c code (before ++ more) (after ++ more)
 sequence c Done before after more e = ap (λ (ts : List ValType). ts ++ more) e
@@ -79,7 +79,7 @@ sequence c (If type first second rest) before after more k = (
 
 pub joins : (c : Context) (first last : Code) (from topmost to beneath : List ValType) → Typed c first from (topmost ++ beneath) → Typed c last topmost to
     → Typed c (joined first last) from (to ++ beneath)
-joins c Done last from topmost to beneath e k = subst (λ (ts : List ValType). Typed c last ts (to ++ beneath)) (sym e) (sequence c last topmost to beneath k)
+joins c Done last from topmost to beneath e k = rw e (sequence c last topmost to beneath k)
 joins c (Plain i rest) last from topmost to beneath h k = (h.0, h.1, joins c rest last h.0 topmost to beneath h.2 k)
 joins c (Structured kind type body rest) last from topmost to beneath h k = (h.0, h.1, h.2, h.3, h.4, joins c rest last (pushed h.0.results h.2) topmost to beneath h.5 k)
 joins c (If type one other rest) last from topmost to beneath h k = (h.0, h.1, h.2, h.3, h.4, h.5, joins c rest last (pushed h.0.results h.2) topmost to beneath h.6 k)

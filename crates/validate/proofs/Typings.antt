@@ -51,7 +51,7 @@ pub record Follows (scope : Scope) (frames : List ControlFrame) (h : Held) (o : 
   pub rule : MayFollow o (record { scope = scope; frames = frames; operands = h }) from
 
 follows_at : (scope : Scope) (frames : List ControlFrame) (h : Held) (o p : Token) → p ≡ o → Follows scope frames h p → Follows scope frames h o
-follows_at scope frames h o p e n = subst (λ (x : Token). Follows scope frames h x) e n
+follows_at scope frames h o p e n = rw e at n
 
 may_follow : (kind : BlockKind) (type : BlockType) (c : Checker) (from : List ValType) → MayBegin type c from → MayFollow (opening_bracket kind type) c from
 may_follow AsBlock type c from m = m
@@ -99,7 +99,7 @@ typed_plain scope f fs h j i code other os k p =
     let t = n.typed in (
       record { from = t.0; fits = k.goes n.from t.0 n.fits t.1; typed = t.2 },
       p.1,
-      subst (λ (b : List Operand). TypedOpens scope fs (returned scope f b) os) (sym k.below) p.2,
+      rw k.below p.2,
     )
 
 -- the second branch of an `if` begins
@@ -112,10 +112,10 @@ typed_other scope f fs type h mid second os shape e p = (
     from = pushed type.params [];
     fits = fits_more false type.params [] [] refl;
     typed =
-        subst (λ (s : FuncType). Typed (context_in scope (f ∷ fs)) second (pushed s.params []) (pushed (shape_in scope f).results [])) shape p.0;
+        rw (sym shape) p.0;
   },
   tt,
-  subst (λ (b : List Operand). TypedOpens scope fs (returned scope f b) os) (sym e) p.1,
+  rw e p.1,
 )
 
 -- the parts of a block that is typed
@@ -141,21 +141,21 @@ typed_begun scope f g fs type taken h mid body code first other os b p l =
     let behind : TypedOpens scope (f ∷ fs) (with_left type.results mid) (open_of code other ∷ os) = (
       record { from = pushed type.results p.below; fits = fits_more mid.unreachable type.results mid.own p.below p.fits; typed = p.rest },
       l.0,
-      subst (λ (bs : List Operand). TypedOpens scope fs (returned scope f bs) os) (sym b.takes.below) l.1,
+      rw b.takes.below l.1,
     ) in (
       record {
         from = pushed type.params [];
         fits = fits_more false type.params [] [] refl;
         typed = subst (λ (s : FuncType). Typed d body (pushed type.params []) (pushed s.results [])) shape p.body;
       },
-      subst (λ (s : FuncType). IfTyped d s first) shape p.first,
+      rw shape at p.first,
       subst (λ (k : Held). TypedOpens scope (f ∷ fs) k (open_of code other ∷ os)) (sym back) behind,
     )
 
 named_type : (scope : Scope) (g : ControlFrame) (named : BlockType) (s type : FuncType) → g.block_type ≡ named
     → type_of_block scope.contents.now named ≡ Some s → type_of_block scope.contents.now g.block_type ≡ Some type → s ≡ type
 named_type scope g named s type e p q =
-    same_some s type (type_of_block scope.contents.now named) p (subst (λ (t : BlockType). type_of_block scope.contents.now t ≡ Some type) e q)
+    same_some s type (type_of_block scope.contents.now named) p (rw e at q)
 
 -- the parts of a block or a loop, by its type and by what it takes and leaves
 typed_inside : (scope : Scope) (f g : ControlFrame) (fs : List ControlFrame) (type named : FuncType) (h mid : Held) (body code : Code) (from below : List ValType)
@@ -166,11 +166,11 @@ typed_inside : (scope : Scope) (f g : ControlFrame) (fs : List ControlFrame) (ty
     → TypedParts scope f g fs type mid body code None
 typed_inside scope f g fs type named h mid body code from below same b fits is inner rest =
     record {
-      body = subst (λ (s : FuncType). Typed (context_in scope (g ∷ f ∷ fs)) body (pushed s.params []) (pushed s.results [])) same inner;
+      body = rw same at inner;
       first = tt;
       below = below;
-      fits = (b.takes.fits below).0 (subst (λ (x : List ValType). Fits h x) (is ∙ ap (λ (s : FuncType). pushed s.params below) same) fits);
-      rest = subst (λ (s : FuncType). Typed (context_in scope (f ∷ fs)) code (pushed s.results below) (pushed (shape_in scope f).results [])) same rest;
+      fits = (b.takes.fits below).0 (rw (is ∙ ap (λ (s : FuncType). pushed s.params below) same) at fits);
+      rest = rw same at rest;
     }
 
 pub typed_structured : (kind : BlockKind) (scope : Scope) (f g : ControlFrame) (fs : List ControlFrame) (type : FuncType) (named : BlockType) (h mid : Held) (body code : Code)
@@ -182,7 +182,7 @@ typed_structured kind scope f g fs type named h mid body code is e b p =
     let label : label_types kind t.0 ≡ label_of scope.contents.now g =
     ap (label_types kind) (sym (ap type_or_none t.1)) ∙ sym (label_is scope g kind named is e) in
     typed_inside scope f g fs type t.0 h mid body code p.from t.2 (named_type scope g named t.0 type e t.1 b.known) b p.fits t.3
-    (subst (λ (l : List ValType). Typed (inside l (context_in scope (f ∷ fs))) body (pushed t.0.params []) (pushed t.0.results [])) label t.4) t.5
+    (rw label at t.4) t.5
 
 pub typed_if : (scope : Scope) (f g : ControlFrame) (fs : List ControlFrame) (type : FuncType) (named : BlockType) (h mid : Held) (first second code : Code)
     → g.is_loop ≡ false → g.block_type ≡ named → Begun scope f g fs type (type.params ++ I32 ∷ []) h mid
@@ -198,12 +198,10 @@ typed_if scope f g fs type named h mid first second code plain e b p =
     t.3 ∙ ap (λ (s : FuncType). I32 ∷ pushed s.params t.2) same ∙ sym (pushed-push type.params I32 t.2) in
     record {
       body =
-          subst (λ (s : FuncType). Typed (inside (label_of scope.contents.now g) c) first (pushed s.params []) (pushed s.results [])) same
-          (subst (λ (l : List ValType). Typed (inside l c) first (pushed t.0.params []) (pushed t.0.results [])) label t.4);
+          rw (sym same, sym label) t.4;
       first =
-          subst (λ (s : FuncType). Typed (inside (label_of scope.contents.now g) c) second (pushed s.params []) (pushed s.results [])) same
-          (subst (λ (l : List ValType). Typed (inside l c) second (pushed t.0.params []) (pushed t.0.results [])) label t.5);
+          rw (sym same, sym label) t.5;
       below = t.2;
-      fits = (b.takes.fits t.2).0 (subst (λ (x : List ValType). Fits h x) over p.fits);
-      rest = subst (λ (s : FuncType). Typed c code (pushed s.results t.2) (pushed (shape_in scope f).results [])) same t.6;
+      fits = (b.takes.fits t.2).0 (rw over at p.fits);
+      rest = rw same at t.6;
     }

@@ -76,7 +76,7 @@ module _ (j r : ℕ) where
 
   after_step : (w w' : World) (s : Step) (entry : LogEntry) → WorldStep w s entry w' → is_after j r entry ≡ true → StepsLoop w j entry w'
   after_step w w' (step.Loop n) entry h is =
-      subst (λ k. StepsLoop w k entry w') (after_told n h.did h.new.state.emits (ap (is_after j r) (sym h.told) ∙ is)) h
+      rw (after_told n h.did h.new.state.emits (ap (is_after j r) (sym h.told) ∙ is)) at h
   after_step w w' (step.Post n) entry h is =
       absurd (let none =
       unless_silent w w' n h.1 entry _ (λ k. either (length w.jobs == MAX_JOBS) _ _ (Silent entry) (λ m. ap (is_after j r) m.0)
@@ -95,7 +95,7 @@ module _ (settings : List Setting) (j : ℕ) where
   Opens g l = (slice_get settings j ≡ Some g) × (l ≡ (opening_loop g).loop)
 
   opens : (p : Core Desk) → slice_get (map opening_loop settings) j ≡ Some p → Opens p.setting p.loop
-  opens p at = let it = made_of opening_loop settings j p at in subst (λ (x : Core Desk). Opens x.setting x.loop) it.2 (it.1, refl)
+  opens p at = let it = made_of opening_loop settings j p at in rw (sym it.2) (it.1, refl)
 
   none_in : {X : Type 0} (x : X) → Contains [] x → ⊥
   none_in x h = omega (arith, h.1)
@@ -132,7 +132,7 @@ module _ (settings : List Setting) (j : ℕ) where
     pub history_after : (g : Setting) (now : Loop Desk) → HasLoop w j g now → (slice_get settings j ≡ Some g) × HasHistory j g (opening_loop g).loop log Made now
     history_after g now at =
         let it = keeps_after.loops (core g now) at in
-        (it.begins.0, record { events = it.events; history = subst (λ l. History desk_calls g l it.events now) it.begins.1 it.history; told = it.told; calls = it.calls })
+        (it.begins.0, record { events = it.events; history = rw it.begins.1 at it.history; told = it.told; calls = it.calls })
 
     -- what was cancelled, in the log and in the history
     cancelled_same : (Begins : Setting → Loop Desk → Type 0) (there : Bool) (r : ℕ) (lines : List LogEntry) (made : List GuestCall) (g : Setting)
@@ -141,11 +141,11 @@ module _ (settings : List Setting) (j : ℕ) where
     cancelled_same Begins there r lines made g l it = (to, back) where
       to : LoopCancelled r it.events → IsCancelledInLog j r lines made
       to (inl h) = inl ((it.cancels r).1 h)
-      to (inr a) = inr (a.0, subst (λ cs. Contains cs a.0) it.calls a.1, a.2)
+      to (inr a) = inr (a.0, rw it.calls at a.1, a.2)
 
       back : IsCancelledInLog j r lines made → LoopCancelled r it.events
       back (inl h) = inl ((it.cancels r).0 h)
-      back (inr a) = inr (a.0, subst (λ cs. Contains cs a.0) (sym it.calls) a.1, a.2)
+      back (inr a) = inr (a.0, rw it.calls a.1, a.2)
 
     due_same : (o : WorkOrder) (t : Completion) (P Q : Type 0) → (P ↔ Q) → AreDue o t P → AreDue o t Q
     due_same o t P Q same (inl h) = inl (same.0 h.0, h.1)
@@ -174,7 +174,7 @@ module _ (settings : List Setting) (j : ℕ) where
             completion = it.completion;
             of_loop = before.begins.0;
             numbered = it.numbered;
-            asked = subst (λ cs. WasAsked here.setting cs it.request.order) before.calls it.asked;
+            asked = rw before.calls at it.asked;
             runs = record { old = here.old; new = here.new; did = here.did; made = here.made; at = here.at; runs = it.runs; told = here.told; after = here.after };
             due = due;
             finished = given_end log j r here.old.state.requests it.request it.completion (IsCancelledInLog j r log Made) answered it.runs.stood it.numbered it.runs.given due;
@@ -222,8 +222,7 @@ module _ (settings : List Setting) (j : ℕ) where
           let now : slice_get w'.loops j ≡ Some (core here.setting here.new) =
           ap (λ x. slice_get x.loops j) here.after ∙ set_here w.loops j (core here.setting here.new) (core here.setting here.old) here.at in
           let it = (step_next Opens there j w log made keeps s entry w' h).loops (core here.setting here.new) now in
-          subst (λ n. n ≤ 1) (sym (it.callbacks r))
-          (law here.setting it.start here.new it.events (subst (IsOpening desk_calls here.setting) (sym it.begins.1) (opening_is here.setting)) it.history r)
+          rw (it.callbacks r) (law here.setting it.start here.new it.events (subst (IsOpening desk_calls here.setting) (sym it.begins.1) (opening_is here.setting)) it.history r)
       by false none = subst (λ n. n ≤ 1) (sym (sum_by_push (λ x. cond (is_after j r x) 1 0) log entry ∙ rw none (omega arith))) few
 
     pub once_after : (workers : ℕ) (steps : List Step) (log : List LogEntry) (w : World) → WorldRun (opening_world settings workers) steps log w → count_by (is_after j r) log ≤ 1

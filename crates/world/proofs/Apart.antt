@@ -107,17 +107,14 @@ module _ (l r : ℕ) where
 
     call_keeps : (made : List GuestCall) (c : GuestCall) (old new : Requests × Desk) → CallMoves desk_calls g old c new → Kept made old.0 old.1 → Kept (made ++ c ∷ []) new.0 new.1
     call_keeps made c old new (leaves_all asks never e beside) h =
-        subst (λ rs. Kept (made ++ c ∷ []) rs new.1) (sym e)
-        (apart_still r out (Won log (made ++ c ∷ [])) (Begun log) old.0 old.1 new.1 (beside_still old.1 new.1 beside)
+        rw e (apart_still r out (Won log (made ++ c ∷ [])) (Begun log) old.0 old.1 new.1 (beside_still old.1 new.1 beside)
         (apart_less r out (Won log made) (Won log (made ++ c ∷ [])) (Begun log) (Begun log) old.0 old.1 (won_call log made c (never r)) (λ b. b) h))
     call_keeps made c old new (opens op place count slot may is args told e at) h =
-        subst (λ rs. Kept (made ++ c ∷ []) rs new.1) (sym e)
-        (apart_opened r out (Won log (made ++ c ∷ [])) (Begun log) old.0 new.1 (next_work g old.0 slot op (taken_out place count c.call.before)) refl
+        rw e (apart_opened r out (Won log (made ++ c ∷ [])) (Begun log) old.0 new.1 (next_work g old.0 slot op (taken_out place count c.call.before)) refl
         (apart_still r out (Won log (made ++ c ∷ [])) (Begun log) old.0 old.1 new.1 (record { cancelled = ap (λ x. x.view.cancelled) at; started = ap (λ x. x.started) at })
         (apart_less r out (Won log made) (Won log (made ++ c ∷ [])) (Begun log) (Begun log) old.0 old.1 (won_call log made c (λ k. (let it = sym is ∙ k.function in cc))) (λ b. b) h)))
     call_keeps made c old new (cancels_won n q is args told found e at) h =
-        subst (λ rs. Kept (made ++ c ∷ []) rs new.1) (sym e)
-        (apart_cancelled r out (Won log made) (Begun log) (Won log (made ++ c ∷ [])) old.0 old.1 new.1 n q found at why h) where
+        rw e (apart_cancelled r out (Won log made) (Begun log) (Won log (made ++ c ∷ [])) old.0 old.1 new.1 n q found at why h) where
           why : Won log (made ++ c ∷ []) → (n ≡ r) ⊎ Won log made
           why (inl x) = inr (inl x)
           why (inr a) = elim (Contains-push_cases made c a.0 a.1) [
@@ -184,7 +181,7 @@ module _ (l r : ℕ) where
           let now : slice_get w'.loops l ≡ Some (core g m) =
           ap (λ ls. slice_get ls l) e ∙ (ap (λ i. slice_get (slice_set w.loops i (core g m)) l) same ∙ set_here w.loops l (core g m) (core g x) at_l) in
           let is : core g m ≡ p = (let it = sym now ∙ h in cc) in
-          subst (λ (y : Core Desk). Here out more y.loop) is (here same (s.loops (core g x) at_l))
+          rw (sym is) (here same (s.loops (core g x) at_l))
       | inr other ↦ apart other p (s.loops p (sym (ap (λ ls. slice_get ls l) e ∙ set_apart w.loops k l (core g m) other) ∙ h))
     ]
 
@@ -239,14 +236,13 @@ module _ (l r : ℕ) where
       here : n ≡ l → IsApart r s.out (Won log made) (Begun log) h.old.state.requests h.old.shared → Here s.out (cond (n == l) h.made []) h.new
       here same was =
           let calls : cond (n == l) h.made [] ≡ more = rw (eq-eqb n l same) refl in
-          subst (λ cs. Here s.out cs h.new) (sym calls)
-          (apart_less r s.out (Won log (made ++ more)) (Won Log (made ++ more)) (Begun log) (Begun Log) h.new.state.requests h.new.shared (won_back (made ++ more) q.1) (begun_back q.0)
+          rw (sym calls) at (apart_less r s.out (Won log (made ++ more)) (Won Log (made ++ more)) (Begun log) (Begun Log) h.new.state.requests h.new.shared (won_back (made ++ more) q.1) (begun_back q.0)
           (step_keeps desk_calls h.setting (Kept log s.out h.setting) (keeps log s.out h.setting) made h.made h.old h.did h.new h.steps was))
 
       apart : n ≢ l → (p : Core Desk) → IsApart r s.out (Won log made) (Begun log) p.loop.state.requests p.loop.shared → Here s.out (cond (n == l) h.made []) p.loop
       apart other p was =
           let calls : cond (n == l) h.made [] ≡ [] = rw (ne_eqb n l other) refl in
-          subst (λ cs. Here s.out cs p.loop) (sym calls) (less s.out p.loop.state.requests p.loop.shared q was)
+          rw calls (less s.out p.loop.state.requests p.loop.shared q was)
 
     -- an order is handed out
     module _ (n : ℕ) (g : Setting) (x : Loop Desk) (o : WorkOrder) (st : State) (at : slice_get w.loops n ≡ Some (core g x)) (is : next_order_of x.state ≡ (Some o, st)) (own : o.loop_no ≡ n)
@@ -275,8 +271,7 @@ module _ (l r : ℕ) where
         jobs = subst (AreOut s.out) (sym jobs_are) (out_push s.out w.jobs o (λ it. absurd (cc)) s.jobs);
         workers = same_workers (ap (λ (y : World). y.workers) h.1);
         loops = set_loops n g x (in_state x st) s.out [] at loops_are
-            (λ same was. less s.out st.requests x.shared q (subst (λ rs. IsApart r s.out (Won log made) (Begun log) rs x.shared) (sym requests_are)
-            (apart_staged r s.out (Won log made) (Begun log) x.state.requests x.shared o.request HandedOut refl was)))
+            (λ same was. less s.out st.requests x.shared q (rw requests_are (apart_staged r s.out (Won log made) (Begun log) x.state.requests x.shared o.request HandedOut refl was)))
             (λ other p was. less s.out p.loop.state.requests p.loop.shared q was);
         there = there_is;
       }
@@ -300,9 +295,7 @@ module _ (l r : ℕ) where
 
         handed : IsApart r s.out (Won log made) (Begun log) x.state.requests x.shared → IsApart r (Some o.slot) (Won log made) (Begun log) st.requests x.shared
         handed was =
-            subst (λ rs. IsApart r (Some o.slot) (Won log made) (Begun log) rs x.shared) (sym requests_are)
-            (subst (λ (y : WorkOrder). IsApart r (Some y.slot) (Won log made) (Begun log) (with_stage x.state.requests y.request HandedOut) x.shared) lowest.order
-            (apart_handed r s.out (Won log made) (Begun log) x.state.requests x.shared lowest.request lowest.lowest number was))
+            rw (requests_are, sym lowest.order) (apart_handed r s.out (Won log made) (Begun log) x.state.requests x.shared lowest.request lowest.lowest number was)
 
         same_out : (k : ℕ) → s.out ≡ Some k → Some o.slot ≡ Some k
         same_out k e =
@@ -356,8 +349,7 @@ module _ (l r : ℕ) where
 
       begun_here : o.loop_no ≡ l → IsApart r s.out (Won log made) (Begun log) x.state.requests x.shared → Here s.out [] m
       begun_here here was =
-          subst (λ (y : State). IsApart r s.out (Won Log (made ++ [])) (Begun Log) y.requests m.shared) (sym same)
-          (apart_less r s.out (Won log made) (Won Log (made ++ [])) (Begun Log) (Begun Log) x.state.requests m.shared (λ k. won_nil (won_back (made ++ []) not_won k)) (λ b. b)
+          rw (sym same) at (apart_less r s.out (Won log made) (Won Log (made ++ [])) (Begun Log) (Begun Log) x.state.requests m.shared (λ k. won_nil (won_back (made ++ []) not_won k)) (λ b. b)
           (apart_started r s.out (Won log made) (Begun log) (Begun Log) x.state.requests x.shared m.shared o.slot o.request moves (why here) was))
 
       elsewhere : o.loop_no ≢ l → IsQuiet entry
@@ -416,15 +408,13 @@ module _ (l r : ℕ) where
 
       here : CancelMoves desk_calls (x.state.requests, x.shared) request answer (m.state.requests, m.shared) → IsApart r s.out (Won log made) (Begun log) x.state.requests x.shared → Here s.out [] m
       here (wins q found zeroed is moves) was =
-          subst (λ rs. IsApart r s.out (Won Log (made ++ [])) (Begun Log) rs m.shared) (sym is)
-          (apart_cancelled r s.out (Won log made) (Begun Log) (Won Log (made ++ [])) x.state.requests x.shared m.shared request q found moves why
+          rw (sym is) at (apart_cancelled r s.out (Won log made) (Begun Log) (Won Log (made ++ [])) x.state.requests x.shared m.shared request q found moves why
           (apart_less r s.out (Won log made) (Won log made) (Begun log) (Begun Log) x.state.requests x.shared (λ k. k) (begun_back none_begun) was)) where
             why : Won Log (made ++ []) → (request ≡ r) ⊎ Won log made
             why k = elim (cases_eq request r) [ inl same ↦ inl same | inr other ↦ inr (won_nil (won_back (made ++ []) (λ e. other (numbers e).1) k)) ]
       here (leaves refused is beside) was =
           less s.out m.state.requests m.shared (none_begun, λ e. refused.signed (numbers e).2)
-          (subst (λ rs. IsApart r s.out (Won log made) (Begun log) rs m.shared) (sym is)
-          (apart_still r s.out (Won log made) (Begun log) x.state.requests x.shared m.shared (beside_still x.shared m.shared beside) was))
+          (rw is (apart_still r s.out (Won log made) (Begun log) x.state.requests x.shared m.shared (beside_still x.shared m.shared beside) was))
 
       cancel_next : CancelMoves desk_calls (x.state.requests, x.shared) request answer (m.state.requests, m.shared) → w'.jobs ≡ w.jobs → w'.workers ≡ w.workers → Next []
       cancel_next moves jobs states = record {
@@ -447,8 +437,7 @@ module _ (l r : ℕ) where
     step_stands (step.Collect n) own h = unless_next n h.1 _ (collect_next n h.0 h.1 h.2 h.3) h.5
     step_stands (step.Send n a) own h =
         moved n h.0 h.1 h.2 h.5 (quiet _ h.7 refl refl) (ap (λ (x : World). x.loops) h.8) (ap (λ (x : World). x.jobs) h.8) (ap (λ (x : World). x.workers) h.8)
-        (λ was. subst (λ (y : State). IsApart r s.out (Won log made) (Begun log) y.requests h.2.shared) (sym h.6.1)
-        (apart_still r s.out (Won log made) (Begun log) h.1.state.requests h.1.shared h.2.shared (got_still h.1.shared h.2.shared a h.3 h.6.0) was))
+        (λ was. rw h.6.1 (apart_still r s.out (Won log made) (Begun log) h.1.state.requests h.1.shared h.2.shared (got_still h.1.shared h.2.shared a h.3 h.6.0) was))
     step_stands (step.Cancel n request) own h =
         unless_next n h.1 _
         (λ k. cancel_next n request h.3 h.0 h.1 h.2 h.4 k.2 (ap (λ (x : World). x.loops) k.3)
@@ -490,7 +479,7 @@ module _ (l r : ℕ) where
     workers = opening_workers workers;
     loops = λ p at.
         let it = made_of opening_loop settings l p at in
-        subst (λ (x : Core Desk). IsApart r None (Won [] []) (Begun []) x.loop.state.requests x.loop.shared) it.2 (opening_apart it.0);
+        rw (sym it.2) (opening_apart it.0);
     there = λ b. absurd (no_begun b);
   }
 

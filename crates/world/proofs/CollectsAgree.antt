@@ -1,5 +1,5 @@
 -- How the code's collecting of replies reads as a world's.
-use Rattle.std.proofs.Common.{◌≡◌, ℕ, ◌<◌, true, false, List, [], ◌∷◌, length, map, get_or, Some, refl, sym, ap, ◌∙◌, subst, arith}
+use Rattle.std.proofs.Common.{◌≡◌, ℕ, ◌<◌, true, false, List, [], ◌∷◌, length, map, get_or, Some, refl, sym, ap, ◌∙◌, arith}
 use Rattle.std.specs.Prelude.{slice_get, slice_set}
 use Rattle.std.proofs.lemmas.Option.{slice_get-get_or}
 use Rattle.order.specs.Work.{WorkOrder}
@@ -54,7 +54,7 @@ module _ (w : World) (ls : List (Core Desk)) (js : List WorkOrder) (hs : List Wo
     pub collect_taken : (fate : Accepted) (outcome : CollectOutcome) → Accepts reply p.loop fate q.loop → fate ≡ accept.Accepted → outcome ≡ collect.Request reply.order.request
         → CollectsReplies w n (line.Collect n outcome) (world_of (slice_set ls n q) js hs rs')
     collect_taken fate outcome h is_taken told =
-        let taken : Accepts reply p.loop accept.Accepted q.loop = subst (λ a. Accepts reply p.loop a q.loop) is_taken h in (
+        let taken : Accepts reply p.loop accept.Accepted q.loop = rw is_taken at h in (
           p.setting,
           p.loop,
           answer_of reply ∷ rest,
@@ -66,7 +66,7 @@ module _ (w : World) (ls : List (Core Desk)) (js : List WorkOrder) (hs : List Wo
     pub collect_stranger : (fate : Accepted) (other : Reply) (outcome : CollectOutcome) → Accepts reply p.loop fate q.loop → fate ≡ accept.Stranger other → outcome ≡ collect.Stranger
         → CollectsReplies w n (line.Collect n outcome) (world_of (slice_set ls n q) js hs rs')
     collect_stranger fate other outcome h is_strange told =
-        let strange : Accepts reply p.loop (accept.Stranger other) q.loop = subst (λ a. Accepts reply p.loop a q.loop) is_strange h in (
+        let strange : Accepts reply p.loop (accept.Stranger other) q.loop = rw is_strange at h in (
           p.setting,
           p.loop,
           answer_of reply ∷ rest,

@@ -55,7 +55,7 @@ module _ (log : List LogEntry) (l : ℕ) where
   staged n s [] told h = tt
   staged n s (q ∷ qs) told h = (by (has_number n q) refl, staged n s qs told h.1) where
     by : (b : Bool) → has_number n q ≡ b → (end : WorkEnd) → (cond b (record q { stage = s }) q).stage ≡ Answered end → WasFinished l (cond b (record q { stage = s }) q).order.request end log
-    by true is end e = subst (λ k. WasFinished l k end log) (sym (eqb-true q.order.request n is)) (told end e)
+    by true is end e = rw (eqb-true q.order.request n is) (told end e)
     by false is end e = h.0 end e
 
   opened : (qs : List Request) (o : WorkOrder) → AreAnswered qs → AreAnswered (qs ++ record { order = o; stage = Open } ∷ [])
@@ -73,7 +73,7 @@ module _ (log : List LogEntry) (l : ℕ) where
   found p [] q is h end e = absurd (cc)
   found p (x ∷ qs) q is h end e = by (p x) (λ at. found p qs q at h.1 end e) is where
     by : (b : Bool) → (find p qs ≡ Some q → WasFinished l q.order.request end log) → cond b (Some x) (find p qs) ≡ Some q → WasFinished l q.order.request end log
-    by true rest at = (let same : x ≡ q = cc in subst (λ (y : Request). WasFinished l y.order.request end log) same (h.0 end (ap (λ (y : Request). y.stage) same ∙ e)))
+    by true rest at = (let same : x ≡ q = cc in rw same at (h.0 end (ap (λ (y : Request). y.stage) same ∙ e)))
     by false rest at = rest at
 
   -- the steps of a loop answer nothing
@@ -81,10 +81,10 @@ module _ (log : List LogEntry) (l : ℕ) where
   Kept made rs d = AreAnswered rs.outstanding
 
   call_keeps : (g : Setting) (c : GuestCall) (rs rs' : Requests) → CallFate g rs c rs' → AreAnswered rs.outstanding → AreAnswered rs'.outstanding
-  call_keeps g c rs rs' (changes_nothing asks never e) h = subst (λ (x : Requests). AreAnswered x.outstanding) (sym e) h
-  call_keeps g c rs rs' (opens_one op place count slot is args told e) h = subst (λ (x : Requests). AreAnswered x.outstanding) (sym e) (opened rs.outstanding _ h)
+  call_keeps g c rs rs' (changes_nothing asks never e) h = rw e h
+  call_keeps g c rs rs' (opens_one op place count slot is args told e) h = rw e (opened rs.outstanding _ h)
   call_keeps g c rs rs' (cancels_one n q is args told at e) h =
-      subst (λ (x : Requests). AreAnswered x.outstanding) (sym e) (staged n Cancelled rs.outstanding (λ end k. absurd (cc)) h)
+      rw e (staged n Cancelled rs.outstanding (λ end k. absurd (cc)) h)
 
   keeps : (g : Setting) → IsKeptInSteps desk_calls g Kept
   keeps g = record {
@@ -104,9 +104,9 @@ module _ (log : List LogEntry) (l : ℕ) where
   next_keeps Over s h = handing_keeps s.requests (lowest_open s.requests) h
 
   cancel_keeps : (rs rs' : Requests) (n answer : ℕ) → CancelFate rs n answer rs' → AreAnswered rs.outstanding → AreAnswered rs'.outstanding
-  cancel_keeps rs rs' n answer (stayed refused e) h = subst (λ (x : Requests). AreAnswered x.outstanding) (sym e) h
+  cancel_keeps rs rs' n answer (stayed refused e) h = rw e h
   cancel_keeps rs rs' n answer (cancelled q at won e) h =
-      subst (λ (x : Requests). AreAnswered x.outstanding) (sym e) (staged n Cancelled rs.outstanding (λ end k. absurd (cc)) h)
+      rw e (staged n Cancelled rs.outstanding (λ end k. absurd (cc)) h)
 
 answered_later : (log : List LogEntry) (entry : LogEntry) (l : ℕ) (qs : List Request) → AreAnswered log l qs → AreAnswered (log ++ entry ∷ []) l qs
 answered_later log entry l [] h = tt
@@ -177,7 +177,7 @@ module _ (w w' : World) (log : List LogEntry) (entry : LogEntry) (all : AreFinis
   order_next n g l (None, s) at is h = only (line.Post n post.Nothing) h
   order_next n g l (Some o, s) at is h = record {
     loops = set_loops n g (in_state l s) (ap (λ (x : World). x.loops) h.1)
-        (subst (λ (x : Option WorkOrder × State). AreAnswered Log n x.1.requests.outstanding) is (next_keeps Log n l.state.status l.state (old_requests n g l at)));
+        (rw is at (next_keeps Log n l.state.status l.state (old_requests n g l at)));
     replies = same_replies (ap (λ (x : World). x.replies) h.1);
   }
 
@@ -188,7 +188,7 @@ module _ (w w' : World) (log : List LogEntry) (entry : LogEntry) (all : AreFinis
   -- another thread moves what a loop shares
   beside_next : (n : ℕ) (g : Setting) (l m : Loop Desk) → slice_get w.loops n ≡ Some (core g l) → m.state ≡ l.state → w'.loops ≡ slice_set w.loops n (core g m) → w'.replies ≡ w.replies → Next
   beside_next n g l m at same loops replies = record {
-    loops = set_loops n g m loops (subst (λ (s : State). AreAnswered Log n s.requests.outstanding) (sym same) (old_requests n g l at));
+    loops = set_loops n g m loops (rw same (old_requests n g l at));
     replies = same_replies replies;
   }
 
@@ -215,7 +215,7 @@ module _ (w w' : World) (log : List LogEntry) (entry : LogEntry) (all : AreFinis
       (λ k. record {
         loops = set_loops n g _ (ap (λ (x : World). x.loops) k.2)
             (staged Log n a.order.request (Answered a.end) l.state.requests.outstanding
-            (λ end e. let same : a.end ≡ end = cc in subst (λ x. WasFinished n a.order.request x Log) same told.0) (old_requests n g l at));
+            (λ end e. let same : a.end ≡ end = cc in rw same at told.0) (old_requests n g l at));
         replies = set_replies n replies (ap (λ (x : World). x.replies) k.2) told.1;
       })
       (λ k. record {
@@ -252,7 +252,7 @@ pub finished_after : (settings : List Setting) (workers : ℕ) (steps : List Ste
 finished_after settings workers steps log w run =
     kept_in_run 0 (λ w log made. AreFinished w log) (λ w log made s entry w' h was. step_next w w' log entry was s h) (opening_world settings workers) [] [] steps log w run
     (record {
-      loops = λ n p at. subst (λ (x : Core Desk). AreAnswered [] n x.loop.state.requests.outstanding) (made_of opening_loop settings n p at).2 tt;
+      loops = λ n p at. rw (sym (made_of opening_loop settings n p at).2) tt;
       replies = λ n xs at. subst (AreReplies [] n) (made_of (λ _. []) settings n xs at).2 tt;
     })
 
@@ -271,7 +271,7 @@ given_end log l n rs q t won all at numbered given due never = by q.stage refl g
   by HandedOut is e = absurd (cc)
   by (Answered end) is e = (
     end,
-    subst (λ k. WasFinished l k end log) numbered (found log l (has_number q.order.request) rs.outstanding q at all end is),
+    rw numbered at (found log l (has_number q.order.request) rs.outstanding q at all end is),
     (let it : end_completion end ≡ t = cc in sym it),
   )
   by Cancelled is e = elim due [

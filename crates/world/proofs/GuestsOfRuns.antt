@@ -1,5 +1,5 @@
 -- The calls of a loop's guest, read off a run.
-use Rattle.std.proofs.Common.{◌≡◌, ℕ, ◌==◌, refl, sym, ap, ◌∙◌, subst, List, [], ◌∷◌, ◌++◌, append_assoc, append-nil, if◌then◌else◌}
+use Rattle.std.proofs.Common.{◌≡◌, ℕ, ◌==◌, refl, ap, ◌∙◌, subst, List, [], ◌∷◌, ◌++◌, append_assoc, append-nil, if◌then◌else◌}
 use Rattle.phases.specs.Guests.{GuestCall}
 use Rattle.world_log.specs.declared.step.Step.{Step}
 use Rattle.world_log.specs.declared.step.Step.TheVariants as step
@@ -53,12 +53,11 @@ module _ (l : ℕ) (Holds : World → List LogEntry → List GuestCall → Type 
     → Holds w log made → Holds w' (log ++ entry ∷ []) (made ++ step_calls l w s entry w' h)) where
   pub kept_in_run : (w : World) (log : List LogEntry) (made : List GuestCall) (steps : List Step) (told : List LogEntry) (w' : World) (run : WorldRun w steps told w')
       → Holds w log made → Holds w' (log ++ told) (made ++ guest_calls l w steps told w' run)
-  kept_in_run w log made [] [] w' run was = subst (λ x. Holds x (log ++ []) (made ++ [])) (sym run) (rw (append-nil log, append-nil made) was)
+  kept_in_run w log made [] [] w' run was = rw run (rw (append-nil log, append-nil made) was)
   kept_in_run w log made [] (entry ∷ told) w' run was = absurd run
   kept_in_run w log made (s ∷ steps) [] w' run was = absurd run
   kept_in_run w log made (s ∷ steps) (entry ∷ told) w' run was =
       let more = step_calls l w s entry run.0 run.1 in
       let rest = guest_calls l run.0 steps told w' run.2 in
-      subst (λ xs. Holds w' xs (made ++ (more ++ rest))) (append_assoc log (entry ∷ []) told)
-      (subst (Holds w' (log ++ entry ∷ [] ++ told)) (append_assoc made more rest)
+      rw (append_assoc log (entry ∷ []) told) at (subst (Holds w' (log ++ entry ∷ [] ++ told)) (append_assoc made more rest)
       (kept_in_run run.0 (log ++ entry ∷ []) (made ++ more) steps told w' run.2 (keeps w log made s entry run.0 run.1 was)))

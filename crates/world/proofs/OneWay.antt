@@ -402,8 +402,7 @@ module _ (settings : List Setting) (placed : AreInPlace settings) (workers : ℕ
     by (inr there) =
         let at = some_of (slice_get w'.loops l) ((next l).1.stays ∙ sym (kept.told l).1.stays ∙ there) in
         let it = (next l).1.loops at.0 at.1 in
-        subst (λ n. n ≤ 1) (sym (told_posted l r (log ++ entry ∷ []) it.events it.told))
-        (once at.0.setting it.start at.0.loop it.events (opens_so l at.0.setting it.start it.begins) it.history r)
+        rw (told_posted l r (log ++ entry ∷ []) it.events it.told) (once at.0.setting it.start at.0.loop it.events (opens_so l at.0.setting it.start it.begins) it.history r)
 
   no_workers : (p : Worker → Bool) (k : ℕ) → p Idle ≡ false → count_by p (replicate k Idle) ≡ 0
   no_workers p zero e = refl

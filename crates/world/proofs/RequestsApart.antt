@@ -90,7 +90,7 @@ module _ (r : ℕ) where
   in_found s p [] q found h same = absurd (cc)
   in_found s p (x ∷ qs) q found h same = by (p x) (λ is. in_found s p qs q is h.1 same) found where
     by : (b : Bool) → (find p qs ≡ Some q → q.order.slot ≡ s) → cond b (Some x) (find p qs) ≡ Some q → q.order.slot ≡ s
-    by true rest is = (let here : x ≡ q = cc in subst (λ y. y.order.slot ≡ s) here (h.0 (ap (λ y. y.order.request) here ∙ same)))
+    by true rest is = (let here : x ≡ q = cc in rw here at (h.0 (ap (λ y. y.order.request) here ∙ same)))
     by false rest is = rest is
 
   -- where none has the number
@@ -132,13 +132,13 @@ module _ (r : ℕ) where
     pub apart_still : (rs : Requests) (d e : Desk) → IsStill d e → IsApart out won begun rs d → IsApart out won begun rs e
     apart_still rs d e still h = record {
       up_to = h.up_to;
-      either_one = λ c some. ap (times c) still.started ∙ h.either_one c (subst (λ xs. 0 < times c xs) still.cancelled some);
+      either_one = λ c some. ap (times c) still.started ∙ h.either_one c (rw still.cancelled at some);
       slot = h.slot;
       in_slot = h.in_slot;
       handed = h.handed;
       shut = h.shut;
-      at_desk = λ w s is. subst (λ xs. 0 < times (s, r) xs) (sym still.cancelled) (h.at_desk w s is);
-      was_begun = λ b. let it = h.was_begun b in (it.0, it.1, subst (λ xs. 0 < times (it.0, r) xs) (sym still.started) it.2);
+      at_desk = λ w s is. rw still.cancelled (h.at_desk w s is);
+      was_begun = λ b. let it = h.was_begun b in (it.0, it.1, rw still.started it.2);
     }
 
     pub apart_staged : (rs : Requests) (d : Desk) (n : ℕ) (st : Stage) → is_open_stage st ≡ false → IsApart out won begun rs d → IsApart out won begun (with_stage rs n st) d
@@ -194,13 +194,13 @@ module _ (r : ℕ) where
         → IsApart out won begun rs d → IsApart out won' begun (with_stage rs n Cancelled) e
     apart_cancelled won' rs d e n q found moves why h = record {
       up_to = up_to_staged rs.last n Cancelled rs.outstanding h.up_to;
-      either_one = λ c some. ap (times c) is_started ∙ one c (is_request c x) refl (subst (λ xs. 0 < times c xs) is_cancelled some);
+      either_one = λ c some. ap (times c) is_started ∙ one c (is_request c x) refl (rw is_cancelled at some);
       slot = h.slot;
       in_slot = in_staged h.slot n Cancelled rs.outstanding h.in_slot;
       handed = h.handed;
       shut = λ w. closed (why w);
-      at_desk = λ w s is. subst (λ xs. 0 < times (s, r) xs) (sym is_cancelled) (known (why w) s is);
-      was_begun = λ b. let it = h.was_begun b in (it.0, it.1, subst (λ xs. 0 < times (it.0, r) xs) (sym is_started) it.2);
+      at_desk = λ w s is. rw is_cancelled (known (why w) s is);
+      was_begun = λ b. let it = h.was_begun b in (it.0, it.1, rw is_started it.2);
     } where
       x : ℕ × ℕ
       x = (q.order.slot, n)
@@ -215,21 +215,20 @@ module _ (r : ℕ) where
       numbered same = eqb-true q.order.request n (first_passes (has_number n) rs.outstanding q (sym (find_first (has_number n) rs.outstanding) ∙ found)) ∙ same
 
       one : (c : ℕ × ℕ) (b : Bool) → is_request c x ≡ b → 0 < times c (d.view.cancelled ++ x ∷ []) → times c d.started ≡ 0
-      one c true is some = subst (λ y. times y d.started ≡ 0) (sym (same_request c x is)) (not_started d x moves.0)
-      one c false is some = h.either_one c (subst (λ k. 0 < k) (times_miss c x d.view.cancelled is) some)
+      one c true is some = rw (same_request c x is) (not_started d x moves.0)
+      one c false is some = h.either_one c (rw (times_miss c x d.view.cancelled is) at some)
 
       closed : (n ≡ r) ⊎ won → (r ≤ rs.last) × NoneOpen r (map (in_stage n Cancelled) rs.outstanding)
       closed (inl same) = (
-        subst (λ k. k ≤ rs.last) (numbered same) (found_up_to rs.last (has_number n) rs.outstanding q found h.up_to),
-        subst (λ k. NoneOpen r (map (in_stage k Cancelled) rs.outstanding)) (sym same) (none_after r Cancelled rs.outstanding refl),
+        rw (numbered same) at (found_up_to rs.last (has_number n) rs.outstanding q found h.up_to),
+        rw same (none_after r Cancelled rs.outstanding refl),
       )
       closed (inr w) = let it = h.shut w in (it.0, none_staged r n Cancelled rs.outstanding refl it.1)
 
       known : (n ≡ r) ⊎ won → (s : ℕ) → out ≡ Some s → 0 < times (s, r) (d.view.cancelled ++ x ∷ [])
       known (inl same) s is =
           new_times (s, r) x d.view.cancelled
-          (subst (λ k. is_request (s, r) (q.order.slot, k) ≡ true) (sym same)
-          (same_is s r q.order.slot ((h.handed s is).0 ∙ sym (in_found h.slot (has_number n) rs.outstanding q found h.in_slot (numbered same)))))
+          (rw same (same_is s r q.order.slot ((h.handed s is).0 ∙ sym (in_found h.slot (has_number n) rs.outstanding q found h.in_slot (numbered same)))))
       known (inr w) s is = times_grow (s, r) x d.view.cancelled (h.at_desk w s is)
 
     -- a request that is open is handed out
@@ -240,10 +239,10 @@ module _ (r : ℕ) where
       either_one = h.either_one;
       slot = h.slot;
       in_slot = in_staged h.slot q.order.request HandedOut rs.outstanding h.in_slot;
-      handed = λ s is. (let it : q.order.slot ≡ s = cc in sym it ∙ slot_is, subst (λ k. k ≤ rs.last) same (found_up_to rs.last (λ y. is_open_stage y.stage) rs.outstanding q lowest h.up_to));
+      handed = λ s is. (let it : q.order.slot ≡ s = cc in sym it ∙ slot_is, rw same at (found_up_to rs.last (λ y. is_open_stage y.stage) rs.outstanding q lowest h.up_to));
       shut = λ w. absurd (never w);
       at_desk = λ w. absurd (never w);
-      was_begun = λ b. let it = h.was_begun b in let at = (h.handed it.0 it.1).0 ∙ sym slot_is in (q.order.slot, refl, subst (λ k. 0 < times (k, r) d.started) at it.2);
+      was_begun = λ b. let it = h.was_begun b in let at = (h.handed it.0 it.1).0 ∙ sym slot_is in (q.order.slot, refl, rw at at it.2);
     } where
       slot_is : q.order.slot ≡ h.slot
       slot_is = in_found h.slot (λ y. is_open_stage y.stage) rs.outstanding q lowest h.in_slot same
@@ -256,12 +255,12 @@ module _ (r : ℕ) where
         → IsApart out won begun rs d → IsApart out won begun' rs e
     apart_started begun' rs d e slot n moves why h = record {
       up_to = h.up_to;
-      either_one = λ c some. ap (times c) is_started ∙ one c (is_request c (slot, n)) refl (subst (λ xs. 0 < times c xs) is_cancelled some);
+      either_one = λ c some. ap (times c) is_started ∙ one c (is_request c (slot, n)) refl (rw is_cancelled at some);
       slot = h.slot;
       in_slot = h.in_slot;
       handed = h.handed;
       shut = h.shut;
-      at_desk = λ w s is. subst (λ xs. 0 < times (s, r) xs) (sym is_cancelled) (h.at_desk w s is);
+      at_desk = λ w s is. rw is_cancelled (h.at_desk w s is);
       was_begun = λ b. by (why b);
     } where
       is_cancelled : e.view.cancelled ≡ d.view.cancelled
@@ -281,7 +280,6 @@ module _ (r : ℕ) where
       by (inl (same, is)) = (
         slot,
         is,
-        subst (λ xs. 0 < times (slot, r) xs) (sym is_started)
-            (new_times (slot, r) (slot, n) d.started (subst (λ k. is_request (slot, r) (slot, k) ≡ true) (sym same) (same_is slot r slot refl))),
+        rw is_started (new_times (slot, r) (slot, n) d.started (rw same (same_is slot r slot refl))),
       )
-      by (inr b) = let it = h.was_begun b in (it.0, it.1, subst (λ xs. 0 < times (it.0, r) xs) (sym is_started) (times_grow (it.0, r) (slot, n) d.started it.2))
+      by (inr b) = let it = h.was_begun b in (it.0, it.1, rw is_started (times_grow (it.0, r) (slot, n) d.started it.2))

@@ -154,12 +154,10 @@ module _ (Begins : Setting → Loop Desk → Type 0) (there : Bool) (j : ℕ) wh
             ap (λ ls. slice_get ls j) e ∙ (ap (λ k. slice_get (slice_set w.loops k (core g m)) j) same ∙ set_here w.loops j (core g m) (core g l) at_j) in
             let is : core g m ≡ p = ap (inner {X = Core Desk} p) (sym now ∙ h) in
             let event = here same in
-            subst (λ (x : Core Desk). Told (log ++ entry ∷ []) (made ++ more) x.setting x.loop) is
-            (told_more log made more g l m entry event.event event.step event.tells event.calls (keeps.loops (core g l) at_j))
+            rw (sym is) (told_more log made more g l m entry event.event event.step event.tells event.calls (keeps.loops (core g l) at_j))
         | inr other ↦
             let no = apart other in
-            subst (λ cs. Told (log ++ entry ∷ []) (made ++ cs) p.setting p.loop) (sym no.1)
-            (told_beside log made p.setting p.loop entry no.0 (keeps.loops p (sym (ap (λ ls. slice_get ls j) e ∙ set_apart w.loops n j (core g m) other) ∙ h)))
+            rw no.1 (told_beside log made p.setting p.loop entry no.0 (keeps.loops p (sym (ap (λ ls. slice_get ls j) e ∙ set_apart w.loops n j (core g m) other) ∙ h)))
       ];
       replies = replies;
     }
@@ -188,8 +186,7 @@ module _ (Begins : Setting → Loop Desk → Type 0) (there : Bool) (j : ℕ) wh
             let at_j : slice_get w.loops j ≡ Some (core g l) = ap (slice_get w.loops) (sym same) ∙ at in
             let is_p : core g l ≡ p = ap (inner {X = Core Desk} p) (sym now ∙ h) in
             let event = here same in
-            subst (λ (x : Core Desk). Told (log ++ entry ∷ []) (made ++ []) x.setting x.loop) is_p
-            (told_more log made [] g l l entry event.event event.step event.tells event.calls (keeps.loops (core g l) at_j))
+            rw (sym is_p) (told_more log made [] g l l entry event.event event.step event.tells event.calls (keeps.loops (core g l) at_j))
         | inr other ↦
             told_beside log made p.setting p.loop entry (ap (is_of_owner j) is ∙ own ∙ ne_eqb n j other) (keeps.loops p (ap (λ ls. slice_get ls j) (sym e) ∙ h))
       ];

@@ -11,7 +11,7 @@ use Rattle.world.specs.Making.{MayFault, Stops}
 
 -- more steps from where some ended
 pub runs_join : (w mid w' : World) (steps more : List Step) (told lines : List LogEntry) → WorldRun w steps told mid → WorldRun mid more lines w' → WorldRun w (steps ++ more) (told ++ lines) w'
-runs_join w mid w' [] more [] lines run behind = subst (λ x. WorldRun x more lines w') run behind
+runs_join w mid w' [] more [] lines run behind = rw run at behind
 runs_join w mid w' [] more (e ∷ told) lines run behind = absurd run
 runs_join w mid w' (s ∷ steps) more [] lines run behind = absurd run
 runs_join w mid w' (s ∷ steps) more (e ∷ told) lines run behind = (run.0, run.1, runs_join run.0 mid w' steps more told lines run.2 behind)
@@ -28,12 +28,11 @@ pub has_run_more : (w mid w' : World) (steps : List Step) (i : ℕ) (d : Step) (
 has_run_more w mid w' steps i d old new new' below (told, written, run) (entry, more, h) = (
   told ++ entry ∷ [],
   more ∙ ap (λ es. es ++ entry ∷ []) written ∙ append_assoc old told (entry ∷ []),
-  subst (λ xs. WorldRun w xs (told ++ entry ∷ []) w') (sym (take_at_read steps i d below).1)
-      (runs_join w mid w' (take i steps) (slice_index_or steps i d ∷ []) told (entry ∷ []) run (w', h, refl)),
+  rw (take_at_read steps i d below).1 (runs_join w mid w' (take i steps) (slice_index_or steps i d ∷ []) told (entry ∷ []) run (w', h, refl)),
 )
 
 pub has_run_all : (w w' : World) (steps : List Step) (i : ℕ) (old new : List LogEntry) → length steps ≤ i → HasRun w (take i steps) old w' new → HasRun w steps old w' new
-has_run_all w w' steps i old new past run = subst (λ xs. HasRun w xs old w' new) (take_all i steps past) run
+has_run_all w w' steps i old new past run = rw (take_all i steps past) at run
 
 pub has_stopped : (w mid w' : World) (steps : List Step) (i : ℕ) (d : Step) (old new new' : List LogEntry) (fault : WorldFault) → i < length steps → HasRun w (take i steps) old mid new
     → MayFault mid (slice_index_or steps i d) fault → w' ≡ mid → new' ≡ new → (told : List LogEntry) × (new' ≡ old ++ told) × Stops w steps fault told w'
@@ -45,6 +44,6 @@ has_stopped w mid w' steps i d old new new' fault below (told, written, run) why
     next = slice_index_or steps i d;
     at = slice_get-get_or steps i d below;
     ran = subst (WorldRun w (take i steps) told) (sym same) run;
-    why = subst (λ x. MayFault x (slice_index_or steps i d) fault) (sym same) why;
+    why = rw same why;
   },
 )

@@ -33,8 +33,8 @@ kept_set ls js hs lists room n p q at e h =
     let long : length (slice_set ls n q) ≡ length ls = length-set ls n q in
     record {
       numbered = numbered_set 0 ls n p q at e h.numbered;
-      waiting = subst (λ k. All (IsJob k) js) (sym long) h.waiting;
-      held = subst (λ k. All (FitsLoops k) hs) (sym long) h.held;
+      waiting = rw long h.waiting;
+      held = rw long h.held;
       paired = h.paired ∙ sym long;
       few = h.few;
       roomy = h.roomy;

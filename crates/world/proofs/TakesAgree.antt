@@ -27,7 +27,7 @@ taken_none w n state w' at same why = (state, at, by state w.jobs why) where
 
 taken_one : (w : World) (n : ℕ) (o : WorkOrder) (rest : List WorkOrder) (w' : World) → slice_get w.workers n ≡ Some Idle → w.jobs ≡ o ∷ rest → w' ≡ record (with_worker_at w n (Taken o)) { jobs = rest }
     → WithWorker w n (λ h. WorkerTakesJob w n h w.jobs (line.Take n (Some (job_of o))) w')
-taken_one w n o rest w' at front after = (Idle, at, subst (λ js. WorkerTakesJob w n Idle js (line.Take n (Some (job_of o))) w') (sym front) (refl, after))
+taken_one w n o rest w' at front after = (Idle, at, rw front (refl, after))
 
 not_empty : (h : CodeWorker) → h ≢ code.Idle → worker_of h ≢ Idle
 not_empty code.Idle other same = other refl
@@ -61,8 +61,7 @@ module _ (w : World) (ls : List (Core Desk)) (js : List Order) (hs : List CodeWo
       → WithWorker w n (λ x. WorkerTakesJob w n x w.jobs (line.Take n (Some job)) (world_of ls (map order_of js') (map worker_of (slice_set hs n (code.Taken o))) rs))
   takes_one o js' job empty front told =
       let w' = world_of ls (map order_of js') (map worker_of (slice_set hs n (code.Taken o))) rs in
-      subst (λ k. WithWorker w n (λ x. WorkerTakesJob w n x w.jobs (line.Take n (Some k)) w')) (sym told)
-      (taken_one w n (order_of o) (map order_of js') w' (there ∙ ap (λ x. Some (worker_of x)) empty) (jobs_are ∙ ap (map order_of) front)
+      rw told (taken_one w n (order_of o) (map order_of js') w' (there ∙ ap (λ x. Some (worker_of x)) empty) (jobs_are ∙ ap (map order_of) front)
       (ap (λ x. world_of ls (map order_of js') x rs) (map-set worker_of hs n (code.Taken o)) ∙ ap (λ (x : World). record (with_worker_at x n (Taken (order_of o))) { jobs = map order_of js' }) is))
 
 pub kept_take : (ls : List (Core Desk)) (js js' : List Order) (hs : List CodeWorker) (lists room room' n : ℕ) (o : Order) → js ≡ o ∷ js' → room' ≡ room → WorldIsKept ls js hs lists room

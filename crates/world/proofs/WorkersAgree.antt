@@ -34,7 +34,7 @@ read_or xs n x d within is = slice_get-get_or xs n d within ∙ ap Some (sym is)
 
 -- the loop of a job is there
 pub loop_there : (loops : ℕ) (o : Order) (job : JobId) → job ≡ job_of (order_of o) → IsJob loops o → job.loop_no < loops
-loop_there loops o job told held = subst (λ j. j.loop_no < loops) (sym told) held.there
+loop_there loops o job told held = rw told held.there
 
 pub on_err : {X E : Type 0} (r : Result X E) (P : Type 0) → P → OnErr r P
 on_err (Ok x) P h = tt
@@ -64,8 +64,7 @@ pub kept_reply : {D : Type 0} (ls : List (Core Desk)) (js : List Order) (hs : Li
     → h ≡ worker.Idle → WorldIsKept ls js hs (length lists) room
     → WorldIsKept ls js (slice_set hs n h) (length (slice_set lists k d)) room
 kept_reply ls js hs lists room n k h d empty kept =
-    subst (λ m. WorldIsKept ls js (slice_set hs n h) m room) (sym (length-set lists k d))
-    (kept_worker ls js hs (length lists) room n h (subst (FitsLoops (length ls)) (sym empty) tt) kept)
+    rw (length-set lists k d) (kept_worker ls js hs (length lists) room n h (subst (FitsLoops (length ls)) (sym empty) tt) kept)
 
 loop_same : (l m : Loop Desk) → l.state ≡ m.state → l.store ≡ m.store → l.shared ≡ m.shared → l ≡ m
 loop_same l m state store shared =
@@ -103,7 +102,7 @@ module _ (w : World) (ls : List (Core Desk)) (js : List WorkOrder) (hs : List Co
     has_loop = ap (λ x. slice_get x.loops o.loop_no) (sym is) ∙ ap (λ j. slice_get ls j.loop_no) (sym told) ∙ at_loop
 
     as_told : (b : Bool) → ok ≡ b → StartsBeside desk_others p.loop o.slot o.request b q.loop
-    as_told b it = subst (λ x. StartsBeside desk_others p.loop o.slot o.request x q.loop) it beside
+    as_told b it = rw it at beside
 
     pub begins : (o' : Order) → ok ≡ true → o' ≡ o → WithWorker w n
         (λ x. StartsJob w n x (line.Start n (start.Begun job)) (world_of (slice_set ls job.loop_no q) js (workers_in (slice_set hs n (worker.Started o'))) rs))
@@ -171,7 +170,7 @@ module _ {D : Type 0} (f : D → List Answer) (w : World) (ls : List (Core Desk)
       end = end_of r.outcome;
       ending = ending;
       replies = f d;
-      right = subst (λ y. ∥ IsEndOf (order_of y) (end_of r.outcome) ∥₁) own right;
+      right = rw own at right;
       tells = tells;
       waiting = ap (λ x. slice_get x.replies o.loop_no) (sym is) ∙ ap (λ j. slice_get (map f rs) j.loop_no) (sym told) ∙ map_get f rs job.loop_no d at_list;
       told = ap (λ j. line.Finish n (finish.Ended j ending)) told;

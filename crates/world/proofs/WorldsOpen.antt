@@ -40,7 +40,7 @@ pub opens : {E : Type 0} (g : Setting) (loaded : Loaded) (d : Desk) (r : Result 
     → IfOk r (λ core. core ≡ opening_loop g)
 opens g loaded d (Ok c) same new setting state store shared =
     opened g c (setting ∙ ap (λ x. record g { loaded = x }) same) (state ∙ ap (λ x. opening (opening_roster x.contents) (begin_list x.contents)) same)
-    (subst (λ x. IsFresh x.contents c.loop.store) same store) (shared ∙ new)
+    (rw same at store) (shared ∙ new)
 opens g loaded d (Err e) same new setting state store shared = setting
 
 -- one configuration more

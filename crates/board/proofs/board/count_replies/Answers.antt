@@ -1,4 +1,4 @@
-use Rattle.std.proofs.Common.{◌≡◌, ◌≢◌, ⊎_elim, ◌<◌, ℕ, List, length, set, map, Some, slice_get, refl, sym, ap, ◌∙◌, subst, arith}
+use Rattle.std.proofs.Common.{◌≡◌, ◌≢◌, ⊎_elim, ◌<◌, ℕ, List, length, set, map, Some, slice_get, refl, sym, ap, ◌∙◌, arith}
 use Rattle.std.proofs.lemmas.List.{length-map}
 use Rattle.std.proofs.lemmas.Option.{slice_get_read, same_Some}
 use Rattle.std.proofs.lemmas.Bool.{cases_eq}
@@ -30,7 +30,7 @@ count-requires-clause-all c =
     let less = c.loop-i-test.true in
     let size = makers_count makers lines (ap (map (λ (m : MakerView Reply). m.line)) c.loop-i.invariant.0 ∙ c.requires.makers) in
     let maker : slice_get makers c.loop-i.i ≡ Some c.index_mut.result.now = slice_get_read makers _ _ c.index_mut.result.now refl (omega arith) c.index_mut.ensures.value in
-    c.requires.all c.loop-i.i c.index_mut.result.now (subst (λ (l : List (MakerView Reply)). slice_get l c.loop-i.i ≡ Some c.index_mut.result.now) c.loop-i.invariant.0 maker)
+    c.requires.all c.loop-i.i c.index_mut.result.now (rw c.loop-i.invariant.0 at maker)
 
 pub loop-i-preserved : goal.loop-i-preserved
 loop-i-preserved c =
@@ -42,14 +42,14 @@ loop-i-preserved c =
     let size = makers_count makers lines (ap (map (λ (m : MakerView Reply). m.line)) known.0 ∙ c.requires.makers) in
     let m : MakerView Reply = c.index_mut.result.now in
     let maker : slice_get makers i ≡ Some m = slice_get_read makers _ _ c.index_mut.result.now refl (omega arith) c.index_mut.ensures.value in
-    let was : slice_get c.args.makers.now.items i ≡ Some m = subst (λ (l : List (MakerView Reply)). slice_get l i ≡ Some m) known.0 maker in (
+    let was : slice_get c.args.makers.now.items i ≡ Some m = rw known.0 at maker in (
       ap (set makers i) c.count.ensures.same ∙ set_same makers i m maker ∙ known.0,
       omega arith,
       λ k n under e.
           ⊎_elim
           (λ (here : k ≡ i).
-          let same : m ≡ n = same_Some m n (sym was ∙ subst (λ j. slice_get c.args.makers.now.items j ≡ Some n) here e) in
-          subst (λ (x : MakerView Reply). IsWhole x.hands) same c.count.ensures.whole)
+          let same : m ≡ n = same_Some m n (sym was ∙ rw here at e) in
+          rw same at c.count.ensures.whole)
           (λ (ne : k ≢ i). known.2 k n (omega arith) e)
           (cases_eq k i),
     )

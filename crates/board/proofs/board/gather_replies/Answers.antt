@@ -1,4 +1,4 @@
-use Rattle.std.proofs.Common.{◌≡◌, ◌<◌, ℕ, List, [], ◌∷◌, ◌++◌, length, set, map, Some, slice_get, refl, sym, ap, ◌∙◌, subst, arith}
+use Rattle.std.proofs.Common.{◌≡◌, ◌<◌, ℕ, List, [], ◌∷◌, ◌++◌, length, set, map, Some, slice_get, refl, sym, ap, ◌∙◌, arith}
 use Rattle.std.proofs.lemmas.List.{length-map}
 use Rattle.std.proofs.lemmas.Option.{slice_get_read}
 use Rattle.order.specs.declared.reply.Reply.{Reply}
@@ -25,7 +25,7 @@ gather-requires c =
     let b = c.pop.new.self.ok.0 in
     let place : k ≡ length more = omega arith in
     let next : slice_get hands (length more) ≡ Some c.in-Some.hand = next_hand c.args.makers.now.items hands c.loop-hand.hands.items makers more c.in-Some.hand known.1 c.in-Some.ensures.items in
-    let here : slice_get hands k ≡ Some c.in-Some.hand = subst (λ i. slice_get hands i ≡ Some c.in-Some.hand) (sym place) next in
+    let here : slice_get hands k ≡ Some c.in-Some.hand = rw place next in
     let less : k < length hands = below hands k c.in-Some.hand here in
     let same = makers_count makers lines known.0 in
     let others = hands_count hands lines c.requires.hands in
@@ -47,13 +47,13 @@ loop-hand-preserved c =
     let b = c.pop.new.self.ok.0 in
     let place : k ≡ length more = omega arith in
     let next : slice_get hands (length more) ≡ Some c.in-Some.hand = next_hand c.args.makers.now.items hands c.loop-hand.hands.items makers more c.in-Some.hand known.1 c.in-Some.ensures.items in
-    let here : slice_get hands k ≡ Some c.in-Some.hand = subst (λ i. slice_get hands i ≡ Some c.in-Some.hand) (sym place) next in
+    let here : slice_get hands k ≡ Some c.in-Some.hand = rw place next in
     let less : k < length hands = below hands k c.in-Some.hand here in
     let same = makers_count makers lines known.0 in
     let others = hands_count hands lines c.requires.hands in
     let maker : slice_get makers k ≡ Some c.index_mut.result.now = slice_get_read makers _ _ c.index_mut.result.now refl (omega arith) c.index_mut.ensures.value in
-    let at : slice_get makers (length more) ≡ Some c.index_mut.result.now = subst (λ i. slice_get makers i ≡ Some c.index_mut.result.now) place maker in
+    let at : slice_get makers (length more) ≡ Some c.index_mut.result.now = rw place at maker in
     let w : MakerView Reply = c.gather.new.maker in (
       map_set (λ (m : MakerView Reply). m.line) makers k c.index_mut.result.now w maker (ap (λ (m : MakerView Reply). m.line) c.gather.ensures) ∙ known.0,
-      subst (λ i. IsUnder c.args.makers.now.items hands more (set makers i w)) (sym place) (one_less c.args.makers.now.items hands c.loop-hand.hands.items makers more c.in-Some.hand known.1 c.in-Some.ensures.items c.index_mut.result.now at w c.gather.ensures),
+      rw place (one_less c.args.makers.now.items hands c.loop-hand.hands.items makers more c.in-Some.hand known.1 c.in-Some.ensures.items c.index_mut.result.now at w c.gather.ensures),
     )

@@ -1,4 +1,4 @@
-use Rattle.std.proofs.Common.{subst, sym, arith}
+use Rattle.std.proofs.Common.{sym, arith}
 use Rattle.phases.specs.View.{IsAbove}
 use Rattle.desk.proofs.Steps.{opens_allowed}
 use Rattle.desk.proofs.DeskShared.open.Goals as goal
@@ -8,7 +8,7 @@ store-requires c =
     let seat = c.self.inside.seat in
     let is = c.self.invariant in
     let low = c.requires.slot in
-    let rises = subst (λ d. IsAbove d.view c.args.request) (sym c.self.view_is) c.requires.rising in (
+    let rises = rw (sym c.self.view_is) at c.requires.rising in (
       is.0,
       omega arith,
       rw (is.1, c.from.ensures) (opens_allowed _ c.args.slot c.args.request seat.me.0 seat.me.1 low c.requires.request.0 rises),

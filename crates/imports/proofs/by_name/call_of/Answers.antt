@@ -1,4 +1,4 @@
-use Rattle.std.proofs.Common.{◌≡◌, length, rules, Some, refl, sym, subst}
+use Rattle.std.proofs.Common.{◌≡◌, length, rules, Some, refl}
 use Rattle.std.specs.Prelude.{slice_get}
 use Rattle.std.proofs.lemmas.Option.{slice_get_read}
 use Rattle.imports.specs.declared.call.Call.{Call}
@@ -14,4 +14,4 @@ returns c =
     let i = c.index-as_slice-import.result in
     let got : slice_get m.imports n ≡ Some i = slice_get_read m.imports (length m.imports) n i refl c.requires.there (search rules) in
     let known = imports_from m n i c.as_slice-2.result.now c.from_name.result got c.requires.known c.as_slice-2.ensures c.from_name.ensures in
-    subst (λ (x : Call). Imports m n x) (sym c.unwrap_or.ensures) (or_now m n c.from_name.result known c.requires.there)
+    rw c.unwrap_or.ensures (or_now m n c.from_name.result known c.requires.there)

@@ -1,4 +1,4 @@
-use Rattle.std.proofs.Common.{Option, ℕ, sym, subst}
+use Rattle.std.proofs.Common.{Option, ℕ}
 use Rattle.imports.specs.Linking.{IsEntry}
 use Rattle.imports.proofs.Known.{entry_is_small}
 use Rattle.imports.proofs.by_name.find_entry.Goals as goal
@@ -8,4 +8,4 @@ keep_entry-requires c =
     entry_is_small c.args.contents.now c.args.entry c.entry_of.result c.requires.few_imports c.requires.few_functions c.entry_of.ensures
 
 pub returns : goal.returns
-returns c = subst (λ (entry : Option ℕ). IsEntry c.args.contents.now c.args.entry entry) (sym c.keep_entry.ensures) c.entry_of.ensures
+returns c = rw c.keep_entry.ensures c.entry_of.ensures

@@ -1,4 +1,4 @@
-use Rattle.std.proofs.Common.{◌≤◌, length, All, ap, sym, subst, ◌∙◌}
+use Rattle.std.proofs.Common.{◌≤◌, length, All, ap, ◌∙◌}
 use Rattle.limits.specs.declared.TheConstants.{MAX_IMPORTS, MAX_FUNCTIONS}
 use Rattle.syntax.specs.declared.contents.Contents.{Contents}
 use Rattle.syntax.specs.Loaded.{Loaded}
@@ -9,54 +9,54 @@ use Rattle.imports.proofs.linked.found.Goals as goal
 pub calls_of-calls-requires : goal.calls_of-calls-requires
 calls_of-calls-requires c =
     let same = c.contents-contents.ensures.value ∙ ap (λ (l : Loaded). l.contents) c.module.ensures.same in
-    subst (λ (x : Contents). All (IsKnown x) x.imports) (sym same) c.requires.imports
+    rw same c.requires.imports
 
 pub find_entry-main-requires-clause-callable : goal.find_entry-main-requires-clause-callable
 find_entry-main-requires-clause-callable c =
     let same = c.contents-contents.ensures.value ∙ ap (λ (l : Loaded). l.contents) c.module.ensures.same in
-    subst (λ (x : Contents). All (IsCallable x) x.exports) (sym same) c.requires.exports
+    rw same c.requires.exports
 
 pub find_entry-main-requires-clause-few_imports : goal.find_entry-main-requires-clause-few_imports
 find_entry-main-requires-clause-few_imports c =
-    subst (λ (x : Contents). length x.imports ≤ MAX_IMPORTS) (sym c.contents-contents.ensures.value) c.contents-contents.ensures.spelled.imports.0
+    rw c.contents-contents.ensures.value c.contents-contents.ensures.spelled.imports.0
 
 pub find_entry-main-requires-clause-few_functions : goal.find_entry-main-requires-clause-few_functions
 find_entry-main-requires-clause-few_functions c =
-    subst (λ (x : Contents). length x.functions ≤ MAX_FUNCTIONS) (sym c.contents-contents.ensures.value) c.contents-contents.ensures.spelled.functions.0
+    rw c.contents-contents.ensures.value c.contents-contents.ensures.spelled.functions.0
 
 pub find_entry-work-requires-clause-callable : goal.find_entry-work-requires-clause-callable
 find_entry-work-requires-clause-callable c =
     let same = c.contents-contents.ensures.value ∙ ap (λ (l : Loaded). l.contents) c.module.ensures.same in
-    subst (λ (x : Contents). All (IsCallable x) x.exports) (sym same) c.requires.exports
+    rw same c.requires.exports
 
 pub find_entry-work-requires-clause-few_imports : goal.find_entry-work-requires-clause-few_imports
 find_entry-work-requires-clause-few_imports c =
-    subst (λ (x : Contents). length x.imports ≤ MAX_IMPORTS) (sym c.contents-contents.ensures.value) c.contents-contents.ensures.spelled.imports.0
+    rw c.contents-contents.ensures.value c.contents-contents.ensures.spelled.imports.0
 
 pub find_entry-work-requires-clause-few_functions : goal.find_entry-work-requires-clause-few_functions
 find_entry-work-requires-clause-few_functions c =
-    subst (λ (x : Contents). length x.functions ≤ MAX_FUNCTIONS) (sym c.contents-contents.ensures.value) c.contents-contents.ensures.spelled.functions.0
+    rw c.contents-contents.ensures.value c.contents-contents.ensures.spelled.functions.0
 
 pub find_entry-after_work-requires-clause-callable : goal.find_entry-after_work-requires-clause-callable
 find_entry-after_work-requires-clause-callable c =
     let same = c.contents-contents.ensures.value ∙ ap (λ (l : Loaded). l.contents) c.module.ensures.same in
-    subst (λ (x : Contents). All (IsCallable x) x.exports) (sym same) c.requires.exports
+    rw same c.requires.exports
 
 pub find_entry-after_work-requires-clause-few_imports : goal.find_entry-after_work-requires-clause-few_imports
 find_entry-after_work-requires-clause-few_imports c =
-    subst (λ (x : Contents). length x.imports ≤ MAX_IMPORTS) (sym c.contents-contents.ensures.value) c.contents-contents.ensures.spelled.imports.0
+    rw c.contents-contents.ensures.value c.contents-contents.ensures.spelled.imports.0
 
 pub find_entry-after_work-requires-clause-few_functions : goal.find_entry-after_work-requires-clause-few_functions
 find_entry-after_work-requires-clause-few_functions c =
-    subst (λ (x : Contents). length x.functions ≤ MAX_FUNCTIONS) (sym c.contents-contents.ensures.value) c.contents-contents.ensures.spelled.functions.0
+    rw c.contents-contents.ensures.value c.contents-contents.ensures.spelled.functions.0
 
 pub invariant_of-result : goal.invariant_of-result
 invariant_of-result c =
     let same = c.contents-contents.ensures.value ∙ ap (λ (l : Loaded). l.contents) c.module.ensures.same in
     record {
       linked = c.requires;
-      calls = subst (λ (x : Contents). AreCalls x c.calls_of-calls.result) same c.calls_of-calls.ensures;
-      main = subst (λ (x : Contents). IsEntry x Main (entry_kept c.find_entry-main.result)) same c.find_entry-main.ensures;
-      work = subst (λ (x : Contents). IsEntry x Work (entry_kept c.find_entry-work.result)) same c.find_entry-work.ensures;
-      after_work = subst (λ (x : Contents). IsEntry x AfterWork (entry_kept c.find_entry-after_work.result)) same c.find_entry-after_work.ensures;
+      calls = rw same at c.calls_of-calls.ensures;
+      main = rw same at c.find_entry-main.ensures;
+      work = rw same at c.find_entry-work.ensures;
+      after_work = rw same at c.find_entry-after_work.ensures;
     }

@@ -1,4 +1,4 @@
-use Rattle.std.proofs.Common.{refl, sym, ap, subst}
+use Rattle.std.proofs.Common.{refl, sym, ap}
 use Rattle.instance.specs.Store.{MemoryInstance}
 use Rattle.phases.specs.View.{AreOpenedUpTo}
 use Rattle.phases.specs.State.{State}
@@ -7,7 +7,7 @@ use Rattle.phases.proofs.loop_host.answer.Goals as goal
 
 pub queue_work-answer-requires : goal.queue_work-answer-requires
 queue_work-answer-requires g c =
-    subst (λ (s : State). AreOpenedUpTo s.requests.last (g.B.Shared.calls.view c.args.shared.now)) (sym c.state-in-QueueWork.view_is) c.requires.opened
+    rw (sym c.state-in-QueueWork.view_is) at c.requires.opened
 
 pub returns-in-TimerInit-clause-replies : goal.returns-in-TimerInit-clause-replies
 returns-in-TimerInit-clause-replies g c =

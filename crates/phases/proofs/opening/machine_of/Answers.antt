@@ -1,4 +1,4 @@
-use Rattle.std.proofs.Common.{◌≡◌, refl, ap, subst, ◌∙◌}
+use Rattle.std.proofs.Common.{◌≡◌, refl, ap, ◌∙◌}
 use Rattle.std.specs.Prelude.{IfOk}
 use Rattle.std.specs.Option.{is_some}
 use Rattle.syntax.specs.Loaded.{Loaded}
@@ -18,4 +18,4 @@ returns c =
     let start = c.is_some-start.ensures ∙ ap (λ (m : Contents). is_some m.start) k in
     let main = c.is_some-main.ensures ∙ found_exports l.contents (name_of_entry Main) c.entry.result c.entry.ensures.found in
     let state = new_state l.contents _ c.in_ok-callbacks.callbacks.items c.is_some-start.result c.is_some-main.result refl (c.in_ok-callbacks.ensures ∙ ap callbacks_of k) start main in
-    subst (λ (s : State). IfOk c.new-2.result (λ made. made ≡ s)) state c.new-2.ensures
+    rw state at c.new-2.ensures

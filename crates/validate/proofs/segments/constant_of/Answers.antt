@@ -1,4 +1,4 @@
-use Rattle.std.proofs.Common.{◌≡◌, Option, Some, refl, sym, ap, subst, ◌∙◌}
+use Rattle.std.proofs.Common.{◌≡◌, Option, Some, refl, sym, ap, ◌∙◌}
 use Rattle.std.specs.Prelude.{IsSome}
 use Rattle.syntax.specs.declared.types.Value.{Value}
 use Rattle.syntax.specs.Code.{Code}
@@ -9,7 +9,7 @@ pub unwrap-requires : goal.unwrap-requires
 unwrap-requires c =
     let one = c.requires.1 in
     let found : c.constant.result ≡ Some one.0 = (c.constant.ensures one.0).1 one.1 in
-    subst (λ (o : Option Value). IsSome o) (sym found) refl
+    rw found refl
 
 pub returns : goal.returns
 returns c =

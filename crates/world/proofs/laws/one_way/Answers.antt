@@ -1,6 +1,5 @@
 use Rattle.world.proofs.Apart.{apart_after}
 use Rattle.world.proofs.OneWay.{one_way_after}
-use Rattle.std.proofs.Common.{subst}
 use Rattle.world.proofs.GuestsOfRuns.{run_of}
 use Rattle.world.specs.Laws.{IsCancelledInLog}
 use Rattle.world.specs.World.{opening_world}
@@ -14,4 +13,4 @@ pub returns-clause-cancelled : goal.returns-clause-cancelled
 returns-clause-cancelled c settings workers steps log w placed l made calls request won =
     let run = run_of l (opening_world settings workers) steps log made w calls in
     apart_after settings placed workers l request c.asked_once.ensures.handed c.asked_once.ensures.own steps log w run.0
-    (subst (λ m. IsCancelledInLog l request log m) run.1 won)
+    (rw run.1 at won)

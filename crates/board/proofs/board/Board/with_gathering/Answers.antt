@@ -1,4 +1,4 @@
-use Rattle.std.proofs.Common.{ℕ, ◌+◌, List, [], ◌∷◌, map, length-append, sym, ap, ◌∙◌, subst, arith}
+use Rattle.std.proofs.Common.{ℕ, ◌+◌, List, [], ◌∷◌, map, length-append, sym, ap, ◌∙◌, arith}
 use Rattle.std.proofs.lemmas.List.Elements.{All-push}
 use Rattle.order.specs.declared.reply.Reply.{Reply}
 use Rattle.board.specs.Views.{LineView, MakerView, one_later}
@@ -47,5 +47,5 @@ loop-preserved g c =
       known.4,
       omega (arith, length-append passes (pass ∷ []), known.5),
       All-push (IsNewPass board) passes pass known.6 new,
-      each_push (λ k (p : PassView g.row.J.Denot). HasNumber (k + 1) p) passes pass known.7 (subst (λ k. HasNumber (k + 1) pass) (sym known.5) number),
+      each_push (λ k (p : PassView g.row.J.Denot). HasNumber (k + 1) p) passes pass known.7 (rw known.5 number),
     )

@@ -1,4 +1,4 @@
-use Rattle.std.proofs.Common.{◌≡◌, ◌+◌, ◌<◌, subst, sym, ap, ◌∙◌, arith}
+use Rattle.std.proofs.Common.{◌≡◌, ◌+◌, ◌<◌, sym, ap, ◌∙◌, arith}
 use Rattle.limits.specs.declared.TheConstants.{MAX_LOOPS}
 use Rattle.claims.proofs.Allowed.{cancels_at, tried, shows}
 use Rattle.claims.proofs.claims.Claims.cancel_posted.Goals as goal
@@ -11,7 +11,7 @@ compare_exchange-requires c =
     let own : i.seat.table_id ≡ c.self.inside.table.shared.table_id = ap (λ u. u.claims) c.seat.view_is ∙ c.requires.own ∙ sym (ap (λ u. u.id) c.self.view_is) in
     let low = c.requires.there.1 in
     let mine : c.args.ticket.loop_no ≡ i.loop_no = c.requires.there.0 ∙ sym (ap (λ u. u.loop_no) c.seat.view_is) in
-    let real : c.args.ticket.loop_no < MAX_LOOPS = subst (λ n. n < MAX_LOOPS) (sym mine) known.2 in
+    let real : c.args.ticket.loop_no < MAX_LOOPS = rw mine known.2 in
     let place = c.requires.word in (
       own,
       omega (arith, size, real, low, place),

@@ -1,4 +1,4 @@
-use Rattle.std.proofs.Common.{◌≡◌, ◌+◌, ◌*◌, ◌<◌, All, sym, ap, ◌∙◌, subst, arith}
+use Rattle.std.proofs.Common.{◌≡◌, ◌+◌, ◌*◌, ◌<◌, All, sym, ap, ◌∙◌, arith}
 use Rattle.claims.proofs.Allowed.{opens_at, opened_as, shows_opened}
 use Rattle.claims.proofs.claims.Claims.open.Goals as goal
 
@@ -16,7 +16,7 @@ store-requires c =
       own,
       omega arith,
       opens_at _ _ _ i.loop_no c.args.slot c.args.request _ _ i.is_posting place (c.word_of-new.ensures ∙ ap (λ k. 4 * c.args.request + k) c.state_at_open.ensures) known.0 (omega arith) known.2 low c.requires.request.0
-          (subst (λ cs. All (λ x. x.1 < c.args.request) cs) (sym (ap (λ u. u.opened) c.seat.view_is)) c.requires.rising),
+          (rw (ap (λ u. u.opened) c.seat.view_is) c.requires.rising),
     )
 
 pub returns-clause-opened : goal.returns-clause-opened

@@ -1,4 +1,4 @@
-use Rattle.std.proofs.Common.{◌≡◌, ◌+◌, ◌<◌, true, subst, sym, ap, ◌∙◌, arith}
+use Rattle.std.proofs.Common.{◌≡◌, ◌+◌, ◌<◌, true, sym, ap, ◌∙◌, arith}
 use Rattle.limits.specs.declared.TheConstants.{MAX_LOOPS}
 use Rattle.claims.specs.Views.{LoopView, is_unposted}
 use Rattle.claims.proofs.Allowed.{withdraws_at, withdrawn_as, shows_cancelled}
@@ -13,12 +13,12 @@ store-requires c =
     let ticket = c.args.ticket in
     let low = c.requires.there.1 in
     let mine : ticket.loop_no ≡ i.loop_no = c.requires.there.0 ∙ sym (ap (λ u. u.loop_no) c.seat.view_is) in
-    let real : ticket.loop_no < MAX_LOOPS = subst (λ n. n < MAX_LOOPS) (sym mine) known.2 in
+    let real : ticket.loop_no < MAX_LOOPS = rw mine known.2 in
     let place = c.requires.word in (
       own,
       omega (arith, size, real, low, place),
       withdraws_at _ _ _ ticket.loop_no ticket.slot ticket.request _ _ place c.word_of-new.ensures (known.0 ∙ ap (λ n. n + 1) (sym mine)) real low
-          (subst (λ (u : LoopView). is_unposted u.opened u.posted u.cancelled (ticket.slot, ticket.request) ≡ true) (sym c.seat.view_is) c.requires.unposted),
+          (rw (sym c.seat.view_is) at c.requires.unposted),
     )
 
 pub returns-clause-cancelled : goal.returns-clause-cancelled

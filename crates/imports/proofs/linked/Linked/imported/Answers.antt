@@ -1,4 +1,4 @@
-use Rattle.std.proofs.Common.{List, All, sym, subst, rules}
+use Rattle.std.proofs.Common.{List, All, rules}
 use Rattle.syntax.specs.declared.contents.Contents.{Contents}
 use Rattle.syntax.specs.Loaded.{Loaded}
 use Rattle.imports.specs.declared.call.Call.{Call}
@@ -9,16 +9,16 @@ use Rattle.imports.proofs.linked.Linked.imported.Goals as goal
 
 pub bounds-as_slice-at : goal.bounds-as_slice-at
 bounds-as_slice-at c =
-    let all : AreCalls c.args.self.now.contents c.self.inside.calls = subst (λ (x : Loaded). AreCalls x.contents c.self.inside.calls) c.self.view_is c.self.invariant.calls in
-    let listed : AreCalls c.args.self.now.contents c.as_slice.result.now = subst (λ (calls : List Call). AreCalls c.args.self.now.contents calls) (sym c.as_slice.ensures) all in
+    let all : AreCalls c.args.self.now.contents c.self.inside.calls = rw c.self.view_is at c.self.invariant.calls in
+    let listed : AreCalls c.args.self.now.contents c.as_slice.result.now = rw c.as_slice.ensures all in
     call_there c.args.self.now.contents c.as_slice.result.now c.args.import listed c.requires (search rules)
 
 pub returns-then-at-lt-KEPT_CALLS : goal.returns-then-at-lt-KEPT_CALLS
 returns-then-at-lt-KEPT_CALLS c =
-    let all : AreCalls c.args.self.now.contents c.self.inside.calls = subst (λ (x : Loaded). AreCalls x.contents c.self.inside.calls) c.self.view_is c.self.invariant.calls in
-    let listed : AreCalls c.args.self.now.contents c.as_slice.result.now = subst (λ (calls : List Call). AreCalls c.args.self.now.contents calls) (sym c.as_slice.ensures) all in
+    let all : AreCalls c.args.self.now.contents c.self.inside.calls = rw c.self.view_is at c.self.invariant.calls in
+    let listed : AreCalls c.args.self.now.contents c.as_slice.result.now = rw c.as_slice.ensures all in
     call_kept c.args.self.now.contents c.as_slice.result.now c.args.import Now listed c.requires (search rules)
 
 pub call_of-requires-clause-known : goal.call_of-requires-clause-known
 call_of-requires-clause-known c =
-    subst (λ (m : Contents). All (IsKnown m) m.imports) (sym c.contents.ensures.same) c.self.invariant.linked.imports
+    rw c.contents.ensures.same c.self.invariant.linked.imports

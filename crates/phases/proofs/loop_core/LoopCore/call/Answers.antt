@@ -1,4 +1,4 @@
-use Rattle.std.proofs.Common.{refl, sym, ap, subst, ◌∙◌}
+use Rattle.std.proofs.Common.{refl, sym, ap, ◌∙◌}
 use Rattle.std.specs.Arc.{arc_value}
 use Rattle.std.specs.Option.{option_map}
 use Rattle.syntax.specs.Loaded.{Loaded}
@@ -42,12 +42,12 @@ invariant_of-self g c =
     kept_after g.B.Shared.calls (λ h. setting_of h.setting) (λ h. (h.state, h.shared)) (arc_value c.self.inside.linked) c.valid-valid.result.now is set old
     c.self.invariant _ c.invoke_bare-ended.new.host refl reply begins c.invoke_bare-ended.new.state c.args.function c.args.args.now
     (whole c.invoke_bare-ended.result) c.invoke_bare-ended.new.stack c.invoke_bare-ended.ensures.runs
-    (subst (λ (x : Loaded). IsLinked x.contents) (sym c.valid-valid.ensures.same) c.valid-valid.ensures.linked) c.invoke_bare-ended.ensures.kept c.end_callback.new.self c.end_callback.ensures in
+    (rw c.valid-valid.ensures.same c.valid-valid.ensures.linked) c.invoke_bare-ended.ensures.kept c.end_callback.new.self c.end_callback.ensures in
     let same =
     same_setting g.B.Shared.calls (λ h. setting_of h.setting) (λ h. (h.state, h.shared)) (arc_value c.self.inside.linked) c.valid-valid.result.now is set old
     c.self.invariant _ c.invoke_bare-ended.new.host refl reply begins c.invoke_bare-ended.new.state c.args.function c.args.args.now
     (whole c.invoke_bare-ended.result) c.invoke_bare-ended.new.stack c.invoke_bare-ended.ensures.runs in
-    subst (λ (x : Setting). KeepsLoop (arc_value c.self.inside.linked) x c.end_callback.new.self c.invoke_bare-ended.new.state) (sym same) kept
+    rw same kept
 
 pub returns-clause-run : goal.returns-clause-run
 returns-clause-run g c =

@@ -1,4 +1,4 @@
-use Rattle.std.proofs.Common.{◌≡◌, ◌≤◌, length, refl, sym, ap, ◌∙◌, subst}
+use Rattle.std.proofs.Common.{◌≡◌, ◌≤◌, length, refl, sym, ap, ◌∙◌}
 use Rattle.std.specs.Arc.{arc_value}
 use Rattle.limits.specs.declared.TheConstants.{MAX_DEPTH}
 use Rattle.std.specs.Option.{option_map}
@@ -31,38 +31,35 @@ begin-paused-requires-clause-fits g c =
     let loaded : c.valid.result.now ≡ linked = c.valid.ensures.same ∙ c.deref-2.ensures in
     let set : setting_of c.into_parts-linked.result.2.setting ≡ c.args.self.setting = c.into_parts-linked.ensures.setting in
     let names : Names linked.contents (import_types (setting_of c.into_parts-linked.result.2.setting).loaded.contents) =
-    subst (λ (l : Loaded). Names linked.contents (import_types l.contents)) (keeps.same ∙ ap (λ (x : Setting). x.loaded) (sym set))
-    (subst (λ (l : Loaded). Names l.contents (import_types l.contents)) c.deref.ensures c.imports_are_named.ensures) in
+    rw (sym (keeps.same ∙ ap (λ (x : Setting). x.loaded) (sym set)), sym c.deref.ensures) c.imports_are_named.ensures in
     record {
-      runs = subst (λ (l : Loaded). MachineFits l.contents c.args.reserved) (sym (loaded ∙ keeps.same)) c.requires.runs;
-      names = subst (λ (l : Loaded). Names l.contents (import_types (setting_of c.into_parts-linked.result.2.setting).loaded.contents)) (sym loaded) names;
+      runs = rw (loaded ∙ keeps.same) c.requires.runs;
+      names = rw loaded names;
     }
 
 pub begin-paused-requires-clause-store : goal.begin-paused-requires-clause-store
 begin-paused-requires-clause-store g c =
     let keeps = c.into_parts-linked.ensures.keeps in
     let loaded = c.valid.ensures.same ∙ c.deref-2.ensures ∙ keeps.same in
-    subst (λ (l : Loaded). IsStoreOf l.contents c.into_parts-linked.result.1) (sym loaded)
-    (subst (λ (s : Store). IsStoreOf c.args.self.setting.loaded.contents s) (sym c.into_parts-linked.ensures.store) keeps.store)
+    rw (loaded, c.into_parts-linked.ensures.store) keeps.store
 
 pub begin-paused-requires-clause-typed : goal.begin-paused-requires-clause-typed
 begin-paused-requires-clause-typed g c =
     let keeps = c.into_parts-linked.ensures.keeps in
     let loaded = c.valid.ensures.same ∙ c.deref-2.ensures ∙ keeps.same in
-    rw c.as_slice.ensures (subst (λ (l : Loaded). TakesArguments l.contents c.args.callback.function c.args.callback.args) (sym loaded) c.requires.fits.takes)
+    rw c.as_slice.ensures (rw loaded c.requires.fits.takes)
 
 pub begin-paused-requires-clause-defined : goal.begin-paused-requires-clause-defined
 begin-paused-requires-clause-defined g c =
     let keeps = c.into_parts-linked.ensures.keeps in
     let loaded = c.valid.ensures.same ∙ c.deref-2.ensures ∙ keeps.same in
-    let linked = subst (λ (l : Loaded). IsLinked l.contents) (c.deref-2.ensures ∙ keeps.same) c.valid.ensures.linked in
-    subst (λ (l : Loaded). length l.contents.imports ≤ c.args.callback.function) (sym loaded)
-    (is_defined c.args.self.setting.loaded linked c.args.callback.function c.args.callback.args c.requires.fits.takes c.requires.fits.bare)
+    let linked = rw (c.deref-2.ensures ∙ keeps.same) at c.valid.ensures.linked in
+    rw loaded (is_defined c.args.self.setting.loaded linked c.args.callback.function c.args.callback.args c.requires.fits.takes c.requires.fits.bare)
 
 pub begin-paused-requires-clause-deep : goal.begin-paused-requires-clause-deep
 begin-paused-requires-clause-deep g c =
     let keeps = c.into_parts-linked.ensures.keeps in
-    subst (λ (x : Setting). (1 ≤ x.depth) × (x.depth ≤ MAX_DEPTH)) (sym c.into_parts-linked.ensures.setting) keeps.depth
+    rw (sym c.into_parts-linked.ensures.setting) at keeps.depth
 
 pub invariant_of-result : goal.invariant_of-result
 invariant_of-result g c =
@@ -81,7 +78,7 @@ invariant_of-result g c =
     let shared : m.host.shared ≡ mid.shared =
     ap (λ (h : Host g.B.Shared.calls). h.shared) c.begin-paused.ensures.host ∙ c.into_parts-linked.ensures.shared in
     record {
-      fits = subst (λ (l : Loaded). LoopMachineFits l m) loaded c.begin-paused.ensures.fits;
+      fits = rw loaded at c.begin-paused.ensures.fits;
       g = c.args.self.setting;
       mid = mid;
       args = callback.args;
@@ -89,7 +86,7 @@ invariant_of-result g c =
       callback = begins_callback g.B.Shared.calls linked c.args.self.setting mid keeps m.host m.store set stored c.valid.result.now loaded callback.kind callback.number
           (arc_value m.machine.tables) callback.args reply c.begin-paused.result m.machine.slots m.machine.frames.items (λ i. (state i, shared i)) c.begin-paused.ensures.depth
           (rw (← c.as_slice.ensures) c.begin-paused.ensures.paused);
-      bare = subst (λ (l : Loaded). HasNoResults l.contents c.begin-paused.result.function) (sym keeps.same) (rw c.begin-paused.ensures.function c.requires.fits.bare);
+      bare = rw keeps.same (rw c.begin-paused.ensures.function c.requires.fits.bare);
     }
 
 pub returns-clause-come : goal.returns-clause-come

@@ -1,4 +1,3 @@
-use Rattle.std.proofs.Common.{sym, subst}
 use Rattle.std.specs.Arc.{arc_value}
 use Rattle.phases.specs.Keeping.{KeepsLoop}
 use Rattle.phases.specs.Outside.{after_clock}
@@ -18,5 +17,4 @@ invariant_of-self g c =
     let l = arc_value c.self.inside.linked in
     let set = setting_of c.self.inside.host.setting in
     let s = c.self.inside.host.state in
-    subst (λ (u : State). KeepsLoop l set u c.self.inside.store) (sym c.raise.ensures.state)
-    (kept_on l set s (after_clock s c.args.ms) c.self.inside.store c.self.invariant (grows_clock s c.args.ms) c.self.invariant.orders)
+    rw c.raise.ensures.state (kept_on l set s (after_clock s c.args.ms) c.self.inside.store c.self.invariant (grows_clock s c.args.ms) c.self.invariant.orders)

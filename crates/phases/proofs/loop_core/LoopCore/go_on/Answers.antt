@@ -18,7 +18,7 @@ pub invariant_of-self-inside : goal.invariant_of-self-inside
 invariant_of-self-inside g c =
     let requests = ap (λ (s : State). s.requests) c.turn.ensures.state ∙ (turn_leaves c.self.inside.host.state).1 in
     let upto =
-    subst (λ (rs : Requests). AreOpenedUpTo rs.last (g.B.Shared.calls.view c.self.inside.host.shared)) (sym requests) c.self.inside.host.opened in
+    rw (sym requests) at c.self.inside.host.opened in
     ((upto, tt), (c.self.inside.stopped, tt))
 
 pub invariant_of-self : goal.invariant_of-self
@@ -45,16 +45,14 @@ invariant_of-self-2 g c =
     let is = front_of s.list c.in-Some.entry (sym c.front.ensures ∙ c.in-Some.is) in
     let rest : State = record s { list = drop 1 s.list } in
     let ready = ready_rest set.loaded.contents s c.in-Some.entry (drop 1 s.list) c.self.invariant.ready is in
-    subst (λ (u : State). KeepsLoop l set u c.self.inside.store) (sym c.pop.ensures)
-    (kept_with l set s rest c.self.inside.store c.self.invariant (λ _. s.roster.callbacks) ready c.self.invariant.orders)
+    rw c.pop.ensures (kept_with l set s rest c.self.inside.store c.self.invariant (λ _. s.roster.callbacks) ready c.self.invariant.orders)
 
 pub run-requires-clause-ready : goal.run-requires-clause-ready
 run-requires-clause-ready g c =
     let set = setting_of c.self.inside.host.setting in
     let s = c.self.inside.host.state in
     let is = front_of s.list c.in-Some.entry (sym c.front.ensures ∙ c.in-Some.is) in
-    subst (λ (u : State). IsReady set.loaded.contents u c.in-Some.entry) (sym c.pop.ensures)
-    (ready_front set.loaded.contents s c.in-Some.entry (drop 1 s.list) c.self.invariant.ready is)
+    rw c.pop.ensures (ready_front set.loaded.contents s c.in-Some.entry (drop 1 s.list) c.self.invariant.ready is)
 
 pub run-requires-clause-apart : goal.run-requires-clause-apart
 run-requires-clause-apart g c =
@@ -73,8 +71,7 @@ returns-clause-step g c =
     let made = c.run.ensures.step.0 in (
       made,
       subst (λ now. ListStep g.B.Shared.calls now.setting now.loop now.loop.state.list did made c.run.new.self.loop) c.self.view_is
-          (subst (λ (list : List Entry). ListStep g.B.Shared.calls set (over s) list did made c.run.new.self.loop) (sym is)
-          (subst (λ (u : State). EntryStep g.B.Shared.calls set (over u) c.in-Some.entry did made c.run.new.self.loop) c.pop.ensures c.run.ensures.step.1)),
+          (rw (is, sym c.pop.ensures) c.run.ensures.step.1),
     )
 
 pub returns-in_default-clause-step : goal.returns-in_default-clause-step
@@ -85,6 +82,5 @@ returns-in_default-clause-step g c =
     let over : State → Loop _ = λ u. record { state = u; store = c.self.inside.store; shared = c.self.inside.host.shared } in (
       [],
       subst (λ now. ListStep g.B.Shared.calls now.setting now.loop now.loop.state.list (whole_did c.turn.result) [] (over c.turn.new.self)) c.self.view_is
-          (subst (λ (list : List Entry). ListStep g.B.Shared.calls set (over s) list (whole_did c.turn.result) [] (over c.turn.new.self)) (sym empty)
-          (c.turn.ensures.did, ap over c.turn.ensures.state, refl)),
+          (rw empty (c.turn.ensures.did, ap over c.turn.ensures.state, refl)),
     )

@@ -1,4 +1,4 @@
-use Rattle.std.proofs.Common.{sym, subst, ap, ◌∙◌}
+use Rattle.std.proofs.Common.{sym, ap, ◌∙◌}
 use Rattle.std.specs.Arc.{arc_value}
 use Rattle.syntax.specs.Loaded.{Loaded}
 use Rattle.instance.specs.Store.{Store}
@@ -12,9 +12,9 @@ use Rattle.phases.proofs.loop_core.LoopCore.new.Goals as goal
 pub invariant_of-result-2 : goal.invariant_of-result-2
 invariant_of-result-2 g c =
     let made = c.in_ok-instance.ensures in
-    let store = subst (λ (s : Store). IsStoreOf c.deref.result.now.contents s) (sym c.into_parts-store.ensures.state) made.store in
+    let store = rw (sym c.into_parts-store.ensures.state) at made.store in
     kept_new (arc_value c.args.linked) _ c.in_ok-instance.state c.into_parts-store.result.0 (sym c.in_ok-try_clone.ensures) c.requires.depth
-    (subst (λ (x : Loaded). IsStoreOf x.contents c.into_parts-store.result.0) c.deref.ensures store)
+    (rw c.deref.ensures at store)
     (made.state ∙ ap (λ (x : Loaded). opening (opening_roster x.contents) (begin_list x.contents)) c.deref.ensures)
 
 pub returns-clause-state : goal.returns-clause-state

@@ -1,4 +1,4 @@
-use Rattle.std.proofs.Common.{sym, subst, ◌≡◌, ◌<◌}
+use Rattle.std.proofs.Common.{sym, ◌≡◌, ◌<◌}
 use Rattle.limits.specs.declared.TheConstants.{MAX_REQUESTS}
 use Rattle.order.specs.Orders.{order_of}
 use Rattle.std.specs.Arc.{arc_value}
@@ -15,7 +15,7 @@ pub invariant_of-self-inside : goal.invariant_of-self-inside
 invariant_of-self-inside g c =
     let shared = c.self.inside.host.shared in
     let last = next_last c.self.inside.host.state (λ n. AreOpenedUpTo n (g.B.Shared.calls.view shared)) c.self.inside.host.opened in
-    let upto = subst (λ (s : State). AreOpenedUpTo s.requests.last (g.B.Shared.calls.view shared)) (sym c.next_order.ensures.state) last in
+    let upto = rw (sym c.next_order.ensures.state) at last in
     ((upto, tt), (c.self.inside.stopped, tt))
 
 pub invariant_of-self : goal.invariant_of-self
@@ -24,7 +24,7 @@ invariant_of-self g c =
     let set = setting_of c.self.inside.host.setting in
     let s = c.self.inside.host.state in
     kept_on l set s c.next_order.new.self c.self.inside.store c.self.invariant c.next_order.ensures.grows
-    (subst (λ (u : State). AreOrdersOf set u.requests) (sym c.next_order.ensures.state) (next_orders set s c.self.invariant.orders))
+    (rw c.next_order.ensures.state (next_orders set s c.self.invariant.orders))
 
 pub returns-clause-own : goal.returns-clause-own
 returns-clause-own g c =

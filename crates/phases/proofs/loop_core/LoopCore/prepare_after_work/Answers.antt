@@ -1,4 +1,4 @@
-use Rattle.std.proofs.Common.{List, refl, sym, subst, ◌∙◌, Some, ◌≡◌}
+use Rattle.std.proofs.Common.{List, refl, ◌∙◌, Some, ◌≡◌}
 use Rattle.std.specs.Arc.{arc_value}
 use Rattle.syntax.specs.Loaded.{Loaded}
 use Rattle.validate.specs.Typing.{type_of_function}
@@ -41,8 +41,7 @@ invariant_of-self g c =
     let s = c.self.inside.host.state in
     let rest : State = with_requests s (without_request s.requests c.args.request) in
     let apart = rw (← c.self.view_is) at c.requires.apart in
-    subst (λ (u : State). KeepsLoop l set u c.self.inside.store) (sym c.take_request-completion.ensures.removed)
-    (kept_with l set s rest c.self.inside.store c.self.invariant refl
+    rw c.take_request-completion.ensures.removed (kept_with l set s rest c.self.inside.store c.self.invariant refl
     (ready_without_request set.loaded.contents s c.args.request c.self.invariant.ready apart)
     (other_orders set s.requests c.args.request c.self.invariant.orders))
 
@@ -55,17 +54,17 @@ returns-clause-step g c =
     let function = c.in-Some.function in
     let old : Loop _ = record { state = s; store = c.self.inside.store; shared = c.self.inside.host.shared } in
     let left : Loop _ = record { state = c.take_request-completion.new.self; store = c.self.inside.store; shared = c.self.inside.host.shared } in
-    let exported = subst (λ (x : Loaded). ExportsFunction x.contents (name_of_entry AfterWorkExport) function) (c.deref.ensures ∙ c.self.invariant.same) c.in-Some.ensures.found in
+    let exported = rw (c.deref.ensures ∙ c.self.invariant.same) at c.in-Some.ensures.found in
     rw (← c.self.view_is) (λ did made new run. after_step calls set old c.args.request function (completion_in t) c.take_request-completion.new.self exported
     c.take_request-completion.ensures.completion c.take_request-completion.ensures.removed did made new
-    (subst (λ (args : List Value). RunsFrom calls set left After c.args.request function args (Some t.bytes.items) did made new) c.from_slice.ensures run))
+    (rw c.from_slice.ensures at run))
 
 pub returns-clause-fits : goal.returns-clause-fits
 returns-clause-fits g c =
     let m = (setting_of c.self.inside.host.setting).loaded.contents in
     let function = c.in-Some.function in
     let typed =
-    subst (λ (x : Loaded). type_of_function x.contents function ≡ Some (type_of_entry AfterWorkExport)) (c.deref.ensures ∙ c.self.invariant.same) c.in-Some.ensures.typed in
+    rw (c.deref.ensures ∙ c.self.invariant.same) at c.in-Some.ensures.typed in
     rw (← c.self.view_is) (record {
       takes = rw c.from_slice.ensures (takes m function (type_of_entry AfterWorkExport) _ typed refl);
       bare = gives_nothing m function (type_of_entry AfterWorkExport) typed refl;

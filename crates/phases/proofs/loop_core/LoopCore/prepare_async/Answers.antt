@@ -1,4 +1,4 @@
-use Rattle.std.proofs.Common.{sym, subst, ◌≡◌, true, [], ◌∷◌, Some}
+use Rattle.std.proofs.Common.{sym, ◌≡◌, true, [], ◌∷◌, Some}
 use Rattle.syntax.specs.declared.types.Value.TheVariants.{I32}
 use Rattle.events.specs.declared.phase.EntryKind.TheVariants.{Async}
 use Rattle.phases.specs.Settings.{setting_of}
@@ -27,7 +27,7 @@ returns-then-take-eq0-clause-step g c =
     let old : Loop _ = record { state = s; store = c.self.inside.store; shared = c.self.inside.host.shared } in
     let is : async_handle s.roster c.args.async_no ≡ Some handle = sym c.in-Some.ensures.value in
     let same = same_some (async_handle s.roster c.args.async_no) c.in-Some-active_async.field-0-0 handle c.in-Some-active_async.ensures.some.1 is in
-    let active = subst (λ n. is_active_handle s.roster.handles (Some n) ≡ true) same c.in-Some-active_async.ensures.some.0 in
+    let active = rw same at c.in-Some-active_async.ensures.some.0 in
     rw (← c.self.view_is) (async_none g.B.Shared.calls set old c.args.async_no handle is c.take.result c.take.new.self c.skipped-then-take-eq0.result active c.take.ensures
     c.if-take-eq0.true c.skipped-then-take-eq0.ensures)
 
@@ -39,8 +39,8 @@ returns-clause-step g c =
     let old : Loop _ = record { state = s; store = c.self.inside.store; shared = c.self.inside.host.shared } in
     let is : async_handle s.roster c.args.async_no ≡ Some handle = sym c.in-Some.ensures.value in
     let same = same_some (async_handle s.roster c.args.async_no) c.in-Some-active_async.field-0-0 handle c.in-Some-active_async.ensures.some.1 is in
-    let active = subst (λ n. is_active_handle s.roster.handles (Some n) ≡ true) same c.in-Some-active_async.ensures.some.0 in
-    let function = subst (λ n. handle_function s.roster n ≡ Some c.in-Some-active_async.function) same c.in-Some-active_async.ensures.some.2 in
+    let active = rw same at c.in-Some-active_async.ensures.some.0 in
+    let function = rw same at c.in-Some-active_async.ensures.some.2 in
     rw (← c.self.view_is) (async_step g.B.Shared.calls set old c.args.async_no handle is c.in-Some-active_async.function c.take.result c.take.new.self c.of_handle.result
     active function c.take.ensures c.if-take-eq0.false c.of_handle.ensures)
 

@@ -1,4 +1,4 @@
-use Rattle.std.proofs.Common.{refl, sym, subst, [], ◌∷◌}
+use Rattle.std.proofs.Common.{refl, [], ◌∷◌}
 use Rattle.std.specs.Arc.{arc_value}
 use Rattle.syntax.specs.declared.types.Value.TheVariants.{I32}
 use Rattle.events.specs.declared.phase.EntryKind.TheVariants.{Close}
@@ -25,8 +25,7 @@ invariant_of-self g c =
     let s = c.self.inside.host.state in
     let closed : State = with_roster s (without_handle s.roster c.args.handle) in
     let apart = rw (← c.self.view_is) at c.requires.apart in
-    subst (λ (u : State). KeepsLoop l set u c.self.inside.store) (sym c.finish_closing-function.ensures.removed)
-    (kept_with l set s closed c.self.inside.store c.self.invariant refl (ready_without_handle set.loaded.contents s c.args.handle c.self.invariant.ready apart) c.self.invariant.orders)
+    rw c.finish_closing-function.ensures.removed (kept_with l set s closed c.self.inside.store c.self.invariant refl (ready_without_handle set.loaded.contents s c.args.handle c.self.invariant.ready apart) c.self.invariant.orders)
 
 pub returns-clause-step : goal.returns-clause-step
 returns-clause-step g c =

@@ -20,7 +20,7 @@ pub invariant_of-self-inside : goal.invariant_of-self-inside
 invariant_of-self-inside g c =
     let requests = ap (λ (s : State). s.requests) c.turn.ensures.state ∙ (turn_leaves c.self.inside.host.state).1 in
     let upto =
-    subst (λ (rs : Requests). AreOpenedUpTo rs.last (g.B.Shared.calls.view c.self.inside.host.shared)) (sym requests) c.self.inside.host.opened in
+    rw (sym requests) at c.self.inside.host.opened in
     ((upto, tt), (c.self.inside.stopped, tt))
 
 pub invariant_of-self : goal.invariant_of-self
@@ -47,16 +47,14 @@ invariant_of-self-2 g c =
     let is = front_of s.list c.in-Some.entry (sym c.front.ensures ∙ c.in-Some.is) in
     let rest : State = record s { list = drop 1 s.list } in
     let ready = ready_rest set.loaded.contents s c.in-Some.entry (drop 1 s.list) c.self.invariant.ready is in
-    subst (λ (u : State). KeepsLoop l set u c.self.inside.store) (sym c.pop.ensures)
-    (kept_with l set s rest c.self.inside.store c.self.invariant (λ _. s.roster.callbacks) ready c.self.invariant.orders)
+    rw c.pop.ensures (kept_with l set s rest c.self.inside.store c.self.invariant (λ _. s.roster.callbacks) ready c.self.invariant.orders)
 
 pub prepare_entry-requires-clause-ready : goal.prepare_entry-requires-clause-ready
 prepare_entry-requires-clause-ready g c =
     let set = setting_of c.self.inside.host.setting in
     let s = c.self.inside.host.state in
     let is = front_of s.list c.in-Some.entry (sym c.front.ensures ∙ c.in-Some.is) in
-    subst (λ (u : State). IsReady set.loaded.contents u c.in-Some.entry) (sym c.pop.ensures)
-    (ready_front set.loaded.contents s c.in-Some.entry (drop 1 s.list) c.self.invariant.ready is)
+    rw c.pop.ensures (ready_front set.loaded.contents s c.in-Some.entry (drop 1 s.list) c.self.invariant.ready is)
 
 pub prepare_entry-requires-clause-apart : goal.prepare_entry-requires-clause-apart
 prepare_entry-requires-clause-apart g c =
@@ -75,7 +73,7 @@ returns-clause-step g c =
     let new = c.prepare_entry.new.self.loop in
     subst (λ now. Prepares calls now.setting (ListStep calls now.setting now.loop now.loop.state.list) c.prepare_entry.result new) c.self.view_is
     (subst (λ (list : List Entry). Prepares calls set (ListStep calls set (over s) list) c.prepare_entry.result new) (sym is)
-    (subst (λ (u : State). Prepares calls set (EntryStep calls set (over u) c.in-Some.entry) c.prepare_entry.result new) c.pop.ensures c.prepare_entry.ensures.step))
+    (rw c.pop.ensures at c.prepare_entry.ensures.step))
 
 pub returns-in_default-clause-fits : goal.returns-in_default-clause-fits
 returns-in_default-clause-fits g c = subst RanNone (sym c.turn.ensures.did) (turn_ran_none c.self.inside.host.state)
@@ -88,5 +86,4 @@ returns-in_default-clause-step g c =
     let empty = no_front s.list (sym c.front.ensures ∙ c.in_default.is) in
     let over : State → Loop _ = λ u. record { state = u; store = c.self.inside.store; shared = c.self.inside.host.shared } in
     subst (λ now. ListStep calls now.setting now.loop now.loop.state.list (whole_did c.turn.result) [] (over c.turn.new.self)) c.self.view_is
-    (subst (λ (list : List Entry). ListStep calls set (over s) list (whole_did c.turn.result) [] (over c.turn.new.self)) (sym empty)
-    (c.turn.ensures.did, ap over c.turn.ensures.state, refl))
+    (rw empty (c.turn.ensures.did, ap over c.turn.ensures.state, refl))

@@ -1,4 +1,4 @@
-use Rattle.std.proofs.Common.{refl, subst, ◌∙◌, Some, [], ◌≡◌}
+use Rattle.std.proofs.Common.{refl, ◌∙◌, Some, [], ◌≡◌}
 use Rattle.std.specs.Arc.{arc_value}
 use Rattle.syntax.specs.Loaded.{Loaded}
 use Rattle.validate.specs.Typing.{type_of_function}
@@ -23,12 +23,12 @@ pub returns-clause-step : goal.returns-clause-step
 returns-clause-step g c =
     let set = setting_of c.self.inside.host.setting in
     let old : Loop _ = record { state = c.self.inside.host.state; store = c.self.inside.store; shared = c.self.inside.host.shared } in
-    let exported = subst (λ (x : Loaded). ExportsFunction x.contents (name_of_entry Main) c.in-Some.function) (c.deref.ensures ∙ c.self.invariant.same) c.in-Some.ensures.found in
+    let exported = rw (c.deref.ensures ∙ c.self.invariant.same) at c.in-Some.ensures.found in
     rw (← c.self.view_is) (main_step g.B.Shared.calls set old c.in-Some.function c.bare.result exported c.bare.ensures)
 
 pub returns-clause-fits : goal.returns-clause-fits
 returns-clause-fits g c =
     let m = (setting_of c.self.inside.host.setting).loaded.contents in
-    let typed = subst (λ (x : Loaded). type_of_function x.contents c.in-Some.function ≡ Some (type_of_entry Main)) (c.deref.ensures ∙ c.self.invariant.same) c.in-Some.ensures.typed in
+    let typed = rw (c.deref.ensures ∙ c.self.invariant.same) at c.in-Some.ensures.typed in
     rw (← c.self.view_is) (fits kind.Main 0 c.in-Some.function [] c.bare.result c.bare.ensures m (takes m c.in-Some.function (type_of_entry Main) [] typed refl)
     (gives_nothing m c.in-Some.function (type_of_entry Main) typed refl))

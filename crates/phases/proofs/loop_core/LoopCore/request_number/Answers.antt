@@ -1,4 +1,4 @@
-use Rattle.std.proofs.Common.{subst, ◌∙◌}
+use Rattle.std.proofs.Common.{◌∙◌}
 use Rattle.std.specs.Arc.{arc_value}
 use Rattle.syntax.specs.Loaded.{Loaded}
 use Rattle.imports.specs.Linking.{IsLinked}
@@ -24,7 +24,7 @@ invariant_of-self g c =
     let s = c.self.inside.host.state in
     let old : State × _ = (s, c.self.inside.host.shared) in
     let new : State × _ = (c.request.new.self, c.request.new.shared) in
-    let linked = subst (λ (x : Loaded). IsLinked x.contents) (c.deref.ensures ∙ c.self.invariant.same) c.valid-valid.ensures.linked in
+    let linked = rw (c.deref.ensures ∙ c.self.invariant.same) at c.valid-valid.ensures.linked in
     kept_on l set s c.request.new.self c.self.inside.store c.self.invariant
     (request_grows g.B.Shared.calls set old c.args.op c.args.bytes.now c.request.result new s.status c.request.ensures)
     (request_orders g.B.Shared.calls set old c.args.op c.args.bytes.now c.request.result new linked c.self.invariant.depth s.status c.request.ensures

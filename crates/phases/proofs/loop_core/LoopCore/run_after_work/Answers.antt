@@ -1,4 +1,4 @@
-use Rattle.std.proofs.Common.{refl, sym, subst, ◌∙◌, Some}
+use Rattle.std.proofs.Common.{refl, ◌∙◌, Some}
 use Rattle.std.specs.Arc.{arc_value}
 use Rattle.syntax.specs.Loaded.{Loaded}
 use Rattle.validate.specs.Typing.{type_of_function}
@@ -42,23 +42,20 @@ invariant_of-self g c =
     let s = c.self.inside.host.state in
     let rest : State = with_requests s (without_request s.requests c.args.request) in
     let apart = rw (← c.self.view_is) at c.requires.apart in
-    subst (λ (u : State). KeepsLoop l set u c.self.inside.store) (sym c.take_request-completion.ensures.removed)
-    (kept_with l set s rest c.self.inside.store c.self.invariant refl
+    rw c.take_request-completion.ensures.removed (kept_with l set s rest c.self.inside.store c.self.invariant refl
     (ready_without_request set.loaded.contents s c.args.request c.self.invariant.ready apart)
     (other_orders set s.requests c.args.request c.self.invariant.orders))
 
 pub call-requires-clause-takes : goal.call-requires-clause-takes
 call-requires-clause-takes g c =
     let typed =
-    subst (λ (x : Loaded). type_of_function x.contents c.in-Some.function ≡ Some (type_of_entry AfterWorkExport))
-    (c.deref.ensures ∙ c.self.invariant.same) c.in-Some.ensures.typed in
+    rw (c.deref.ensures ∙ c.self.invariant.same) at c.in-Some.ensures.typed in
     takes (setting_of c.self.inside.host.setting).loaded.contents c.in-Some.function (type_of_entry AfterWorkExport) _ typed refl
 
 pub call-requires-clause-bare : goal.call-requires-clause-bare
 call-requires-clause-bare g c =
     let typed =
-    subst (λ (x : Loaded). type_of_function x.contents c.in-Some.function ≡ Some (type_of_entry AfterWorkExport))
-    (c.deref.ensures ∙ c.self.invariant.same) c.in-Some.ensures.typed in
+    rw (c.deref.ensures ∙ c.self.invariant.same) at c.in-Some.ensures.typed in
     gives_nothing (setting_of c.self.inside.host.setting).loaded.contents c.in-Some.function (type_of_entry AfterWorkExport) typed refl
 
 pub returns-clause-step : goal.returns-clause-step
@@ -71,12 +68,9 @@ returns-clause-step g c =
     let made = c.call.ensures.run.0 in
     let new = c.call.new.self.loop in
     let exported =
-    subst (λ (x : Loaded). ExportsFunction x.contents (name_of_entry AfterWorkExport) c.in-Some.function)
-    (c.deref.ensures ∙ c.self.invariant.same) c.in-Some.ensures.found in
+    rw (c.deref.ensures ∙ c.self.invariant.same) at c.in-Some.ensures.found in
     let run =
-    subst (λ (u : State). RunsFrom g.B.Shared.calls set (in_state old u) After c.args.request c.in-Some.function
-    (I32 c.args.request ∷ I32 t.kind ∷ I32 t.code ∷ []) (Some t.bytes.items) did made new)
-    c.take_request-completion.ensures.removed c.call.ensures.run.1 in
+    rw c.take_request-completion.ensures.removed at c.call.ensures.run.1 in
     let told =
     told_of (request_of s.requests c.args.request) (completion_in t) (λ x. AfterWork g.B.Shared.calls set old c.args.request x did made new)
     c.take_request-completion.ensures.completion (c.in-Some.function, exported, run) in

@@ -1,4 +1,4 @@
-use Rattle.std.proofs.Common.{refl, sym, subst, ◌≡◌, true, [], ◌∷◌, Some, None}
+use Rattle.std.proofs.Common.{refl, sym, ◌≡◌, true, [], ◌∷◌, Some, None}
 use Rattle.syntax.specs.declared.types.Value.TheVariants.{I32}
 use Rattle.events.specs.declared.phase.EntryKind.TheVariants.{Async}
 use Rattle.phases.specs.PhaseList.{is_active_handle}
@@ -27,7 +27,7 @@ returns-then-take-eq0-clause-step g c =
     let new : Loop _ = record { state = s; store = c.self.inside.store; shared = c.take.new.self } in
     let is : async_handle s.roster c.args.async_no ≡ Some handle = sym c.in-Some.ensures.value in
     let same = same_some (async_handle s.roster c.args.async_no) c.in-Some-active_async.field-0-0 handle c.in-Some-active_async.ensures.some.1 is in
-    let active = subst (λ n. is_active_handle s.roster.handles (Some n) ≡ true) same c.in-Some-active_async.ensures.some.0 in (
+    let active = rw same at c.in-Some-active_async.ensures.some.0 in (
       [],
       rw (← c.self.view_is) (active_step (async_handle s.roster c.args.async_no) handle (λ h. is_active_handle s.roster.handles (Some h))
           (λ h. TakesFirst g.B.Shared.calls set old c.args.async_no h _ [] new) (λ h. Skips g.B.Shared.calls set old Async h _ [] new) is active
@@ -52,8 +52,8 @@ returns-clause-step g c =
     let old : Loop _ = record { state = s; store = c.self.inside.store; shared = c.self.inside.host.shared } in
     let is : async_handle s.roster c.args.async_no ≡ Some handle = sym c.in-Some.ensures.value in
     let same = same_some (async_handle s.roster c.args.async_no) c.in-Some-active_async.field-0-0 handle c.in-Some-active_async.ensures.some.1 is in
-    let active = subst (λ n. is_active_handle s.roster.handles (Some n) ≡ true) same c.in-Some-active_async.ensures.some.0 in
-    let function = subst (λ n. handle_function s.roster n ≡ Some c.in-Some-active_async.function) same c.in-Some-active_async.ensures.some.2 in
+    let active = rw same at c.in-Some-active_async.ensures.some.0 in
+    let function = rw same at c.in-Some-active_async.ensures.some.2 in
     let did = whole_did c.call_handle.result in
     let made = c.call_handle.ensures.run.0 in
     let new = c.call_handle.new.self.loop in

@@ -1,4 +1,4 @@
-use Rattle.std.proofs.Common.{refl, subst, ◌∙◌, Some}
+use Rattle.std.proofs.Common.{refl, ◌∙◌, Some}
 use Rattle.std.specs.Arc.{arc_value}
 use Rattle.syntax.specs.Loaded.{Loaded}
 use Rattle.validate.specs.Typing.{type_of_function}
@@ -17,10 +17,10 @@ unreachable-requires g c =
 
 pub call-requires-clause-takes : goal.call-requires-clause-takes
 call-requires-clause-takes g c =
-    let typed = subst (λ (x : Loaded). type_of_function x.contents c.in-Some.function ≡ Some (type_of_entry Main)) (c.deref.ensures ∙ c.self.invariant.same) c.in-Some.ensures.typed in
+    let typed = rw (c.deref.ensures ∙ c.self.invariant.same) at c.in-Some.ensures.typed in
     rw (← c.self.view_is) (takes (setting_of c.self.inside.host.setting).loaded.contents c.in-Some.function (type_of_entry Main) [] typed refl)
 
 pub call-requires-clause-bare : goal.call-requires-clause-bare
 call-requires-clause-bare g c =
-    let typed = subst (λ (x : Loaded). type_of_function x.contents c.in-Some.function ≡ Some (type_of_entry Main)) (c.deref.ensures ∙ c.self.invariant.same) c.in-Some.ensures.typed in
+    let typed = rw (c.deref.ensures ∙ c.self.invariant.same) at c.in-Some.ensures.typed in
     rw (← c.self.view_is) (gives_nothing (setting_of c.self.inside.host.setting).loaded.contents c.in-Some.function (type_of_entry Main) typed refl)

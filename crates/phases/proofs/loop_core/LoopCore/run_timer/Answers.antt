@@ -1,4 +1,4 @@
-use Rattle.std.proofs.Common.{sym, subst}
+use Rattle.std.proofs.Common.{sym}
 use Rattle.std.specs.Arc.{arc_value}
 use Rattle.handles.specs.Table.{after_again}
 use Rattle.phases.specs.Host.{with_roster}
@@ -15,7 +15,7 @@ use Rattle.phases.proofs.loop_core.LoopCore.run_timer.Goals as goal
 pub invariant_of-self-inside : goal.invariant_of-self-inside
 invariant_of-self-inside g c =
     let calls = g.B.Shared.calls in
-    let upto = subst (λ (rs : Requests). AreOpenedUpTo rs.last (calls.view c.self.inside.host.shared)) (sym c.fire.ensures.requests) c.self.inside.host.opened in
+    let upto = rw (sym c.fire.ensures.requests) at c.self.inside.host.opened in
     ((upto, tt), (c.self.inside.stopped, tt))
 
 pub invariant_of-self : goal.invariant_of-self
@@ -24,8 +24,7 @@ invariant_of-self g c =
     let set = setting_of c.self.inside.host.setting in
     let s = c.self.inside.host.state in
     let fired : State = with_roster s (with_handles s.roster (after_again s.roster.handles c.args.handle s.now)) in
-    subst (λ (u : State). KeepsLoop l set u c.self.inside.store) (sym c.in-Some.ensures.fired)
-    (kept_on l set s fired c.self.inside.store c.self.invariant (grows_again s c.args.handle s.now) c.self.invariant.orders)
+    rw c.in-Some.ensures.fired (kept_on l set s fired c.self.inside.store c.self.invariant (grows_again s c.args.handle s.now) c.self.invariant.orders)
 
 pub call_handle-requires-clause-callback : goal.call_handle-requires-clause-callback
 call_handle-requires-clause-callback g c = handle_takes _ c.in-Some.function c.args.handle c.self.inside.host.state.roster c.args.handle c.self.invariant.callbacks c.in-Some.ensures.some.1

@@ -1,4 +1,4 @@
-use Rattle.std.proofs.Common.{refl, sym, subst}
+use Rattle.std.proofs.Common.{refl, sym}
 use Rattle.phases.specs.State.{State}
 use Rattle.phases.specs.contracts.loop_state.LoopState.{the_view}
 use Rattle.phases.specs.Host.{with_requests}
@@ -8,7 +8,7 @@ use Rattle.phases.proofs.OwnersRequests.{request_running}
 use Rattle.phases.proofs.loop_state.LoopState.request.Goals as goal
 
 pub ask-requires : goal.ask-requires
-ask-requires g c = subst (λ (s : State). AreOpenedUpTo s.requests.last (g.B.Shared.calls.view c.args.shared.now)) (sym c.self.view_is) c.requires
+ask-requires g c = rw (sym c.self.view_is) at c.requires
 
 pub returns-in-Running : goal.returns-in-Running
 returns-in-Running g c =

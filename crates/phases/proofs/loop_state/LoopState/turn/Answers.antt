@@ -8,4 +8,4 @@ use Rattle.phases.proofs.loop_state.LoopState.turn.Goals as goal
 pub returns-clause-ready : goal.returns-clause-ready
 returns-clause-ready c = λ m empty.
     subst (AreReady m) (sym c.enter-2.ensures.state)
-    (ready_entered m c.args.self.now (subst (λ (u : State). RosterIsKept u.roster) c.self.view_is c.keeps.ensures) (subst (λ (u : State). AreKept u.requests) c.self.view_is c.keeps-2.ensures) c.next.result)
+    (ready_entered m c.args.self.now (rw (sym c.self.view_is) c.keeps.ensures) (rw (sym c.self.view_is) c.keeps-2.ensures) c.next.result)

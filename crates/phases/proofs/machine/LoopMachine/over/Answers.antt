@@ -1,4 +1,4 @@
-use Rattle.std.proofs.Common.{List, Option, IfSome, sym, ap, ◌∙◌, subst}
+use Rattle.std.proofs.Common.{List, Option, IfSome, sym, ap, ◌∙◌}
 use Rattle.std.specs.Arc.{arc_value}
 use Rattle.syntax.specs.Loaded.{Loaded}
 use Rattle.imports.specs.Linking.{IsLinked}
@@ -23,8 +23,7 @@ invariant_of-core-inside g c =
     let m = c.args.self in
     let q = c.requires.some in
     let h = q.5 in (
-      subst (λ (stop : Option Halt). IfSome stop (λ sites. ∥ LoopStopsAt g.B.Shared.calls (setting_of m.host.setting) m.store sites ∥₁)) (sym c.into_stack-stack.ensures)
-          (over_stops g.B.Shared.calls (arc_value c.args.linked) q.0 q.1 q.2 q.3 q.4 h.keeps h.before m.host h.made h.begins m.store c.args.place
+      rw (sym c.into_stack-stack.ensures) at (over_stops g.B.Shared.calls (arc_value c.args.linked) q.0 q.1 q.2 q.3 q.4 h.keeps h.before m.host h.made h.begins m.store c.args.place
           (stop_of m.machine.last m.machine.frames.items) h.leads),
       tt,
     )
@@ -34,7 +33,7 @@ invariant_of-core g c =
     let m = c.args.self in
     let q = c.requires.some in
     let h = q.5 in
-    let linked = subst (λ (l : Loaded). IsLinked l.contents) c.deref.ensures c.valid-valid.ensures.linked in
+    let linked = rw c.deref.ensures at c.valid-valid.ensures.linked in
     let is = c.end_callback.ensures ∙ ap (λ (x : Ended). finished m.host.state x) (whole_is c.of.result c.args.place c.of.ensures) in
     over_keeps g.B.Shared.calls (arc_value c.args.linked) q.0 q.1 q.2 q.3 q.4 h.keeps h.before m.host h.made h.begins m.store c.args.place (stop_of m.machine.last m.machine.frames.items)
     h.leads c.end_callback.new.self is linked c.requires.store
@@ -46,8 +45,6 @@ returns-clause-runs g c set mid function args reply h =
     let is = c.end_callback.ensures ∙ ap (λ (x : Ended). finished m.host.state x) whole in
     let stop = stop_of m.machine.last m.machine.frames.items in (
       over_setting g.B.Shared.calls (arc_value c.args.linked) set mid function args reply h.keeps h.before m.host h.made h.begins m.store c.args.place stop h.leads,
-      subst (λ (x : Ended). (made : List GuestCall) × RunsFrom g.B.Shared.calls set mid c.args.kind c.args.number function args reply (Ran c.args.kind c.args.number x) made
-          (record { state = c.end_callback.new.self; store = m.store; shared = m.host.shared })) (sym whole)
-          (over_runs g.B.Shared.calls (arc_value c.args.linked) set mid function args reply h.keeps h.before m.host h.made h.begins m.store c.args.place stop h.leads
+      rw whole (over_runs g.B.Shared.calls (arc_value c.args.linked) set mid function args reply h.keeps h.before m.host h.made h.begins m.store c.args.place stop h.leads
           c.end_callback.new.self is c.args.kind c.args.number),
     )

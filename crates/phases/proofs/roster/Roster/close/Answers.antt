@@ -1,4 +1,4 @@
-use Rattle.std.proofs.Common.{◌≡◌, sym, subst, ◌∙◌, true, arith}
+use Rattle.std.proofs.Common.{◌≡◌, sym, ◌∙◌, true, arith}
 use Rattle.handles.specs.Table.{IsOpen}
 use Rattle.phases.specs.Roster.{Roster, is_callback}
 use Rattle.phases.specs.contracts.roster.Roster.{the_view}
@@ -7,12 +7,12 @@ use Rattle.phases.proofs.roster.Roster.close.Goals as goal
 
 pub push-requires : goal.push-requires
 push-requires c =
-    let there = subst (λ (r : Roster). IsOpen r.handles c.args.handle) (sym c.self.view_is) (c.is_open.ensures.«open» c.if-not-is_open.false) in
+    let there = rw (sym c.self.view_is) at (c.is_open.ensures.«open» c.if-not-is_open.false) in
     (omega arith, closing_room (the_view c.self.inside) c.args.handle c.self.invariant there)
 
 pub invariant_of-self : goal.invariant_of-self
 invariant_of-self c =
     rw (c.close.ensures, c.push.ensures.items)
     (kept_close (the_view c.self.inside) c.args.handle c.args.callback c.self.invariant
-    (subst (λ (r : Roster). IsOpen r.handles c.args.handle) (sym c.self.view_is) (c.is_open.ensures.«open» c.if-not-is_open.false))
-    (subst (λ (r : Roster). is_callback r c.args.callback ≡ true) (sym c.self.view_is) (sym c.is_callback.ensures ∙ c.if-not-is_callback.false)))
+    (rw (sym c.self.view_is) at (c.is_open.ensures.«open» c.if-not-is_open.false))
+    (rw (sym c.self.view_is) at (sym c.is_callback.ensures ∙ c.if-not-is_callback.false)))

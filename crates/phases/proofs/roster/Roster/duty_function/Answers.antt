@@ -1,4 +1,4 @@
-use Rattle.std.proofs.Common.{◌≡◌, Some, None, sym, ap, subst, ◌∙◌, true, false}
+use Rattle.std.proofs.Common.{◌≡◌, Some, None, sym, ap, ◌∙◌, true, false}
 use Rattle.std.specs.Option.{is_some}
 use Rattle.handles.specs.Table.{record_of}
 use Rattle.phases.specs.Roster.{Roster, callback_function}
@@ -7,7 +7,7 @@ use Rattle.phases.proofs.roster.Roster.duty_function.Goals as goal
 pub unreachable-requires : goal.unreachable-requires
 unreachable-requires c =
     let r = c.args.record.now in
-    let there = subst (λ (it : Roster). record_of it.handles c.args.handle ≡ Some r) (sym c.self.view_is) c.requires.there in
+    let there = rw (sym c.self.view_is) at c.requires.there in
     let good : is_some (callback_function c.self.inside.callbacks.items r.callback) ≡ true = c.self.invariant.callbacks c.args.handle r there c.requires.duty in
     let none : callback_function c.self.inside.callbacks.items r.callback ≡ None =
     ap (λ cs. callback_function cs r.callback) (sym c.as_slice.ensures.value) ∙ sym c.function_at.ensures ∙ c.in_default.is in
@@ -17,5 +17,4 @@ unreachable-requires c =
 pub returns : goal.returns
 returns c =
     rw c.requires.there
-    (subst (λ (it : Roster). callback_function it.callbacks c.args.record.now.callback ≡ Some c.in-Some.function) c.self.view_is
-    (ap (λ cs. callback_function cs c.args.record.now.callback) (sym c.as_slice.ensures.value) ∙ sym c.function_at.ensures ∙ c.in-Some.is))
+    (rw (sym c.self.view_is) (ap (λ cs. callback_function cs c.args.record.now.callback) (sym c.as_slice.ensures.value) ∙ sym c.function_at.ensures ∙ c.in-Some.is))

@@ -1,4 +1,4 @@
-use Rattle.std.proofs.Common.{sym, subst}
+use Rattle.std.proofs.Common.{sym}
 use Rattle.handles.specs.Table.{IsOpen}
 use Rattle.phases.specs.Roster.{Roster}
 use Rattle.phases.specs.contracts.roster.Roster.{the_view}
@@ -9,4 +9,4 @@ pub invariant_of-self : goal.invariant_of-self
 invariant_of-self c =
     rw c.again.ensures.table
     (kept_again (the_view c.self.inside) c.args.handle c.args.now c.self.invariant
-    (subst (λ (r : Roster). IsOpen r.handles c.args.handle) (sym c.self.view_is) c.in_ok-function.ensures.there.0))
+    (rw (sym c.self.view_is) at c.in_ok-function.ensures.there.0))

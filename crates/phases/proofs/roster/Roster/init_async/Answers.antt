@@ -1,4 +1,4 @@
-use Rattle.std.proofs.Common.{◌≡◌, sym, subst, ◌∙◌, true}
+use Rattle.std.proofs.Common.{◌≡◌, sym, ◌∙◌, true}
 use Rattle.std.specs.FinMap as finite
 use Rattle.limits.specs.declared.TheConstants.{MAX_HANDLES}
 use Rattle.phases.specs.Roster.{Roster, is_callback}
@@ -14,4 +14,4 @@ invariant_of-self-2 c =
     rw (c.start.ensures, c.push.ensures.items, c.in-Some.ensures.added)
     (kept_async (the_view c.self.inside) c.in-Some.handle c.args.callback c.self.invariant c.in-Some.ensures.free
     (λ (full : finite.len c.self.inside.handles.records ≡ MAX_HANDLES). let bad = c.in-Some.ensures.full.1 full in cc)
-    (subst (λ (r : Roster). is_callback r c.args.callback ≡ true) (sym c.self.view_is) (sym c.is_callback.ensures ∙ c.if-not-is_callback.false)))
+    (rw (sym c.self.view_is) at (sym c.is_callback.ensures ∙ c.if-not-is_callback.false)))

@@ -1,4 +1,4 @@
-use Rattle.std.proofs.Common.{sym, subst}
+use Rattle.std.proofs.Common.{sym}
 use Rattle.handles.specs.Table.{IsOpen}
 use Rattle.phases.specs.Roster.{Roster}
 use Rattle.phases.specs.contracts.roster.Roster.{the_view}
@@ -7,5 +7,5 @@ use Rattle.phases.proofs.roster.Roster.stop.Goals as goal
 
 pub invariant_of-self : goal.invariant_of-self
 invariant_of-self c =
-    let there = subst (λ (r : Roster). IsOpen r.handles c.args.handle) (sym c.self.view_is) (c.is_open_of.ensures.«open» c.if-not-is_open_of.false).0 in
+    let there = rw (sym c.self.view_is) at (c.is_open_of.ensures.«open» c.if-not-is_open_of.false).0 in
     rw c.stop.ensures (kept_stop (the_view c.self.inside) c.args.handle c.self.invariant there)

@@ -20,8 +20,7 @@ go_on-requires-clause-paused g c =
     let v = c.self.invariant in
     let k = v.callback in
     let loaded : c.valid.result.now ≡ arc_value i.linked = c.valid.ensures.same ∙ c.deref.ensures in
-    subst (λ (l : Loaded). IsSomePaused l.contents (arc_value i.machine.machine.tables) (moves g.B.Shared.calls) i.paused i.machine.machine.slots i.machine.machine.frames.items i.machine.store i.machine.host)
-    (sym loaded) (v.mid.store, k.before, v.args, v.g.fuel, k.under_way)
+    rw loaded (v.mid.store, k.before, v.args, v.g.fuel, k.under_way)
 
 pub over-core-requires-clause-some : goal.over-core-requires-clause-some
 over-core-requires-clause-some g c =
@@ -34,13 +33,10 @@ over-core-requires-clause-some g c =
     let loaded : c.valid.result.now ≡ arc_value i.linked = c.valid.ensures.same ∙ c.deref.ensures in
     let m = (arc_value i.linked).contents in
     let here : RunIsPaused c.valid.result.now.contents (arc_value i.machine.machine.tables) (moves calls) v.mid.store k.before v.args v.g.fuel i.paused i.machine.machine.slots i.machine.machine.frames.items i.machine.store i.machine.host =
-    subst (λ (l : Loaded). RunIsPaused l.contents (arc_value i.machine.machine.tables) (moves calls) v.mid.store k.before v.args v.g.fuel i.paused i.machine.machine.slots i.machine.machine.frames.items i.machine.store i.machine.host)
-    (sym loaded) k.under_way in
+    rw loaded k.under_way in
     let stop = stop_of n.machine.last n.machine.frames.items in
     let over : RunIsOver m v.g.depth (moves calls) i.paused.function v.mid.store k.before v.args v.g.fuel ended n.store n.host stop =
-    subst (λ (d : ℕ). RunIsOver m d (moves calls) i.paused.function v.mid.store k.before v.args v.g.fuel ended n.store n.host stop) k.deep
-    (subst (λ (l : Loaded). RunIsOver l.contents i.paused.depth (moves calls) i.paused.function v.mid.store k.before v.args v.g.fuel ended n.store n.host stop) loaded
-    (c.in-Some.ensures.over v.mid.store k.before v.args v.g.fuel here)) in (
+    rw (loaded, k.deep) at (c.in-Some.ensures.over v.mid.store k.before v.args v.g.fuel here) in (
       v.g,
       v.mid,
       i.paused.function,
@@ -68,12 +64,10 @@ invariant_of-result g c =
     let l = arc_value i.linked in
     let loaded : c.valid.result.now ≡ l = c.valid.ensures.same ∙ c.deref.ensures in
     let here : RunIsPaused c.valid.result.now.contents (arc_value i.machine.machine.tables) (moves calls) v.mid.store k.before v.args v.g.fuel i.paused i.machine.machine.slots i.machine.machine.frames.items i.machine.store i.machine.host =
-    subst (λ (l : Loaded). RunIsPaused l.contents (arc_value i.machine.machine.tables) (moves calls) v.mid.store k.before v.args v.g.fuel i.paused i.machine.machine.slots i.machine.machine.frames.items i.machine.store i.machine.host)
-    (sym loaded) k.under_way in
+    rw loaded k.under_way in
     let there : RunIsPaused l.contents (arc_value n.machine.tables) (moves calls) v.mid.store k.before v.args v.g.fuel p n.machine.slots n.machine.frames.items n.store n.host =
-    subst (λ (x : Loaded). RunIsPaused x.contents (arc_value n.machine.tables) (moves calls) v.mid.store k.before v.args v.g.fuel p n.machine.slots n.machine.frames.items n.store n.host) loaded
-    (e.paused c.in-None.is v.mid.store k.before v.args v.g.fuel here) in
-    let fits : LoopMachineFits l n = subst (λ (x : Loaded). LoopMachineFits x n) loaded e.fits in
+    rw loaded at (e.paused c.in-None.is v.mid.store k.before v.args v.g.fuel here) in
+    let fits : LoopMachineFits l n = rw loaded at e.fits in
     record {
       fits = fits;
       g = v.g;
@@ -82,7 +76,7 @@ invariant_of-result g c =
       reply = v.reply;
       callback = further calls l i.kind i.number (arc_value i.machine.machine.tables) (arc_value n.machine.tables) fits.runs.valid fits.runs.agree i.paused i.machine.machine.slots i.machine.machine.frames.items
           i.machine.store i.machine.host p n.machine.slots n.machine.frames.items n.store n.host e.call v.g v.mid v.args v.reply i.machine.host k k.before k.made k.begins there;
-      bare = subst (λ (f : ℕ). HasNoResults l.contents f) (sym e.call.0) v.bare;
+      bare = rw e.call.0 v.bare;
     }
 
 pub returns-in-Some : goal.returns-in-Some
@@ -101,12 +95,10 @@ returns-in-Some g c =
           let before = first calls l i.kind i.number (arc_value i.machine.machine.tables) i.paused i.machine.machine.slots i.machine.machine.frames.items i.machine.store i.machine.host a come in
           let at : RunIsPaused l.contents (arc_value i.machine.machine.tables) (moves calls) come.mid.store before come.args a.setting.fuel i.paused i.machine.machine.slots i.machine.machine.frames.items i.machine.store i.machine.host =
           here calls l i.kind i.number (arc_value i.machine.machine.tables) i.paused i.machine.machine.slots i.machine.machine.frames.items i.machine.store i.machine.host a come in
-          let from = subst (λ (x : Loaded). RunIsPaused x.contents (arc_value i.machine.machine.tables) (moves calls) come.mid.store before come.args a.setting.fuel i.paused i.machine.machine.slots i.machine.machine.frames.items
-          i.machine.store i.machine.host) (sym loaded) at in
+          let from = rw (sym loaded) at at in
           let stop = stop_of n.machine.last n.machine.frames.items in
           let over : RunIsOver l.contents i.paused.depth (moves calls) i.paused.function come.mid.store before come.args a.setting.fuel ended n.store n.host stop =
-          subst (λ (x : Loaded). RunIsOver x.contents i.paused.depth (moves calls) i.paused.function come.mid.store before come.args a.setting.fuel ended n.store n.host stop) loaded
-          (c.in-Some.ensures.over come.mid.store before come.args a.setting.fuel from) in
+          rw loaded at (c.in-Some.ensures.over come.mid.store before come.args a.setting.fuel from) in
           let over_here : CallbackHasEnded a.setting come.mid i.paused.function come.args come.reply l n ended =
           record {
             keeps = come.callback.keeps;
@@ -138,16 +130,14 @@ returns-in-None g c =
     let calls = g.B.Shared.calls in
     let l = arc_value i.linked in
     let loaded : c.valid.result.now ≡ l = c.valid.ensures.same ∙ c.deref.ensures in
-    let fits : LoopMachineFits l n = subst (λ (x : Loaded). LoopMachineFits x n) loaded e.fits in
+    let fits : LoopMachineFits l n = rw loaded at e.fits in
     subst (λ (s : StepInSlices _). StepIsPaused calls s c.args.units (step_in_slices l i.kind i.number n p)) c.self.view_is (record {
       goes_on = λ a come.
           let before = first calls l i.kind i.number (arc_value i.machine.machine.tables) i.paused i.machine.machine.slots i.machine.machine.frames.items i.machine.store i.machine.host a come in
           let at : RunIsPaused l.contents (arc_value i.machine.machine.tables) (moves calls) come.mid.store before come.args a.setting.fuel i.paused i.machine.machine.slots i.machine.machine.frames.items i.machine.store i.machine.host =
           here calls l i.kind i.number (arc_value i.machine.machine.tables) i.paused i.machine.machine.slots i.machine.machine.frames.items i.machine.store i.machine.host a come in
-          let from = subst (λ (x : Loaded). RunIsPaused x.contents (arc_value i.machine.machine.tables) (moves calls) come.mid.store before come.args a.setting.fuel i.paused i.machine.machine.slots i.machine.machine.frames.items
-          i.machine.store i.machine.host) (sym loaded) at in
-          let there = subst (λ (x : Loaded). RunIsPaused x.contents (arc_value n.machine.tables) (moves calls) come.mid.store before come.args a.setting.fuel p n.machine.slots n.machine.frames.items n.store n.host) loaded
-          (e.paused c.in-None.is come.mid.store before come.args a.setting.fuel from) in
+          let from = rw (sym loaded) at at in
+          let there = rw loaded at (e.paused c.in-None.is come.mid.store before come.args a.setting.fuel from) in
           comes_further calls l i.kind i.number (arc_value i.machine.machine.tables) (arc_value n.machine.tables) fits.runs.valid fits.runs.agree i.paused i.machine.machine.slots i.machine.machine.frames.items
           i.machine.store i.machine.host p n.machine.slots n.machine.frames.items n.store n.host e.call a come there uses.left;
       some = uses.some;

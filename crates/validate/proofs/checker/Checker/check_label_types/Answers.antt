@@ -1,4 +1,4 @@
-use Rattle.std.proofs.Common.{◌≡◌, ℕ, List, length, ◌<◌, get_or, take, All, Some, slice_get, refl, sym, ap, subst, ◌∙◌, arith}
+use Rattle.std.proofs.Common.{◌≡◌, ℕ, List, length, ◌<◌, get_or, take, All, Some, slice_get, refl, ap, ◌∙◌, arith}
 use Rattle.validate.specs.Inner.Checking.{context_at}
 use Rattle.std.proofs.lemmas.List.{take_all, take_more}
 use Rattle.std.proofs.lemmas.List.Elements.{All-push}
@@ -10,10 +10,9 @@ loop-label-preserved c =
     let P : ℕ → Type 0 = λ l. slice_get (context_at c.args.self.now).labels l ≡ Some c.args.types.now in
     let lt : c.loop-label.label-index < length labels = omega arith in
     let here : P (get_or labels c.loop-label.label-index 0) = c.in_ok-label_types.ensures.found ∙ ap Some (c.if-not-are_same.ensures.0 refl) in
-    subst (λ (ls : List ℕ). All P ls) (sym (take_more labels c.loop-label.label-index 0 lt))
-    (All-push P (take c.loop-label.label-index labels) (get_or labels c.loop-label.label-index 0) c.loop-label.invariant here)
+    rw (take_more labels c.loop-label.label-index 0 lt) (All-push P (take c.loop-label.label-index labels) (get_or labels c.loop-label.label-index 0) c.loop-label.invariant here)
 
 pub returns-clause-same : goal.returns-clause-same
 returns-clause-same c =
     let P : ℕ → Type 0 = λ l. slice_get (context_at c.args.self.now).labels l ≡ Some c.args.types.now in
-    subst (λ (ls : List ℕ). All P ls) (take_all c.loop-label.label-index c.args.labels.now (omega arith)) c.loop-label.invariant
+    rw (take_all c.loop-label.label-index c.args.labels.now (omega arith)) at c.loop-label.invariant

@@ -1,4 +1,4 @@
-use Rattle.std.proofs.Common.{ℕ, List, length, ◌<◌, get_or, take, All, IsSome, slice_get, refl, sym, subst, arith}
+use Rattle.std.proofs.Common.{ℕ, List, length, ◌<◌, get_or, take, All, IsSome, slice_get, refl, arith}
 use Rattle.std.proofs.lemmas.List.{take_all, take_more}
 use Rattle.std.proofs.lemmas.List.Elements.{All-push}
 use Rattle.validate.specs.Inner.Checking.{context_at}
@@ -10,10 +10,9 @@ loop-label-preserved c =
     let P : ℕ → Type 0 = λ l. IsSome (slice_get (context_at c.args.self.now).labels l) in
     let lt : c.loop-label.label-index < length labels = omega arith in
     let here : P (get_or labels c.loop-label.label-index 0) = rw c.in_ok-label_types.ensures.found refl in
-    subst (λ (ls : List ℕ). All P ls) (sym (take_more labels c.loop-label.label-index 0 lt))
-    (All-push P (take c.loop-label.label-index labels) (get_or labels c.loop-label.label-index 0) c.loop-label.invariant here)
+    rw (take_more labels c.loop-label.label-index 0 lt) (All-push P (take c.loop-label.label-index labels) (get_or labels c.loop-label.label-index 0) c.loop-label.invariant here)
 
 pub returns-clause-named : goal.returns-clause-named
 returns-clause-named c =
     let P : ℕ → Type 0 = λ l. IsSome (slice_get (context_at c.args.self.now).labels l) in
-    subst (λ (ls : List ℕ). All P ls) (take_all c.loop-label.label-index c.args.labels.now (omega arith)) c.loop-label.invariant
+    rw (take_all c.loop-label.label-index c.args.labels.now (omega arith)) at c.loop-label.invariant

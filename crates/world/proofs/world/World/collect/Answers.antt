@@ -1,4 +1,4 @@
-use Rattle.std.proofs.Common.{◌≡◌, ◌<◌, [], length, map, Some, sym, ap, subst, ◌∙◌}
+use Rattle.std.proofs.Common.{◌≡◌, ◌<◌, [], length, map, Some, sym, ap, ◌∙◌}
 use Rattle.std.specs.Prelude.{slice_set}
 use Rattle.std.specs.VecDeque.{deque_capacity}
 use Rattle.std.proofs.lemmas.List.{length-map, length-set, map-set}
@@ -14,11 +14,11 @@ returns-then-failed-clause-ran c =
     let within : c.args.loop_no < length c.self.inside.loops.items = c.in-Some.ensures.item.3.0 in
     collect_failed c.args.self.now c.self.inside.loops.items _ _ _ c.self.view_is c.args.loop_no c.in-Some.core.now
     (read c.self.inside.loops.items c.args.loop_no c.in-Some.core.now c.in-Some.ensures.item.3.0 c.in-Some.ensures.item.3.1)
-    (subst (λ k. c.args.loop_no < k) (sym (length-map c.self.inside.replies.items (λ d. answers_of d.items) ∙ c.self.invariant.paired)) within) (sym c.failed.ensures ∙ c.if-failed.true)
+    (rw (length-map c.self.inside.replies.items (λ d. answers_of d.items) ∙ c.self.invariant.paired) within) (sym c.failed.ensures ∙ c.if-failed.true)
 
 pub returns-in_default-pop_front-clause-ran : goal.returns-in_default-pop_front-clause-ran
 returns-in_default-pop_front-clause-ran c =
-    let within : c.args.loop_no < length c.self.inside.replies.items = subst (λ k. c.args.loop_no < k) (sym c.self.invariant.paired) c.in-Some.ensures.item.3.0 in
+    let within : c.args.loop_no < length c.self.inside.replies.items = rw c.self.invariant.paired c.in-Some.ensures.item.3.0 in
     let none : c.index_mut.result.now.items ≡ [] = emptied c.index_mut.result.now.items (sym c.index_mut.result.now.ok.0 ∙ c.in_default-pop_front.ensures.cases.0) in
     collect_nothing c.args.self.now c.self.inside.loops.items _ _ _ c.self.view_is c.args.loop_no c.in-Some.core.now
     (read c.self.inside.loops.items c.args.loop_no c.in-Some.core.now c.in-Some.ensures.item.3.0 c.in-Some.ensures.item.3.1)
@@ -30,14 +30,12 @@ returns-in_default-pop_front-clause-ran c =
 
 pub invariant_of-self-2 : goal.invariant_of-self-2
 invariant_of-self-2 c =
-    subst (λ k. WorldIsKept (slice_set c.self.inside.loops.items c.args.loop_no c.accept.new.self) c.self.inside.jobs.items c.self.inside.workers.items k
-    (deque_capacity c.self.inside.jobs)) (sym (length-set c.self.inside.replies.items c.args.loop_no c.pop_front.new.self))
-    (kept_set c.self.inside.loops.items _ _ _ _ c.args.loop_no c.in-Some.core.now c.accept.new.self
+    rw (length-set c.self.inside.replies.items c.args.loop_no c.pop_front.new.self) (kept_set c.self.inside.loops.items _ _ _ _ c.args.loop_no c.in-Some.core.now c.accept.new.self
     (read c.self.inside.loops.items c.args.loop_no c.in-Some.core.now c.in-Some.ensures.item.3.0 c.in-Some.ensures.item.3.1) c.accept.ensures.setting c.self.invariant)
 
 pub returns-clause-ran : goal.returns-clause-ran
 returns-clause-ran c =
-    let within : c.args.loop_no < length c.self.inside.replies.items = subst (λ k. c.args.loop_no < k) (sym c.self.invariant.paired) c.in-Some.ensures.item.3.0 in
+    let within : c.args.loop_no < length c.self.inside.replies.items = rw c.self.invariant.paired c.in-Some.ensures.item.3.0 in
     let at = read c.self.inside.loops.items c.args.loop_no c.in-Some.core.now c.in-Some.ensures.item.3.0 c.in-Some.ensures.item.3.1 in
     let waits =
     reads_at (λ d. answers_of d.items) c.self.inside.replies.items c.args.loop_no c.index_mut.result.now within c.index_mut.ensures.value

@@ -22,8 +22,7 @@ returns-in_err-reserve-clause-kept c =
     job_held (length c.self.inside.loops.items) c.args.worker c.self.inside.workers.items c.in-Some.state.now (worker.Started c.in-Started.order)
     c.self.invariant.held at c.in-Started.is in
     let there =
-    subst (λ m. c.job_of-job.result.loop_no < m) (sym c.self.invariant.paired)
-    (loop_there (length c.self.inside.loops.items) c.in-Started.order c.job_of-job.result c.job_of-job.ensures held) in
+    rw (sym c.self.invariant.paired) at (loop_there (length c.self.inside.loops.items) c.in-Started.order c.job_of-job.result c.job_of-job.ensures held) in
     let at_list = read_or c.self.inside.replies.items c.job_of-job.result.loop_no c.index_mut-replies.result.now _ there c.index_mut-replies.ensures.value in
     on_err c.from_residual.result _
     (reserves (λ d. answers_of d.items) c.args.self.now c.self.inside.loops.items _ c.self.inside.workers.items c.self.inside.replies.items c.self.view_is c.args.worker c.in-Some.state.now at
@@ -50,8 +49,7 @@ returns-clause-ran c =
     job_held (length c.self.inside.loops.items) c.args.worker c.self.inside.workers.items c.in-Some.state.now (worker.Started c.in-Started.order)
     c.self.invariant.held at c.in-Started.is in
     let there =
-    subst (λ m. c.job_of-job.result.loop_no < m) (sym c.self.invariant.paired)
-    (loop_there (length c.self.inside.loops.items) c.in-Started.order c.job_of-job.result c.job_of-job.ensures held) in
+    rw (sym c.self.invariant.paired) at (loop_there (length c.self.inside.loops.items) c.in-Started.order c.job_of-job.result c.job_of-job.ensures held) in
     let at_list = read_or c.self.inside.replies.items c.job_of-job.result.loop_no c.index_mut-replies.result.now _ there c.index_mut-replies.ensures.value in
     let same : c.in-Started-replace.order ≡ c.in-Started.order = started_same c.in-Started-replace.order c.in-Started.order (sym c.in-Started-replace.is ∙ c.replace.ensures.value) in
     finishes (λ d. answers_of d.items) c.args.self.now c.self.inside.loops.items _ c.self.inside.workers.items c.self.inside.replies.items c.self.view_is c.args.worker c.in-Some.state.now at
